@@ -5,9 +5,11 @@
 mod items;
 mod line;
 mod outside;
+mod text;
 mod which;
 
 pub use items::{Bytes, Items, Name};
 pub use line::{Line, TextFault, lines};
 pub use outside::{Gate, Shelf, ShelfFailed, Sink, SinkFailed};
+pub use text::Text;
 pub use which::Which;
