@@ -1,2 +1,4 @@
+pub mod Cuts
+pub mod Joins
 pub mod Lines
 pub mod Outside
