@@ -1,0 +1,11 @@
+//! The reader of BLIF texts (Berkeley Logic Interchange Format): what design a text stands for, and
+//! why a text stands for none.
+#![tactic(auto)]
+
+mod fault;
+mod keyword;
+mod reader;
+mod scan;
+
+pub use fault::BlifFault;
+pub use reader::read;
