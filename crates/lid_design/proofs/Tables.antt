@@ -1,0 +1,160 @@
+-- The law of strict tables: where no walk has n edges, a network that drives no column twice has a
+-- strict table, and one whose reads are driven has at most one.
+use Rattle.std.proofs.Common.{◌≡◌, ℕ, zero, suc, ◌<◌, ◌≤◌, inl, inr, Bool, false, List, [], ◌∷◌, ◌++◌, length, map, get_or, refl, sym, ◌∙◌, ap, subst, arith}
+use Rattle.std.specs.List.{AllByRecursion}
+use Rattle.lid_cover.specs.Cover.{cover_value}
+use Rattle.lid_design.specs.Network.{Source, given, held, made, same, Table, latch_bit, bit_of, IsStrict}
+use Rattle.lid_design.specs.Walks.{Among, read_now, read_before, Feeds, Walk, HasNoWalk, WalksEnd, IsDriven, IsDrivenOnce, AreReadsDriven, HasTable, HasOneTable}
+
+-- a list is mapped alike by functions that agree on it
+pub map-agree : {A : Type 0} (f g : A → Bool) (xs : List A) → ((a : A) → Among a xs → f a ≡ g a) → map f xs ≡ map g xs
+map-agree f g [] agree = refl
+map-agree f g (x ∷ xs) agree =
+    let head : f x ≡ g x = agree x (inl refl) in
+    let tail : map f xs ≡ map g xs = map-agree f g xs (λ a i. agree a (inr i)) in
+    cc
+
+-- what a source gives, from the input row, the latch bits and the bits of the same row
+abbrev pub bit_by : {C : Type 0} → List Bool → (Bool → C → Bool) → (C → Bool) → Source C → Bool
+bit_by row latch now (given j) = get_or row j false
+bit_by row latch now (held first input) = latch first input
+bit_by row latch now (made cover inputs) = cover_value cover (map now inputs)
+bit_by row latch now (same c) = now c
+
+-- what the first driver gives
+abbrev pub first_by : {C : Type 0} → (Source C → Bool) → List (Source C) → Bool
+first_by bit [] = false
+first_by bit (s ∷ ss) = bit s
+
+-- what the latches give in a row, from the rows before
+abbrev pub latch_by : {C : Type 0} → Table C → ℕ → Bool → C → Bool
+latch_by b zero first input = first
+latch_by b (suc t) first input = b t input
+
+bit_by-agree : {C : Type 0} (row : List Bool) (latch : Bool → C → Bool) (f g : C → Bool) (s : Source C) → ((a : C) → Among a (read_now s) → f a ≡ g a) → bit_by row latch f s ≡ bit_by row latch g s
+bit_by-agree row latch f g (given j) agree = refl
+bit_by-agree row latch f g (held first input) agree = refl
+bit_by-agree row latch f g (made cover inputs) agree = ap (cover_value cover) (map-agree f g inputs agree)
+bit_by-agree row latch f g (same c) agree = agree c (inl refl)
+
+first_by-agree : {C : Type 0} (f g : Source C → Bool) (ss : List (Source C)) → ((s : Source C) → Among s ss → f s ≡ g s) → first_by f ss ≡ first_by g ss
+first_by-agree f g [] agree = refl
+first_by-agree f g (s ∷ ss) agree = agree s (inl refl)
+
+-- a bit that the first of at most one driver gives is that of each
+all_from_first : {C : Type 0} (v : Bool) (bit : Source C → Bool) (ss : List (Source C)) → length ss ≤ 1 → v ≡ first_by bit ss → AllByRecursion (λ s. v ≡ bit s) ss
+all_from_first v bit [] once e = tt
+all_from_first v bit (s ∷ []) once e = (e, tt)
+all_from_first v bit (s ∷ r ∷ ss) once e = absurd (omega arith)
+
+-- two tables give a source's bit alike where they agree on what it reads
+bit_of-agree : {C : Type 0} (rows : List (List Bool)) (b b' : Table C) (t : ℕ) (s : Source C) → ((a : C) → Among a (read_now s) → b t a ≡ b' t a) → ((first : Bool) (a : C) → Among a (read_before s) → latch_bit b first a t ≡ latch_bit b' first a t) → bit_of rows b t s ≡ bit_of rows b' t s
+bit_of-agree rows b b' t (given j) now before = refl
+bit_of-agree rows b b' t (held first input) now before = before first input (inl refl)
+bit_of-agree rows b b' t (made cover inputs) now before = ap (cover_value cover) (map-agree (b t) (b' t) inputs now)
+bit_of-agree rows b b' t (same c) now before = now c (inl refl)
+
+-- of a list with an item, one item
+some_item : {A : Type 0} (xs : List A) → 0 < length xs → (x : A) × Among x xs
+some_item [] h = absurd (omega arith)
+some_item (x ∷ xs) h = (x, inl refl)
+
+-- what holds of all items holds of one
+pub all-among : {A : Type 0} (P : A → Type 0) (xs : List A) (x : A) → AllByRecursion P xs → Among x xs → P x
+all-among P [] x all i = absurd i
+all-among P (y ∷ ys) x all (inl e) = subst P (sym e) all.0
+all-among P (y ∷ ys) x all (inr i) = all-among P ys x all.1 i
+
+among-left : {A : Type 0} (x : A) (xs ys : List A) → Among x xs → Among x (xs ++ ys)
+among-left x [] ys i = absurd i
+among-left x (z ∷ zs) ys (inl e) = inl e
+among-left x (z ∷ zs) ys (inr i) = inr (among-left x zs ys i)
+
+among-right : {A : Type 0} (x : A) (xs ys : List A) → Among x ys → Among x (xs ++ ys)
+among-right x [] ys i = i
+among-right x (z ∷ zs) ys i = inr (among-right x zs ys i)
+
+module _ {C : Type 0} (drivers : C → List (Source C)) where
+  -- a row after so many steps
+  abbrev pub settled : List Bool → (Bool → C → Bool) → ℕ → C → Bool
+  settled row latch zero c = false
+  settled row latch (suc k) c = first_by (bit_by row latch (settled row latch k)) (drivers c)
+
+  -- the table that takes n steps in each row
+  abbrev pub table_of : ℕ → List (List Bool) → Table C
+  table_of n rows zero c = settled (get_or rows zero []) (λ first input. first) n c
+  table_of n rows (suc t) c = settled (get_or rows (suc t) []) (λ first input. table_of n rows t input) n c
+
+  -- where no walk of k edges ends, the bit is settled after k steps
+  settled-stays : (row : List Bool) (latch : Bool → C → Bool) (k : ℕ) (c : C) → HasNoWalk drivers k c → settled row latch k c ≡ settled row latch (suc k) c
+  settled-stays row latch zero c none = absurd (none c refl)
+  settled-stays row latch (suc k) c none =
+      first_by-agree
+      (bit_by row latch (settled row latch k))
+      (bit_by row latch (settled row latch (suc k)))
+      (drivers c)
+      (λ s i. bit_by-agree row latch (settled row latch k) (settled row latch (suc k)) s (λ a j. settled-stays row latch k a (λ z w. none z (a, w, (s, i, j)))))
+
+  bit_of-table : (n : ℕ) (rows : List (List Bool)) (t : ℕ) (s : Source C) → bit_by (get_or rows t []) (latch_by (table_of n rows) t) (table_of n rows t) s ≡ bit_of rows (table_of n rows) t s
+  bit_of-table n rows t (given j) = refl
+  bit_of-table n rows zero (held first input) = refl
+  bit_of-table n rows (suc t) (held first input) = refl
+  bit_of-table n rows t (made cover inputs) = refl
+  bit_of-table n rows t (same c) = refl
+
+  table_of-settled : (n : ℕ) (rows : List (List Bool)) (t : ℕ) (c : C) → table_of n rows t c ≡ settled (get_or rows t []) (latch_by (table_of n rows) t) n c
+  table_of-settled n rows zero c = refl
+  table_of-settled n rows (suc t) c = refl
+
+  -- a network that drives no column twice has a strict table
+  pub has_table : (n : ℕ) → WalksEnd drivers n → IsDrivenOnce drivers → HasTable drivers
+  has_table n ends once rows = (table_of n rows, λ t c h. all_from_first _ _ (drivers c) (once c) (gives t c))
+    where
+      gives : (t : ℕ) (c : C) → table_of n rows t c ≡ first_by (bit_of rows (table_of n rows) t) (drivers c)
+      gives t c =
+          table_of-settled n rows t c
+          ∙ settled-stays (get_or rows t []) (latch_by (table_of n rows) t) n c (ends c)
+          ∙ first_by-agree
+          (bit_by (get_or rows t []) (latch_by (table_of n rows) t) (settled (get_or rows t []) (latch_by (table_of n rows) t) n))
+          (bit_of rows (table_of n rows) t)
+          (drivers c)
+          (λ s i. bit_by-agree (get_or rows t []) (latch_by (table_of n rows) t) (settled (get_or rows t []) (latch_by (table_of n rows) t) n) (table_of n rows t) s (λ a j. sym (table_of-settled n rows t a)) ∙ bit_of-table n rows t s)
+
+  -- where two strict tables agree on what latches read, they agree in the row
+  row-agrees : (rows : List (List Bool)) (b b' : Table C) → IsStrict drivers rows b → IsStrict drivers rows b' → AreReadsDriven drivers → (t : ℕ) → t < length rows → ((first : Bool) (a : C) → IsDriven drivers a → latch_bit b first a t ≡ latch_bit b' first a t) → (k : ℕ) (c : C) → HasNoWalk drivers k c → IsDriven drivers c → b t c ≡ b' t c
+  row-agrees rows b b' strict strict' driven t h before zero c none is_driven = absurd (none c refl)
+  row-agrees rows b b' strict strict' driven t h before (suc k) c none is_driven =
+      let one = some_item (drivers c) is_driven in
+      let left = all-among (λ s. b t c ≡ bit_of rows b t s) (drivers c) one.0 (strict t c h) one.1 in
+      let right = all-among (λ s. b' t c ≡ bit_of rows b' t s) (drivers c) one.0 (strict' t c h) one.1 in
+      left
+      ∙ bit_of-agree rows b b' t one.0
+      (λ a j. row-agrees rows b b' strict strict' driven t h before k a (λ z w. none z (a, w, (one.0, one.1, j))) (driven c one.0 a one.1 (among-left a (read_now one.0) (read_before one.0) j)))
+      (λ first a j. before first a (driven c one.0 a one.1 (among-right a (read_now one.0) (read_before one.0) j)))
+      ∙ sym right
+
+  -- a network whose reads are driven has at most one strict table on its driven columns
+  pub has_one_table : (n : ℕ) → WalksEnd drivers n → AreReadsDriven drivers → HasOneTable drivers
+  has_one_table n ends driven rows b b' strict strict' = agree
+    where
+      agree : (t : ℕ) (c : C) → t < length rows → IsDriven drivers c → b t c ≡ b' t c
+      agree zero c h = row-agrees rows b b' strict strict' driven zero h (λ first a d. refl) n c (ends c)
+      agree (suc t) c h = row-agrees rows b b' strict strict' driven (suc t) h (λ first a d. agree t a (omega arith) d) n c (ends c)
+
+  -- a rank that rises along each edge
+  abbrev pub IsRank : (C → ℕ) → Type 0
+  IsRank rank = (a c : C) → Feeds drivers a c → rank a < rank c
+
+  walk_within_rank : (rank : C → ℕ) → IsRank rank → (n : ℕ) (a c : C) → Walk drivers n a c → n ≤ rank c
+  walk_within_rank rank rises zero a c w = omega arith
+  walk_within_rank rank rises (suc n) a c w =
+      let shorter : n ≤ rank w.0 = walk_within_rank rank rises n a w.0 w.1 in
+      let edge : rank w.0 < rank c = rises w.0 c w.2 in
+      omega arith
+
+  -- where ranks below n rise along each edge, no walk has n edges
+  pub walks_end : (rank : C → ℕ) (n : ℕ) → ((c : C) → rank c < n) → IsRank rank → WalksEnd drivers n
+  walks_end rank n below rises c a w =
+      let within : n ≤ rank c = walk_within_rank rank rises n a c w in
+      let limit : rank c < n = below c in
+      absurd (omega arith)
