@@ -1,0 +1,9 @@
+//! The texts that lid reads and writes beside BLIF: rows of bits.
+#![tactic(auto)]
+
+mod line;
+mod print;
+mod rows;
+
+pub use print::print_rows;
+pub use rows::{Rows, VecFault};
