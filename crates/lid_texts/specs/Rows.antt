@@ -66,8 +66,9 @@ row_width columns = if is_any columns then length columns else 1
 abbrev pub is_row_char : List (List ℕ) → ℕ → Bool
 is_row_char columns b = if is_any columns then (b == 48) || (b == 49) else b == 45
 
-abbrev pub has_stray_char : List (List ℕ) → List (List ℕ) → Bool
-has_stray_char columns words = list_any (λ w. list_any (λ b. not (is_row_char columns b)) w) words
+-- a word with another character
+abbrev pub is_stray_word : List (List ℕ) → List ℕ → Bool
+is_stray_word columns word = list_any (λ b. not (is_row_char columns b)) word
 
 -- what is at fault in a row, where it is the k-th, counted from 1
 unfoldable pub row_fault : List (List ℕ) → ℕ → ℕ → RowsLine → Option VecFault
@@ -76,7 +77,7 @@ row_fault columns outs k line =
     else if nat_lt 1000000 k then Some (Limit which.Rows k)
     else if nat_lt 67108864 (k * outs) then Some (Limit OutBits (k * outs))
     else if has_long_word line.words || not (length (concat line.words) == row_width columns) then Some (Width line.number)
-    else if has_stray_char columns line.words then Some (Char line.number)
+    else if list_any (is_stray_word columns) line.words then Some (Char line.number)
     else None
 
 -- the bits of a row

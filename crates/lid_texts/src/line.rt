@@ -1,9 +1,9 @@
 //! The logical lines of a rows text: what is at fault in one, and the bits of one.
 
 ghost use Rattle.std.specs.Prelude.{◌≡◌, ◌==◌, nat_eq, length, map, IfOk, OnOk, ◌++◌, ◌∷◌, []};
-ghost use Rattle.std.specs.List.{concat};
+ghost use Rattle.std.specs.List.{concat, list_any};
 ghost use Rattle.std.specs.Cmp.Lexicographic.{pointwise};
-ghost use Rattle.lid_texts.specs.Rows.{is_any, is_header, has_long_word, has_stray_char, row_width, header_fault, row_fault, row_bits};
+ghost use Rattle.lid_texts.specs.Rows.{is_any, is_header, has_long_word, is_row_char, is_stray_word, row_width, header_fault, row_fault, row_bits};
 ghost use Rattle.lid_texts.specs.RowsWalk.{line_fault};
 
 use crate::rows::VecFault;
@@ -109,15 +109,29 @@ fn row_width(columns: &[Name]) -> usize
     if has_columns(columns) { columns.len() } else { 1 }
 }
 
-/// Whether a character stands in no row of these columns.
-fn has_stray_char(columns: &[Name], words: &[Name]) -> bool
-    ensures { result ≡ has_stray_char columns.now words.now }
+/// Whether a character may stand in a row.
+fn is_row_char(columns: &[Name], b: u8) -> bool
+    ensures { result ≡ is_row_char columns.now b }
 {
     if has_columns(columns) {
-        words.iter().any(|word| word.as_slice().iter().any(|b| *b != b'0' && *b != b'1'))
+        b == b'0' || b == b'1'
     } else {
-        words.iter().any(|word| word.as_slice().iter().any(|b| *b != b'-'))
+        b == b'-'
     }
+}
+
+/// Whether a word has a character that may not stand in a row.
+fn is_stray_word(columns: &[Name], word: &[u8]) -> bool
+    ensures { result ≡ is_stray_word columns.now word.now }
+{
+    word.iter().any(|b| !is_row_char(columns, *b))
+}
+
+/// Whether the words have a character that may not stand in a row.
+fn has_stray_char(columns: &[Name], words: &[Name]) -> bool
+    ensures { result ≡ list_any (is_stray_word columns.now) words.now }
+{
+    words.iter().any(|word| is_stray_word(columns, word.as_slice()))
 }
 
 /// What is at fault in the header.
