@@ -1,7 +1,8 @@
 -- The reading of a rows text from a line on, where the lines before it were read.
-use Rattle.std.specs.Prelude.{ℕ, zero, suc, ◌+◌, ◌==◌, Bool, ◌||◌, if◌then◌else◌, List, [], ◌∷◌, ◌++◌, map, Option, Some, None, Result, Ok, Err}
+use Rattle.std.specs.Prelude.{ℕ, zero, suc, ◌+◌, ◌==◌, Bool, false, ◌||◌, if◌then◌else◌, List, [], ◌∷◌, ◌++◌, map, Option, Some, None, Result, Ok, Err}
 use Rattle.std.specs.List.{enumerate_from}
-use Rattle.lid_base.specs.Lines.{joins_of}
+use Rattle.lid_base.specs.Lines.{joins_of, words_of, has_bad_byte}
+use Rattle.lid_texts.specs.declared.walk.RowWalk.{RowWalk}
 use Rattle.lid_texts.specs.declared.rows.VecFault.{VecFault}
 use Rattle.lid_texts.specs.declared.rows.VecFault.TheVariants.{Header}
 use Rattle.lid_texts.specs.Rows.{RowsLine, rows_line, has_words, header_fault, row_fault, row_bits}
@@ -41,7 +42,14 @@ abbrev pub continued : RowsLine → List RowsLine → List RowsLine
 continued line [] = line ∷ []
 continued line (more ∷ lines) = joined line more ∷ lines
 
--- what is read, where also the line `begun` goes on in the physical lines that are left
-unfoldable pub walk_after : List (List ℕ) → ℕ → ℕ → RowsLine → ℕ → List (List Bool) → List (List ℕ) → Result (List (List Bool)) VecFault
-walk_after columns outs number begun judged done rest =
-    bits_after columns outs judged done (continued begun (map rows_line (joins_of (enumerate_from number rest))))
+-- a physical line as a logical line of its own
+abbrev pub alone : ℕ → List ℕ → RowsLine
+alone number line = record { number = number; words = words_of line; bad = has_bad_byte line }
+
+abbrev pub no_line : RowsLine
+no_line = record { number = 0; words = []; bad = false }
+
+-- what is read, where the lines of the walk were read and gave the rows `done`, and these physical lines are left
+unfoldable pub walk_after : List (List ℕ) → ℕ → RowWalk → List (List Bool) → List (List ℕ) → Result (List (List Bool)) VecFault
+walk_after columns outs walk done rest =
+    bits_after columns outs walk.judged done (continued walk.begun (map rows_line (joins_of (enumerate_from walk.number rest))))

@@ -4,6 +4,7 @@
 mod line;
 mod print;
 mod rows;
+mod walk;
 
 pub use print::print_rows;
 pub use rows::{Rows, VecFault};

@@ -4,10 +4,10 @@ ghost use Rattle.std.specs.Prelude.{◌≡◌, ◌==◌, nat_eq, length, map, If
 ghost use Rattle.std.specs.List.{concat, list_any};
 ghost use Rattle.std.specs.Cmp.Lexicographic.{pointwise};
 ghost use Rattle.lid_texts.specs.Rows.{is_any, is_header, has_long_word, is_row_char, is_stray_word, row_width, header_fault, row_fault, row_bits};
-ghost use Rattle.lid_texts.specs.RowsWalk.{line_fault};
+ghost use Rattle.lid_texts.specs.RowsWalk.{line_fault, joined, alone, no_line};
 
 use crate::rows::VecFault;
-use lid_base::{Items, Name, Which};
+use lid_base::{Items, Name, Which, has_bad_byte, push_words};
 use std::alloc::{AllocError, Global};
 use std::marker::Model;
 
@@ -35,6 +35,27 @@ impl Model for BegunLine {
     ghost Value = { RowsLine };
 
     ghost view = { λ s. record { number = s.number; words = s.words.items; bad = s.bad } };
+}
+
+impl BegunLine {
+    /// No line yet.
+    pub(crate) fn new(alloc: Global) -> BegunLine
+        ensures { result ≡ no_line }
+    {
+        BegunLine { number: 0, words: Vec::new(alloc), bad: false }
+    }
+
+    /// Adds a physical line.
+    pub(crate) fn add(&mut self, alloc: Global, number: u32, line: &[u8]) -> Result<(), AllocError>
+        ensures { OnOk result (self.new ≡ joined self.old (alone number line.now)) }
+    {
+        push_words(alloc, line, &mut self.words)?;
+        if self.number == 0 {
+            self.number = number;
+        }
+        self.bad = self.bad || has_bad_byte(line);
+        Ok(())
+    }
 }
 
 /// Whether there are columns.
@@ -135,6 +156,7 @@ fn has_stray_char(columns: &[Name], words: &[Name]) -> bool
 }
 
 /// What is at fault in the header.
+#[tactic(auto, unfolding(crate::specs::Rows::header_fault))]
 fn header_fault(columns: &[Name], line: &BegunLine) -> Option<VecFault>
     ensures { result ≡ header_fault columns.now line.now }
 {
@@ -149,6 +171,7 @@ fn header_fault(columns: &[Name], line: &BegunLine) -> Option<VecFault>
 }
 
 /// What is at fault in a row, the k-th, counted from 1.
+#[tactic(auto, unfolding(crate::specs::Rows::row_fault))]
 fn row_fault(columns: &[Name], outs: u32, k: u32, line: &BegunLine) -> Option<VecFault>
     ensures { result ≡ row_fault columns.now outs k line.now }
 {
@@ -190,6 +213,7 @@ fn append_word_bits(word: &[u8], into: &mut Vec<bool>) -> Result<(), AllocError>
 }
 
 /// The bits of a row.
+#[tactic(auto, unfolding(crate::specs::Rows::row_bits))]
 pub(crate) fn row_bits(alloc: Global, columns: &[Name], line: &BegunLine) -> Result<Items<bool>, AllocError>
     ensures { IfOk result (λ bits. bits ≡ row_bits columns.now line.now) }
 {

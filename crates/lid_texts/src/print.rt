@@ -77,6 +77,7 @@ fn append_rows(columns: &[Name], bits: &[Items<bool>], into: &mut Vec<u8>) -> Re
 }
 
 /// Appends the header line and the line of each row.
+#[tactic(auto, unfolding(crate::specs::RowsText::rows_text))]
 fn append_text(rows: &Rows, into: &mut Vec<u8>) -> Result<(), AllocError>
     ensures ok { OnOk result (into.new.items ≡ into.old.items ++ rows_text rows.now.columns rows.now.bits) }
     ensures kept { Extends into.old.items into.new.items }
