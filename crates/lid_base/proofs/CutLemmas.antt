@@ -1,13 +1,12 @@
 -- Cutting a list at the first byte that passes a test, and the words that are left.
-use Rattle.std.proofs.Common.{◌≡◌, ℕ, ◌+◌, ◌-◌, ◌<◌, ◌≤◌, ◌==◌, Bool, true, false, not, cond, List, [], ◌∷◌, ◌++◌, length, take, drop, filter, Option, Some, None, All, MatchOption, refl, sym, ap, suc, zero, eq-zero-or-pos, get_or-drop, add-zero, length-drop, length-take, lt-ltb, subst, ◌∙◌, inl, inr, nat_lt, ltb-true, ltb-false, slice_index, position, arith}
-use Rattle.std.specs.List.{slice_split, onto_first, position_or_len, before_first, after_first, suffix_len}
+use Rattle.std.proofs.Common.{◌≡◌, ℕ, ◌+◌, ◌-◌, ◌<◌, ◌≤◌, ◌==◌, Bool, true, false, not, List, [], ◌∷◌, length, take, drop, filter, Some, None, All, refl, sym, ap, suc, zero, eq-zero-or-pos, get_or-drop, add-zero, length-drop, length-take, lt-ltb, subst, ◌∙◌, inl, inr, nat_lt, ltb-true, ltb-false, slice_index, position, arith}
+use Rattle.std.specs.List.{slice_split, position_or_len, before_first, after_first, suffix_len}
 use Rattle.std.proofs.lemmas.Bool.{cases_Bool, cond-true, cond-false, false≢true}
-use Rattle.std.proofs.lemmas.List.{take_rest, take_all, drop_more}
+use Rattle.std.proofs.lemmas.List.{take_rest, take_all}
 use Rattle.std.proofs.lemmas.List.Elements.{All-head, All-tail}
-use Rattle.std.proofs.lemmas.List.Splits.{slice_split_none, slice_split_first, slice_split-cons_yes, slice_split-cons_no}
+use Rattle.std.proofs.lemmas.List.Splits.{slice_split_none, slice_split_first, slice_split-cons_yes}
 use Rattle.std.proofs.lemmas.List.Sums.{fails_before_first, passes_at_first, position_or_len_is, suffix_len-take_no}
-use Rattle.std.proofs.lemmas.Grind.{common_steps}
-use Rattle.lid_base.specs.Lines.{is_newline, is_separator, ends_in_mark, is_word, words_in, content_of, trimmed, without_mark, goes_on, words_of}
+use Rattle.lid_base.specs.Lines.{is_separator, ends_in_mark, is_word, words_in, trimmed}
 
 not_false : (b : Bool) → not b ≡ false → b ≡ true
 not_false true e = refl
@@ -70,10 +69,10 @@ pub trimmed-at : (bs : List ℕ) (n : ℕ) → n ≤ length bs → n + suffix_le
 unfolding trimmed
 trimmed-at bs n le inv stop =
     let none : suffix_len is_separator (take n bs) ≡ 0 =
-        elim (eq-zero-or-pos n) [
-          | inl e ↦ ap (λ (m : ℕ). suffix_len is_separator (take m bs)) e
-          | inr pos' ↦ suffix_len-take_no is_separator bs n 0 pos' le (stop pos')
-        ] in
+    elim (eq-zero-or-pos n) [
+      | inl e ↦ ap (λ (m : ℕ). suffix_len is_separator (take m bs)) e
+      | inr pos' ↦ suffix_len-take_no is_separator bs n 0 pos' le (stop pos')
+    ] in
     let e : n ≡ length bs - suffix_len is_separator bs = omega arith in
     ap (λ (m : ℕ). take m bs) e
 
@@ -108,10 +107,10 @@ record StartsWord (bs rest : List ℕ) : Type 0 where
 starts_word : (bs : List ℕ) (start : ℕ) (rest : List ℕ) → Found (λ b. not (is_separator b)) bs start → rest ≡ drop start bs → StartsWord bs rest
 starts_word bs start rest f e =
     let isnt : (k : ℕ) → k < start → not (is_separator (slice_index bs k)) ≡ false =
-        λ k l. fails_before_first (λ b. not (is_separator b)) bs k 0 (subst (λ (m : ℕ). k < m) f.is l) in
+    λ k l. fails_before_first (λ b. not (is_separator b)) bs k 0 (subst (λ (m : ℕ). k < m) f.is l) in
     let lt : position_or_len (λ b. not (is_separator b)) bs < length bs = subst (λ (m : ℕ). m < length bs) f.is f.within in
     let at : not (is_separator (slice_index bs start)) ≡ true =
-        subst (λ (m : ℕ). not (is_separator (slice_index bs m)) ≡ true) (sym f.is) (passes_at_first (λ b. not (is_separator b)) bs 0 lt) in
+    subst (λ (m : ℕ). not (is_separator (slice_index bs m)) ≡ true) (sym f.is) (passes_at_first (λ b. not (is_separator b)) bs 0 lt) in
     let within : start < length bs = f.within in
     let here : slice_index rest 0 ≡ slice_index bs start = ap (λ (l : List ℕ). slice_index l 0) e ∙ get_or-drop start bs 0 0 ∙ ap (λ (m : ℕ). slice_index bs m) (add-zero start) in
     record {
@@ -138,8 +137,8 @@ next_some bs start rest n f e g =
     let lt : position_or_len is_separator rest < length rest = subst (λ (m : ℕ). m < length rest) g.is g.within in
     let at : is_separator (slice_index rest n) ≡ true = subst (λ (m : ℕ). is_separator (slice_index rest m) ≡ true) (sym g.is) (passes_at_first is_separator rest 0 lt) in
     let some : 0 < n =
-        elim (eq-zero-or-pos n) [
-          | inl z ↦ absurd (false≢true (sym s.first ∙ ap (λ (m : ℕ). is_separator (slice_index rest m)) (sym z) ∙ at))
-          | inr pos' ↦ pos'
-        ] in
+    elim (eq-zero-or-pos n) [
+      | inl z ↦ absurd (false≢true (sym s.first ∙ ap (λ (m : ℕ). is_separator (slice_index rest m)) (sym z) ∙ at))
+      | inr pos' ↦ pos'
+    ] in
     sym s.words ∙ words_in-first rest (take n rest) _ (split_found is_separator rest n g) (omega (arith, g.within, length-take n rest))

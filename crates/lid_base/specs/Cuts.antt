@@ -1,5 +1,5 @@
 -- What is left of a text where a first line or a first word was cut off.
-use Rattle.std.specs.Prelude.{ℕ, ◌-◌, Bool, not, List, [], length, take, Option, Some, None}
+use Rattle.std.specs.Prelude.{ℕ, List, [], Option, Some, None}
 use Rattle.std.specs.List.{slice_split}
 use Rattle.lid_base.specs.Lines.{is_newline}
 

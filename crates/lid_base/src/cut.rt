@@ -1,10 +1,22 @@
 //! A text cut into its lines, and lines into their words. Nothing here but `push_words` takes memory.
 
-ghost use Rattle.std.specs.Prelude.{◌≡◌, ◌<◌, ◌++◌, ◌∷◌, [], length, not, position, IfSome, MatchOption, OnOk};
+ghost use Rattle.std.specs.Prelude.{◌≡◌, ◌<◌, ◌++◌, ◌∷◌, [], length, not, nat_lt, position, IfSome, MatchOption, OnOk};
 ghost use Rattle.std.specs.Option.{option_copied};
 ghost use Rattle.std.specs.List.{slice_split, list_any};
 ghost use Rattle.lid_base.specs.Lines.{
-    is_newline, is_hash, is_separator, is_allowed, ends_in_mark, content_of, trimmed, without_mark, goes_on, words_in, words_of, has_bad_byte, has_long_word
+  is_newline,
+  is_hash,
+  is_separator,
+  is_allowed,
+  ends_in_mark,
+  content_of,
+  trimmed,
+  without_mark,
+  goes_on,
+  words_in,
+  words_of,
+  has_bad_byte,
+  has_long_word,
 };
 ghost use Rattle.lid_base.specs.Cuts.{lines_left};
 
@@ -167,11 +179,11 @@ pub fn has_bad_byte(line: &[u8]) -> bool
     has_stray_byte(content_of(line)) || has_marked_word(words_part(line))
 }
 
-/// Whether a physical line has a word of more than `longest` bytes.
-pub fn has_long_word(line: &[u8], longest: u32) -> bool
-    ensures { result ≡ has_long_word longest line.now }
+/// Whether a word has more than `longest` bytes.
+fn has_longer_word(bytes: &[u8], longest: u32) -> bool
+    ensures { result ≡ list_any (λ w. nat_lt longest (length w)) (words_in bytes.now) }
 {
-    let mut rest = words_part(line);
+    let mut rest = bytes;
     while let Some((word, after)) = next_word(rest) {
         if word.len() > longest as usize {
             return true;
@@ -179,6 +191,13 @@ pub fn has_long_word(line: &[u8], longest: u32) -> bool
         rest = after;
     }
     false
+}
+
+/// Whether a physical line has a word of more than `longest` bytes.
+pub fn has_long_word(line: &[u8], longest: u32) -> bool
+    ensures { result ≡ has_long_word longest line.now }
+{
+    has_longer_word(words_part(line), longest)
 }
 
 /// Appends the words of a physical line.

@@ -8,7 +8,9 @@ mod line;
 mod outside;
 mod which;
 
-pub use cut::{content_of, cut_line, goes_on, has_bad_byte, has_long_word, next_word, push_words, words_part};
+pub use cut::{
+    content_of, cut_line, goes_on, has_bad_byte, has_long_word, next_word, push_words, words_part,
+};
 pub use items::{Bytes, Items, Name};
 pub use line::{Line, TextFault, lines};
 pub use outside::{Gate, Shelf, ShelfFailed, Sink, SinkFailed};

@@ -1,5 +1,5 @@
 use Rattle.std.proofs.Common.{◌∙◌, ap}
-use Rattle.lid_base.specs.Lines.{ends_in_mark, content_of, trimmed, goes_on}
+use Rattle.lid_base.specs.Lines.{ends_in_mark, trimmed, goes_on}
 use Rattle.lid_base.proofs.cut.goes_on.Goals as goal
 
 pub returns : goal.returns
