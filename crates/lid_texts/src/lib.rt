@@ -1,0 +1,10 @@
+//! The texts that lid reads and writes beside BLIF: rows of bits.
+#![tactic(auto)]
+
+mod line;
+mod print;
+mod rows;
+mod walk;
+
+pub use print::print_rows;
+pub use rows::{Rows, VecFault};
