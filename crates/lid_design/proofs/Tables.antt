@@ -65,12 +65,12 @@ all-among P [] x all i = absurd i
 all-among P (y ∷ ys) x all (inl e) = subst P (sym e) all.0
 all-among P (y ∷ ys) x all (inr i) = all-among P ys x all.1 i
 
-among-left : {A : Type 0} (x : A) (xs ys : List A) → Among x xs → Among x (xs ++ ys)
+pub among-left : {A : Type 0} (x : A) (xs ys : List A) → Among x xs → Among x (xs ++ ys)
 among-left x [] ys i = absurd i
 among-left x (z ∷ zs) ys (inl e) = inl e
 among-left x (z ∷ zs) ys (inr i) = inr (among-left x zs ys i)
 
-among-right : {A : Type 0} (x : A) (xs ys : List A) → Among x ys → Among x (xs ++ ys)
+pub among-right : {A : Type 0} (x : A) (xs ys : List A) → Among x ys → Among x (xs ++ ys)
 among-right x [] ys i = i
 among-right x (z ∷ zs) ys i = inr (among-right x zs ys i)
 

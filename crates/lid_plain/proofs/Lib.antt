@@ -1,0 +1,5 @@
+pub mod Tests
+pub mod Numbers
+pub mod Rows
+pub mod Drivers
+pub mod Ranks
