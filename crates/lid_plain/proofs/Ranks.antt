@@ -158,8 +158,8 @@ places_read_none net k [] s a i j = i
 places_read_none net k (n ∷ ns) s a i j =
     let g : Source Column = given k in
     elim (among-append s (cond (bytes_eq n net) (g ∷ []) []) (places_of net (k + 1) ns) i) [
-      inl h ↦ (let P = λ (r : Source Column). Among a (read_now r) in subst P (among-if (bytes_eq n net) g s h).1 j)
-    | inr h ↦ places_read_none net (k + 1) ns s a h j
+      | inl h ↦ (let P = λ (r : Source Column). Among a (read_now r) in subst P (among-if (bytes_eq n net) g s h).1 j)
+      | inr h ↦ places_read_none net (k + 1) ns s a h j
     ]
 
 -- a cell that drives a net reads, in the same row, nets of lower numbers
@@ -170,8 +170,8 @@ cells_rise all known (Latch input out kind control init ∷ cells) whole distinc
     let rest = both (is_among input all) (are_fed all known cells) parts.1 in
     let h : Source Column = held (first_bit init) (column [] input) in
     elim (among-append s (cond (bytes_eq out net) (h ∷ []) []) (flat_map (cell_at [] net) cells) i) [
-      inl e ↦ absurd (let P = λ (r : Source Column). Among a (read_now r) in subst P (among-if (bytes_eq out net) h s e).1 j)
-    | inr e ↦ cells_rise all known cells whole distinct rest.1 net s a e j
+      | inl e ↦ absurd (let P = λ (r : Source Column). Among a (read_now r) in subst P (among-if (bytes_eq out net) h s e).1 j)
+      | inr e ↦ cells_rise all known cells whole distinct rest.1 net s a e j
     ]
 cells_rise all known (Names inputs out cover ∷ cells) whole distinct fed net s a i j =
     let parts = both (is_sized cover inputs) (are_among known inputs && are_fed all (known ++ out ∷ []) cells) fed in
@@ -179,8 +179,8 @@ cells_rise all known (Names inputs out cover ∷ cells) whole distinct fed net s
     let g : Source Column = made cover (map (column []) inputs) in
     let whole' : all ≡ (known ++ out ∷ []) ++ cover_names cells = whole ∙ sym (append_assoc known (out ∷ []) (cover_names cells)) in
     elim (among-append s (cond (bytes_eq out net) (g ∷ []) []) (flat_map (cell_at [] net) cells) i) [
-      inl e ↦ (let at = among-if (bytes_eq out net) g s e in rises at.0 (let P = λ (r : Source Column). Among a (read_now r) in subst P at.1 j) rest.0)
-    | inr e ↦ cells_rise all (known ++ out ∷ []) cells whole' distinct rest.1 net s a e j
+      | inl e ↦ (let at = among-if (bytes_eq out net) g s e in rises at.0 (let P = λ (r : Source Column). Among a (read_now r) in subst P at.1 j) rest.0)
+      | inr e ↦ cells_rise all (known ++ out ∷ []) cells whole' distinct rest.1 net s a e j
     ]
   where
     rises : bytes_eq out net ≡ true → Among a (map (column []) inputs) → are_among known inputs ≡ true → number all a.net < number all net
@@ -218,8 +218,8 @@ module _ (m : Model) (plain : Plainness m) where
   rises_at [] net a s i j =
       let A = λ (ss : List (Source Column)). Among s ss in
       elim (among-append s (places_of net 0 m.inputs) (flat_map (cell_at [] net) m.cells) (subst A (drivers-root m plain net) i)) [
-        inl h ↦ absurd (places_read_none net 0 m.inputs s a h j)
-      | inr h ↦ cells_rise (net_names m) (early_names m) m.cells refl plain.names_distinct plain.cells_fed net s a h j
+        | inl h ↦ absurd (places_read_none net 0 m.inputs s a h j)
+        | inr h ↦ cells_rise (net_names m) (early_names m) m.cells refl plain.names_distinct plain.cells_fed net s a h j
       ]
   rises_at (k ∷ path) net a s i j =
       let A = λ (ss : List (Source Column)). Among s ss in

@@ -6,9 +6,11 @@
 #![tactic(auto)]
 
 mod fault;
+mod names;
 mod numbering;
 mod simulation;
 
 pub use fault::PlainFault;
+pub use names::{inputs, outputs};
 pub use numbering::{Netlist, plan};
 pub use simulation::strict;

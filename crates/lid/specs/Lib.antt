@@ -1,0 +1,6 @@
+pub mod Jobs
+pub mod Faults
+pub mod Outputs
+pub mod Scripts
+pub mod Statuses
+pub mod Causes

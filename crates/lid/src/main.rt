@@ -1,0 +1,8 @@
+//! lid: latency-insensitive design from BLIF netlists.
+#![tactic(auto)]
+
+mod fault;
+mod job;
+mod run;
+
+fn main() {}
