@@ -12,7 +12,7 @@ use Rattle.lid_texts.specs.declared.rows.VecFault.TheVariants as rows
 use Rattle.lid_plain.specs.declared.fault.PlainFault.{PlainFault}
 use Rattle.lid_plain.specs.declared.fault.PlainFault.TheVariants.{NotBuilt}
 use Rattle.lid_plain.specs.declared.fault.PlainFault.TheVariants as plain
-use Rattle.lid.specs.Faults.{blif_line, rows_line, check_line}
+use Rattle.lid.specs.Faults.{blif_line, rows_line, check_line, read_line, memory_line}
 use Rattle.lid.specs.Scripts.{Ending, refuses, Script, Reading, good, bad, IsFetched, EndsIn, Reaches}
 
 abbrev pub refusal_line : Refusal → List ℕ
@@ -74,3 +74,15 @@ abbrev pub IsCause : (List ℕ → Option (List ℕ)) → Script → (List ℕ �
 IsCause held script before after (Refused refusal) = EndsIn held script (refuses (refusal_line refusal))
 IsCause held script before after (Read file) = Reaches held script file.now × Rose (before file.now) (after file.now)
 IsCause held script before after Memory = Unit {0}
+
+-- the status of a stop
+abbrev pub stop_status : Stop → ℕ
+stop_status (Refused refusal) = 1
+stop_status (Read file) = 3
+stop_status Memory = 5
+
+-- the line of a stop
+abbrev pub stop_line : Stop → List ℕ
+stop_line (Refused refusal) = refusal_line refusal
+stop_line (Read file) = read_line file.now
+stop_line Memory = memory_line

@@ -1,7 +1,7 @@
 -- What each status of a run says.
 use Rattle.std.specs.Prelude.{◌≡◌, ℕ, List, ◌++◌, Option, ◌⊎◌}
 use Rattle.lid_base.specs.Outside.{Rose, Appended, AppendedPrefix}
-use Rattle.lid.specs.Faults.{read_line}
+use Rattle.lid.specs.Faults.{usage_line, read_line, write_line, memory_line}
 use Rattle.lid.specs.Outputs.{Output, IsTextOf}
 use Rattle.lid.specs.Scripts.{Ending, refuses, gives, Script, EndsIn, Reaches}
 
@@ -54,3 +54,9 @@ pub record IsStatusOf (held : List ℕ → Option (List ℕ)) (script : Script) 
   pub ending : Ending
   pub ends : EndsIn held script ending
   pub same : status ≡ status_of ending
+
+-- the lines of the statuses that tell no file and no refusal
+pub record SaysPlain (status : ℕ) (Said : List ℕ → Type 0) : Type 0 where
+  pub usage : status ≡ 2 → Said usage_line
+  pub write : status ≡ 4 → Said write_line
+  pub memory : status ≡ 5 → Said memory_line

@@ -5,7 +5,7 @@ ghost use Rattle.std.specs.Fmt.{decimal};
 ghost use Rattle.lid_io.specs.Telling.{fault_line, spelled};
 ghost use Rattle.lid.specs.Statuses.{Says};
 ghost use Rattle.lid.specs.Faults.{which_word, at_line, over_limit, text_words, blif_line, rows_line, check_line, usage_line, read_line, write_line, memory_line};
-ghost use Rattle.lid.specs.Causes.{refusal_line, stop_of_blif, stop_of_rows, stop_of_plain};
+ghost use Rattle.lid.specs.Causes.{refusal_line, stop_status, stop_line, stop_of_blif, stop_of_rows, stop_of_plain};
 
 use lid_base::{Sink, TextFault, Which};
 use lid_blif::BlifFault;
@@ -174,7 +174,7 @@ fn say_changed<E: Sink>(err: &mut E, rows: u64, found: u64)
 }
 
 /// Says the line of a refusal.
-pub fn say_refusal<E: Sink>(err: &mut E, refusal: Refusal)
+fn say_refusal<E: Sink>(err: &mut E, refusal: Refusal)
     ensures { Says (E.written err.old) (E.written err.new) (E.faults err.old) (E.faults err.new) (refusal_line refusal) }
 {
     match refusal {
@@ -192,7 +192,7 @@ pub fn say_usage<E: Sink>(err: &mut E)
 }
 
 /// Says which file could not be read.
-pub fn say_read<E: Sink>(err: &mut E, file: &str)
+fn say_read<E: Sink>(err: &mut E, file: &str)
     ensures { Says (E.written err.old) (E.written err.new) (E.faults err.old) (E.faults err.new) (read_line file.now) }
 {
     say(err, &[Word::Text("read"), Word::Text(file)]);
@@ -206,8 +206,29 @@ pub fn say_write<E: Sink>(err: &mut E)
 }
 
 /// Says that there was no memory.
-pub fn say_memory<E: Sink>(err: &mut E)
+fn say_memory<E: Sink>(err: &mut E)
     ensures { Says (E.written err.old) (E.written err.new) (E.faults err.old) (E.faults err.new) memory_line }
 {
     say(err, &[Word::Text("memory")]);
+}
+
+/// Says why there is no output, and answers the status.
+pub fn say_stop<E: Sink>(err: &mut E, stop: Stop<'_>) -> u8
+    ensures status { result ≡ stop_status stop.entry }
+    ensures says { Says (E.written err.old) (E.written err.new) (E.faults err.old) (E.faults err.new) (stop_line stop.entry) }
+{
+    match stop {
+        Stop::Refused(refusal) => {
+            say_refusal(err, refusal);
+            1
+        }
+        Stop::Read(file) => {
+            say_read(err, file);
+            3
+        }
+        Stop::Memory => {
+            say_memory(err);
+            5
+        }
+    }
 }

@@ -4,5 +4,6 @@
 mod fault;
 mod job;
 mod run;
+mod top;
 
 fn main() {}

@@ -14,4 +14,3 @@ returns-in-DuplicateModel g c = subst (λ f. Says (g.E.Sink.written c.args.err.n
 
 pub returns-in-TooManyInputs : goal.returns-in-TooManyInputs
 returns-in-TooManyInputs g c = subst (λ f. Says (g.E.Sink.written c.args.err.now) (g.E.Sink.written c.say_at-in-TooManyInputs.new.err) (g.E.Sink.faults c.args.err.now) (g.E.Sink.faults c.say_at-in-TooManyInputs.new.err) (blif_line f)) (sym c.in-TooManyInputs.is) c.say_at-in-TooManyInputs.ensures
-
