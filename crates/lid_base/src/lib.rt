@@ -5,7 +5,9 @@
 mod cut;
 mod items;
 mod line;
+mod memory;
 mod outside;
+mod text;
 mod which;
 
 pub use cut::{
@@ -13,5 +15,7 @@ pub use cut::{
 };
 pub use items::{Bytes, Items, Name};
 pub use line::{Line, TextFault, lines};
+pub use memory::{File, MemShelf};
 pub use outside::{Gate, Shelf, ShelfFailed, Sink, SinkFailed};
+pub use text::Text;
 pub use which::Which;
