@@ -15,7 +15,7 @@ pub use cut::{
 };
 pub use items::{Bytes, Items, Name};
 pub use line::{Line, TextFault, lines};
-pub use memory::{File, MemShelf};
+pub use memory::{File, MemShelf, MemSink};
 pub use outside::{Gate, Shelf, ShelfFailed, Sink, SinkFailed};
 pub use text::Text;
 pub use which::Which;

@@ -126,3 +126,97 @@ impl Shelf for MemShelf {
         }
     }
 }
+
+/// A sink that keeps its bytes in memory, and tells them.
+///
+/// A contract sees the bytes written, how many more fit, the numbers of the calls that fail, how
+/// many calls were made, and how many of them failed. Calls are numbered from 1. Their number and
+/// the count stay at 2^64 - 1 once they are there.
+#[derive(Drop)]
+pub struct MemSink {
+    bytes: Vec<u8>,
+    room: usize,
+    failing: Vec<u64>,
+    calls: u64,
+    faults: u64,
+}
+
+impl Model for MemSink {
+    ghost use Rattle.std.specs.Prelude.{◌+◌, ◌≤◌, vec_len, vec_capacity};
+    ghost use Rattle.lid_base.specs.Memory.{SinkState};
+
+    ghost Value = { SinkState };
+
+    ghost view = { λ s. record {
+        bytes = s.bytes.items;
+        room = s.room;
+        failing = s.failing.items;
+        calls = s.calls;
+        faults = s.faults;
+    } };
+
+    ghost invariant = { λ s. vec_len s.bytes + s.room ≤ vec_capacity s.bytes };
+}
+
+impl MemSink {
+    ghost use Rattle.lid_base.specs.Memory.{SinkState};
+
+    /// A sink with room for `room` bytes, on which the calls with the listed numbers fail. The room
+    /// is taken here, so that no write takes memory.
+    ///
+    /// # Errors
+    /// There was no memory for the room.
+    pub fn new(alloc: Global, room: u64, failing: Vec<u64>) -> Result<MemSink, AllocError>
+        ensures { IfOk result (λ sink. let start : SinkState = record { bytes = []; room = room; failing = failing.items; calls = 0; faults = 0 } in sink ≡ start) }
+    {
+        let room = room as usize;
+        let bytes = Vec::with_capacity(alloc, room)?;
+        Ok(MemSink {
+            bytes,
+            room,
+            failing,
+            calls: 0,
+            faults: 0,
+        })
+    }
+
+    /// The bytes written so far.
+    pub fn written(&self) -> &[u8]
+        ensures { result.now ≡ self.now.bytes }
+    {
+        self.bytes.as_slice()
+    }
+}
+
+impl Sink for MemSink {
+    ghost use Rattle.lid_base.specs.Memory.{write_fails, after_write};
+
+    ghost written = { λ s. Some s.bytes };
+
+    ghost faults = { λ s. s.faults };
+
+    /// # Errors
+    /// Exactly the calls with listed numbers and the pieces that do not fit in the room left fail.
+    /// They append nothing.
+    fn write(&mut self, piece: &[u8]) -> Result<(), SinkFailed>
+        ensures ok { OnOk result (Appended (Some self.old.bytes) (Some self.new.bytes) piece.now) }
+        ensures err { OnErr result (AppendedPrefix (Some self.old.bytes) (Some self.new.bytes) piece.now) }
+        ensures failed { OnErr result (Rose self.old.faults self.new.faults) }
+        ensures grows { self.old.faults ≤ self.new.faults }
+        ensures fails { is_err result ≡ write_fails self.old piece.now }
+        ensures after { self.new ≡ after_write self.old piece.now }
+    {
+        self.calls = self.calls.saturating_add(1);
+        if self.failing.contains(&self.calls) || self.room < piece.len() {
+            self.faults = self.faults.saturating_add(1);
+            return Err(SinkFailed);
+        }
+        match self.bytes.extend_from_slice(piece) {
+            Ok(()) => {
+                self.room -= piece.len();
+                Ok(())
+            }
+            Err(_) => unreachable!(),
+        }
+    }
+}
