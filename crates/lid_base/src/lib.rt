@@ -7,6 +7,7 @@ mod items;
 mod line;
 mod memory;
 mod outside;
+mod system;
 mod text;
 mod which;
 
@@ -16,6 +17,7 @@ pub use cut::{
 pub use items::{Bytes, Items, Name};
 pub use line::{Line, TextFault, lines};
 pub use memory::{File, MemShelf, MemSink};
-pub use outside::{Gate, Shelf, ShelfFailed, Sink, SinkFailed};
+pub use outside::{Gate, OpenGate, Shelf, ShelfFailed, Sink, SinkFailed};
+pub use system::{DirShelf, StdSink};
 pub use text::Text;
 pub use which::Which;
