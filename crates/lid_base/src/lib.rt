@@ -8,6 +8,8 @@ mod line;
 mod memory;
 mod outside;
 mod system;
+#[cfg(test)]
+mod tests;
 mod text;
 mod which;
 
