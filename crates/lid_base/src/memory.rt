@@ -38,11 +38,11 @@ impl Model for MemShelf {
     ghost Value = { ShelfState };
 
     ghost view = { λ s. record {
-        files = s.files.items;
-        failing = s.failing.items;
-        calls = s.calls;
-        held_faults = s.held_faults;
-        missing_faults = s.missing_faults;
+      files = s.files.items;
+      failing = s.failing.items;
+      calls = s.calls;
+      held_faults = s.held_faults;
+      missing_faults = s.missing_faults;
     } };
 }
 
@@ -148,11 +148,11 @@ impl Model for MemSink {
     ghost Value = { SinkState };
 
     ghost view = { λ s. record {
-        bytes = s.bytes.items;
-        room = s.room;
-        failing = s.failing.items;
-        calls = s.calls;
-        faults = s.faults;
+      bytes = s.bytes.items;
+      room = s.room;
+      failing = s.failing.items;
+      calls = s.calls;
+      faults = s.faults;
     } };
 
     ghost invariant = { λ s. vec_len s.bytes + s.room ≤ vec_capacity s.bytes };

@@ -1,6 +1,6 @@
 use crate::{
-    DirShelf, File, Gate, Items, Line, MemShelf, MemSink, Name, OpenGate, Shelf, ShelfFailed, Sink, SinkFailed, StdSink, Text,
-    TextFault, lines,
+    DirShelf, File, Gate, Items, Line, MemShelf, MemSink, Name, OpenGate, Shelf, ShelfFailed, Sink,
+    SinkFailed, StdSink, Text, TextFault, lines,
 };
 use std::alloc::{AllocError, Global};
 use std::fs;
@@ -9,7 +9,12 @@ use std::test::Fail;
 fn is_line(line: &Line, number: u32, words: &[&[u8]]) -> bool {
     line.number == number
         && line.words.len() == words.len()
-        && line.words.as_slice().iter().zip(words).all(|(word, want)| word.as_slice() == *want)
+        && line
+            .words
+            .as_slice()
+            .iter()
+            .zip(words)
+            .all(|(word, want)| word.as_slice() == *want)
 }
 
 fn name(alloc: Global, bytes: &[u8]) -> Result<Name, AllocError> {
@@ -39,7 +44,10 @@ fn refuses_bytes(rt: HostRuntime) {
     ];
     for (text, line) in cases {
         assert!(rt; text.len() < 100);
-        assert_eq!(rt; lines(rt.alloc(), text, 1024).err(), Some(TextFault::BadByte { line }));
+        assert_eq!(rt;
+            lines(rt.alloc(), text, 1024).err(),
+            Some(TextFault::BadByte { line })
+        );
     }
 }
 
