@@ -5,7 +5,12 @@
 mod cut;
 mod items;
 mod line;
+mod meet;
+mod memory;
 mod outside;
+mod system;
+#[cfg(test)]
+mod tests;
 mod text;
 mod which;
 
@@ -14,6 +19,9 @@ pub use cut::{
 };
 pub use items::{Bytes, Items, Name};
 pub use line::{Line, TextFault, lines};
-pub use outside::{Gate, Shelf, ShelfFailed, Sink, SinkFailed};
+pub use meet::MeetGate;
+pub use memory::{File, MemShelf, MemSink};
+pub use outside::{Gate, OpenGate, Shelf, ShelfFailed, Sink, SinkFailed};
+pub use system::{DirShelf, StdSink};
 pub use text::Text;
 pub use which::Which;

@@ -8,6 +8,7 @@ use crate::cut::{cut_line, goes_on, has_bad_byte, has_long_word, push_words};
 use crate::items::{Items, Name};
 use std::alloc::{AllocError, Global};
 use std::mem;
+use thiserror::Error;
 
 /// A logical line: the number of its first physical line, counted from 1, and its words.
 #[derive(Drop)]
@@ -17,13 +18,16 @@ pub struct Line {
 }
 
 /// Why a text has no logical lines.
-#[derive(Clone, Copy, Debug, PartialEq, Eq)]
+#[derive(Clone, Copy, Debug, PartialEq, Eq, Error)]
 pub enum TextFault {
     /// The physical line has a byte that is not allowed outside comments, or a word that ends in `\`.
+    #[error("line {line} has a byte that is not allowed")]
     BadByte { line: u32 },
     /// The physical line has a word that is too long.
+    #[error("line {line} has a word that is too long")]
     NameTooLong { line: u32 },
     /// There was no memory.
+    #[error("out of memory")]
     Memory,
 }
 
