@@ -1,1 +1,3 @@
 pub mod Appends
+pub mod Limits
+pub mod WalkLemmas

@@ -1,5 +1,5 @@
 -- The reading of a rows text from a line on, where the lines before it were read.
-use Rattle.std.specs.Prelude.{ℕ, zero, suc, ◌+◌, ◌==◌, Bool, false, ◌||◌, if◌then◌else◌, List, [], ◌∷◌, ◌++◌, map, Option, Some, None, Result, Ok, Err}
+use Rattle.std.specs.Prelude.{ℕ, zero, suc, ◌+◌, ◌==◌, Bool, false, ◌||◌, if◌then◌else◌, List, [], ◌∷◌, ◌++◌, length, map, Option, Some, None, Result, Ok, Err}
 use Rattle.std.specs.List.{enumerate_from}
 use Rattle.lid_base.specs.Lines.{joins_of, words_of, has_bad_byte}
 use Rattle.lid_texts.specs.declared.walk.RowWalk.{RowWalk}
@@ -53,3 +53,8 @@ no_line = record { number = 0; words = []; bad = false }
 unfoldable pub walk_after : List (List ℕ) → ℕ → RowWalk → List (List Bool) → List (List ℕ) → Result (List (List Bool)) VecFault
 walk_after columns outs walk done rest =
     bits_after columns outs walk.judged done (continued walk.begun (map rows_line (joins_of (enumerate_from walk.number rest))))
+
+-- the most lines that are left
+abbrev pub lines_at_most : Option (List ℕ) → ℕ
+lines_at_most None = 0
+lines_at_most (Some rest) = length rest + 1

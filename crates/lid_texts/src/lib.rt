@@ -3,8 +3,10 @@
 
 mod line;
 mod print;
+mod read;
 mod rows;
 mod walk;
 
 pub use print::print_rows;
+pub use read::read_rows;
 pub use rows::{Rows, VecFault};

@@ -120,9 +120,9 @@ impl RowWalk {
         ensures number { OnOk result (self.new.number ≡ self.old.number + 1) }
         ensures judged { OnOk result (self.new.judged ≤ self.old.judged + 1) }
     {
-        if self.begun.add(alloc, self.number, line).is_err() {
+        let Ok(()) = self.begun.add(alloc, self.number, line) else {
             return Err(VecFault::Memory);
-        }
+        };
         self.number += 1;
         if goes_on(line) {
             return Ok(());
