@@ -47,7 +47,7 @@ row_fault-None columns outs k line h =
     record {
       few = ltb-false 1000000 k few.0;
       few_out_bits = ltb-false 67108864 (k * outs) few_out_bits.0;
-      wide = row_bits-width columns line (eqb-true (length (concat line.words)) (row_width columns) (or-false-both _ _ wide.0))
+      wide = row_bits-width columns line (eqb-true (length (concat line.words)) (row_width columns) (or-false-both _ _ wide.0));
     }
 
 accepted : {A : Type 0} (fault : Option VecFault) (later : Result A VecFault) (a : A) → or_refuse fault later ≡ Ok a → (fault ≡ None) × (later ≡ Ok a)
@@ -68,7 +68,7 @@ module _ (columns : List (List ℕ)) (outs : ℕ) where
       record {
         wide = All-push (λ row. length row ≡ length columns) done (row_bits columns line) w.wide s.wide;
         few = omega (arith, s.few);
-        few_out_bits = omega (arith, mul-le-mul_right outs fits, s.few_out_bits)
+        few_out_bits = omega (arith, mul-le-mul_right outs fits, s.few_out_bits);
       }
 
   rows-within : (k : ℕ) (done : List (List Bool)) (lines : List RowsLine) (bits : List (List Bool)) →
@@ -79,23 +79,25 @@ module _ (columns : List (List ℕ)) (outs : ℕ) where
       let row = row_bits columns line in
       let later = bits_after columns outs (suc k + 1) (done ++ row ∷ []) lines in
       elim (has_words line) as (λ b.
-        (if b then or_refuse (row_fault columns outs (suc k) line) later else bits_after columns outs (suc k) done lines) ≡ Ok bits
-        → IsWithin columns outs bits)
-      [ true ↦ λ t.
-          let a = accepted (row_fault columns outs (suc k) line) later bits t in
-          rows-within (suc k) (done ++ row ∷ []) lines bits (simp length-append (omega arith))
-          (push-within k done line d w (row_fault-None columns outs (suc k) line a.0)) (rw (add-one (suc k)) at a.1)
-      | false ↦ rows-within k done lines bits d w ]
+      (if b then or_refuse (row_fault columns outs (suc k) line) later else bits_after columns outs (suc k) done lines) ≡ Ok bits
+      → IsWithin columns outs bits) [
+        | true ↦ λ t.
+            let a = accepted (row_fault columns outs (suc k) line) later bits t in
+            rows-within (suc k) (done ++ row ∷ []) lines bits (simp length-append (omega arith))
+            (push-within k done line d w (row_fault-None columns outs (suc k) line a.0)) (rw (add-one (suc k)) at a.1)
+        | false ↦ rows-within k done lines bits d w
+      ]
       h
 
   lines-within : (lines : List RowsLine) (bits : List (List Bool)) → bits_after columns outs 0 [] lines ≡ Ok bits → IsWithin columns outs bits
   lines-within [] bits h = cc
   lines-within (line ∷ lines) bits h =
       elim (has_words line) as (λ b.
-        (if b then or_refuse (header_fault columns line) (bits_after columns outs 1 [] lines) else bits_after columns outs 0 [] lines) ≡ Ok bits
-        → IsWithin columns outs bits)
-      [ true ↦ λ t. rows-within 0 [] lines bits (omega arith) none-within (accepted (header_fault columns line) _ bits t).1
-      | false ↦ lines-within lines bits ]
+      (if b then or_refuse (header_fault columns line) (bits_after columns outs 1 [] lines) else bits_after columns outs 0 [] lines) ≡ Ok bits
+      → IsWithin columns outs bits) [
+        | true ↦ λ t. rows-within 0 [] lines bits (omega arith) none-within (accepted (header_fault columns line) _ bits t).1
+        | false ↦ lines-within lines bits
+      ]
       h
 
   pub reading-within : (bytes : List ℕ) (bits : List (List Bool)) → bits_reading columns outs (rows_lines bytes) ≡ Ok bits → IsWithin columns outs bits

@@ -88,7 +88,7 @@ module _ (columns : List (List ℕ)) (outs : ℕ) where
   rows_after : (k : ℕ) (done : List (List Bool)) (lines : List RowsLine) →
       bits_after columns outs (suc k) done lines
       ≡ or_fault (first_some (map (λ p. row_fault columns outs p.0 p.1) (enumerate_from (suc k) (filter has_words lines))))
-        (done ++ map (row_bits columns) (filter has_words lines))
+      (done ++ map (row_bits columns) (filter has_words lines))
   rows_after k done [] = rw (not_zero (suc k) (omega arith)) (ap Ok (sym (append-nil done)))
   rows_after k done (line ∷ lines) =
       let others = filter has_words lines in
@@ -96,12 +96,13 @@ module _ (columns : List (List ℕ)) (outs : ℕ) where
       let fault = λ (p : ℕ × RowsLine). row_fault columns outs p.0 p.1 in
       let next = rw (append_assoc done (row ∷ []) (map (row_bits columns) others)) at (rows_after (suc k) (done ++ row ∷ []) lines) in
       elim (has_words line) as (λ b.
-        (if b then or_refuse (row_fault columns outs (suc k) line) (bits_after columns outs (suc k + 1) (done ++ row ∷ []) lines)
-          else bits_after columns outs (suc k) done lines)
-        ≡ or_fault (first_some (map fault (enumerate_from (suc k) (cond b (line ∷ others) others))))
-          (done ++ map (row_bits columns) (cond b (line ∷ others) others)))
-      [ true ↦ refuse_first (row_fault columns outs (suc k) line) _ _ _ (rw (add-one (suc k)) next)
-      | false ↦ rows_after k done lines ]
+      (if b then or_refuse (row_fault columns outs (suc k) line) (bits_after columns outs (suc k + 1) (done ++ row ∷ []) lines)
+      else bits_after columns outs (suc k) done lines)
+      ≡ or_fault (first_some (map fault (enumerate_from (suc k) (cond b (line ∷ others) others))))
+      (done ++ map (row_bits columns) (cond b (line ∷ others) others))) [
+        | true ↦ refuse_first (row_fault columns outs (suc k) line) _ _ _ (rw (add-one (suc k)) next)
+        | false ↦ rows_after k done lines
+      ]
 
   -- all lines, read one by one and by their definition
   pub bits_after-first : (lines : List RowsLine) → bits_after columns outs 0 [] lines ≡ bits_reading columns outs (filter has_words lines)
@@ -110,8 +111,8 @@ module _ (columns : List (List ℕ)) (outs : ℕ) where
   bits_after-first (line ∷ lines) =
       let others = filter has_words lines in
       elim (has_words line) as (λ b.
-        (if b then or_refuse (header_fault columns line) (bits_after columns outs 1 [] lines) else bits_after columns outs 0 [] lines)
-        ≡ bits_reading columns outs (cond b (line ∷ others) others))
+      (if b then or_refuse (header_fault columns line) (bits_after columns outs 1 [] lines) else bits_after columns outs 0 [] lines)
+      ≡ bits_reading columns outs (cond b (line ∷ others) others))
       [ true ↦ refuse_first (header_fault columns line) _ _ _ (rows_after 0 [] lines) | false ↦ bits_after-first lines ]
 
   -- the whole walk

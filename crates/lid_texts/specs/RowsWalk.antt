@@ -34,7 +34,7 @@ abbrev pub joined : RowsLine → RowsLine → RowsLine
 joined line more = record {
   number = if line.number == 0 then more.number else line.number;
   words = line.words ++ more.words;
-  bad = line.bad || more.bad
+  bad = line.bad || more.bad;
 }
 
 -- the first of the lines continues this one

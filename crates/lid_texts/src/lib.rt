@@ -10,3 +10,6 @@ mod walk;
 pub use print::print_rows;
 pub use read::read_rows;
 pub use rows::{Rows, VecFault};
+
+#[cfg(test)]
+mod tests;

@@ -42,7 +42,11 @@ impl BegunLine {
     pub(crate) fn new(alloc: Global) -> BegunLine
         ensures { result ≡ no_line }
     {
-        BegunLine { number: 0, words: Vec::new(alloc), bad: false }
+        BegunLine {
+            number: 0,
+            words: Vec::new(alloc),
+            bad: false,
+        }
     }
 
     /// Adds a physical line.
@@ -127,7 +131,11 @@ fn has_width(words: &[Name], width: usize) -> bool
 fn row_width(columns: &[Name]) -> usize
     ensures { result ≡ row_width columns.now }
 {
-    if has_columns(columns) { columns.len() } else { 1 }
+    if has_columns(columns) {
+        columns.len()
+    } else {
+        1
+    }
 }
 
 /// Whether a character may stand in a row.
@@ -152,7 +160,9 @@ fn is_stray_word(columns: &[Name], word: &[u8]) -> bool
 fn has_stray_char(columns: &[Name], words: &[Name]) -> bool
     ensures { result ≡ list_any (is_stray_word columns.now) words.now }
 {
-    words.iter().any(|word| is_stray_word(columns, word.as_slice()))
+    words
+        .iter()
+        .any(|word| is_stray_word(columns, word.as_slice()))
 }
 
 /// What is at fault in the header.
@@ -181,10 +191,16 @@ fn row_fault(columns: &[Name], outs: u32, k: u32, line: &BegunLine) -> Option<Ve
         return Some(VecFault::Char { line: line.number });
     }
     if k > MOST_ROWS {
-        return Some(VecFault::Limit { which: Which::Rows, count: u64::from(k) });
+        return Some(VecFault::Limit {
+            which: Which::Rows,
+            count: u64::from(k),
+        });
     }
     if out_bits > MOST_OUT_BITS {
-        return Some(VecFault::Limit { which: Which::OutBits, count: out_bits });
+        return Some(VecFault::Limit {
+            which: Which::OutBits,
+            count: out_bits,
+        });
     }
     if has_long_word(words) || !has_width(words, row_width(columns)) {
         return Some(VecFault::Width { line: line.number });
@@ -196,10 +212,19 @@ fn row_fault(columns: &[Name], outs: u32, k: u32, line: &BegunLine) -> Option<Ve
 }
 
 /// What is at fault in a logical line, where it comes after `judged` others.
-pub(crate) fn line_fault(columns: &[Name], outs: u32, judged: u32, line: &BegunLine) -> Option<VecFault>
+pub(crate) fn line_fault(
+    columns: &[Name],
+    outs: u32,
+    judged: u32,
+    line: &BegunLine,
+) -> Option<VecFault>
     ensures { result ≡ line_fault columns.now outs judged line.now }
 {
-    if judged == 0 { header_fault(columns, line) } else { row_fault(columns, outs, judged, line) }
+    if judged == 0 {
+        header_fault(columns, line)
+    } else {
+        row_fault(columns, outs, judged, line)
+    }
 }
 
 /// Appends the bits of a word.
@@ -214,7 +239,11 @@ fn append_word_bits(word: &[u8], into: &mut Vec<bool>) -> Result<(), AllocError>
 
 /// The bits of a row.
 #[tactic(auto, unfolding(crate::specs::Rows::row_bits))]
-pub(crate) fn row_bits(alloc: Global, columns: &[Name], line: &BegunLine) -> Result<Items<bool>, AllocError>
+pub(crate) fn row_bits(
+    alloc: Global,
+    columns: &[Name],
+    line: &BegunLine,
+) -> Result<Items<bool>, AllocError>
     ensures { IfOk result (λ bits. bits ≡ row_bits columns.now line.now) }
 {
     if !has_columns(columns) {

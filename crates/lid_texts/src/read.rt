@@ -30,12 +30,15 @@ fn copy_names(alloc: Global, names: &[Name]) -> Result<Items<Name>, AllocError>
 }
 
 /// The bits of the rows of a text that is not too long.
-fn read_bits(alloc: Global, bytes: &[u8], columns: &[Name], outs: u32) -> Result<Items<Items<bool>>, VecFault>
+fn read_bits(
+    alloc: Global,
+    bytes: &[u8],
+    columns: &[Name],
+    outs: u32,
+) -> Result<Items<Items<bool>>, VecFault>
     requires { length bytes.now ≤ 67108864 }
     ensures ok { IfOk result (λ bits. bits_reading columns.now outs (rows_lines bytes.now) ≡ Ok bits) }
-    ensures err {
-        IfErr result (λ e. (e ≡ VecFault.Memory) ⊎ (bits_reading columns.now outs (rows_lines bytes.now) ≡ Err e))
-    }
+    ensures err { IfErr result (λ e. (e ≡ VecFault.Memory) ⊎ (bits_reading columns.now outs (rows_lines bytes.now) ≡ Err e)) }
 {
     let mut walk = RowWalk::new(alloc);
     let mut bits = Vec::new(alloc);
@@ -74,7 +77,10 @@ pub fn read_rows(alloc: Global, bytes: &[u8], columns: &[Name], outs: u32) -> Re
     ensures few_out_bits { IfOk result (λ rows. length rows.bits * outs ≤ 67108864) }
 {
     if bytes.len() > MOST_BYTES {
-        return Err(VecFault::Limit { which: Which::FileBytes, count: bytes.len() as u64 });
+        return Err(VecFault::Limit {
+            which: Which::FileBytes,
+            count: bytes.len() as u64,
+        });
     }
     let bits = match read_bits(alloc, bytes, columns, outs) {
         Ok(bits) => bits,

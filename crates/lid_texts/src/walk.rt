@@ -20,7 +20,12 @@ pub(crate) struct RowWalk {
 }
 
 /// Appends the row of a line.
-fn push_row(alloc: Global, columns: &[Name], line: &BegunLine, into: &mut Vec<Items<bool>>) -> Result<(), AllocError>
+fn push_row(
+    alloc: Global,
+    columns: &[Name],
+    line: &BegunLine,
+    into: &mut Vec<Items<bool>>,
+) -> Result<(), AllocError>
     ensures { OnOk result (into.new.items ≡ into.old.items ++ row_bits columns.now line.now ∷ []) }
 {
     into.push(row_bits(alloc, columns, line)?)?;
@@ -38,14 +43,10 @@ fn judge_line(
     into: &mut Vec<Items<bool>>,
 ) -> Result<u32, VecFault>
     requires { judged < 4294967295 }
-    ensures ok {
-        IfOk result (λ n. (lines : List RowsLine) →
-            bits_after columns.now outs n into.new.items lines ≡ bits_after columns.now outs judged into.old.items (line.now ∷ lines))
-    }
-    ensures err {
-        IfErr result (λ e. (e ≡ VecFault.Memory)
-            ⊎ ((lines : List RowsLine) → bits_after columns.now outs judged into.old.items (line.now ∷ lines) ≡ Err e))
-    }
+    ensures ok { IfOk result (λ n. (lines : List RowsLine) →
+        bits_after columns.now outs n into.new.items lines ≡ bits_after columns.now outs judged into.old.items (line.now ∷ lines)) }
+    ensures err { IfErr result (λ e. (e ≡ VecFault.Memory)
+        ⊎ ((lines : List RowsLine) → bits_after columns.now outs judged into.old.items (line.now ∷ lines) ≡ Err e)) }
     ensures most { IfOk result (λ n. n ≤ judged + 1) }
 {
     if line.words.is_empty() {
@@ -65,22 +66,28 @@ impl RowWalk {
     pub(crate) fn new(alloc: Global) -> RowWalk
         ensures { result ≡ record { number = 1; judged = 0; begun = no_line } }
     {
-        RowWalk { number: 1, judged: 0, begun: BegunLine::new(alloc) }
+        RowWalk {
+            number: 1,
+            judged: 0,
+            begun: BegunLine::new(alloc),
+        }
     }
 
     /// Ends the line that was begun.
-    fn end_line(&mut self, alloc: Global, columns: &[Name], outs: u32, into: &mut Vec<Items<bool>>) -> Result<(), VecFault>
+    fn end_line(
+        &mut self,
+        alloc: Global,
+        columns: &[Name],
+        outs: u32,
+        into: &mut Vec<Items<bool>>,
+    ) -> Result<(), VecFault>
         requires { self.old.judged < 4294967295 }
-        ensures ok {
-            OnOk result ((lines : List RowsLine) →
-                bits_after columns.now outs self.new.judged into.new.items lines
-                ≡ bits_after columns.now outs self.old.judged into.old.items (self.old.begun ∷ lines))
-        }
-        ensures err {
-            IfErr result (λ e. (e ≡ VecFault.Memory)
-                ⊎ ((lines : List RowsLine) →
-                    bits_after columns.now outs self.old.judged into.old.items (self.old.begun ∷ lines) ≡ Err e))
-        }
+        ensures ok { OnOk result ((lines : List RowsLine) →
+            bits_after columns.now outs self.new.judged into.new.items lines
+            ≡ bits_after columns.now outs self.old.judged into.old.items (self.old.begun ∷ lines)) }
+        ensures err { IfErr result (λ e. (e ≡ VecFault.Memory)
+            ⊎ ((lines : List RowsLine) →
+            bits_after columns.now outs self.old.judged into.old.items (self.old.begun ∷ lines) ≡ Err e)) }
         ensures most { self.new.judged ≤ self.old.judged + 1 }
         ensures begun { self.new.begun ≡ no_line }
         ensures number { self.new.number ≡ self.old.number }
@@ -107,16 +114,12 @@ impl RowWalk {
         requires numbered { 1 ≤ self.old.number }
         requires fits { self.old.number < 4294967295 }
         requires judged { self.old.judged < self.old.number }
-        ensures ok {
-            OnOk result ((rest : List (List ℕ)) →
-                walk_after columns.now outs self.new into.new.items rest
-                ≡ walk_after columns.now outs self.old into.old.items (line.now ∷ rest))
-        }
-        ensures err {
-            IfErr result (λ e. (e ≡ VecFault.Memory)
-                ⊎ ((rest : List (List ℕ)) →
-                    walk_after columns.now outs self.old into.old.items (line.now ∷ rest) ≡ Err e))
-        }
+        ensures ok { OnOk result ((rest : List (List ℕ)) →
+            walk_after columns.now outs self.new into.new.items rest
+            ≡ walk_after columns.now outs self.old into.old.items (line.now ∷ rest)) }
+        ensures err { IfErr result (λ e. (e ≡ VecFault.Memory)
+            ⊎ ((rest : List (List ℕ)) →
+            walk_after columns.now outs self.old into.old.items (line.now ∷ rest) ≡ Err e)) }
         ensures number { OnOk result (self.new.number ≡ self.old.number + 1) }
         ensures judged { OnOk result (self.new.judged ≤ self.old.judged + 1) }
     {
@@ -132,12 +135,16 @@ impl RowWalk {
 
     /// Takes the end of the text, and appends the row that ends with it. It answers how many rows
     /// the text has.
-    pub(crate) fn finish(&mut self, alloc: Global, columns: &[Name], outs: u32, into: &mut Vec<Items<bool>>) -> Result<(), VecFault>
+    pub(crate) fn finish(
+        &mut self,
+        alloc: Global,
+        columns: &[Name],
+        outs: u32,
+        into: &mut Vec<Items<bool>>,
+    ) -> Result<(), VecFault>
         requires { self.old.judged < 4294967295 }
         ensures ok { OnOk result (walk_after columns.now outs self.old into.old.items [] ≡ Ok into.new.items) }
-        ensures err {
-            IfErr result (λ e. (e ≡ VecFault.Memory) ⊎ (walk_after columns.now outs self.old into.old.items [] ≡ Err e))
-        }
+        ensures err { IfErr result (λ e. (e ≡ VecFault.Memory) ⊎ (walk_after columns.now outs self.old into.old.items [] ≡ Err e)) }
     {
         match self.end_line(alloc, columns, outs, into) {
             Err(fault) => Err(fault),

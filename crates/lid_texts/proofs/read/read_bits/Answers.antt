@@ -12,5 +12,5 @@ loop-left-init c =
       ahead = rw c.new-bits.ensures.items (walk-whole c.args.columns.now c.args.outs c.args.bytes.now walk c.new-walk.ensures);
       numbered = omega arith;
       judged = omega arith;
-      few = omega (arith, c.requires)
+      few = omega (arith, c.requires);
     }

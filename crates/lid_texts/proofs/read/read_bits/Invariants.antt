@@ -10,7 +10,7 @@ invariant-loop-left l = record {
   ahead : walk_after l.columns l.outs l.walk l.bits.items (lines_left (option_copied l.left)) ≡ bits_reading l.columns l.outs (rows_lines l.bytes);
   numbered : 1 ≤ l.walk.number;
   judged : l.walk.judged < l.walk.number;
-  few : l.walk.number + lines_at_most (option_copied l.left) ≤ 67108866
+  few : l.walk.number + lines_at_most (option_copied l.left) ≤ 67108866;
 }
 
 abbrev pub decreases-loop-left : goal.decreases-loop-left

@@ -17,10 +17,10 @@ returns-clause-ok c =
     let walk = c.args.self.now in
     OnOk-along c.end_line.result
     (λ h (rest : List (List ℕ)).
-      walk-fresh c.args.columns.now c.args.outs c.end_line.new.self (walk.number + 1) c.end_line.new.into.items rest
-      c.end_line.ensures.begun c.end_line.ensures.number
-      ∙ h (map rows_line (joins_of (enumerate_from (walk.number + 1) rest)))
-      ∙ sym (walk-ends c.args.columns.now c.args.outs walk c.args.into.now.items c.args.line.now c.add.new.self rest c.in-Ok.ensures last))
+    walk-fresh c.args.columns.now c.args.outs c.end_line.new.self (walk.number + 1) c.end_line.new.into.items rest
+    c.end_line.ensures.begun c.end_line.ensures.number
+    ∙ h (map rows_line (joins_of (enumerate_from (walk.number + 1) rest)))
+    ∙ sym (walk-ends c.args.columns.now c.args.outs walk c.args.into.now.items c.args.line.now c.add.new.self rest c.in-Ok.ensures last))
     c.end_line.ensures.ok
 
 pub returns-clause-err : goal.returns-clause-err
@@ -29,6 +29,6 @@ returns-clause-err c =
     let walk = c.args.self.now in
     IfErr-along c.end_line.result _ _
     (λ e. ⊎_elim inl (λ h. inr (λ (rest : List (List ℕ)).
-      walk-ends c.args.columns.now c.args.outs walk c.args.into.now.items c.args.line.now c.add.new.self rest c.in-Ok.ensures last
-      ∙ h (map rows_line (joins_of (enumerate_from (walk.number + 1) rest))))))
+    walk-ends c.args.columns.now c.args.outs walk c.args.into.now.items c.args.line.now c.add.new.self rest c.in-Ok.ensures last
+    ∙ h (map rows_line (joins_of (enumerate_from (walk.number + 1) rest))))))
     c.end_line.ensures.err
