@@ -1,7 +1,7 @@
 -- The reading of a rows text from a line on, where the lines before it were read.
 use Rattle.std.specs.Prelude.{ℕ, zero, suc, ◌+◌, ◌==◌, Bool, false, ◌||◌, if◌then◌else◌, List, [], ◌∷◌, ◌++◌, length, map, Option, Some, None, Result, Ok, Err}
 use Rattle.std.specs.List.{enumerate_from}
-use Rattle.lid_base.specs.Lines.{joins_of, words_of, has_bad_byte}
+use Rattle.lid_base.specs.Lines.{joins_of, words_of, has_bad_byte, goes_on}
 use Rattle.lid_texts.specs.declared.walk.RowWalk.{RowWalk}
 use Rattle.lid_texts.specs.declared.rows.VecFault.{VecFault}
 use Rattle.lid_texts.specs.declared.rows.VecFault.TheVariants.{Header}
@@ -16,6 +16,10 @@ line_fault columns outs (suc k) line = row_fault columns outs (suc k) line
 abbrev pub line_rows : List (List ℕ) → ℕ → RowsLine → List (List Bool)
 line_rows columns zero line = []
 line_rows columns (suc k) line = row_bits columns line ∷ []
+
+-- the rows of a join, which is no logical line where it has no words
+abbrev pub ended_rows : List (List ℕ) → ℕ → RowsLine → List (List Bool)
+ended_rows columns judged line = if has_words line then line_rows columns judged line else []
 
 abbrev pub or_refuse : {A : Type 0} → Option VecFault → Result A VecFault → Result A VecFault
 or_refuse None later = later
@@ -53,6 +57,11 @@ no_line = record { number = 0; words = []; bad = false }
 unfoldable pub walk_after : List (List ℕ) → ℕ → RowWalk → List (List Bool) → List (List ℕ) → Result (List (List Bool)) VecFault
 walk_after columns outs walk done rest =
     bits_after columns outs walk.judged done (continued walk.begun (map rows_line (joins_of (enumerate_from walk.number rest))))
+
+-- the rows that end with this physical line
+abbrev pub taken_rows : List (List ℕ) → RowWalk → List ℕ → List (List Bool)
+taken_rows columns walk line =
+    if goes_on line then [] else ended_rows columns walk.judged (joined walk.begun (alone walk.number line))
 
 -- the most lines that are left
 abbrev pub lines_at_most : Option (List ℕ) → ℕ

@@ -1,8 +1,8 @@
 //! The reading of rows, one physical line after another.
 
-ghost use Rattle.std.specs.Prelude.{◌≡◌, ◌+◌, ◌≤◌, ◌<◌, ◌⊎◌, ◌++◌, ◌∷◌, [], List, ℕ, IfOk, OnOk, IfErr};
+ghost use Rattle.std.specs.Prelude.{◌≡◌, ◌+◌, ◌≤◌, ◌<◌, ◌⊎◌, ◌++◌, ◌∷◌, [], List, ℕ, IfOk, OnOk, OnErr, IfErr};
 ghost use Rattle.lid_texts.specs.Rows.{RowsLine, row_bits};
-ghost use Rattle.lid_texts.specs.RowsWalk.{bits_after, walk_after, no_line};
+ghost use Rattle.lid_texts.specs.RowsWalk.{bits_after, walk_after, ended_rows, taken_rows, no_line};
 
 use crate::line::{BegunLine, line_fault, row_bits};
 use crate::rows::VecFault;
@@ -26,7 +26,8 @@ fn push_row(
     line: &BegunLine,
     into: &mut Vec<Items<bool>>,
 ) -> Result<(), AllocError>
-    ensures { OnOk result (into.new.items ≡ into.old.items ++ row_bits columns.now line.now ∷ []) }
+    ensures ok { OnOk result (into.new.items ≡ into.old.items ++ row_bits columns.now line.now ∷ []) }
+    ensures err { OnErr result (into.new.items ≡ into.old.items) }
 {
     into.push(row_bits(alloc, columns, line)?)?;
     Ok(())
@@ -48,6 +49,8 @@ fn judge_line(
     ensures err { IfErr result (λ e. (e ≡ VecFault.Memory)
         ⊎ ((lines : List RowsLine) → bits_after columns.now outs judged into.old.items (line.now ∷ lines) ≡ Err e)) }
     ensures most { IfOk result (λ n. n ≤ judged + 1) }
+    ensures appends { OnOk result (into.new.items ≡ into.old.items ++ ended_rows columns.now judged line.now) }
+    ensures kept { OnErr result (into.new.items ≡ into.old.items) }
 {
     if line.words.is_empty() {
         return Ok(judged);
@@ -91,6 +94,8 @@ impl RowWalk {
         ensures most { self.new.judged ≤ self.old.judged + 1 }
         ensures begun { self.new.begun ≡ no_line }
         ensures number { self.new.number ≡ self.old.number }
+        ensures appends { OnOk result (into.new.items ≡ into.old.items ++ ended_rows columns.now self.old.judged self.old.begun) }
+        ensures kept { OnErr result (into.new.items ≡ into.old.items) }
     {
         let line = mem::replace(&mut self.begun, BegunLine::new(alloc));
         match judge_line(alloc, columns, outs, self.judged, &line, into) {
@@ -122,6 +127,8 @@ impl RowWalk {
             walk_after columns.now outs self.old into.old.items (line.now ∷ rest) ≡ Err e)) }
         ensures number { OnOk result (self.new.number ≡ self.old.number + 1) }
         ensures judged { OnOk result (self.new.judged ≤ self.old.judged + 1) }
+        ensures appends { OnOk result (into.new.items ≡ into.old.items ++ taken_rows columns.now self.old line.now) }
+        ensures kept { OnErr result (into.new.items ≡ into.old.items) }
     {
         let Ok(()) = self.begun.add(alloc, self.number, line) else {
             return Err(VecFault::Memory);
@@ -133,8 +140,7 @@ impl RowWalk {
         self.end_line(alloc, columns, outs, into)
     }
 
-    /// Takes the end of the text, and appends the row that ends with it. It answers how many rows
-    /// the text has.
+    /// Takes the end of the text, and appends the row that ends with it.
     pub(crate) fn finish(
         &mut self,
         alloc: Global,
