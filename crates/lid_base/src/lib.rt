@@ -5,7 +5,12 @@
 mod cut;
 mod items;
 mod line;
+mod memory;
 mod outside;
+mod system;
+#[cfg(test)]
+mod tests;
+mod text;
 mod which;
 
 pub use cut::{
@@ -13,5 +18,8 @@ pub use cut::{
 };
 pub use items::{Bytes, Items, Name};
 pub use line::{Line, TextFault, lines};
-pub use outside::{Gate, Shelf, ShelfFailed, Sink, SinkFailed};
+pub use memory::{File, MemShelf, MemSink};
+pub use outside::{Gate, OpenGate, Shelf, ShelfFailed, Sink, SinkFailed};
+pub use system::{DirShelf, StdSink};
+pub use text::Text;
 pub use which::Which;
