@@ -24,7 +24,7 @@ abbrev pub rows_line : List (ℕ × List ℕ) → RowsLine
 rows_line join = record {
   number = number_of join;
   words = flat_map (λ p. words_of p.1) join;
-  bad = list_any (λ p. has_bad_byte p.1) join
+  bad = list_any (λ p. has_bad_byte p.1) join;
 }
 
 -- a bad byte is no separator, so a line that has nothing else has a word

@@ -1,14 +1,104 @@
-ghost use Rattle.std.specs.Prelude.{◌≡◌, ◌++◌, OnOk, OnErr};
-ghost use Rattle.lid_texts.specs.RowsText.{rows_text};
+//! Rows of bits, written as a text.
 
+ghost use Rattle.std.specs.Prelude.{◌≡◌, ◌++◌, ◌∷◌, [], map, OnOk, OnErr};
+ghost use Rattle.std.specs.List.{flat_map, join_with_byte};
+ghost use Rattle.lid_texts.specs.Rows.{is_any};
+ghost use Rattle.lid_texts.specs.RowsText.{header_text, row_text, rows_text, bit_char, Extends};
+
+use crate::line::has_columns;
 use crate::rows::Rows;
+use lid_base::{Items, Name};
 use std::alloc::AllocError;
 
+/// Appends the names with a blank between each two.
+fn append_names(names: &[Name], into: &mut Vec<u8>) -> Result<(), AllocError>
+    ensures ok { OnOk result (into.new.items ≡ into.old.items ++ join_with_byte 32 names.now) }
+    ensures kept { Extends into.old.items into.new.items }
+{
+    let mut rest = names;
+    while let [name, after @ ..] = rest {
+        into.extend_from_slice(name.as_slice())?;
+        if !after.is_empty() {
+            into.push(b' ')?;
+        }
+        rest = after;
+    }
+    Ok(())
+}
+
+/// Appends the header line.
+fn append_header(columns: &[Name], into: &mut Vec<u8>) -> Result<(), AllocError>
+    ensures ok { OnOk result (into.new.items ≡ into.old.items ++ header_text columns.now) }
+    ensures kept { Extends into.old.items into.new.items }
+{
+    if has_columns(columns) {
+        append_names(columns, into)?;
+        into.push(b'\n')?;
+    } else {
+        into.extend_from_slice(b"-\n")?;
+    }
+    Ok(())
+}
+
+/// Appends a character for each bit.
+fn append_bits(row: &[bool], into: &mut Vec<u8>) -> Result<(), AllocError>
+    ensures ok { OnOk result (into.new.items ≡ into.old.items ++ map bit_char row.now) }
+    ensures kept { Extends into.old.items into.new.items }
+{
+    for bit in row {
+        into.push(if *bit { b'1' } else { b'0' })?;
+    }
+    Ok(())
+}
+
+/// Appends the line of a row.
+fn append_row(columns: &[Name], row: &[bool], into: &mut Vec<u8>) -> Result<(), AllocError>
+    ensures ok { OnOk result (into.new.items ≡ into.old.items ++ row_text columns.now row.now) }
+    ensures kept { Extends into.old.items into.new.items }
+{
+    if has_columns(columns) {
+        append_bits(row, into)?;
+        into.push(b'\n')?;
+    } else {
+        into.extend_from_slice(b"-\n")?;
+    }
+    Ok(())
+}
+
+/// Appends the line of each row.
+fn append_rows(columns: &[Name], bits: &[Items<bool>], into: &mut Vec<u8>) -> Result<(), AllocError>
+    ensures ok { OnOk result (into.new.items ≡ into.old.items ++ flat_map (row_text columns.now) bits.now) }
+    ensures kept { Extends into.old.items into.new.items }
+{
+    for row in bits {
+        append_row(columns, row.as_slice(), into)?;
+    }
+    Ok(())
+}
+
+/// Appends the header line and the line of each row.
+#[tactic(auto, unfolding(crate::specs::RowsText::rows_text))]
+fn append_text(rows: &Rows, into: &mut Vec<u8>) -> Result<(), AllocError>
+    ensures ok { OnOk result (into.new.items ≡ into.old.items ++ rows_text rows.now.columns rows.now.bits) }
+    ensures kept { Extends into.old.items into.new.items }
+{
+    append_header(rows.columns.as_slice(), into)?;
+    append_rows(rows.columns.as_slice(), rows.bits.as_slice(), into)
+}
+
+/// Appends the rows as a text: a header line with the column names, or `-` where there are no
+/// columns, and for each row a line with its bits as one word, or `-`.
+///
+/// # Errors
+/// Where there is no memory; `into` is then as it was.
 pub fn print_rows(rows: &Rows, into: &mut Vec<u8>) -> Result<(), AllocError>
     ensures ok { OnOk result (into.new.items ≡ into.old.items ++ rows_text rows.now.columns rows.now.bits) }
     ensures err { OnErr result (into.new.items ≡ into.old.items) }
 {
-    let _ = rows;
-    let _ = into;
-    Err(AllocError)
+    let len = into.len();
+    let printed = append_text(rows, into);
+    if printed.is_err() {
+        into.truncate(len);
+    }
+    printed
 }
