@@ -4,8 +4,11 @@
 
 mod fault;
 mod keyword;
+mod place;
 mod reader;
 mod scan;
+mod shapes;
+mod words;
 
 pub use fault::BlifFault;
 pub use reader::read;
