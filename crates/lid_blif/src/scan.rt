@@ -159,9 +159,9 @@ pub fn scan(alloc: Global, lines: &[Line]) -> Result<(), BlifFault>
         if let Some(fault) = line_fault(&place, names.as_slice(), line) {
             return Err(fault);
         }
-        if remember(alloc, line, &mut names).is_err() {
+        let Ok(()) = remember(alloc, line, &mut names) else {
             return Err(BlifFault::Memory);
-        }
+        };
         place = place.after(line);
     }
     Ok(())
