@@ -2,8 +2,10 @@
 //! why a text stands for none.
 #![tactic(auto)]
 
+mod cells;
 mod fault;
 mod keyword;
+mod models;
 mod place;
 mod reader;
 mod scan;

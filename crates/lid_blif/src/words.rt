@@ -1,7 +1,8 @@
 //! The words of a logical line.
 
 ghost use Rattle.std.specs.Prelude.{◌≡◌, bytes_eq, codes, ◌++◌, drop, IfOk, OnOk};
-ghost use Rattle.lid_blif.specs.Words.{word_at, last_word, named_keyword, begins_with_dot, keyword_of, same_keyword, is_line, is_zero, is_one};
+ghost use Rattle.lid_blif.specs.Words.{word_at, last_word, named_keyword, begins_with_dot, keyword_of, same_keyword, is_line, leading, is_inner};
+ghost use Rattle.lid_blif.specs.declared.keyword.Keyword.TheVariants.{Row};
 ghost use Rattle.lid_blif.specs.Faults.{ends_in_zero, ends_in_one};
 
 use crate::keyword::Keyword;
@@ -131,4 +132,28 @@ pub fn push_copies(alloc: Global, names: &[Name], into: &mut Vec<Name>) -> Resul
         into.push(name)?;
     }
     Ok(())
+}
+
+/// The rows that some lines begin with.
+pub fn leading_rows(lines: &[Line]) -> &[Line]
+    ensures { result.now ≡ leading (is_line Row) lines.now }
+{
+    for (at, line) in lines.iter().enumerate() {
+        if !is_line(Keyword::Row, line) {
+            return &lines[..at];
+        }
+    }
+    lines
+}
+
+/// The lines up to the first `.model`.
+pub fn leading_inner(lines: &[Line]) -> &[Line]
+    ensures { result.now ≡ leading is_inner lines.now }
+{
+    for (at, line) in lines.iter().enumerate() {
+        if is_line(Keyword::Model, line) {
+            return &lines[..at];
+        }
+    }
+    lines
 }
