@@ -71,7 +71,11 @@ fn cover_of(alloc: Global, words: &[Name], rows: &[Line]) -> Result<Cover, Alloc
 {
     let inputs = words.len().saturating_sub(2).min(64);
     let cubes = cubes_of(alloc, inputs, rows)?;
-    Ok(Cover { inputs: inputs as u32, on: !has_zero(rows), cubes })
+    Ok(Cover {
+        inputs: inputs as u32,
+        on: !has_zero(rows),
+        cubes,
+    })
 }
 
 fn inputs_of(words: &[Name]) -> &[Name]
@@ -147,11 +151,22 @@ fn latch_cell(alloc: Global, words: &[Name]) -> Result<Cell, AllocError>
     let input = copy(alloc, word(words, 1))?;
     let out = copy(alloc, word(words, 2))?;
     let control = control_of(alloc, words)?;
-    Ok(Cell::Latch { input, out, kind: kind_of(words), control, init: init_of(words) })
+    Ok(Cell::Latch {
+        input,
+        out,
+        kind: kind_of(words),
+        control,
+        init: init_of(words),
+    })
 }
 
 /// Appends the cell of a line, if it has one. `later` has the lines after it.
-pub fn push_cell(alloc: Global, line: &Line, later: &[Line], cells: &mut Vec<Cell>) -> Result<(), AllocError>
+pub fn push_cell(
+    alloc: Global,
+    line: &Line,
+    later: &[Line],
+    cells: &mut Vec<Cell>,
+) -> Result<(), AllocError>
     ensures { OnOk result ((more : List Cell)
         → cells.new.items ++ more ≡ cells.old.items ++ cell_before (keyword_of line.now.words) line.now.words later.now more) }
 {

@@ -56,7 +56,14 @@ fn model_of(alloc: Global, name: &[u8], body: &[Line]) -> Result<Model, AllocErr
     let clocks = names_of(alloc, Keyword::Clock, body)?;
     let cells = cells_of(alloc, body)?;
     let insts = insts_of(alloc, body)?;
-    Ok(Model { name, inputs, outputs, clocks, cells, insts })
+    Ok(Model {
+        name,
+        inputs,
+        outputs,
+        clocks,
+        cells,
+        insts,
+    })
 }
 
 fn models_of(alloc: Global, lines: &[Line]) -> Result<Items<Model>, AllocError>

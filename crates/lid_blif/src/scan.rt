@@ -35,7 +35,10 @@ fn model_fault(names: &[Name], model: &Line) -> Option<BlifFault>
     } else if is_among(word(words, 1), names) {
         Some(BlifFault::DuplicateModel { line })
     } else if names.len() >= 4096 {
-        Some(BlifFault::Limit { which: Which::Models, count: names.len() as u64 + 1 })
+        Some(BlifFault::Limit {
+            which: Which::Models,
+            count: names.len() as u64 + 1,
+        })
     } else {
         None
     }
@@ -94,7 +97,11 @@ fn subckt_fault(place: &Place, inst: &Line) -> Option<BlifFault>
 fn is_mixed(place: &Place, row: &Line) -> bool
     ensures { result ≡ is_mixed place.now row.now }
 {
-    if is_zero_row(row) { place.ones } else { place.zeros }
+    if is_zero_row(row) {
+        place.ones
+    } else {
+        place.zeros
+    }
 }
 
 fn row_fault(place: &Place, row: &Line) -> Option<BlifFault>
@@ -112,7 +119,10 @@ fn row_fault(place: &Place, row: &Line) -> Option<BlifFault>
     } else if is_mixed(place, row) {
         Some(BlifFault::MixedRows { line })
     } else if rows > 1_048_576 {
-        Some(BlifFault::Limit { which: Which::CoverRows, count: rows as u64 })
+        Some(BlifFault::Limit {
+            which: Which::CoverRows,
+            count: rows as u64,
+        })
     } else {
         None
     }

@@ -7,7 +7,7 @@ abbrev pub invariant-loop-at : goal.invariant-loop-at
 invariant-loop-at l = record {
   bound : l.at ≤ length l.characters;
   care : l.care ≡ number_of (map is_cared_for (drop l.at l.characters));
-  value : l.value ≡ number_of (map is_character_one (drop l.at l.characters))
+  value : l.value ≡ number_of (map is_character_one (drop l.at l.characters));
 }
 
 abbrev pub decreases-loop-at : goal.decreases-loop-at

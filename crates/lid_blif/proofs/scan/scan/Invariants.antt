@@ -10,5 +10,5 @@ invariant-loop-line l =
       place : l.place ≡ place_of before;
       names : l.names.items ≡ model_names before;
       rows : l.place.rows ≤ l.line-index;
-      later : first_fault before (drop l.line-index l.lines) ≡ first_fault [] l.lines
+      later : first_fault before (drop l.line-index l.lines) ≡ first_fault [] l.lines;
     }

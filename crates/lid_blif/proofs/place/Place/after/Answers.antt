@@ -18,7 +18,7 @@ returns-in-Row c = λ before h. place_after Row c.args.line.now before c.args.se
 pub returns-in_default : goal.returns-in_default
 returns-in_default c =
     λ before h.
-      place_after c.keyword.result c.args.line.now before c.args.self _ c.keyword.ensures
-      (c.without_cover-in_default.ensures
-      ∙ sym (next_place-other c.keyword.result c.args.line.now c.args.self c.in_default.not-Model c.in_default.not-Names c.in_default.not-End c.in_default.not-Row))
-      h
+    place_after c.keyword.result c.args.line.now before c.args.self _ c.keyword.ensures
+    (c.without_cover-in_default.ensures
+    ∙ sym (next_place-other c.keyword.result c.args.line.now c.args.self c.in_default.not-Model c.in_default.not-Names c.in_default.not-End c.in_default.not-Row))
+    h
