@@ -1,2 +1,5 @@
+pub mod Cuts
+pub mod Joins
 pub mod Lines
+pub mod Memory
 pub mod Outside

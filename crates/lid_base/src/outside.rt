@@ -60,3 +60,11 @@ pub trait Gate: Sync {
     /// Passes the gate.
     fn pass(&self, worker: u32, round: u64);
 }
+
+/// A gate that stands open: `pass` does nothing.
+#[derive(Clone, Copy, Debug, PartialEq, Eq)]
+pub struct OpenGate;
+
+impl Gate for OpenGate {
+    fn pass(&self, _worker: u32, _round: u64) {}
+}

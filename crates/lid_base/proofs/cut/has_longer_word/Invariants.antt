@@ -1,0 +1,10 @@
+use Rattle.std.proofs.Common.{◌≡◌, length, nat_lt}
+use Rattle.std.specs.List.{list_any}
+use Rattle.lid_base.specs.Lines.{words_in}
+use Rattle.lid_base.proofs.cut.has_longer_word.Given as goal
+
+abbrev pub invariant-loop-word : goal.invariant-loop-word
+invariant-loop-word l = list_any (λ w. nat_lt l.longest (length w)) (words_in l.rest) ≡ list_any (λ w. nat_lt l.longest (length w)) (words_in l.fn.bytes)
+
+abbrev pub decreases-loop-word : goal.decreases-loop-word
+decreases-loop-word l = length l.rest
