@@ -14,3 +14,6 @@ mod words;
 
 pub use fault::BlifFault;
 pub use reader::read;
+
+#[cfg(test)]
+mod tests;
