@@ -17,7 +17,7 @@ use Rattle.lid_design.specs.declared.Inst.{Inst}
 use Rattle.lid_design.specs.declared.Bind.{Bind}
 use Rattle.lid_blif.specs.declared.keyword.Keyword.{Keyword}
 use Rattle.lid_blif.specs.declared.keyword.Keyword.TheVariants.{Model, Inputs, Outputs, Clock, Names, Latch, Subckt, End, Unknown, Row}
-use Rattle.lid_blif.specs.Words.{word_at, last_word, keyword_of, is_line, leading, inputs_of, is_zero, is_one, has_type, has_init, is_equals}
+use Rattle.lid_blif.specs.Words.{word_at, last_word, keyword_of, is_line, leading, is_inner, inputs_of, is_zero, is_one, has_type, has_init, is_equals}
 use Rattle.lid_blif.specs.Faults.{ends_in_zero}
 
 -- the number whose bit j is the entry j
@@ -101,10 +101,6 @@ insts_of ls = map inst_of (filter (is_line Subckt) ls)
 -- the names that the lines of one kind list, joined in order
 abbrev pub names_of : Keyword → List Line → List (List ℕ)
 names_of keyword ls = flat_map (λ l. drop 1 l.words) (filter (is_line keyword) ls)
-
--- a line that is no `.model`
-abbrev pub is_inner : Line → Bool
-is_inner l = not (is_line Model l)
 
 -- the model of a name with these lines
 unfoldable pub model_of : List ℕ → List Line → ModelOf

@@ -11,7 +11,7 @@ use Rattle.lid_blif.specs.declared.fault.BlifFault.{BlifFault}
 use Rattle.lid_blif.specs.declared.fault.BlifFault.TheVariants.{Text, NoModel, Unsupported, Arity, RowOutside, RowShape, MixedRows, LatchType, LatchInit, BindShape, DuplicateModel, TooManyInputs, Limit}
 use Rattle.lid_blif.specs.declared.keyword.Keyword.{Keyword}
 use Rattle.lid_blif.specs.declared.keyword.Keyword.TheVariants.{Model, Inputs, Outputs, Clock, Names, Latch, Subckt, End, Unknown, Row}
-use Rattle.lid_blif.specs.declared.scan.Place.{Place}
+use Rattle.lid_blif.specs.declared.place.Place.{Place}
 use Rattle.lid_blif.specs.Words.{word_at, last_word, keyword_of, is_line, leading, inputs_of, is_zero, is_one, is_row_of, is_latch_type, is_latch_init, has_type, has_init, is_binding}
 
 -- a model is open after `.model` and until `.end`
@@ -59,7 +59,7 @@ model_names (l ∷ before) = if is_line Model l then model_names before ++ word_
 -- what these lines mean for the next line
 unfoldable pub place_of : List Line → Place
 place_of before = record {
-  «open» = is_inside before;
+  inside = is_inside before;
   covered = is_some (cover_line before);
   inputs = option_map_or (λ l. inputs_of l.words) (cover_line before) 0;
   zeros = list_any ends_in_zero (rows_back before);
@@ -77,7 +77,7 @@ told [] = None
 told (c ∷ cases) = if c.0 then Some c.1 else told cases
 
 abbrev pub outside : Place → ℕ → Case
-outside place number = (not place.open, NoModel number)
+outside place number = (not place.inside, NoModel number)
 
 abbrev pub model_cases : List (List ℕ) → Line → List Case
 model_cases names l =

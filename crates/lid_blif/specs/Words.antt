@@ -52,6 +52,10 @@ same_keyword _ _ = false
 abbrev pub is_line : Keyword → Line → Bool
 is_line keyword line = same_keyword keyword (keyword_of line.words)
 
+-- a line that is no `.model`
+abbrev pub is_inner : Line → Bool
+is_inner l = not (is_line Model l)
+
 -- the lines from the first on that pass a test, up to the first that does not
 abbrev pub leading : (Line → Bool) → List Line → List Line
 leading p [] = []

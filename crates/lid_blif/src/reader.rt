@@ -1,13 +1,42 @@
 //! From a text to a design.
 
-ghost use Rattle.std.specs.Prelude.{◌≡◌, ◌⊎◌, IfOk, IfErr, Some, None};
+ghost use Rattle.std.specs.Prelude.{◌≡◌, ◌⊎◌, IfOk, IfErr, OnErr, Some, None};
 ghost use Rattle.lid_base.specs.Lines.{logical_lines};
-ghost use Rattle.lid_blif.specs.Faults.{blif_fault};
+ghost use Rattle.lid_blif.specs.Faults.{blif_fault, lines_fault};
 ghost use Rattle.lid_blif.specs.Designs.{design_of};
 
 use crate::fault::BlifFault;
+use crate::models::design_of;
+use crate::scan::scan;
+use lid_base::{Line, TextFault, Which, lines};
 use lid_design::Design;
 use std::alloc::Global;
+
+fn of_text(fault: TextFault) -> BlifFault
+    ensures told { (result ≡ BlifFault.Memory) ⊎ (result ≡ BlifFault.Text fault) }
+    ensures memory { fault ≡ TextFault.Memory → result ≡ BlifFault.Memory }
+{
+    match fault {
+        TextFault::Memory => BlifFault::Memory,
+        _ => BlifFault::Text(fault),
+    }
+}
+
+fn design_from(alloc: Global, lines: &[Line]) -> Result<Design, BlifFault>
+    ensures ok { IfOk result (λ d. (lines_fault lines.now ≡ None) × (d ≡ design_of lines.now)) }
+    ensures err { IfErr result (λ e. (e ≡ BlifFault.Memory) ⊎ (lines_fault lines.now ≡ Some e)) }
+{
+    if lines.is_empty() {
+        return Err(BlifFault::NoModel { line: 0 });
+    }
+    match scan(alloc, lines) {
+        Err(fault) => Err(fault),
+        Ok(()) => match design_of(alloc, lines) {
+            Ok(design) => Ok(design),
+            Err(_) => Err(BlifFault::Memory),
+        },
+    }
+}
 
 /// The design that a BLIF text stands for. Its root is the first model.
 ///
@@ -15,11 +44,19 @@ use std::alloc::Global;
 /// A text of more than 16,777,216 bytes is refused with `Limit`; then the text that has no logical
 /// lines with `Text`; then the first faulty logical line is told, and of its faults the one that
 /// `BlifFault` lists first. `Memory` may come at any text.
+#[tactic(auto, unfolding(crate::specs::Faults::blif_fault))]
 pub fn read(alloc: Global, bytes: &[u8]) -> Result<Design, BlifFault>
     ensures ok { IfOk result (λ d. (blif_fault bytes.now ≡ None) × (d ≡ design_of (logical_lines bytes.now))) }
     ensures err { IfErr result (λ e. (e ≡ BlifFault.Memory) ⊎ (blif_fault bytes.now ≡ Some e)) }
 {
-    let _ = alloc;
-    let _ = bytes;
-    Err(BlifFault::Memory)
+    if bytes.len() > 16_777_216 {
+        return Err(BlifFault::Limit {
+            which: Which::FileBytes,
+            count: bytes.len() as u64,
+        });
+    }
+    match lines(alloc, bytes, 1024) {
+        Ok(lines) => design_from(alloc, lines.as_slice()),
+        Err(fault) => Err(of_text(fault)),
+    }
 }

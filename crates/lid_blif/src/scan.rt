@@ -1,16 +1,178 @@
-/// What the lines so far mean for the next line.
-#[derive(Clone, Copy)]
-pub struct Place {
-    /// The next line stands in a model.
-    pub open: bool,
-    /// A row would belong to a cover.
-    pub covered: bool,
-    /// The inputs of that cover, and 0 without one.
-    pub inputs: usize,
-    /// That cover has a row with the output 0.
-    pub zeros: bool,
-    /// That cover has a row with the output 1.
-    pub ones: bool,
-    /// The cover rows so far.
-    pub rows: usize,
+//! The first fault of some lines.
+
+ghost use Rattle.std.specs.Prelude.{◌≡◌, ◌+◌, ◌<◌, ◌^◌, ◌⊎◌, List, [], ◌∷◌, bytes_eq, Some, None, vec_len, OnOk, IfErr};
+ghost use Rattle.std.specs.List.{list_any};
+ghost use Rattle.lid_base.specs.declared.line.Line.{Line};
+ghost use Rattle.lid_blif.specs.Words.{word_at};
+ghost use Rattle.lid_blif.specs.Faults.{place_of, model_names, told, outside, model_cases, names_cases, latch_cases, subckt_cases, row_cases, is_mixed, line_fault, first_fault};
+
+use crate::fault::BlifFault;
+use crate::keyword::Keyword;
+use crate::place::Place;
+use crate::shapes::{are_bindings, has_init, has_type, is_latch_init, is_latch_type, is_row_of};
+use crate::words::{after, copy, is, is_line, is_zero_row, keyword, last, word};
+use lid_base::{Line, Name, Which};
+use std::alloc::{AllocError, Global};
+
+fn is_among(name: &[u8], names: &[Name]) -> bool
+    ensures { result ≡ list_any (bytes_eq name.now) names.now }
+{
+    for other in names {
+        if is(name, other.as_slice()) {
+            return true;
+        }
+    }
+    false
+}
+
+fn model_fault(names: &[Name], model: &Line) -> Option<BlifFault>
+    ensures { result ≡ told (model_cases names.now model.now) }
+{
+    let words = model.words.as_slice();
+    let line = model.number;
+    if words.len() != 2 {
+        Some(BlifFault::Arity { line })
+    } else if is_among(word(words, 1), names) {
+        Some(BlifFault::DuplicateModel { line })
+    } else if names.len() >= 4096 {
+        Some(BlifFault::Limit {
+            which: Which::Models,
+            count: names.len() as u64 + 1,
+        })
+    } else {
+        None
+    }
+}
+
+fn names_fault(place: &Place, cover: &Line) -> Option<BlifFault>
+    ensures { result ≡ told (names_cases place.now cover.now) }
+{
+    let words = cover.words.as_slice();
+    let line = cover.number;
+    if !place.inside {
+        Some(BlifFault::NoModel { line })
+    } else if words.len() < 2 {
+        Some(BlifFault::Arity { line })
+    } else if words.len() - 2 > 64 {
+        Some(BlifFault::TooManyInputs { line })
+    } else {
+        None
+    }
+}
+
+fn latch_fault(place: &Place, latch: &Line) -> Option<BlifFault>
+    ensures { result ≡ told (latch_cases place.now latch.now) }
+{
+    let words = latch.words.as_slice();
+    let line = latch.number;
+    if !place.inside {
+        Some(BlifFault::NoModel { line })
+    } else if words.len() < 3 || words.len() > 6 {
+        Some(BlifFault::Arity { line })
+    } else if has_type(words) && !is_latch_type(word(words, 3)) {
+        Some(BlifFault::LatchType { line })
+    } else if has_init(words) && !is_latch_init(last(words)) {
+        Some(BlifFault::LatchInit { line })
+    } else {
+        None
+    }
+}
+
+fn subckt_fault(place: &Place, inst: &Line) -> Option<BlifFault>
+    ensures { result ≡ told (subckt_cases place.now inst.now) }
+{
+    let words = inst.words.as_slice();
+    let line = inst.number;
+    if !place.inside {
+        Some(BlifFault::NoModel { line })
+    } else if words.len() < 2 {
+        Some(BlifFault::Arity { line })
+    } else if !are_bindings(after(words, 2)) {
+        Some(BlifFault::BindShape { line })
+    } else {
+        None
+    }
+}
+
+fn is_mixed(place: &Place, row: &Line) -> bool
+    ensures { result ≡ is_mixed place.now row.now }
+{
+    if is_zero_row(row) {
+        place.ones
+    } else {
+        place.zeros
+    }
+}
+
+fn row_fault(place: &Place, row: &Line) -> Option<BlifFault>
+    requires { place.now.rows + 1 < 2 ^ 64 }
+    ensures { result ≡ told (row_cases place.now row.now) }
+{
+    let line = row.number;
+    let rows = place.rows + 1;
+    if !place.inside {
+        Some(BlifFault::NoModel { line })
+    } else if !place.covered {
+        Some(BlifFault::RowOutside { line })
+    } else if !is_row_of(place.inputs, row.words.as_slice()) {
+        Some(BlifFault::RowShape { line })
+    } else if is_mixed(place, row) {
+        Some(BlifFault::MixedRows { line })
+    } else if rows > 1_048_576 {
+        Some(BlifFault::Limit {
+            which: Which::CoverRows,
+            count: rows as u64,
+        })
+    } else {
+        None
+    }
+}
+
+#[tactic(auto, unfolding(crate::specs::Faults::line_fault))]
+fn line_fault(place: &Place, names: &[Name], line: &Line) -> Option<BlifFault>
+    requires { place.now.rows + 1 < 2 ^ 64 }
+    ensures { result ≡ line_fault place.now names.now line.now }
+{
+    match keyword(line) {
+        Keyword::Model => model_fault(names, line),
+        Keyword::Names => names_fault(place, line),
+        Keyword::Latch => latch_fault(place, line),
+        Keyword::Subckt => subckt_fault(place, line),
+        Keyword::Row => row_fault(place, line),
+        Keyword::Unknown if place.inside => Some(BlifFault::Unsupported { line: line.number }),
+        _ if place.inside => None,
+        _ => Some(BlifFault::NoModel { line: line.number }),
+    }
+}
+
+fn remember(alloc: Global, line: &Line, names: &mut Vec<Name>) -> Result<(), AllocError>
+    ensures { OnOk result ((before : List Line) → names.old.items ≡ model_names before → names.new.items ≡ model_names (line.now ∷ before)) }
+{
+    if is_line(Keyword::Model, line) {
+        let name = copy(alloc, word(line.words.as_slice(), 1))?;
+        names.push(name)?;
+    }
+    Ok(())
+}
+
+/// Finds the first faulty line.
+///
+/// # Errors
+/// The fault of that line; `Memory` may come at any lines.
+pub fn scan(alloc: Global, lines: &[Line]) -> Result<(), BlifFault>
+    ensures ok { OnOk result (first_fault [] lines.now ≡ None) }
+    ensures err { IfErr result (λ e. (e ≡ BlifFault.Memory) ⊎ (first_fault [] lines.now ≡ Some e)) }
+{
+    let mut place = Place::start();
+    let mut names = Vec::new(alloc);
+    for line in lines {
+        if let Some(fault) = line_fault(&place, names.as_slice(), line) {
+            return Err(fault);
+        }
+        let Ok(()) = remember(alloc, line, &mut names) else {
+            return Err(BlifFault::Memory);
+        };
+        place = place.after(line);
+    }
+    Ok(())
 }

@@ -1,0 +1,83 @@
+-- What a line makes of the place of the next, and the steps of a scan.
+use Rattle.std.proofs.Common.{◌≡◌, ◌≢◌, ℕ, zero-le, arith, cond, ◌+◌, ◌<◌, ◌≤◌, ◌||◌, Bool, true, false, List, [], ◌∷◌, ◌++◌, length, get_or, take, drop, refl, sym, ap, ◌∙◌}
+use Rattle.std.specs.Prelude.{reverse, Option, Some, None}
+use Rattle.std.proofs.lemmas.List.{at_drop_more, take_more, reverse-append}
+use Rattle.lid_base.specs.declared.line.Line.{Line}
+use Rattle.lid_blif.specs.declared.fault.BlifFault.{BlifFault}
+use Rattle.lid_blif.specs.declared.keyword.Keyword.{Keyword}
+use Rattle.lid_blif.specs.declared.keyword.Keyword.TheVariants.{Model, Inputs, Outputs, Clock, Names, Latch, Subckt, End, Unknown, Row}
+use Rattle.lid_blif.specs.declared.place.Place.{Place}
+use Rattle.lid_blif.specs.Words.{keyword_of, inputs_of, is_line}
+use Rattle.lid_blif.specs.Faults.{place_of, row_count, ends_in_zero, ends_in_one, model_names, line_fault, first_fault}
+
+-- a place without a cover
+abbrev pub uncovered : Bool → Place → Place
+uncovered inside p = record { inside = inside; covered = false; inputs = 0; zeros = false; ones = false; rows = p.rows }
+
+-- the place after a line
+abbrev pub next_place : Keyword → Line → Place → Place
+next_place Model l p = uncovered true p
+next_place End l p = uncovered false p
+next_place Names l p = record { inside = p.inside; covered = true; inputs = inputs_of l.words; zeros = false; ones = false; rows = p.rows }
+next_place Row l p = record { inside = p.inside; covered = p.covered; inputs = p.inputs; zeros = ends_in_zero l || p.zeros; ones = ends_in_one l || p.ones; rows = p.rows + 1 }
+next_place _ l p = uncovered p.inside p
+
+pub place_of-cons : (k : Keyword) (l : Line) (before : List Line) → k ≡ keyword_of l.words → place_of (l ∷ before) ≡ next_place k l (place_of before)
+unfolding place_of
+place_of-cons Model l before e = rw (← e)
+place_of-cons Inputs l before e = rw (← e)
+place_of-cons Outputs l before e = rw (← e)
+place_of-cons Clock l before e = rw (← e)
+place_of-cons Names l before e = rw (← e)
+place_of-cons Latch l before e = rw (← e)
+place_of-cons Subckt l before e = rw (← e)
+place_of-cons End l before e = rw (← e)
+place_of-cons Unknown l before e = rw (← e)
+place_of-cons Row l before e = rw (← e)
+
+-- the place after a line, from the place before it
+pub place_after : (k : Keyword) (l : Line) (before : List Line) (p q : Place) → k ≡ keyword_of l.words → q ≡ next_place k l p → p ≡ place_of before → q ≡ place_of (l ∷ before)
+place_after k l before p q e is h = is ∙ ap (next_place k l) h ∙ sym (place_of-cons k l before e)
+
+-- a line that neither opens nor closes a model, nor belongs to a cover
+pub next_place-other : (k : Keyword) (l : Line) (p : Place) → k ≢ Model → k ≢ Names → k ≢ End → k ≢ Row → next_place k l p ≡ uncovered p.inside p
+next_place-other Model l p m n e r = absurd (m refl)
+next_place-other Names l p m n e r = absurd (n refl)
+next_place-other End l p m n e r = absurd (e refl)
+next_place-other Row l p m n e r = absurd (r refl)
+next_place-other Inputs l p m n e r = refl
+next_place-other Outputs l p m n e r = refl
+next_place-other Clock l p m n e r = refl
+next_place-other Latch l p m n e r = refl
+next_place-other Subckt l p m n e r = refl
+next_place-other Unknown l p m n e r = refl
+
+-- the lines before the next line
+pub before_more : {X : Type 0} (xs : List X) (i : ℕ) (x : X) → i < length xs → x ≡ get_or xs i x → reverse (take (i + 1) xs) ≡ x ∷ reverse (take i xs)
+before_more xs i x lt is = ap reverse (take_more xs i x lt) ∙ reverse-append (take i xs) (get_or xs i x ∷ []) ∙ ap (λ y. y ∷ reverse (take i xs)) (sym is)
+
+pub none_from : {X : Type 0} (o : Option X) → ((x : X) → o ≢ Some x) → o ≡ None
+none_from None h = refl
+none_from (Some x) h = absurd (h x refl)
+
+-- a function of the lines that are left, at the first of them
+pub first_left : {X Y : Type 0} (F : List X → Y) (xs : List X) (i : ℕ) (x : X) → i < length xs → x ≡ get_or xs i x → F (drop i xs) ≡ F (x ∷ drop (i + 1) xs)
+first_left F xs i x lt is = at_drop_more F xs i x lt ∙ ap (λ y. F (y ∷ drop (i + 1) xs)) (sym is)
+
+-- a line without fault passes the fault on to the later lines
+pub first_fault-pass : (before : List Line) (l : Line) (ls : List Line) → line_fault (place_of before) (model_names before) l ≡ None → first_fault before (l ∷ ls) ≡ first_fault (l ∷ before) ls
+first_fault-pass before l ls e = rw e
+
+pub first_fault-here : (before : List Line) (l : Line) (ls : List Line) (fault : BlifFault) → line_fault (place_of before) (model_names before) l ≡ Some fault → first_fault before (l ∷ ls) ≡ Some fault
+first_fault-here before l ls fault e = rw e
+
+pub rows-none : (p : Place) → p ≡ place_of [] → p.rows ≤ 0
+unfolding place_of
+rows-none p e = let zero : p.rows ≡ 0 = ap (λ (q : Place). q.rows) e in omega arith
+
+-- a line is at most one row more
+pub rows-cons : (l : Line) (before : List Line) → (place_of (l ∷ before)).rows ≤ (place_of before).rows + 1
+unfolding place_of
+rows-cons l before =
+    let n = row_count before in
+    elim (is_line Row l) as (λ b. cond b (n + 1) n ≤ n + 1) [ true ↦ omega arith | false ↦ omega arith ]

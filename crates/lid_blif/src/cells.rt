@@ -1,0 +1,215 @@
+//! The cells and the instances of a model.
+
+ghost use Rattle.std.specs.Prelude.{◌≡◌, ◌≤◌, ◌++◌, List, length, map, take, drop, IfOk, OnOk};
+ghost use Rattle.std.specs.List.{list_any};
+ghost use Rattle.lid_design.specs.declared.Cell.{Cell};
+ghost use Rattle.lid_blif.specs.Words.{keyword_of, inputs_of};
+ghost use Rattle.lid_blif.specs.Faults.{ends_in_zero};
+ghost use Rattle.lid_blif.specs.Designs.{number_of, is_cared_for, is_character_one, cube_of, cover_of, names_cell, kind_of, control_of, init_of, latch_cell, bind_of, inst_of, cell_before};
+
+use crate::keyword::Keyword;
+use crate::shapes::{actual, formal, has_init, has_type};
+use crate::words::{after, copy, is, is_zero_row, keyword, last, leading_rows, push_copies, word};
+use lid_base::{Items, Line, Name};
+use lid_cover::{Cover, Cube};
+use lid_design::{Bind, Cell, Init, Inst, LatchKind};
+use std::alloc::{AllocError, Global};
+
+fn cube_from(characters: &[u8]) -> Cube
+    requires { length characters.now ≤ 64 }
+    ensures care { result.care ≡ number_of (map is_cared_for characters.now) }
+    ensures value { result.value ≡ number_of (map is_character_one characters.now) }
+{
+    let mut care: u64 = 0;
+    let mut value: u64 = 0;
+    let mut at = characters.len();
+    while at > 0 {
+        at -= 1;
+        let character = characters[at];
+        care = 2 * care + u64::from(character != b'-');
+        value = 2 * value + u64::from(character == b'1');
+    }
+    Cube { care, value }
+}
+
+fn cube_of(inputs: usize, row: &Line) -> Cube
+    requires { inputs ≤ 64 }
+    ensures { result ≡ cube_of inputs row.now }
+{
+    let characters = word(row.words.as_slice(), 0);
+    if inputs < characters.len() {
+        cube_from(&characters[..inputs])
+    } else {
+        cube_from(characters)
+    }
+}
+
+fn cubes_of(alloc: Global, inputs: usize, rows: &[Line]) -> Result<Items<Cube>, AllocError>
+    requires { inputs ≤ 64 }
+    ensures { IfOk result (λ cubes. cubes ≡ map (cube_of inputs) rows.now) }
+{
+    let mut cubes = Vec::new(alloc);
+    for row in rows {
+        cubes.push(cube_of(inputs, row))?;
+    }
+    Ok(Items::from_vec(cubes))
+}
+
+fn has_zero(rows: &[Line]) -> bool
+    ensures { result ≡ list_any ends_in_zero rows.now }
+{
+    for row in rows {
+        if is_zero_row(row) {
+            return true;
+        }
+    }
+    false
+}
+
+fn cover_of(alloc: Global, words: &[Name], rows: &[Line]) -> Result<Cover, AllocError>
+    ensures { IfOk result (λ cover. cover ≡ cover_of words.now rows.now) }
+{
+    let inputs = words.len().saturating_sub(2).min(64);
+    let cubes = cubes_of(alloc, inputs, rows)?;
+    Ok(Cover {
+        inputs: inputs as u32,
+        on: !has_zero(rows),
+        cubes,
+    })
+}
+
+fn inputs_of(words: &[Name]) -> &[Name]
+    ensures { result.now ≡ take (inputs_of words.now) (drop 1 words.now) }
+{
+    if words.len() < 2 {
+        &[]
+    } else {
+        &words[1..words.len() - 1]
+    }
+}
+
+fn copies(alloc: Global, names: &[Name]) -> Result<Items<Name>, AllocError>
+    ensures { IfOk result (λ copied. copied ≡ names.now) }
+{
+    let mut copied = Vec::new(alloc);
+    push_copies(alloc, names, &mut copied)?;
+    Ok(Items::from_vec(copied))
+}
+
+fn names_cell(alloc: Global, words: &[Name], rows: &[Line]) -> Result<Cell, AllocError>
+    ensures { IfOk result (λ cell. cell ≡ names_cell words.now rows.now) }
+{
+    let inputs = copies(alloc, inputs_of(words))?;
+    let out = copy(alloc, last(words))?;
+    let cover = cover_of(alloc, words, rows)?;
+    Ok(Cell::Names { inputs, out, cover })
+}
+
+fn kind_of(words: &[Name]) -> LatchKind
+    ensures { result ≡ kind_of words.now }
+{
+    if !has_type(words) {
+        LatchKind::Plain
+    } else if is(word(words, 3), b"re") {
+        LatchKind::Rise
+    } else {
+        LatchKind::Fall
+    }
+}
+
+fn control_of(alloc: Global, words: &[Name]) -> Result<Option<Name>, AllocError>
+    ensures { IfOk result (λ control. control ≡ control_of words.now) }
+{
+    let name = word(words, 4);
+    if !has_type(words) || is(name, b"NIL") {
+        return Ok(None);
+    }
+    let name = copy(alloc, name)?;
+    Ok(Some(name))
+}
+
+fn init_of(words: &[Name]) -> Init
+    ensures { result ≡ init_of words.now }
+{
+    let init = last(words);
+    if !has_init(words) {
+        Init::Unknown
+    } else if is(init, b"0") {
+        Init::Zero
+    } else if is(init, b"1") {
+        Init::One
+    } else if is(init, b"2") {
+        Init::DontCare
+    } else {
+        Init::Unknown
+    }
+}
+
+fn latch_cell(alloc: Global, words: &[Name]) -> Result<Cell, AllocError>
+    ensures { IfOk result (λ cell. cell ≡ latch_cell words.now) }
+{
+    let input = copy(alloc, word(words, 1))?;
+    let out = copy(alloc, word(words, 2))?;
+    let control = control_of(alloc, words)?;
+    Ok(Cell::Latch {
+        input,
+        out,
+        kind: kind_of(words),
+        control,
+        init: init_of(words),
+    })
+}
+
+/// Appends the cell of a line, if it has one. `later` has the lines after it.
+pub fn push_cell(
+    alloc: Global,
+    line: &Line,
+    later: &[Line],
+    cells: &mut Vec<Cell>,
+) -> Result<(), AllocError>
+    ensures { OnOk result ((more : List Cell)
+        → cells.new.items ++ more ≡ cells.old.items ++ cell_before (keyword_of line.now.words) line.now.words later.now more) }
+{
+    let words = line.words.as_slice();
+    match keyword(line) {
+        Keyword::Names => {
+            let cell = names_cell(alloc, words, leading_rows(later))?;
+            cells.push(cell)?;
+        }
+        Keyword::Latch => {
+            let cell = latch_cell(alloc, words)?;
+            cells.push(cell)?;
+        }
+        _ => {}
+    }
+    Ok(())
+}
+
+fn bind_of(alloc: Global, word: &[u8]) -> Result<Bind, AllocError>
+    ensures { IfOk result (λ bind. bind ≡ bind_of word.now) }
+{
+    let formal = copy(alloc, formal(word))?;
+    let actual = copy(alloc, actual(word))?;
+    Ok(Bind { formal, actual })
+}
+
+fn binds_of(alloc: Global, words: &[Name]) -> Result<Items<Bind>, AllocError>
+    ensures { IfOk result (λ binds. binds ≡ map bind_of words.now) }
+{
+    let mut binds = Vec::new(alloc);
+    for word in words {
+        let bind = bind_of(alloc, word.as_slice())?;
+        binds.push(bind)?;
+    }
+    Ok(Items::from_vec(binds))
+}
+
+/// The instance of a `.subckt` line.
+pub fn inst_of(alloc: Global, line: &Line) -> Result<Inst, AllocError>
+    ensures { IfOk result (λ inst. inst ≡ inst_of line.now) }
+{
+    let words = line.words.as_slice();
+    let model = copy(alloc, word(words, 1))?;
+    let binds = binds_of(alloc, after(words, 2))?;
+    Ok(Inst { model, binds })
+}

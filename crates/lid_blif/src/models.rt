@@ -1,0 +1,90 @@
+//! The models of a design.
+
+ghost use Rattle.std.specs.Prelude.{◌≡◌, ◌++◌, drop, IfOk, OnOk};
+ghost use Rattle.lid_blif.specs.Words.{word_at};
+ghost use Rattle.lid_blif.specs.Designs.{cells_of, insts_of, names_of, model_of, models_of, design_of};
+
+use crate::cells::{inst_of, push_cell};
+use crate::keyword::Keyword;
+use crate::words::{after, copy, is_line, leading_inner, push_copies, word};
+use lid_base::{Items, Line, Name};
+use lid_design::{Cell, Design, Inst, Model};
+use std::alloc::{AllocError, Global};
+
+fn names_of(alloc: Global, wanted: Keyword, body: &[Line]) -> Result<Items<Name>, AllocError>
+    ensures { IfOk result (λ names. names ≡ names_of wanted body.now) }
+{
+    let mut names = Vec::new(alloc);
+    for line in body {
+        if is_line(wanted, line) {
+            push_copies(alloc, after(line.words.as_slice(), 1), &mut names)?;
+        }
+    }
+    Ok(Items::from_vec(names))
+}
+
+fn cells_of(alloc: Global, body: &[Line]) -> Result<Items<Cell>, AllocError>
+    ensures { IfOk result (λ cells. cells ≡ cells_of body.now) }
+{
+    let mut cells = Vec::new(alloc);
+    for (at, line) in body.iter().enumerate() {
+        push_cell(alloc, line, &body[at + 1..], &mut cells)?;
+    }
+    Ok(Items::from_vec(cells))
+}
+
+fn insts_of(alloc: Global, body: &[Line]) -> Result<Items<Inst>, AllocError>
+    ensures { IfOk result (λ insts. insts ≡ insts_of body.now) }
+{
+    let mut insts = Vec::new(alloc);
+    for line in body {
+        if is_line(Keyword::Subckt, line) {
+            let inst = inst_of(alloc, line)?;
+            insts.push(inst)?;
+        }
+    }
+    Ok(Items::from_vec(insts))
+}
+
+#[tactic(auto, unfolding(crate::specs::Designs::model_of))]
+fn model_of(alloc: Global, name: &[u8], body: &[Line]) -> Result<Model, AllocError>
+    ensures { IfOk result (λ model. model ≡ model_of name.now body.now) }
+{
+    let name = copy(alloc, name)?;
+    let inputs = names_of(alloc, Keyword::Inputs, body)?;
+    let outputs = names_of(alloc, Keyword::Outputs, body)?;
+    let clocks = names_of(alloc, Keyword::Clock, body)?;
+    let cells = cells_of(alloc, body)?;
+    let insts = insts_of(alloc, body)?;
+    Ok(Model {
+        name,
+        inputs,
+        outputs,
+        clocks,
+        cells,
+        insts,
+    })
+}
+
+fn models_of(alloc: Global, lines: &[Line]) -> Result<Items<Model>, AllocError>
+    ensures { IfOk result (λ models. models ≡ models_of lines.now) }
+{
+    let mut models = Vec::new(alloc);
+    for (at, line) in lines.iter().enumerate() {
+        if is_line(Keyword::Model, line) {
+            let body = leading_inner(&lines[at + 1..]);
+            let model = model_of(alloc, word(line.words.as_slice(), 1), body)?;
+            models.push(model)?;
+        }
+    }
+    Ok(Items::from_vec(models))
+}
+
+/// The design that some lines stand for.
+#[tactic(auto, unfolding(crate::specs::Designs::design_of))]
+pub fn design_of(alloc: Global, lines: &[Line]) -> Result<Design, AllocError>
+    ensures { IfOk result (λ design. design ≡ design_of lines.now) }
+{
+    let models = models_of(alloc, lines)?;
+    Ok(Design { models, root: 0 })
+}
