@@ -206,7 +206,7 @@ pub fn say_write<E: Sink>(err: &mut E)
 }
 
 /// Says that there was no memory.
-fn say_memory<E: Sink>(err: &mut E)
+pub fn say_memory<E: Sink>(err: &mut E)
     ensures { Says (E.written err.old) (E.written err.new) (E.faults err.old) (E.faults err.new) memory_line }
 {
     say(err, &[Word::Text("memory")]);
