@@ -3,3 +3,5 @@ pub mod Numbers
 pub mod Rows
 pub mod Drivers
 pub mod Ranks
+pub mod Loops
+pub mod Whole
