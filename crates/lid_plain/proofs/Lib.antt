@@ -5,3 +5,4 @@ pub mod Drivers
 pub mod Ranks
 pub mod Loops
 pub mod Whole
+pub mod Sets
