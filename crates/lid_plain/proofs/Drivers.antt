@@ -35,7 +35,7 @@ none_of : {A : Type 0} (xs : List A) → (length xs == 0) ≡ true → xs ≡ []
 none_of [] h = refl
 none_of (x ∷ xs) h = let e : length (x ∷ xs) ≡ 0 = (Decides-eqb (length (x ∷ xs)) 0).0 h in absurd (omega arith)
 
-plainness : (m : Model) → is_plain m ≡ true → Plainness m
+pub plainness : (m : Model) → is_plain m ≡ true → Plainness m
 plainness m h =
     let top = both (is_flat m) (are_distinct (net_names m) && (are_outputs_held m && are_fed (net_names m) (early_names m) m.cells)) h in
     let names = both (are_distinct (net_names m)) (are_outputs_held m && are_fed (net_names m) (early_names m) m.cells) top.1 in

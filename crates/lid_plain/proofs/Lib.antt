@@ -4,3 +4,6 @@ pub mod Rows
 pub mod Drivers
 pub mod Few
 pub mod Ranks
+pub mod Loops
+pub mod Whole
+pub mod Sets

@@ -1,3 +1,4 @@
 pub mod Built
 pub mod Netlists
 pub mod Steps
+pub mod Texts
