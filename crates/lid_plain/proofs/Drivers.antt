@@ -1,6 +1,6 @@
 -- What drives the columns of a design of one plain model.
-use Rattle.std.proofs.Common.{◌≡◌, ℕ, zero, suc, ◌+◌, ◌<◌, ◌≤◌, ◌==◌, nat_le, nat_lt, Bool, true, false, not, cond, ◌&&◌, ◌||◌, List, [], ◌∷◌, ◌++◌, length, map, filter, get_or, refl, sym, ◌∙◌, ap, subst, inl, inr, arith, Some, None, Option, option_and_then, slice_get}
-use Rattle.std.specs.List.{AllByRecursion, list_any, flat_map, enumerate_from}
+use Rattle.std.proofs.Common.{◌≡◌, ℕ, zero, suc, ◌+◌, ◌<◌, ◌==◌, nat_le, nat_lt, Bool, true, false, not, cond, ◌&&◌, List, [], ◌∷◌, ◌++◌, length, map, filter, get_or, refl, sym, ◌∙◌, ap, subst, inl, inr, arith, Some, None, option_and_then}
+use Rattle.std.specs.List.{AllByRecursion, list_any, flat_map}
 use Rattle.std.specs.Str.{bytes_eq}
 use Rattle.std.proofs.lemmas.Bool.Decides.{Decides-eqb}
 use Rattle.std.proofs.lemmas.List.{append-nil, get_or-map, length-map, same_lists, get_or_default}
@@ -10,13 +10,13 @@ use Rattle.lid_design.specs.declared.Design.{Design}
 use Rattle.lid_design.specs.declared.Model.{Model}
 use Rattle.lid_design.specs.declared.Cell.{Cell}
 use Rattle.lid_design.specs.declared.Cell.TheVariants.{Names, Latch}
-use Rattle.lid_design.specs.Columns.{Column, column, is_among, model_at, instance_model, is_clocked_by, is_own_clock, binds_clock, is_clock_within, is_clock, data_inputs, first_bit, places_of, cell_at, output_at, drivers_in, drivers, root_inputs, root_outputs}
-use Rattle.lid_design.specs.Network.{Source, given, held, made, same, Table, bit_of, latch_bit, IsStrict}
+use Rattle.lid_design.specs.Columns.{Column, column, is_among, model_at, instance_model, is_clocked_by, is_clock, data_inputs, first_bit, places_of, cell_at, drivers}
+use Rattle.lid_design.specs.Network.{Source, given, held, made, Table, bit_of, latch_bit, IsStrict}
 use Rattle.lid_design.specs.Walks.{Among}
 use Rattle.lid_design.proofs.Tables.{all-among, among-left, among-right}
-use Rattle.lid_plain.specs.Built.{latch_names, cover_names, early_names, net_names, are_distinct, are_among, are_fed, is_sized, is_free, is_flat, are_outputs_held, is_plain, is_lone, is_built}
+use Rattle.lid_plain.specs.Built.{latch_names, early_names, net_names, are_distinct, are_among, are_fed, is_sized, is_free, is_flat, are_outputs_held, is_plain, is_lone, is_built}
 use Rattle.lid_plain.specs.Steps.{first_bits}
-use Rattle.lid_plain.proofs.Tests.{both, same_bytes, bytes_eq-refl}
+use Rattle.lid_plain.proofs.Tests.{both, bytes_eq-refl}
 use Rattle.lid_plain.proofs.Rows.{FitsCover, latch_inputs, IsRight}
 
 -- the design of one model

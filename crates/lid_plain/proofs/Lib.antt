@@ -7,3 +7,5 @@ pub mod Ranks
 pub mod Loops
 pub mod Whole
 pub mod Sets
+pub mod Shapes
+pub mod Additions

@@ -1,6 +1,5 @@
 -- The bits of numbered nets are those of their names.
-use Rattle.std.proofs.Common.{◌≡◌, ℕ, ◌+◌, ◌<◌, ◌≤◌, Bool, true, false, not, ◌&&◌, ◌||◌, cond, List, [], ◌∷◌, ◌++◌, length, map, get_or, refl, sym, ◌∙◌, ap, one-add}
-use Rattle.std.specs.List.{position_or_len}
+use Rattle.std.proofs.Common.{◌≡◌, ℕ, ◌+◌, Bool, true, false, not, ◌||◌, cond, List, [], ◌∷◌, ◌++◌, map, get_or, refl, sym, ap, one-add}
 use Rattle.std.specs.Str.{bytes_eq}
 use Rattle.lid_design.specs.Columns.{is_among}
 use Rattle.lid_plain.specs.Built.{are_among}

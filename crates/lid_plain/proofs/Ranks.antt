@@ -1,17 +1,16 @@
 -- A plain model drives no net twice, and its covers read only what stands before them: so its
 -- design has a strict table.
-use Rattle.std.proofs.Common.{◌≡◌, ℕ, zero, suc, ◌+◌, ◌<◌, ◌≤◌, ◌⊎◌, Bool, true, false, not, cond, ◌&&◌, ◌||◌, List, [], ◌∷◌, ◌++◌, length, map, refl, sym, ◌∙◌, ap, subst, inl, inr, arith, one-add}
+use Rattle.std.proofs.Common.{◌≡◌, ℕ, suc, ◌+◌, ◌<◌, ◌≤◌, ◌⊎◌, Bool, true, false, not, cond, ◌&&◌, ◌||◌, List, [], ◌∷◌, ◌++◌, length, map, refl, sym, ◌∙◌, ap, subst, inl, inr, arith}
 use Rattle.std.specs.List.{flat_map}
 use Rattle.std.specs.Str.{bytes_eq}
-use Rattle.std.proofs.lemmas.List.{append_assoc, append-nil}
-use Rattle.lid_cover.specs.declared.Cover.{Cover}
+use Rattle.std.proofs.lemmas.List.{append_assoc}
 use Rattle.lid_design.specs.declared.Model.{Model}
 use Rattle.lid_design.specs.declared.Cell.{Cell}
 use Rattle.lid_design.specs.declared.Cell.TheVariants.{Names, Latch}
 use Rattle.lid_design.specs.Columns.{Column, column, is_among, first_bit, places_of, cell_at, drivers}
-use Rattle.lid_design.specs.Network.{Source, given, held, made, same}
-use Rattle.lid_design.specs.Walks.{Among, read_now, Feeds, IsDrivenOnce, HasTable}
-use Rattle.lid_design.proofs.Tables.{IsRank, walks_end, has_table}
+use Rattle.lid_design.specs.Network.{Source, given, held, made}
+use Rattle.lid_design.specs.Walks.{Among, read_now, HasTable}
+use Rattle.lid_design.proofs.Tables.{walks_end, has_table}
 use Rattle.lid_plain.specs.Built.{latch_names, cover_names, early_names, net_names, are_distinct, are_among, are_fed, is_sized, is_free}
 use Rattle.lid_plain.specs.Netlists.{number}
 use Rattle.lid_plain.proofs.Tests.{both, same_bytes, bytes_eq-refl, is_among-append_right}
@@ -27,11 +26,11 @@ times-append net [] ys = omega arith
 times-append net (x ∷ xs) ys = let later = times-append net xs ys in omega arith
 
 -- the tests that are false
-not_true : (b : Bool) → not b ≡ true → b ≡ false
+pub not_true : (b : Bool) → not b ≡ true → b ≡ false
 not_true true h = cc
 not_true false h = refl
 
-either_false : (a b : Bool) → (a || b) ≡ false → (a ≡ false) × (b ≡ false)
+pub either_false : (a b : Bool) → (a || b) ≡ false → (a ≡ false) × (b ≡ false)
 either_false true b h = cc
 either_false false b h = (refl, h)
 
@@ -58,7 +57,7 @@ times_distinct net (n ∷ ns) h =
         omega arith
     by_head false e f later = omega arith
 
-length-append : {A : Type 0} (xs ys : List A) → length (xs ++ ys) ≡ length xs + length ys
+pub length-append : {A : Type 0} (xs ys : List A) → length (xs ++ ys) ≡ length xs + length ys
 length-append [] ys = omega arith
 length-append (x ∷ xs) ys = let later = length-append xs ys in omega arith
 
@@ -91,7 +90,7 @@ length-cells_at net (Latch input out kind control init ∷ cells) =
     omega arith
 
 -- the numbers of known and of new names
-number_known : (names rest : List (List ℕ)) (n : List ℕ) → is_among n names ≡ true → number (names ++ rest) n < length names
+pub number_known : (names rest : List (List ℕ)) (n : List ℕ) → is_among n names ≡ true → number (names ++ rest) n < length names
 number_known [] rest n h = cc
 number_known (name ∷ names) rest n h = by_head (bytes_eq n name) h (number_known names rest n)
   where
@@ -106,7 +105,7 @@ number_new (name ∷ names) rest n h =
     let later = number_new names rest n parts.1 in
     rw parts.0 (omega arith)
 
-number_within : (names : List (List ℕ)) (n : List ℕ) → number names n ≤ length names
+pub number_within : (names : List (List ℕ)) (n : List ℕ) → number names n ≤ length names
 number_within [] n = omega arith
 number_within (name ∷ names) n = by_head (bytes_eq n name) (number_within names n)
   where
@@ -114,7 +113,7 @@ number_within (name ∷ names) n = by_head (bytes_eq n name) (number_within name
     by_head true later = omega arith
     by_head false later = omega arith
 
-distinct_new : (names rest : List (List ℕ)) (n : List ℕ) → are_distinct (names ++ n ∷ rest) ≡ true → is_among n names ≡ false
+pub distinct_new : (names rest : List (List ℕ)) (n : List ℕ) → are_distinct (names ++ n ∷ rest) ≡ true → is_among n names ≡ false
 distinct_new [] rest n h = refl
 distinct_new (name ∷ names) rest n h =
     let parts = both (not (is_among name (names ++ n ∷ rest))) (are_distinct (names ++ n ∷ rest)) h in

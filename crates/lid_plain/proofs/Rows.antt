@@ -1,11 +1,11 @@
 -- The simulation gives the bits of any table that is right at inputs, latches and covers.
-use Rattle.std.proofs.Common.{◌≡◌, ℕ, zero, suc, ◌+◌, ◌<◌, ◌≤◌, Bool, true, false, not, ◌&&◌, List, [], ◌∷◌, ◌++◌, length, map, drop, get_or, refl, sym, ◌∙◌, ap, subst, inl, inr, arith, add-one}
+use Rattle.std.proofs.Common.{◌≡◌, ℕ, zero, suc, ◌+◌, ◌<◌, Bool, true, ◌&&◌, List, [], ◌∷◌, ◌++◌, length, map, drop, get_or, refl, sym, ◌∙◌, ap, inl, inr, arith, add-one}
 use Rattle.std.proofs.lemmas.List.{append-nil, append_assoc, map-append}
 use Rattle.lid_cover.specs.Cover.{cover_value}
 use Rattle.lid_design.specs.declared.Model.{Model}
 use Rattle.lid_design.specs.declared.Cell.{Cell}
 use Rattle.lid_design.specs.declared.Cell.TheVariants.{Names, Latch}
-use Rattle.lid_design.specs.Columns.{is_among, first_bit}
+use Rattle.lid_design.specs.Columns.{is_among}
 use Rattle.lid_design.specs.Network.{from_each}
 use Rattle.lid_design.specs.Walks.{Among}
 use Rattle.lid_plain.specs.Built.{latch_names, cover_names, early_names, net_names, are_among, are_fed, is_sized, is_free}

@@ -1,12 +1,12 @@
 -- The simulation of a design of one plain model gives its strict outputs.
-use Rattle.std.proofs.Common.{◌≡◌, ℕ, zero, suc, ◌+◌, ◌==◌, ◌&&◌, Bool, true, false, List, [], ◌∷◌, length, map, refl, ◌∙◌, ap, sym, subst}
+use Rattle.std.proofs.Common.{◌≡◌, ℕ, zero, suc, ◌+◌, ◌==◌, ◌&&◌, Bool, true, false, List, [], ◌∷◌, length, refl, ◌∙◌, ap, sym, subst}
 use Rattle.std.specs.List.{AllByRecursion}
 use Rattle.std.proofs.lemmas.List.{length-map}
 use Rattle.std.proofs.lemmas.Bool.Decides.{Decides-eqb}
 use Rattle.lid_design.specs.declared.Design.{Design}
 use Rattle.lid_design.specs.declared.Model.{Model}
 use Rattle.lid_design.specs.Network.{from_each}
-use Rattle.lid_design.specs.Columns.{root_inputs, root_outputs, data_inputs, output_row, output_rows, IsStrictOutput}
+use Rattle.lid_design.specs.Columns.{root_inputs, root_outputs, output_row, IsStrictOutput}
 use Rattle.lid_plain.specs.Built.{is_plain, is_lone, is_built}
 use Rattle.lid_plain.specs.Netlists.{netlist_in, netlist_of}
 use Rattle.lid_plain.specs.Steps.{first_bits, simulated}

@@ -1,5 +1,5 @@
 -- What the plain simulation does with the bits of numbered nets.
-use Rattle.std.specs.Prelude.{ℕ, Bool, true, false, List, [], ◌∷◌, ◌++◌, map, slice_index_or}
+use Rattle.std.specs.Prelude.{ℕ, Bool, false, List, [], ◌∷◌, ◌++◌, map, slice_index_or}
 use Rattle.lid_cover.specs.Cover.{cover_value}
 use Rattle.lid_design.specs.declared.Cell.{Cell}
 use Rattle.lid_design.specs.declared.Cell.TheVariants.{Names, Latch}

@@ -1,7 +1,7 @@
 -- Lists of borrowed names, and sets of them in order.
 use denote.Ref.{Bor}
 use Rattle.std.specs.Prelude.{ℕ, List, map}
-use Rattle.indexmap.specs.IndexSet.{IndexSet, keys}
+use Rattle.indexmap.specs.IndexSet.{IndexSet}
 
 -- the names that references lead to
 abbrev pub texts : List (Bor (List ℕ)) → List (List ℕ)

@@ -113,7 +113,13 @@ fn output_numbers(
     let mut names = Vec::new(alloc);
     push_names(&mut names, model.outputs.as_slice())?;
     let _ = distinct_set(alloc, names.as_slice())?;
-    numbers_in(alloc, set, model.outputs.as_slice(), model.inputs.len(), early)
+    numbers_in(
+        alloc,
+        set,
+        model.outputs.as_slice(),
+        model.inputs.len(),
+        early,
+    )
 }
 
 /// The numbers of the nets that each cell reads.
@@ -176,7 +182,12 @@ fn cell_reads(
             }
             numbers_in(alloc, set, inputs.as_slice(), 0, known)
         }
-        Cell::Latch { input, kind, control, .. } => {
+        Cell::Latch {
+            input,
+            kind,
+            control,
+            ..
+        } => {
             if !is_free(*kind, control) {
                 return Err(PlainFault::NotBuilt);
             }

@@ -52,8 +52,19 @@ fn simulate(
     let mut bits = Vec::new(alloc);
     let mut outs = Vec::with_capacity(alloc, rows.len())?;
     for row in rows {
-        fill_row(&mut bits, row.as_slice(), latched.as_slice(), cells, netlist)?;
-        take_in(&mut latched, bits.as_slice(), cells, netlist.reads.as_slice())?;
+        fill_row(
+            &mut bits,
+            row.as_slice(),
+            latched.as_slice(),
+            cells,
+            netlist,
+        )?;
+        take_in(
+            &mut latched,
+            bits.as_slice(),
+            cells,
+            netlist.reads.as_slice(),
+        )?;
         let mut shown = Vec::with_capacity(alloc, netlist.outs.len())?;
         append_bits(&mut shown, bits.as_slice(), netlist.outs.as_slice())?;
         outs.push(Items::from_vec(shown))?;

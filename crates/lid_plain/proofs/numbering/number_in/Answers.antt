@@ -1,4 +1,4 @@
-use Rattle.std.proofs.Common.{◌≡◌, Option, ℕ, length, ◌∙◌, ap}
+use Rattle.std.proofs.Common.{Option, ℕ, length, ◌∙◌, ap}
 use Rattle.std.specs.Option.{unwrap_or}
 use Rattle.lid_plain.proofs.Sets.{place_or_length}
 use Rattle.lid_plain.proofs.numbering.number_in.Goals as goal
