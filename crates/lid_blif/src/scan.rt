@@ -15,6 +15,10 @@ use lid_base::{Line, Which};
 use std::alloc::{AllocError, Global};
 use std::collections::HashSet;
 
+const MOST_MODELS: usize = 4096;
+const MOST_INPUTS: usize = 64;
+const MOST_ROWS: usize = 1_048_576;
+
 fn is_known(names: &HashSet<&[u8]>, name: &[u8]) -> bool
     ensures { (earlier : List (List ℕ)) → HoldsNames names.now earlier → result ≡ list_any (λ other. bytes_eq other name.now) earlier }
 {
@@ -32,7 +36,7 @@ fn model_fault(place: &Place, names: &HashSet<&[u8]>, model: &Line) -> Option<Bl
         Some(BlifFault::Arity { line })
     } else if is_known(names, word(words, 1)) {
         Some(BlifFault::DuplicateModel { line })
-    } else if models > 4096 {
+    } else if models > MOST_MODELS {
         Some(BlifFault::Limit {
             which: Which::Models,
             count: models as u64,
@@ -51,7 +55,7 @@ fn names_fault(place: &Place, cover: &Line) -> Option<BlifFault>
         Some(BlifFault::NoModel { line })
     } else if words.len() < 2 {
         Some(BlifFault::Arity { line })
-    } else if words.len() - 2 > 64 {
+    } else if words.len() - 2 > MOST_INPUTS {
         Some(BlifFault::TooManyInputs { line })
     } else {
         None
@@ -116,7 +120,7 @@ fn row_fault(place: &Place, row: &Line) -> Option<BlifFault>
         Some(BlifFault::RowShape { line })
     } else if is_mixed(place, row) {
         Some(BlifFault::MixedRows { line })
-    } else if rows > 1_048_576 {
+    } else if rows > MOST_ROWS {
         Some(BlifFault::Limit {
             which: Which::CoverRows,
             count: rows as u64,
