@@ -1,30 +1,30 @@
 -- What a line makes of the place of the next, and the steps of a scan.
 use Rattle.std.proofs.Common.{◌≡◌, ◌≢◌, ℕ, zero-le, arith, cond, ◌+◌, ◌<◌, ◌≤◌, ◌||◌, Bool, true, false, List, [], ◌∷◌, ◌++◌, length, get_or, take, drop, refl, sym, ap, ◌∙◌}
 use Rattle.std.specs.Prelude.{reverse, Option, Some, None}
-use Rattle.std.proofs.lemmas.List.{at_drop_more, take_more, reverse-append}
+use Rattle.std.proofs.lemmas.List.{at_drop_more, length_push, take_more, reverse-append}
 use Rattle.lid_base.specs.declared.line.Line.{Line}
 use Rattle.lid_blif.specs.declared.fault.BlifFault.{BlifFault}
 use Rattle.lid_blif.specs.declared.keyword.Keyword.{Keyword}
 use Rattle.lid_blif.specs.declared.keyword.Keyword.TheVariants.{Model, Inputs, Outputs, Clock, Names, Latch, Subckt, End, Unknown, Row}
 use Rattle.lid_blif.specs.declared.place.Place.{Place}
-use Rattle.lid_blif.specs.Words.{keyword_of, inputs_of, is_line}
+use Rattle.lid_blif.specs.Words.{keyword_of, inputs_of, is_line, word_at}
 use Rattle.lid_blif.specs.Faults.{place_of, row_count, ends_in_zero, ends_in_one, model_names, line_fault, first_fault}
 
 -- a place without a cover
 abbrev pub uncovered : Bool → Place → Place
-uncovered inside p = record { inside = inside; covered = false; inputs = 0; zeros = false; ones = false; rows = p.rows }
+uncovered inside p = record { inside = inside; covered = false; inputs = 0; zeros = false; ones = false; rows = p.rows; models = p.models }
 
 -- the place after a line
 abbrev pub next_place : Keyword → Line → Place → Place
-next_place Model l p = uncovered true p
+next_place Model l p = record { inside = true; covered = false; inputs = 0; zeros = false; ones = false; rows = p.rows; models = p.models + 1 }
 next_place End l p = uncovered false p
-next_place Names l p = record { inside = p.inside; covered = true; inputs = inputs_of l.words; zeros = false; ones = false; rows = p.rows }
-next_place Row l p = record { inside = p.inside; covered = p.covered; inputs = p.inputs; zeros = ends_in_zero l || p.zeros; ones = ends_in_one l || p.ones; rows = p.rows + 1 }
+next_place Names l p = record { inside = p.inside; covered = true; inputs = inputs_of l.words; zeros = false; ones = false; rows = p.rows; models = p.models }
+next_place Row l p = record { inside = p.inside; covered = p.covered; inputs = p.inputs; zeros = ends_in_zero l || p.zeros; ones = ends_in_one l || p.ones; rows = p.rows + 1; models = p.models }
 next_place _ l p = uncovered p.inside p
 
 pub place_of-cons : (k : Keyword) (l : Line) (before : List Line) → k ≡ keyword_of l.words → place_of (l ∷ before) ≡ next_place k l (place_of before)
 unfolding place_of
-place_of-cons Model l before e = rw (← e)
+place_of-cons Model l before e = rw (← e, length_push)
 place_of-cons Inputs l before e = rw (← e)
 place_of-cons Outputs l before e = rw (← e)
 place_of-cons Clock l before e = rw (← e)
@@ -81,3 +81,17 @@ unfolding place_of
 rows-cons l before =
     let n = row_count before in
     elim (is_line Row l) as (λ b. cond b (n + 1) n ≤ n + 1) [ true ↦ omega arith | false ↦ omega arith ]
+
+pub models-none : (p : Place) → p ≡ place_of [] → p.models ≤ 0
+unfolding place_of
+models-none p e = let zero : p.models ≡ 0 = ap (λ (q : Place). q.models) e in omega arith
+
+-- a line is at most one model more
+pub models-cons : (l : Line) (before : List Line) → (place_of (l ∷ before)).models ≤ (place_of before).models + 1
+unfolding place_of
+models-cons l before =
+    let ns = model_names before in
+    elim (is_line Model l) as (λ b. length (cond b (ns ++ word_at l.words 1 ∷ []) ns) ≤ length ns + 1) [
+      | true ↦ rw length_push (omega arith)
+      | false ↦ omega arith
+    ]

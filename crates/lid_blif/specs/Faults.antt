@@ -65,6 +65,7 @@ place_of before = record {
   zeros = list_any ends_in_zero (rows_back before);
   ones = list_any ends_in_one (rows_back before);
   rows = row_count before;
+  models = length (model_names before);
 }
 
 -- a condition, and the fault where it holds
@@ -79,11 +80,11 @@ told (c ∷ cases) = if c.0 then Some c.1 else told cases
 abbrev pub outside : Place → ℕ → Case
 outside place number = (not place.inside, NoModel number)
 
-abbrev pub model_cases : List (List ℕ) → Line → List Case
-model_cases names l =
+abbrev pub model_cases : Place → List (List ℕ) → Line → List Case
+model_cases place names l =
     (not (length l.words == 2), Arity l.number)
-    ∷ (list_any (bytes_eq (word_at l.words 1)) names, DuplicateModel l.number)
-    ∷ (nat_lt 4096 (length names + 1), Limit Models (length names + 1))
+    ∷ (list_any (λ name. bytes_eq name (word_at l.words 1)) names, DuplicateModel l.number)
+    ∷ (nat_lt 4096 (place.models + 1), Limit Models (place.models + 1))
     ∷ []
 
 abbrev pub names_cases : Place → Line → List Case
@@ -123,7 +124,7 @@ row_cases place l =
 
 -- what may be at fault in a line, in the order in which it is told
 abbrev pub cases_of : Keyword → Place → List (List ℕ) → Line → List Case
-cases_of Model place names l = model_cases names l
+cases_of Model place names l = model_cases place names l
 cases_of Names place names l = names_cases place l
 cases_of Latch place names l = latch_cases place l
 cases_of Subckt place names l = subckt_cases place l

@@ -131,10 +131,8 @@ fn control_of(alloc: Global, words: &[Name]) -> Result<Option<Name>, AllocError>
 fn init_of(words: &[Name]) -> Init
     ensures { result ≡ init_of words.now }
 {
-    let init = last(words);
-    if !has_init(words) {
-        Init::Unknown
-    } else if is(init, b"0") {
+    let init: &[u8] = if has_init(words) { last(words) } else { b"3" };
+    if is(init, b"0") {
         Init::Zero
     } else if is(init, b"1") {
         Init::One

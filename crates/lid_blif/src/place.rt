@@ -19,6 +19,8 @@ pub struct Place {
     pub ones: bool,
     /// The cover rows so far.
     pub rows: usize,
+    /// The models so far.
+    pub models: usize,
 }
 
 impl Place {
@@ -36,16 +38,18 @@ impl Place {
             zeros: false,
             ones: false,
             rows: 0,
+            models: 0,
         }
     }
 
     /// The place of the line after this one.
     pub fn after(self, line: &Line) -> Place
-        requires { self.rows + 1 < 2 ^ 64 }
+        requires rows { self.rows + 1 < 2 ^ 64 }
+        requires models { self.models + 1 < 2 ^ 64 }
         ensures { (before : List Line) → self ≡ place_of before → result ≡ place_of (line.now ∷ before) }
     {
         match keyword(line) {
-            Keyword::Model => self.without_cover(true),
+            Keyword::Model => self.with_model(),
             Keyword::End => self.without_cover(false),
             Keyword::Names => self.with_cover(line.words.len().saturating_sub(2)),
             Keyword::Row => self.with_row(is_zero_row(line), is_one_row(line)),
@@ -53,8 +57,18 @@ impl Place {
         }
     }
 
+    fn with_model(self) -> Place
+        requires { self.models + 1 < 2 ^ 64 }
+        ensures { result ≡ record { inside = true; covered = false; inputs = 0; zeros = false; ones = false; rows = self.rows; models = self.models + 1 } }
+    {
+        Place {
+            models: self.models + 1,
+            ..self.without_cover(true)
+        }
+    }
+
     fn without_cover(self, inside: bool) -> Place
-        ensures { result ≡ record { inside = inside; covered = false; inputs = 0; zeros = false; ones = false; rows = self.rows } }
+        ensures { result ≡ record { inside = inside; covered = false; inputs = 0; zeros = false; ones = false; rows = self.rows; models = self.models } }
     {
         Place {
             inside,
@@ -63,11 +77,12 @@ impl Place {
             zeros: false,
             ones: false,
             rows: self.rows,
+            models: self.models,
         }
     }
 
     fn with_cover(self, inputs: usize) -> Place
-        ensures { result ≡ record { inside = self.inside; covered = true; inputs = inputs; zeros = false; ones = false; rows = self.rows } }
+        ensures { result ≡ record { inside = self.inside; covered = true; inputs = inputs; zeros = false; ones = false; rows = self.rows; models = self.models } }
     {
         Place {
             inside: self.inside,
@@ -76,6 +91,7 @@ impl Place {
             zeros: false,
             ones: false,
             rows: self.rows,
+            models: self.models,
         }
     }
 

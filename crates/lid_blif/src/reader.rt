@@ -12,6 +12,9 @@ use lid_base::{Line, TextFault, Which, lines};
 use lid_design::Design;
 use std::alloc::Global;
 
+const MOST_BYTES: usize = 16_777_216;
+const LONGEST_WORD: u32 = 1024;
+
 fn of_text(fault: TextFault) -> BlifFault
     ensures told { (result ≡ BlifFault.Memory) ⊎ (result ≡ BlifFault.Text fault) }
     ensures memory { fault ≡ TextFault.Memory → result ≡ BlifFault.Memory }
@@ -49,13 +52,13 @@ pub fn read(alloc: Global, bytes: &[u8]) -> Result<Design, BlifFault>
     ensures ok { IfOk result (λ d. (blif_fault bytes.now ≡ None) × (d ≡ design_of (logical_lines bytes.now))) }
     ensures err { IfErr result (λ e. (e ≡ BlifFault.Memory) ⊎ (blif_fault bytes.now ≡ Some e)) }
 {
-    if bytes.len() > 16_777_216 {
+    if bytes.len() > MOST_BYTES {
         return Err(BlifFault::Limit {
             which: Which::FileBytes,
             count: bytes.len() as u64,
         });
     }
-    match lines(alloc, bytes, 1024) {
+    match lines(alloc, bytes, LONGEST_WORD) {
         Ok(lines) => design_from(alloc, lines.as_slice()),
         Err(fault) => Err(of_text(fault)),
     }

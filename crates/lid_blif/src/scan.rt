@@ -1,43 +1,45 @@
 //! The first fault of some lines.
 
-ghost use Rattle.std.specs.Prelude.{◌≡◌, ◌+◌, ◌<◌, ◌^◌, ◌⊎◌, List, [], ◌∷◌, bytes_eq, Some, None, vec_len, OnOk, IfErr};
+ghost use Rattle.std.specs.Prelude.{◌≡◌, ◌+◌, ◌<◌, ◌^◌, ◌⊎◌, ℕ, List, [], ◌∷◌, bytes_eq, Some, None, OnOk, IfErr};
 ghost use Rattle.std.specs.List.{list_any};
 ghost use Rattle.lid_base.specs.declared.line.Line.{Line};
-ghost use Rattle.lid_blif.specs.Words.{word_at};
+ghost use Rattle.lid_blif.specs.Names.{HoldsNames};
 ghost use Rattle.lid_blif.specs.Faults.{place_of, model_names, told, outside, model_cases, names_cases, latch_cases, subckt_cases, row_cases, is_mixed, line_fault, first_fault};
 
 use crate::fault::BlifFault;
 use crate::keyword::Keyword;
 use crate::place::Place;
 use crate::shapes::{are_bindings, has_init, has_type, is_latch_init, is_latch_type, is_row_of};
-use crate::words::{after, copy, is, is_line, is_zero_row, keyword, last, word};
-use lid_base::{Line, Name, Which};
+use crate::words::{after, is_line, is_zero_row, keyword, last, word};
+use lid_base::{Line, Which};
 use std::alloc::{AllocError, Global};
+use std::collections::HashSet;
 
-fn is_among(name: &[u8], names: &[Name]) -> bool
-    ensures { result ≡ list_any (bytes_eq name.now) names.now }
+const MOST_MODELS: usize = 4096;
+const MOST_INPUTS: usize = 64;
+const MOST_ROWS: usize = 1_048_576;
+
+fn is_known(names: &HashSet<&[u8]>, name: &[u8]) -> bool
+    ensures { (earlier : List (List ℕ)) → HoldsNames names.now earlier → result ≡ list_any (λ other. bytes_eq other name.now) earlier }
 {
-    for other in names {
-        if is(name, other.as_slice()) {
-            return true;
-        }
-    }
-    false
+    names.contains(name)
 }
 
-fn model_fault(names: &[Name], model: &Line) -> Option<BlifFault>
-    ensures { result ≡ told (model_cases names.now model.now) }
+fn model_fault(place: &Place, names: &HashSet<&[u8]>, model: &Line) -> Option<BlifFault>
+    requires { place.now.models + 1 < 2 ^ 64 }
+    ensures { (earlier : List (List ℕ)) → HoldsNames names.now earlier → result ≡ told (model_cases place.now earlier model.now) }
 {
     let words = model.words.as_slice();
     let line = model.number;
+    let models = place.models + 1;
     if words.len() != 2 {
         Some(BlifFault::Arity { line })
-    } else if is_among(word(words, 1), names) {
+    } else if is_known(names, word(words, 1)) {
         Some(BlifFault::DuplicateModel { line })
-    } else if names.len() >= 4096 {
+    } else if models > MOST_MODELS {
         Some(BlifFault::Limit {
             which: Which::Models,
-            count: names.len() as u64 + 1,
+            count: models as u64,
         })
     } else {
         None
@@ -53,7 +55,7 @@ fn names_fault(place: &Place, cover: &Line) -> Option<BlifFault>
         Some(BlifFault::NoModel { line })
     } else if words.len() < 2 {
         Some(BlifFault::Arity { line })
-    } else if words.len() - 2 > 64 {
+    } else if words.len() - 2 > MOST_INPUTS {
         Some(BlifFault::TooManyInputs { line })
     } else {
         None
@@ -118,7 +120,7 @@ fn row_fault(place: &Place, row: &Line) -> Option<BlifFault>
         Some(BlifFault::RowShape { line })
     } else if is_mixed(place, row) {
         Some(BlifFault::MixedRows { line })
-    } else if rows > 1_048_576 {
+    } else if rows > MOST_ROWS {
         Some(BlifFault::Limit {
             which: Which::CoverRows,
             count: rows as u64,
@@ -129,12 +131,13 @@ fn row_fault(place: &Place, row: &Line) -> Option<BlifFault>
 }
 
 #[tactic(auto, unfolding(crate::specs::Faults::line_fault))]
-fn line_fault(place: &Place, names: &[Name], line: &Line) -> Option<BlifFault>
-    requires { place.now.rows + 1 < 2 ^ 64 }
-    ensures { result ≡ line_fault place.now names.now line.now }
+fn line_fault(place: &Place, names: &HashSet<&[u8]>, line: &Line) -> Option<BlifFault>
+    requires rows { place.now.rows + 1 < 2 ^ 64 }
+    requires models { place.now.models + 1 < 2 ^ 64 }
+    ensures { (earlier : List (List ℕ)) → HoldsNames names.now earlier → result ≡ line_fault place.now earlier line.now }
 {
     match keyword(line) {
-        Keyword::Model => model_fault(names, line),
+        Keyword::Model => model_fault(place, names, line),
         Keyword::Names => names_fault(place, line),
         Keyword::Latch => latch_fault(place, line),
         Keyword::Subckt => subckt_fault(place, line),
@@ -145,12 +148,11 @@ fn line_fault(place: &Place, names: &[Name], line: &Line) -> Option<BlifFault>
     }
 }
 
-fn remember(alloc: Global, line: &Line, names: &mut Vec<Name>) -> Result<(), AllocError>
-    ensures { OnOk result ((before : List Line) → names.old.items ≡ model_names before → names.new.items ≡ model_names (line.now ∷ before)) }
+fn remember<'a>(line: &'a Line, names: &mut HashSet<&'a [u8]>) -> Result<(), AllocError>
+    ensures { OnOk result ((before : List Line) → HoldsNames names.old (model_names before) → HoldsNames names.new (model_names (line.now ∷ before))) }
 {
     if is_line(Keyword::Model, line) {
-        let name = copy(alloc, word(line.words.as_slice(), 1))?;
-        names.push(name)?;
+        names.insert(word(line.words.as_slice(), 1))?;
     }
     Ok(())
 }
@@ -164,12 +166,12 @@ pub fn scan(alloc: Global, lines: &[Line]) -> Result<(), BlifFault>
     ensures err { IfErr result (λ e. (e ≡ BlifFault.Memory) ⊎ (first_fault [] lines.now ≡ Some e)) }
 {
     let mut place = Place::start();
-    let mut names = Vec::new(alloc);
+    let mut names = HashSet::new(alloc);
     for line in lines {
-        if let Some(fault) = line_fault(&place, names.as_slice(), line) {
+        if let Some(fault) = line_fault(&place, &names, line) {
             return Err(fault);
         }
-        let Ok(()) = remember(alloc, line, &mut names) else {
+        let Ok(()) = remember(line, &mut names) else {
             return Err(BlifFault::Memory);
         };
         place = place.after(line);

@@ -61,7 +61,11 @@ fn show_rows(text: &mut Vec<u8>, cover: &Cover) -> Result<(), AllocError> {
     Ok(())
 }
 
-fn show_kind(text: &mut Vec<u8>, kind: LatchKind, control: &Option<Name>) -> Result<(), AllocError> {
+fn show_kind(
+    text: &mut Vec<u8>,
+    kind: LatchKind,
+    control: &Option<Name>,
+) -> Result<(), AllocError> {
     match kind {
         LatchKind::Plain => return Ok(()),
         LatchKind::Rise => show(text, b" re ")?,
@@ -83,18 +87,27 @@ fn show_cell(text: &mut Vec<u8>, cell: &Cell) -> Result<(), AllocError> {
             show(text, b"\n")?;
             show_rows(text, cover)
         }
-        Cell::Latch { input, out, kind, control, init } => {
+        Cell::Latch {
+            input,
+            out,
+            kind,
+            control,
+            init,
+        } => {
             show(text, b".latch ")?;
             show(text, input.as_slice())?;
             show(text, b" ")?;
             show(text, out.as_slice())?;
             show_kind(text, *kind, control)?;
-            show(text, match init {
-                Init::Zero => b" 0\n",
-                Init::One => b" 1\n",
-                Init::DontCare => b" 2\n",
-                Init::Unknown => b" 3\n",
-            })
+            show(
+                text,
+                match init {
+                    Init::Zero => b" 0\n",
+                    Init::One => b" 1\n",
+                    Init::DontCare => b" 2\n",
+                    Init::Unknown => b" 3\n",
+                },
+            )
         }
     }
 }
@@ -140,9 +153,18 @@ fn shown(alloc: Global, design: &Design) -> Result<Vec<u8>, AllocError> {
 fn designs(rt: HostRuntime) -> Result<(), Fail> {
     let alloc = rt.alloc();
     for (at, (text, design)) in [
-        (".model m\n.inputs a\n.latch a q\n.end", ".model m\n.inputs a\n.latch a q 3\n"),
-        (".model m\n.latch a q re NIL\n", ".model m\n.latch a q re NIL 3\n"),
-        (".model m\n.latch a q fe clk 2\n.latch b r 1", ".model m\n.latch a q fe clk 2\n.latch b r 1\n"),
+        (
+            ".model m\n.inputs a\n.latch a q\n.end",
+            ".model m\n.inputs a\n.latch a q 3\n",
+        ),
+        (
+            ".model m\n.latch a q re NIL\n",
+            ".model m\n.latch a q re NIL 3\n",
+        ),
+        (
+            ".model m\n.latch a q fe clk 2\n.latch b r 1",
+            ".model m\n.latch a q fe clk 2\n.latch b r 1\n",
+        ),
         (
             ".model m\n.names $false\n.names $true\n1\n.names $undef\n",
             ".model m\n.names $false\n.names $true\n1\n.names $undef\n",
@@ -151,7 +173,10 @@ fn designs(rt: HostRuntime) -> Result<(), Fail> {
             ".model \\top.a:b[3]\\c=d\n.inputs \\x[0] \\y\\z:1\n",
             ".model \\top.a:b[3]\\c=d\n.inputs \\x[0] \\y\\z:1\n",
         ),
-        ("# Yosys\n\n.model m # top\n.inputs a \\\n b\\\nc\n", ".model m\n.inputs a b c\n"),
+        (
+            "# Yosys\n\n.model m # top\n.inputs a \\\n b\\\nc\n",
+            ".model m\n.inputs a b c\n",
+        ),
         (
             ".model m\n.clock c\n.inputs a\n.clock d e\n.outputs z\n.inputs b\n.model n\n.clock f\n.end it\n",
             ".model m\n.inputs a b\n.outputs z\n.clock c d e\n.model n\n.clock f\n",
@@ -192,41 +217,96 @@ fn faults(rt: HostRuntime) {
         ("\n.inputs a\n", BlifFault::NoModel { line: 2 }),
         (".model m\n.end\n.end\n", BlifFault::NoModel { line: 3 }),
         (".model m\n.end\n.gate g\n", BlifFault::NoModel { line: 3 }),
-        (".model m\n.inputs a\u{1}\n", BlifFault::Text(TextFault::BadByte { line: 2 })),
-        (".model m\n.gate nand2 A=a\n.end", BlifFault::Unsupported { line: 2 }),
+        (
+            ".model m\n.inputs a\u{1}\n",
+            BlifFault::Text(TextFault::BadByte { line: 2 }),
+        ),
+        (
+            ".model m\n.gate nand2 A=a\n.end",
+            BlifFault::Unsupported { line: 2 },
+        ),
         (".model\n", BlifFault::Arity { line: 1 }),
         (".model m n\n", BlifFault::Arity { line: 1 }),
         (".model m\n.names\n", BlifFault::Arity { line: 2 }),
         (".model m\n.subckt\n", BlifFault::Arity { line: 2 }),
         (".model m\n.latch a\n", BlifFault::Arity { line: 2 }),
-        (".model m\n.latch a b re c 2 d\n", BlifFault::Arity { line: 2 }),
-        (".model m\n.inputs a\n1 1\n", BlifFault::RowOutside { line: 3 }),
-        (".model m\n.names a q\n1 1\n.inputs a\n1 1\n", BlifFault::RowOutside { line: 5 }),
-        (".model m\n.inputs a\n.names a q\n1\n", BlifFault::RowShape { line: 4 }),
-        (".model m\n.names a q\n2 1\n", BlifFault::RowShape { line: 3 }),
-        (".model m\n.names a q\n11 1\n", BlifFault::RowShape { line: 3 }),
-        (".model m\n.names a q\n1 -\n", BlifFault::RowShape { line: 3 }),
+        (
+            ".model m\n.latch a b re c 2 d\n",
+            BlifFault::Arity { line: 2 },
+        ),
+        (
+            ".model m\n.inputs a\n1 1\n",
+            BlifFault::RowOutside { line: 3 },
+        ),
+        (
+            ".model m\n.names a q\n1 1\n.inputs a\n1 1\n",
+            BlifFault::RowOutside { line: 5 },
+        ),
+        (
+            ".model m\n.inputs a\n.names a q\n1\n",
+            BlifFault::RowShape { line: 4 },
+        ),
+        (
+            ".model m\n.names a q\n2 1\n",
+            BlifFault::RowShape { line: 3 },
+        ),
+        (
+            ".model m\n.names a q\n11 1\n",
+            BlifFault::RowShape { line: 3 },
+        ),
+        (
+            ".model m\n.names a q\n1 -\n",
+            BlifFault::RowShape { line: 3 },
+        ),
         (".model m\n.names q\n1 1\n", BlifFault::RowShape { line: 3 }),
         (
             ".model m\n.inputs a\n.outputs q\n.names a x\n1 1\n0 0\n.latch x q 0\n.end\n",
             BlifFault::MixedRows { line: 6 },
         ),
-        (".model m\n.latch a b ah c 2\n", BlifFault::LatchType { line: 2 }),
-        (".model m\n.latch a b 2 c\n", BlifFault::LatchType { line: 2 }),
+        (
+            ".model m\n.latch a b ah c 2\n",
+            BlifFault::LatchType { line: 2 },
+        ),
+        (
+            ".model m\n.latch a b 2 c\n",
+            BlifFault::LatchType { line: 2 },
+        ),
         (".model m\n.latch a b 4\n", BlifFault::LatchInit { line: 2 }),
-        (".model m\n.latch a b re c x\n", BlifFault::LatchInit { line: 2 }),
-        (".model m\n.subckt r d=a q\n", BlifFault::BindShape { line: 2 }),
+        (
+            ".model m\n.latch a b re c x\n",
+            BlifFault::LatchInit { line: 2 },
+        ),
+        (
+            ".model m\n.subckt r d=a q\n",
+            BlifFault::BindShape { line: 2 },
+        ),
         (".model m\n.subckt r =a\n", BlifFault::BindShape { line: 2 }),
         (".model m\n.subckt r d=\n", BlifFault::BindShape { line: 2 }),
-        (".model m\n.model n\n.model m\n", BlifFault::DuplicateModel { line: 3 }),
-        (".model m\n.inputs a \\\n b\n.gate\n.latch", BlifFault::Unsupported { line: 4 }),
+        (
+            ".model m\n.model n\n.model m\n",
+            BlifFault::DuplicateModel { line: 3 },
+        ),
+        (
+            ".model m\n.inputs a \\\n b\n.gate\n.latch",
+            BlifFault::Unsupported { line: 4 },
+        ),
     ] {
-        assert_eq!(rt; fault_of(&rt, rt.alloc(), text.as_bytes()), Some(fault), "{text}");
+        assert_eq!(rt;
+            fault_of(&rt, rt.alloc(), text.as_bytes()),
+            Some(fault),
+            "{text}"
+        );
     }
 }
 
 // The text `head`, then so many times `part` and a number where there is one, then `tail`.
-fn repeated(alloc: Global, head: &str, part: &str, times: usize, tail: &str) -> Result<Vec<u8>, AllocError> {
+fn repeated(
+    alloc: Global,
+    head: &str,
+    part: &str,
+    times: usize,
+    tail: &str,
+) -> Result<Vec<u8>, AllocError> {
     let mut text = Vec::new(alloc);
     show(&mut text, head.as_bytes())?;
     for _ in 0..times {
@@ -262,17 +342,26 @@ fn limits(rt: HostRuntime) -> Result<(), Fail> {
         (
             models(alloc, 4096)?,
             models(alloc, 4097)?,
-            BlifFault::Limit { which: Which::Models, count: 4097 },
+            BlifFault::Limit {
+                which: Which::Models,
+                count: 4097,
+            },
         ),
         (
             repeated(alloc, ".model m\n.names a q\n", "1 1\n", 1_048_576, "")?,
             repeated(alloc, ".model m\n.names a q\n", "1 1\n", 1_048_577, "")?,
-            BlifFault::Limit { which: Which::CoverRows, count: 1_048_577 },
+            BlifFault::Limit {
+                which: Which::CoverRows,
+                count: 1_048_577,
+            },
         ),
         (
             repeated(alloc, ".model m\n", " ", 16_777_207, "")?,
             repeated(alloc, ".model m\n", " ", 16_777_208, "")?,
-            BlifFault::Limit { which: Which::FileBytes, count: 16_777_217 },
+            BlifFault::Limit {
+                which: Which::FileBytes,
+                count: 16_777_217,
+            },
         ),
     ] {
         assert_eq!(rt; fault_of(&rt, alloc, at_limit.as_slice()), None);

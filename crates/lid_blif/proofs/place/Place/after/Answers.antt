@@ -4,10 +4,10 @@ use Rattle.lid_blif.proofs.Places.{place_after, next_place-other}
 use Rattle.lid_blif.proofs.place.Place.after.Goals as goal
 
 pub returns-in-Model : goal.returns-in-Model
-returns-in-Model c = λ before h. place_after Model c.args.line.now before c.args.self _ c.in-Model.ensures c.without_cover.ensures h
+returns-in-Model c = λ before h. place_after Model c.args.line.now before c.args.self _ c.in-Model.ensures c.with_model.ensures h
 
 pub returns-in-End : goal.returns-in-End
-returns-in-End c = λ before h. place_after End c.args.line.now before c.args.self _ c.in-End.ensures c.without_cover-in-End.ensures h
+returns-in-End c = λ before h. place_after End c.args.line.now before c.args.self _ c.in-End.ensures c.without_cover.ensures h
 
 pub returns-in-Names : goal.returns-in-Names
 returns-in-Names c = λ before h. place_after Names c.args.line.now before c.args.self c.with_cover.result c.in-Names.ensures (cc) h
