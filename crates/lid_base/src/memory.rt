@@ -2,6 +2,7 @@
 
 ghost use Rattle.std.specs.Prelude.{◌≡◌, ℕ, ◌≤◌, List, [], length, take, drop, Some, is_err, IfOk, OnOk, OnErr};
 ghost use Rattle.std.specs.Option.{option_copied};
+ghost use Rattle.lid_base.specs.Memory.{bytes_held};
 ghost use Rattle.lid_base.specs.Outside.{Rose, FetchedFrom, Appended, AppendedPrefix};
 
 use crate::items::{Bytes, Name};
@@ -45,8 +46,6 @@ impl Model for MemShelf {
       missing_faults = s.missing_faults;
     } };
 }
-
-ghost use Rattle.lid_base.specs.Memory.{bytes_held};
 
 /// The bytes of the first file with the name.
 fn find_bytes<'a>(files: &'a [File], name: &[u8]) -> Option<&'a [u8]>

@@ -1,6 +1,6 @@
 use crate::{
-    DirShelf, File, Gate, Items, Line, MemShelf, MemSink, Name, OpenGate, Shelf, ShelfFailed, Sink,
-    SinkFailed, StdSink, Text, TextFault, lines,
+    DirShelf, File, Gate, Items, Line, MeetGate, MemShelf, MemSink, Name, OpenGate, Shelf,
+    ShelfFailed, Sink, SinkFailed, StdSink, Text, TextFault, lines,
 };
 use std::alloc::{AllocError, Global};
 use std::fs;
@@ -102,8 +102,16 @@ fn writes_to_memory(rt: HostRuntime) -> Result<(), Fail> {
 }
 
 #[test]
-fn passes_the_gate() {
+fn passes_gates(rt: HostRuntime) {
     OpenGate.pass(0, 0);
+    let gate = MeetGate::new(2, 3);
+    gate.pass(0, 0);
+    gate.pass(1, 1);
+    assert!(rt; !gate.met());
+    gate.pass(1, 0);
+    assert!(rt; !gate.met());
+    gate.pass(0, 0);
+    assert!(rt; gate.met());
 }
 
 #[test]
