@@ -9,8 +9,7 @@ use std::rt::Files;
 use std::{fs, io};
 
 /// The files of the system. What they hold is not told. One count, of all fetches that failed, is
-/// the count of every name. A contract
-/// sees this count.
+/// the count of every name. A contract sees this count.
 #[derive(Drop)]
 pub struct DirShelf<'a, R> {
     rt: &'a R,

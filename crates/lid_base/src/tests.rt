@@ -3,6 +3,7 @@ use crate::{
     ShelfFailed, Sink, SinkFailed, StdSink, Text, TextFault, lines,
 };
 use std::alloc::{AllocError, Global};
+use std::convert::AsStr;
 use std::fs;
 use std::test::Fail;
 
@@ -117,7 +118,7 @@ fn passes_gates(rt: HostRuntime) {
 #[test]
 fn sees_text(rt: HostRuntime) -> Result<(), Fail> {
     let text = Text::new(String::from_str(rt.alloc(), "copy")?);
-    assert_eq!(rt; text.as_bytes(), b"copy".as_slice());
+    assert_eq!(rt; text.as_str(), "copy");
     Ok(())
 }
 

@@ -1,13 +1,81 @@
-// A library with one function.
+//! Netlists: models, their cells and their instances, and what a design means as a synchronous
+//! circuit.
 #![tactic(auto)]
 
-ghost use Rattle.std.specs.Prelude.{◌≡◌};
-ghost use Rattle.lid_design.specs.Echo.{echo_of};
+use lid_base::{Items, Name};
+use lid_cover::Cover;
 
-// The `ensures` clause is the contract: what `echo` returns is `echo_of` of its argument, a definition
-// in `specs/Echo.antt`, which a caller's clause can cite too.
-pub fn echo(x: usize) -> usize
-    ensures { result ≡ echo_of x }
-{
-    x
+/// A netlist of models, one of which is the root.
+#[derive(Drop)]
+pub struct Design {
+    pub models: Items<Model>,
+    /// The place of the root among the models.
+    pub root: u32,
+}
+
+/// A module of a netlist.
+#[derive(Drop)]
+pub struct Model {
+    pub name: Name,
+    pub inputs: Items<Name>,
+    pub outputs: Items<Name>,
+    pub clocks: Items<Name>,
+    pub cells: Items<Cell>,
+    pub insts: Items<Inst>,
+}
+
+/// A cell drives one net.
+#[derive(Drop)]
+pub enum Cell {
+    /// Logic without a state.
+    Names {
+        inputs: Items<Name>,
+        out: Name,
+        cover: Cover,
+    },
+    /// One bit of state.
+    Latch {
+        input: Name,
+        out: Name,
+        kind: LatchKind,
+        /// The name that clocks the latch. `None` stands for `NIL` too.
+        control: Option<Name>,
+        init: Init,
+    },
+}
+
+/// At which edge of its clock a latch takes its input.
+#[derive(Clone, Copy, Debug, PartialEq, Eq)]
+pub enum LatchKind {
+    /// No type was written.
+    Plain,
+    /// Rising edge, `re`.
+    Rise,
+    /// Falling edge, `fe`.
+    Fall,
+}
+
+/// How a latch begins.
+#[derive(Clone, Copy, Debug, PartialEq, Eq)]
+pub enum Init {
+    Zero,
+    One,
+    /// Written as 2. The latch begins at 0.
+    DontCare,
+    /// Written as 3, or not written. The latch begins at 0.
+    Unknown,
+}
+
+/// An instance of a model.
+#[derive(Drop)]
+pub struct Inst {
+    pub model: Name,
+    pub binds: Items<Bind>,
+}
+
+/// A net of an instance's model, and the net that it is bound to.
+#[derive(Drop)]
+pub struct Bind {
+    pub formal: Name,
+    pub actual: Name,
 }

@@ -1,0 +1,39 @@
+-- Synchronous networks: what drives each column, and the tables of bits that meet all drivers.
+use Rattle.std.specs.Prelude.{◌≡◌, ℕ, zero, suc, ◌+◌, ◌<◌, Bool, false, List, [], ◌∷◌, length, map, slice_index_or}
+use Rattle.std.specs.List.{AllByRecursion}
+use Rattle.lid_cover.specs.declared.Cover.{Cover}
+use Rattle.lid_cover.specs.Cover.{cover_value}
+
+-- what gives a column its bit
+pub data Source (C : Type 0) : Type 0 where
+  given : ℕ → Source C  -- an input of the root, by its place
+  held : Bool → C → Source C  -- a latch: the bit that it begins with, and its input
+  made : Cover → List C → Source C  -- a cover, and its inputs in order
+  same : C → Source C  -- the other side of a binding
+
+-- a bit for each row and each column
+abbrev pub Table : Type 0 → Type 0
+Table C = ℕ → C → Bool
+
+-- a latch has its first bit in row 0, and later its input's bit of the row before
+abbrev pub latch_bit : {C : Type 0} → Table C → Bool → C → ℕ → Bool
+latch_bit b first input zero = first
+latch_bit b first input (suc t) = b t input
+
+-- the bit that a source gives in a row
+abbrev pub bit_of : {C : Type 0} → List (List Bool) → Table C → ℕ → Source C → Bool
+bit_of rows b t (given j) = slice_index_or (slice_index_or rows t []) j false
+bit_of rows b t (held first input) = latch_bit b first input t
+bit_of rows b t (made cover inputs) = cover_value cover (map (b t) inputs)
+bit_of rows b t (same c) = b t c
+
+-- a table is strict for the input rows when, in each row, each column has the bit that each of its
+-- drivers gives; nothing is said of other rows
+abbrev pub IsStrict : {C : Type 0} → (C → List (Source C)) → List (List Bool) → Table C → Type 0
+IsStrict {C} drivers rows b =
+    (t : ℕ) (c : C) → t < length rows → AllByRecursion (λ s. b t c ≡ bit_of rows b t s) (drivers c)
+
+-- f at each of so many numbers from k on
+abbrev pub from_each : {A : Type 0} → (ℕ → A) → ℕ → ℕ → List A
+from_each f k zero = []
+from_each f k (suc n) = f k ∷ from_each f (k + 1) n
