@@ -1,4 +1,3 @@
-use Rattle.std.proofs.Common.{arith}
 use Rattle.lid_texts.proofs.Limits.{reading-within}
 use Rattle.lid_texts.proofs.read.read_rows.Goals as goal
 
