@@ -5,6 +5,7 @@
 mod cut;
 mod items;
 mod line;
+mod meet;
 mod memory;
 mod outside;
 mod system;
@@ -18,6 +19,7 @@ pub use cut::{
 };
 pub use items::{Bytes, Items, Name};
 pub use line::{Line, TextFault, lines};
+pub use meet::MeetGate;
 pub use memory::{File, MemShelf, MemSink};
 pub use outside::{Gate, OpenGate, Shelf, ShelfFailed, Sink, SinkFailed};
 pub use system::{DirShelf, StdSink};

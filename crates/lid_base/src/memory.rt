@@ -2,6 +2,7 @@
 
 ghost use Rattle.std.specs.Prelude.{◌≡◌, ℕ, ◌≤◌, List, [], length, take, drop, Some, is_err, IfOk, OnOk, OnErr};
 ghost use Rattle.std.specs.Option.{option_copied};
+ghost use Rattle.lid_base.specs.Memory.{bytes_held};
 ghost use Rattle.lid_base.specs.Outside.{Rose, FetchedFrom, Appended, AppendedPrefix};
 
 use crate::items::{Bytes, Name};
@@ -38,15 +39,13 @@ impl Model for MemShelf {
     ghost Value = { ShelfState };
 
     ghost view = { λ s. record {
-        files = s.files.items;
-        failing = s.failing.items;
-        calls = s.calls;
-        held_faults = s.held_faults;
-        missing_faults = s.missing_faults;
+      files = s.files.items;
+      failing = s.failing.items;
+      calls = s.calls;
+      held_faults = s.held_faults;
+      missing_faults = s.missing_faults;
     } };
 }
-
-ghost use Rattle.lid_base.specs.Memory.{bytes_held};
 
 /// The bytes of the first file with the name.
 fn find_bytes<'a>(files: &'a [File], name: &[u8]) -> Option<&'a [u8]>
@@ -148,11 +147,11 @@ impl Model for MemSink {
     ghost Value = { SinkState };
 
     ghost view = { λ s. record {
-        bytes = s.bytes.items;
-        room = s.room;
-        failing = s.failing.items;
-        calls = s.calls;
-        faults = s.faults;
+      bytes = s.bytes.items;
+      room = s.room;
+      failing = s.failing.items;
+      calls = s.calls;
+      faults = s.faults;
     } };
 
     ghost invariant = { λ s. vec_len s.bytes + s.room ≤ vec_capacity s.bytes };

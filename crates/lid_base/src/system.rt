@@ -3,15 +3,13 @@
 ghost use Rattle.std.specs.Prelude.{◌≡◌, ℕ, ◌≤◌, length, None, IfOk};
 
 use crate::outside::{Shelf, ShelfFailed, Sink, SinkFailed};
-use std::fs;
-use std::io;
 use std::io::{Read, Seek, SeekFrom, Write};
 use std::marker::Model;
 use std::rt::Files;
+use std::{fs, io};
 
 /// The files of the system. What they hold is not told. One count, of all fetches that failed, is
-/// the count of every name. A contract
-/// sees this count.
+/// the count of every name. A contract sees this count.
 #[derive(Drop)]
 pub struct DirShelf<'a, R> {
     rt: &'a R,

@@ -1,15 +1,21 @@
 use crate::{
-    DirShelf, File, Gate, Items, Line, MemShelf, MemSink, Name, OpenGate, Shelf, ShelfFailed, Sink, SinkFailed, StdSink, Text,
-    TextFault, lines,
+    DirShelf, File, Gate, Items, Line, MeetGate, MemShelf, MemSink, Name, OpenGate, Shelf,
+    ShelfFailed, Sink, SinkFailed, StdSink, Text, TextFault, lines,
 };
 use std::alloc::{AllocError, Global};
+use std::convert::AsStr;
 use std::fs;
 use std::test::Fail;
 
 fn is_line(line: &Line, number: u32, words: &[&[u8]]) -> bool {
     line.number == number
         && line.words.len() == words.len()
-        && line.words.as_slice().iter().zip(words).all(|(word, want)| word.as_slice() == *want)
+        && line
+            .words
+            .as_slice()
+            .iter()
+            .zip(words)
+            .all(|(word, want)| word.as_slice() == *want)
 }
 
 fn name(alloc: Global, bytes: &[u8]) -> Result<Name, AllocError> {
@@ -39,7 +45,10 @@ fn refuses_bytes(rt: HostRuntime) {
     ];
     for (text, line) in cases {
         assert!(rt; text.len() < 100);
-        assert_eq!(rt; lines(rt.alloc(), text, 1024).err(), Some(TextFault::BadByte { line }));
+        assert_eq!(rt;
+            lines(rt.alloc(), text, 1024).err(),
+            Some(TextFault::BadByte { line })
+        );
     }
 }
 
@@ -94,14 +103,22 @@ fn writes_to_memory(rt: HostRuntime) -> Result<(), Fail> {
 }
 
 #[test]
-fn passes_the_gate() {
+fn passes_gates(rt: HostRuntime) {
     OpenGate.pass(0, 0);
+    let gate = MeetGate::new(2, 3);
+    gate.pass(0, 0);
+    gate.pass(1, 1);
+    assert!(rt; !gate.met());
+    gate.pass(1, 0);
+    assert!(rt; !gate.met());
+    gate.pass(0, 0);
+    assert!(rt; gate.met());
 }
 
 #[test]
 fn sees_text(rt: HostRuntime) -> Result<(), Fail> {
     let text = Text::new(String::from_str(rt.alloc(), "copy")?);
-    assert_eq!(rt; text.as_bytes(), b"copy".as_slice());
+    assert_eq!(rt; text.as_str(), "copy");
     Ok(())
 }
 

@@ -1,37 +1,32 @@
-//! Text that contracts see as its bytes.
+//! Texts that contracts see as their bytes.
 
-ghost use Rattle.std.specs.Prelude.{◌≡◌, string_bytes};
+ghost use Rattle.std.specs.Prelude.{◌≡◌};
+ghost use Rattle.std.specs.String.{string_bytes};
 
 use std::convert::AsStr;
 use std::marker::Model;
 
-/// A text, as one of the words of a command. A contract sees its bytes.
+/// A UTF-8 text, which contracts see as its bytes.
 #[derive(Drop)]
 pub struct Text {
     text: String,
 }
 
 impl Model for Text {
-    ghost use Rattle.std.specs.Prelude.{ℕ, List, string_bytes};
+    ghost use Rattle.std.specs.Prelude.{ℕ, List};
+    ghost use Rattle.std.specs.String.{string_bytes};
 
     ghost Value = { List ℕ };
 
-    ghost view = { λ t. string_bytes t.text };
+    ghost view = { λ s. string_bytes s.text };
 }
 
 impl Text {
-    /// The text of a string. It takes no memory.
+    /// A text of a string. It takes no memory.
     pub fn new(text: String) -> Text
         ensures { result ≡ string_bytes text }
     {
         Text { text }
-    }
-
-    /// The bytes of the text.
-    pub fn as_bytes(&self) -> &[u8]
-        ensures { result.now ≡ self.now }
-    {
-        self.text.as_bytes()
     }
 }
 

@@ -1,0 +1,12 @@
+use Rattle.std.proofs.Common.{◌≤◌, length}
+use Rattle.lid_io.proofs.Writes.{SoFar}
+use Rattle.lid_io.proofs.writing.write_all.Given as goal
+
+abbrev pub invariant-loop-left : goal.invariant-loop-left
+invariant-loop-left g l = record {
+  so_far : SoFar (g.O.Sink.written l.fn.out) (g.O.Sink.written l.out) l.fn.text l.left;
+  grows : g.O.Sink.faults l.fn.out ≤ g.O.Sink.faults l.out;
+}
+
+abbrev pub decreases-loop-left : goal.decreases-loop-left
+decreases-loop-left g l = length l.left

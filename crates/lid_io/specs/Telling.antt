@@ -1,0 +1,16 @@
+-- The line that tells a fault.
+use Rattle.std.specs.Prelude.{ℕ, List, [], ◌∷◌, ◌++◌, codes}
+use Rattle.std.specs.List.{flat_map}
+use Rattle.std.specs.Fmt.{decimal}
+use Rattle.lid_io.specs.declared.telling.Word.{Word}
+use Rattle.lid_io.specs.declared.telling.Word.TheVariants.{Text, Name, Number}
+
+-- the bytes of a word
+abbrev pub spelled : Word → List ℕ
+spelled (Text text) = text.now
+spelled (Name name) = name.now
+spelled (Number number) = decimal number
+
+-- the program's name, and the words, each after a blank
+unfoldable pub fault_line : List (List ℕ) → List ℕ
+fault_line words = codes "lid:" ++ (flat_map (λ word. 32 ∷ word) words ++ 10 ∷ [])

@@ -1,0 +1,100 @@
+//! Fetching all of a file.
+
+ghost use Rattle.std.specs.Prelude.{◌≡◌, ℕ, ◌+◌, ◌^◌, ◌≤◌, ◌<◌, List, length, take, IfOk, IfErr, IfSome};
+ghost use Rattle.lid_base.specs.Outside.{Rose, FetchedFrom};
+ghost use Rattle.lid_io.specs.Transfer.{FetchedNext};
+
+use lid_base::Shelf;
+use std::alloc::{AllocError, Global};
+
+/// How many bytes are fetched at a time.
+const PIECE: usize = 65_536;
+
+/// Why a file could not be fetched.
+#[derive(Clone, Copy, Debug, PartialEq, Eq)]
+pub enum FetchFault {
+    /// A fetch failed.
+    Read,
+    /// There was no memory.
+    Memory,
+}
+
+impl From<AllocError> for FetchFault {
+    ghost use Rattle.std.specs.Prelude.{◌≡◌};
+    ghost use Rattle.lid_io.specs.declared.fetching.FetchFault.TheVariants.{Memory};
+
+    ghost from_gives = { λ _ e. e ≡ Memory };
+
+    fn from(_error: AllocError) -> FetchFault {
+        FetchFault::Memory
+    }
+}
+
+/// Fetches a file from its first byte to its end, or until one byte more than `limit` is held.
+/// The end is a fetch of 0 bytes.
+///
+/// # Errors
+/// `Read` comes only where the count of that name rose in this call.
+pub fn fetch_all<S: Shelf>(
+    alloc: Global,
+    shelf: &mut S,
+    name: &str,
+    limit: usize,
+) -> Result<Vec<u8>, FetchFault>
+    requires { limit < 2 ^ 62 }
+    ensures told { IfOk result (λ v. IfSome (S.held shelf.old name.now) (λ bytes. v.items ≡ take (limit + 1) bytes)) }
+    ensures short { IfOk result (λ v. length v.items ≤ limit + 1) }
+    ensures failed { IfErr result (λ e. e ≡ FetchFault.Read → Rose (S.faults shelf.old name.now) (S.faults shelf.new name.now)) }
+    ensures kept { S.held shelf.new ≡ S.held shelf.old }
+    ensures grows { (q : List ℕ) → S.faults shelf.old q ≤ S.faults shelf.new q }
+{
+    let mut buffer = vec![in alloc; 0u8; PIECE]?;
+    fetch_pieces(alloc, shelf, name, limit, &mut buffer)
+}
+
+fn fetch_pieces<S: Shelf>(
+    alloc: Global,
+    shelf: &mut S,
+    name: &str,
+    limit: usize,
+    buffer: &mut [u8],
+) -> Result<Vec<u8>, FetchFault>
+    requires bounded { limit < 2 ^ 62 }
+    requires room { 0 < length buffer.old }
+    ensures told { IfOk result (λ v. IfSome (S.held shelf.old name.now) (λ bytes. v.items ≡ take (limit + 1) bytes)) }
+    ensures short { IfOk result (λ v. length v.items ≤ limit + 1) }
+    ensures failed { IfErr result (λ e. e ≡ FetchFault.Read → Rose (S.faults shelf.old name.now) (S.faults shelf.new name.now)) }
+    ensures kept { S.held shelf.new ≡ S.held shelf.old }
+    ensures grows { (q : List ℕ) → S.faults shelf.old q ≤ S.faults shelf.new q }
+{
+    let mut bytes = Vec::new(alloc);
+    while bytes.len() <= limit {
+        let want = buffer.len().min(limit + 1 - bytes.len());
+        let got = fetch_piece(shelf, name, &mut bytes, &mut buffer[..want])?;
+        if got == 0 {
+            break;
+        }
+    }
+    Ok(bytes)
+}
+
+/// Fetches the next piece, and answers how many bytes it has.
+fn fetch_piece<S: Shelf>(
+    shelf: &mut S,
+    name: &str,
+    bytes: &mut Vec<u8>,
+    into: &mut [u8],
+) -> Result<usize, FetchFault>
+    requires { length bytes.old.items < 2 ^ 62 }
+    ensures within { IfOk result (λ n. (n ≤ length into.old) × (length bytes.new.items ≡ length bytes.old.items + n)) }
+    ensures told { IfOk result (λ n. FetchedNext (S.held shelf.old name.now) bytes.old.items bytes.new.items (length into.old)) }
+    ensures failed { IfErr result (λ e. e ≡ FetchFault.Read → Rose (S.faults shelf.old name.now) (S.faults shelf.new name.now)) }
+    ensures kept { S.held shelf.new ≡ S.held shelf.old }
+    ensures grows { (q : List ℕ) → S.faults shelf.old q ≤ S.faults shelf.new q }
+{
+    let Ok(got) = shelf.fetch(name, bytes.len() as u64, into) else {
+        return Err(FetchFault::Read);
+    };
+    bytes.extend_from_slice(&into[..got])?;
+    Ok(got)
+}

@@ -1,0 +1,10 @@
+//! Whole files from a shelf, whole texts to a sink, and the line that tells a fault.
+#![tactic(auto)]
+
+mod fetching;
+mod telling;
+mod writing;
+
+pub use fetching::{FetchFault, fetch_all};
+pub use telling::{Word, tell};
+pub use writing::write_all;
