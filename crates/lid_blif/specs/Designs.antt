@@ -1,6 +1,6 @@
 -- The design that logical lines stand for. It is told of any lines; of lines without fault it is
 -- what the text means.
-use Rattle.std.specs.Prelude.{◌≡◌, ℕ, ◌+◌, ◌*◌, ◌-◌, ◌==◌, min, Bool, true, false, not, if◌then◌else◌, List, [], ◌∷◌, ◌++◌, length, map, filter, take, drop, bytes_eq, codes, Option, Some, None}
+use Rattle.std.specs.Prelude.{ℕ, ◌+◌, ◌*◌, ◌==◌, min, Bool, not, if◌then◌else◌, List, [], ◌∷◌, map, filter, take, drop, bytes_eq, codes, Option, Some, None}
 use Rattle.std.specs.List.{list_any, flat_map, before_first, after_first}
 use Rattle.lid_base.specs.declared.line.Line.{Line}
 use Rattle.lid_cover.specs.declared.Cover.{Cover}
@@ -16,7 +16,7 @@ use Rattle.lid_design.specs.declared.Init.TheVariants.{Zero, One, DontCare, Unkn
 use Rattle.lid_design.specs.declared.Inst.{Inst}
 use Rattle.lid_design.specs.declared.Bind.{Bind}
 use Rattle.lid_blif.specs.declared.keyword.Keyword.{Keyword}
-use Rattle.lid_blif.specs.declared.keyword.Keyword.TheVariants.{Model, Inputs, Outputs, Clock, Names, Latch, Subckt, End, Unknown, Row}
+use Rattle.lid_blif.specs.declared.keyword.Keyword.TheVariants.{Model, Inputs, Outputs, Clock, Names, Latch, Subckt, Row}
 use Rattle.lid_blif.specs.Words.{word_at, last_word, keyword_of, is_line, leading, is_inner, inputs_of, is_zero, is_one, has_type, has_init, is_equals}
 use Rattle.lid_blif.specs.Faults.{ends_in_zero}
 

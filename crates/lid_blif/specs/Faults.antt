@@ -1,6 +1,6 @@
 -- Why a text stands for no design. What a line means is said by looking back: `before` has the
 -- lines before it, latest first.
-use Rattle.std.specs.Prelude.{◌≡◌, ℕ, ◌+◌, ◌==◌, nat_lt, nat_le, Bool, true, false, not, ◌&&◌, ◌||◌, if◌then◌else◌, List, [], ◌∷◌, ◌++◌, length, drop, bytes_eq, codes, Option, Some, None, is_some}
+use Rattle.std.specs.Prelude.{ℕ, ◌+◌, ◌==◌, nat_lt, Bool, true, false, not, ◌&&◌, ◌||◌, if◌then◌else◌, List, [], ◌∷◌, ◌++◌, length, drop, bytes_eq, Option, Some, None, is_some}
 use Rattle.std.specs.List.{list_any, list_all}
 use Rattle.std.specs.Option.{option_map_or}
 use Rattle.lid_base.specs.Lines.{logical_lines, text_fault}
@@ -10,7 +10,7 @@ use Rattle.lid_base.specs.declared.which.Which.TheVariants.{FileBytes, Models, C
 use Rattle.lid_blif.specs.declared.fault.BlifFault.{BlifFault}
 use Rattle.lid_blif.specs.declared.fault.BlifFault.TheVariants.{Text, NoModel, Unsupported, Arity, RowOutside, RowShape, MixedRows, LatchType, LatchInit, BindShape, DuplicateModel, TooManyInputs, Limit}
 use Rattle.lid_blif.specs.declared.keyword.Keyword.{Keyword}
-use Rattle.lid_blif.specs.declared.keyword.Keyword.TheVariants.{Model, Inputs, Outputs, Clock, Names, Latch, Subckt, End, Unknown, Row}
+use Rattle.lid_blif.specs.declared.keyword.Keyword.TheVariants.{Model, Names, Latch, Subckt, End, Unknown, Row}
 use Rattle.lid_blif.specs.declared.place.Place.{Place}
 use Rattle.lid_blif.specs.Words.{word_at, last_word, keyword_of, is_line, leading, inputs_of, is_zero, is_one, is_row_of, is_latch_type, is_latch_init, has_type, has_init, is_binding}
 

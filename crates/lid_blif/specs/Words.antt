@@ -1,5 +1,5 @@
 -- What the words of a logical line say.
-use Rattle.std.specs.Prelude.{◌≡◌, ℕ, ◌-◌, ◌==◌, nat_lt, nat_le, Bool, true, false, not, ◌&&◌, ◌||◌, if◌then◌else◌, List, [], ◌∷◌, length, slice_index_or, bytes_eq, codes}
+use Rattle.std.specs.Prelude.{ℕ, ◌-◌, ◌==◌, nat_le, Bool, true, false, not, ◌&&◌, ◌||◌, if◌then◌else◌, List, [], ◌∷◌, length, slice_index_or, bytes_eq, codes}
 use Rattle.std.specs.List.{list_any, list_all, before_first, after_first}
 use Rattle.lid_base.specs.declared.line.Line.{Line}
 use Rattle.lid_blif.specs.declared.keyword.Keyword.{Keyword}

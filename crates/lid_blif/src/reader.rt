@@ -4,6 +4,7 @@ ghost use Rattle.std.specs.Prelude.{◌≡◌, ◌⊎◌, IfOk, IfErr, OnErr, So
 ghost use Rattle.lid_base.specs.Lines.{logical_lines};
 ghost use Rattle.lid_blif.specs.Faults.{blif_fault, lines_fault};
 ghost use Rattle.lid_blif.specs.Designs.{design_of};
+ghost use Rattle.lid_blif.specs.WellFormed.{IsWellFormed};
 
 use crate::fault::BlifFault;
 use crate::models::design_of;
@@ -13,6 +14,7 @@ use lid_design::Design;
 use std::alloc::Global;
 
 const MOST_BYTES: usize = 16_777_216;
+
 const LONGEST_WORD: u32 = 1024;
 
 fn of_text(fault: TextFault) -> BlifFault
@@ -50,6 +52,7 @@ fn design_from(alloc: Global, lines: &[Line]) -> Result<Design, BlifFault>
 #[tactic(auto, unfolding(crate::specs::Faults::blif_fault))]
 pub fn read(alloc: Global, bytes: &[u8]) -> Result<Design, BlifFault>
     ensures ok { IfOk result (λ d. (blif_fault bytes.now ≡ None) × (d ≡ design_of (logical_lines bytes.now))) }
+    ensures formed { IfOk result IsWellFormed }
     ensures err { IfErr result (λ e. (e ≡ BlifFault.Memory) ⊎ (blif_fault bytes.now ≡ Some e)) }
 {
     if bytes.len() > MOST_BYTES {

@@ -16,7 +16,9 @@ use std::alloc::{AllocError, Global};
 use std::collections::HashSet;
 
 const MOST_MODELS: usize = 4096;
+
 const MOST_INPUTS: usize = 64;
+
 const MOST_ROWS: usize = 1_048_576;
 
 fn is_known(names: &HashSet<&[u8]>, name: &[u8]) -> bool

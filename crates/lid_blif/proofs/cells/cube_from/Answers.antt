@@ -1,7 +1,7 @@
-use Rattle.std.proofs.Common.{◌≡◌, ◌≤◌, ◌<◌, length, drop, arith, length-drop}
+use Rattle.std.proofs.Common.{◌≤◌, length, drop, arith, length-drop}
 use Rattle.std.specs.Prelude.{map}
 use Rattle.std.proofs.lemmas.List.{length-map}
-use Rattle.lid_blif.specs.Designs.{number_of, is_cared_for, is_character_one}
+use Rattle.lid_blif.specs.Designs.{is_cared_for, is_character_one}
 use Rattle.lid_blif.proofs.Numbers.{number_of-room, from_bool-le}
 use Rattle.lid_blif.proofs.cells.cube_from.Goals as goal
 

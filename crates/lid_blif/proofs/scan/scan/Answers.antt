@@ -1,12 +1,10 @@
-use Rattle.std.proofs.Common.{◌≡◌, sym, ◌∙◌, ap, subst, refl, take, drop, arith, length, get_or, ◌+◌, ◌<◌, ◌≤◌, [], ◌∷◌, List}
+use Rattle.std.proofs.Common.{◌≡◌, sym, ◌∙◌, ap, refl, take, drop, arith, length, ◌+◌, ◌<◌, List}
 use Rattle.std.specs.Prelude.{ℕ, reverse, bytes_eq, None}
 use Rattle.std.specs.List.{list_any}
 use Rattle.std.specs.Borrow.{Bor}
-use Rattle.std.proofs.lemmas.List.{at_drop_more}
-use Rattle.lid_base.specs.declared.line.Line.{Line}
 use Rattle.lid_blif.specs.declared.place.Place.{Place}
 use Rattle.lid_blif.specs.Faults.{place_of, model_names, line_fault, first_fault}
-use Rattle.lid_blif.proofs.Places.{before_more, none_from, first_left, first_fault-pass, first_fault-here, rows-none, rows-cons, models-none, models-cons}
+use Rattle.lid_blif.proofs.Places.{before_more, none_from, first_left, first_fault-pass, rows-none, rows-cons, models-none, models-cons}
 use Rattle.lid_blif.proofs.scan.scan.Goals as goal
 
 pub loop-line-init : goal.loop-line-init
