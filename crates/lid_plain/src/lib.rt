@@ -11,4 +11,7 @@ mod simulation;
 
 pub use fault::PlainFault;
 pub use numbering::{Netlist, plan};
-pub use simulation::strict;
+pub use simulation::{are_wide, count_inputs, strict};
+
+#[cfg(test)]
+mod tests;
