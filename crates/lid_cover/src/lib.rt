@@ -1,6 +1,11 @@
 //! Covers: the logic of one cell, as the rows of a truth table.
 #![tactic(auto)]
 
+ghost use Rattle.std.specs.Prelude.{◌≡◌, Bool, List, length};
+ghost use Rattle.std.specs.List.{list_any};
+ghost use Rattle.lid_cover.specs.Cover.{cover_value, IsCover};
+ghost use Rattle.lid_cover.specs.Masks.{packed, is_met};
+
 use lid_base::Items;
 
 /// One row of a cover. Bit j belongs to input j.
@@ -21,4 +26,44 @@ pub struct Cover {
     /// The value of the cover where some cube agrees with the inputs.
     pub on: bool,
     pub cubes: Items<Cube>,
+}
+
+/// The value of a cover at inputs that are packed into one number: bit j is that of input j, and
+/// bits at or above the number of inputs are 0. It takes no memory.
+pub fn eval(cover: &Cover, bits: u64) -> bool
+    requires { IsCover cover.now }
+    ensures { (inputs : List Bool) → length inputs ≡ cover.now.inputs → packed inputs ≡ bits → result ≡ cover_value cover.now inputs }
+{
+    any_met(cover.cubes.as_slice(), bits) == cover.on
+}
+
+/// Whether some row agrees with packed inputs.
+fn any_met(cubes: &[Cube], bits: u64) -> bool
+    ensures { result ≡ list_any (is_met bits) cubes.now }
+{
+    cubes
+        .iter()
+        .any(|cube| (bits ^ cube.value) & cube.care == 0)
+}
+
+#[cfg(test)]
+mod tests {
+    use super::*;
+    use std::alloc::AllocError;
+
+    #[test]
+    fn rows_of_zeros_make_zeros(rt: HostRuntime) -> Result<(), AllocError> {
+        let cube = Cube { care: 5, value: 4 };
+        let mut cubes = Vec::new(rt.alloc());
+        cubes.push(cube)?;
+        let cover = Cover {
+            inputs: 3,
+            on: false,
+            cubes: Items::from_vec(cubes),
+        };
+        for (bits, want) in [(4, false), (6, false), (5, true), (0, true)] {
+            assert_eq!(rt; eval(&cover, bits), want, "at {bits}");
+        }
+        Ok(())
+    }
 }

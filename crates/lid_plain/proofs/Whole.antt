@@ -11,7 +11,7 @@ use Rattle.lid_plain.specs.Built.{is_plain, is_lone, is_built}
 use Rattle.lid_plain.specs.Netlists.{netlist_in, netlist_of}
 use Rattle.lid_plain.specs.Steps.{first_bits, simulated}
 use Rattle.lid_plain.proofs.Rows.{simulated-right}
-use Rattle.lid_plain.proofs.Drivers.{lone, Plainness, plainness, data_inputs-plain, by_name, is_right}
+use Rattle.lid_plain.proofs.Drivers.{lone, built_model, Plainness, plainness, data_inputs-plain, by_name, is_right}
 use Rattle.lid_plain.proofs.Ranks.{plain_has_table}
 
 pub is_built-lone : (d : Design) (m : Model) → d.root ≡ 0 → d.models ≡ m ∷ [] → is_built d ≡ is_plain m
@@ -85,3 +85,10 @@ not_first d h = by_test (d.root == 0) refl
     by_test : (b : Bool) → (d.root == 0) ≡ b → (b && is_lone d.models) ≡ false
     by_test true e = absurd (h ((Decides-eqb d.root 0).0 e))
     by_test false e = refl
+
+-- the inputs of the only model are the data inputs
+pub inputs_of_first : (d : Design) → is_built d ≡ true → (m : Model) × (d.models ≡ m ∷ []) × (root_inputs d ≡ m.inputs)
+inputs_of_first d h =
+    let one = built_model d h in
+    let same : root_inputs d ≡ root_inputs (lone one.0) = ap (λ (x : Design). root_inputs x) one.1 in
+    (one.0, ap (λ (x : Design). x.models) one.1, same ∙ data_inputs-plain one.0 one.2)

@@ -13,4 +13,7 @@ mod simulation;
 pub use fault::PlainFault;
 pub use names::{inputs, outputs};
 pub use numbering::{Netlist, plan};
-pub use simulation::strict;
+pub use simulation::{are_wide, count_inputs, strict};
+
+#[cfg(test)]
+mod tests;

@@ -1,4 +1,4 @@
-ghost use Rattle.std.specs.Prelude.{◌≡◌, ◌++◌, true, length, map, IfOk, OnOk, IfErr};
+ghost use Rattle.std.specs.Prelude.{◌≡◌, ◌↔◌, ◌++◌, IsTrue, true, length, map, IfOk, OnOk, IfErr};
 ghost use Rattle.std.specs.List.{AllByRecursion, list_any};
 ghost use Rattle.lid_cover.specs.Cover.{agrees, cover_value};
 ghost use Rattle.lid_design.specs.Columns.{first_bit, root_inputs, root_outputs, IsStrictOutput};
@@ -36,6 +36,24 @@ pub fn strict(
     let netlist = number_nets(alloc, model)?;
     let outs = simulate(alloc, model.cells.as_slice(), &netlist, rows.as_slice())?;
     Ok(outs)
+}
+
+/// How many input bits a row has.
+pub fn count_inputs(design: &Design) -> usize
+    requires { is_built design.now ≡ true }
+    ensures { result ≡ length (root_inputs design.now) }
+{
+    match design.models.as_slice().first() {
+        Some(model) => model.inputs.len(),
+        None => 0,
+    }
+}
+
+/// Whether each row has so many bits.
+pub fn are_wide(rows: &Items<Items<bool>>, width: usize) -> bool
+    ensures { IsTrue result ↔ AllByRecursion (λ row. length row ≡ width) rows.now }
+{
+    rows.as_slice().iter().all(|row| row.len() == width)
 }
 
 /// The output rows for input rows, from the cells and their nets by numbers.
