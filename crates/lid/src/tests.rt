@@ -1,7 +1,9 @@
 //! Runs of the top call over files and sinks in memory.
 
+ghost use Rattle.std.specs.Prelude.{None};
+
 use crate::top::lid_run;
-use lid_base::{File, Items, MemShelf, MemSink, OpenGate, Text};
+use lid_base::{File, Items, MemShelf, MemSink, OpenGate, Shelf, ShelfFailed, Text};
 use std::alloc::{AllocError, Global};
 use std::process::Abort;
 use std::test::Fail;
@@ -299,5 +301,51 @@ fn a_long_output_is_written_in_pieces(rt: HostRuntime) -> Result<(), Fail> {
     assert_eq!(rt; ran.status, 4);
     assert_eq!(rt; ran.out.written().len(), 131_072);
     assert_eq!(rt; ran.err.written(), b"lid: write\n".as_slice());
+    Ok(())
+}
+
+/// Two files that come byte by byte, from a shelf that tells nothing.
+#[derive(Drop)]
+struct Drip<'a> {
+    net: &'a [u8],
+    vec: &'a [u8],
+}
+
+impl Shelf for Drip<'_> {
+    ghost held = { λ _ _. None };
+
+    ghost faults = { λ _ _. 0 };
+
+    fn fetch(&mut self, name: &str, at: u64, into: &mut [u8]) -> Result<usize, ShelfFailed> {
+        let file = if name == "one.blif" {
+            self.net
+        } else {
+            self.vec
+        };
+        let Some(byte) = file.get(at as usize) else {
+            return Ok(0);
+        };
+        if into.is_empty() {
+            return Ok(0);
+        }
+        into[0] = *byte;
+        Ok(1)
+    }
+}
+
+#[test]
+fn a_file_ends_only_at_a_fetch_of_no_bytes(rt: HostRuntime) -> Result<(), Fail> {
+    let alloc = rt.alloc();
+    let words = words_of(alloc, &["strict", "one.blif", "one.vec"])?;
+    let mut shelf = Drip {
+        net: REGISTER.as_bytes(),
+        vec: b"d\n1\n0\n1\n",
+    };
+    let mut out = MemSink::new(alloc, 1_024, Vec::new(alloc))?;
+    let mut err = MemSink::new(alloc, 1_024, Vec::new(alloc))?;
+    let status = lid_run(&rt, &words, &mut shelf, &mut out, &mut err, &OpenGate);
+    assert_eq!(rt; status, 0);
+    assert_eq!(rt; out.written(), b"q\n0\n1\n0\n".as_slice());
+    assert_eq!(rt; err.written(), b"".as_slice());
     Ok(())
 }
