@@ -16,7 +16,7 @@ use Rattle.lid_design.specs.Walks.{Among}
 use Rattle.lid_design.proofs.Tables.{all-among, among-left, among-right}
 use Rattle.lid_plain.specs.Built.{latch_names, early_names, net_names, are_distinct, are_among, are_fed, is_sized, is_free, is_flat, are_outputs_held, is_plain, is_lone, is_built}
 use Rattle.lid_plain.specs.Steps.{first_bits}
-use Rattle.lid_plain.proofs.Tests.{both, bytes_eq-refl}
+use Rattle.lid_plain.proofs.TestsOfNames.{both, bytes_eq-refl}
 use Rattle.lid_plain.proofs.Rows.{FitsCover, latch_inputs, IsRight}
 
 -- the design of one model

@@ -1,4 +1,4 @@
-pub mod Tests
+pub mod TestsOfNames
 pub mod Numbers
 pub mod Rows
 pub mod Drivers

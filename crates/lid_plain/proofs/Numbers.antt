@@ -5,7 +5,7 @@ use Rattle.lid_design.specs.Columns.{is_among}
 use Rattle.lid_plain.specs.Built.{are_among}
 use Rattle.lid_plain.specs.Netlists.{number}
 use Rattle.lid_plain.specs.Steps.{bit_at, bits_at}
-use Rattle.lid_plain.proofs.Tests.{both, same_bytes}
+use Rattle.lid_plain.proofs.TestsOfNames.{both, same_bytes}
 
 -- the bit at the number of a name that stands among the first
 pub bit_at-number : (f : List ℕ → Bool) (names rest : List (List ℕ)) (n : List ℕ) → is_among n names ≡ true → bit_at (map f names) (number (names ++ rest) n) ≡ f n

@@ -13,7 +13,7 @@ use Rattle.lid_design.specs.Walks.{Among, read_now, HasTable}
 use Rattle.lid_design.proofs.Tables.{walks_end, has_table}
 use Rattle.lid_plain.specs.Built.{latch_names, cover_names, early_names, net_names, are_distinct, are_among, are_fed, is_sized, is_free}
 use Rattle.lid_plain.specs.Netlists.{number}
-use Rattle.lid_plain.proofs.Tests.{both, same_bytes, bytes_eq-refl, is_among-append_right}
+use Rattle.lid_plain.proofs.TestsOfNames.{both, same_bytes, bytes_eq-refl, is_among-append_right}
 use Rattle.lid_plain.proofs.Drivers.{lone, Plainness, net_drivers, drivers-root, drivers-deeper}
 
 -- how often a name stands in a list

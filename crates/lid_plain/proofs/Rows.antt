@@ -11,7 +11,7 @@ use Rattle.lid_design.specs.Walks.{Among}
 use Rattle.lid_plain.specs.Built.{latch_names, cover_names, early_names, net_names, are_among, are_fed, is_sized, is_free}
 use Rattle.lid_plain.specs.Netlists.{number, reads_of, netlist_in}
 use Rattle.lid_plain.specs.Steps.{bit_at, bits_at, first_bits, settled_bits, taken_bits, row_bits, simulated}
-use Rattle.lid_plain.proofs.Tests.{both, are_among-mono, is_among-append_left, is_among-append_right}
+use Rattle.lid_plain.proofs.TestsOfNames.{both, are_among-mono, is_among-append_left, is_among-append_right}
 use Rattle.lid_plain.proofs.Numbers.{bit_at-number, bits_at-numbers}
 
 -- the first of what is left of a list

@@ -10,7 +10,7 @@ use Rattle.lid_design.specs.Columns.{is_among}
 use Rattle.lid_plain.specs.declared.fault.PlainFault.{PlainFault}
 use Rattle.lid_plain.specs.Built.{latch_names, cover_names, early_names, net_names, are_distinct, are_among, are_fed, is_sized, is_free, is_flat, are_outputs_held, is_plain}
 use Rattle.lid_plain.specs.Netlists.{number, are_between, are_fed_below, Refuses}
-use Rattle.lid_plain.proofs.Tests.{both, both_hold, same_bytes, bytes_eq-refl}
+use Rattle.lid_plain.proofs.TestsOfNames.{both, both_hold, same_bytes, bytes_eq-refl}
 use Rattle.lid_plain.proofs.Ranks.{not_true, distinct_new, either_false, length-append}
 
 bytes_eq-sym : (x y : List ℕ) → bytes_eq x y ≡ bytes_eq y x

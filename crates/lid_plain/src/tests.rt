@@ -3,6 +3,7 @@ use lid_base::{Items, Name};
 use lid_cover::{Cover, Cube};
 use lid_design::{Cell, Design, Init, LatchKind, Model};
 use std::alloc::{AllocError, Global};
+use std::process::Abort;
 use std::test::Fail;
 
 fn name(alloc: Global, text: &str) -> Result<Name, AllocError> {
@@ -56,32 +57,10 @@ fn rows(alloc: Global, lines: &[&[bool]]) -> Result<Items<Items<bool>>, AllocErr
     Ok(Items::from_vec(list))
 }
 
-#[test]
-fn a_register_chain_delays(rt: HostRuntime) -> Result<(), Fail> {
-    let alloc = rt.alloc();
-    let mut cells = Vec::new(alloc);
-    cells.push(latch(alloc, "d", "p", Init::One)?)?;
-    cells.push(latch(alloc, "p", "q", Init::Unknown)?)?;
-    let chain = design(alloc, &["d"], &["p", "q"], cells)?;
-    let _ = plan(alloc, &chain)?;
-    let given = rows(alloc, &[&[true], &[false], &[true]])?;
-    assert!(rt; are_wide(&given, count_inputs(&chain)));
-    let outs = strict(alloc, &chain, &given)?;
-    let want = [[true, false], [true, true], [false, true]];
-    assert_eq!(rt; outs.len(), want.len());
-    for (row, bits) in outs.as_slice().iter().zip(&want) {
-        assert_eq!(rt; row.as_slice(), bits.as_slice());
-    }
-    Ok(())
-}
-
-#[test]
-fn a_cover_of_zeros_inverts(rt: HostRuntime) -> Result<(), Fail> {
-    let alloc = rt.alloc();
+fn nand(alloc: Global) -> Result<Cell, AllocError> {
     let mut cubes = Vec::new(alloc);
     cubes.push(Cube { care: 3, value: 3 })?;
-    let mut cells = Vec::new(alloc);
-    cells.push(Cell::Names {
+    Ok(Cell::Names {
         inputs: names(alloc, &["a", "b"])?,
         out: name(alloc, "n")?,
         cover: Cover {
@@ -89,21 +68,50 @@ fn a_cover_of_zeros_inverts(rt: HostRuntime) -> Result<(), Fail> {
             on: false,
             cubes: Items::from_vec(cubes),
         },
-    })?;
-    cells.push(latch(alloc, "n", "q", Init::Zero)?)?;
-    let nand = design(alloc, &["a", "b"], &["q"], cells)?;
-    let _ = plan(alloc, &nand)?;
-    let given = rows(alloc, &[&[true, true], &[false, true], &[false, false]])?;
-    assert!(rt; are_wide(&given, count_inputs(&nand)));
-    let outs = strict(alloc, &nand, &given)?;
-    let want = [[false], [false], [true]];
+    })
+}
+
+fn expect_outputs(
+    rt: &impl Abort,
+    alloc: Global,
+    design: &Design,
+    given: &[&[bool]],
+    want: &[&[bool]],
+) -> Result<(), Fail> {
+    let _ = plan(alloc, design)?;
+    let given = rows(alloc, given)?;
+    assert!(rt; are_wide(&given, count_inputs(design)));
+    let outs = strict(alloc, design, &given)?;
     assert_eq!(rt; outs.len(), want.len());
-    for (row, bits) in outs.as_slice().iter().zip(&want) {
-        assert_eq!(rt; row.as_slice(), bits.as_slice());
+    for (row, bits) in outs.as_slice().iter().zip(want) {
+        assert_eq!(rt; row.as_slice(), *bits);
     }
-    let none = strict(alloc, &nand, &rows(alloc, &[])?)?;
-    assert!(rt; none.is_empty());
     Ok(())
+}
+
+#[test]
+fn a_register_chain_delays(rt: HostRuntime) -> Result<(), Fail> {
+    let alloc = rt.alloc();
+    let mut cells = Vec::new(alloc);
+    cells.push(latch(alloc, "d", "p", Init::One)?)?;
+    cells.push(latch(alloc, "p", "q", Init::Unknown)?)?;
+    let chain = design(alloc, &["d"], &["p", "q"], cells)?;
+    let given: [&[bool]; 3] = [&[true], &[false], &[true]];
+    let want: [&[bool]; 3] = [&[true, false], &[true, true], &[false, true]];
+    expect_outputs(&rt, alloc, &chain, &given, &want)
+}
+
+#[test]
+fn a_cover_of_zeros_inverts(rt: HostRuntime) -> Result<(), Fail> {
+    let alloc = rt.alloc();
+    let mut cells = Vec::new(alloc);
+    cells.push(nand(alloc)?)?;
+    cells.push(latch(alloc, "n", "q", Init::Zero)?)?;
+    let inverter = design(alloc, &["a", "b"], &["q"], cells)?;
+    let given: [&[bool]; 3] = [&[true, true], &[false, true], &[false, false]];
+    let want: [&[bool]; 3] = [&[false], &[false], &[true]];
+    expect_outputs(&rt, alloc, &inverter, &given, &want)?;
+    expect_outputs(&rt, alloc, &inverter, &[], &[])
 }
 
 #[test]
