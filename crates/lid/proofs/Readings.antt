@@ -1,5 +1,5 @@
 -- What the answers of the readers say of the readings.
-use Rattle.std.proofs.Common.{◌≡◌, ℕ, Bool, true, false, List, length, Option, Some, None, Result, Ok, Err, ◌⊎◌, inl, inr, refl, sym, ◌∙◌, ap, subst, cond}
+use Rattle.std.proofs.Common.{◌≡◌, ℕ, true, List, length, Some, None, Ok, Err, ◌⊎◌, inl, inr, sym, ◌∙◌, ap, subst, cond}
 use Rattle.std.specs.List.{AllByRecursion}
 use Rattle.std.proofs.lemmas.List.Elements.{recursion_from_All}
 use Rattle.lid_base.specs.Lines.{logical_lines}
@@ -10,7 +10,6 @@ use Rattle.lid_blif.specs.declared.fault.BlifFault.TheVariants as blif
 use Rattle.lid_blif.specs.Designs.{design_of}
 use Rattle.lid_blif.specs.Faults.{blif_fault}
 use Rattle.lid_plain.specs.declared.fault.PlainFault.{PlainFault}
-use Rattle.lid_plain.specs.declared.fault.PlainFault.TheVariants as plain
 use Rattle.lid_plain.specs.Built.{is_built}
 use Rattle.lid_plain.specs.Netlists.{Refuses as PlainRefuses}
 use Rattle.lid_texts.specs.declared.rows.Rows.{Rows}

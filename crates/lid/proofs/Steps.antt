@@ -3,8 +3,8 @@ use Rattle.std.proofs.Common.{◌≡◌, ℕ, ◌≤◌, List, Option, Result, O
 use Rattle.lid_base.specs.Outside.{Rose}
 use Rattle.lid.specs.declared.fault.Stop.{Stop}
 use Rattle.lid.specs.declared.fault.Stop.TheVariants.{Refused, Read, Memory}
-use Rattle.lid.specs.Scripts.{Ending, refuses, gives, Script, Reading, good, bad, step, read_step, IsFetched, EndsIn, Reaches}
-use Rattle.lid.specs.Causes.{refusal_line, Declines, MissesFile, IsWant, Got, Refuses, Misses, IsCause}
+use Rattle.lid.specs.Scripts.{Ending, refuses, gives, Script, Reading, good, step, read_step, IsFetched, EndsIn, Reaches}
+use Rattle.lid.specs.Causes.{refusal_line, Declines, MissesFile, IsWant, Got, Misses, IsCause}
 use Rattle.lid.specs.Statuses.{HasText}
 
 -- a count that rose after it had grown

@@ -13,7 +13,7 @@ use Rattle.lid_plain.specs.declared.fault.PlainFault.{PlainFault}
 use Rattle.lid_plain.specs.declared.fault.PlainFault.TheVariants.{NotBuilt}
 use Rattle.lid_plain.specs.declared.fault.PlainFault.TheVariants as plain
 use Rattle.lid.specs.Faults.{blif_line, rows_line, check_line, read_line, memory_line}
-use Rattle.lid.specs.Scripts.{Ending, refuses, Script, Reading, good, bad, IsFetched, EndsIn, Reaches}
+use Rattle.lid.specs.Scripts.{refuses, Script, Reading, good, bad, IsFetched, EndsIn, Reaches}
 
 abbrev pub refusal_line : Refusal → List ℕ
 refusal_line (Blif fault) = blif_line fault

@@ -1,5 +1,5 @@
 -- The steps of a job, and how they end.
-use Rattle.std.specs.Prelude.{◌≡◌, ℕ, ◌+◌, ◌≤◌, Bool, true, false, if◌then◌else◌, List, length, take, Option, Some, None, IfSome, Result, Ok, Err, ◌⊎◌}
+use Rattle.std.specs.Prelude.{◌≡◌, ℕ, ◌+◌, ◌≤◌, Bool, if◌then◌else◌, List, length, take, Option, Some, None, IfSome, Result, Ok, Err, ◌⊎◌}
 use Rattle.lid_base.specs.Lines.{logical_lines}
 use Rattle.lid_design.specs.declared.Design.{Design}
 use Rattle.lid_design.specs.Columns.{root_inputs, root_outputs}

@@ -1,5 +1,5 @@
 -- What each status of a run says.
-use Rattle.std.specs.Prelude.{◌≡◌, ℕ, List, ◌++◌, Option, ◌⊎◌}
+use Rattle.std.specs.Prelude.{◌≡◌, ℕ, List, Option, ◌⊎◌}
 use Rattle.lid_base.specs.Outside.{Rose, Appended, AppendedPrefix}
 use Rattle.lid.specs.Faults.{usage_line, read_line, write_line, memory_line}
 use Rattle.lid.specs.Outputs.{Output, IsTextOf}

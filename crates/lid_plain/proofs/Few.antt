@@ -1,5 +1,5 @@
 -- A plain design has no more outputs than cells.
-use Rattle.std.proofs.Common.{◌≡◌, ℕ, ◌+◌, ◌<◌, ◌≤◌, Bool, true, false, not, ◌&&◌, ◌||◌, cond, List, [], ◌∷◌, length, refl, sym, ◌∙◌, ap, subst, arith, nat_lt, nat_le, ◌==◌, get_or, slice_get}
+use Rattle.std.proofs.Common.{◌≡◌, ℕ, ◌+◌, ◌<◌, ◌≤◌, Bool, true, false, not, ◌&&◌, ◌||◌, cond, List, [], ◌∷◌, length, refl, sym, ◌∙◌, ap, subst, arith, nat_lt, nat_le, ◌==◌, get_or}
 use Rattle.std.proofs.lemmas.Bool.{leb-true}
 use Rattle.std.proofs.lemmas.Bool.Decides.{Decides-eqb}
 use Rattle.lid_design.specs.declared.Design.{Design}
@@ -9,7 +9,7 @@ use Rattle.lid_design.specs.declared.Cell.TheVariants.{Names, Latch}
 use Rattle.std.specs.Str.{bytes_eq}
 use Rattle.lid_design.specs.Columns.{is_among, root_inputs, root_outputs}
 use Rattle.lid_plain.specs.Built.{latch_names, early_names, net_names, are_distinct, are_among, are_fed, are_outputs_held, is_flat, is_plain, is_lone, is_built}
-use Rattle.lid_plain.proofs.Tests.{both, both_hold, same_bytes, bytes_eq-refl}
+use Rattle.lid_plain.proofs.TestsOfNames.{both, both_hold, same_bytes, bytes_eq-refl}
 use Rattle.lid_plain.proofs.Drivers.{Plainness, built_model, data_inputs-plain, lone}
 
 -- the names without the first that is equal

@@ -1,8 +1,7 @@
-use Rattle.std.proofs.Common.{List, ℕ, Option, sym, subst}
+use Rattle.std.proofs.Common.{sym, subst}
 use Rattle.lid.specs.Scripts.{Script, step, check_reading, check_script, rows_script}
 use Rattle.lid.specs.Causes.{IsCause}
 use Rattle.lid.specs.Statuses.{HasText}
-use Rattle.lid.specs.declared.fault.Stop.{Stop}
 use Rattle.lid.proofs.Steps.{if_ok, if_err, cause_declined}
 use Rattle.lid.proofs.Readings.{check_good}
 use Rattle.lid.proofs.run.checked_text.Goals as goal

@@ -1,4 +1,4 @@
-use Rattle.std.proofs.Common.{List, ℕ, Option, sym, subst}
+use Rattle.std.proofs.Common.{List, ℕ, Option, subst}
 use Rattle.lid.specs.Scripts.{Script, net_limit, net_reading, check_script, strict_script}
 use Rattle.lid.specs.Causes.{IsCause}
 use Rattle.lid.specs.Statuses.{HasText}

@@ -1,5 +1,4 @@
-use Rattle.std.proofs.Common.{◌≡◌, ℕ, Bool, List, length, subst, sym, ◌∙◌, ap}
-use Rattle.std.specs.List.{AllByRecursion}
+use Rattle.std.proofs.Common.{length, subst, sym, ◌∙◌, ap}
 use Rattle.lid_design.specs.Columns.{root_inputs}
 use Rattle.lid.specs.Scripts.{vec_reading}
 use Rattle.lid.specs.Causes.{Declines}

@@ -1,4 +1,4 @@
-use Rattle.std.proofs.Common.{◌≡◌, ℕ, ◌<◌, List, length, get_or, ap, subst, sym, ◌∙◌}
+use Rattle.std.proofs.Common.{◌≡◌, ◌<◌, List, length, get_or, ap, subst, sym, ◌∙◌}
 use Rattle.lid_design.specs.declared.Model.{Model}
 use Rattle.lid_plain.proofs.Few.{built_first}
 use Rattle.lid_plain.proofs.names.inputs.Goals as goal
