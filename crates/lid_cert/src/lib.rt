@@ -1,0 +1,14 @@
+//! Certificates of the throughput of a marked graph: what they show, how they are checked, read and
+//! written.
+#![tactic(auto)]
+
+mod cert;
+mod fault;
+mod printing;
+mod reading;
+mod stage;
+
+pub use cert::{Cert, Part};
+pub use fault::CertFault;
+pub use printing::print_cert;
+pub use reading::read_cert;
