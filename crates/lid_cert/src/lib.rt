@@ -4,11 +4,15 @@
 
 mod cert;
 mod fault;
+mod laws;
 mod printing;
 mod reading;
 mod stage;
 
 pub use cert::{Cert, Part};
 pub use fault::CertFault;
+pub use laws::{
+    caps_are_reached, each_is_shown, lags_bound_firings, leads_bound_firings, ratio_is_shown,
+};
 pub use printing::print_cert;
 pub use reading::read_cert;
