@@ -34,17 +34,17 @@ no_place n = rw (le-ltb n n (omega arith)) refl
 pub place_found : (xs : List ℕ) (v i : ℕ) → ascends xs ≡ true → i < length xs → get_or xs i 0 ≡ v → position (λ n. n == v) xs ≡ Some i
 place_found xs v i up h is =
     let first : position_or_len (λ n. n == v) xs ≡ i
-          = position_or_len_is (λ n. n == v) xs i 0 (omega arith)
-          (λ k below. ne_eqb (get_or xs k 0) v (λ same. let less : get_or xs k 0 < get_or xs i 0 = rises-pair xs 0 k i up below h in absurd (omega arith)))
-          (λ within. eq-eqb (get_or xs i 0) v is) in
+    = position_or_len_is (λ n. n == v) xs i 0 (omega arith)
+    (λ k below. ne_eqb (get_or xs k 0) v (λ same. let less : get_or xs k 0 < get_or xs i 0 = rises-pair xs 0 k i up below h in absurd (omega arith)))
+    (λ within. eq-eqb (get_or xs i 0) v is) in
     subst (λ (n : ℕ). cond (nat_lt n (length xs)) (Some n) None ≡ Some i) (sym first) (place_at i (length xs) h)
 
 pub place_missing : (xs : List ℕ) (v : ℕ) → ((k : ℕ) → k < length xs → get_or xs k 0 ≡ v → ⊥) → position (λ n. n == v) xs ≡ None
 place_missing xs v none =
     let last : position_or_len (λ n. n == v) xs ≡ length xs
-          = position_or_len_is (λ n. n == v) xs (length xs) 0 (omega arith)
-          (λ k below. ne_eqb (get_or xs k 0) v (none k below))
-          (λ within. absurd (omega arith)) in
+    = position_or_len_is (λ n. n == v) xs (length xs) 0 (omega arith)
+    (λ k below. ne_eqb (get_or xs k 0) v (none k below))
+    (λ within. absurd (omega arith)) in
     subst (λ (n : ℕ). cond (nat_lt n (length xs)) (Some n) None ≡ None) (sym last) (no_place (length xs))
 
 -- halving: what is below the middle, and what is above it

@@ -54,7 +54,10 @@ fn is_part(graph: &Graph, part: &Part) -> bool
     requires { IsPartInRange part.now }
     ensures { IsTrue result ↔ IsPart graph.now part.now }
 {
-    if !are_lists(part) || !ascends(part.nodes.as_slice()) || !are_within(graph, part) {
+    if part.nodes.is_empty() || !are_lists(part) {
+        return false;
+    }
+    if !ascends(part.nodes.as_slice()) || !are_within(graph, part) {
         return false;
     }
     if part.q == 0 || !is_lowest(part.p, part.q) {

@@ -67,7 +67,11 @@ pub(crate) fn has_node(part: &Part, v: u32) -> bool
 fn at(numbers: &[u64], place: usize) -> u64
     ensures { result ≡ slice_index numbers.now place }
 {
-    if place < numbers.len() { numbers[place] } else { 0 }
+    if place < numbers.len() {
+        numbers[place]
+    } else {
+        0
+    }
 }
 
 /// The lag of a transition, where it stands in the part.

@@ -31,13 +31,12 @@ pub(crate) fn is_lowest(p: u64, q: u64) -> bool
     x == 1
 }
 
-/// Whether each list of a part has one entry for each transition, of which there is one at least.
+/// Whether each list of a part has one entry for each transition.
 pub(crate) fn are_lists(part: &Part) -> bool
     ensures { IsTrue result ↔ AreLists part.now }
 {
     let count = part.nodes.len();
-    1 <= count
-        && part.lag.len() == count
+    part.lag.len() == count
         && part.lead.len() == count
         && part.via.len() == count
         && part.depth.len() == count
@@ -131,8 +130,7 @@ pub(crate) fn is_start_met(part: &Part, start: u32) -> bool
     has_node(part, start)
         && depth_of(part, start) == 0
         && via_of(part, start).is_none()
-        && product(part.q, further)
-            <= u128::from(lead_of(part, start)) + product(part.p, further)
+        && product(part.q, further) <= u128::from(lead_of(part, start)) + product(part.p, further)
 }
 
 /// Whether an edge may be the via edge of a transition.

@@ -6,6 +6,7 @@ use Rattle.lid_cert.proofs.checking.is_part.Goals as goal
 pub returns : goal.returns
 returns c = (
   λ met. record {
+    some = grind arith;
     lists = c.are_lists.ensures.0 c.if-not-are_lists.false;
     ascending = sym (ap ascends c.as_slice.ensures) ∙ (sym c.ascends.ensures ∙ c.if-not-ascends.false);
     within = c.are_within.ensures.0 c.if-not-are_within.false;
@@ -17,5 +18,5 @@ returns c = (
     start = c.is_walk_start_met.ensures.0 c.if-not-is_walk_start_met.false;
     nodes = c.are_nodes_met.ensures.0 met;
   },
-  λ part. c.are_nodes_met.ensures.1 part.nodes
+  λ part. c.are_nodes_met.ensures.1 part.nodes,
 )

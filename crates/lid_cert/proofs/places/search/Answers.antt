@@ -21,8 +21,8 @@ loop-low-preserved c = record {
   within = omega arith;
   below = c.loop-low.invariant.below;
   above =
-    let more : c.args.wanted < get_or c.args.numbers.now (c.loop-low.low + (c.loop-low.high - c.loop-low.low) / 2) 0 = omega arith in
-    above_middle c.args.numbers.now c.args.wanted (c.loop-low.low + (c.loop-low.high - c.loop-low.low) / 2) c.requires more;
+      let more : c.args.wanted < get_or c.args.numbers.now (c.loop-low.low + (c.loop-low.high - c.loop-low.low) / 2) 0 = omega arith in
+      above_middle c.args.numbers.now c.args.wanted (c.loop-low.low + (c.loop-low.high - c.loop-low.low) / 2) c.requires more;
 }
 
 pub returns : goal.returns

@@ -5,7 +5,7 @@ abbrev pub invariant-loop-low : goal.invariant-loop-low
 invariant-loop-low l = record {
   within : l.high ≤ length l.numbers;
   below : (k : ℕ) → k < l.low → get_or l.numbers k 0 < l.wanted;
-  above : (k : ℕ) → l.high ≤ k → k < length l.numbers → l.wanted < get_or l.numbers k 0
+  above : (k : ℕ) → l.high ≤ k → k < length l.numbers → l.wanted < get_or l.numbers k 0;
 }
 
 abbrev pub decreases-loop-low : goal.decreases-loop-low
