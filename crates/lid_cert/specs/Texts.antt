@@ -123,11 +123,13 @@ unfoldable pub cert_fault : List ℕ → Option CertFault
 cert_fault bytes =
     if nat_lt 67108864 (length bytes) then Some (Limit FileBytes (length bytes)) else fault_in bytes (text_fault 1024 bytes)
 
+-- what stands past the last line
+abbrev pub no_line : Line
+no_line = record { number = 0; words = [] }
+
 -- the words of a line, or none past the end
 abbrev pub words_at : List Line → ℕ → List (List ℕ)
-words_at [] i = []
-words_at (l ∷ ls) zero = l.words
-words_at (l ∷ ls) (suc i) = words_at ls i
+words_at ls i = (slice_index_or ls i no_line).words
 
 -- the `node` lines that these lines begin with
 abbrev pub node_lines : List Line → List Line

@@ -2,6 +2,7 @@
 //! written.
 #![tactic(auto)]
 
+mod building;
 mod cert;
 mod checking;
 mod fault;
@@ -11,6 +12,7 @@ mod printing;
 mod reading;
 mod rules;
 mod stage;
+mod words;
 
 pub use cert::{Cert, Part};
 pub use checking::check;
