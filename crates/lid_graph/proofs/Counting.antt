@@ -3,8 +3,8 @@ use Rattle.std.proofs.Common.{◌≡◌, ℕ, zero, suc, ◌+◌, ◌<◌, ◌�
 use Rattle.std.proofs.lemmas.Bool.{eqb-true, eq-eqb}
 use Rattle.lid_graph.specs.declared.graph.Edge.{Edge}
 use Rattle.lid_graph.specs.declared.graph.Graph.{Graph}
-use Rattle.lid_graph.specs.Walks.{no_edge, edge_at, HasSelfEdge, IsPaired, IsWalk, walk_tokens}
-use Rattle.lid_graph.specs.Firings.{Counts, Hold, no_hold, least_into, firings, AreFitCaps}
+use Rattle.lid_graph.specs.Walks.{no_edge, edge_at, IsPaired, IsWalk, walk_tokens}
+use Rattle.lid_graph.specs.Firings.{Counts, Hold, no_hold, least_into, firings}
 
 pub least_into-most : (es : List Edge) (c : Counts) (v most : ℕ) → least_into es c v most ≤ most
 unfolding least_into

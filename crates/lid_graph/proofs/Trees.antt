@@ -1,10 +1,10 @@
 -- Forests whose labels are kept, merged, and in the end those of the components.
-use Rattle.std.proofs.Common.{◌≡◌, ℕ, zero, suc, ◌+◌, ◌<◌, ◌≤◌, ◌≢◌, ◌==◌, ◌⊎◌, inl, inr, min, max, Bool, true, false, cond, List, [], ◌∷◌, length, get_or, refl, sym, ◌∙◌, ap, subst, get_or-set_same, get_or-set_other, arith}
+use Rattle.std.proofs.Common.{◌≡◌, ℕ, zero, suc, ◌+◌, ◌<◌, ◌≤◌, ◌≢◌, ◌⊎◌, inl, inr, min, max, List, [], ◌∷◌, length, get_or, refl, sym, ◌∙◌, ap, subst, get_or-set_same, get_or-set_other, arith}
 use Rattle.std.proofs.Math.ListN.{set, length-set}
 use Rattle.std.proofs.lemmas.Bool.{cases_eq, cases_lt, eq-eqb, ne_eqb}
 use Rattle.lid_graph.specs.declared.graph.Graph.{Graph}
 use Rattle.lid_graph.specs.Walks.{edge_at, IsPaired, IsWalk, IsJoined, IsLeastJoined}
-use Rattle.lid_graph.specs.Forests.{IsForest, IsLabelled, relabel, merged, IsLinked, IsComplete}
+use Rattle.lid_graph.specs.Forests.{IsForest, IsLabelled, relabel, merged, IsLinked}
 use Rattle.lid_graph.proofs.Journeys.{joined-step, joined-back}
 
 -- an entry of a list after a write: the new one at its place, the old ones elsewhere
@@ -28,10 +28,10 @@ label_halved p label v forest labelled h = record {
       (λ other. labelled.parent w (omega (arith, length-set {A = ℕ})));
   root = λ w within. at_write p v (get_or p (get_or p v 0) 0) w (λ (y : ℕ). y ≡ w → label w ≡ w) h
       (λ is e.
-        let low : get_or p v 0 ≤ v = forest v h in
-        let lower : get_or p (get_or p v 0) 0 ≤ get_or p v 0 = forest (get_or p v 0) (omega arith) in
-        let same : get_or p v 0 ≡ v = omega arith in
-        subst (λ (n : ℕ). label n ≡ n) (sym is) (labelled.root v h same))
+      let low : get_or p v 0 ≤ v = forest v h in
+      let lower : get_or p (get_or p v 0) 0 ≤ get_or p v 0 = forest (get_or p v 0) (omega arith) in
+      let same : get_or p v 0 ≡ v = omega arith in
+      subst (λ (n : ℕ). label n ≡ n) (sym is) (labelled.root v h same))
       (λ other e. labelled.root w (omega (arith, length-set {A = ℕ})) e);
 }
 
@@ -76,8 +76,8 @@ label_put p label high low labelled h own_high own_low = record {
   root = λ w within. at_write p high low w (λ (y : ℕ). y ≡ w → relabel high low (label w) ≡ w) h
       (λ is e. relabel-same high low (label w) (ap label is ∙ own_high) ∙ e)
       (λ other e.
-        let own : label w ≡ w = labelled.root w (omega (arith, length-set {A = ℕ})) e in
-        relabel-other high low (label w) (λ same. other (sym own ∙ same)) ∙ own);
+      let own : label w ≡ w = labelled.root w (omega (arith, length-set {A = ℕ})) e in
+      relabel-other high low (label w) (λ same. other (sym own ∙ same)) ∙ own);
 }
 
 -- the trees of u and v made one, by a write at the greater root
@@ -128,8 +128,8 @@ module _ (g : Graph) (paired : IsPaired g) (label : ℕ → ℕ) (i : ℕ) (with
   -- the roots of the two ends are joined
   across : ((w : ℕ) → w < g.nodes → IsJoined g w (label w)) → IsJoined g (label u) (label v)
   across joined =
-      joined-step g (label u) u (label v) (back_from u (label u) (joined u (paired.from_within i within)))
-      (joined-step g u v (label v) there (joined v (paired.to_within i within)))
+      joined-step g (label u) u (label v) (back_from u (label u) (joined u ((paired.ends i within).from)))
+      (joined-step g u v (label v) there (joined v ((paired.ends i within).to)))
 
   to_low : ((w : ℕ) → w < g.nodes → IsJoined g w (label w)) → (label u ≤ label v) ⊎ (label v ≤ label u) → IsJoined g (max (label u) (label v)) (min (label u) (label v))
   to_low joined (inl le) =
@@ -171,6 +171,7 @@ module _ (g : Graph) (paired : IsPaired g) (label : ℕ → ℕ) (i : ℕ) (with
           (joined-step g w (max (label u) (label v)) (min (label u) (label v)) (subst (λ (x : ℕ). IsJoined g w x) is (linked.joined w h)) (to_low linked.joined either))
       joined_label w h (inr other) =
           subst (λ (x : ℕ). IsJoined g w x) (sym (relabel-other (max (label u) (label v)) (min (label u) (label v)) (label w) other)) (linked.joined w h)
+
       same_label : (k : ℕ) → (k < i) ⊎ (i ≤ k) → k < i + 1 → merged label u v (edge_at g k).from ≡ merged label u v (edge_at g k).to
       same_label k (inl l) h = ap (relabel (max (label u) (label v)) (min (label u) (label v))) (linked.same k l)
       same_label k (inr l) h =
@@ -182,16 +183,16 @@ module _ (g : Graph) (paired : IsPaired g) (p : List ℕ) (label : ℕ → ℕ) 
   along : (ks : List ℕ) (v w : ℕ) → v < g.nodes → IsWalk g v ks w → (label v ≡ label w) × (w < g.nodes)
   along [] v w h walk = (ap label walk, subst (λ (n : ℕ). n < g.nodes) walk h)
   along (k ∷ ks) v w h walk =
-      let rest = along ks (edge_at g k).to w (paired.to_within k walk.0) walk.2 in
+      let rest = along ks (edge_at g k).to w ((paired.ends k walk.0).to) walk.2 in
       (ap label (sym walk.1) ∙ (linked.same k walk.0 ∙ rest.0), rest.1)
 
   pub least_label : (v : ℕ) → v < g.nodes → IsLeastJoined g v (label v)
   least_label v h = record {
     joined = linked.joined v h;
     least = λ w joined.
-      let there = along joined.0 v w h joined.1 in
-      let low : label w ≤ w = label_le p label forest linked.labelled w (omega (arith, there.1)) in
-      omega (arith, there.0);
+        let there = along joined.0 v w h joined.1 in
+        let low : label w ≤ w = label_le p label forest linked.labelled w (omega (arith, there.1)) in
+        omega (arith, there.0);
   }
 
 -- a transition whose parent has its root as parent, or is its root

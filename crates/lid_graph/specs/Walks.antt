@@ -1,6 +1,5 @@
 -- Marked graphs: edges by number, walks, and which transitions a walk joins.
 use Rattle.std.specs.Prelude.{◌≡◌, ℕ, ◌+◌, ◌<◌, ◌≤◌, List, [], ◌∷◌, length, slice_index_or}
-use Rattle.std.specs.List.{All, Any}
 use Rattle.lid_graph.specs.declared.graph.Edge.{Edge}
 use Rattle.lid_graph.specs.declared.graph.Graph.{Graph}
 
@@ -21,13 +20,17 @@ abbrev pub HasSelfEdge : Graph → ℕ → Type 0
 HasSelfEdge g v =
     (k : ℕ) × (k < length g.edges) × ((edge_at g k).from ≡ v) × ((edge_at g k).to ≡ v) × ((edge_at g k).tokens ≡ 1)
 
--- all ends lie below the number of transitions, each transition has a self edge with one token, and
--- each edge has one back
+-- both ends of an edge lie below the number of transitions, and there is an edge back
+pub record AreEndsPaired (g : Graph) (k : ℕ) : Type 0 where
+  pub from : (edge_at g k).from < g.nodes
+  pub to : (edge_at g k).to < g.nodes
+  pub back : HasEdge g (edge_at g k).to (edge_at g k).from
+
+-- all ends of edges lie below the number of transitions, each transition has a self edge with one
+-- token, and each edge has one back
 pub record IsPaired (g : Graph) : Type 0 where
-  pub from_within : (k : ℕ) → k < length g.edges → (edge_at g k).from < g.nodes
-  pub to_within : (k : ℕ) → k < length g.edges → (edge_at g k).to < g.nodes
+  pub ends : (k : ℕ) → k < length g.edges → AreEndsPaired g k
   pub self : (v : ℕ) → v < g.nodes → HasSelfEdge g v
-  pub back : (k : ℕ) → k < length g.edges → HasEdge g (edge_at g k).to (edge_at g k).from
 
 -- the edges with these numbers lead from u to v, each beginning where the one before ends
 abbrev pub IsWalk : Graph → ℕ → List ℕ → ℕ → Type 0

@@ -3,6 +3,10 @@
 
 mod graph;
 mod joining;
+mod pairing;
+#[cfg(test)]
+mod tests;
 
 pub use graph::{Edge, Graph};
 pub use joining::components;
+pub use pairing::is_paired;

@@ -12,9 +12,8 @@ loop-parents-preserved c =
       forest = forest_write c.loop-parents.parents c.loop-parents.at (get_or c.loop-parents.parents (get_or c.loop-parents.parents c.loop-parents.at 0) 0) forest here (omega arith);
       within = omega arith;
       label = λ label labelled.
-        let before = c.loop-parents.invariant.label label labelled in
-        (
-          label_halved c.loop-parents.parents label c.loop-parents.at forest before.0 here,
-          before.0.parent (get_or c.loop-parents.parents c.loop-parents.at 0) (omega arith) ∙ (before.0.parent c.loop-parents.at here ∙ before.1)
-        );
+          let before = c.loop-parents.invariant.label label labelled in (
+            label_halved c.loop-parents.parents label c.loop-parents.at forest before.0 here,
+            before.0.parent (get_or c.loop-parents.parents c.loop-parents.at 0) (omega arith) ∙ (before.0.parent c.loop-parents.at here ∙ before.1),
+          );
     }

@@ -6,7 +6,7 @@ abbrev pub invariant-loop-parents : goal.invariant-loop-parents
 invariant-loop-parents l = record {
   forest : IsForest l.parents;
   within : l.at ≤ l.fn.v;
-  label : (label : ℕ → ℕ) → IsLabelled l.fn.parents label → IsLabelled l.parents label × (label l.at ≡ label l.fn.v)
+  label : (label : ℕ → ℕ) → IsLabelled l.fn.parents label → IsLabelled l.parents label × (label l.at ≡ label l.fn.v);
 }
 
 abbrev pub decreases-loop-parents : goal.decreases-loop-parents

@@ -1,4 +1,4 @@
-use Rattle.std.proofs.Common.{ℕ, ◌≡◌, ◌<◌, ◌≤◌, length, get_or, arith}
+use Rattle.std.proofs.Common.{◌<◌, ◌≤◌, length, get_or, arith}
 use Rattle.lid_graph.proofs.Trees.{forest_write, flat_more, label_halved}
 use Rattle.lid_graph.proofs.joining.flatten.Goals as goal
 
@@ -11,9 +11,8 @@ loop-v-preserved c =
     record {
       forest = forest_write c.loop-v.parents c.loop-v.v (get_or c.loop-v.parents (get_or c.loop-v.parents c.loop-v.v 0) 0) forest here (omega arith);
       label = λ label labelled.
-        let before = c.loop-v.invariant.label label labelled in
-        (
-          label_halved c.loop-v.parents label c.loop-v.v forest before.0 here,
-          flat_more c.loop-v.parents label c.loop-v.v forest before.0 here before.1
-        );
+          let before = c.loop-v.invariant.label label labelled in (
+            label_halved c.loop-v.parents label c.loop-v.v forest before.0 here,
+            flat_more c.loop-v.parents label c.loop-v.v forest before.0 here before.1,
+          );
     }

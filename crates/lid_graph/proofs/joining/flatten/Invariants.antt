@@ -5,5 +5,5 @@ use Rattle.lid_graph.proofs.joining.flatten.Given as goal
 abbrev pub invariant-loop-v : goal.invariant-loop-v
 invariant-loop-v l = record {
   forest : IsForest l.parents;
-  label : (label : ℕ → ℕ) → IsLabelled l.fn.parents label → IsLabelled l.parents label × ((w : ℕ) → w < l.v → get_or l.parents w 0 ≡ label w)
+  label : (label : ℕ → ℕ) → IsLabelled l.fn.parents label → IsLabelled l.parents label × ((w : ℕ) → w < l.v → get_or l.parents w 0 ≡ label w);
 }

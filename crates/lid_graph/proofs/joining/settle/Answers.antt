@@ -1,4 +1,4 @@
-use Rattle.std.proofs.Common.{◌≡◌, ℕ, ◌<◌, length, sym, subst, arith}
+use Rattle.std.proofs.Common.{ℕ, ◌<◌, length, sym, subst, arith}
 use Rattle.lid_graph.specs.Walks.{IsLeastJoined}
 use Rattle.lid_graph.proofs.Trees.{least_label}
 use Rattle.lid_graph.proofs.joining.settle.Goals as goal
