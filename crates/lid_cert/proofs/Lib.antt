@@ -1,0 +1,4 @@
+pub mod Ascending
+pub mod Consequences
+pub mod Parts
+pub mod Read

@@ -1,0 +1,24 @@
+//! Certificates of the throughput of a marked graph: what they show, how they are checked, read and
+//! written.
+#![tactic(auto)]
+
+mod building;
+mod cert;
+mod checking;
+mod fault;
+mod laws;
+mod places;
+mod printing;
+mod reading;
+mod rules;
+mod stage;
+mod words;
+
+pub use cert::{Cert, Part};
+pub use checking::check;
+pub use fault::CertFault;
+pub use laws::{
+    caps_are_reached, each_is_shown, lags_bound_firings, leads_bound_firings, ratio_is_shown,
+};
+pub use printing::print_cert;
+pub use reading::read_cert;

@@ -1,0 +1,12 @@
+//! Marked graphs: transitions, edges with tokens, walks, firing counts and ratios.
+#![tactic(auto)]
+
+mod graph;
+mod joining;
+mod pairing;
+#[cfg(test)]
+mod tests;
+
+pub use graph::{Edge, Graph};
+pub use joining::components;
+pub use pairing::is_paired;
