@@ -1,0 +1,1 @@
+//! Designs, and the texts that they are written as.
