@@ -1,13 +1,13 @@
 -- The characters of a row give its cube back.
-use Rattle.std.proofs.Common.{◌≡◌, ℕ, zero, suc, ◌+◌, ◌*◌, ◌^◌, ◌/◌, ◌%◌, ◌<◌, ◌≤◌, ◌==◌, Bool, true, false, cond, List, [], ◌∷◌, refl, sym, ap, ◌∙◌, arith, inl, inr}
-use Rattle.std.specs.Prelude.{map, not, bit_and}
+use Rattle.std.proofs.Common.{◌≡◌, ℕ, zero, suc, ◌+◌, ◌*◌, ◌^◌, ◌/◌, ◌%◌, ◌<◌, ◌≤◌, Bool, true, false, cond, refl, sym, ap, ◌∙◌, arith, inl, inr}
+use Rattle.std.specs.Prelude.{map, bit_and}
 use Rattle.std.specs.Int.Bits.{and_zero_r}
 use Rattle.std.proofs.lemmas.Nat.{and_block}
 use Rattle.std.proofs.lemmas.Bool.{cases_Bool, cond-true, cond-false, eqb-true, eqb-false}
 use Rattle.std.proofs.Math.Nat.{pow-succ'}
 use Rattle.lid_cover.specs.Cover.{lowest_bit}
 use Rattle.lid_blif.specs.Designs.{number_of, is_cared_for, is_character_one}
-use Rattle.lid_blifout.specs.Canonical.{character, characters}
+use Rattle.lid_blifout.specs.Canonical.{characters}
 
 -- a bit as a number
 abbrev bit : Bool → ℕ
@@ -60,9 +60,9 @@ value_back (suc n) care value h within =
     let low : value % 2 < 2 ^ 1 = omega arith in
     let low_care : care % 2 < 2 ^ 1 = omega arith in
     let split : bit_and value care ≡ bit_and (value / 2) (care / 2) * 2 ^ 1 + bit_and (value % 2) (care % 2) =
-      ap (λ (x : ℕ). bit_and x care) (halves value) ∙ ap (bit_and ((value / 2) * 2 ^ 1 + value % 2)) (halves care) ∙ and_block 1 (value / 2) (care / 2) (value % 2) (care % 2) low low_care in
+    ap (λ (x : ℕ). bit_and x care) (halves value) ∙ ap (bit_and ((value / 2) * 2 ^ 1 + value % 2)) (halves care) ∙ and_block 1 (value / 2) (care / 2) (value % 2) (care % 2) low low_care in
     let bits : bit_and (bit (lowest_bit value)) (bit (lowest_bit care)) ≡ bit_and (value % 2) (care % 2) =
-      ap (λ (x : ℕ). bit_and x (bit (lowest_bit care))) (bit_is value) ∙ ap (bit_and (value % 2)) (bit_is care) in
+    ap (λ (x : ℕ). bit_and x (bit (lowest_bit care))) (bit_is value) ∙ ap (bit_and (value % 2)) (bit_is care) in
     let few = bit_small (lowest_bit care) (lowest_bit value) in
     let inner : bit_and (value / 2) (care / 2) ≡ value / 2 = omega (arith, split, bits, few, within) in
     let rest : bit_and (value % 2) (care % 2) ≡ value % 2 = omega (arith, split, bits, few, within) in

@@ -1,10 +1,10 @@
 -- The lines of writable models stand for these models.
-use Rattle.std.proofs.Common.{◌≡◌, ℕ, suc, ◌+◌, ◌-◌, ◌^◌, ◌<◌, ◌≤◌, ◌==◌, Bool, true, false, cond, List, [], ◌∷◌, ◌++◌, length, take, drop, refl, sym, ap, subst, ◌∙◌, append-nil, append_assoc, arith, length-append}
-use Rattle.std.specs.Prelude.{IfSome, Option, Some, None, map, not, codes, bytes_eq, min, bit_and}
+use Rattle.std.proofs.Common.{◌≡◌, ℕ, ◌+◌, ◌≤◌, Bool, true, false, List, [], ◌∷◌, ◌++◌, length, take, drop, refl, sym, ap, subst, ◌∙◌, append-nil, append_assoc, arith, length-append}
+use Rattle.std.specs.Prelude.{IfSome, Option, Some, None, map, not, codes, bytes_eq}
 use Rattle.std.specs.List.{AllByRecursion, list_any, flat_map}
 use Rattle.std.proofs.lemmas.Bool.{or_left, or_from, cond-true, cond-false, not_from_false, not_from_true}
 use Rattle.lid_base.specs.declared.line.Line.{Line}
-use Rattle.lid_cover.specs.Cover.{IsCube, IsCover}
+use Rattle.lid_cover.specs.Cover.{IsCube}
 use Rattle.lid_cover.specs.declared.Cube.{Cube}
 use Rattle.lid_cover.specs.declared.Cover.{Cover}
 use Rattle.lid_design.specs.declared.Model.{Model as ModelOf}
@@ -21,13 +21,13 @@ use Rattle.lid_blif.specs.declared.keyword.Keyword.TheVariants.{Model, Inputs, O
 use Rattle.lid_blif.specs.Words.{word_at, last_word, named_keyword, same_keyword, keyword_of, is_line, is_inner, leading, inputs_of, is_zero}
 use Rattle.lid_blif.specs.Faults.{ends_in_zero}
 use Rattle.lid_blif.specs.Designs.{number_of, is_cared_for, is_character_one, cube_of, width_of, cover_of, names_cell, latch_cell, bind_of, inst_of, control_named, init_named, model_of, models_of}
-use Rattle.lid_blifout.specs.Canonical.{Words, listed, characters, output_word, cube_line, control_word, kind_words, init_word, cell_lines, bind_word, inst_line, body_lines, model_lines, models_lines}
+use Rattle.lid_blifout.specs.Canonical.{Words, listed, cube_line, control_word, kind_words, init_word, cell_lines, bind_word, inst_line, body_lines, models_lines}
 use Rattle.lid_blifout.specs.Writable.{IsControl, IsWritableCover, IsWritableLatch, IsWritableCell, IsWritableBind, IsWritableInst, IsWritableModel}
 use Rattle.lid_blifout.proofs.TextLaw.{numbered}
-use Rattle.lid_blifout.proofs.LineWords.{IsRowLine, is_row_line, last_word_after, formal_back, actual_back}
+use Rattle.lid_blifout.proofs.LineWords.{is_row_line, last_word_after, formal_back, actual_back}
 use Rattle.lid_blifout.proofs.Spelled.{all_append}
 use Rattle.lid_blifout.proofs.CubeBack.{cared_back, value_back}
-use Rattle.lid_blifout.proofs.FaultLaw.{line_at, body_before, body_before_is}
+use Rattle.lid_blifout.proofs.FaultLaw.{line_at}
 
 abbrev made : List ℕ → Words → Words → Words → List Cell → List Inst → ModelOf
 made name inputs outputs clocks cells insts = record { name = name; inputs = inputs; outputs = outputs; clocks = clocks; cells = cells; insts = insts }
@@ -283,7 +283,7 @@ body_inner : (m : ModelOf) → AllByRecursion IsInner (body_lines m)
 body_inner m =
     all_append IsInner _ _ (inputs_inner m.inputs)
     (all_append IsInner _ _ (outputs_inner m.outputs)
-      (all_append IsInner _ _ (clocks_inner m.clocks) (all_append IsInner _ _ (cells_inner m.cells) (all_append IsInner _ _ (insts_inner m.insts) end_inner))))
+    (all_append IsInner _ _ (clocks_inner m.clocks) (all_append IsInner _ _ (cells_inner m.cells) (all_append IsInner _ _ (insts_inner m.insts) end_inner))))
 
 leading_body : (body rest : List Words) (n : ℕ) → AllByRecursion IsInner body → ((k : ℕ) → leading is_inner (numbered k rest) ≡ []) → leading is_inner (numbered n (body ++ rest)) ≡ numbered n body
 leading_body [] rest n h stops = stops n

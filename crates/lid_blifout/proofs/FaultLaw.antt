@@ -1,9 +1,9 @@
 -- No line of a writable design is at fault.
-use Rattle.std.proofs.Common.{◌≡◌, ℕ, suc, ◌+◌, ◌-◌, ◌<◌, ◌≤◌, ◌||◌, ◌==◌, Bool, true, false, cond, List, [], ◌∷◌, ◌++◌, length, refl, sym, ap, subst, ◌∙◌, append-nil, append_assoc, arith, length-append}
+use Rattle.std.proofs.Common.{◌≡◌, ℕ, suc, ◌+◌, ◌≤◌, ◌||◌, Bool, true, false, cond, List, [], ◌∷◌, ◌++◌, length, refl, sym, ap, subst, ◌∙◌, append_assoc, arith, length-append}
 use Rattle.std.specs.Prelude.{Option, Some, None, map, not, nat_lt, codes, bytes_eq}
 use Rattle.std.specs.List.{AllByRecursion, IsDistinct, list_any, flat_map, sum_by}
-use Rattle.std.proofs.lemmas.Bool.{or_from, not_from_true, le-ltb, cond-true, cond-false}
-use Rattle.std.proofs.lemmas.List.{length_push, length-map}
+use Rattle.std.proofs.lemmas.Bool.{or_from, not_from_true, le-ltb, cond-false}
+use Rattle.std.proofs.lemmas.List.{length_push}
 use Rattle.std.proofs.lemmas.List.Sums.{sum_by-cons}
 use Rattle.lid_base.specs.declared.line.Line.{Line}
 use Rattle.lid_design.specs.declared.Model.{Model as ModelOf}
@@ -21,12 +21,12 @@ use Rattle.lid_blif.specs.declared.fault.BlifFault.TheVariants.{NoModel, Arity, 
 use Rattle.lid_blif.specs.declared.keyword.Keyword.{Keyword}
 use Rattle.lid_blif.specs.declared.keyword.Keyword.TheVariants.{Model, Inputs, Outputs, Clock, Names, Latch, Subckt, End, Unknown, Row}
 use Rattle.lid_blif.specs.declared.place.Place.{Place}
-use Rattle.lid_blif.specs.Words.{word_at, last_word, named_keyword, keyword_of, inputs_of, is_zero, is_one, is_row_of, is_binding}
-use Rattle.lid_blif.specs.Faults.{place_of, model_names, ends_in_zero, ends_in_one, Case, told, outside, cases_of, is_mixed, line_fault, first_fault}
+use Rattle.lid_blif.specs.Words.{last_word, named_keyword, keyword_of, inputs_of, is_zero, is_one, is_row_of}
+use Rattle.lid_blif.specs.Faults.{place_of, model_names, ends_in_zero, ends_in_one, Case, told, cases_of, is_mixed, line_fault, first_fault}
 use Rattle.lid_blif.specs.WellFormed.{model_name}
-use Rattle.lid_blif.proofs.Places.{next_place, place_of-cons, first_fault-pass}
+use Rattle.lid_blif.proofs.Places.{place_of-cons, first_fault-pass}
 use Rattle.lid_blif.proofs.FaultLemmas.{place_models}
-use Rattle.lid_blifout.specs.Canonical.{Words, listed, output_word, cube_line, control_word, kind_words, init_word, cell_lines, bind_word, inst_line, body_lines, model_lines, models_lines}
+use Rattle.lid_blifout.specs.Canonical.{Words, listed, output_word, cube_line, control_word, init_word, cell_lines, inst_line, body_lines, models_lines}
 use Rattle.lid_blifout.specs.Writable.{IsWritableCover, IsWritableCell, IsWritableInst, IsWritableModel, cell_rows, cells_rows, model_rows}
 use Rattle.lid_blifout.proofs.TextLaw.{numbered}
 use Rattle.lid_blifout.proofs.LineWords.{IsRowLine, is_row_line, init_is, are_bound}
@@ -69,7 +69,7 @@ unfolding line_fault
 clear_line k words lines inside names rows e m r ok later n before at =
     let l = line_at n words in
     let same : line_fault (place_of before) (model_names before) l ≡ told (cases_of k (place_of before) names l) =
-      ap (λ (ns : Words). line_fault (place_of before) ns l) at.names_are ∙ ap (λ (q : Keyword). told (cases_of q (place_of before) names l)) (sym e) in
+    ap (λ (ns : Words). line_fault (place_of before) ns l) at.names_are ∙ ap (λ (q : Keyword). told (cases_of q (place_of before) names l)) (sym e) in
     first_fault-pass before l (numbered (n + 1) lines) (same ∙ ok (place_of before) n at.inside_is)
     ∙ later (n + 1) (l ∷ before) (at_after k l inside names rows before e m r at)
 
@@ -195,7 +195,7 @@ clear_cover inputs out cover lines names rows w few h n before at =
     let short_cases : List Case = (nat_lt (length words) 2, Arity n) ∷ wide_case in
     let narrow = told_pass (nat_lt 64 (inputs_of words)) (TooManyInputs n) [] wide refl in
     let clean : line_fault place (model_names before) l ≡ None =
-      told_pass (not place.inside) (NoModel n) short_cases (not_from_true place.inside at.inside_is) (told_pass (nat_lt (length words) 2) (Arity n) wide_case enough narrow) in
+    told_pass (not place.inside) (NoModel n) short_cases (not_from_true place.inside at.inside_is) (told_pass (nat_lt (length words) 2) (Arity n) wide_case enough narrow) in
     let e : Names ≡ keyword_of words = refl in
     let p = place_of-cons Names l before e in
     let inside = at_after Names l true names rows before e (λ q. cc) (λ q. cc) at in
@@ -269,7 +269,7 @@ clear_title name lines inside names rows fresh few h n before at =
     let limit_case : List Case = (nat_lt 4096 (place.models + 1), Limit Models (place.models + 1)) ∷ [] in
     let few_models = told_pass (nat_lt 4096 (place.models + 1)) (Limit Models (place.models + 1)) [] limit refl in
     let clean : line_fault place (model_names before) l ≡ None =
-      told_pass (list_any (λ other. bytes_eq other name) (model_names before)) (DuplicateModel n) limit_case new few_models in
+    told_pass (list_any (λ other. bytes_eq other name) (model_names before)) (DuplicateModel n) limit_case new few_models in
     let e : Model ≡ keyword_of words = refl in
     let p = place_of-cons Model l before e in
     let opened : At true (names ++ name ∷ []) rows (l ∷ before) = record {

@@ -1,6 +1,6 @@
 -- The canonical text of a writable design is read as that design.
 use Rattle.std.proofs.Common.{◌≡◌, ℕ, ◌<◌, ◌∙◌, List, [], ◌∷◌, length, refl, sym, ap, arith}
-use Rattle.std.specs.Prelude.{Option, None, Some, nat_lt, map, bytes_eq}
+use Rattle.std.specs.Prelude.{Option, None, Some, nat_lt}
 use Rattle.std.proofs.lemmas.Bool.{cond-false, le-ltb}
 use Rattle.lid_base.specs.declared.line.Line.{Line}
 use Rattle.lid_base.specs.declared.line.TextFault.{TextFault}
@@ -8,11 +8,10 @@ use Rattle.lid_base.specs.declared.which.Which.TheVariants.{FileBytes}
 use Rattle.lid_base.specs.Lines.{logical_lines, text_fault}
 use Rattle.lid_design.specs.declared.Design.{Design}
 use Rattle.lid_design.specs.declared.Model.{Model}
-use Rattle.lid_blif.specs.declared.fault.BlifFault.{BlifFault}
 use Rattle.lid_blif.specs.declared.fault.BlifFault.TheVariants.{Limit}
 use Rattle.lid_blif.specs.Faults.{first_fault, lines_fault, after_text, blif_fault}
-use Rattle.lid_blif.specs.Designs.{models_of, design_of}
-use Rattle.lid_blifout.specs.Canonical.{lines_text, models_lines, canonical_text}
+use Rattle.lid_blif.specs.Designs.{design_of}
+use Rattle.lid_blifout.specs.Canonical.{models_lines, canonical_text}
 use Rattle.lid_blifout.specs.Writable.{IsWritable}
 use Rattle.lid_blifout.proofs.TextLaw.{numbered, text_law, text_clean}
 use Rattle.lid_blifout.proofs.SpelledLines.{models_spelled}

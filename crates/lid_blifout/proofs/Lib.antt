@@ -7,3 +7,4 @@ pub mod CubeBack
 pub mod DesignLaw
 pub mod SpelledLines
 pub mod Law
+pub mod Examples

@@ -1,8 +1,8 @@
 -- What the words of each kind of line say.
-use Rattle.std.proofs.Common.{◌≡◌, ℕ, zero, suc, ◌+◌, ◌-◌, ◌<◌, ◌≤◌, ◌==◌, ◌/◌, Bool, true, false, cond, ◌||◌, ◌&&◌, List, [], ◌∷◌, ◌++◌, length, get_or, take, drop, refl, sym, ap, subst, ◌∙◌, append-nil, arith, length-append, All, inl, inr}
-use Rattle.std.specs.Prelude.{not, nat_lt, nat_le, map, codes, Option, Some, None}
+use Rattle.std.proofs.Common.{◌≡◌, ℕ, zero, suc, ◌+◌, ◌-◌, ◌<◌, ◌==◌, ◌/◌, Bool, true, false, cond, ◌||◌, ◌&&◌, List, [], ◌∷◌, ◌++◌, length, get_or, take, drop, refl, sym, ap, subst, ◌∙◌, arith, length-append, inl, inr}
+use Rattle.std.specs.Prelude.{not, map}
 use Rattle.std.specs.List.{AllByRecursion, list_any, list_all, position_or_len, before_first, after_first}
-use Rattle.std.proofs.lemmas.Bool.{cond-true, cond-false, cases_Bool, eq-eqb, ne_eqb, lt-ltb, le-ltb, eqb-true, eqb-false, and_from, or_left, or_right, not_from_true, not_from_false}
+use Rattle.std.proofs.lemmas.Bool.{cond-true, cond-false, cases_Bool, eq-eqb, ne_eqb, eqb-true, eqb-false, and_from, or_right, not_from_false}
 use Rattle.std.proofs.lemmas.List.{take_all, get_or_append_left, get_or-append-add}
 use Rattle.std.proofs.lemmas.List.Sums.{position_or_len_is}
 use Rattle.std.proofs.lemmas.List.Elements.{All-from_recursion}
@@ -11,11 +11,10 @@ use Rattle.lid_cover.specs.declared.Cube.{Cube}
 use Rattle.lid_design.specs.declared.Bind.{Bind}
 use Rattle.lid_design.specs.declared.Init.{Init}
 use Rattle.lid_design.specs.declared.Init.TheVariants.{Zero, One, DontCare, Unknown as UnknownInit}
-use Rattle.lid_blif.specs.declared.keyword.Keyword.{Keyword}
 use Rattle.lid_blif.specs.declared.keyword.Keyword.TheVariants.{Row}
 use Rattle.lid_blif.specs.Words.{word_at, last_word, named_keyword, keyword_of, is_zero, is_one, is_input_character, is_row_of, is_latch_init, is_equals, is_empty, is_binding}
 use Rattle.lid_blifout.specs.Canonical.{Words, character, characters, output_word, cube_line, init_word, bind_word}
-use Rattle.lid_blifout.specs.Writable.{IsSpelled, IsWritableBind}
+use Rattle.lid_blifout.specs.Writable.{IsWritableBind}
 
 pub length_characters : (n care value : ℕ) → length (characters n care value) ≡ n
 length_characters zero care value = refl
@@ -86,7 +85,7 @@ is_row_line inputs on cube =
           subst (IsRowLine inputs on cube) (sym line) (record {
             keyword = characters_keyword inputs cube.care cube.value (output_word on ∷ []) some;
             shape = rw no' (and_from (length cs == inputs && list_all is_input_character cs) (is_zero (output_word on) || is_one (output_word on))
-              (and_from (length cs == inputs) (list_all is_input_character cs) (eq-eqb (length cs) inputs (length_characters inputs cube.care cube.value)) (input_characters inputs cube.care cube.value)) (output_is on));
+                (and_from (length cs == inputs) (list_all is_input_character cs) (eq-eqb (length cs) inputs (length_characters inputs cube.care cube.value)) (input_characters inputs cube.care cube.value)) (output_is on));
             output = refl;
             characters = take_all inputs cs (omega (arith, length_characters inputs cube.care cube.value));
           })

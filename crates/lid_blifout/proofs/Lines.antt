@@ -5,7 +5,7 @@ use Rattle.std.specs.List.{flat_map, join_with_byte}
 use Rattle.lid_cover.specs.declared.Cube.{Cube}
 use Rattle.lid_design.specs.declared.Model.{Model}
 use Rattle.lid_design.specs.declared.Bind.{Bind}
-use Rattle.lid_blifout.specs.Canonical.{Words, line_text, lines_text, bind_word, character, characters, cube_line, output_word, cell_lines, inst_line, listed, body_lines, model_lines, models_lines}
+use Rattle.lid_blifout.specs.Canonical.{Words, line_text, lines_text, bind_word, character, characters, cube_line, output_word, cell_lines, inst_line, listed, model_lines}
 use Rattle.lid_blifout.specs.Pieces.{spaced, spaced_binds, asked_text}
 
 -- the words after the first, each after a blank

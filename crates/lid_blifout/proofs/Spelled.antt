@@ -1,9 +1,8 @@
 -- Spelled words, and lines of them: what the reader finds in such a line.
-use Rattle.std.proofs.Common.{◌≡◌, ℕ, suc, ◌+◌, ◌-◌, ◌<◌, ◌≤◌, ◌==◌, Bool, true, false, ◌||◌, List, [], ◌∷◌, ◌++◌, length, get_or, take, filter, All, refl, sym, ap, subst, ◌∙◌, append-nil, append_assoc, arith, lt-ltb, lit<, lit≤}
-use Rattle.std.specs.Prelude.{◌&&◌, not, nat_lt, nat_le, map, codes, cond, slice_index}
-use Rattle.std.specs.List.{AllByRecursion, list_any, slice_split, before_first, suffix_len, join_with_byte}
-use Rattle.std.proofs.lemmas.Bool.{cond-true, cond-false, and_parts, not-true, leb-true, ltb-true, eqb-false, ne_eqb, or_from, or_left, or_right, not_from_true, le-ltb, le-leb, and_from, not_from_false}
-use Rattle.std.proofs.lemmas.Bool.Decides.{nat_tests}
+use Rattle.std.proofs.Common.{◌≡◌, ℕ, suc, ◌+◌, ◌-◌, ◌<◌, ◌≤◌, ◌==◌, Bool, true, false, ◌||◌, List, [], ◌∷◌, ◌++◌, length, get_or, take, filter, All, refl, sym, ap, subst, ◌∙◌, append-nil, arith, lt-ltb}
+use Rattle.std.specs.Prelude.{◌&&◌, not, nat_lt, nat_le}
+use Rattle.std.specs.List.{AllByRecursion, list_any, slice_split, suffix_len, join_with_byte}
+use Rattle.std.proofs.lemmas.Bool.{cond-true, cond-false, and_parts, not-true, leb-true, ne_eqb, or_from, or_right, not_from_true, le-ltb, le-leb, and_from}
 use Rattle.std.proofs.lemmas.List.{take_all, length-append}
 use Rattle.std.proofs.lemmas.List.Elements.{All-from_recursion}
 use Rattle.std.proofs.lemmas.List.Splits.{slice_split_none, slice_split_at}

@@ -1,6 +1,6 @@
 -- The lines of writable models are made of spelled words.
-use Rattle.std.proofs.Common.{◌≡◌, ℕ, zero, suc, ◌+◌, ◌<◌, ◌≤◌, ◌==◌, Bool, true, false, List, [], ◌∷◌, ◌++◌, length, refl, ap, sym, subst, inl, inr, arith}
-use Rattle.std.specs.Prelude.{IfSome, Option, Some, None, map, not, nat_lt, nat_le, codes}
+use Rattle.std.proofs.Common.{◌≡◌, ℕ, ◌<◌, ◌≤◌, ◌==◌, Bool, true, false, List, [], ◌∷◌, length, refl, sym, subst, inl, inr, arith}
+use Rattle.std.specs.Prelude.{IfSome, Option, Some, None, map, nat_lt, nat_le, codes}
 use Rattle.std.specs.List.{AllByRecursion, list_all, flat_map}
 use Rattle.std.proofs.lemmas.Bool.{and_parts, ltb-true, leb-true, eqb-false, cond-true, cond-false, cases_Bool}
 use Rattle.lid_base.specs.Lines.{ends_in_mark}
@@ -15,7 +15,7 @@ use Rattle.lid_design.specs.declared.Init.TheVariants.{Zero, One, DontCare, Unkn
 use Rattle.lid_design.specs.declared.Inst.{Inst}
 use Rattle.lid_design.specs.declared.Bind.{Bind}
 use Rattle.lid_blifout.specs.Canonical.{Words, listed, characters, output_word, cube_line, control_word, kind_words, init_word, cell_lines, bind_word, inst_line, body_lines, models_lines}
-use Rattle.lid_blifout.specs.Writable.{is_word_byte, IsSpelled, IsControl, IsWritableCover, IsWritableCell, IsWritableBind, IsWritableInst, IsWritableModel}
+use Rattle.lid_blifout.specs.Writable.{is_word_byte, IsSpelled, IsControl, IsWritableCell, IsWritableBind, IsWritableInst, IsWritableModel}
 use Rattle.lid_blifout.proofs.Spelled.{all_append, AreSpelled, spelled_bind}
 use Rattle.lid_blifout.proofs.LineWords.{length_characters, of_characters}
 
@@ -104,8 +104,8 @@ body_spelled m w =
     let ended : AreSpelled (codes ".end" ∷ []) = record { some = omega arith; all = (spelled_word (codes ".end") refl refl refl refl, tt) } in
     all_append AreSpelled _ _ (listed_spelled (codes ".inputs") m.inputs (spelled_word (codes ".inputs") refl refl refl refl) w.inputs)
     (all_append AreSpelled _ _ (listed_spelled (codes ".outputs") m.outputs (spelled_word (codes ".outputs") refl refl refl refl) w.outputs)
-      (all_append AreSpelled _ _ (listed_spelled (codes ".clock") m.clocks (spelled_word (codes ".clock") refl refl refl refl) w.clocks)
-        (all_append AreSpelled _ _ (cells_spelled m.cells w.cells) (all_append AreSpelled _ _ (insts_spelled m.insts w.insts) (ended, tt)))))
+    (all_append AreSpelled _ _ (listed_spelled (codes ".clock") m.clocks (spelled_word (codes ".clock") refl refl refl refl) w.clocks)
+    (all_append AreSpelled _ _ (cells_spelled m.cells w.cells) (all_append AreSpelled _ _ (insts_spelled m.insts w.insts) (ended, tt)))))
 
 pub models_spelled : (ms : List Model) → AllByRecursion IsWritableModel ms → AllByRecursion AreSpelled (models_lines ms)
 models_spelled [] w = tt

@@ -1,13 +1,13 @@
 -- The logical lines of a text of spelled lines are these lines, numbered from 1.
-use Rattle.std.proofs.Common.{◌≡◌, ℕ, ◌+◌, ◌<◌, Bool, true, false, cond, List, [], ◌∷◌, ◌++◌, length, map, filter, refl, sym, ap, ◌∙◌, append-nil, append_assoc, lt-ltb}
-use Rattle.std.specs.Prelude.{Option, None, Some}
+use Rattle.std.proofs.Common.{◌≡◌, ℕ, ◌+◌, ◌<◌, false, List, [], ◌∷◌, ◌++◌, length, map, filter, refl, ap, ◌∙◌, append-nil, append_assoc, lt-ltb}
+use Rattle.std.specs.Prelude.{None}
 use Rattle.std.specs.List.{AllByRecursion, slice_split, enumerate_from, join_with_byte}
 use Rattle.std.proofs.lemmas.Bool.{cond-true, cond-false}
 use Rattle.std.proofs.lemmas.List.Splits.{slice_split_at}
 use Rattle.lid_base.specs.declared.line.Line.{Line}
 use Rattle.lid_base.specs.Lines.{is_newline, goes_on, words_of, content_of, trimmed, words_in, has_bad_byte, has_long_word, has_words, onto_first_join, joins_of, line_of, lines_of, physical_lines, logical_lines, first_fault, text_fault}
 use Rattle.lid_blifout.specs.Canonical.{Words, line_text, lines_text}
-use Rattle.lid_blifout.proofs.Spelled.{AreSpelled, IsLineOf, line_of_words}
+use Rattle.lid_blifout.proofs.Spelled.{AreSpelled, line_of_words}
 
 -- lines with numbers that count up
 abbrev pub numbered : ℕ → List Words → List Line

@@ -1,7 +1,6 @@
 -- The canonical text of a design, line by line.
-use Rattle.std.specs.Prelude.{◌≡◌, ℕ, zero, suc, ◌/◌, ◌==◌, Bool, if◌then◌else◌, List, [], ◌∷◌, ◌++◌, map, take, length, codes, Option, Some, None}
+use Rattle.std.specs.Prelude.{ℕ, zero, suc, ◌/◌, ◌==◌, Bool, if◌then◌else◌, List, [], ◌∷◌, ◌++◌, map, codes, Option, Some, None}
 use Rattle.std.specs.List.{flat_map, join_with_byte}
-use Rattle.lid_cover.specs.declared.Cover.{Cover}
 use Rattle.lid_cover.specs.declared.Cube.{Cube}
 use Rattle.lid_cover.specs.Cover.{lowest_bit}
 use Rattle.lid_design.specs.declared.Design.{Design}
@@ -95,7 +94,3 @@ models_lines models = flat_map model_lines models
 -- the canonical text of a design
 unfoldable pub canonical_text : Design → List ℕ
 canonical_text d = lines_text (models_lines d.models)
-
--- what was written before is still there
-pub record Extends (old new : List ℕ) : Type 0 where
-  pub kept : take (length old) new ≡ old

@@ -1,5 +1,5 @@
 -- Pieces of lines, as they are written.
-use Rattle.std.specs.Prelude.{ℕ, ◌==◌, if◌then◌else◌, List, [], ◌∷◌, ◌++◌}
+use Rattle.std.specs.Prelude.{◌≡◌, length, take, ℕ, ◌==◌, if◌then◌else◌, List, [], ◌∷◌, ◌++◌}
 use Rattle.std.specs.List.{flat_map}
 use Rattle.lid_cover.specs.declared.Cube.{Cube}
 use Rattle.lid_design.specs.declared.Bind.{Bind}
@@ -16,3 +16,7 @@ spaced_binds binds = flat_map (λ bind. 32 ∷ bind_word bind) binds
 -- what a row asks of its inputs
 abbrev pub asked_text : ℕ → Cube → List ℕ
 asked_text inputs cube = if inputs == 0 then [] else characters inputs cube.care cube.value ++ 32 ∷ []
+
+-- what was written before is still there
+pub record Extends (old new : List ℕ) : Type 0 where
+  pub kept : take (length old) new ≡ old

@@ -1,6 +1,6 @@
 -- The designs that have a canonical text.
-use Rattle.std.specs.Prelude.{◌≡◌, ℕ, ◌+◌, ◌<◌, ◌≤◌, nat_le, ◌==◌, Bool, true, false, not, ◌&&◌, List, [], length, map, bytes_eq, codes, Option, None, IfSome}
-use Rattle.std.specs.List.{AllByRecursion, IsDistinct, list_any, list_all, sum_by}
+use Rattle.std.specs.Prelude.{◌≡◌, ℕ, ◌<◌, ◌≤◌, nat_le, Bool, true, false, not, ◌&&◌, List, [], length, map, bytes_eq, codes, Option, None, IfSome}
+use Rattle.std.specs.List.{AllByRecursion, IsDistinct, sum_by}
 use Rattle.lid_base.specs.Lines.{ends_in_mark, is_hash}
 use Rattle.lid_cover.specs.Cover.{IsCover}
 use Rattle.lid_cover.specs.declared.Cover.{Cover}

@@ -7,9 +7,9 @@ ghost use Rattle.lid_blif.specs.Faults.{blif_fault};
 ghost use Rattle.lid_blif.specs.Designs.{design_of};
 ghost use Rattle.lid_design.specs.declared.Design.{Design};
 ghost use Rattle.lid_design.specs.declared.Cell.TheVariants.{Names, Latch};
-ghost use Rattle.lid_blifout.specs.Canonical.{lines_text, listed, characters, cube_line, control_word, kind_words, init_word, output_word, character, line_text, bind_word, cell_lines, inst_line, body_lines, model_lines, models_lines, canonical_text, Extends};
+ghost use Rattle.lid_blifout.specs.Canonical.{lines_text, listed, characters, cube_line, control_word, kind_words, init_word, output_word, character, line_text, bind_word, cell_lines, inst_line, body_lines, model_lines, models_lines, canonical_text};
 ghost use Rattle.lid_blifout.specs.Writable.{IsWritable};
-ghost use Rattle.lid_blifout.specs.Pieces.{spaced, spaced_binds, asked_text};
+ghost use Rattle.lid_blifout.specs.Pieces.{spaced, spaced_binds, asked_text, Extends};
 
 use lid_base::Name;
 use lid_cover::{Cover, Cube};
@@ -309,7 +309,7 @@ fn append_model(model: &Model, into: &mut Vec<u8>) -> Result<(), AllocError>
 
 /// Appends the lines of the models.
 #[tactic(auto, using(crate::proofs::Lines::lines_text_append))]
-fn append_models(models: &[Model], into: &mut Vec<u8>) -> Result<(), AllocError>
+pub fn append_models(models: &[Model], into: &mut Vec<u8>) -> Result<(), AllocError>
     ensures ok { OnOk result (into.new.items ≡ into.old.items ++ lines_text (models_lines models.now)) }
     ensures kept { Extends into.old.items into.new.items }
 {
@@ -322,8 +322,7 @@ fn append_models(models: &[Model], into: &mut Vec<u8>) -> Result<(), AllocError>
 /// The canonical text of a writable design is read as that design.
 pub fn read_back_law()
     ensures { (d : Design) → IsWritable d → (blif_fault (canonical_text d) ≡ None) × (design_of (logical_lines (canonical_text d)) ≡ d) }
-{
-}
+{}
 
 /// Appends the canonical text of a design: its models in order, and of each its name, its inputs,
 /// outputs and clocks, its cells, its instances and `.end`, a line for each.

@@ -1,7 +1,5 @@
-use Rattle.std.proofs.Common.{◌≡◌, ◌++◌, map, take}
-use Rattle.std.specs.List.{flat_map}
-use Rattle.lid_blifout.specs.Canonical.{Extends}
-use Rattle.lid_blifout.specs.Pieces.{spaced, spaced_binds}
+use Rattle.std.proofs.Common.{◌≡◌, ◌++◌, take}
+use Rattle.lid_blifout.specs.Pieces.{spaced_binds, Extends}
 use Rattle.lid_blifout.proofs.writer.append_binds.Given as goal
 
 abbrev pub invariant-loop-bind : goal.invariant-loop-bind

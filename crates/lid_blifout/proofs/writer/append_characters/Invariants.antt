@@ -1,5 +1,6 @@
 use Rattle.std.proofs.Common.{◌≡◌, ◌++◌}
-use Rattle.lid_blifout.specs.Canonical.{characters, Extends}
+use Rattle.lid_blifout.specs.Canonical.{characters}
+use Rattle.lid_blifout.specs.Pieces.{Extends}
 use Rattle.lid_blifout.proofs.writer.append_characters.Given as goal
 
 abbrev pub invariant-loop-left : goal.invariant-loop-left

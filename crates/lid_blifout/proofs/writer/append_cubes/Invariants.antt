@@ -1,7 +1,6 @@
 use Rattle.std.proofs.Common.{◌≡◌, ◌++◌, map, take}
-use Rattle.std.specs.List.{flat_map}
-use Rattle.lid_blifout.specs.Canonical.{Extends, lines_text, cube_line}
-use Rattle.lid_blifout.specs.Pieces.{spaced, spaced_binds}
+use Rattle.lid_blifout.specs.Canonical.{lines_text, cube_line}
+use Rattle.lid_blifout.specs.Pieces.{Extends}
 use Rattle.lid_blifout.proofs.writer.append_cubes.Given as goal
 
 abbrev pub invariant-loop-cube : goal.invariant-loop-cube

@@ -1,4 +1,4 @@
-use Rattle.std.proofs.Common.{◌∷◌, [], ◌++◌, List, ℕ, ap, sym}
+use Rattle.std.proofs.Common.{◌∷◌, ◌++◌, List, ℕ, ap, sym}
 use Rattle.std.specs.Prelude.{codes, map}
 use Rattle.lid_blifout.specs.Canonical.{bind_word}
 use Rattle.lid_blifout.specs.Pieces.{spaced_binds}

@@ -1,6 +1,5 @@
-use Rattle.std.proofs.Common.{◌≡◌, ◌∷◌, [], ◌++◌, refl, List, ℕ, append-nil, sym, ap, ◌∙◌, ◌<◌, length, arith}
+use Rattle.std.proofs.Common.{◌++◌, refl, List, ℕ, ap, ◌∙◌, ◌<◌, length, arith}
 use Rattle.std.proofs.lemmas.Grind.{common_steps}
-use Rattle.lid_blifout.specs.Canonical.{line_text, lines_text, listed}
 use Rattle.lid_blifout.specs.Pieces.{spaced}
 use Rattle.lid_blifout.proofs.Lines.{line_made, listed_text}
 use Rattle.lid_blifout.proofs.writer.append_listed.Goals as goal
