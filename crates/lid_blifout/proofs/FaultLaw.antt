@@ -1,0 +1,299 @@
+-- No line of a writable design is at fault.
+use Rattle.std.proofs.Common.{◌≡◌, ℕ, suc, ◌+◌, ◌≤◌, ◌||◌, Bool, true, false, cond, List, [], ◌∷◌, ◌++◌, length, refl, sym, ap, subst, ◌∙◌, append_assoc, arith, length-append}
+use Rattle.std.specs.Prelude.{Option, Some, None, map, not, nat_lt, codes, bytes_eq}
+use Rattle.std.specs.List.{AllByRecursion, IsDistinct, list_any, flat_map, sum_by}
+use Rattle.std.proofs.lemmas.Bool.{or_from, not_from_true, le-ltb, cond-false}
+use Rattle.std.proofs.lemmas.List.{length_push}
+use Rattle.std.proofs.lemmas.List.Sums.{sum_by-cons}
+use Rattle.lid_base.specs.declared.line.Line.{Line}
+use Rattle.lid_design.specs.declared.Model.{Model as ModelOf}
+use Rattle.lid_design.specs.declared.Cell.{Cell}
+use Rattle.lid_design.specs.declared.Cell.TheVariants.{Names as NamesCell, Latch as LatchCell}
+use Rattle.lid_design.specs.declared.LatchKind.{LatchKind}
+use Rattle.lid_design.specs.declared.LatchKind.TheVariants.{Plain, Rise, Fall}
+use Rattle.lid_design.specs.declared.Init.{Init}
+use Rattle.lid_design.specs.declared.Inst.{Inst}
+use Rattle.lid_cover.specs.declared.Cube.{Cube}
+use Rattle.lid_cover.specs.declared.Cover.{Cover}
+use Rattle.lid_base.specs.declared.which.Which.TheVariants.{Models, CoverRows}
+use Rattle.lid_blif.specs.declared.fault.BlifFault.{BlifFault}
+use Rattle.lid_blif.specs.declared.fault.BlifFault.TheVariants.{NoModel, Arity, RowOutside, RowShape, MixedRows, DuplicateModel, TooManyInputs, Limit}
+use Rattle.lid_blif.specs.declared.keyword.Keyword.{Keyword}
+use Rattle.lid_blif.specs.declared.keyword.Keyword.TheVariants.{Model, Inputs, Outputs, Clock, Names, Latch, Subckt, End, Unknown, Row}
+use Rattle.lid_blif.specs.declared.place.Place.{Place}
+use Rattle.lid_blif.specs.Words.{last_word, named_keyword, keyword_of, inputs_of, is_zero, is_one, is_row_of}
+use Rattle.lid_blif.specs.Faults.{place_of, model_names, ends_in_zero, ends_in_one, Case, told, cases_of, is_mixed, line_fault, first_fault}
+use Rattle.lid_blif.specs.WellFormed.{model_name}
+use Rattle.lid_blif.proofs.Places.{place_of-cons, first_fault-pass}
+use Rattle.lid_blif.proofs.FaultLemmas.{place_models}
+use Rattle.lid_blifout.specs.Canonical.{Words, listed, output_word, cube_line, control_word, init_word, cell_lines, inst_line, body_lines, models_lines}
+use Rattle.lid_blifout.specs.Writable.{IsWritableCover, IsWritableCell, IsWritableInst, IsWritableModel, cell_rows, cells_rows, model_rows}
+use Rattle.lid_blifout.proofs.TextLaw.{numbered}
+use Rattle.lid_blifout.proofs.LineWords.{IsRowLine, is_row_line, init_is, are_bound}
+
+-- where a line stands: inside a model or not, after models of these names, and after so many rows
+pub record At (inside : Bool) (names : Words) (rows : ℕ) (before : List Line) : Type 0 where
+  pub inside_is : (place_of before).inside ≡ inside
+  pub names_are : model_names before ≡ names
+  pub rows_are : (place_of before).rows ≡ rows
+
+-- no fault in these lines, wherever they stand so
+abbrev pub Clear : Bool → Words → ℕ → List Words → Type 0
+Clear inside names rows lines = (n : ℕ) (before : List Line) → At inside names rows before → first_fault before (numbered n lines) ≡ None
+
+abbrev pub line_at : ℕ → Words → Line
+line_at n words = record { number = n; words = words }
+
+abbrev next_inside : Keyword → Bool → Bool
+next_inside End inside = false
+next_inside _ inside = inside
+
+-- the place after a line that is neither a model's first nor a row
+at_after : (k : Keyword) (l : Line) (inside : Bool) (names : Words) (rows : ℕ) (before : List Line) → k ≡ keyword_of l.words → (k ≡ Model → ⊥) → (k ≡ Row → ⊥) → At inside names rows before → At (next_inside k inside) names rows (l ∷ before)
+at_after Model l inside names rows before e m r at = absurd (m refl)
+at_after Row l inside names rows before e m r at = absurd (r refl)
+at_after Inputs l inside names rows before e m r at = let p = place_of-cons Inputs l before e in record { inside_is = ap (λ (q : Place). q.inside) p ∙ at.inside_is; names_are = rw (← e) at.names_are; rows_are = ap (λ (q : Place). q.rows) p ∙ at.rows_are }
+at_after Outputs l inside names rows before e m r at = let p = place_of-cons Outputs l before e in record { inside_is = ap (λ (q : Place). q.inside) p ∙ at.inside_is; names_are = rw (← e) at.names_are; rows_are = ap (λ (q : Place). q.rows) p ∙ at.rows_are }
+at_after Clock l inside names rows before e m r at = let p = place_of-cons Clock l before e in record { inside_is = ap (λ (q : Place). q.inside) p ∙ at.inside_is; names_are = rw (← e) at.names_are; rows_are = ap (λ (q : Place). q.rows) p ∙ at.rows_are }
+at_after Names l inside names rows before e m r at = let p = place_of-cons Names l before e in record { inside_is = ap (λ (q : Place). q.inside) p ∙ at.inside_is; names_are = rw (← e) at.names_are; rows_are = ap (λ (q : Place). q.rows) p ∙ at.rows_are }
+at_after Latch l inside names rows before e m r at = let p = place_of-cons Latch l before e in record { inside_is = ap (λ (q : Place). q.inside) p ∙ at.inside_is; names_are = rw (← e) at.names_are; rows_are = ap (λ (q : Place). q.rows) p ∙ at.rows_are }
+at_after Subckt l inside names rows before e m r at = let p = place_of-cons Subckt l before e in record { inside_is = ap (λ (q : Place). q.inside) p ∙ at.inside_is; names_are = rw (← e) at.names_are; rows_are = ap (λ (q : Place). q.rows) p ∙ at.rows_are }
+at_after Unknown l inside names rows before e m r at = let p = place_of-cons Unknown l before e in record { inside_is = ap (λ (q : Place). q.inside) p ∙ at.inside_is; names_are = rw (← e) at.names_are; rows_are = ap (λ (q : Place). q.rows) p ∙ at.rows_are }
+at_after End l inside names rows before e m r at = let p = place_of-cons End l before e in record { inside_is = ap (λ (q : Place). q.inside) p; names_are = rw (← e) at.names_are; rows_are = ap (λ (q : Place). q.rows) p ∙ at.rows_are }
+
+-- a line without fault, and no fault after it
+clear_line : (k : Keyword) (words : Words) (lines : List Words) (inside : Bool) (names : Words) (rows : ℕ) → k ≡ keyword_of words → (k ≡ Model → ⊥) → (k ≡ Row → ⊥)
+    → ((place : Place) (n : ℕ) → place.inside ≡ inside → told (cases_of k place names (line_at n words)) ≡ None)
+    → Clear (next_inside k inside) names rows lines → Clear inside names rows (words ∷ lines)
+unfolding line_fault
+clear_line k words lines inside names rows e m r ok later n before at =
+    let l = line_at n words in
+    let same : line_fault (place_of before) (model_names before) l ≡ told (cases_of k (place_of before) names l) =
+    ap (λ (ns : Words). line_fault (place_of before) ns l) at.names_are ∙ ap (λ (q : Keyword). told (cases_of q (place_of before) names l)) (sym e) in
+    first_fault-pass before l (numbered (n + 1) lines) (same ∙ ok (place_of before) n at.inside_is)
+    ∙ later (n + 1) (l ∷ before) (at_after k l inside names rows before e m r at)
+
+clear_inputs : (ns : Words) (lines : List Words) (names : Words) (rows : ℕ) → Clear true names rows lines → Clear true names rows (listed (codes ".inputs") ns ++ lines)
+unfolding named_keyword
+clear_inputs [] lines names rows h = h
+clear_inputs (x ∷ xs) lines names rows h = clear_line Inputs (codes ".inputs" ∷ x ∷ xs) lines true names rows refl (λ e. cc) (λ e. cc) (λ place n e. rw e refl) h
+
+clear_outputs : (ns : Words) (lines : List Words) (names : Words) (rows : ℕ) → Clear true names rows lines → Clear true names rows (listed (codes ".outputs") ns ++ lines)
+unfolding named_keyword
+clear_outputs [] lines names rows h = h
+clear_outputs (x ∷ xs) lines names rows h = clear_line Outputs (codes ".outputs" ∷ x ∷ xs) lines true names rows refl (λ e. cc) (λ e. cc) (λ place n e. rw e refl) h
+
+clear_clocks : (ns : Words) (lines : List Words) (names : Words) (rows : ℕ) → Clear true names rows lines → Clear true names rows (listed (codes ".clock") ns ++ lines)
+unfolding named_keyword
+clear_clocks [] lines names rows h = h
+clear_clocks (x ∷ xs) lines names rows h = clear_line Clock (codes ".clock" ∷ x ∷ xs) lines true names rows refl (λ e. cc) (λ e. cc) (λ place n e. rw e refl) h
+
+clear_end : (lines : List Words) (names : Words) (rows : ℕ) → Clear false names rows lines → Clear true names rows ((codes ".end" ∷ []) ∷ lines)
+unfolding named_keyword
+clear_end lines names rows h = clear_line End (codes ".end" ∷ []) lines true names rows refl (λ e. cc) (λ e. cc) (λ place n e. rw e refl) h
+
+clear_latch : (input out : List ℕ) (kind : LatchKind) (control : Option (List ℕ)) (init : Init) (lines : List Words) (names : Words) (rows : ℕ) → Clear true names rows lines → Clear true names rows (cell_lines (LatchCell input out kind control init) ++ lines)
+unfolding named_keyword
+clear_latch input out Plain control init lines names rows h = let good = init_is init in clear_line Latch (codes ".latch" ∷ input ∷ out ∷ init_word init ∷ []) lines true names rows refl (λ e. cc) (λ e. cc) (λ place n e. rw (e, good) refl) h
+clear_latch input out Rise control init lines names rows h = let good = init_is init in clear_line Latch (codes ".latch" ∷ input ∷ out ∷ codes "re" ∷ control_word control ∷ init_word init ∷ []) lines true names rows refl (λ e. cc) (λ e. cc) (λ place n e. rw (e, good) refl) h
+clear_latch input out Fall control init lines names rows h = let good = init_is init in clear_line Latch (codes ".latch" ∷ input ∷ out ∷ codes "fe" ∷ control_word control ∷ init_word init ∷ []) lines true names rows refl (λ e. cc) (λ e. cc) (λ place n e. rw (e, good) refl) h
+
+clear_inst : (inst : Inst) (lines : List Words) (names : Words) (rows : ℕ) → IsWritableInst inst → Clear true names rows lines → Clear true names rows (inst_line inst ∷ lines)
+unfolding named_keyword
+clear_inst inst lines names rows w h =
+    let bound = are_bound inst.binds w.binds in
+    let few : nat_lt (length (inst_line inst)) 2 ≡ false = le-ltb (length (inst_line inst)) 2 (omega arith) in
+    clear_line Subckt (inst_line inst) lines true names rows refl (λ e. cc) (λ e. cc) (λ place n e. rw (e, few, bound) refl) h
+
+pub clear_insts : (insts : List Inst) (lines : List Words) (names : Words) (rows : ℕ) → AllByRecursion IsWritableInst insts → Clear true names rows lines → Clear true names rows (map inst_line insts ++ lines)
+clear_insts [] lines names rows w h = h
+clear_insts (inst ∷ insts) lines names rows w h = clear_inst inst (map inst_line insts ++ lines) names rows w.0 (clear_insts insts lines names rows w.1 h)
+
+-- a condition that does not hold is passed over
+told_pass : (b : Bool) (fault : BlifFault) (cases : List Case) → b ≡ false → told cases ≡ None → told ((b, fault) ∷ cases) ≡ None
+told_pass b fault cases e h = cond-false b (Some fault) (told cases) e ∙ h
+
+-- where a row of a cover stands
+record InCover (inputs : ℕ) (on : Bool) (before : List Line) : Type 0 where
+  covered : (place_of before).covered ≡ true
+  inputs_are : (place_of before).inputs ≡ inputs
+  unmixed : cond on (place_of before).zeros (place_of before).ones ≡ false
+
+unmixed_row : (on : Bool) (words : Words) (n : ℕ) (place : Place) → last_word words ≡ output_word on → cond on place.zeros place.ones ≡ false → is_mixed place (line_at n words) ≡ false
+unmixed_row true words n place e h = ap (λ (w : List ℕ). cond (is_zero w) place.ones place.zeros) e ∙ h
+unmixed_row false words n place e h = ap (λ (w : List ℕ). cond (is_zero w) place.ones place.zeros) e ∙ h
+
+row_ok : (inputs : ℕ) (on : Bool) (cube : Cube) (words : Words) (n : ℕ) (before : List Line) (names : Words) (rows : ℕ) → IsRowLine inputs on cube words → At true names rows before → InCover inputs on before → rows + 1 ≤ 1048576 → line_fault (place_of before) (model_names before) (line_at n words) ≡ None
+unfolding line_fault
+row_ok inputs on cube words n before names rows row at cover few =
+    let place = place_of before in
+    let l = line_at n words in
+    let shape : is_row_of place.inputs words ≡ true = ap (λ (k : ℕ). is_row_of k words) cover.inputs_are ∙ row.shape in
+    let limit : nat_lt 1048576 (place.rows + 1) ≡ false = ap (λ (k : ℕ). nat_lt 1048576 (k + 1)) at.rows_are ∙ le-ltb 1048576 (rows + 1) few in
+    let limit_case : List Case = (nat_lt 1048576 (place.rows + 1), Limit CoverRows (place.rows + 1)) ∷ [] in
+    let mixed_cases : List Case = (is_mixed place l, MixedRows n) ∷ limit_case in
+    let shape_cases : List Case = (not (is_row_of place.inputs words), RowShape n) ∷ mixed_cases in
+    let outside_cases : List Case = (not place.covered, RowOutside n) ∷ shape_cases in
+    let in_limit = told_pass (nat_lt 1048576 (place.rows + 1)) (Limit CoverRows (place.rows + 1)) [] limit refl in
+    let unmixed = told_pass (is_mixed place l) (MixedRows n) limit_case (unmixed_row on words n place row.output cover.unmixed) in_limit in
+    let shaped = told_pass (not (is_row_of place.inputs words)) (RowShape n) mixed_cases (not_from_true (is_row_of place.inputs words) shape) unmixed in
+    let within = told_pass (not place.covered) (RowOutside n) shape_cases (not_from_true place.covered cover.covered) shaped in
+    ap (λ (q : Keyword). told (cases_of q place (model_names before) l)) row.keyword
+    ∙ told_pass (not place.inside) (NoModel n) outside_cases (not_from_true place.inside at.inside_is) within
+
+at_row : (l : Line) (names : Words) (rows : ℕ) (before : List Line) → Row ≡ keyword_of l.words → At true names rows before → At true names (rows + 1) (l ∷ before)
+at_row l names rows before e at =
+    let p = place_of-cons Row l before e in
+    record {
+      inside_is = ap (λ (q : Place). q.inside) p ∙ at.inside_is;
+      names_are = rw (← e) at.names_are;
+      rows_are = ap (λ (q : Place). q.rows) p ∙ ap (λ (k : ℕ). k + 1) at.rows_are;
+    }
+
+still_unmixed : (on : Bool) (l : Line) (place : Place) → last_word l.words ≡ output_word on → cond on place.zeros place.ones ≡ false → cond on (ends_in_zero l || place.zeros) (ends_in_one l || place.ones) ≡ false
+still_unmixed true l place e h = or_from (ends_in_zero l) place.zeros (ap is_zero e) h
+still_unmixed false l place e h = or_from (ends_in_one l) place.ones (ap is_one e) h
+
+cover_row : (inputs : ℕ) (on : Bool) (l : Line) (before : List Line) → Row ≡ keyword_of l.words → last_word l.words ≡ output_word on → InCover inputs on before → InCover inputs on (l ∷ before)
+cover_row inputs on l before e out cover =
+    let p = place_of-cons Row l before e in
+    record {
+      covered = ap (λ (q : Place). q.covered) p ∙ cover.covered;
+      inputs_are = ap (λ (q : Place). q.inputs) p ∙ cover.inputs_are;
+      unmixed = ap (λ (q : Place). cond on q.zeros q.ones) p ∙ still_unmixed on l (place_of before) out cover.unmixed;
+    }
+
+abbrev ClearRows : ℕ → Bool → Words → ℕ → List Words → Type 0
+ClearRows inputs on names rows lines = (n : ℕ) (before : List Line) → At true names rows before → InCover inputs on before → first_fault before (numbered n lines) ≡ None
+
+clear_rows : (cubes : List Cube) (inputs : ℕ) (on : Bool) (lines : List Words) (names : Words) (rows : ℕ) → rows + length cubes ≤ 1048576 → Clear true names (rows + length cubes) lines → ClearRows inputs on names rows (map (cube_line inputs on) cubes ++ lines)
+clear_rows [] inputs on lines names rows few h n before at cover =
+    let none : rows + 0 ≡ rows = omega arith in
+    let done : Clear true names rows lines = subst (λ (k : ℕ). Clear true names k lines) none h in
+    done n before at
+clear_rows (cube ∷ cubes) inputs on lines names rows few h n before at cover =
+    let words = cube_line inputs on cube in
+    let row = is_row_line inputs on cube in
+    let l = line_at n words in
+    let more : rows + suc (length cubes) ≡ (rows + 1) + length cubes = omega arith in
+    let left : Clear true names ((rows + 1) + length cubes) lines = subst (λ (k : ℕ). Clear true names k lines) more h in
+    first_fault-pass before l (numbered (n + 1) (map (cube_line inputs on) cubes ++ lines)) (row_ok inputs on cube words n before names rows row at cover (omega arith))
+    ∙ clear_rows cubes inputs on lines names (rows + 1) (omega arith) left (n + 1) (l ∷ before) (at_row l names rows before (sym row.keyword) at) (cover_row inputs on l before (sym row.keyword) row.output cover)
+
+clear_cover : (inputs : Words) (out : List ℕ) (cover : Cover) (lines : List Words) (names : Words) (rows : ℕ) → IsWritableCover inputs out cover → rows + length cover.cubes ≤ 1048576 → Clear true names (rows + length cover.cubes) lines
+    → Clear true names rows (cell_lines (NamesCell inputs out cover) ++ lines)
+unfolding named_keyword line_fault
+clear_cover inputs out cover lines names rows w few h n before at =
+    let words = codes ".names" ∷ (inputs ++ out ∷ []) in
+    let l = line_at n words in
+    let place = place_of before in
+    let count : length words ≡ length inputs + 2 = omega (arith, length-append inputs (out ∷ [])) in
+    let enough : nat_lt (length words) 2 ≡ false = le-ltb (length words) 2 (omega arith) in
+    let same : inputs_of words ≡ cover.inputs = omega (arith, w.count) in
+    let wide : nat_lt 64 (inputs_of words) ≡ false = le-ltb 64 (inputs_of words) (omega (arith, w.rules.width)) in
+    let wide_case : List Case = (nat_lt 64 (inputs_of words), TooManyInputs n) ∷ [] in
+    let short_cases : List Case = (nat_lt (length words) 2, Arity n) ∷ wide_case in
+    let narrow = told_pass (nat_lt 64 (inputs_of words)) (TooManyInputs n) [] wide refl in
+    let clean : line_fault place (model_names before) l ≡ None =
+    told_pass (not place.inside) (NoModel n) short_cases (not_from_true place.inside at.inside_is) (told_pass (nat_lt (length words) 2) (Arity n) wide_case enough narrow) in
+    let e : Names ≡ keyword_of words = refl in
+    let p = place_of-cons Names l before e in
+    let inside = at_after Names l true names rows before e (λ q. cc) (λ q. cc) at in
+    let begun : InCover cover.inputs cover.on (l ∷ before) = record {
+      covered = ap (λ (q : Place). q.covered) p;
+      inputs_are = ap (λ (q : Place). q.inputs) p ∙ same;
+      unmixed = ap (λ (q : Place). cond cover.on q.zeros q.ones) p ∙ same_false cover.on;
+    } in
+    first_fault-pass before l (numbered (n + 1) (map (cube_line cover.inputs cover.on) cover.cubes ++ lines)) clean
+    ∙ clear_rows cover.cubes cover.inputs cover.on lines names rows few h (n + 1) (l ∷ before) inside begun
+  where
+    same_false : (b : Bool) → cond b false false ≡ false
+    same_false true = refl
+    same_false false = refl
+
+clear_cell : (cell : Cell) (lines : List Words) (names : Words) (rows : ℕ) → IsWritableCell cell → rows + cell_rows cell ≤ 1048576 → Clear true names (rows + cell_rows cell) lines → Clear true names rows (cell_lines cell ++ lines)
+clear_cell (NamesCell inputs out cover) lines names rows w few h = clear_cover inputs out cover lines names rows w few h
+clear_cell (LatchCell input out kind control init) lines names rows w few h =
+    let none : rows + 0 ≡ rows = omega arith in
+    clear_latch input out kind control init lines names rows (subst (λ (k : ℕ). Clear true names k lines) none h)
+
+clear_cells : (cells : List Cell) (lines : List Words) (names : Words) (rows : ℕ) → AllByRecursion IsWritableCell cells → rows + cells_rows cells ≤ 1048576 → Clear true names (rows + cells_rows cells) lines → Clear true names rows (flat_map cell_lines cells ++ lines)
+clear_cells [] lines names rows w few h =
+    let none : rows + cells_rows [] ≡ rows = omega arith in
+    subst (λ (k : ℕ). Clear true names k lines) none h
+clear_cells (cell ∷ cells) lines names rows w few h =
+    let count = sum_by-cons cell_rows cell cells in
+    let more : rows + cells_rows (cell ∷ cells) ≡ (rows + cell_rows cell) + cells_rows cells = omega (arith, count) in
+    let left : Clear true names ((rows + cell_rows cell) + cells_rows cells) lines = subst (λ (k : ℕ). Clear true names k lines) more h in
+    let later = clear_cells cells lines names (rows + cell_rows cell) w.1 (omega (arith, more)) left in
+    let here = clear_cell cell (flat_map cell_lines cells ++ lines) names rows w.0 (omega (arith, more)) later in
+    subst (Clear true names rows) (sym (append_assoc (cell_lines cell) (flat_map cell_lines cells) lines)) here
+
+-- a model's lines before others
+abbrev pub body_before : ModelOf → List Words → List Words
+body_before m lines =
+    listed (codes ".inputs") m.inputs
+    ++ (listed (codes ".outputs") m.outputs ++ (listed (codes ".clock") m.clocks ++ (flat_map cell_lines m.cells ++ (map inst_line m.insts ++ ((codes ".end" ∷ []) ∷ lines)))))
+
+pub body_before_is : (m : ModelOf) (lines : List Words) → body_lines m ++ lines ≡ body_before m lines
+body_before_is m lines = simp append_assoc
+
+clear_body : (m : ModelOf) (lines : List Words) (names : Words) (rows : ℕ) → IsWritableModel m → rows + model_rows m ≤ 1048576 → Clear false names (rows + model_rows m) lines → Clear true names rows (body_lines m ++ lines)
+clear_body m lines names rows w few h =
+    let ended = clear_end lines names (rows + model_rows m) h in
+    let insts = clear_insts m.insts _ names (rows + model_rows m) w.insts ended in
+    let cells = clear_cells m.cells _ names rows w.cells few insts in
+    let clocks = clear_clocks m.clocks _ names rows cells in
+    let outputs = clear_outputs m.outputs _ names rows clocks in
+    let inputs = clear_inputs m.inputs _ names rows outputs in
+    subst (Clear true names rows) (sym (body_before_is m lines)) inputs
+
+all_middle : {X : Type 0} (P : X → Type 0) (xs : List X) (y : X) (ys : List X) → AllByRecursion P (xs ++ y ∷ ys) → P y
+all_middle P [] y ys h = h.0
+all_middle P (x ∷ xs) y ys h = all_middle P xs y ys h.1
+
+new_name : (names : Words) (name : List ℕ) (later : Words) → IsDistinct bytes_eq (names ++ name ∷ later) → list_any (λ other. bytes_eq other name) names ≡ false
+unfolding IsDistinct
+new_name [] name later d = refl
+new_name (x ∷ xs) name later d = or_from (bytes_eq x name) (list_any (λ other. bytes_eq other name) xs) (all_middle (λ y. bytes_eq x y ≡ false) xs name later d.0) (new_name xs name later d.1)
+
+clear_title : (name : List ℕ) (lines : List Words) (inside : Bool) (names : Words) (rows : ℕ) → list_any (λ other. bytes_eq other name) names ≡ false → length names + 1 ≤ 4096 → Clear true (names ++ name ∷ []) rows lines → Clear inside names rows ((codes ".model" ∷ name ∷ []) ∷ lines)
+unfolding named_keyword line_fault
+clear_title name lines inside names rows fresh few h n before at =
+    let words = codes ".model" ∷ name ∷ [] in
+    let l = line_at n words in
+    let place = place_of before in
+    let new : list_any (λ other. bytes_eq other name) (model_names before) ≡ false = ap (λ (ns : Words). list_any (λ other. bytes_eq other name) ns) at.names_are ∙ fresh in
+    let count : place.models ≡ length names = place_models before ∙ ap length at.names_are in
+    let limit : nat_lt 4096 (place.models + 1) ≡ false = le-ltb 4096 (place.models + 1) (omega arith) in
+    let limit_case : List Case = (nat_lt 4096 (place.models + 1), Limit Models (place.models + 1)) ∷ [] in
+    let few_models = told_pass (nat_lt 4096 (place.models + 1)) (Limit Models (place.models + 1)) [] limit refl in
+    let clean : line_fault place (model_names before) l ≡ None =
+    told_pass (list_any (λ other. bytes_eq other name) (model_names before)) (DuplicateModel n) limit_case new few_models in
+    let e : Model ≡ keyword_of words = refl in
+    let p = place_of-cons Model l before e in
+    let opened : At true (names ++ name ∷ []) rows (l ∷ before) = record {
+      inside_is = ap (λ (q : Place). q.inside) p;
+      names_are = ap (λ (ns : Words). ns ++ name ∷ []) at.names_are;
+      rows_are = ap (λ (q : Place). q.rows) p ∙ at.rows_are;
+    } in
+    first_fault-pass before l (numbered (n + 1) lines) clean ∙ h (n + 1) (l ∷ before) opened
+
+clear_models : (ms : List ModelOf) (inside : Bool) (names : Words) (rows : ℕ) → AllByRecursion IsWritableModel ms → IsDistinct bytes_eq (names ++ map model_name ms) → length names + length ms ≤ 4096 → rows + sum_by model_rows ms ≤ 1048576 → Clear inside names rows (models_lines ms)
+clear_models [] inside names rows w d few_models few_rows = λ n before at. refl
+clear_models (m ∷ ms) inside names rows w d few_models few_rows =
+    let count = sum_by-cons model_rows m ms in
+    let pushed = length_push names m.name in
+    let fresh = new_name names m.name (map model_name ms) d in
+    let apart : IsDistinct bytes_eq ((names ++ m.name ∷ []) ++ map model_name ms) = subst (IsDistinct bytes_eq) (sym (append_assoc names (m.name ∷ []) (map model_name ms))) d in
+    let later = clear_models ms false (names ++ m.name ∷ []) (rows + model_rows m) w.1 apart (omega (arith, pushed)) (omega (arith, count)) in
+    let body = clear_body m (models_lines ms) (names ++ m.name ∷ []) rows w.0 (omega (arith, count)) later in
+    clear_title m.name (body_lines m ++ models_lines ms) inside names rows fresh (omega arith) body
+
+start : At false [] 0 []
+unfolding place_of
+start = record { inside_is = refl; names_are = refl; rows_are = refl }
+
+-- no line of writable models is at fault
+pub models_clear : (ms : List ModelOf) → AllByRecursion IsWritableModel ms → IsDistinct bytes_eq (map model_name ms) → length ms ≤ 4096 → sum_by model_rows ms ≤ 1048576 → first_fault [] (numbered 1 (models_lines ms)) ≡ None
+models_clear ms w d few_models few_rows = clear_models ms false [] 0 w d (omega arith) (omega arith) 1 [] start

@@ -1,0 +1,10 @@
+pub mod Lines
+pub mod Spelled
+pub mod TextLaw
+pub mod LineWords
+pub mod FaultLaw
+pub mod CubeBack
+pub mod DesignLaw
+pub mod SpelledLines
+pub mod Law
+pub mod Examples

@@ -1,0 +1,4 @@
+pub mod Canonical
+pub mod Writable
+pub mod Pieces
+pub mod Examples

@@ -1,0 +1,10 @@
+//! The writer of BLIF texts (Berkeley Logic Interchange Format): a design as its canonical text,
+//! which the reader gives back.
+#![tactic(auto)]
+
+mod writer;
+
+pub use writer::{read_back_law, write};
+
+#[cfg(test)]
+mod tests;
