@@ -1,0 +1,4 @@
+pub mod BoardLemmas
+pub mod PlainLemmas
+pub mod StartLemmas
+pub mod WordLemmas

@@ -1,0 +1,99 @@
+-- The laws of words: what a place shows, when a word is zero, and which bits are set.
+use Rattle.std.proofs.Common.{◌≡◌, ℕ, zero, suc, ◌+◌, ◌-◌, ◌*◌, ◌/◌, ◌%◌, ◌<◌, ◌≤◌, ◌==◌, ◌↔◌, cond, Bool, true, false, List, length, get_or, take, refl, sym, ◌∙◌, ap, subst, arith, eq-eqb, ne_eqb, lt_of_not-le}
+use Rattle.std.proofs.Math.Nat.{mul-le-mul_left, div-add-mod, add-mul-mod_self_left, mul-add-mod_self_left, mod-eq_of_lt}
+use Rattle.std.proofs.lemmas.List.{length-take-le, get_or-take}
+use Rattle.lid_station.specs.Words.{half, half_of, word, word_number}
+use mathlib.Core.Logic.{dite}
+use native.Mathlib.Decide.{dec_le, ℕ_discrete}
+
+further : (x y n : ℕ) → x < y → n * x + n ≤ n * y
+further x y n h =
+    let more : n * suc x ≤ n * y = mul-le-mul_left n h in
+    let wide : n * suc x ≡ n * x + n = omega arith in
+    omega arith
+
+-- two numbers less than a capacity apart that stand in one place are one number
+pub one_turn : (i j cap : ℕ) → i ≤ j → j < i + cap → i % cap ≡ j % cap → i ≡ j
+one_turn i j cap le near same =
+    let x = div-add-mod i cap in
+    let y = div-add-mod j cap in
+    dite (dec_le (j / cap) (i / cap))
+    (λ low. let most : cap * (j / cap) ≤ cap * (i / cap) = mul-le-mul_left cap low in omega arith)
+    (λ high. let least = further (i / cap) (j / cap) cap (lt_of_not-le high) in absurd (omega arith))
+
+-- each place is that of one of as many numbers as the capacity
+pub reach : (first cap place : ℕ) → place < cap → (i : ℕ) × (first ≤ i) × (i < first + cap) × (i % cap ≡ place)
+reach first cap place within =
+    let x = div-add-mod first cap in
+    let low : first % cap < cap = omega arith in
+    dite (dec_le (first % cap) place)
+    (λ here. (cap * (first / cap) + place, omega arith, omega arith, mul-add-mod_self_left cap (first / cap) place ∙ mod-eq_of_lt within))
+    (λ later.
+    let up : cap * suc (first / cap) ≡ cap * (first / cap) + cap = omega arith in
+    let over : place < first % cap = lt_of_not-le later in
+    (cap * suc (first / cap) + place, omega arith, omega arith, mul-add-mod_self_left cap (suc (first / cap)) place ∙ mod-eq_of_lt within))
+
+half-same : (cap : ℕ) (tokens : List ℕ) (first count place : ℕ) → (first + count) % cap ≡ place → half cap tokens first (suc count) place ≡ 2147483648 + get_or tokens (first + count) 0
+unfolding half
+half-same cap tokens first count place here = rw (eq-eqb ((first + count) % cap) place here) refl
+
+half-other : (cap : ℕ) (tokens : List ℕ) (first count place : ℕ) → ((first + count) % cap ≡ place → ⊥) → half cap tokens first (suc count) place ≡ half cap tokens first count place
+unfolding half
+half-other cap tokens first count place there = rw (ne_eqb ((first + count) % cap) place there) refl
+
+half-none : (cap : ℕ) (tokens : List ℕ) (first place : ℕ) → half cap tokens first 0 place ≡ 0
+unfolding half
+half-none cap tokens first place = refl
+
+-- a place shows the token that stands there, with the full bit
+pub half-token : (cap : ℕ) (tokens : List ℕ) (first count place i : ℕ) → count ≤ cap → first ≤ i → i < first + count → i % cap ≡ place → half cap tokens first count place ≡ 2147483648 + get_or tokens i 0
+half-token cap tokens first zero place i few from to here = absurd (omega arith)
+half-token cap tokens first (suc count) place i few from to here =
+    dite (ℕ_discrete i (first + count))
+    (λ last. half-same cap tokens first count place (ap (λ (k : ℕ). k % cap) (sym last) ∙ here) ∙ ap (λ (k : ℕ). 2147483648 + get_or tokens k 0) (sym last))
+    (λ earlier.
+    half-other cap tokens first count place (λ again. earlier (one_turn i (first + count) cap (omega arith) (omega arith) (here ∙ sym again)))
+    ∙ half-token cap tokens first count place i (omega arith) from (omega arith) here)
+
+-- a place where no token stands shows 0
+pub half-empty : (cap : ℕ) (tokens : List ℕ) (first count place : ℕ) → ((i : ℕ) → first ≤ i → i < first + count → i % cap ≡ place → ⊥) → half cap tokens first count place ≡ 0
+half-empty cap tokens first zero place none = half-none cap tokens first place
+half-empty cap tokens first (suc count) place none =
+    half-other cap tokens first count place (none (first + count) (omega arith) (omega arith))
+    ∙ half-empty cap tokens first count place (λ i from to. none i from (omega arith))
+
+-- a free place shows 0
+pub half-free : (cap : ℕ) (tokens : List ℕ) (first count i : ℕ) → first + count ≤ i → i < first + cap → half cap tokens first count (i % cap) ≡ 0
+half-free cap tokens first count i from to =
+    half-empty cap tokens first count (i % cap) (λ j low high same.
+    let equal : j ≡ i = one_turn j i cap (omega arith) (omega arith) same in omega arith)
+
+-- what is no place shows 0
+pub half-past : (cap : ℕ) (tokens : List ℕ) (first count place : ℕ) → 0 < cap → cap ≤ place → half cap tokens first count place ≡ 0
+half-past cap tokens first count place some past =
+    half-empty cap tokens first count place (λ i low high same. let below : i % cap < cap = omega arith in omega arith)
+
+-- a place shows 0 exactly where no token stands there
+pub half-zero : (cap : ℕ) (tokens : List ℕ) (first count place : ℕ) → count ≤ cap → (half cap tokens first count place ≡ 0) ↔ ((i : ℕ) → first ≤ i → i < first + count → i % cap ≡ place → ⊥)
+half-zero cap tokens first count place few = (
+  (λ zero_there i low high here. let full = half-token cap tokens first count place i few low high here in omega arith),
+  half-empty cap tokens first count place,
+)
+
+-- each place of a station that holds its capacity has its full bit
+pub half-full : (cap : ℕ) (tokens : List ℕ) (first place : ℕ) → place < cap → 2147483648 ≤ half cap tokens first cap place
+half-full cap tokens first place within =
+    let at = reach first cap place within in
+    let is = half-token cap tokens first cap place at.0 (omega arith) at.1 at.2 at.3 in omega arith
+
+-- a word is zero exactly where both its places show 0
+pub word-zero : (cap : ℕ) (filled drained : List ℕ) (number : ℕ) → (word cap filled drained number ≡ 0) ↔ ((half_of cap filled drained (2 * number) ≡ 0) × (half_of cap filled drained (2 * number + 1) ≡ 0))
+unfolding word
+word-zero cap filled drained number = ((λ zero_word. (omega arith, omega arith)), (λ both. let even = both.0 in let odd = both.1 in omega arith))
+
+-- a word of a station that holds nothing is zero
+pub word-nothing : (cap : ℕ) (filled drained : List ℕ) (number : ℕ) → length filled ≤ length drained → word cap filled drained number ≡ 0
+word-nothing cap filled drained number nothing =
+    let none : length filled - length drained ≡ 0 = omega arith in
+    let empty : (place : ℕ) → half_of cap filled drained place ≡ 0 = λ place. ap (λ (n : ℕ). half cap filled (length drained) n place) none ∙ half-none cap filled (length drained) place in
+    (word-zero cap filled drained number).1 (empty (2 * number), empty (2 * number + 1))

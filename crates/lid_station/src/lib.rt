@@ -1,0 +1,17 @@
+//! Stations of a stated capacity: what may be done at their two ends, whoever keeps the tokens, and
+//! a plain board of stations for one thread.
+#![tactic(auto)]
+
+mod looks;
+mod mover;
+mod pair;
+mod plain;
+mod stations;
+#[cfg(test)]
+mod tests;
+
+pub use looks::{End, InLook, OutLook, Side};
+pub use mover::{Carried, carry};
+pub use pair::Pair;
+pub use plain::PlainBoard;
+pub use stations::Stations;
