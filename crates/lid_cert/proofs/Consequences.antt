@@ -1,20 +1,20 @@
 -- The consequences of a certificate.
-use Rattle.std.proofs.Common.{◌≡◌, ℕ, zero, suc, ◌+◌, ◌-◌, ◌*◌, ◌/◌, ◌%◌, ◌<◌, ◌≤◌, ◌≢◌, ◌⊎◌, inl, inr, Bool, true, false, cond, List, [], ◌∷◌, length, get_or, Option, Some, None, refl, sym, ◌∙◌, ap, subst, arith}
+use Rattle.std.proofs.Common.{◌≡◌, ℕ, zero, suc, ◌+◌, ◌-◌, ◌*◌, ◌/◌, ◌%◌, ◌<◌, ◌≤◌, ◌⊎◌, inl, inr, Bool, true, false, cond, List, [], ◌∷◌, length, Option, Some, None, refl, sym, ◌∙◌, ap, subst, arith}
 use Rattle.std.specs.List.{Contains, filter}
 use Rattle.std.specs.Option.{MatchOption}
 use Rattle.std.proofs.lemmas.Bool.{cases_eq, cases_lt}
 use Rattle.std.proofs.lemmas.List.Elements.{All-contains}
 use Rattle.std.proofs.lemmas.List.Sums.{length-filter}
-use Rattle.std.proofs.Math.Nat.{mul-le-mul_left, mul-le-mul_right, div-add-mod, mod-lt}
+use Rattle.std.proofs.Math.Nat.{mul-le-mul_left, mul-le-mul_right, div-add-mod}
 use Rattle.lid_graph.specs.declared.graph.Graph.{Graph}
-use Rattle.lid_graph.specs.Walks.{no_edge, edge_at, IsPaired, IsWalk, IsClosedWalk, IsJoined, walk_start, walk_tokens}
-use Rattle.lid_graph.specs.Firings.{Counts, no_hold, firings, least_into, AreFitCaps, IsFirstAtCap}
-use Rattle.lid_graph.specs.Ratios.{IsClosedWalkNear, IsRatio}
+use Rattle.lid_graph.specs.Walks.{edge_at, IsPaired, IsWalk, IsClosedWalk, IsJoined, walk_start, walk_tokens}
+use Rattle.lid_graph.specs.Firings.{Counts, no_hold, firings, least_into, AreFitCaps}
+use Rattle.lid_graph.specs.Ratios.{IsRatio}
 use Rattle.lid_graph.proofs.Counting.{Allowing, least_into-cases, firings-cap, firings-edge, firings-walk, firings-cycles}
 use Rattle.lid_graph.proofs.Journeys.{joined-step, joined-back}
 use Rattle.lid_cert.specs.declared.cert.Part.{Part}
 use Rattle.lid_cert.specs.declared.cert.Cert.{Cert}
-use Rattle.lid_cert.specs.Certificates.{has_node, lag_of, lead_of, depth_of, via_of, IsPart, IsVia, IsNodeMet, Certifies, parts_with}
+use Rattle.lid_cert.specs.Certificates.{has_node, lag_of, lead_of, depth_of, via_of, IsPart, IsVia, parts_with}
 use Rattle.lid_cert.specs.Laws.{Shows, EachIsShown, WalksHaveTokens, RatioIsShown, LagsAreShown, LeadsBoundFirings, LagsBoundFirings, CapsAreReached, quotient_up}
 use Rattle.lid_cert.proofs.Parts.{node-within, node_met, edge_met, stays-forth, stays-back, lag_along}
 

@@ -1,16 +1,11 @@
 -- What the rules of a part say of its transitions and of walks.
-use Rattle.std.proofs.Common.{◌≡◌, ℕ, zero, suc, ◌+◌, ◌*◌, ◌<◌, ◌≤◌, ◌≢◌, ◌==◌, Bool, true, false, List, [], ◌∷◌, length, get_or, position, Option, Some, None, is_some, refl, sym, ◌∙◌, ap, subst, arith}
-use Rattle.std.specs.List.{Contains}
+use Rattle.std.proofs.Common.{◌≡◌, ℕ, ◌+◌, ◌*◌, ◌<◌, ◌≤◌, ◌==◌, true, List, [], ◌∷◌, length, get_or, Option, Some, None, is_some, refl, sym, ◌∙◌, ap, subst, arith}
 use Rattle.std.proofs.lemmas.Bool.{eqb-true}
-use Rattle.std.proofs.lemmas.List.Elements.{All-contains}
 use Rattle.std.proofs.lemmas.List.Quantifiers.{position-Some}
-use Rattle.std.proofs.Math.Nat.{mul-le-mul_left, mul-le-mul_right}
-use Rattle.lid_graph.specs.declared.graph.Edge.{Edge}
 use Rattle.lid_graph.specs.declared.graph.Graph.{Graph}
-use Rattle.lid_graph.specs.Walks.{no_edge, edge_at, IsPaired, IsWalk, IsJoined, walk_start, walk_tokens}
+use Rattle.lid_graph.specs.Walks.{no_edge, edge_at, IsWalk, walk_start, walk_tokens}
 use Rattle.lid_cert.specs.declared.cert.Part.{Part}
-use Rattle.lid_cert.specs.declared.cert.Cert.{Cert}
-use Rattle.lid_cert.specs.Certificates.{place_in, has_node, lag_of, lead_of, depth_of, via_of, IsEdgeMet, IsPart, IsNodeMet, Certifies}
+use Rattle.lid_cert.specs.Certificates.{place_in, has_node, lag_of, IsEdgeMet, IsPart, IsNodeMet}
 
 -- where a transition of a part stands
 pub record Placed (part : Part) (v : ℕ) : Type 0 where

@@ -1,5 +1,5 @@
 -- What a certificate shows: the rules for its parts, walks, lags, leads, depths and via edges.
-use Rattle.std.specs.Prelude.{◌≡◌, ℕ, ◌+◌, ◌-◌, ◌*◌, ◌^◌, ◌<◌, ◌≤◌, ◌==◌, ◌≢◌, nat_le, Bool, true, ◌&&◌, IsTrue, List, [], ◌∷◌, length, map, position, slice_index, slice_index_or, Option, Some, None, is_some, MatchOption}
+use Rattle.std.specs.Prelude.{◌≡◌, ℕ, ◌+◌, ◌-◌, ◌*◌, ◌^◌, ◌<◌, ◌≤◌, ◌==◌, ◌≢◌, nat_le, Bool, true, ◌&&◌, List, [], ◌∷◌, length, map, position, slice_index, slice_index_or, Option, None, is_some, MatchOption}
 use Rattle.std.specs.Int.{IsGcd}
 use Rattle.std.specs.List.{All, count_by}
 use Rattle.std.specs.Option.{option_map_or}

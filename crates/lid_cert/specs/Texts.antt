@@ -1,7 +1,7 @@
 -- Certificates as texts: how they are read, as a function of the whole text, and how they are written.
-use Rattle.std.specs.Prelude.{◌≡◌, ℕ, zero, suc, ◌+◌, ◌-◌, ◌*◌, ◌^◌, ◌<◌, ◌≤◌, ◌==◌, nat_lt, nat_le, Bool, true, false, not, ◌&&◌, ◌||◌, if◌then◌else◌, List, [], ◌∷◌, ◌++◌, length, drop, take, map, codes, bytes_eq, slice_index, slice_index_or, Option, Some, None, is_some, unwrap_or}
+use Rattle.std.specs.Prelude.{◌≡◌, ℕ, zero, suc, ◌+◌, ◌-◌, ◌*◌, ◌^◌, ◌==◌, nat_lt, nat_le, Bool, true, false, not, ◌&&◌, ◌||◌, if◌then◌else◌, List, [], ◌∷◌, ◌++◌, length, drop, take, map, codes, bytes_eq, slice_index, slice_index_or, Option, Some, None, is_some, unwrap_or}
 use Rattle.std.specs.Fmt.{decimal}
-use Rattle.std.specs.List.{list_all, flat_map, join_with_byte, range_with_len}
+use Rattle.std.specs.List.{list_all, flat_map}
 use Rattle.lid_base.specs.Lines.{logical_lines, text_fault}
 use Rattle.lid_base.specs.declared.line.Line.{Line}
 use Rattle.lid_base.specs.declared.line.TextFault.{TextFault}
@@ -121,7 +121,7 @@ fault_in bytes (Some fault) = of_text fault
 -- why a text stands for no certificate
 unfoldable pub cert_fault : List ℕ → Option CertFault
 cert_fault bytes =
-    if nat_lt 67108864 (length bytes) then Some (Limit FileBytes (length bytes)) else fault_in bytes (text_fault 1024 bytes)
+    if nat_lt 16777216 (length bytes) then Some (Limit FileBytes (length bytes)) else fault_in bytes (text_fault 1024 bytes)
 
 -- what stands past the last line
 abbrev pub no_line : Line

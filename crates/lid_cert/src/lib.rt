@@ -12,6 +12,8 @@ mod printing;
 mod reading;
 mod rules;
 mod stage;
+#[cfg(test)]
+mod tests;
 mod words;
 
 pub use cert::{Cert, Part};

@@ -15,7 +15,7 @@ use lid_base::{Items, Line, TextFault, Which, lines};
 use std::alloc::Global;
 
 /// The most bytes of a certificate's text.
-const MOST_BYTES: usize = 67_108_864;
+const MOST_BYTES: usize = 16_777_216;
 
 /// The most bytes of a word.
 const LONGEST_WORD: u32 = 1024;
@@ -49,7 +49,7 @@ fn parts_from(alloc: Global, lines: &[Line]) -> Result<Items<Part>, CertFault>
 /// The certificate of a text that is not too long.
 #[tactic(auto, unfolding(crate::specs::Texts::cert_of))]
 fn cert_from(alloc: Global, bytes: &[u8]) -> Result<Cert, CertFault>
-    requires { length bytes.now ≤ 67108864 }
+    requires { length bytes.now ≤ 16777216 }
     ensures ok { IfOk result (λ cert. (fault_in bytes.now (text_fault 1024 bytes.now) ≡ None) × (cert ≡ cert_of bytes.now)) }
     ensures err { IfErr result (λ e. (e ≡ CertFault.Memory) ⊎ (fault_in bytes.now (text_fault 1024 bytes.now) ≡ Some e)) }
 {
@@ -66,7 +66,7 @@ fn cert_from(alloc: Global, bytes: &[u8]) -> Result<Cert, CertFault>
 ///
 /// # Errors
 /// `Limit` of `FileBytes`, with the length of the text, comes first of all, where there are more than
-/// 67,108,864 bytes. Then `Word` tells the first line with a bad byte or a long word, and then the
+/// 16,777,216 bytes. Then `Word` tells the first line with a bad byte or a long word, and then the
 /// first line that has not the form that is due there. `Memory` may come at any text.
 #[tactic(auto, unfolding(crate::specs::Texts::cert_fault))]
 pub fn read_cert(alloc: Global, bytes: &[u8]) -> Result<Cert, CertFault>

@@ -1,5 +1,5 @@
-use Rattle.std.proofs.Common.{◌≡◌, map, take}
-use Rattle.lid_cert.specs.Texts.{column, via_value, word_at}
+use Rattle.std.proofs.Common.{◌≡◌, take}
+use Rattle.lid_cert.specs.Texts.{column}
 use Rattle.lid_cert.proofs.building.large_column.Given as goal
 
 abbrev pub invariant-loop-line : goal.invariant-loop-line

@@ -1,5 +1,5 @@
 use Rattle.std.proofs.Common.{◌≡◌, map, take}
-use Rattle.lid_cert.specs.Texts.{column, via_value, word_at}
+use Rattle.lid_cert.specs.Texts.{via_value, word_at}
 use Rattle.lid_cert.proofs.building.via_column.Given as goal
 
 abbrev pub invariant-loop-line : goal.invariant-loop-line

@@ -1,4 +1,4 @@
-use Rattle.std.proofs.Common.{ℕ, ◌≡◌, get_or, subst, ◌∙◌, below_more, arith}
+use Rattle.std.proofs.Common.{ℕ, get_or, subst, ◌∙◌, below_more}
 use Rattle.std.proofs.lemmas.List.{get_or_default}
 use Rattle.lid_cert.specs.declared.cert.Part.{Part}
 use Rattle.lid_cert.specs.Certificates.{IsPart}

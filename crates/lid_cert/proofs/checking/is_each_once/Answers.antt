@@ -1,4 +1,4 @@
-use Rattle.std.proofs.Common.{ℕ, ◌≡◌, ◌<◌, ◌≤◌, below_more, refl, arith}
+use Rattle.std.proofs.Common.{ℕ, ◌≡◌, below_more, refl, arith}
 use Rattle.std.specs.List.{count_by}
 use Rattle.lid_cert.specs.Certificates.{has_node}
 use Rattle.lid_cert.proofs.checking.is_each_once.Goals as goal

@@ -1,4 +1,4 @@
-use Rattle.std.proofs.Common.{◌+◌, ◌-◌, ◌/◌, ◌<◌, ◌≤◌, ℕ, length, get_or, sym, arith}
+use Rattle.std.proofs.Common.{◌+◌, ◌-◌, ◌/◌, ◌<◌, get_or, sym, arith}
 use Rattle.lid_cert.proofs.Ascending.{place_found, place_missing, below_middle, above_middle, none_between}
 use Rattle.lid_cert.proofs.places.search.Goals as goal
 

@@ -1,9 +1,8 @@
-use Rattle.std.proofs.Common.{◌≡◌, ℕ, List, Result, Ok, Err, IfOk, sym, ap, subst}
+use Rattle.std.proofs.Common.{◌≡◌, ℕ, List, Result, Ok, Err, IfOk, sym, subst}
 use Rattle.std.specs.List.{All}
 use Rattle.lid_base.specs.Lines.{logical_lines}
-use Rattle.lid_cert.specs.declared.cert.Part.{Part}
 use Rattle.lid_cert.specs.declared.cert.Cert.{Cert}
-use Rattle.lid_cert.specs.Certificates.{AreLists, IsInRange, IsPartInRange}
+use Rattle.lid_cert.specs.Certificates.{AreLists, IsInRange}
 use Rattle.lid_cert.specs.Texts.{cert_of}
 use Rattle.lid_cert.proofs.Read.{parts_of-range, parts_of-lists}
 use Rattle.lid_cert.proofs.reading.read_cert.Goals as goal
