@@ -1,6 +1,6 @@
 -- What a change at one end says of it and of the others.
-use Rattle.std.proofs.Common.{◌≡◌, ℕ, ◌+◌, ◌*◌, ◌==◌, cond, refl, sym, ◌∙◌, ap, arith, eq-eqb, ne_eqb}
-use Rattle.std.specs.Prelude.{List, Option, Some, None, option_map, slice_get}
+use Rattle.std.proofs.Common.{◌≡◌, ℕ, refl, sym, ◌∙◌, ap, arith, eq-eqb, ne_eqb}
+use Rattle.std.specs.Prelude.{List, Some, option_map, slice_get}
 use Rattle.lid_station.specs.declared.looks.InLook.{InLook}
 use Rattle.lid_station.specs.declared.looks.InLook.TheVariants.{Token, Void}
 use Rattle.lid_station.specs.declared.looks.OutLook.{OutLook}
@@ -13,6 +13,10 @@ pub changed_here : (old new : Ends) (end : ℕ) (step : Facts → Facts) (f : Fa
 changed_here old new end step f changes at =
     changes end ∙ rw (eq-eqb end end refl) (ap (option_map step) at)
 
+-- the end that changed
+pub changed_at : (old new : Ends) (end : ℕ) (step : Facts → Facts) → Changes old end step new → new end ≡ option_map step (old end)
+changed_at old new end step changes = changes end ∙ rw (eq-eqb end end refl) refl
+
 -- what is known of another end
 pub changed_else : (old new : Ends) (end k : ℕ) (step : Facts → Facts) → Changes old end step new → (k ≡ end → ⊥) → new k ≡ old k
 changed_else old new end k step changes other =
@@ -23,11 +27,11 @@ pub fill-drain : (i j : ℕ) → fill i ≡ drain j → ⊥
 fill-drain i j e = omega arith
 
 -- no look changes how many tokens passed
-looked_in-passed : (x : InLook) (f : Facts) → (looked_in x f).passed ≡ f.passed
+pub looked_in-passed : (x : InLook) (f : Facts) → (looked_in x f).passed ≡ f.passed
 looked_in-passed (Token token) f = refl
 looked_in-passed (Void told) f = refl
 
-looked_out-passed : (x : OutLook) (f : Facts) → (looked_out x f).passed ≡ f.passed
+pub looked_out-passed : (x : OutLook) (f : Facts) → (looked_out x f).passed ≡ f.passed
 looked_out-passed Room f = refl
 looked_out-passed (Stop told) f = refl
 

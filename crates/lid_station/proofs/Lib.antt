@@ -1,4 +1,5 @@
 pub mod BoardLemmas
 pub mod PlainLemmas
+pub mod PrefixLemmas
 pub mod StartLemmas
 pub mod WordLemmas

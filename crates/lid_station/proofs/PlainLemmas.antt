@@ -1,13 +1,15 @@
 -- Plain stations: what their ends tell of them, and for which streams they stand after a step.
-use Rattle.std.proofs.Common.{◌≡◌, ℕ, zero, suc, ◌+◌, ◌-◌, ◌*◌, ◌/◌, ◌%◌, ◌^◌, ◌<◌, ◌≤◌, ◌==◌, cond, Bool, true, false, List, [], ◌∷◌, length, get_or, take, set, refl, sym, ◌∙◌, ap, subst, arith, nat_lt, lt_of_not-le, lt-ltb, le-ltb, length-set, eq-eqb, ne_eqb}
-use Rattle.std.specs.Prelude.{Option, Some, None, option_map, slice_get}
+use Rattle.std.proofs.Common.{◌≡◌, ℕ, zero, suc, ◌+◌, ◌-◌, ◌*◌, ◌/◌, ◌%◌, ◌^◌, ◌<◌, ◌≤◌, ◌==◌, cond, true, false, List, [], ◌∷◌, length, get_or, take, set, refl, sym, ◌∙◌, ap, subst, arith, nat_lt, lt_of_not-le, lt-ltb, le-ltb, length-set, eq-eqb, ne_eqb}
+use Rattle.std.specs.Prelude.{Option, Some, option_map, slice_get}
 use Rattle.std.proofs.lemmas.Option.{slice_get_within, same_Some, get_or_from_slice_get, slice_get-get_or, slice_get_read}
 use Rattle.std.proofs.lemmas.List.{length-take-le, get_or-take, get_or-set_same, get_or-set_other}
 use Rattle.lid_station.specs.declared.pair.Pair.{Pair}
-use Rattle.lid_station.specs.Boards.{Facts, Changes, fill, drain}
+use Rattle.lid_station.specs.Boards.{Changes, Facts, IsServed, drain, fill, looked_out}
 use Rattle.lid_station.specs.Plain.{end_facts, plain_ends, Holds, PlainStands, PlainAdmits}
-use Rattle.lid_station.specs.PlainLaws.{ends-even, ends-odd, at-fill, at-drain}
-use Rattle.lid_station.specs.Words.{half, half_of, word, word_number}
+use Rattle.lid_station.specs.PlainLaws.{at-drain, at-fill, ends-even, ends-odd, mapped}
+use Rattle.lid_station.specs.Words.{half, half_of, word}
+use Rattle.lid_station.specs.declared.looks.OutLook.{OutLook}
+use Rattle.lid_station.proofs.BoardLemmas.{changed_at, looked_out-passed}
 use Rattle.lid_station.proofs.WordLemmas.{one_turn, reach, half-token, half-past}
 use mathlib.Core.Logic.{dite}
 use native.Mathlib.Decide.{dec_le, ℕ_discrete}
@@ -175,3 +177,35 @@ told-word p stream number even odd low high holds full is_even is_odd is_low is_
     let below = is_low ∙ shown-half p stream even holds full ∙ ap (λ (k : ℕ). half_of (length p.places.items) (take p.put stream) (take (p.put - length p.places.items) stream) k) is_even in
     let above = is_high ∙ shown-half p stream odd holds full ∙ ap (λ (k : ℕ). half_of (length p.places.items) (take p.put stream) (take (p.put - length p.places.items) stream) k) is_odd in
     ap (λ (x : ℕ). x + 4294967296 * high) below ∙ ap (λ (y : ℕ). half_of (length p.places.items) (take p.put stream) (take (p.put - length p.places.items) stream) (2 * number) + 4294967296 * y) above
+
+-- each number below how many there are is that of a station
+pub station-there : (pairs : List Pair) (station : ℕ) → station < length pairs → (p : Pair) × (slice_get pairs station ≡ Some p)
+station-there [] station within = absurd (omega arith)
+station-there (x ∷ xs) zero within = (x, refl)
+station-there (x ∷ xs) (suc station) within = station-there xs station (omega arith)
+
+-- plain stations serve each filled end
+pub serves-fill : (pairs : List Pair) (station : ℕ) → station < length pairs → IsServed (plain_ends pairs) (fill station)
+serves-fill pairs station within =
+    let there = station-there pairs station within in
+    (end_facts true there.0, ends-even pairs (fill station) station refl ∙ ap (option_map (end_facts true)) there.1)
+
+-- plain stations serve each drained end
+pub serves-drain : (pairs : List Pair) (station : ℕ) → station < length pairs → IsServed (plain_ends pairs) (drain station)
+serves-drain pairs station within =
+    let there = station-there pairs station within in
+    (end_facts false there.0, ends-odd pairs (drain station) station refl ∙ ap (option_map (end_facts false)) there.1)
+
+-- a token is admitted after a look where it was before
+pub admits-looked : (old new : List Pair) (station token : ℕ) (x : OutLook) → PlainAdmits old station token → Changes (plain_ends old) (fill station) (looked_out x) (plain_ends new) → PlainAdmits new station token
+admits-looked old new station token x before changes =
+    record {
+      small = before.small;
+      counted = λ p at.
+          let now : plain_ends new (fill station) ≡ Some (end_facts true p) = ends-even new (fill station) station refl ∙ ap (option_map (end_facts true)) at in
+          let earlier = mapped (looked_out x) (plain_ends old (fill station)) (end_facts true p) (sym (changed_at (plain_ends old) (plain_ends new) (fill station) (looked_out x) changes) ∙ now) in
+          let was = at-fill old station earlier.0 earlier.1 in
+          let put : p.put ≡ was.0.put = ap (λ (f : Facts). f.passed) earlier.2 ∙ looked_out-passed x earlier.0 ∙ ap (λ (f : Facts). f.passed) was.2 in
+          let room : was.0.put + 1 < 2 ^ 64 = before.counted was.0 was.1 in
+          omega arith;
+    }

@@ -1,8 +1,10 @@
 -- The laws of words: what a place shows, when a word is zero, and which bits are set.
-use Rattle.std.proofs.Common.{◌≡◌, ℕ, zero, suc, ◌+◌, ◌-◌, ◌*◌, ◌/◌, ◌%◌, ◌<◌, ◌≤◌, ◌==◌, ◌↔◌, cond, Bool, true, false, List, length, get_or, take, refl, sym, ◌∙◌, ap, subst, arith, eq-eqb, ne_eqb, lt_of_not-le}
-use Rattle.std.proofs.Math.Nat.{mul-le-mul_left, div-add-mod, add-mul-mod_self_left, mul-add-mod_self_left, mod-eq_of_lt}
-use Rattle.std.proofs.lemmas.List.{length-take-le, get_or-take}
-use Rattle.lid_station.specs.Words.{half, half_of, word, word_number}
+use Rattle.std.proofs.Common.{◌≡◌, ℕ, zero, suc, ◌+◌, ◌-◌, ◌*◌, ◌/◌, ◌%◌, ◌<◌, ◌≤◌, ◌↔◌, List, length, get_or, refl, sym, ◌∙◌, ap, arith, eq-eqb, ne_eqb, lt_of_not-le}
+use Rattle.std.proofs.Math.Nat.{mul-le-mul_left, div-add-mod, mul-add-mod_self_left, mod-eq_of_lt}
+use Rattle.std.specs.List.{All}
+use Rattle.std.proofs.lemmas.List.{get_or_past}
+use Rattle.std.proofs.lemmas.List.Elements.{All-get_or}
+use Rattle.lid_station.specs.Words.{half, half_of, word}
 use mathlib.Core.Logic.{dite}
 use native.Mathlib.Decide.{dec_le, ℕ_discrete}
 
@@ -97,3 +99,57 @@ word-nothing cap filled drained number nothing =
     let none : length filled - length drained ≡ 0 = omega arith in
     let empty : (place : ℕ) → half_of cap filled drained place ≡ 0 = λ place. ap (λ (n : ℕ). half cap filled (length drained) n place) none ∙ half-none cap filled (length drained) place in
     (word-zero cap filled drained number).1 (empty (2 * number), empty (2 * number + 1))
+
+-- bit 31 of two halves of which the lower has it
+low-bit : (low high : ℕ) → 2147483648 ≤ low → low < 4294967296 → ((low + 4294967296 * high) / 2147483648) % 2 ≡ 1
+low-bit low high least most =
+    let rest : (low + 4294967296 * high) / 2147483648 ≡ 1 + 2 * high = omega arith in
+    omega arith
+
+-- bit 63 of two halves of which the higher has it
+high-bit : (low high : ℕ) → low < 4294967296 → 2147483648 ≤ high → high < 4294967296 → ((low + 4294967296 * high) / 9223372036854775808) % 2 ≡ 1
+high-bit low high low_most least most =
+    let one : (low + 4294967296 * high) / 9223372036854775808 ≡ 1 = omega arith in
+    omega arith
+
+-- a token of a list of tokens, and 0 past its end, has 31 bits
+token-small : (tokens : List ℕ) (i : ℕ) → All (λ token. token < 2147483648) tokens → get_or tokens i 0 < 2147483648
+token-small tokens i small =
+    dite (dec_le (length tokens) i)
+    (λ past. let none : get_or tokens i 0 ≡ 0 = get_or_past tokens i 0 past in omega arith)
+    (λ inside. All-get_or (λ token. token < 2147483648) tokens i 0 (lt_of_not-le inside) small)
+
+-- what a place shows of tokens of 31 bits has 32 bits
+pub half-small : (cap : ℕ) (tokens : List ℕ) (first count place : ℕ) → All (λ token. token < 2147483648) tokens → half cap tokens first count place < 4294967296
+half-small cap tokens first zero place small = let none = half-none cap tokens first place in omega arith
+half-small cap tokens first (suc count) place small =
+    dite (ℕ_discrete ((first + count) % cap) place)
+    (λ here. let shows = half-same cap tokens first count place here in let token = token-small tokens (first + count) small in omega arith)
+    (λ there. let shows = half-other cap tokens first count place there in let before = half-small cap tokens first count place small in omega arith)
+
+-- the halves of a station that holds its capacity
+half_of-full : (cap : ℕ) (filled drained : List ℕ) (place : ℕ) → length filled ≡ length drained + cap → place < cap → 2147483648 ≤ half_of cap filled drained place
+half_of-full cap filled drained place full within =
+    let count : length filled - length drained ≡ cap = omega arith in
+    let same : half_of cap filled drained place ≡ half cap filled (length drained) cap place = ap (λ (n : ℕ). half cap filled (length drained) n place) count in
+    let some = half-full cap filled (length drained) place within in
+    omega arith
+
+-- the full bit of the even place of a word of a station that holds its capacity
+pub word-full_even : (cap : ℕ) (filled drained : List ℕ) (number : ℕ) → All (λ token. token < 2147483648) filled → length filled ≡ length drained + cap → 2 * number < cap
+    → (word cap filled drained number / 2147483648) % 2 ≡ 1
+unfolding word
+word-full_even cap filled drained number small full within =
+    let even = half_of-full cap filled drained (2 * number) full within in
+    let fits : half_of cap filled drained (2 * number) < 4294967296 = half-small cap filled (length drained) (length filled - length drained) (2 * number) small in
+    low-bit (half_of cap filled drained (2 * number)) (half_of cap filled drained (2 * number + 1)) even fits
+
+-- the full bit of the odd place of a word of a station that holds its capacity
+pub word-full_odd : (cap : ℕ) (filled drained : List ℕ) (number : ℕ) → All (λ token. token < 2147483648) filled → length filled ≡ length drained + cap → 2 * number + 1 < cap
+    → (word cap filled drained number / 9223372036854775808) % 2 ≡ 1
+unfolding word
+word-full_odd cap filled drained number small full within =
+    let odd = half_of-full cap filled drained (2 * number + 1) full within in
+    let odd_fits : half_of cap filled drained (2 * number + 1) < 4294967296 = half-small cap filled (length drained) (length filled - length drained) (2 * number + 1) small in
+    let even_fits : half_of cap filled drained (2 * number) < 4294967296 = half-small cap filled (length drained) (length filled - length drained) (2 * number) small in
+    high-bit (half_of cap filled drained (2 * number)) (half_of cap filled drained (2 * number + 1)) even_fits odd odd_fits

@@ -1,5 +1,5 @@
 -- What a mover carries from station to station.
-use Rattle.std.specs.Prelude.{◌≡◌, ℕ, ◌==◌, cond, List, Option, Some, option_map, slice_get}
+use Rattle.std.specs.Prelude.{◌≡◌, ℕ, ◌==◌, cond, List, Some, option_map, slice_get}
 use Rattle.lid_station.specs.declared.mover.Carried.{Carried}
 use Rattle.lid_station.specs.declared.mover.Carried.TheVariants.{Moved, Void, Stop}
 use Rattle.lid_station.specs.Boards.{Facts, Ends, fill, drain, marked, missed, advanced, Changes}

@@ -1,8 +1,8 @@
 -- What a plain station shows at its ends, and which streams plain stations stand for.
-use Rattle.std.specs.Prelude.{◌≡◌, ℕ, suc, ◌+◌, ◌-◌, ◌%◌, ◌/◌, ◌^◌, ◌<◌, ◌≤◌, ◌==◌, cond, Bool, true, false, List, [], ◌∷◌, length, get_or, set, replicate, Option, Some, None, option_map, slice_get}
+use Rattle.std.specs.Prelude.{◌≡◌, ℕ, ◌+◌, ◌%◌, ◌/◌, ◌^◌, ◌<◌, ◌≤◌, ◌==◌, Bool, true, false, List, length, get_or, Option, Some, None, option_map, slice_get}
 use Rattle.std.specs.List.{All}
 use Rattle.lid_station.specs.declared.pair.Pair.{Pair}
-use Rattle.lid_station.specs.Boards.{Facts, Ends}
+use Rattle.lid_station.specs.Boards.{Facts}
 
 -- what is known of one end of a plain station: its filled one, or else its drained one. Misses are
 -- not counted

@@ -1,5 +1,5 @@
 -- How plain stations start.
-use Rattle.std.specs.Prelude.{◌≡◌, ℕ, ◌^◌, ◌<◌, ◌≤◌, Bool, false, List, length, get_or, set, replicate, Option, Some, None, slice_get}
+use Rattle.std.specs.Prelude.{◌≡◌, ℕ, ◌^◌, ◌<◌, false, List, length, get_or, set, replicate, Option, Some, None, slice_get}
 use Rattle.std.specs.List.{All}
 use Rattle.lid_station.specs.declared.pair.Pair.{Pair}
 

@@ -1,4 +1,4 @@
-use Rattle.std.proofs.Common.{sym, ◌∙◌, ap, arith, true, ◌≡◌}
+use Rattle.std.proofs.Common.{sym, ◌∙◌, ap, arith}
 use Rattle.lid_station.specs.Boards.{Facts}
 use Rattle.lid_station.proofs.WordLemmas.{word-nothing}
 use Rattle.lid_station.proofs.PlainLemmas.{here-fill, here-drain, stands-set}

@@ -1,6 +1,5 @@
-use Rattle.std.proofs.Common.{◌≡◌, ℕ, ◌+◌, ◌*◌, ◌-◌, ◌/◌, ◌%◌, ◌≤◌, true, List, length, take, sym, ◌∙◌, ap, subst, arith}
-use Rattle.lid_station.specs.Boards.{Facts, FindsOut, HasFilled}
-use Rattle.lid_station.specs.declared.looks.OutLook.TheVariants.{Stop}
+use Rattle.std.proofs.Common.{◌≡◌, ℕ, ◌+◌, ◌*◌, ◌-◌, ◌/◌, ◌%◌, length, take, sym, ◌∙◌, ap, subst, arith}
+use Rattle.lid_station.specs.Boards.{Facts}
 use Rattle.lid_station.specs.Words.{word, word_number}
 use Rattle.lid_station.proofs.PlainLemmas.{here-fill, here-drain, stands-set, told-word}
 use Rattle.lid_station.proofs.plain.PlainBoardStations.look_out.Goals as goal

@@ -1,4 +1,4 @@
-use Rattle.std.proofs.Common.{slice_get, Some, ◌≡◌, ℕ, refl, sym, ◌∙◌, ap, arith}
+use Rattle.std.proofs.Common.{slice_get, refl, sym, ◌∙◌, ap}
 use Rattle.lid_station.specs.Boards.{Facts}
 use Rattle.lid_station.proofs.PlainLemmas.{here-fill, stands-set, holds-more}
 use Rattle.lid_station.proofs.plain.PlainBoardStations.put.Goals as goal
