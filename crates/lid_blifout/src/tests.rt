@@ -1,12 +1,13 @@
 //! Designs, and the texts that they are written as.
 
-ghost use Rattle.std.specs.Prelude.{◌≡◌, ◌∷◌, [], IfOk};
+ghost use Rattle.std.specs.Prelude.{◌≡◌, ◌∷◌, [], IfOk, MatchResult};
+ghost use Rattle.lid_blifout.specs.Writable.{IsWritable};
 ghost use Rattle.lid_blifout.specs.Examples.{lone_design};
 
 use crate::write;
 use crate::writer::append_models;
 use lid_base::{Items, Name};
-use lid_blif::read;
+use lid_blif::{BlifFault, read};
 use lid_design::{Design, Model};
 use std::alloc::{AllocError, Global};
 use std::test::Fail;
@@ -198,6 +199,18 @@ fn lone(alloc: Global) -> Result<Design, AllocError>
     })
 }
 
+// What is written into an empty buffer is read as the design, where there is memory.
+fn read_written(alloc: Global, design: &Design) -> Result<Design, BlifFault>
+    requires { IsWritable design.now }
+    ensures { MatchResult result (λ d. d ≡ design.now) (λ e. e ≡ BlifFault.Memory) }
+{
+    let mut text = Vec::new(alloc);
+    let Ok(()) = write(design, &mut text) else {
+        return Err(BlifFault::Memory);
+    };
+    read(alloc, text.as_slice())
+}
+
 #[test]
 #[tactic(auto, using(crate::proofs::Examples::lone_writable))]
 fn a_lone_model(rt: HostRuntime) -> Result<(), Fail> {
@@ -207,5 +220,7 @@ fn a_lone_model(rt: HostRuntime) -> Result<(), Fail> {
     text.push(b'\n')?;
     write(&design, &mut text)?;
     assert!(rt; text.as_slice() == b"#\n.model m\n.end\n".as_slice());
+    let again = read_written(rt.alloc(), &design)?;
+    assert_eq!(rt; again.models.len(), 1);
     Ok(())
 }

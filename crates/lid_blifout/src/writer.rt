@@ -327,6 +327,13 @@ pub fn read_back_law()
 /// Appends the canonical text of a design: its models in order, and of each its name, its inputs,
 /// outputs and clocks, its cells, its instances and `.end`, a line for each.
 ///
+/// The design is writable. It has a model, its root is the first, and no two models share a name.
+/// Each name is one word of 1 to 1,024 bytes from 33 to 126 without `#`, whose last byte is not a
+/// backslash. No formal has a `=`, and a binding as a word is as short and ends as well. A latch
+/// has a control only where it has a type, and no control is named `NIL`. Each cover meets the
+/// rules of `lid_cover`, has as many inputs as names, and is `on` where it has no rows. There are
+/// at most 4,096 models and 1,048,576 rows, and the text has at most 16,777,216 bytes.
+///
 /// # Errors
 /// Where there is no memory; `into` is then as it was.
 #[tactic(auto, unfolding(crate::specs::Canonical::canonical_text))]
