@@ -1,0 +1,3 @@
+pub mod Raises
+pub mod Traces
+pub mod Settles

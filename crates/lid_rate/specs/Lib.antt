@@ -1,0 +1,4 @@
+pub mod Chains
+pub mod Raising
+pub mod Following
+pub mod Settling

@@ -1,0 +1,6 @@
+//! The search for a certificate of the ratio of each component of a marked graph.
+#![tactic(auto)]
+
+mod following;
+mod raising;
+mod settling;
