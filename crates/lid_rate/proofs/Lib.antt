@@ -1,3 +1,6 @@
 pub mod Raises
 pub mod Traces
 pub mod Settles
+pub mod Ratios
+pub mod Backward
+pub mod Rates

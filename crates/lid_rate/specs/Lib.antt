@@ -2,3 +2,4 @@ pub mod Chains
 pub mod Raising
 pub mod Following
 pub mod Settling
+pub mod Rating

@@ -2,5 +2,7 @@
 #![tactic(auto)]
 
 mod following;
+mod lowest;
 mod raising;
+mod rating;
 mod settling;
