@@ -1,2 +1,3 @@
-pub mod Parts
+pub mod Ascending
 pub mod Consequences
+pub mod Parts

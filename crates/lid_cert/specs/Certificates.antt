@@ -40,7 +40,6 @@ via_of part v = option_map_or (λ i. slice_index_or part.via i None) (place_in p
 
 -- there is one number of each kind for each transition
 pub record AreLists (part : Part) : Type 0 where
-  pub some : 1 ≤ length part.nodes
   pub lag : length part.lag ≡ length part.nodes
   pub lead : length part.lead ≡ length part.nodes
   pub via : length part.via ≡ length part.nodes
@@ -74,6 +73,7 @@ IsNodeMet g part start v = v ≢ start → MatchOption (via_of part v) ⊥ (IsVi
 
 -- the rules for one part
 pub record IsPart (g : Graph) (part : Part) : Type 0 where
+  pub some : 1 ≤ length part.nodes
   pub lists : AreLists part
   pub ascending : ascends part.nodes ≡ true
   pub within : All (λ v. v < g.nodes) part.nodes

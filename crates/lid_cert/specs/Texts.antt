@@ -167,35 +167,36 @@ abbrev pub via_word : Option ℕ → List ℕ
 via_word None = codes "-"
 via_word (Some k) = decimal k
 
--- the words of the line of the i-th transition of a part
-abbrev pub node_words : Part → ℕ → List (List ℕ)
-node_words part i =
+-- numbers, each after a blank
+abbrev pub spaced : List ℕ → List ℕ
+spaced numbers = flat_map (λ n. 32 ∷ decimal n) numbers
+
+-- a line of a name and numbers
+abbrev pub number_line : List ℕ → List ℕ → List ℕ
+number_line name numbers = name ++ (spaced numbers ++ 10 ∷ [])
+
+-- the line of the i-th transition of a part
+abbrev pub node_text : Part → ℕ → List ℕ
+node_text part i =
     codes "node"
-    ∷ decimal (slice_index part.nodes i)
-    ∷ decimal (slice_index part.lag i)
-    ∷ decimal (slice_index part.lead i)
-    ∷ decimal (slice_index part.depth i)
-    ∷ via_word (slice_index_or part.via i None)
-    ∷ []
+    ++ (spaced (slice_index part.nodes i ∷ slice_index part.lag i ∷ slice_index part.lead i ∷ slice_index part.depth i ∷ [])
+    ++ (32 ∷ via_word (slice_index_or part.via i None) ++ 10 ∷ []))
 
--- the words of the lines of a part
-abbrev pub part_words : Part → List (List (List ℕ))
-part_words part =
-    (codes "part" ∷ decimal (length part.nodes) ∷ [])
-    ∷ (codes "ratio" ∷ decimal part.p ∷ decimal part.q ∷ [])
-    ∷ (codes "cycle" ∷ map decimal part.cycle)
-    ∷ map (node_words part) (range_with_len 0 (length part.nodes))
+-- the lines of the first transitions of a part
+abbrev pub node_texts : Part → ℕ → List ℕ
+node_texts part zero = []
+node_texts part (suc n) = node_texts part n ++ node_text part n
 
--- a line of words with a blank between each two
-abbrev pub line_text : List (List ℕ) → List ℕ
-line_text words = join_with_byte 32 words ++ 10 ∷ []
-
-abbrev pub part_text : Part → List ℕ
-part_text part = flat_map line_text (part_words part)
+-- the lines of a part
+unfoldable pub part_text : Part → List ℕ
+part_text part =
+    number_line (codes "part") (length part.nodes ∷ [])
+    ++ (number_line (codes "ratio") (part.p ∷ part.q ∷ [])
+    ++ (number_line (codes "cycle") part.cycle ++ node_texts part (length part.nodes)))
 
 -- a certificate as a text
 unfoldable pub cert_text : Cert → List ℕ
-cert_text cert = line_text (codes "lid-cert" ∷ codes "1" ∷ []) ++ flat_map part_text cert.parts
+cert_text cert = codes "lid-cert 1" ++ (10 ∷ flat_map part_text cert.parts)
 
 -- what was written before is still there
 pub record Extends (old new : List ℕ) : Type 0 where

@@ -3,13 +3,17 @@
 #![tactic(auto)]
 
 mod cert;
+mod checking;
 mod fault;
 mod laws;
+mod places;
 mod printing;
 mod reading;
+mod rules;
 mod stage;
 
 pub use cert::{Cert, Part};
+pub use checking::check;
 pub use fault::CertFault;
 pub use laws::{
     caps_are_reached, each_is_shown, lags_bound_firings, leads_bound_firings, ratio_is_shown,
