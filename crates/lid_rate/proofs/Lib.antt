@@ -4,3 +4,5 @@ pub mod Settles
 pub mod Ratios
 pub mod Backward
 pub mod Rates
+pub mod Spreads
+pub mod Those

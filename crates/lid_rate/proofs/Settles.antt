@@ -11,7 +11,7 @@ use Rattle.lid_rate.specs.Raising.{AreEdges, IsRaised, AreAtMost, GoneOver, Reac
 use Rattle.lid_rate.specs.Following.{AreLasts, LeadsOut, ClosesUp}
 use Rattle.lid_rate.specs.Settling.{AreLags, IsLower, IsSettling}
 
-all_replicate : {X : Type 0} (n v : ℕ) (x : X) → get_or (replicate n x) v x ≡ x
+pub all_replicate : {X : Type 0} (n v : ℕ) (x : X) → get_or (replicate n x) v x ≡ x
 all_replicate n v x = by_order (cases_lt v n)
   where
     by_order : (v < n) ⊎ (n ≤ v) → get_or (replicate n x) v x ≡ x

@@ -3,3 +3,5 @@ pub mod Raising
 pub mod Following
 pub mod Settling
 pub mod Rating
+pub mod Spreading
+pub mod Rates

@@ -3,6 +3,8 @@
 
 mod following;
 mod lowest;
+mod parts;
 mod raising;
 mod rating;
 mod settling;
+mod spreading;
