@@ -6,3 +6,4 @@ pub mod Backward
 pub mod Rates
 pub mod Spreads
 pub mod Those
+pub mod Components

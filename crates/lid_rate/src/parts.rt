@@ -1,13 +1,17 @@
 //! The part of one component.
 
-ghost use Rattle.std.specs.Prelude.{◌≡◌, ℕ, ◌+◌, ◌-◌, ◌*◌, ◌<◌, ◌≤◌, ◌^◌, length, map, slice_index, slice_index_or, None, IfOk};
+ghost use Rattle.std.specs.Prelude.{◌≡◌, ℕ, ◌+◌, ◌-◌, ◌*◌, ◌<◌, ◌≤◌, ◌^◌, ◌==◌, ◌&&◌, length, map, slice_index, slice_index_or, None, IfOk};
 ghost use Rattle.std.specs.List.{All};
-ghost use Rattle.lid_graph.specs.Walks.{edge_at};
-ghost use Rattle.lid_rate.specs.Rates.{IsRateable, AreLabels, IsPartOf, those, is_labelled, edges_of};
+ghost use Rattle.lid_graph.specs.Walks.{edge_at, IsPaired};
+ghost use Rattle.lid_rate.specs.Rates.{IsRateable, AreLabels, IsPartOf, IsLoopAt, Assembles, those, is_labelled, edges_of};
 
+use crate::lowest::Ratio;
 use crate::raising::edge;
+use crate::rating::{Rate, least_rate};
+use crate::spreading::{Tree, reach};
 use lid_base::Items;
-use lid_graph::Graph;
+use lid_cert::Part;
+use lid_graph::{Edge, Graph};
 use std::alloc::{AllocError, Global};
 
 /// The transitions with a label, ascending.
@@ -74,4 +78,74 @@ fn vias(alloc: Global, nodes: &[u32], all: &[Option<u32>]) -> Result<Items<Optio
         column.push(all[*v as usize])?;
     }
     Ok(Items::from_vec(column))
+}
+
+/// The edge from a transition to itself, with one token.
+fn loop_at(graph: &Graph, v: u32) -> u32
+    requires paired { IsPaired graph.now }
+    requires within { v < graph.now.nodes }
+    requires few { length graph.now.edges < 2 ^ 32 }
+    ensures { IsLoopAt graph.now v result }
+{
+    let mut k: u32 = 0;
+    let mut found = is_loop(edge(graph, k), v);
+    while !found {
+        k += 1;
+        found = is_loop(edge(graph, k), v);
+    }
+    k
+}
+
+/// Whether an edge leads from a transition to itself and has one token.
+fn is_loop(edge: Edge, v: u32) -> bool
+    ensures { result ≡ ((edge.from == v) && (edge.to == v) && (edge.tokens == 1)) }
+{
+    edge.from == v && edge.to == v && edge.tokens == 1
+}
+
+/// The lead where a closed walk of so many edges starts.
+fn first_lead(ratio: Ratio, count: usize) -> u64
+    requires q { ratio.q ≤ 2 ^ 18 }
+    requires count { count ≤ 2 ^ 18 }
+    requires some { 0 < count }
+    ensures enough { ratio.q * (count - 1) ≤ result + ratio.p * (count - 1) }
+    ensures low { result ≤ 2 ^ 40 }
+{
+    ratio.q.saturating_sub(ratio.p) * (count as u64 - 1)
+}
+
+/// The part with these numbers.
+fn assemble(alloc: Global, nodes: Vec<u32>, rate: Rate, tree: &Tree) -> Result<Part, AllocError>
+    requires lags { All (λ v. v < length rate.lags) nodes.items }
+    requires via { All (λ v. v < length tree.now.via.items) nodes.items }
+    requires lead { All (λ v. v < length tree.now.lead.items) nodes.items }
+    requires depth { All (λ v. v < length tree.now.depth.items) nodes.items }
+    ensures { IfOk result (Assembles nodes.items rate.ratio.p rate.ratio.q rate.walk rate.lags tree.now.via.items tree.now.lead.items tree.now.depth.items) }
+{
+    let Rate { ratio, walk, lags } = rate;
+    let lag = numbers(alloc, &nodes, lags.as_slice())?;
+    let lead = numbers(alloc, &nodes, &tree.lead)?;
+    let via = vias(alloc, &nodes, &tree.via)?;
+    let depth = depths(alloc, &nodes, &tree.depth)?;
+    Ok(Part { nodes: Items::from_vec(nodes), p: ratio.p, q: ratio.q, cycle: walk, lag, lead, via, depth })
+}
+
+/// The part of the component whose least transition is `label`.
+///
+/// # Errors
+/// Where there is no memory.
+pub(crate) fn part_of(alloc: Global, graph: &Graph, least: &[u32], label: u32) -> Result<Part, AllocError>
+    requires graph { IsRateable graph.now }
+    requires labels { AreLabels graph.now least.now }
+    requires within { label < graph.now.nodes }
+    requires own { slice_index least.now label ≡ label }
+    ensures { IfOk result (IsPartOf graph.now least.now label) }
+{
+    let edges = edges_with(alloc, graph, least, label)?;
+    let rate = least_rate(alloc, graph, &edges, loop_at(graph, label))?;
+    let walk = rate.walk.as_slice();
+    let start = edge(graph, walk[0]).from;
+    let first = first_lead(rate.ratio, walk.len());
+    let tree = reach(alloc, graph, &edges, start, rate.ratio.q, first)?;
+    assemble(alloc, nodes_with(alloc, least, label)?, rate, &tree)
 }
