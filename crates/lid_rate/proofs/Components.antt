@@ -103,7 +103,7 @@ module _ (g : Graph) (ok : IsRateable g) (least : List ℕ) (labels : AreLabels 
       pub starts : walk_start g walk ≡ rate.rated.at
       starts = start_of g walk rate.rated.at rate.rated.at closed walk_some
 
-      is_closed_walk : IsClosedWalk g walk
+      pub is_closed_walk : IsClosedWalk g walk
       is_closed_walk = record { some = walk_some; closed = subst (λ (n : ℕ). IsWalk g n walk n) (sym starts) closed }
 
       tokens_same : walk_tokens g walk ≡ walk_tokens g rate.rated.chain

@@ -7,3 +7,5 @@ pub mod Rates
 pub mod Spreads
 pub mod Those
 pub mod Components
+pub mod Finishing
+pub mod Found

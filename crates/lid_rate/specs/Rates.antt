@@ -1,6 +1,7 @@
 -- Graphs whose components have certificates, and what the search answers.
-use Rattle.std.specs.Prelude.{◌≡◌, ℕ, zero, suc, ◌+◌, ◌^◌, ◌<◌, ◌≤◌, ◌==◌, true, Bool, if◌then◌else◌, List, [], ◌∷◌, ◌++◌, length, map, slice_index, slice_index_or, Option, None}
+use Rattle.std.specs.Prelude.{◌≡◌, ℕ, zero, suc, ◌+◌, ◌^◌, ◌<◌, ◌≤◌, ◌==◌, ◌&&◌, true, Bool, if◌then◌else◌, List, [], ◌∷◌, ◌++◌, length, map, slice_index, slice_index_or, Option, None}
 use Rattle.std.specs.List.{All, count_by}
+use Rattle.lid_graph.specs.declared.graph.Edge.{Edge}
 use Rattle.lid_graph.specs.declared.graph.Graph.{Graph}
 use Rattle.lid_graph.specs.Walks.{edge_at, IsPaired, IsClosedWalk, IsLeastJoined, walk_tokens}
 use Rattle.lid_graph.specs.Ratios.{IsRatio, IsLag}
@@ -54,6 +55,9 @@ pub record IsLoopAt (g : Graph) (v k : ℕ) : Type 0 where
   pub from : (edge_at g k).from ≡ v
   pub to : (edge_at g k).to ≡ v
   pub token : (edge_at g k).tokens ≡ 1
+
+abbrev pub is_loop_edge : Edge → ℕ → Bool
+is_loop_edge e v = (e.from == v) && ((e.to == v) && (e.tokens == 1))
 
 -- the part with these transitions and these numbers for all transitions of the graph
 pub record Assembles (nodes : List ℕ) (p q : ℕ) (walk lags : List ℕ) (via : List (Option ℕ)) (lead depth : List ℕ) (part : Part) : Type 0 where

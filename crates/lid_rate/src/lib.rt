@@ -1,6 +1,7 @@
 //! The search for a certificate of the ratio of each component of a marked graph.
 #![tactic(auto)]
 
+mod finding;
 mod following;
 mod lowest;
 mod parts;
@@ -8,3 +9,5 @@ mod raising;
 mod rating;
 mod settling;
 mod spreading;
+
+pub use finding::find;

@@ -1,9 +1,9 @@
 //! The part of one component.
 
-ghost use Rattle.std.specs.Prelude.{◌≡◌, ℕ, ◌+◌, ◌-◌, ◌*◌, ◌<◌, ◌≤◌, ◌^◌, ◌==◌, ◌&&◌, length, map, slice_index, slice_index_or, None, IfOk};
+ghost use Rattle.std.specs.Prelude.{◌≡◌, ℕ, ◌+◌, ◌-◌, ◌*◌, ◌<◌, ◌≤◌, ◌^◌, length, map, slice_index, slice_index_or, None, IfOk};
 ghost use Rattle.std.specs.List.{All};
 ghost use Rattle.lid_graph.specs.Walks.{edge_at, IsPaired};
-ghost use Rattle.lid_rate.specs.Rates.{IsRateable, AreLabels, IsPartOf, IsLoopAt, Assembles, those, is_labelled, edges_of};
+ghost use Rattle.lid_rate.specs.Rates.{IsRateable, AreLabels, IsPartOf, IsLoopAt, is_loop_edge, Assembles, those, is_labelled, edges_of};
 
 use crate::lowest::Ratio;
 use crate::raising::edge;
@@ -98,7 +98,7 @@ fn loop_at(graph: &Graph, v: u32) -> u32
 
 /// Whether an edge leads from a transition to itself and has one token.
 fn is_loop(edge: Edge, v: u32) -> bool
-    ensures { result ≡ ((edge.from == v) && (edge.to == v) && (edge.tokens == 1)) }
+    ensures { result ≡ is_loop_edge edge v }
 {
     edge.from == v && edge.to == v && edge.tokens == 1
 }
@@ -130,6 +130,24 @@ fn assemble(alloc: Global, nodes: Vec<u32>, rate: Rate, tree: &Tree) -> Result<P
     Ok(Part { nodes: Items::from_vec(nodes), p: ratio.p, q: ratio.q, cycle: walk, lag, lead, via, depth })
 }
 
+/// The part of the component whose least transition is `label`, of these edges.
+fn part_on(alloc: Global, graph: &Graph, least: &[u32], label: u32, edges: &[u32]) -> Result<Part, AllocError>
+    requires graph { IsRateable graph.now }
+    requires labels { AreLabels graph.now least.now }
+    requires within { label < graph.now.nodes }
+    requires own { slice_index least.now label ≡ label }
+    requires edges { edges.now ≡ edges_of graph.now least.now label }
+    ensures { IfOk result (IsPartOf graph.now least.now label) }
+{
+    let rate = least_rate(alloc, graph, edges, loop_at(graph, label))?;
+    let walk = rate.walk.as_slice();
+    let start = edge(graph, walk[0]).from;
+    let first = first_lead(rate.ratio, walk.len());
+    let tree = reach(alloc, graph, edges, start, rate.ratio.q, first)?;
+    let nodes = nodes_with(alloc, least, label)?;
+    assemble(alloc, nodes, rate, &tree)
+}
+
 /// The part of the component whose least transition is `label`.
 ///
 /// # Errors
@@ -142,10 +160,5 @@ pub(crate) fn part_of(alloc: Global, graph: &Graph, least: &[u32], label: u32) -
     ensures { IfOk result (IsPartOf graph.now least.now label) }
 {
     let edges = edges_with(alloc, graph, least, label)?;
-    let rate = least_rate(alloc, graph, &edges, loop_at(graph, label))?;
-    let walk = rate.walk.as_slice();
-    let start = edge(graph, walk[0]).from;
-    let first = first_lead(rate.ratio, walk.len());
-    let tree = reach(alloc, graph, &edges, start, rate.ratio.q, first)?;
-    assemble(alloc, nodes_with(alloc, least, label)?, rate, &tree)
+    part_on(alloc, graph, least, label, &edges)
 }
