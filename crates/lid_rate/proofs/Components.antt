@@ -37,7 +37,7 @@ once_back g ks once i j hi hj same =
     omega arith
 
 module _ (g : Graph) (ok : IsRateable g) (least : List ℕ) (labels : AreLabels g least) where
-  same_label : (u v : ℕ) → u < g.nodes → v < g.nodes → IsJoined g u v → get_or least u 0 ≡ get_or least v 0
+  pub same_label : (u v : ℕ) → u < g.nodes → v < g.nodes → IsJoined g u v → get_or least u 0 ≡ get_or least v 0
   same_label u v hu hv joined =
       let at_u = labels.labels u hu in
       let at_v = labels.labels v hv in
