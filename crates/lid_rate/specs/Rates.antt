@@ -1,0 +1,90 @@
+-- Graphs whose components have certificates, and what the search answers.
+use Rattle.std.specs.Prelude.{◌≡◌, ℕ, zero, suc, ◌+◌, ◌^◌, ◌<◌, ◌≤◌, ◌==◌, ◌&&◌, true, Bool, if◌then◌else◌, List, [], ◌∷◌, ◌++◌, length, map, slice_index, slice_index_or, Option, None}
+use Rattle.std.specs.List.{All, count_by}
+use Rattle.lid_graph.specs.declared.graph.Edge.{Edge}
+use Rattle.lid_graph.specs.declared.graph.Graph.{Graph}
+use Rattle.lid_graph.specs.Walks.{edge_at, IsPaired, IsClosedWalk, IsLeastJoined, walk_tokens}
+use Rattle.lid_graph.specs.Ratios.{IsRatio, IsLag}
+use Rattle.lid_cert.specs.declared.cert.Part.{Part}
+use Rattle.lid_cert.specs.declared.cert.Cert.{Cert}
+use Rattle.lid_cert.specs.Certificates.{has_node, lag_of, least_node, IsPart, IsPartInRange}
+use Rattle.lid_rate.specs.Chains.{MeetsOnce}
+
+-- each closed walk has a token
+abbrev pub WalksHaveTokens : Graph → Type 0
+WalksHaveTokens g = (ks : List ℕ) → IsClosedWalk g ks → 0 < walk_tokens g ks
+
+-- a paired graph of at most 2^18 transitions and fewer than 2^19 edges, with at most 16 tokens on an
+-- edge
+pub record IsRateable (g : Graph) : Type 0 where
+  pub paired : IsPaired g
+  pub some : 1 ≤ g.nodes
+  pub nodes : g.nodes ≤ 2 ^ 18
+  pub edges : length g.edges < 2 ^ 19
+  pub tokens : (k : ℕ) → k < length g.edges → (edge_at g k).tokens ≤ 16
+
+-- the numbers below n that pass a test, in order
+abbrev pub those : (ℕ → Bool) → ℕ → List ℕ
+those p zero = []
+those p (suc n) = if p n then those p n ++ n ∷ [] else those p n
+
+-- for each transition the least that is joined to it
+pub record AreLabels (g : Graph) (least : List ℕ) : Type 0 where
+  pub count : length least ≡ g.nodes
+  pub labels : (v : ℕ) → v < g.nodes → IsLeastJoined g v (slice_index least v)
+
+-- whether a transition has this label
+abbrev pub is_labelled : List ℕ → ℕ → ℕ → Bool
+is_labelled least r v = slice_index least v == r
+
+-- the edges that begin at a transition with this label
+abbrev pub edges_of : Graph → List ℕ → ℕ → List ℕ
+edges_of g least r = those (λ k. is_labelled least r (edge_at g k).from) (length g.edges)
+
+-- the part of a label
+pub record IsPartOf (g : Graph) (least : List ℕ) (r : ℕ) (part : Part) : Type 0 where
+  pub nodes_are : part.nodes ≡ those (is_labelled least r) (length least)
+  pub meets : IsPart g part
+  pub once : MeetsOnce g part.cycle
+  pub in_range : IsPartInRange part
+  pub lags : (v : ℕ) → has_node part v ≡ true → IsLag g part.p part.q v (lag_of part v)
+
+-- an edge from a transition to itself, with one token
+pub record IsLoopAt (g : Graph) (v k : ℕ) : Type 0 where
+  pub within : k < length g.edges
+  pub from : (edge_at g k).from ≡ v
+  pub to : (edge_at g k).to ≡ v
+  pub token : (edge_at g k).tokens ≡ 1
+
+abbrev pub is_loop_edge : Edge → ℕ → Bool
+is_loop_edge e v = (e.from == v) && ((e.to == v) && (e.tokens == 1))
+
+-- the part with these transitions and these numbers for all transitions of the graph
+pub record Assembles (nodes : List ℕ) (p q : ℕ) (walk lags : List ℕ) (via : List (Option ℕ)) (lead depth : List ℕ) (part : Part) : Type 0 where
+  pub nodes_are : part.nodes ≡ nodes
+  pub p_is : part.p ≡ p
+  pub q_is : part.q ≡ q
+  pub cycle_is : part.cycle ≡ walk
+  pub lag_is : part.lag ≡ map (λ v. slice_index lags v) part.nodes
+  pub lead_is : part.lead ≡ map (λ v. slice_index lead v) part.nodes
+  pub via_is : part.via ≡ map (λ v. slice_index_or via v None) part.nodes
+  pub depth_is : part.depth ≡ map (λ v. slice_index depth v) part.nodes
+
+-- p/q is the ratio of the component, each lag is the number that it bounds, the walk meets no
+-- transition twice, and all numbers are in the ranges of a certificate's text
+pub record IsExact (g : Graph) (part : Part) : Type 0 where
+  pub ratio : (v : ℕ) → has_node part v ≡ true → IsRatio g v part.p part.q
+  pub lag : (v : ℕ) → has_node part v ≡ true → IsLag g part.p part.q v (lag_of part v)
+  pub once : MeetsOnce g part.cycle
+  pub in_range : IsPartInRange part
+
+-- whether a transition is the least of its component
+abbrev pub is_own : List ℕ → ℕ → Bool
+is_own least v = slice_index least v == v
+
+-- the parts of the labels below n
+pub record AreParts (g : Graph) (least : List ℕ) (n : ℕ) (parts : List Part) : Type 0 where
+  pub heads : map least_node parts ≡ those (is_own least) n
+  pub each : All (λ part. IsPartOf g least (least_node part) part) parts
+  pub counted : (w : ℕ) → w < g.nodes → slice_index least w < n → count_by (λ part. has_node part w) parts ≡ 1
+  pub uncounted : (w : ℕ) → w < g.nodes → n ≤ slice_index least w → count_by (λ part. has_node part w) parts ≡ 0

@@ -1,0 +1,45 @@
+//! The search for a certificate.
+
+ghost use Rattle.std.specs.Prelude.{IfOk};
+ghost use Rattle.std.specs.List.{All};
+ghost use Rattle.lid_cert.specs.Certificates.{Certifies, IsInRange};
+ghost use Rattle.lid_rate.specs.Rates.{IsRateable, IsExact, AreLabels, AreParts};
+
+use crate::parts::part_of;
+use lid_base::Items;
+use lid_cert::{Cert, Part};
+use lid_graph::{Graph, components};
+use std::alloc::{AllocError, Global};
+
+/// The parts of all components, in the order of their least transitions.
+fn all_parts(alloc: Global, graph: &Graph, least: &[u32]) -> Result<Vec<Part>, AllocError>
+    requires graph { IsRateable graph.now }
+    requires labels { AreLabels graph.now least.now }
+    ensures { IfOk result (λ parts. AreParts graph.now least.now graph.now.nodes parts.items) }
+{
+    let mut parts = Vec::new(alloc);
+    for v in 0..graph.nodes {
+        if least[v as usize] == v {
+            let part = part_of(alloc, graph, least, v)?;
+            parts.push(part)?;
+        }
+    }
+    Ok(parts)
+}
+
+/// Finds a certificate of the ratio of each component of a graph: the ratio itself, the least lags, and
+/// a closed walk that meets no transition twice. A graph that has a transition, is paired and has at
+/// most 262,144 transitions, fewer than 524,288 edges and at most 16 tokens on an edge has one.
+///
+/// # Errors
+/// Where there is no memory.
+pub fn find(alloc: Global, graph: &Graph) -> Result<Cert, AllocError>
+    requires { IsRateable graph.now }
+    ensures certifies { IfOk result (Certifies graph.now) }
+    ensures exact { IfOk result (λ cert. All (IsExact graph.now) cert.parts) }
+    ensures in_range { IfOk result IsInRange }
+{
+    let least = components(alloc, graph)?;
+    let parts = all_parts(alloc, graph, least.as_slice())?;
+    Ok(Cert { parts: Items::from_vec(parts) })
+}

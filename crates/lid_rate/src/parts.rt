@@ -1,0 +1,164 @@
+//! The part of one component.
+
+ghost use Rattle.std.specs.Prelude.{◌≡◌, ℕ, ◌+◌, ◌-◌, ◌*◌, ◌<◌, ◌≤◌, ◌^◌, length, map, slice_index, slice_index_or, None, IfOk};
+ghost use Rattle.std.specs.List.{All};
+ghost use Rattle.lid_graph.specs.Walks.{edge_at, IsPaired};
+ghost use Rattle.lid_rate.specs.Rates.{IsRateable, AreLabels, IsPartOf, IsLoopAt, is_loop_edge, Assembles, those, is_labelled, edges_of};
+
+use crate::lowest::Ratio;
+use crate::raising::edge;
+use crate::rating::{Rate, least_rate};
+use crate::spreading::{Tree, reach};
+use lid_base::Items;
+use lid_cert::Part;
+use lid_graph::{Edge, Graph};
+use std::alloc::{AllocError, Global};
+
+/// The transitions with a label, ascending.
+fn nodes_with(alloc: Global, least: &[u32], label: u32) -> Result<Vec<u32>, AllocError>
+    requires { length least.now < 2 ^ 32 }
+    ensures { IfOk result (λ nodes. nodes.items ≡ those (is_labelled least.now label) (length least.now)) }
+{
+    let mut nodes = Vec::new(alloc);
+    for v in 0..least.len() {
+        if least[v] == label {
+            nodes.push(v as u32)?;
+        }
+    }
+    Ok(nodes)
+}
+
+/// The edges that begin at a transition with a label, ascending.
+fn edges_with(alloc: Global, graph: &Graph, least: &[u32], label: u32) -> Result<Vec<u32>, AllocError>
+    requires edges { length graph.now.edges < 2 ^ 32 }
+    requires from { (k : ℕ) → k < length graph.now.edges → (edge_at graph.now k).from < length least.now }
+    ensures { IfOk result (λ edges. edges.items ≡ edges_of graph.now least.now label) }
+{
+    let mut edges = Vec::new(alloc);
+    for k in 0..graph.edges.len() {
+        let from = edge(graph, k as u32).from;
+        if least[from as usize] == label {
+            edges.push(k as u32)?;
+        }
+    }
+    Ok(edges)
+}
+
+/// The numbers of the transitions.
+fn numbers(alloc: Global, nodes: &[u32], all: &[u64]) -> Result<Items<u64>, AllocError>
+    requires { All (λ v. v < length all.now) nodes.now }
+    ensures { IfOk result (λ column. column ≡ map (λ v. slice_index all.now v) nodes.now) }
+{
+    let mut column = Vec::new(alloc);
+    for v in nodes {
+        column.push(all[*v as usize])?;
+    }
+    Ok(Items::from_vec(column))
+}
+
+/// The depths of the transitions.
+fn depths(alloc: Global, nodes: &[u32], all: &[u32]) -> Result<Items<u32>, AllocError>
+    requires { All (λ v. v < length all.now) nodes.now }
+    ensures { IfOk result (λ column. column ≡ map (λ v. slice_index all.now v) nodes.now) }
+{
+    let mut column = Vec::new(alloc);
+    for v in nodes {
+        column.push(all[*v as usize])?;
+    }
+    Ok(Items::from_vec(column))
+}
+
+/// The via edges of the transitions.
+fn vias(alloc: Global, nodes: &[u32], all: &[Option<u32>]) -> Result<Items<Option<u32>>, AllocError>
+    requires { All (λ v. v < length all.now) nodes.now }
+    ensures { IfOk result (λ column. column ≡ map (λ v. slice_index_or all.now v None) nodes.now) }
+{
+    let mut column = Vec::new(alloc);
+    for v in nodes {
+        column.push(all[*v as usize])?;
+    }
+    Ok(Items::from_vec(column))
+}
+
+/// The edge from a transition to itself, with one token.
+fn loop_at(graph: &Graph, v: u32) -> u32
+    requires paired { IsPaired graph.now }
+    requires within { v < graph.now.nodes }
+    requires few { length graph.now.edges < 2 ^ 32 }
+    ensures { IsLoopAt graph.now v result }
+{
+    let mut k: u32 = 0;
+    let mut found = is_loop(edge(graph, k), v);
+    while !found {
+        k += 1;
+        found = is_loop(edge(graph, k), v);
+    }
+    k
+}
+
+/// Whether an edge leads from a transition to itself and has one token.
+fn is_loop(edge: Edge, v: u32) -> bool
+    ensures { result ≡ is_loop_edge edge v }
+{
+    edge.from == v && edge.to == v && edge.tokens == 1
+}
+
+/// The lead where a closed walk of so many edges starts.
+fn first_lead(ratio: Ratio, count: usize) -> u64
+    requires q { ratio.q ≤ 2 ^ 18 }
+    requires count { count ≤ 2 ^ 18 }
+    requires some { 0 < count }
+    ensures enough { ratio.q * (count - 1) ≤ result + ratio.p * (count - 1) }
+    ensures low { result ≤ 2 ^ 40 }
+{
+    ratio.q.saturating_sub(ratio.p) * (count as u64 - 1)
+}
+
+/// The part with these numbers.
+fn assemble(alloc: Global, nodes: Vec<u32>, rate: Rate, tree: &Tree) -> Result<Part, AllocError>
+    requires lags { All (λ v. v < length rate.lags) nodes.items }
+    requires via { All (λ v. v < length tree.now.via.items) nodes.items }
+    requires lead { All (λ v. v < length tree.now.lead.items) nodes.items }
+    requires depth { All (λ v. v < length tree.now.depth.items) nodes.items }
+    ensures { IfOk result (Assembles nodes.items rate.ratio.p rate.ratio.q rate.walk rate.lags tree.now.via.items tree.now.lead.items tree.now.depth.items) }
+{
+    let Rate { ratio, walk, lags } = rate;
+    let lag = numbers(alloc, &nodes, lags.as_slice())?;
+    let lead = numbers(alloc, &nodes, &tree.lead)?;
+    let via = vias(alloc, &nodes, &tree.via)?;
+    let depth = depths(alloc, &nodes, &tree.depth)?;
+    Ok(Part { nodes: Items::from_vec(nodes), p: ratio.p, q: ratio.q, cycle: walk, lag, lead, via, depth })
+}
+
+/// The part of the component whose least transition is `label`, of these edges.
+fn part_on(alloc: Global, graph: &Graph, least: &[u32], label: u32, edges: &[u32]) -> Result<Part, AllocError>
+    requires graph { IsRateable graph.now }
+    requires labels { AreLabels graph.now least.now }
+    requires within { label < graph.now.nodes }
+    requires own { slice_index least.now label ≡ label }
+    requires edges { edges.now ≡ edges_of graph.now least.now label }
+    ensures { IfOk result (IsPartOf graph.now least.now label) }
+{
+    let rate = least_rate(alloc, graph, edges, loop_at(graph, label))?;
+    let walk = rate.walk.as_slice();
+    let start = edge(graph, walk[0]).from;
+    let first = first_lead(rate.ratio, walk.len());
+    let tree = reach(alloc, graph, edges, start, rate.ratio.q, first)?;
+    let nodes = nodes_with(alloc, least, label)?;
+    assemble(alloc, nodes, rate, &tree)
+}
+
+/// The part of the component whose least transition is `label`.
+///
+/// # Errors
+/// Where there is no memory.
+pub(crate) fn part_of(alloc: Global, graph: &Graph, least: &[u32], label: u32) -> Result<Part, AllocError>
+    requires graph { IsRateable graph.now }
+    requires labels { AreLabels graph.now least.now }
+    requires within { label < graph.now.nodes }
+    requires own { slice_index least.now label ≡ label }
+    ensures { IfOk result (IsPartOf graph.now least.now label) }
+{
+    let edges = edges_with(alloc, graph, least, label)?;
+    part_on(alloc, graph, least, label, &edges)
+}
