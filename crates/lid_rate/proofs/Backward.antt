@@ -1,10 +1,10 @@
 -- Chains as walks.
-use Rattle.std.proofs.Common.{◌≡◌, ℕ, zero, suc, ◌+◌, ◌-◌, ◌*◌, ◌<◌, ◌≤◌, List, [], ◌∷◌, ◌++◌, length, get_or, reverse, refl, sym, ◌∙◌, ap, subst, arith}
+use Rattle.std.proofs.Common.{◌≡◌, ℕ, zero, suc, ◌+◌, ◌-◌, ◌<◌, List, [], ◌∷◌, ◌++◌, length, get_or, reverse, refl, sym, ap, subst, arith}
 use Rattle.std.specs.List.{Contains, All}
 use Rattle.std.proofs.lemmas.List.{length-reverse, get_or-reverse, get_or_default}
 use Rattle.std.proofs.lemmas.Grind.{reverse_onto}
 use Rattle.lid_graph.specs.declared.graph.Graph.{Graph}
-use Rattle.lid_graph.specs.Walks.{no_edge, edge_at, walk_tokens, IsWalk}
+use Rattle.lid_graph.specs.Walks.{edge_at, walk_tokens, IsWalk}
 use Rattle.lid_graph.proofs.Journeys.{walk-append}
 use Rattle.lid_rate.specs.Chains.{IsChain}
 use Rattle.lid_rate.specs.Raising.{AreEdges}

@@ -1,26 +1,24 @@
 -- The part of a component meets the rules.
-use Rattle.std.proofs.Common.{◌≡◌, ℕ, zero, suc, ◌+◌, ◌-◌, ◌*◌, ◌^◌, ◌<◌, ◌≤◌, ◌≢◌, ◌==◌, ◌⊎◌, inl, inr, Bool, true, false, ◌||◌, List, [], ◌∷◌, ◌++◌, length, get_or, map, reverse, position, Option, Some, None, is_some, refl, sym, ◌∙◌, ap, subst, arith}
+use Rattle.std.proofs.Common.{◌≡◌, ℕ, ◌+◌, ◌-◌, ◌*◌, ◌^◌, ◌<◌, ◌≤◌, ◌==◌, ◌⊎◌, inl, inr, Bool, true, false, ◌||◌, List, [], ◌∷◌, length, get_or, map, reverse, position, Option, Some, None, is_some, refl, sym, ◌∙◌, ap, subst, arith}
 use Rattle.std.specs.List.{Contains, All}
 use Rattle.std.specs.Option.{MatchOption}
 use Rattle.std.specs.Int.{IsGcd}
 use Rattle.std.proofs.Math.Nat.{mul-le-mul_right}
-use Rattle.std.proofs.lemmas.Bool.{cases_eq, cases_lt, eq-eqb, eqb-true, ne_eqb}
+use Rattle.std.proofs.lemmas.Bool.{cases_lt, eq-eqb, eqb-true, ne_eqb}
 use Rattle.std.proofs.lemmas.List.{length-reverse, length-map, get_or-map, get_or_default, get_or-reverse}
-use Rattle.lid_graph.specs.declared.graph.Edge.{Edge}
 use Rattle.lid_graph.specs.declared.graph.Graph.{Graph}
-use Rattle.lid_graph.specs.Walks.{no_edge, edge_at, walk_start, walk_tokens, IsPaired, IsWalk, IsClosedWalk, IsJoined, IsLeastJoined}
+use Rattle.lid_graph.specs.Walks.{no_edge, edge_at, walk_start, walk_tokens, IsWalk, IsClosedWalk, IsJoined}
 use Rattle.lid_graph.specs.Ratios.{IsLag}
 use Rattle.lid_graph.proofs.Journeys.{joined-step, joined-back}
 use Rattle.lid_cert.specs.declared.cert.Part.{Part}
-use Rattle.lid_cert.specs.Certificates.{place_in, has_node, lag_of, lead_of, depth_of, via_of, AreLists, IsEdgeMet, IsStartMet, IsVia, IsNodeMet, IsPart, IsPartInRange, ascends}
+use Rattle.lid_cert.specs.Certificates.{has_node, lag_of, lead_of, depth_of, via_of, AreLists, IsEdgeMet, IsStartMet, IsVia, IsNodeMet, IsPart, ascends}
 use Rattle.lid_cert.proofs.Parts.{lag_along, stays-back}
-use Rattle.lid_rate.specs.Chains.{IsChain, last_of, MeetsOnce}
+use Rattle.lid_rate.specs.Chains.{IsChain, MeetsOnce}
 use Rattle.lid_rate.specs.Raising.{AreEdges}
-use Rattle.lid_rate.specs.Settling.{AreLags}
-use Rattle.lid_rate.specs.Rating.{IsRated, IsRate, IsOneTokenLoop}
+use Rattle.lid_rate.specs.Rating.{IsRate}
 use Rattle.lid_rate.specs.Spreading.{is_reached, IsTree, IsClosed}
 use Rattle.lid_rate.specs.Rates.{IsRateable, those, AreLabels, is_labelled, edges_of, IsPartOf}
-use Rattle.lid_rate.proofs.Backward.{tokens_reverse, chain_walk, walk_at}
+use Rattle.lid_rate.proofs.Backward.{tokens_reverse, chain_walk}
 use Rattle.lid_rate.proofs.Settles.{contains_within}
 use Rattle.lid_rate.proofs.Those.{Stands, those_only, those_all, those_ascends, those_has, those_has_not, those_few, column_at}
 
@@ -177,9 +175,9 @@ module _ (g : Graph) (ok : IsRateable g) (least : List ℕ) (labels : AreLabels 
 
         edge_met : (k : ℕ) → k < length g.edges → IsEdgeMet part (edge_at g k)
         edge_met k h = record {
-            stays = has (edge_at g k).from (ok.paired.from_within k h) ∙ (ap (λ (n : ℕ). n == r) (edge_label k h) ∙ sym (has (edge_at g k).to (ok.paired.to_within k h)));
-            lag = λ e. met (inside_has (edge_at g k).to e);
-          }
+          stays = has (edge_at g k).from (ok.paired.from_within k h) ∙ (ap (λ (n : ℕ). n == r) (edge_label k h) ∙ sym (has (edge_at g k).to (ok.paired.to_within k h)));
+          lag = λ e. met (inside_has (edge_at g k).to e);
+        }
           where
             met : ((edge_at g k).to < g.nodes) × Inside (edge_at g k).to → lag_of part (edge_at g k).from + part.p ≤ lag_of part (edge_at g k).to + part.q * (edge_at g k).tokens
             met to =

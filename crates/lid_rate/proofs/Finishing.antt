@@ -1,5 +1,5 @@
 -- What the making of a part needs.
-use Rattle.std.proofs.Common.{◌≡◌, ℕ, zero, suc, ◌+◌, ◌-◌, ◌*◌, ◌^◌, ◌<◌, ◌≤◌, ◌≢◌, ◌==◌, ◌&&◌, ◌⊎◌, inl, inr, Bool, true, false, List, [], ◌∷◌, length, get_or, map, Option, Some, None, Result, Ok, Err, refl, sym, ◌∙◌, ap, subst, arith}
+use Rattle.std.proofs.Common.{◌≡◌, ℕ, ◌+◌, ◌-◌, ◌*◌, ◌^◌, ◌<◌, ◌≤◌, ◌≢◌, ◌==◌, ◌&&◌, ◌⊎◌, inl, inr, Bool, true, false, List, [], ◌∷◌, length, get_or, Option, Result, Ok, Err, refl, sym, ◌∙◌, ap, subst, arith}
 use Rattle.std.specs.List.{All}
 use Rattle.std.specs.Result.{IfOk}
 use Rattle.std.proofs.lemmas.Bool.{cases_eq, cases_lt, eq-eqb, eqb-true, and_parts}
@@ -7,9 +7,8 @@ use Rattle.std.proofs.lemmas.List.{get_or_default}
 use Rattle.std.proofs.Math.Nat.{mul-le-mul_right}
 use Rattle.lid_graph.specs.declared.graph.Edge.{Edge}
 use Rattle.lid_graph.specs.declared.graph.Graph.{Graph}
-use Rattle.lid_graph.specs.Walks.{no_edge, edge_at, walk_start, IsPaired, IsClosedWalk}
+use Rattle.lid_graph.specs.Walks.{edge_at, walk_start, IsPaired, IsClosedWalk}
 use Rattle.lid_cert.specs.declared.cert.Part.{Part}
-use Rattle.lid_rate.specs.Raising.{AreEdges}
 use Rattle.lid_rate.specs.Rating.{IsRate, IsOneTokenLoop}
 use Rattle.lid_rate.specs.Spreading.{IsTree, IsClosed}
 use Rattle.lid_rate.specs.Rates.{IsRateable, those, AreLabels, is_labelled, edges_of, IsPartOf, IsLoopAt, is_loop_edge, Assembles}

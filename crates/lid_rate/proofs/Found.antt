@@ -1,16 +1,14 @@
 -- All parts, from the least label on.
-use Rattle.std.proofs.Common.{◌≡◌, ℕ, zero, suc, ◌+◌, ◌-◌, ◌*◌, ◌<◌, ◌≤◌, ◌≢◌, ◌==◌, ◌⊎◌, inl, inr, Bool, true, false, cond, List, [], ◌∷◌, ◌++◌, length, get_or, map, position, is_some, refl, sym, ◌∙◌, ap, subst, arith, add-one}
-use Rattle.std.specs.List.{Contains, All, count_by, sum_by}
+use Rattle.std.proofs.Common.{◌≡◌, ℕ, zero, suc, ◌+◌, ◌<◌, ◌≤◌, ◌≢◌, ◌==◌, ◌⊎◌, inl, inr, Bool, true, false, cond, List, [], ◌∷◌, ◌++◌, length, get_or, map, position, is_some, refl, sym, ◌∙◌, ap, subst, arith, add-one}
+use Rattle.std.specs.List.{All, count_by}
 use Rattle.std.proofs.lemmas.Bool.{cases_eq, cases_lt, eq-eqb, eqb-true, ne_eqb}
 use Rattle.std.proofs.lemmas.List.{map-append, length-append, get_or_append_left, get_or_default}
 use Rattle.std.proofs.Math.Seq.{get_or-append_seam}
 use Rattle.std.proofs.lemmas.List.Sums.{sum_by-append, count_by-le-length}
 use Rattle.lid_graph.specs.declared.graph.Graph.{Graph}
-use Rattle.lid_graph.specs.Walks.{IsJoined, IsLeastJoined}
 use Rattle.lid_cert.specs.declared.cert.Part.{Part}
 use Rattle.lid_cert.specs.declared.cert.Cert.{Cert}
-use Rattle.lid_cert.specs.Certificates.{has_node, least_node, parts_with, ascends, IsPart, Certifies, IsPartInRange, IsInRange}
-use Rattle.lid_cert.specs.Laws.{Shows}
+use Rattle.lid_cert.specs.Certificates.{has_node, least_node, parts_with, ascends, Certifies, IsInRange}
 use Rattle.lid_cert.proofs.Ascending.{rises-pair}
 use Rattle.lid_cert.proofs.Consequences.{ratio_is_shown}
 use Rattle.lid_rate.specs.Rates.{IsRateable, those, AreLabels, is_labelled, IsPartOf, IsExact, is_own, AreParts}
@@ -77,11 +75,11 @@ module _ (g : Graph) (ok : IsRateable g) (least : List ℕ) (labels : AreLabels 
 
   pub parts_push : (v : ℕ) (parts : List Part) (part : Part) → v < g.nodes → get_or least v 0 ≡ v → IsPartOf g least v part → AreParts g least v parts → AreParts g least (v + 1) (parts ++ part ∷ [])
   parts_push v parts part h own of so = record {
-      heads = heads;
-      each = all_end (λ (x : Part). IsPartOf g least (least_node x) x) parts part so.each (subst (λ (n : ℕ). IsPartOf g least n part) (sym head) of);
-      counted = λ w l low. counted w l low (cases_eq (get_or least w 0) v);
-      uncounted = λ w l high. (let no_here = not_here w l (λ e. omega arith) in let none = so.uncounted w l (omega arith) in count_no (λ x. has_node x w) parts part no_here ∙ none);
-    }
+    heads = heads;
+    each = all_end (λ (x : Part). IsPartOf g least (least_node x) x) parts part so.each (subst (λ (n : ℕ). IsPartOf g least n part) (sym head) of);
+    counted = λ w l low. counted w l low (cases_eq (get_or least w 0) v);
+    uncounted = λ w l high. (let no_here = not_here w l (λ e. omega arith) in let none = so.uncounted w l (omega arith) in count_no (λ x. has_node x w) parts part no_here ∙ none);
+  }
     where
       head : least_node part ≡ v
       head = head_is v part h own of
@@ -107,11 +105,11 @@ module _ (g : Graph) (ok : IsRateable g) (least : List ℕ) (labels : AreLabels 
 
   pub parts_skip : (v : ℕ) (parts : List Part) → get_or least v 0 ≢ v → AreParts g least v parts → AreParts g least (v + 1) parts
   parts_skip v parts other so = record {
-      heads = so.heads ∙ sym same;
-      each = so.each;
-      counted = λ w l low. so.counted w l (let no_one = none w l in omega arith);
-      uncounted = λ w l high. so.uncounted w l (omega arith);
-    }
+    heads = so.heads ∙ sym same;
+    each = so.each;
+    counted = λ w l low. so.counted w l (let no_one = none w l in omega arith);
+    uncounted = λ w l high. so.uncounted w l (omega arith);
+  }
     where
       none : (w : ℕ) → w < g.nodes → get_or least w 0 ≢ v
       none w l is = other (subst (λ (n : ℕ). get_or least n 0 ≡ n) is (least_own w l))

@@ -9,3 +9,4 @@ pub mod Those
 pub mod Components
 pub mod Finishing
 pub mod Found
+pub mod Numbered

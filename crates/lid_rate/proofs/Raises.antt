@@ -1,14 +1,14 @@
 -- A raise keeps what holds of raised values.
-use Rattle.std.proofs.Common.{◌≡◌, ℕ, zero, suc, ◌+◌, ◌-◌, ◌*◌, ◌<◌, ◌≤◌, ◌≢◌, ◌⊎◌, inl, inr, Bool, true, false, ◌^◌, List, [], ◌∷◌, length, get_or, set, Option, Some, None, refl, sym, ◌∙◌, ap, subst, arith}
+use Rattle.std.proofs.Common.{◌≡◌, ℕ, ◌+◌, ◌-◌, ◌*◌, ◌<◌, ◌≤◌, ◌≢◌, ◌⊎◌, inl, inr, Bool, true, false, ◌^◌, List, [], ◌∷◌, length, get_or, Option, Some, None, refl, sym, ◌∙◌, ap, subst, arith}
 use Rattle.std.specs.Bool.{MatchBool}
 use Rattle.std.specs.List.{Contains}
 use Rattle.std.proofs.Math.Nat.{mul-le-mul_left}
-use Rattle.std.proofs.lemmas.Bool.{cases_eq, cases_lt}
+use Rattle.std.proofs.lemmas.Bool.{cases_eq}
 use Rattle.std.proofs.lemmas.List.{get_or-set_same, get_or-set_other, length-set, get_or_default}
 use Rattle.lid_graph.specs.declared.graph.Edge.{Edge}
 use Rattle.lid_graph.specs.declared.graph.Graph.{Graph}
-use Rattle.lid_graph.specs.Walks.{no_edge, edge_at, walk_tokens}
-use Rattle.lid_rate.specs.Chains.{IsChain, IsLastChain, last_of}
+use Rattle.lid_graph.specs.Walks.{edge_at, walk_tokens}
+use Rattle.lid_rate.specs.Chains.{IsChain, IsLastChain}
 use Rattle.lid_rate.specs.Raising.{Raises, Stays, AreEdges, IsRaised, AreAtMost, GoneOver, IsChanged}
 
 some_same : (k l : ℕ) → Some k ≡ Some l → k ≡ l

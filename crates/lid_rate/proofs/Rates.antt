@@ -1,15 +1,13 @@
 -- Closed walks of lower and lower ratio.
-use Rattle.std.proofs.Common.{◌≡◌, ℕ, zero, suc, ◌+◌, ◌-◌, ◌*◌, ◌/◌, ◌^◌, ◌<◌, ◌≤◌, List, [], ◌∷◌, length, get_or, reverse, refl, sym, ◌∙◌, ap, subst, arith}
-use Rattle.std.specs.List.{Contains, All}
-use Rattle.std.specs.Int.{IsGcd}
+use Rattle.std.proofs.Common.{◌≡◌, ℕ, ◌*◌, ◌/◌, ◌^◌, ◌<◌, ◌≤◌, List, [], ◌∷◌, length, refl, sym, ◌∙◌, ap, subst, arith}
+use Rattle.std.specs.List.{All}
 use Rattle.std.proofs.lemmas.List.{length-reverse}
 use Rattle.std.proofs.lemmas.Nat.Gcd.{dvd_refl}
 use Rattle.lid_graph.specs.declared.graph.Graph.{Graph}
-use Rattle.lid_graph.specs.Walks.{no_edge, edge_at, walk_tokens}
-use Rattle.lid_rate.specs.Chains.{IsChain, MeetsOnce}
+use Rattle.lid_graph.specs.Walks.{edge_at, walk_tokens}
 use Rattle.lid_rate.specs.Raising.{AreEdges}
-use Rattle.lid_rate.specs.Settling.{AreLags, IsLower}
-use Rattle.lid_rate.specs.Rating.{IsLowest, IsRated, IsRate, IsOneTokenLoop}
+use Rattle.lid_rate.specs.Settling.{IsLower}
+use Rattle.lid_rate.specs.Rating.{IsLowest, IsRated, IsOneTokenLoop}
 use Rattle.lid_rate.proofs.Backward.{tokens_reverse, walk_within}
 use Rattle.lid_rate.proofs.Settles.{contains_within}
 use Rattle.lid_rate.proofs.Ratios.{falls}

@@ -1,12 +1,12 @@
 -- Rounds of raises: they reach longer chains each time, and end.
-use Rattle.std.proofs.Common.{◌≡◌, ℕ, zero, suc, ◌+◌, ◌-◌, ◌*◌, ◌^◌, ◌<◌, ◌≤◌, ◌≢◌, ◌⊎◌, inl, inr, List, [], ◌∷◌, ◌++◌, length, get_or, replicate, reverse, Option, Some, None, refl, sym, ◌∙◌, ap, subst, arith}
+use Rattle.std.proofs.Common.{◌≡◌, ℕ, ◌+◌, ◌*◌, ◌^◌, ◌<◌, ◌≤◌, ◌⊎◌, inl, inr, List, [], ◌∷◌, length, get_or, replicate, Option, Some, None, refl, sym, ◌∙◌, ap, subst, arith}
 use Rattle.std.specs.List.{Contains}
-use Rattle.std.proofs.lemmas.Bool.{cases_eq, cases_lt}
+use Rattle.std.proofs.lemmas.Bool.{cases_lt}
 use Rattle.std.proofs.lemmas.List.{get_or-replicate, get_or_past, length-replicate, get_or_default}
-use Rattle.std.proofs.Math.Nat.{mul-le-mul_left, mul-le-mul_right}
+use Rattle.std.proofs.Math.Nat.{mul-le-mul_right}
 use Rattle.lid_graph.specs.declared.graph.Graph.{Graph}
-use Rattle.lid_graph.specs.Walks.{no_edge, edge_at, walk_tokens}
-use Rattle.lid_rate.specs.Chains.{IsChain, IsLastChain, last_of, MeetsOnce}
+use Rattle.lid_graph.specs.Walks.{edge_at, walk_tokens}
+use Rattle.lid_rate.specs.Chains.{IsChain, IsLastChain, last_of}
 use Rattle.lid_rate.specs.Raising.{AreEdges, IsRaised, AreAtMost, GoneOver, ReachesChains}
 use Rattle.lid_rate.specs.Following.{AreLasts, LeadsOut, ClosesUp}
 use Rattle.lid_rate.specs.Settling.{AreLags, IsLower, IsSettling}
@@ -24,15 +24,15 @@ contains_within g es k edges at = subst (λ (n : ℕ). n < length g.edges) (get_
 module _ (g : Graph) (es : List ℕ) (p q : ℕ) (edges : AreEdges g es) where
   start_raised : (values : List ℕ) (last : List (Option ℕ)) → values ≡ replicate g.nodes 0 → last ≡ replicate g.nodes None → IsRaised g es p q values last
   start_raised values last values_is last_is = record {
-      value_count = ap length values_is ∙ length-replicate g.nodes 0;
-      last_count = ap length last_is ∙ length-replicate g.nodes None;
-      listed = λ v k e. absurd (no_last v k e);
-      ends = λ v k e. absurd (no_last v k e);
-      slack = λ v k e. absurd (no_last v k e);
-      rising = λ v ks chain some. absurd (no_chain v ks v chain some);
-      fresh = λ v e. zero_at v;
-      attained = λ v h. (v, [], refl, (let z = zero_at v in omega arith));
-    }
+    value_count = ap length values_is ∙ length-replicate g.nodes 0;
+    last_count = ap length last_is ∙ length-replicate g.nodes None;
+    listed = λ v k e. absurd (no_last v k e);
+    ends = λ v k e. absurd (no_last v k e);
+    slack = λ v k e. absurd (no_last v k e);
+    rising = λ v ks chain some. absurd (no_chain v ks v chain some);
+    fresh = λ v e. zero_at v;
+    attained = λ v h. (v, [], refl, (let z = zero_at v in omega arith));
+  }
     where
       zero_at : (v : ℕ) → get_or values v 0 ≡ 0
       zero_at v = ap (λ (l : List ℕ). get_or l v 0) values_is ∙ all_replicate g.nodes v 0
@@ -46,11 +46,11 @@ module _ (g : Graph) (es : List ℕ) (p q : ℕ) (edges : AreEdges g es) where
 
   pub start_settling : (values : List ℕ) (last : List (Option ℕ)) → values ≡ replicate g.nodes 0 → last ≡ replicate g.nodes None → IsSettling g es p q 0 values last
   start_settling values last values_is last_is = record {
-      raised = start_raised values last values_is last_is;
-      reaches = λ v u ks chain short. reach v u ks short;
-      small = λ v. (let z : get_or values v 0 ≡ 0 = ap (λ (l : List ℕ). get_or l v 0) values_is ∙ all_replicate g.nodes v 0 in omega arith);
-      early = omega arith;
-    }
+    raised = start_raised values last values_is last_is;
+    reaches = λ v u ks chain short. reach v u ks short;
+    small = λ v. (let z : get_or values v 0 ≡ 0 = ap (λ (l : List ℕ). get_or l v 0) values_is ∙ all_replicate g.nodes v 0 in omega arith);
+    early = omega arith;
+  }
     where
       reach : (v u : ℕ) (ks : List ℕ) → length ks ≤ 0 → p * length ks ≤ get_or values v 0 + q * walk_tokens g ks
       reach v u ks short = let none : length ks ≡ 0 = omega arith in let z : p * length ks ≡ p * 0 = ap (λ (n : ℕ). p * n) none in omega arith

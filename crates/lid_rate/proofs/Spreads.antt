@@ -1,8 +1,8 @@
 -- An edge more keeps what holds of a tree.
-use Rattle.std.proofs.Common.{◌≡◌, ℕ, zero, suc, ◌+◌, ◌-◌, ◌*◌, ◌^◌, ◌<◌, ◌≤◌, ◌≢◌, ◌==◌, ◌⊎◌, inl, inr, Bool, true, false, cond, ◌||◌, List, [], ◌∷◌, length, get_or, set, replicate, Option, Some, None, is_some, refl, sym, ◌∙◌, ap, subst, arith}
-use Rattle.std.specs.List.{Contains, sum_by}
+use Rattle.std.proofs.Common.{◌≡◌, ℕ, ◌+◌, ◌*◌, ◌^◌, ◌<◌, ◌≤◌, ◌≢◌, ◌==◌, ◌⊎◌, inl, inr, Bool, true, false, cond, ◌||◌, List, length, get_or, set, replicate, Option, Some, None, is_some, refl, sym, ◌∙◌, ap, subst, arith}
+use Rattle.std.specs.List.{Contains}
 use Rattle.std.specs.Bool.{MatchBool}
-use Rattle.std.proofs.lemmas.Bool.{cases_eq, cases_lt, eq-eqb, ne_eqb}
+use Rattle.std.proofs.lemmas.Bool.{cases_eq, eq-eqb}
 use Rattle.std.proofs.lemmas.List.{get_or-set_same, get_or-set_other, length-set, length-replicate}
 use Rattle.std.proofs.lemmas.List.Sums.{sum_by-set}
 use Rattle.std.proofs.lemmas.List.Folds.{sum_by-replicate}
@@ -10,8 +10,7 @@ use Rattle.std.proofs.lemmas.List.{get_or_default}
 use Rattle.std.proofs.Math.Nat.{mul-le-mul_left, mul-le-mul_right}
 use Rattle.lid_graph.specs.declared.graph.Edge.{Edge}
 use Rattle.lid_graph.specs.declared.graph.Graph.{Graph}
-use Rattle.lid_graph.specs.Walks.{no_edge, edge_at}
-use Rattle.lid_rate.specs.Chains.{last_of}
+use Rattle.lid_graph.specs.Walks.{edge_at}
 use Rattle.lid_rate.specs.Raising.{AreEdges}
 use Rattle.lid_rate.specs.Spreading.{is_reached, missing, unreached, Extends, Leaves, IsTree, IsClosed, IsSpread}
 use Rattle.lid_rate.proofs.Settles.{all_replicate}
@@ -235,20 +234,20 @@ module _ (g : Graph) (es : List ℕ) (start q first : ℕ) where
 
   pub plant_tree : (start < g.nodes) → (via : List (Option ℕ)) (lead depth : List ℕ) → via ≡ replicate g.nodes None → lead ≡ set (replicate g.nodes 0) start first → depth ≡ replicate g.nodes 0 → IsTree g es start q first via lead depth
   plant_tree within via lead depth via_is lead_is depth_is = record {
-      via_count = ap length via_is ∙ length-replicate g.nodes None;
-      lead_count = ap length lead_is ∙ (length-set (replicate g.nodes 0) start first ∙ length-replicate g.nodes 0);
-      depth_count = ap length depth_is ∙ length-replicate g.nodes 0;
-      root = none_at start;
-      root_lead = root_lead;
-      root_depth = no_depth start;
-      listed = λ v k e. absurd (no_via v k e);
-      ends = λ v k e. absurd (no_via v k e);
-      begins = λ v k e. absurd (no_via v k e);
-      deeper = λ v k e. absurd (no_via v k e);
-      leads = λ v k e. absurd (no_via v k e);
-      shallow = λ v. (let d = no_depth v in let u = all_unreached in omega arith);
-      small = λ v. (let l = low v (cases_eq v start) in omega arith);
-    }
+    via_count = ap length via_is ∙ length-replicate g.nodes None;
+    lead_count = ap length lead_is ∙ (length-set (replicate g.nodes 0) start first ∙ length-replicate g.nodes 0);
+    depth_count = ap length depth_is ∙ length-replicate g.nodes 0;
+    root = none_at start;
+    root_lead = root_lead;
+    root_depth = no_depth start;
+    listed = λ v k e. absurd (no_via v k e);
+    ends = λ v k e. absurd (no_via v k e);
+    begins = λ v k e. absurd (no_via v k e);
+    deeper = λ v k e. absurd (no_via v k e);
+    leads = λ v k e. absurd (no_via v k e);
+    shallow = λ v. (let d = no_depth v in let u = all_unreached in omega arith);
+    small = λ v. (let l = low v (cases_eq v start) in omega arith);
+  }
     where
       none_at : (v : ℕ) → get_or via v None ≡ None
       none_at v = ap (λ (l : List (Option ℕ)). get_or l v None) via_is ∙ all_replicate g.nodes v None

@@ -1,11 +1,11 @@
 -- The numbers that pass a test, and where they stand.
-use Rattle.std.proofs.Common.{◌≡◌, ℕ, zero, suc, ◌+◌, ◌-◌, ◌<◌, ◌≤◌, ◌≢◌, ◌==◌, ◌⊎◌, inl, inr, Bool, true, false, cond, nat_le, ◌&&◌, List, [], ◌∷◌, ◌++◌, length, get_or, map, position, Option, Some, None, is_some, refl, sym, ◌∙◌, ap, subst, arith}
+use Rattle.std.proofs.Common.{◌≡◌, ℕ, zero, suc, ◌+◌, ◌<◌, ◌≤◌, ◌≢◌, ◌==◌, ◌⊎◌, inl, inr, Bool, true, false, cond, nat_le, List, [], ◌∷◌, ◌++◌, length, get_or, map, position, Option, Some, is_some, refl, sym, ◌∙◌, ap, arith}
 use Rattle.std.specs.Option.{option_map_or}
-use Rattle.std.proofs.lemmas.Bool.{cases_eq, cases_lt, eq-eqb, eqb-true, leb-true, le-leb, and_parts}
-use Rattle.std.proofs.lemmas.List.{get_or_append_left, length-append, get_or-map, get_or_default}
+use Rattle.std.proofs.lemmas.Bool.{cases_eq, cases_lt, le-leb, and_parts}
+use Rattle.std.proofs.lemmas.List.{get_or_append_left, length-append, get_or-map}
 use Rattle.std.proofs.Math.Seq.{get_or-append_seam}
 use Rattle.lid_cert.specs.Certificates.{rises, ascends}
-use Rattle.lid_cert.proofs.Ascending.{rises-pair, place_found, place_missing}
+use Rattle.lid_cert.proofs.Ascending.{place_found, place_missing}
 use Rattle.lid_rate.specs.Rates.{those}
 
 abbrev More : (ℕ → Bool) → ℕ → Bool → List ℕ

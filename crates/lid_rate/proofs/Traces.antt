@@ -1,13 +1,12 @@
 -- The chain of edges that stand for transitions, one edge on, and where it closes.
-use Rattle.std.proofs.Common.{◌≡◌, ℕ, zero, suc, ◌+◌, ◌-◌, ◌*◌, ◌<◌, ◌≤◌, ◌≢◌, ◌⊎◌, inl, inr, List, [], ◌∷◌, ◌++◌, length, get_or, set, drop, reverse, Option, Some, None, refl, sym, ◌∙◌, ap, subst, arith}
-use Rattle.std.specs.List.{sum_by}
+use Rattle.std.proofs.Common.{◌≡◌, ℕ, zero, suc, ◌+◌, ◌-◌, ◌<◌, ◌≤◌, ◌≢◌, ◌⊎◌, inl, inr, List, [], ◌∷◌, ◌++◌, length, get_or, set, drop, reverse, Option, Some, None, refl, sym, ◌∙◌, ap, subst, arith}
 use Rattle.std.proofs.lemmas.Bool.{cases_eq, cases_lt}
-use Rattle.std.proofs.lemmas.List.{get_or-set_same, get_or-set_other, length-set, get_or_default, get_or_append_left, get_or-drop, length-append, length-drop}
+use Rattle.std.proofs.lemmas.List.{get_or-set_same, get_or-set_other, length-set, get_or_append_left, get_or-drop, length-append, length-drop}
 use Rattle.std.proofs.Math.Seq.{get_or-append_seam}
 use Rattle.std.proofs.lemmas.List.Sums.{sum_by-set}
 use Rattle.lid_graph.specs.declared.graph.Graph.{Graph}
-use Rattle.lid_graph.specs.Walks.{no_edge, edge_at, walk_tokens}
-use Rattle.lid_rate.specs.Chains.{IsLastChain, last_of, MeetsOnce}
+use Rattle.lid_graph.specs.Walks.{edge_at}
+use Rattle.lid_rate.specs.Chains.{IsLastChain, last_of}
 use Rattle.lid_rate.specs.Following.{AreLasts, IsTrace, unplaced, ClosesUp}
 
 last_chain_more : (g : Graph) (last : List (Option ℕ)) (ks : List ℕ) (v u k : ℕ) → IsLastChain g last v ks u → last_of last u ≡ Some k → IsLastChain g last v (ks ++ k ∷ []) (edge_at g k).from

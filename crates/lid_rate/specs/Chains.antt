@@ -1,8 +1,8 @@
 -- Chains: walks that are told from their end.
-use Rattle.std.specs.Prelude.{◌≡◌, ℕ, ◌+◌, ◌*◌, ◌<◌, ◌≤◌, List, [], ◌∷◌, length, slice_index, slice_index_or, Option, Some, None}
+use Rattle.std.specs.Prelude.{◌≡◌, ℕ, ◌<◌, List, [], ◌∷◌, length, slice_index, slice_index_or, Option, Some, None}
 use Rattle.std.specs.List.{Contains}
 use Rattle.lid_graph.specs.declared.graph.Graph.{Graph}
-use Rattle.lid_graph.specs.Walks.{edge_at, walk_tokens}
+use Rattle.lid_graph.specs.Walks.{edge_at}
 
 -- edges of the list, each ending where the one before begins, the first at v; the last begins at u
 abbrev pub IsChain : Graph → List ℕ → ℕ → List ℕ → ℕ → Type 0

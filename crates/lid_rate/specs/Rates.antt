@@ -1,12 +1,11 @@
 -- Graphs whose components have certificates, and what the search answers.
-use Rattle.std.specs.Prelude.{◌≡◌, ℕ, zero, suc, ◌+◌, ◌^◌, ◌<◌, ◌≤◌, ◌==◌, ◌&&◌, true, Bool, if◌then◌else◌, List, [], ◌∷◌, ◌++◌, length, map, slice_index, slice_index_or, Option, None}
+use Rattle.std.specs.Prelude.{◌≡◌, ℕ, zero, suc, ◌^◌, ◌<◌, ◌≤◌, ◌==◌, ◌&&◌, true, Bool, if◌then◌else◌, List, [], ◌∷◌, ◌++◌, length, map, slice_index, slice_index_or, Option, None}
 use Rattle.std.specs.List.{All, count_by}
 use Rattle.lid_graph.specs.declared.graph.Edge.{Edge}
 use Rattle.lid_graph.specs.declared.graph.Graph.{Graph}
 use Rattle.lid_graph.specs.Walks.{edge_at, IsPaired, IsClosedWalk, IsLeastJoined, walk_tokens}
 use Rattle.lid_graph.specs.Ratios.{IsRatio, IsLag}
 use Rattle.lid_cert.specs.declared.cert.Part.{Part}
-use Rattle.lid_cert.specs.declared.cert.Cert.{Cert}
 use Rattle.lid_cert.specs.Certificates.{has_node, lag_of, least_node, IsPart, IsPartInRange}
 use Rattle.lid_rate.specs.Chains.{MeetsOnce}
 

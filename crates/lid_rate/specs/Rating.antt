@@ -1,5 +1,5 @@
 -- The ratio of the closed chains of a list of edges.
-use Rattle.std.specs.Prelude.{◌≡◌, ℕ, ◌+◌, ◌*◌, ◌^◌, ◌<◌, ◌≤◌, List, length, reverse, slice_index, Option}
+use Rattle.std.specs.Prelude.{◌≡◌, ℕ, ◌*◌, ◌<◌, ◌≤◌, List, length, reverse}
 use Rattle.std.specs.Int.{IsGcd}
 use Rattle.std.specs.List.{Contains}
 use Rattle.lid_graph.specs.declared.graph.Graph.{Graph}

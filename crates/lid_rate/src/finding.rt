@@ -1,9 +1,9 @@
 //! The search for a certificate.
 
-ghost use Rattle.std.specs.Prelude.{IfOk};
+ghost use Rattle.std.specs.Prelude.{◌≤◌, IfOk};
 ghost use Rattle.std.specs.List.{All};
 ghost use Rattle.lid_cert.specs.Certificates.{Certifies, IsInRange};
-ghost use Rattle.lid_rate.specs.Rates.{IsRateable, IsExact, AreLabels, AreParts};
+ghost use Rattle.lid_rate.specs.Rates.{IsRateable, IsExact, AreLabels, AreParts, WalksHaveTokens};
 
 use crate::parts::part_of;
 use lid_base::Items;
@@ -29,7 +29,8 @@ fn all_parts(alloc: Global, graph: &Graph, least: &[u32]) -> Result<Vec<Part>, A
 
 /// Finds a certificate of the ratio of each component of a graph: the ratio itself, the least lags, and
 /// a closed walk that meets no transition twice. A graph that has a transition, is paired and has at
-/// most 262,144 transitions, fewer than 524,288 edges and at most 16 tokens on an edge has one.
+/// most 262,144 transitions, fewer than 524,288 edges and at most 16 tokens on an edge has one. No
+/// ratio is 0 where each closed walk has a token.
 ///
 /// # Errors
 /// Where there is no memory.
@@ -38,8 +39,11 @@ pub fn find(alloc: Global, graph: &Graph) -> Result<Cert, AllocError>
     ensures certifies { IfOk result (Certifies graph.now) }
     ensures exact { IfOk result (λ cert. All (IsExact graph.now) cert.parts) }
     ensures in_range { IfOk result IsInRange }
+    ensures positive { IfOk result (λ cert. WalksHaveTokens graph.now → All (λ part. 1 ≤ part.p) cert.parts) }
 {
     let least = components(alloc, graph)?;
     let parts = all_parts(alloc, graph, least.as_slice())?;
-    Ok(Cert { parts: Items::from_vec(parts) })
+    Ok(Cert {
+        parts: Items::from_vec(parts),
+    })
 }

@@ -59,14 +59,23 @@ fn closed(alloc: Global, chain: &[u32], first: usize) -> Result<Items<u32>, Allo
 ///
 /// # Errors
 /// Where there is no memory.
-pub(crate) fn follow(alloc: Global, graph: &Graph, last: &[Option<u32>], start: u32) -> Result<Followed, AllocError>
+pub(crate) fn follow(
+    alloc: Global,
+    graph: &Graph,
+    last: &[Option<u32>],
+    start: u32,
+) -> Result<Followed, AllocError>
     requires lasts { AreLasts graph.now last.now }
     requires start { start < graph.now.nodes }
     requires nodes { graph.now.nodes ≤ 2 ^ 18 }
     ensures { IfOk result (Follows graph.now last.now start) }
 {
     let places = Vec::from_elem(alloc, 0, graph.nodes as usize)?;
-    let mut trace = Trace { chain: Vec::new(alloc), places, at: start };
+    let mut trace = Trace {
+        chain: Vec::new(alloc),
+        places,
+        at: start,
+    };
     while trace.places[trace.at as usize] == 0 {
         if !go_on(&mut trace, graph, last)? {
             return Ok(Followed::Ends(trace.chain.len()));

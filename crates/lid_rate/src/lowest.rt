@@ -36,7 +36,10 @@ pub(crate) fn lowest(tokens: u64, edges: u64) -> Ratio
     ensures { IsLowest tokens edges result.p result.q }
 {
     let common = gcd(tokens, edges);
-    Ratio { p: tokens / common, q: edges / common }
+    Ratio {
+        p: tokens / common,
+        q: edges / common,
+    }
 }
 
 /// The tokens on the edges with these numbers.

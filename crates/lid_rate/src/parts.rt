@@ -29,7 +29,12 @@ fn nodes_with(alloc: Global, least: &[u32], label: u32) -> Result<Vec<u32>, Allo
 }
 
 /// The edges that begin at a transition with a label, ascending.
-fn edges_with(alloc: Global, graph: &Graph, least: &[u32], label: u32) -> Result<Vec<u32>, AllocError>
+fn edges_with(
+    alloc: Global,
+    graph: &Graph,
+    least: &[u32],
+    label: u32,
+) -> Result<Vec<u32>, AllocError>
     requires edges { length graph.now.edges < 2 ^ 32 }
     requires from { (k : ℕ) → k < length graph.now.edges → (edge_at graph.now k).from < length least.now }
     ensures { IfOk result (λ edges. edges.items ≡ edges_of graph.now least.now label) }
@@ -127,11 +132,26 @@ fn assemble(alloc: Global, nodes: Vec<u32>, rate: Rate, tree: &Tree) -> Result<P
     let lead = numbers(alloc, &nodes, &tree.lead)?;
     let via = vias(alloc, &nodes, &tree.via)?;
     let depth = depths(alloc, &nodes, &tree.depth)?;
-    Ok(Part { nodes: Items::from_vec(nodes), p: ratio.p, q: ratio.q, cycle: walk, lag, lead, via, depth })
+    Ok(Part {
+        nodes: Items::from_vec(nodes),
+        p: ratio.p,
+        q: ratio.q,
+        cycle: walk,
+        lag,
+        lead,
+        via,
+        depth,
+    })
 }
 
 /// The part of the component whose least transition is `label`, of these edges.
-fn part_on(alloc: Global, graph: &Graph, least: &[u32], label: u32, edges: &[u32]) -> Result<Part, AllocError>
+fn part_on(
+    alloc: Global,
+    graph: &Graph,
+    least: &[u32],
+    label: u32,
+    edges: &[u32],
+) -> Result<Part, AllocError>
     requires graph { IsRateable graph.now }
     requires labels { AreLabels graph.now least.now }
     requires within { label < graph.now.nodes }
@@ -152,7 +172,12 @@ fn part_on(alloc: Global, graph: &Graph, least: &[u32], label: u32, edges: &[u32
 ///
 /// # Errors
 /// Where there is no memory.
-pub(crate) fn part_of(alloc: Global, graph: &Graph, least: &[u32], label: u32) -> Result<Part, AllocError>
+pub(crate) fn part_of(
+    alloc: Global,
+    graph: &Graph,
+    least: &[u32],
+    label: u32,
+) -> Result<Part, AllocError>
     requires graph { IsRateable graph.now }
     requires labels { AreLabels graph.now least.now }
     requires within { label < graph.now.nodes }

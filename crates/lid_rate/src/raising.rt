@@ -45,7 +45,13 @@ fn raise(heights: &mut Heights, edge: Edge, k: u32, p: u64, q: u64) -> bool
 }
 
 /// Goes over the edges once. Answers a transition whose value has grown, if there is one.
-pub(crate) fn go_over(heights: &mut Heights, graph: &Graph, edges: &[u32], p: u64, q: u64) -> Option<u32>
+pub(crate) fn go_over(
+    heights: &mut Heights,
+    graph: &Graph,
+    edges: &[u32],
+    p: u64,
+    q: u64,
+) -> Option<u32>
     requires edges { AreEdges graph.now edges.now }
     requires raised { IsRaised graph.now edges.now p q heights.old.values.items heights.old.last.items }
     requires small { AreAtMost heights.old.values.items (2 ^ 60) }

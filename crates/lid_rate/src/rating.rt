@@ -31,7 +31,12 @@ fn single(alloc: Global, k: u32) -> Result<Items<u32>, AllocError>
 ///
 /// # Errors
 /// Where there is no memory.
-pub(crate) fn least_rate(alloc: Global, graph: &Graph, edges: &[u32], first: u32) -> Result<Rate, AllocError>
+pub(crate) fn least_rate(
+    alloc: Global,
+    graph: &Graph,
+    edges: &[u32],
+    first: u32,
+) -> Result<Rate, AllocError>
     requires edges { AreEdges graph.now edges.now }
     requires nodes { graph.now.nodes ≤ 2 ^ 18 }
     requires few { length edges.now ≤ 2 ^ 19 }

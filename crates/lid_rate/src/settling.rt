@@ -34,7 +34,13 @@ fn start(alloc: Global, nodes: u32) -> Result<Heights, AllocError>
 ///
 /// # Errors
 /// Where there is no memory.
-pub(crate) fn settle(alloc: Global, graph: &Graph, edges: &[u32], p: u64, q: u64) -> Result<Settled, AllocError>
+pub(crate) fn settle(
+    alloc: Global,
+    graph: &Graph,
+    edges: &[u32],
+    p: u64,
+    q: u64,
+) -> Result<Settled, AllocError>
     requires edges { AreEdges graph.now edges.now }
     requires nodes { graph.now.nodes ≤ 2 ^ 18 }
     requires few { length edges.now ≤ 2 ^ 19 }

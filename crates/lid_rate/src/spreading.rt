@@ -86,7 +86,14 @@ fn plant(alloc: Global, nodes: u32, start: u32, first: u64) -> Result<Tree, Allo
 ///
 /// # Errors
 /// Where there is no memory.
-pub(crate) fn reach(alloc: Global, graph: &Graph, edges: &[u32], start: u32, q: u64, first: u64) -> Result<Tree, AllocError>
+pub(crate) fn reach(
+    alloc: Global,
+    graph: &Graph,
+    edges: &[u32],
+    start: u32,
+    q: u64,
+    first: u64,
+) -> Result<Tree, AllocError>
     requires edges { AreEdges graph.now edges.now }
     requires nodes { graph.now.nodes ≤ 2 ^ 18 }
     requires start { start < graph.now.nodes }

@@ -1,4 +1,4 @@
-use Rattle.std.proofs.Common.{◌≡◌, ◌+◌, ◌++◌, ◌∷◌, [], List, Vec, Global, sym, ◌∙◌, ap, subst}
+use Rattle.std.proofs.Common.{◌+◌, Vec, Global, sym, ◌∙◌, ap, subst}
 use Rattle.lid_cert.specs.declared.cert.Part.{Part}
 use Rattle.lid_rate.specs.Rates.{AreParts}
 use Rattle.lid_rate.proofs.Found.{parts_start, parts_push, parts_skip}
@@ -10,6 +10,6 @@ loop-v-init c = subst (AreParts c.args.graph.now c.args.least.now 0) (sym c.new-
 
 pub loop-v-preserved : goal.loop-v-preserved
 loop-v-preserved c = elim c.if-least-v.branch [
-  then-least-v+in_ok-part+in_ok-push w ↦ subst (AreParts c.args.graph.now c.args.least.now (c.loop-v.v + 1)) (sym (ap (λ (v : Vec Part Global). v.items) w.parts-is ∙ w.in_ok-push.ensures.items)) (parts_push c.args.graph.now c.requires.graph c.args.least.now c.requires.labels c.loop-v.v c.loop-v.parts.items w.in_ok-part.part c.loop-v-test.true w.if-least-v.true w.in_ok-part.ensures c.loop-v.invariant)
+  | then-least-v+in_ok-part+in_ok-push w ↦ subst (AreParts c.args.graph.now c.args.least.now (c.loop-v.v + 1)) (sym (ap (λ (v : Vec Part Global). v.items) w.parts-is ∙ w.in_ok-push.ensures.items)) (parts_push c.args.graph.now c.requires.graph c.args.least.now c.requires.labels c.loop-v.v c.loop-v.parts.items w.in_ok-part.part c.loop-v-test.true w.if-least-v.true w.in_ok-part.ensures c.loop-v.invariant)
   | else-least-v w ↦ subst (AreParts c.args.graph.now c.args.least.now (c.loop-v.v + 1)) (sym (ap (λ (v : Vec Part Global). v.items) w.parts-is)) (parts_skip c.args.graph.now c.requires.graph c.args.least.now c.requires.labels c.loop-v.v c.loop-v.parts.items w.if-least-v.false c.loop-v.invariant)
 ]

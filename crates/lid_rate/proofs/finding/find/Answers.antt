@@ -1,7 +1,7 @@
-use Rattle.std.proofs.Common.{◌≡◌, List, sym, subst}
-use Rattle.lid_cert.specs.declared.cert.Part.{Part}
+use Rattle.std.proofs.Common.{sym, subst}
 use Rattle.lid_rate.specs.Rates.{AreLabels, AreParts}
 use Rattle.lid_rate.proofs.Found.{certifies, exact, in_range}
+use Rattle.lid_rate.proofs.Numbered.{positive}
 use Rattle.lid_rate.proofs.finding.find.Goals as goal
 
 pub all_parts-requires-clause-labels : goal.all_parts-requires-clause-labels
@@ -14,5 +14,6 @@ returns c =
     record {
       certifies = certifies c.args.graph.now c.requires c.as_slice.result.now labels (record { parts = c.from_vec.result }) parts;
       exact = exact c.args.graph.now c.requires c.as_slice.result.now labels (record { parts = c.from_vec.result }) parts;
+      positive = λ tokens. positive c.args.graph.now (record { parts = c.from_vec.result }) tokens (certifies c.args.graph.now c.requires c.as_slice.result.now labels (record { parts = c.from_vec.result }) parts);
       in_range = in_range c.args.graph.now c.requires c.as_slice.result.now labels (record { parts = c.from_vec.result }) parts;
     }

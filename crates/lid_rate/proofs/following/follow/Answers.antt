@@ -1,6 +1,5 @@
-use Rattle.std.proofs.Common.{◌≡◌, ◌<◌, ◌≤◌, ℕ, length, reverse, drop, ◌+◌, ◌-◌, sym, ◌∙◌, ap, arith, get_or}
+use Rattle.std.proofs.Common.{◌≡◌, ◌<◌, length, reverse, drop, ◌+◌, ◌-◌, ◌∙◌, ap, arith, get_or}
 use Rattle.std.proofs.lemmas.Grind.{get_or_default_zero}
-use Rattle.lid_rate.specs.Following.{IsTrace}
 use Rattle.lid_rate.proofs.Traces.{closes_up}
 use Rattle.lid_rate.proofs.following.follow.Goals as goal
 

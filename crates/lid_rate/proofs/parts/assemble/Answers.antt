@@ -1,4 +1,4 @@
-use Rattle.std.proofs.Common.{◌≡◌, ℕ, List, Option, None, map, get_or, refl, sym, ◌∙◌, ap}
+use Rattle.std.proofs.Common.{ℕ, List, Option, None, map, get_or, refl, sym, ◌∙◌, ap}
 use Rattle.lid_rate.proofs.parts.assemble.Goals as goal
 
 pub returns : goal.returns

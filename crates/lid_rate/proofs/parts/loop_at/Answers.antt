@@ -1,4 +1,4 @@
-use Rattle.std.proofs.Common.{◌≡◌, ◌+◌, false, arith}
+use Rattle.std.proofs.Common.{◌≡◌, ◌+◌, false}
 use Rattle.lid_rate.proofs.Finishing.{next_within, none_before, loop_told, no_loop_told}
 use Rattle.lid_rate.proofs.parts.loop_at.Goals as goal
 

@@ -1,4 +1,4 @@
-use Rattle.std.proofs.Common.{◌≡◌, ℕ, ◌<◌, ◌-◌, ◌+◌, length, cond, true, false, not}
+use Rattle.std.proofs.Common.{◌≡◌, ℕ, ◌<◌, ◌-◌, ◌+◌, length, cond, true, false}
 use Rattle.lid_rate.specs.Rates.{IsLoopAt}
 use Rattle.lid_rate.proofs.parts.loop_at.Given as goal
 

@@ -1,4 +1,4 @@
-use Rattle.std.proofs.Common.{◌≡◌, ◌≤◌, ◌^◌, ℕ, List, length, sym, ◌∙◌, ap, subst, arith}
+use Rattle.std.proofs.Common.{◌≤◌, ◌^◌, ℕ, List, length, sym, subst}
 use Rattle.lid_rate.specs.Raising.{AreEdges}
 use Rattle.lid_rate.specs.Rating.{IsOneTokenLoop}
 use Rattle.lid_rate.specs.Rates.{Assembles, IsPartOf}

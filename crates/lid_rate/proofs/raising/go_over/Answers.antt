@@ -1,7 +1,7 @@
-use Rattle.std.proofs.Common.{◌≡◌, ◌<◌, ◌≤◌, ℕ, length, get_or, sym, ap, subst, arith}
+use Rattle.std.proofs.Common.{◌≡◌, ◌<◌, ◌≤◌, ℕ, length, sym, subst, arith}
 use Rattle.lid_graph.specs.declared.graph.Edge.{Edge}
-use Rattle.lid_rate.specs.Raising.{AreAtMost, GoneOver}
-use Rattle.lid_rate.proofs.Raises.{OverSo, over_start, over_then, over_else, key_from, key_to, key_last, key_tokens, key_small}
+use Rattle.lid_rate.specs.Raising.{GoneOver}
+use Rattle.lid_rate.proofs.Raises.{over_start, over_then, over_else, key_from, key_to, key_last, key_tokens, key_small}
 use Rattle.lid_rate.proofs.raising.go_over.Goals as goal
 use Rattle.lid_rate.proofs.raising.go_over.Goals.{then-raise, else-raise}
 
@@ -10,7 +10,7 @@ loop-k-init c = over_start c.args.graph.now c.args.edges.now c.args.p c.args.q c
 
 pub loop-k-preserved : goal.loop-k-preserved
 loop-k-preserved c = elim c.if-raise.branch [
-  then-raise w ↦ over_then c.args.graph.now c.args.edges.now c.args.p c.args.q c.loop-k.k-index c.requires.edges c.loop-k-test.true c.args.heights.now.values.items c.loop-k.heights.values.items c.loop-k.heights.last.items c.loop-k.changed c.loop-k.invariant c.raise.new.heights.values.items c.raise.new.heights.last.items c.edge-along.result c.edge-along.ensures c.raise.result c.raise.ensures w.if-raise.true c.if-raise.changed w.changed-is
+  | then-raise w ↦ over_then c.args.graph.now c.args.edges.now c.args.p c.args.q c.loop-k.k-index c.requires.edges c.loop-k-test.true c.args.heights.now.values.items c.loop-k.heights.values.items c.loop-k.heights.last.items c.loop-k.changed c.loop-k.invariant c.raise.new.heights.values.items c.raise.new.heights.last.items c.edge-along.result c.edge-along.ensures c.raise.result c.raise.ensures w.if-raise.true c.if-raise.changed w.changed-is
   | else-raise w ↦ over_else c.args.graph.now c.args.edges.now c.args.p c.args.q c.loop-k.k-index c.requires.edges c.loop-k-test.true c.args.heights.now.values.items c.loop-k.heights.values.items c.loop-k.heights.last.items c.loop-k.changed c.loop-k.invariant c.raise.new.heights.values.items c.raise.new.heights.last.items c.edge-along.result c.edge-along.ensures c.raise.result c.raise.ensures w.if-raise.false c.if-raise.changed w.changed-is
 ]
 

@@ -1,5 +1,3 @@
-use Rattle.std.proofs.Common.{ℕ}
-use Rattle.lid_rate.specs.Raising.{IsRaised, GoneOver, IsChanged}
 use Rattle.lid_rate.proofs.Raises.{OverSo}
 use Rattle.lid_rate.proofs.raising.go_over.Given as goal
 

@@ -1,4 +1,4 @@
-use Rattle.std.proofs.Common.{◌≡◌, ◌<◌, ◌≤◌, ◌*◌, ◌/◌, ℕ, List, length, sym, ◌∙◌, ap, subst, arith}
+use Rattle.std.proofs.Common.{◌≡◌, ◌<◌, ◌≤◌, ◌*◌, ℕ, List, length, sym, ◌∙◌, ap, subst}
 use Rattle.std.specs.List.{All}
 use Rattle.lid_graph.specs.Walks.{walk_tokens}
 use Rattle.lid_rate.specs.Settling.{IsLower, Settles}

@@ -1,8 +1,7 @@
-use Rattle.std.proofs.Common.{◌≡◌, ◌<◌, ◌≤◌, ◌^◌, ℕ, ◌+◌, ◌-◌, ◌*◌, List, length, Option, Some, None, sym, ◌∙◌, ap, subst, arith, lit≤}
-use Rattle.lid_rate.specs.declared.following.Followed.{Followed}
+use Rattle.std.proofs.Common.{◌<◌, ℕ, List, Option, sym, subst, arith}
 use Rattle.lid_rate.specs.Following.{AreLasts, Follows, LeadsOut, ClosesUp}
-use Rattle.lid_rate.specs.Settling.{Settles, AreLags, IsLower, IsSettling}
-use Rattle.lid_rate.proofs.Settles.{start_settling, as_lasts, lower, settling_on, early_on, lags, few_edges, small_values}
+use Rattle.lid_rate.specs.Settling.{AreLags}
+use Rattle.lid_rate.proofs.Settles.{start_settling, as_lasts, lower, settling_on, early_on, lags}
 use Rattle.lid_rate.proofs.settling.settle.Goals as goal
 
 pub loop-raised-init : goal.loop-raised-init
