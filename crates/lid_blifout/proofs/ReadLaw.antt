@@ -1,33 +1,31 @@
 -- The design of a text without fault is writable where its formals end well and its text is short.
-use Rattle.std.proofs.Common.{◌≡◌, ℕ, zero, suc, ◌+◌, ◌-◌, ◌<◌, ◌≤◌, ◌==◌, Bool, true, false, cond, ◌||◌, ◌&&◌, List, [], ◌∷◌, ◌++◌, length, get_or, take, drop, map, filter, refl, sym, ap, subst, ◌∙◌, inl, inr, arith, length-take, length-drop}
-use Rattle.std.specs.Prelude.{Option, None, Some, IfSome, not, nat_lt, nat_le, bytes_eq, codes}
+use Rattle.std.proofs.Common.{◌≡◌, ℕ, zero, suc, ◌+◌, ◌-◌, ◌<◌, ◌≤◌, ◌==◌, Bool, true, false, cond, ◌||◌, ◌&&◌, List, [], ◌∷◌, ◌++◌, length, get_or, drop, map, filter, refl, sym, ap, subst, ◌∙◌, inl, inr, arith, length-take, length-drop}
+use Rattle.std.specs.Prelude.{Option, None, Some, IfSome, not, nat_lt, bytes_eq, codes}
 use Rattle.std.specs.List.{AllByRecursion, list_any, list_all, before_first, after_first, position_or_len, flat_map, sum_by}
 use Rattle.std.proofs.lemmas.Bool.{cases_Bool, cond-true, cond-false, not-false, not-true, ltb-false, leb-true, eqb-true, eqb-false, and_parts}
-use Rattle.std.proofs.lemmas.List.Sums.{fails_before_first, passes_at_first, split_at_first, sum_by-cons}
+use Rattle.std.proofs.lemmas.List.Sums.{passes_at_first, split_at_first, sum_by-cons}
 use Rattle.std.proofs.lemmas.List.{length-map}
 use Rattle.lid_base.specs.declared.line.Line.{Line}
 use Rattle.lid_base.specs.declared.which.Which.TheVariants.{Models, CoverRows}
 use Rattle.lid_base.specs.Lines.{ends_in_mark}
-use Rattle.lid_design.specs.declared.Design.{Design}
 use Rattle.lid_design.specs.declared.Model.{Model as ModelOf}
 use Rattle.lid_design.specs.declared.Cell.{Cell}
 use Rattle.lid_design.specs.declared.Cell.TheVariants.{Names as NamesCell, Latch as LatchCell}
-use Rattle.lid_design.specs.declared.LatchKind.{LatchKind}
 use Rattle.lid_design.specs.declared.LatchKind.TheVariants.{Plain, Rise, Fall}
 use Rattle.lid_design.specs.declared.Inst.{Inst}
 use Rattle.lid_design.specs.declared.Bind.{Bind}
-use Rattle.lid_blif.specs.declared.fault.BlifFault.TheVariants.{NoModel, Arity, RowOutside, RowShape, MixedRows, LatchType, LatchInit, BindShape, DuplicateModel, TooManyInputs, Limit}
+use Rattle.lid_blif.specs.declared.fault.BlifFault.TheVariants.{Arity, RowOutside, RowShape, MixedRows, LatchType, LatchInit, BindShape, DuplicateModel, TooManyInputs, Limit}
 use Rattle.lid_blif.specs.declared.keyword.Keyword.{Keyword}
 use Rattle.lid_blif.specs.declared.keyword.Keyword.TheVariants.{Model, Inputs, Outputs, Clock, Names, Latch, Subckt, End, Unknown, Row}
 use Rattle.lid_blif.specs.declared.place.Place.{Place}
 use Rattle.lid_blif.specs.Words.{word_at, last_word, keyword_of, same_keyword, is_line, is_inner, leading, inputs_of, is_row_of, is_latch_type, is_latch_init, has_type, has_init, is_equals, is_empty, is_binding}
-use Rattle.lid_blif.specs.Faults.{place_of, model_names, row_count, ends_in_zero, Case, told, outside, is_mixed, line_fault, first_fault}
+use Rattle.lid_blif.specs.Faults.{place_of, model_names, row_count, ends_in_zero, Case, outside, is_mixed, line_fault, first_fault}
 use Rattle.lid_blif.specs.Designs.{cube_of, width_of, names_of, kind_named, control_named, kind_of, control_of, bind_of, inst_of, latch_cell, names_cell, cell_before, cells_of, insts_of, model_of, models_of}
 use Rattle.lid_blif.specs.WellFormed.{IsWellFormedCell}
 use Rattle.lid_blif.proofs.FaultLemmas.{told-none, first_fault-none}
 use Rattle.lid_blifout.specs.Canonical.{Words, bind_word}
 use Rattle.lid_blifout.specs.Writable.{IsSpelled, IsControl, IsWritableLatch, IsWritableBind, IsWritableInst, IsWritableCell, IsWritableModel, cell_rows, cells_rows, model_rows}
-use Rattle.lid_blifout.proofs.Spelled.{AreSpelled, all_map, all_append}
+use Rattle.lid_blifout.proofs.Spelled.{AreSpelled, all_append}
 use Rattle.lid_blifout.proofs.ReadWords.{all_both, all_take, all_drop, before_fails}
 
 -- what holds of the words of a line without fault

@@ -1,15 +1,13 @@
 -- The words of a text without fault are spelled.
-use Rattle.std.proofs.Common.{◌≡◌, ℕ, zero, suc, ◌+◌, ◌-◌, ◌<◌, ◌≤◌, ◌==◌, Bool, true, false, cond, List, [], ◌∷◌, ◌++◌, length, get_or, take, drop, map, filter, refl, sym, ap, subst, ◌∙◌, inl, inr, arith}
+use Rattle.std.proofs.Common.{◌≡◌, ℕ, zero, suc, ◌-◌, ◌<◌, ◌≤◌, ◌==◌, Bool, true, false, cond, List, [], ◌∷◌, length, get_or, take, drop, map, filter, refl, sym, subst, ◌∙◌, inl, inr, arith}
 use Rattle.std.specs.Prelude.{Option, None, Some, not, ◌&&◌, ◌||◌, nat_lt, nat_le}
-use Rattle.std.specs.List.{AllByRecursion, list_any, slice_split, onto_first, before_first, position_or_len, enumerate_from, flat_map, suffix_len}
+use Rattle.std.specs.List.{AllByRecursion, list_any, slice_split, onto_first, before_first, position_or_len, flat_map, suffix_len}
 use Rattle.std.proofs.lemmas.Bool.{cases_Bool, cond-true, cond-false, or_parts, not-false, ltb-true, ltb-false, and_parts, and_from, le-leb, leb-true, not_from_false, or_cases, eqb-false}
 use Rattle.std.proofs.lemmas.List.Splits.{slice_split-cons_yes, slice_split-cons_no}
 use Rattle.std.proofs.lemmas.List.Sums.{fails_before_first}
-use Rattle.lid_base.specs.declared.line.Line.{Line}
 use Rattle.lid_base.specs.declared.line.TextFault.{TextFault}
 use Rattle.lid_base.specs.declared.line.TextFault.TheVariants.{BadByte, NameTooLong}
-use Rattle.lid_base.specs.Lines.{is_newline, is_hash, is_separator, is_allowed, ends_in_mark, content_of, trimmed, goes_on, without_mark, is_word, words_in, words_of, has_bad_byte, has_long_word, has_words, onto_first_join, joins_of, line_of, lines_of, physical_lines, logical_lines, line_fault, first_fault, text_fault}
-use Rattle.lid_blifout.specs.Canonical.{Words}
+use Rattle.lid_base.specs.Lines.{is_hash, is_separator, is_allowed, ends_in_mark, content_of, trimmed, goes_on, without_mark, is_word, words_in, words_of, has_bad_byte, has_long_word, has_words, onto_first_join, joins_of, line_of, physical_lines, logical_lines, line_fault, first_fault, text_fault}
 use Rattle.lid_blifout.specs.Writable.{is_word_byte, IsSpelled}
 use Rattle.lid_blifout.proofs.Spelled.{all_append, all_map, AreSpelled}
 
