@@ -6,5 +6,8 @@ pub mod FaultLaw
 pub mod CubeBack
 pub mod DesignLaw
 pub mod SpelledLines
+pub mod ReadWords
+pub mod ReadLaw
+pub mod WritableLaw
 pub mod Law
 pub mod Examples

@@ -91,3 +91,7 @@ pub record IsWritable (d : Design) : Type 0 where
   pub few_models : length d.models ≤ 4096
   pub few_rows : sum_by model_rows d.models ≤ 1048576
   pub short : length (canonical_text d) ≤ 16777216
+
+-- no formal ends in `\`
+abbrev pub HasPlainFormals : Design → Type 0
+HasPlainFormals d = AllByRecursion (λ m. AllByRecursion (λ inst. AllByRecursion (λ bind. ends_in_mark bind.formal ≡ false) inst.binds) m.insts) d.models

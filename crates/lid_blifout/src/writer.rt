@@ -1,6 +1,6 @@
 //! From a design to its canonical text.
 
-ghost use Rattle.std.specs.Prelude.{◌≡◌, ◌++◌, ◌∷◌, [], map, codes, None, OnOk, OnErr, ◌&&◌, length};
+ghost use Rattle.std.specs.Prelude.{◌≡◌, ◌≤◌, ℕ, List, length, ◌++◌, ◌∷◌, [], map, codes, None, OnOk, OnErr, ◌&&◌};
 ghost use Rattle.std.specs.List.{flat_map};
 ghost use Rattle.lid_base.specs.Lines.{logical_lines};
 ghost use Rattle.lid_blif.specs.Faults.{blif_fault};
@@ -8,7 +8,7 @@ ghost use Rattle.lid_blif.specs.Designs.{design_of};
 ghost use Rattle.lid_design.specs.declared.Design.{Design};
 ghost use Rattle.lid_design.specs.declared.Cell.TheVariants.{Names, Latch};
 ghost use Rattle.lid_blifout.specs.Canonical.{lines_text, listed, characters, cube_line, control_word, kind_words, init_word, output_word, character, line_text, bind_word, cell_lines, inst_line, body_lines, model_lines, models_lines, canonical_text};
-ghost use Rattle.lid_blifout.specs.Writable.{IsWritable};
+ghost use Rattle.lid_blifout.specs.Writable.{IsWritable, HasPlainFormals};
 ghost use Rattle.lid_blifout.specs.Pieces.{spaced, spaced_binds, asked_text, Extends};
 
 use lid_base::Name;
@@ -322,6 +322,12 @@ pub fn append_models(models: &[Model], into: &mut Vec<u8>) -> Result<(), AllocEr
 /// The canonical text of a writable design is read as that design.
 pub fn read_back_law()
     ensures { (d : Design) → IsWritable d → (blif_fault (canonical_text d) ≡ None) × (design_of (logical_lines (canonical_text d)) ≡ d) }
+{}
+
+/// A design that was read is writable where none of its formals ends in a backslash, and its
+/// canonical text is short enough to be read.
+pub fn writable_law()
+    ensures { (bytes : List ℕ) → blif_fault bytes ≡ None → HasPlainFormals (design_of (logical_lines bytes)) → length (canonical_text (design_of (logical_lines bytes))) ≤ 16777216 → IsWritable (design_of (logical_lines bytes)) }
 {}
 
 /// Appends the canonical text of a design: its models in order, and of each its name, its inputs,
