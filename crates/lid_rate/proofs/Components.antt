@@ -45,7 +45,7 @@ module _ (g : Graph) (ok : IsRateable g) (least : List ℕ) (labels : AreLabels 
       omega arith
 
   pub edge_label : (k : ℕ) → k < length g.edges → get_or least (edge_at g k).from 0 ≡ get_or least (edge_at g k).to 0
-  edge_label k h = same_label (edge_at g k).from (edge_at g k).to (ok.paired.from_within k h) (ok.paired.to_within k h) (k ∷ [], (h, refl, refl))
+  edge_label k h = same_label (edge_at g k).from (edge_at g k).to ((ok.paired.ends k h).from) ((ok.paired.ends k h).to) (k ∷ [], (h, refl, refl))
 
   -- what has one label is joined
   joined_by : (u v : ℕ) → u < g.nodes → v < g.nodes → get_or least u 0 ≡ get_or least v 0 → IsJoined g u v
@@ -65,8 +65,8 @@ module _ (g : Graph) (ok : IsRateable g) (least : List ℕ) (labels : AreLabels 
     pub are_edges : AreEdges g (edges_of g least r)
     are_edges = record {
       within = λ i h. (those_only (λ k. is_labelled least r (edge_at g k).from) (length g.edges) i h).0;
-      from = ok.paired.from_within;
-      to = ok.paired.to_within;
+      from = λ k h. (ok.paired.ends k h).from;
+      to = λ k h. (ok.paired.ends k h).to;
       tokens = ok.tokens;
     }
 
@@ -121,7 +121,7 @@ module _ (g : Graph) (ok : IsRateable g) (least : List ℕ) (labels : AreLabels 
       at_of [] v u some chain = absurd (omega arith)
       at_of (k ∷ ks) v u some chain =
           let h : k < length g.edges = contains_within g (edges_of g least r) k are_edges chain.0 in
-          (subst (λ (n : ℕ). n < g.nodes) chain.1 (ok.paired.to_within k h), ap (λ (n : ℕ). get_or least n 0) (sym chain.1) ∙ (sym (edge_label k h) ∙ listed_inside k chain.0))
+          (subst (λ (n : ℕ). n < g.nodes) chain.1 ((ok.paired.ends k h).to), ap (λ (n : ℕ). get_or least n 0) (sym chain.1) ∙ (sym (edge_label k h) ∙ listed_inside k chain.0))
 
       pub at_inside : (rate.rated.at < g.nodes) × Inside rate.rated.at
       at_inside = at_of rate.rated.chain rate.rated.at rate.rated.at rate.rated.some rate.rated.chained
@@ -175,7 +175,7 @@ module _ (g : Graph) (ok : IsRateable g) (least : List ℕ) (labels : AreLabels 
 
         edge_met : (k : ℕ) → k < length g.edges → IsEdgeMet part (edge_at g k)
         edge_met k h = record {
-          stays = has (edge_at g k).from (ok.paired.from_within k h) ∙ (ap (λ (n : ℕ). n == r) (edge_label k h) ∙ sym (has (edge_at g k).to (ok.paired.to_within k h)));
+          stays = has (edge_at g k).from ((ok.paired.ends k h).from) ∙ (ap (λ (n : ℕ). n == r) (edge_label k h) ∙ sym (has (edge_at g k).to ((ok.paired.ends k h).to)));
           lag = λ e. met (inside_has (edge_at g k).to e);
         }
           where
@@ -184,7 +184,7 @@ module _ (g : Graph) (ok : IsRateable g) (least : List ℕ) (labels : AreLabels 
                 let inside : Inside (edge_at g k).from = edge_label k h ∙ to.1 in
                 let stands = edge_listed k h inside in
                 let rule : get_or lags (edge_at g k).from 0 + p ≤ get_or lags (edge_at g k).to 0 + q * (edge_at g k).tokens = subst (λ (l : ℕ). get_or lags (edge_at g l).from 0 + p ≤ get_or lags (edge_at g l).to 0 + q * (edge_at g l).tokens) stands.is (rate.are_lags.met stands.place stands.within) in
-                let low = own_lag (edge_at g k).from (ok.paired.from_within k h) inside in
+                let low = own_lag (edge_at g k).from ((ok.paired.ends k h).from) inside in
                 let high = own_lag (edge_at g k).to to.0 to.1 in
                 let scaled : part.q * (edge_at g k).tokens ≡ q * (edge_at g k).tokens = ap (λ (n : ℕ). n * (edge_at g k).tokens) q_is in
                 omega arith
@@ -213,7 +213,7 @@ module _ (g : Graph) (ok : IsRateable g) (least : List ℕ) (labels : AreLabels 
             let listed = tree.listed v k e in
             let within : k < length g.edges = contains_within g (edges_of g least r) k are_edges listed in
             let from : Inside (edge_at g k).from = listed_inside k listed in
-            let from_within = ok.paired.from_within k within in
+            let from_within = (ok.paired.ends k within).from in
             let deep = tree.deeper v k e in
             let leads = tree.leads v k e in
             let depth_v = own_depth v h inside in

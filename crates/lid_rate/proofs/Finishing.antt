@@ -90,7 +90,7 @@ module _ (g : Graph) (ok : IsRateable g) (least : List ℕ) (labels : AreLabels 
     start_is slice e is e_is = ap (λ (f : Edge). f.from) e_is ∙ (ap (λ (l : List ℕ). (edge_at g (get_or l 0 0)).from) is ∙ (sym (head_of g walk closed_walk).1 ∙ starts g ok least labels r own r_within p q walk lags rate_on))
 
     pub start_within : (slice : List ℕ) (e : Edge) → slice ≡ walk → e ≡ edge_at g (get_or slice 0 0) → e.from < g.nodes
-    start_within slice e is e_is = subst (λ (f : Edge). f.from < g.nodes) (sym e_is) (ok.paired.from_within (get_or slice 0 0) (first_within slice is))
+    start_within slice e is e_is = subst (λ (f : Edge). f.from < g.nodes) (sym e_is) ((ok.paired.ends (get_or slice 0 0) (first_within slice is)).from)
 
     pub part_made : (slice : List ℕ) (e : Edge) (first : ℕ) (via : List (Option ℕ)) (lead depth nodes : List ℕ) (part : Part) → slice ≡ walk → e ≡ edge_at g (get_or slice 0 0) → q * (length slice - 1) ≤ first + p * (length slice - 1) → first ≤ 2 ^ 40 → IsTree g edges e.from q first via lead depth → IsClosed g edges e.from (length edges) via → nodes ≡ those (is_labelled least r) (length least) → Assembles nodes p q walk lags via lead depth part → IsPartOf g least r part
     part_made slice e first via lead depth nodes part is e_is enough low tree closed nodes_is made =
