@@ -54,6 +54,61 @@ fn texts(rt: HostRuntime) -> Result<(), Fail> {
     Ok(())
 }
 
+const REGISTER: &str = ".model one
+.inputs d
+.outputs q
+.latch d q 0
+.end
+";
+
+const WIDE: &str = ".model top
+.outputs z
+.subckt a q0=n0 q1=n1 q2=n2 q3=n3 q4=n4 q5=n5 q6=n6 q7=n7 q8=n8 q9=n9 q10=n10 q11=n11 q12=n12 q13=n13 q14=n14 q15=n15 q16=n16 q17=n17 q18=n18 q19=n19 q20=n20 q21=n21 q22=n22 q23=n23 q24=n24 q25=n25 q26=n26 q27=n27 q28=n28 q29=n29 q30=n30 q31=n31 q32=n32
+.subckt b i0=n0 i1=n1 i2=n2 i3=n3 i4=n4 i5=n5 i6=n6 i7=n7 i8=n8 i9=n9 i10=n10 i11=n11 i12=n12 i13=n13 i14=n14 i15=n15 i16=n16 i17=n17 i18=n18 i19=n19 i20=n20 i21=n21 i22=n22 i23=n23 i24=n24 i25=n25 i26=n26 i27=n27 i28=n28 i29=n29 i30=n30 i31=n31 i32=n32 z=z
+.end
+.model a
+.outputs q0 q1 q2 q3 q4 q5 q6 q7 q8 q9 q10 q11 q12 q13 q14 q15 q16 q17 q18 q19 q20 q21 q22 q23 q24 q25 q26 q27 q28 q29 q30 q31 q32
+.latch q0 q0 0
+.latch q1 q1 0
+.latch q2 q2 0
+.latch q3 q3 0
+.latch q4 q4 0
+.latch q5 q5 0
+.latch q6 q6 0
+.latch q7 q7 0
+.latch q8 q8 0
+.latch q9 q9 0
+.latch q10 q10 0
+.latch q11 q11 0
+.latch q12 q12 0
+.latch q13 q13 0
+.latch q14 q14 0
+.latch q15 q15 0
+.latch q16 q16 0
+.latch q17 q17 0
+.latch q18 q18 0
+.latch q19 q19 0
+.latch q20 q20 0
+.latch q21 q21 0
+.latch q22 q22 0
+.latch q23 q23 0
+.latch q24 q24 0
+.latch q25 q25 0
+.latch q26 q26 0
+.latch q27 q27 0
+.latch q28 q28 0
+.latch q29 q29 0
+.latch q30 q30 0
+.latch q31 q31 0
+.latch q32 q32 0
+.end
+.model b
+.inputs i0 i1 i2 i3 i4 i5 i6 i7 i8 i9 i10 i11 i12 i13 i14 i15 i16 i17 i18 i19 i20 i21 i22 i23 i24 i25 i26 i27 i28 i29 i30 i31 i32
+.outputs z
+.latch i0 z 0
+.end
+";
+
 const RING: &str = ".model ring
 .outputs y
 .subckt reg0 d=y q=w
@@ -159,6 +214,8 @@ const PIPELINE_WRITTEN: &str = ".model pipe
 #[test]
 fn netlists(rt: HostRuntime) -> Result<(), Fail> {
     for (netlist, canonical) in [
+        (REGISTER, REGISTER),
+        (WIDE, WIDE),
         (RING, RING),
         (TWO_WAYS, TWO_WAYS),
         (PIPELINE, PIPELINE_WRITTEN),
