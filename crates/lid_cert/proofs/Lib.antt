@@ -1,4 +1,9 @@
 pub mod Ascending
 pub mod Consequences
+pub mod Numerals
 pub mod Parts
+pub mod PlainTexts
+pub mod PlainWords
+pub mod PrintedLines
 pub mod Read
+pub mod ReadBack

@@ -1,3 +1,4 @@
 pub mod Certificates
 pub mod Laws
+pub mod Printed
 pub mod Texts

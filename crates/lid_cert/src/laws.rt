@@ -1,6 +1,7 @@
 //! What follows from a certificate. Each function here does nothing; its contract is a law for all
 //! graphs and certificates.
 
+ghost use Rattle.lid_cert.specs.Printed.{PrintedIsReadBack};
 ghost use Rattle.lid_cert.specs.Laws.{EachIsShown, WalksHaveTokens, RatioIsShown, LagsAreShown, LeadsBoundFirings, LagsBoundFirings, CapsAreReached};
 
 /// Each transition of a certified graph stands in a part.
@@ -30,4 +31,11 @@ pub fn lags_bound_firings()
 /// `(q*cap + lag)/p` cycles, rounded up.
 pub fn caps_are_reached()
     ensures { CapsAreReached }
+{}
+
+/// The text of a certificate is read back as the certificate, where each part has a transition, an edge
+/// of its walk, and numbers in the ranges of the text, and the text has at most 16,777,216 bytes. A
+/// longer text is refused, whatever it says.
+pub fn printed_is_read_back()
+    ensures { PrintedIsReadBack }
 {}

@@ -1,0 +1,31 @@
+-- The certificates that their text gives back.
+use Rattle.std.specs.Prelude.{◌≡◌, ℕ, ◌^◌, ◌<◌, ◌≤◌, length, None, IfSome}
+use Rattle.std.specs.List.{All}
+use Rattle.lid_cert.specs.declared.cert.Part.{Part}
+use Rattle.lid_cert.specs.declared.cert.Cert.{Cert}
+use Rattle.lid_cert.specs.Certificates.{AreLists, IsPartInRange}
+use Rattle.lid_cert.specs.Texts.{cert_fault, cert_of, cert_text}
+
+-- transitions, edges and depths lie below 2^32
+abbrev pub IsSmall : ℕ → Type 0
+IsSmall n = n < 2 ^ 32
+
+-- a part whose lines have their form: there are a transition and an edge, and each number lies in its range
+pub record IsPartPrintable (part : Part) : Type 0 where
+  pub some : 1 ≤ length part.nodes
+  pub walk : 1 ≤ length part.cycle
+  pub lists : AreLists part
+  pub range : IsPartInRange part
+  pub nodes : All IsSmall part.nodes
+  pub cycle : All IsSmall part.cycle
+  pub depth : All IsSmall part.depth
+  pub via : All (λ via. IfSome via IsSmall) part.via
+
+-- the text of the certificate has no fault, and stands for the certificate
+pub record IsReadBack (cert : Cert) : Type 0 where
+  pub sound : cert_fault (cert_text cert) ≡ None
+  pub same : cert_of (cert_text cert) ≡ cert
+
+-- a certificate is read back where its parts have their form and its text is not too long
+abbrev pub PrintedIsReadBack : Type 0
+PrintedIsReadBack = (cert : Cert) → All IsPartPrintable cert.parts → length (cert_text cert) ≤ 16777216 → IsReadBack cert
