@@ -13,12 +13,13 @@ use Rattle.lid_base.specs.declared.which.Which.TheVariants.{FileBytes}
 use Rattle.lid_base.specs.Lines.{logical_lines, text_fault}
 use Rattle.lid_cert.specs.declared.cert.Part.{Part}
 use Rattle.lid_cert.specs.declared.cert.Cert.{Cert}
+use Rattle.lid_cert.specs.Certificates.{AreLists}
 use Rattle.lid_cert.specs.declared.fault.CertFault.{CertFault}
 use Rattle.lid_cert.specs.declared.fault.CertFault.TheVariants.{Limit}
 use Rattle.lid_cert.specs.declared.stage.Stage.{Stage}
 use Rattle.lid_cert.specs.declared.stage.Stage.TheVariants.{Header, Between, Ratio, Cycle, Nodes}
 use Rattle.lid_cert.specs.Texts.{word_at, begins_with, is_below, value_below, is_via_word, via_value, is_part_line, is_ratio_line, is_cycle_line, is_node_line, is_due, due_after, line_at_fault, at_line, fault_in, cert_fault, column, node_lines, part_of, parts_of, cert_of, part_text, cert_text, via_word}
-use Rattle.lid_cert.specs.Printed.{IsSmall, IsPartPrintable, IsReadBack, PrintedIsReadBack}
+use Rattle.lid_cert.specs.Printed.{IsSmall, IsPartSmall, IsPartFull, IsPartPrintable, IsReadBack, PrintedIsReadBack}
 use Rattle.lid_cert.proofs.Numerals.{value_back, is_number, plain_number, via_back, is_via, plain_via, values_back, are_numbers, plain_numbers}
 use Rattle.lid_cert.proofs.PlainWords.{Words, IsPlainWord, IsPlainLine, plain_name, all_append, all_weaker}
 use Rattle.lid_cert.proofs.PlainTexts.{lines_text, numbered, text_law, text_clean}
@@ -42,11 +43,11 @@ record IsRow (words : Words) : Type 0 where
 module _ (part : Part) (p : IsPartPrintable part) (few : length part.nodes < 2 ^ 32) where
   node_row : (i : ℕ) → i < length part.nodes → IsRow (node_words part i)
   node_row i h =
-      let v = p.nodes i 0 h in
-      let lag = p.range.lag i 0 (omega (arith, p.lists.lag)) in
-      let lead = p.range.lead i 0 (omega (arith, p.lists.lead)) in
-      let depth = p.depth i 0 (omega (arith, p.lists.depth)) in
-      let via = p.via i None (omega (arith, p.lists.via)) in
+      let v = p.small.nodes i 0 h in
+      let lag = p.full.range.lag i 0 (omega (arith, p.lists.lag)) in
+      let lead = p.full.range.lead i 0 (omega (arith, p.lists.lead)) in
+      let depth = p.small.depth i 0 (omega (arith, p.lists.depth)) in
+      let via = p.small.via i None (omega (arith, p.lists.via)) in
       let below : is_below (2 ^ 32) (decimal (get_or part.nodes i 0)) ≡ true = is_number (2 ^ 32) (get_or part.nodes i 0) v (omega arith) in
       let plain : AllByRecursion IsPlainWord (node_words part i) = (plain_name (codes "node") refl refl refl, (plain_number (get_or part.nodes i 0) (omega arith), (plain_number (get_or part.lag i 0) (omega arith), (plain_number (get_or part.lead i 0) (omega arith), (plain_number (get_or part.depth i 0) (omega arith), (plain_via (get_or part.via i None) via, tt)))))) in
       record {
@@ -63,23 +64,23 @@ module _ (part : Part) (p : IsPartPrintable part) (few : length part.nodes < 2 ^
   part_plain : AllByRecursion IsPlainLine (part_lines part)
   part_plain =
       let count : IsPlainLine (count_words part) = record { some = omega arith; all = (plain_name (codes "part") refl refl refl, (plain_number (length part.nodes) (omega arith), tt)) } in
-      let ratio : IsPlainLine (ratio_words part) = record { some = omega arith; all = (plain_name (codes "ratio") refl refl refl, (plain_number part.p (omega (arith, p.range.p)), (plain_number part.q (omega (arith, p.range.q)), tt))) } in
-      let walk : IsPlainLine (cycle_words part) = record { some = omega arith; all = (plain_name (codes "cycle") refl refl refl, plain_numbers part.cycle (recursion_from_All IsSmall part.cycle p.cycle)) } in
+      let ratio : IsPlainLine (ratio_words part) = record { some = omega arith; all = (plain_name (codes "ratio") refl refl refl, (plain_number part.p (omega (arith, p.full.range.p)), (plain_number part.q (omega (arith, p.full.range.q)), tt))) } in
+      let walk : IsPlainLine (cycle_words part) = record { some = omega arith; all = (plain_name (codes "cycle") refl refl refl, plain_numbers part.cycle (recursion_from_All IsSmall part.cycle p.small.cycle)) } in
       (count, (ratio, (walk, all_weaker IsRow IsPlainLine (λ words row. row.plain) (node_rows part) rows)))
 
   count_due : is_part_line (count_words part) ≡ true
   count_due =
-      let some : 0 < length part.nodes = omega (arith, p.some) in
+      let some : 0 < length part.nodes = omega (arith, p.full.some) in
       let value : value_below (2 ^ 32) (decimal (length part.nodes)) ≡ length part.nodes = value_back (2 ^ 32) (length part.nodes) few (omega arith) in
       and_from _ _ (is_number (2 ^ 32) (length part.nodes) few (omega arith)) (ap (nat_lt 0) value ∙ lt-ltb 0 (length part.nodes) some)
 
   ratio_due : is_ratio_line (ratio_words part) ≡ true
-  ratio_due = and_from _ _ (is_number (2 ^ 31) part.p p.range.p (omega (arith, p.range.p))) (is_number (2 ^ 31) part.q p.range.q (omega (arith, p.range.q)))
+  ratio_due = and_from _ _ (is_number (2 ^ 31) part.p p.full.range.p (omega (arith, p.full.range.p))) (is_number (2 ^ 31) part.q p.full.range.q (omega (arith, p.full.range.q)))
 
   cycle_due : is_cycle_line (cycle_words part) ≡ true
   cycle_due =
-      let two : 2 ≤ length (cycle_words part) = omega (arith, p.walk, length-map part.cycle decimal) in
-      and_from (nat_le 2 (length (cycle_words part))) _ (le-leb 2 (length (cycle_words part)) two) (are_numbers part.cycle (recursion_from_All IsSmall part.cycle p.cycle))
+      let two : 2 ≤ length (cycle_words part) = omega (arith, p.full.walk, length-map part.cycle decimal) in
+      and_from (nat_le 2 (length (cycle_words part))) _ (le-leb 2 (length (cycle_words part)) two) (are_numbers part.cycle (recursion_from_All IsSmall part.cycle p.small.cycle))
 
 -- no line at fault among so many lines of transitions, where there is none after them
 rows_clear : (rows : List Words) (left n last : ℕ) (rest : List Words) → left ≡ length rows → 0 < length rows → AllByRecursion IsRow rows → ((m k : ℕ) → line_at_fault Between k (numbered m rest) ≡ None) → line_at_fault (Nodes left) last (numbered n (rows ++ rest)) ≡ None
@@ -102,7 +103,7 @@ parts_clear (part ∷ parts) n last h short =
     let later : length (flat_map part_text parts) < 2 ^ 32 = omega (arith, whole) in
     let rest = parts_lines parts in
     let value : value_below (2 ^ 32) (decimal (length part.nodes)) ≡ length part.nodes = value_back (2 ^ 32) (length part.nodes) few (omega arith) in
-    let some : 0 < length (node_rows part) = omega (arith, h.0.some, length_built (node_words part) (length part.nodes)) in
+    let some : 0 < length (node_rows part) = omega (arith, h.0.full.some, length_built (node_words part) (length part.nodes)) in
     cond-true (is_part_line (count_words part)) _ _ (count_due part h.0 few)
     ∙ cond-true (is_ratio_line (ratio_words part)) _ _ (ratio_due part h.0 few)
     ∙ cond-true (is_cycle_line (cycle_words part)) _ _ (cycle_due part h.0 few)
@@ -174,14 +175,14 @@ part_back part p few n parts =
     let lines = numbered (n + 1 + 1) (node_rows part) in
     let ends : node_lines (numbered (n + 1 + 1) (node_rows part ++ parts_lines parts)) ≡ lines = rows_end (node_rows part) (n + 1 + 1) parts (rows part p few) in
     same_part _ part
-    (ap (column (2 ^ 32) 1) ends ∙ column_back (λ words. value_below (2 ^ 32) (word_at words 1)) (node_words part) part.nodes 0 count (n + 1 + 1) refl (λ i h. value_back (2 ^ 32) (get_or part.nodes i 0) (p.nodes i 0 h) (omega (arith, p.nodes i 0 h))))
-    (value_back (2 ^ 31) part.p p.range.p (omega (arith, p.range.p)))
-    (value_back (2 ^ 31) part.q p.range.q (omega (arith, p.range.q)))
-    (values_back part.cycle (recursion_from_All IsSmall part.cycle p.cycle))
-    (ap (column (2 ^ 62) 2) ends ∙ column_back (λ words. value_below (2 ^ 62) (word_at words 2)) (node_words part) part.lag 0 count (n + 1 + 1) p.lists.lag (λ i h. let less = p.range.lag i 0 (omega (arith, p.lists.lag)) in value_back (2 ^ 62) (get_or part.lag i 0) less (omega (arith, less))))
-    (ap (column (2 ^ 62) 3) ends ∙ column_back (λ words. value_below (2 ^ 62) (word_at words 3)) (node_words part) part.lead 0 count (n + 1 + 1) p.lists.lead (λ i h. let less = p.range.lead i 0 (omega (arith, p.lists.lead)) in value_back (2 ^ 62) (get_or part.lead i 0) less (omega (arith, less))))
-    (ap (map (λ l. via_value (word_at l.words 5))) ends ∙ column_back (λ words. via_value (word_at words 5)) (node_words part) part.via None count (n + 1 + 1) p.lists.via (λ i h. via_back (get_or part.via i None) (p.via i None (omega (arith, p.lists.via)))))
-    (ap (column (2 ^ 32) 4) ends ∙ column_back (λ words. value_below (2 ^ 32) (word_at words 4)) (node_words part) part.depth 0 count (n + 1 + 1) p.lists.depth (λ i h. let less = p.depth i 0 (omega (arith, p.lists.depth)) in value_back (2 ^ 32) (get_or part.depth i 0) less (omega (arith, less))))
+    (ap (column (2 ^ 32) 1) ends ∙ column_back (λ words. value_below (2 ^ 32) (word_at words 1)) (node_words part) part.nodes 0 count (n + 1 + 1) refl (λ i h. value_back (2 ^ 32) (get_or part.nodes i 0) (p.small.nodes i 0 h) (omega (arith, p.small.nodes i 0 h))))
+    (value_back (2 ^ 31) part.p p.full.range.p (omega (arith, p.full.range.p)))
+    (value_back (2 ^ 31) part.q p.full.range.q (omega (arith, p.full.range.q)))
+    (values_back part.cycle (recursion_from_All IsSmall part.cycle p.small.cycle))
+    (ap (column (2 ^ 62) 2) ends ∙ column_back (λ words. value_below (2 ^ 62) (word_at words 2)) (node_words part) part.lag 0 count (n + 1 + 1) p.lists.lag (λ i h. let less = p.full.range.lag i 0 (omega (arith, p.lists.lag)) in value_back (2 ^ 62) (get_or part.lag i 0) less (omega (arith, less))))
+    (ap (column (2 ^ 62) 3) ends ∙ column_back (λ words. value_below (2 ^ 62) (word_at words 3)) (node_words part) part.lead 0 count (n + 1 + 1) p.lists.lead (λ i h. let less = p.full.range.lead i 0 (omega (arith, p.lists.lead)) in value_back (2 ^ 62) (get_or part.lead i 0) less (omega (arith, less))))
+    (ap (map (λ l. via_value (word_at l.words 5))) ends ∙ column_back (λ words. via_value (word_at words 5)) (node_words part) part.via None count (n + 1 + 1) p.lists.via (λ i h. via_back (get_or part.via i None) (p.small.via i None (omega (arith, p.lists.via)))))
+    (ap (column (2 ^ 32) 4) ends ∙ column_back (λ words. value_below (2 ^ 32) (word_at words 4)) (node_words part) part.depth 0 count (n + 1 + 1) p.lists.depth (λ i h. let less = p.small.depth i 0 (omega (arith, p.lists.depth)) in value_back (2 ^ 32) (get_or part.depth i 0) less (omega (arith, less))))
 
 parts_back : (parts : List Part) (n : ℕ) → AllByRecursion IsPartPrintable parts → length (flat_map part_text parts) < 2 ^ 32 → parts_of (numbered n (parts_lines parts)) ≡ parts
 parts_back [] n h short = refl
@@ -228,3 +229,7 @@ same_cert cert parts short =
 
 pub printed_is_read_back : PrintedIsReadBack
 printed_is_read_back cert parts short = record { sound = no_fault cert parts short; same = same_cert cert parts short }
+
+-- the same by what is known of each part on its own
+pub read_back : (cert : Cert) → All AreLists cert.parts → All IsPartSmall cert.parts → All IsPartFull cert.parts → length (cert_text cert) ≤ 16777216 → IsReadBack cert
+read_back cert lists small full short = printed_is_read_back cert (λ k d h. record { full = full k d h; lists = lists k d h; small = small k d h }) short

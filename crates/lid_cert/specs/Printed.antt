@@ -1,5 +1,5 @@
 -- The certificates that their text gives back.
-use Rattle.std.specs.Prelude.{◌≡◌, ℕ, ◌^◌, ◌<◌, ◌≤◌, length, None, IfSome}
+use Rattle.std.specs.Prelude.{◌≡◌, ℕ, ◌^◌, ◌<◌, ◌≤◌, length, Option, None, IfSome}
 use Rattle.std.specs.List.{All}
 use Rattle.lid_cert.specs.declared.cert.Part.{Part}
 use Rattle.lid_cert.specs.declared.cert.Cert.{Cert}
@@ -10,16 +10,26 @@ use Rattle.lid_cert.specs.Texts.{cert_fault, cert_of, cert_text}
 abbrev pub IsSmall : ℕ → Type 0
 IsSmall n = n < 2 ^ 32
 
--- a part whose lines have their form: there are a transition and an edge, and each number lies in its range
-pub record IsPartPrintable (part : Part) : Type 0 where
-  pub some : 1 ≤ length part.nodes
-  pub walk : 1 ≤ length part.cycle
-  pub lists : AreLists part
-  pub range : IsPartInRange part
+abbrev pub IsSmallVia : Option ℕ → Type 0
+IsSmallVia via = IfSome via IsSmall
+
+pub record IsPartSmall (part : Part) : Type 0 where
   pub nodes : All IsSmall part.nodes
   pub cycle : All IsSmall part.cycle
   pub depth : All IsSmall part.depth
-  pub via : All (λ via. IfSome via IsSmall) part.via
+  pub via : All IsSmallVia part.via
+
+-- there are a transition and an edge of the walk, and p, q, lags and leads lie in their ranges
+pub record IsPartFull (part : Part) : Type 0 where
+  pub some : 1 ≤ length part.nodes
+  pub walk : 1 ≤ length part.cycle
+  pub range : IsPartInRange part
+
+-- a part whose lines have their form
+pub record IsPartPrintable (part : Part) : Type 0 where
+  pub full : IsPartFull part
+  pub lists : AreLists part
+  pub small : IsPartSmall part
 
 -- the text of the certificate has no fault, and stands for the certificate
 pub record IsReadBack (cert : Cert) : Type 0 where

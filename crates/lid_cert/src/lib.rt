@@ -9,6 +9,7 @@ mod fault;
 mod laws;
 mod places;
 mod printing;
+mod ranges;
 mod reading;
 mod rules;
 mod stage;

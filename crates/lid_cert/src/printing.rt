@@ -4,9 +4,11 @@ ghost use Rattle.std.specs.Prelude.{◌≡◌, ◌++◌, ◌∷◌, ◌<◌, ◌
 ghost use Rattle.std.specs.Fmt.{decimal};
 ghost use Rattle.std.specs.List.{All, flat_map};
 ghost use Rattle.lid_cert.specs.Certificates.{AreLists};
+ghost use Rattle.lid_cert.specs.Printed.{IsPartFull, IsReadBack};
 ghost use Rattle.lid_cert.specs.Texts.{cert_text, part_text, node_text, node_texts, number_line, spaced, via_word, Extends};
 
 use crate::cert::{Cert, Part};
+use crate::ranges::are_parts_small;
 use itoa::Buffer;
 use std::alloc::AllocError;
 
@@ -152,7 +154,9 @@ fn append_text(cert: &Cert, into: &mut Vec<u8>) -> Result<(), AllocError>
     append_parts(cert.parts.as_slice(), into)
 }
 
-/// Appends the text of a certificate.
+/// Appends the text of a certificate. The text is read back as the certificate where each part has a
+/// transition, an edge of its walk, and p, q, lags and leads in the ranges of the text, and the text has
+/// at most 16,777,216 bytes.
 ///
 /// # Errors
 /// Where there is no memory; `into` is then as it was.
@@ -160,7 +164,9 @@ pub fn print_cert(cert: &Cert, into: &mut Vec<u8>) -> Result<(), AllocError>
     requires { All AreLists cert.now.parts }
     ensures ok { OnOk result (into.new.items ≡ into.old.items ++ cert_text cert.now) }
     ensures err { OnErr result (into.new.items ≡ into.old.items) }
+    ensures back { All IsPartFull cert.now.parts → length (cert_text cert.now) ≤ 16777216 → IsReadBack cert.now }
 {
+    are_parts_small(cert.parts.as_slice());
     let len = into.len();
     let printed = append_text(cert, into);
     if printed.is_err() {

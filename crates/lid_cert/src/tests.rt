@@ -1,6 +1,6 @@
 //! Certificates written out by hand for two small designs, and texts that are no certificates.
 
-use super::{CertFault, check, print_cert, read_cert};
+use super::{Cert, CertFault, Part, check, print_cert, read_cert};
 use lid_base::Items;
 use lid_graph::{Edge, Graph};
 use std::alloc::{AllocError, Global};
@@ -204,5 +204,68 @@ fn prints_what_it_reads(rt: HostRuntime) -> Result<(), Fail> {
         printed(alloc, spread)?.as_slice()
             == b"lid-cert 1\npart 1\nratio 0 1\ncycle 7 7\nnode 3 2 1 0 -\n".as_slice()
     );
+    Ok(())
+}
+
+/// The part of the ring's source, which stands alone.
+fn lone_part(alloc: Global) -> Result<Part, AllocError> {
+    Ok(Part {
+        nodes: Items::from_vec(Vec::from_array(alloc, [0])?),
+        p: 1,
+        q: 1,
+        cycle: Items::from_vec(Vec::from_array(alloc, [8])?),
+        lag: Items::from_vec(Vec::from_array(alloc, [0])?),
+        lead: Items::from_vec(Vec::from_array(alloc, [0])?),
+        via: Items::from_vec(Vec::from_array(alloc, [None])?),
+        depth: Items::from_vec(Vec::from_array(alloc, [0])?),
+    })
+}
+
+/// The part of the ring's other actors.
+fn joined_part(alloc: Global) -> Result<Part, AllocError> {
+    Ok(Part {
+        nodes: Items::from_vec(Vec::from_array(alloc, [1, 2, 3, 4])?),
+        p: 2,
+        q: 3,
+        cycle: Items::from_vec(Vec::from_array(alloc, [0, 2, 4])?),
+        lag: Items::from_vec(Vec::from_array(alloc, [1, 2, 1, 0])?),
+        lead: Items::from_vec(Vec::from_array(alloc, [2, 5, 8, 5])?),
+        via: Items::from_vec(Vec::from_array(alloc, [None, Some(5), Some(6), Some(0)])?),
+        depth: Items::from_vec(Vec::from_array(alloc, [0, 1, 2, 1])?),
+    })
+}
+
+#[test]
+fn reads_back_what_it_prints(rt: HostRuntime) -> Result<(), Fail> {
+    let alloc = rt.alloc();
+    let mut parts = Vec::new(alloc);
+    parts.push(lone_part(alloc)?)?;
+    parts.push(joined_part(alloc)?)?;
+    let cert = Cert {
+        parts: Items::from_vec(parts),
+    };
+    let mut text = Vec::from_array(alloc, [b'>'])?;
+    print_cert(&cert, &mut text)?;
+    assert!(rt; text.as_slice()[0] == b'>');
+    assert!(rt; &text.as_slice()[1..] == RING);
+    assert!(rt; certifies(alloc, &ring(alloc)?, &text.as_slice()[1..]));
+    assert!(rt; printed(alloc, &text.as_slice()[1..])?.as_slice() == RING);
+    Ok(())
+}
+
+/// A text with the largest numbers of each kind.
+const LARGEST: &[u8] = b"lid-cert 1
+part 1
+ratio 2147483647 2147483647
+cycle 4294967295
+node 4294967295 4611686018427387903 4611686018427387903 4294967295 4294967295
+";
+
+#[test]
+fn reads_the_largest_numbers(rt: HostRuntime) -> Result<(), Fail> {
+    let alloc = rt.alloc();
+    assert!(rt; printed(alloc, LARGEST)?.as_slice() == LARGEST);
+    let past = changed(alloc, LARGEST, b"903 4294967295", b"904 4294967295")?;
+    assert!(rt; fault_of(alloc, past.as_slice()) == Some(CertFault::Word { line: 5 }));
     Ok(())
 }
