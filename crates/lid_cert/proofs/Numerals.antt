@@ -1,11 +1,10 @@
 -- What is read from a number in decimal digits.
-use Rattle.std.proofs.Common.{◌≡◌, ℕ, suc, ◌+◌, ◌-◌, ◌*◌, ◌/◌, ◌%◌, ◌^◌, ◌<◌, ◌≤◌, ◌==◌, ◌&&◌, Bool, true, false, cond, List, [], ◌∷◌, ◌++◌, length, get_or, map, refl, sym, ap, subst, ◌∙◌, append-nil, append_assoc, arith, lt-ltb, inl, inr}
-use Rattle.std.specs.Prelude.{Option, Some, None, IfSome, not, nat_lt, nat_le, ◌||◌, codes, bytes_eq, unwrap_or, is_some}
+use Rattle.std.proofs.Common.{◌≡◌, ℕ, ◌+◌, ◌-◌, ◌*◌, ◌/◌, ◌%◌, ◌^◌, ◌<◌, ◌≤◌, ◌==◌, ◌&&◌, true, false, List, [], ◌∷◌, ◌++◌, length, get_or, map, refl, sym, ap, ◌∙◌, append-nil, append_assoc, arith, lt-ltb, inl, inr}
+use Rattle.std.specs.Prelude.{Option, Some, None, IfSome, not, nat_lt, nat_le, codes, bytes_eq, unwrap_or, is_some}
 use Rattle.std.specs.Fmt.{decimal}
 use Rattle.std.specs.List.{AllByRecursion, list_all}
 use Rattle.std.proofs.lemmas.Bool.{le-leb, ne_eqb, eq-eqb, or_right, and_from, cond-true, cases_lt, not_from_false}
 use Rattle.std.proofs.lemmas.Fmt.{decimal_by_steps, decimal_nonempty, first_decimal, length-decimal-le}
-use Rattle.std.proofs.Math.Nat.{div-add-mod}
 use Rattle.lid_cert.specs.Texts.{is_digit, number_on, begins_number, number_below, is_below, value_below, is_via_word, via_value, via_word}
 use Rattle.lid_cert.specs.Printed.{IsSmall}
 use Rattle.lid_cert.proofs.PlainWords.{IsPlain, IsPlainWord, plain_byte, plain_name, all_append}

@@ -1,28 +1,26 @@
 -- The text of a certificate has no fault, and stands for the certificate.
-use Rattle.std.proofs.Common.{◌≡◌, ℕ, zero, suc, ◌+◌, ◌-◌, ◌^◌, ◌<◌, ◌≤◌, ◌==◌, Bool, true, false, ◌&&◌, cond, List, [], ◌∷◌, ◌++◌, length, get_or, take, drop, map, refl, sym, ap, subst, ◌∙◌, append-nil, arith, length-append, lt-ltb}
-use Rattle.std.specs.Prelude.{Option, None, Some, IfSome, nat_lt, nat_le, codes}
+use Rattle.std.proofs.Common.{◌≡◌, ℕ, zero, suc, ◌+◌, ◌-◌, ◌^◌, ◌<◌, ◌≤◌, true, false, List, [], ◌∷◌, ◌++◌, length, get_or, take, map, refl, sym, ap, ◌∙◌, arith, length-append, lt-ltb}
+use Rattle.std.specs.Prelude.{Option, None, Some, nat_lt, nat_le, codes}
 use Rattle.std.specs.Fmt.{decimal}
-use Rattle.std.specs.List.{All, AllByRecursion, list_all, flat_map}
+use Rattle.std.specs.List.{All, AllByRecursion, flat_map}
 use Rattle.std.proofs.lemmas.Bool.{cond-true, cond-false, and_from, le-ltb, le-leb}
 use Rattle.std.proofs.lemmas.List.{take_all, length-map, map-append}
 use Rattle.std.proofs.lemmas.List.Elements.{recursion_from_All}
 use Rattle.std.proofs.Math.Seq.{take-suc}
 use Rattle.lid_base.specs.declared.line.Line.{Line}
-use Rattle.lid_base.specs.declared.line.TextFault.{TextFault}
 use Rattle.lid_base.specs.declared.which.Which.TheVariants.{FileBytes}
 use Rattle.lid_base.specs.Lines.{logical_lines, text_fault}
 use Rattle.lid_cert.specs.declared.cert.Part.{Part}
 use Rattle.lid_cert.specs.declared.cert.Cert.{Cert}
 use Rattle.lid_cert.specs.Certificates.{AreLists}
-use Rattle.lid_cert.specs.declared.fault.CertFault.{CertFault}
 use Rattle.lid_cert.specs.declared.fault.CertFault.TheVariants.{Limit}
 use Rattle.lid_cert.specs.declared.stage.Stage.{Stage}
-use Rattle.lid_cert.specs.declared.stage.Stage.TheVariants.{Header, Between, Ratio, Cycle, Nodes}
-use Rattle.lid_cert.specs.Texts.{word_at, begins_with, is_below, value_below, is_via_word, via_value, is_part_line, is_ratio_line, is_cycle_line, is_node_line, is_due, due_after, line_at_fault, at_line, fault_in, cert_fault, column, node_lines, part_of, parts_of, cert_of, part_text, cert_text, via_word}
+use Rattle.lid_cert.specs.declared.stage.Stage.TheVariants.{Header, Between, Nodes}
+use Rattle.lid_cert.specs.Texts.{word_at, begins_with, is_below, value_below, via_value, is_part_line, is_ratio_line, is_cycle_line, is_node_line, line_at_fault, at_line, fault_in, cert_fault, column, node_lines, part_of, parts_of, cert_of, part_text, cert_text}
 use Rattle.lid_cert.specs.Printed.{IsSmall, IsPartSmall, IsPartFull, IsPartPrintable, IsReadBack, PrintedIsReadBack}
 use Rattle.lid_cert.proofs.Numerals.{value_back, is_number, plain_number, via_back, is_via, plain_via, values_back, are_numbers, plain_numbers}
 use Rattle.lid_cert.proofs.PlainWords.{Words, IsPlainWord, IsPlainLine, plain_name, all_append, all_weaker}
-use Rattle.lid_cert.proofs.PlainTexts.{lines_text, numbered, text_law, text_clean}
+use Rattle.lid_cert.proofs.PlainTexts.{numbered, text_law, text_clean}
 use Rattle.lid_cert.proofs.PrintedLines.{built, node_words, node_rows, count_words, ratio_words, cycle_words, part_lines, header_words, parts_lines, cert_lines, cert_lines_text, nodes_fit}
 
 built_all : {X : Type 0} (P : X → Type 0) (f : ℕ → X) (n : ℕ) → ((i : ℕ) → i < n → P (f i)) → AllByRecursion P (built f n)

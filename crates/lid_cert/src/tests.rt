@@ -1,5 +1,8 @@
 //! Certificates written out by hand for two small designs, and texts that are no certificates.
 
+ghost use Rattle.std.specs.Prelude.{IfOk};
+ghost use Rattle.lid_cert.specs.Certificates.{AreLists};
+
 use super::{Cert, CertFault, Part, check, print_cert, read_cert};
 use lid_base::Items;
 use lid_graph::{Edge, Graph};
@@ -208,7 +211,9 @@ fn prints_what_it_reads(rt: HostRuntime) -> Result<(), Fail> {
 }
 
 /// The part of the ring's source, which stands alone.
-fn lone_part(alloc: Global) -> Result<Part, AllocError> {
+fn lone_part(alloc: Global) -> Result<Part, AllocError>
+    ensures { IfOk result AreLists }
+{
     Ok(Part {
         nodes: Items::from_vec(Vec::from_array(alloc, [0])?),
         p: 1,
@@ -222,7 +227,9 @@ fn lone_part(alloc: Global) -> Result<Part, AllocError> {
 }
 
 /// The part of the ring's other actors.
-fn joined_part(alloc: Global) -> Result<Part, AllocError> {
+fn joined_part(alloc: Global) -> Result<Part, AllocError>
+    ensures { IfOk result AreLists }
+{
     Ok(Part {
         nodes: Items::from_vec(Vec::from_array(alloc, [1, 2, 3, 4])?),
         p: 2,
