@@ -4,6 +4,7 @@ pub mod Numerals
 pub mod Parts
 pub mod PlainTexts
 pub mod PlainWords
+pub mod PrintedLengths
 pub mod PrintedLines
 pub mod Read
 pub mod ReadBack

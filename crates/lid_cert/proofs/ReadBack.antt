@@ -12,12 +12,11 @@ use Rattle.lid_base.specs.declared.which.Which.TheVariants.{FileBytes}
 use Rattle.lid_base.specs.Lines.{logical_lines, text_fault}
 use Rattle.lid_cert.specs.declared.cert.Part.{Part}
 use Rattle.lid_cert.specs.declared.cert.Cert.{Cert}
-use Rattle.lid_cert.specs.Certificates.{AreLists}
 use Rattle.lid_cert.specs.declared.fault.CertFault.TheVariants.{Limit}
 use Rattle.lid_cert.specs.declared.stage.Stage.{Stage}
 use Rattle.lid_cert.specs.declared.stage.Stage.TheVariants.{Header, Between, Nodes}
 use Rattle.lid_cert.specs.Texts.{word_at, begins_with, is_below, value_below, via_value, is_part_line, is_ratio_line, is_cycle_line, is_node_line, line_at_fault, at_line, fault_in, cert_fault, column, node_lines, part_of, parts_of, cert_of, part_text, cert_text}
-use Rattle.lid_cert.specs.Printed.{IsSmall, IsPartSmall, IsPartFull, IsPartPrintable, IsReadBack, PrintedIsReadBack}
+use Rattle.lid_cert.specs.Printed.{IsSmall, IsPartPrintable, PrintedIsReadBack}
 use Rattle.lid_cert.proofs.Numerals.{value_back, is_number, plain_number, via_back, is_via, plain_via, values_back, are_numbers, plain_numbers}
 use Rattle.lid_cert.proofs.PlainWords.{Words, IsPlainWord, IsPlainLine, plain_name, all_append, all_weaker}
 use Rattle.lid_cert.proofs.PlainTexts.{numbered, text_law, text_clean}
@@ -227,7 +226,3 @@ same_cert cert parts short =
 
 pub printed_is_read_back : PrintedIsReadBack
 printed_is_read_back cert parts short = record { sound = no_fault cert parts short; same = same_cert cert parts short }
-
--- the same by what is known of each part on its own
-pub read_back : (cert : Cert) → All AreLists cert.parts → All IsPartSmall cert.parts → All IsPartFull cert.parts → length (cert_text cert) ≤ 16777216 → IsReadBack cert
-read_back cert lists small full short = printed_is_read_back cert (λ k d h. record { full = full k d h; lists = lists k d h; small = small k d h }) short

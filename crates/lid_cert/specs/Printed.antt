@@ -1,6 +1,6 @@
 -- The certificates that their text gives back.
-use Rattle.std.specs.Prelude.{◌≡◌, ℕ, ◌^◌, ◌<◌, ◌≤◌, length, Option, None, IfSome}
-use Rattle.std.specs.List.{All}
+use Rattle.std.specs.Prelude.{◌≡◌, ℕ, ◌+◌, ◌*◌, ◌^◌, ◌<◌, ◌≤◌, length, Option, None, IfSome}
+use Rattle.std.specs.List.{All, sum_by}
 use Rattle.lid_cert.specs.declared.cert.Part.{Part}
 use Rattle.lid_cert.specs.declared.cert.Cert.{Cert}
 use Rattle.lid_cert.specs.Certificates.{AreLists, IsPartInRange}
@@ -39,3 +39,15 @@ pub record IsReadBack (cert : Cert) : Type 0 where
 -- a certificate is read back where its parts have their form and its text is not too long
 abbrev pub PrintedIsReadBack : Type 0
 PrintedIsReadBack = (cert : Cert) → All IsPartPrintable cert.parts → length (cert_text cert) ≤ 16777216 → IsReadBack cert
+
+-- 50 bytes for the first three lines of a part, 11 for each edge of its walk and 78 for each transition
+abbrev pub room : Part → ℕ
+room part = 50 + (11 * length part.cycle + 78 * length part.nodes)
+
+-- how long the text of a certificate may be
+abbrev pub PrintedIsShort : Type 0
+PrintedIsShort =
+    (cert : Cert)
+    → All IsPartPrintable cert.parts
+    → All (λ part. IsSmall (length part.nodes)) cert.parts
+    → length (cert_text cert) ≤ 11 + sum_by room cert.parts

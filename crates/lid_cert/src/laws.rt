@@ -1,7 +1,7 @@
 //! What follows from a certificate. Each function here does nothing; its contract is a law for all
 //! graphs and certificates.
 
-ghost use Rattle.lid_cert.specs.Printed.{PrintedIsReadBack};
+ghost use Rattle.lid_cert.specs.Printed.{PrintedIsReadBack, PrintedIsShort};
 ghost use Rattle.lid_cert.specs.Laws.{EachIsShown, WalksHaveTokens, RatioIsShown, LagsAreShown, LeadsBoundFirings, LagsBoundFirings, CapsAreReached};
 
 /// Each transition of a certified graph stands in a part.
@@ -38,4 +38,10 @@ pub fn caps_are_reached()
 /// longer text is refused, whatever it says.
 pub fn printed_is_read_back()
     ensures { PrintedIsReadBack }
+{}
+
+/// The text of a certificate has at most 11 bytes, and for each part 50, 11 for each edge of its walk and
+/// 78 for each transition.
+pub fn printed_is_short()
+    ensures { PrintedIsShort }
 {}

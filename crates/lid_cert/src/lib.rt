@@ -22,7 +22,7 @@ pub use checking::check;
 pub use fault::CertFault;
 pub use laws::{
     caps_are_reached, each_is_shown, lags_bound_firings, leads_bound_firings, printed_is_read_back,
-    ratio_is_shown,
+    printed_is_short, ratio_is_shown,
 };
 pub use printing::print_cert;
 pub use reading::read_cert;

@@ -1,10 +1,10 @@
 //! Certificates, written as a text.
 
-ghost use Rattle.std.specs.Prelude.{◌≡◌, ◌++◌, ◌∷◌, ◌<◌, ◌≤◌, [], length, slice_index, codes, OnOk, OnErr};
+ghost use Rattle.std.specs.Prelude.{◌≡◌, ◌++◌, ◌∷◌, ◌+◌, ◌<◌, ◌≤◌, [], length, slice_index, codes, OnOk, OnErr};
 ghost use Rattle.std.specs.Fmt.{decimal};
-ghost use Rattle.std.specs.List.{All, flat_map};
+ghost use Rattle.std.specs.List.{All, flat_map, sum_by};
 ghost use Rattle.lid_cert.specs.Certificates.{AreLists};
-ghost use Rattle.lid_cert.specs.Printed.{IsPartFull, IsReadBack};
+ghost use Rattle.lid_cert.specs.Printed.{IsSmall, IsPartFull, IsReadBack, room};
 ghost use Rattle.lid_cert.specs.Texts.{cert_text, part_text, node_text, node_texts, number_line, spaced, via_word, Extends};
 
 use crate::cert::{Cert, Part};
@@ -156,7 +156,8 @@ fn append_text(cert: &Cert, into: &mut Vec<u8>) -> Result<(), AllocError>
 
 /// Appends the text of a certificate. The text is read back as the certificate where each part has a
 /// transition, an edge of its walk, and p, q, lags and leads in the ranges of the text, and the text has
-/// at most 16,777,216 bytes.
+/// at most 16,777,216 bytes. It has at most 11 bytes, and for each part 50, 11 for each edge of its walk
+/// and 78 for each transition.
 ///
 /// # Errors
 /// Where there is no memory; `into` is then as it was.
@@ -165,6 +166,7 @@ pub fn print_cert(cert: &Cert, into: &mut Vec<u8>) -> Result<(), AllocError>
     ensures ok { OnOk result (into.new.items ≡ into.old.items ++ cert_text cert.now) }
     ensures err { OnErr result (into.new.items ≡ into.old.items) }
     ensures back { All IsPartFull cert.now.parts → length (cert_text cert.now) ≤ 16777216 → IsReadBack cert.now }
+    ensures short { All IsPartFull cert.now.parts → All (λ part. IsSmall (length part.nodes)) cert.now.parts → length (cert_text cert.now) ≤ 11 + sum_by room cert.now.parts }
 {
     are_parts_small(cert.parts.as_slice());
     let len = into.len();
