@@ -40,8 +40,8 @@ pub fn printed_is_read_back()
     ensures { PrintedIsReadBack }
 {}
 
-/// The text of a certificate has at most 11 bytes, and for each part 50, 11 for each edge of its walk and
-/// 78 for each transition.
+/// The text of such a certificate, with fewer than 2^32 transitions in each part, has at most 11 bytes,
+/// and for each part 50, 11 for each edge of its walk and 78 for each transition.
 pub fn printed_is_short()
     ensures { PrintedIsShort }
 {}
