@@ -1,0 +1,4 @@
+pub mod Graphs
+pub mod Parts
+pub mod Searches
+pub mod Results
