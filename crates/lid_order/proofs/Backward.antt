@@ -226,6 +226,7 @@ module _ (g : List (List ℕ)) (cut : List Bool) (end : ℕ) where
 
       by_number : (a ≡ end) ⊎ (a ≢ end) → (flag (set seen end true) a ≡ true) ↔ IsReaching g cut a end
       by_number (inl is) = (λ _. (0, is), λ _. ap (λ (x : ℕ). flag (set seen end true) x) is ∙ flag_here seen end true within)
-      by_number (inr other) =
-          (λ on. (let feeds = (exact a).0 (sym (flag_there seen end a true other) ∙ on) in (suc feeds.0, feeds.1)),
-          λ reaching. flag_there seen end a true other ∙ to reaching.0 other reaching.1)
+      by_number (inr other) = (
+        λ on. (let feeds = (exact a).0 (sym (flag_there seen end a true other) ∙ on) in (suc feeds.0, feeds.1)),
+        λ reaching. flag_there seen end a true other ∙ to reaching.0 other reaching.1,
+      )

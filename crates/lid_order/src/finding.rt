@@ -98,12 +98,7 @@ pub fn find_order(alloc: Global, reads: &[Items<u32>]) -> Result<Found, AllocErr
     let numbers = visit_all(alloc, reads)?;
     let mut order = Vec::with_capacity(alloc, reads.len())?;
     let mut left = Vec::from_elem(alloc, true, reads.len())?;
-    take(
-        &mut order,
-        left.as_mut_slice(),
-        reads,
-        numbers.as_slice(),
-    )?;
+    take(&mut order, left.as_mut_slice(), reads, numbers.as_slice())?;
     if order.len() == reads.len() {
         return Ok(Found::Order(Items::from_vec(order)));
     }

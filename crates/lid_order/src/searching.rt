@@ -162,13 +162,7 @@ pub fn find_reaching(
 }
 
 /// Tells whether a number is reached, from what is told of the numbers that it reads.
-fn reach_one(
-    reached: &mut [bool],
-    reads: &[Items<u32>],
-    cut: &[bool],
-    starts: &[bool],
-    k: u32,
-)
+fn reach_one(reached: &mut [bool], reads: &[Items<u32>], cut: &[bool], starts: &[bool], k: u32)
     requires graph { IsGraph reads.now }
     requires reached { length reached.old ≡ length reads.now }
     requires cut { length cut.now ≡ length reads.now }
