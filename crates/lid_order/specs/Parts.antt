@@ -55,13 +55,12 @@ AreVisits n visits = All (λ visit. visit.number < n) visits
 abbrev pub HoldsLoops : List (List ℕ) → List Bool → Type 0
 HoldsLoops g marks = (k : ℕ) → IsOnLoop g k → flag marks k ≡ true
 
--- what lacks its mark is read only by what lacks it too and has a greater place
+-- what c reads has no greater rank than c, and a lesser one where it lacks its mark
 abbrev pub IsUphill : List (List ℕ) → List Bool → List ℕ → ℕ → Type 0
-IsUphill g marks places c =
+IsUphill g marks ranks c =
     (b : ℕ)
     → Among b (reads_at g c)
-    → flag marks b ≡ false
-    → (flag marks c ≡ false) × (slice_index places b < slice_index places c)
+    → (slice_index ranks b ≤ slice_index ranks c) × (flag marks b ≡ false → slice_index ranks b < slice_index ranks c)
 
 -- no number on a closed walk is marked
 abbrev pub SparesLoops : List (List ℕ) → List Bool → Type 0

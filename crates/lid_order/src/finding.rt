@@ -6,7 +6,7 @@ ghost use Rattle.lid_order.specs.Graphs.{IsGraph, IsOnLoop, HasNoLoop, flag};
 ghost use Rattle.lid_order.specs.Parts.{marked, IsPart, IsStuck, AreBelow, HoldsLoops, SparesLoops};
 ghost use Rattle.lid_order.specs.Results.{IsLeastOnLoop, IsFound};
 
-use crate::feeding::feeding;
+use crate::ranking::looping;
 use crate::searching::is_on_loop;
 use crate::taking::{sweep, take_all};
 use crate::visiting::visit_all;
@@ -43,15 +43,15 @@ fn take(
     Ok(())
 }
 
-/// Marks what lies on no closed walk: what is not left, and what does not feed one.
-fn cut_of(alloc: Global, left: &[bool], feeding: &[bool]) -> Result<Vec<bool>, AllocError>
-    requires { length feeding.now ≡ length left.now }
+/// Marks what lies on no closed walk: what is not left, and what is not told to lie on one.
+fn cut_of(alloc: Global, left: &[bool], looping: &[bool]) -> Result<Vec<bool>, AllocError>
+    requires { length looping.now ≡ length left.now }
     ensures count { IfOk result (λ cut. length cut.items ≡ length left.now) }
-    ensures cut { IfOk result (λ cut. (k : ℕ) → flag left.now k ≡ true → flag feeding.now k ≡ true → flag cut.items k ≡ false) }
+    ensures cut { IfOk result (λ cut. (k : ℕ) → flag left.now k ≡ true → flag looping.now k ≡ true → flag cut.items k ≡ false) }
 {
     let mut cut = Vec::from_elem(alloc, false, left.len())?;
     for k in 0..left.len() {
-        cut[k] = !left[k] || !feeding[k];
+        cut[k] = !left[k] || !looping[k];
     }
     Ok(cut)
 }
@@ -85,9 +85,8 @@ fn least_on_loop(
 /// An order of all numbers, in which each stands after all that it reads, or else the least number on a
 /// closed walk.
 ///
-/// Entry k of `reads` has the numbers that k reads. An order takes time in the numbers and reads. So
-/// does the least number on a closed walk, but for the numbers below it that lie between two closed
-/// walks: each of them costs a search of its own.
+/// Entry k of `reads` has the numbers that k reads. It takes time in the numbers and reads, which is
+/// measured and not proved.
 ///
 /// # Errors
 /// Where there is no memory.
@@ -95,15 +94,20 @@ pub fn find_order(alloc: Global, reads: &[Items<u32>]) -> Result<Found, AllocErr
     requires { IsGraph reads.now }
     ensures { IfOk result (IsFound reads.now) }
 {
-    let numbers = visit_all(alloc, reads)?;
+    let visited = visit_all(alloc, reads)?;
     let mut order = Vec::with_capacity(alloc, reads.len())?;
     let mut left = Vec::from_elem(alloc, true, reads.len())?;
-    take(&mut order, left.as_mut_slice(), reads, numbers.as_slice())?;
+    take(
+        &mut order,
+        left.as_mut_slice(),
+        reads,
+        visited.ended.as_slice(),
+    )?;
     if order.len() == reads.len() {
         return Ok(Found::Order(Items::from_vec(order)));
     }
-    let feeding = feeding(alloc, reads, numbers.as_slice())?;
-    let mut cut = cut_of(alloc, left.as_slice(), feeding.as_slice())?;
+    let looping = looping(alloc, reads, &visited)?;
+    let mut cut = cut_of(alloc, left.as_slice(), looping.as_slice())?;
     match least_on_loop(alloc, reads, cut.as_mut_slice())? {
         Some(k) => Ok(Found::Loop(k)),
         None => unreachable!(),

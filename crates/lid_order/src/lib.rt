@@ -1,8 +1,8 @@
 //! Orders of numbers that read one another, closed walks, and what reaches what.
 #![tactic(auto)]
 
-mod feeding;
 mod finding;
+mod ranking;
 mod rows;
 mod searching;
 mod taking;

@@ -48,7 +48,8 @@ fn look_at(
     ensures search { OnOk result ((end : ℕ) → IsSearch reads.now cut.now end seen.old (todo.old.items ++ c ∷ []) → IsSearch reads.now cut.now end seen.new todo.new.items) }
     ensures less { OnOk result (2 * unmarked seen.new + length todo.new.items ≤ 2 * unmarked seen.old + length todo.old.items) }
 {
-    if cut[c as usize] {
+    let shut = cut[c as usize];
+    if shut {
         return Ok(());
     }
     mark(seen, todo, row(reads, c))
@@ -172,7 +173,9 @@ fn reach_one(reached: &mut [bool], reads: &[Items<u32>], cut: &[bool], starts: &
     ensures here { (flag reached.new k ≡ true) ↔ IsReached reads.now cut.now starts.now k }
     ensures others { (c : ℕ) → (c ≡ k → ⊥) → flag reached.new c ≡ flag reached.old c }
 {
-    let now = starts[k as usize] || (!cut[k as usize] && is_any(reached, row(reads, k)));
+    let start = starts[k as usize];
+    let shut = cut[k as usize];
+    let now = start || (!shut && is_any(reached, row(reads, k)));
     reached[k as usize] = now;
 }
 

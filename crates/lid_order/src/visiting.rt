@@ -3,6 +3,7 @@
 ghost use Rattle.std.specs.Prelude.{◌≡◌, ◌+◌, ◌*◌, ◌<◌, ◌≤◌, false, length, slice_index, IfOk, OnOk, vec_len};
 ghost use Rattle.lid_order.specs.Graphs.{IsGraph, flag};
 ghost use Rattle.lid_order.specs.Parts.{unmarked, AreBelow, AreVisits};
+ghost use Rattle.lid_order.specs.Rankings.{AreVisited};
 
 use crate::rows::row;
 use lid_base::Items;
@@ -14,6 +15,15 @@ pub(crate) struct Visit {
     pub(crate) number: u32,
     /// How many of its reads have been looked at.
     pub(crate) next: usize,
+}
+
+/// The numbers that were visited.
+#[derive(Drop)]
+pub(crate) struct Visited {
+    /// In the order in which they were entered.
+    pub(crate) begun: Vec<u32>,
+    /// In the order in which their visits ended.
+    pub(crate) ended: Vec<u32>,
 }
 
 /// The place of the first number, from a place on, that has not been entered, or the place after the
@@ -33,7 +43,7 @@ fn next_new(entered: &[bool], numbers: &[u32], from: usize) -> usize
 fn go_on(
     entered: &mut [bool],
     stack: &mut Vec<Visit>,
-    ended: &mut Vec<u32>,
+    visited: &mut Visited,
     reads: &[Items<u32>],
     visit: Visit,
 ) -> Result<(), AllocError>
@@ -41,19 +51,20 @@ fn go_on(
     requires long { length entered.old ≡ length reads.now }
     requires visit { visit.number < length reads.now }
     requires stack { AreVisits (length reads.now) stack.old.items }
-    requires ended { AreBelow (length reads.now) ended.old.items }
+    requires visited { AreVisited (length reads.now) visited.old }
     ensures stack { OnOk result (AreVisits (length reads.now) stack.new.items) }
-    ensures ended { OnOk result (AreBelow (length reads.now) ended.new.items) }
+    ensures visited { OnOk result (AreVisited (length reads.now) visited.new) }
     ensures less { OnOk result (2 * unmarked entered.new + vec_len stack.new ≤ 2 * unmarked entered.old + vec_len stack.old) }
 {
     let numbers = row(reads, visit.number);
     let next = next_new(entered, numbers, visit.next);
     if next >= numbers.len() {
-        ended.push(visit.number)?;
+        visited.ended.push(visit.number)?;
         return Ok(());
     }
     let number = numbers[next];
     entered[number as usize] = true;
+    visited.begun.push(number)?;
     stack.push(Visit {
         number: visit.number,
         next: next + 1,
@@ -66,7 +77,7 @@ fn go_on(
 fn visit_from(
     entered: &mut [bool],
     stack: &mut Vec<Visit>,
-    ended: &mut Vec<u32>,
+    visited: &mut Visited,
     reads: &[Items<u32>],
     number: u32,
 ) -> Result<(), AllocError>
@@ -74,41 +85,45 @@ fn visit_from(
     requires long { length entered.old ≡ length reads.now }
     requires number { number < length reads.now }
     requires stack { AreVisits (length reads.now) stack.old.items }
-    requires ended { AreBelow (length reads.now) ended.old.items }
+    requires visited { AreVisited (length reads.now) visited.old }
     ensures stack { OnOk result (AreVisits (length reads.now) stack.new.items) }
-    ensures ended { OnOk result (AreBelow (length reads.now) ended.new.items) }
+    ensures visited { OnOk result (AreVisited (length reads.now) visited.new) }
 {
     if entered[number as usize] {
         return Ok(());
     }
     entered[number as usize] = true;
+    visited.begun.push(number)?;
     stack.push(Visit { number, next: 0 })?;
     while let Some(visit) = stack.pop() {
-        go_on(entered, stack, ended, reads, visit)?;
+        go_on(entered, stack, visited, reads, visit)?;
     }
     Ok(())
 }
 
-/// Numbers in the order in which their visits end. Where there is no closed walk each stands after all
-/// that it reads, which is for the caller to see.
+/// Visits all numbers. Where there is no closed walk each visit ends after those of all that the number
+/// reads, which is for the caller to see.
 ///
 /// # Errors
 /// Where there is no memory.
-pub(crate) fn visit_all(alloc: Global, reads: &[Items<u32>]) -> Result<Vec<u32>, AllocError>
+pub(crate) fn visit_all(alloc: Global, reads: &[Items<u32>]) -> Result<Visited, AllocError>
     requires { IsGraph reads.now }
-    ensures { IfOk result (λ ended. AreBelow (length reads.now) ended.items) }
+    ensures { IfOk result (AreVisited (length reads.now)) }
 {
     let mut entered = Vec::from_elem(alloc, false, reads.len())?;
     let mut stack = Vec::new(alloc);
-    let mut ended = Vec::with_capacity(alloc, reads.len())?;
+    let mut visited = Visited {
+        begun: Vec::new(alloc),
+        ended: Vec::new(alloc),
+    };
     for number in 0..reads.len() as u32 {
         visit_from(
             entered.as_mut_slice(),
             &mut stack,
-            &mut ended,
+            &mut visited,
             reads,
             number,
         )?;
     }
-    Ok(ended)
+    Ok(visited)
 }

@@ -20,8 +20,8 @@ pub least_on_loop-requires-clause-cut : goal.least_on_loop-requires-clause-cut
 least_on_loop-requires-clause-cut c = λ k on.
     (let whole = whole_written c.in_ok-left.left.len c.take.new.left c.in_ok-left.left.items (omega arith) (omega arith) in
     ap (λ (l : List Bool). flag l k) c.as_mut_slice-2.ensures.value ∙ c.in_ok-cut.ensures.cut k
-    (ap (λ (l : List Bool). flag l k) (c.as_slice-3.ensures.value ∙ whole) ∙ loops_left c.args.reads.now c.take.new.order.items c.take.new.left c.in_ok-take.ensures.part k on)
-    (ap (λ (l : List Bool). flag l k) c.as_slice-4.ensures.value ∙ c.in_ok-feeding.ensures.loops k on))
+    (ap (λ (l : List Bool). flag l k) (c.as_slice-2.ensures.value ∙ whole) ∙ loops_left c.args.reads.now c.take.new.order.items c.take.new.left c.in_ok-take.ensures.part k on)
+    (ap (λ (l : List Bool). flag l k) c.as_slice-3.ensures.value ∙ c.in_ok-looping.ensures.loops k on))
 
 pub unreachable-requires : goal.unreachable-requires
 unreachable-requires c =

@@ -1,7 +1,7 @@
 use Rattle.std.proofs.Common.{Bool, List, sym, subst, arith}
 use Rattle.lid_order.specs.Parts.{HoldsLoops}
 use Rattle.lid_order.proofs.Lists.{whole_written}
-use Rattle.lid_order.proofs.feeding.feeding.Goals as goal
+use Rattle.lid_order.proofs.ranking.looping.Goals as goal
 
 pub returns-then-mark_all-clause-loops : goal.returns-then-mark_all-clause-loops
 returns-then-mark_all-clause-loops c =
