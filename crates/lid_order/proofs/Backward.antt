@@ -1,12 +1,12 @@
 -- The search back from a number: marks, one number looked at, and the end.
-use Rattle.std.proofs.Common.{◌≡◌, ℕ, zero, suc, ◌+◌, ◌*◌, ◌<◌, ◌≤◌, ◌≢◌, ◌⊎◌, inl, inr, ◌↔◌, Bool, true, false, List, [], ◌∷◌, ◌++◌, length, get_or, set, take, replicate, refl, sym, ◌∙◌, ap, subst, arith}
-use Rattle.std.proofs.lemmas.Bool.{cases_eq, cases_Bool}
+use Rattle.std.proofs.Common.{◌≡◌, ℕ, zero, suc, ◌+◌, ◌<◌, ◌≢◌, ◌⊎◌, inl, inr, ◌↔◌, Bool, true, false, List, [], ◌∷◌, ◌++◌, length, set, replicate, refl, sym, ◌∙◌, ap, subst, arith}
+use Rattle.std.proofs.lemmas.Bool.{cases_eq}
 use Rattle.std.proofs.lemmas.List.{length-set, length-append, length-replicate}
 use Rattle.std.proofs.lemmas.List.Sums.{sum_by-set}
 use Rattle.lid_order.specs.Graphs.{Among, reads_at, flag, WalkPast, IsReaching}
 use Rattle.lid_order.specs.Parts.{unmarked, count_false}
 use Rattle.lid_order.specs.Searches.{IsFeeding, AreMarked, Marks, IsSearch}
-use Rattle.lid_order.proofs.Lists.{among_left, among_last, among_push, index_among, flag_here, flag_there, flag_within}
+use Rattle.lid_order.proofs.Lists.{among_left, among_last, among_push, flag_here, flag_there}
 use Rattle.lid_order.proofs.Walking.{past_first}
 
 pub unmarked_less : (flags : List Bool) (k : ℕ) → k < length flags → flag flags k ≡ false → unmarked (set flags k true) + 1 ≡ unmarked flags

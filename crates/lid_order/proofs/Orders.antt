@@ -1,5 +1,5 @@
 -- An order, or a part of one, has no closed walk, and walks in it end.
-use Rattle.std.proofs.Common.{◌≡◌, ℕ, zero, suc, ◌+◌, ◌<◌, ◌≤◌, ◌⊎◌, inl, inr, List, [], ◌∷◌, length, get_or, take, refl, sym, ◌∙◌, ap, subst, arith}
+use Rattle.std.proofs.Common.{◌≡◌, ℕ, zero, suc, ◌+◌, ◌<◌, ◌≤◌, ◌⊎◌, inl, inr, List, [], ◌∷◌, length, get_or, take, refl, sym, ◌∙◌, subst, arith}
 use Rattle.std.proofs.lemmas.Bool.{cases_lt}
 use Rattle.lid_order.specs.Graphs.{Among, reads_at, Walk, IsOnLoop, HasNoLoop, IsOrder}
 use Rattle.lid_order.proofs.Lists.{index_among, index_take, among_take}

@@ -1,8 +1,8 @@
 -- What is reached from the starts, along an order.
-use Rattle.std.proofs.Common.{◌≡◌, ℕ, zero, suc, ◌+◌, ◌<◌, ◌≤◌, ◌≢◌, ◌⊎◌, inl, inr, ◌↔◌, Bool, true, false, ◌||◌, ◌&&◌, not, List, [], ◌∷◌, length, get_or, set, take, refl, sym, ◌∙◌, ap, subst, arith}
+use Rattle.std.proofs.Common.{◌≡◌, ℕ, zero, suc, ◌+◌, ◌<◌, ◌≢◌, ◌⊎◌, inl, inr, ◌↔◌, Bool, true, false, List, length, get_or, set, take, refl, sym, ◌∙◌, ap, subst, arith}
 use Rattle.std.specs.Bool.{MatchBool}
 use Rattle.std.proofs.lemmas.Bool.{cases_eq}
-use Rattle.lid_order.specs.Graphs.{Among, reads_at, flag, WalkPast, IsReaching, IsReached}
+use Rattle.lid_order.specs.Graphs.{Among, reads_at, flag, WalkPast, IsReached}
 use Rattle.lid_order.proofs.Lists.{index_take, among_take, flag_here}
 
 module _ (g : List (List ℕ)) (cut starts : List Bool) where

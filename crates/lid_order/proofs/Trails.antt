@@ -1,9 +1,9 @@
 -- Where each number that is left reads one that is left, and there is one, there is a closed walk.
-use Rattle.std.proofs.Common.{◌≡◌, ℕ, zero, suc, ◌+◌, ◌<◌, ◌≤◌, ◌⊎◌, inl, inr, Bool, true, false, ◌||◌, List, [], ◌∷◌, length, eqb, refl, sym, ◌∙◌, ap, subst, arith}
+use Rattle.std.proofs.Common.{◌≡◌, ℕ, zero, suc, ◌+◌, ◌≤◌, ◌⊎◌, inl, inr, Bool, true, false, ◌||◌, List, [], ◌∷◌, length, eqb, refl, sym, ◌∙◌, ap, arith}
 use Rattle.std.specs.List.{IsDistinct, AllByRecursion, list_any}
 use Rattle.std.proofs.lemmas.Bool.{eqb-true}
 use Rattle.std.proofs.lemmas.Map.Steps.{length-le_from_distinct_below}
-use Rattle.lid_order.specs.Graphs.{Among, reads_at, Walk, IsOnLoop, HasNoLoop, flag}
+use Rattle.lid_order.specs.Graphs.{Among, reads_at, Walk, IsOnLoop, flag}
 use Rattle.lid_order.specs.Parts.{IsStuck}
 use Rattle.lid_order.proofs.Lists.{flag_within}
 use Rattle.lid_order.proofs.Walking.{walk_first}

@@ -1,6 +1,6 @@
 -- Walks joined, begun by an edge, and past a cut.
-use Rattle.std.proofs.Common.{◌≡◌, ℕ, zero, suc, ◌<◌, ◌↔◌, Bool, true, false, List, [], ◌∷◌, length, set, refl, sym, ◌∙◌, subst, arith}
-use Rattle.lid_order.specs.Graphs.{Among, reads_at, Walk, IsOnLoop, HasNoLoop, flag, WalkPast}
+use Rattle.std.proofs.Common.{◌≡◌, ℕ, zero, suc, ◌↔◌, Bool, true, false, List, set, refl, ◌∙◌, subst}
+use Rattle.lid_order.specs.Graphs.{Among, reads_at, Walk, IsOnLoop, flag, WalkPast}
 use Rattle.lid_order.specs.Parts.{SparesLoops}
 use Rattle.lid_order.specs.Searches.{IsFeeding}
 use Rattle.lid_order.proofs.Lists.{flag_there}

@@ -1,5 +1,5 @@
 -- What is kept while numbers are visited and ranked.
-use Rattle.std.specs.Prelude.{◌≡◌, ℕ, List, length}
+use Rattle.std.specs.Prelude.{◌≡◌, ℕ, length}
 use Rattle.lid_order.specs.declared.ranking.Ranking.{Ranking}
 use Rattle.lid_order.specs.declared.visiting.Visited.{Visited}
 use Rattle.lid_order.specs.Parts.{AreBelow}

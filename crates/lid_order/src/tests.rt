@@ -275,6 +275,23 @@ fn tells_a_loop_behind_a_million(rt: HostRuntime) -> Result<(), Fail> {
 }
 
 #[test]
+fn passes_over_what_lies_between_loops(rt: HostRuntime) -> Result<(), Fail> {
+    let alloc = rt.alloc();
+    // The last of the chain reads itself, and one more reads itself and the chain.
+    let mut reads = chain_of(alloc, 300_000, Some(299_999))?;
+    reads.push(Items::from_vec(Vec::from_slice(alloc, &[0, 300_000])?))?;
+    if is_graph(reads.as_slice()) {
+        match find_order(alloc, reads.as_slice())? {
+            Found::Order(_) => assert!(rt; false),
+            Found::Loop(k) => assert!(rt; k == 299_999),
+        }
+    } else {
+        assert!(rt; false);
+    }
+    Ok(())
+}
+
+#[test]
 fn tells_what_is_no_graph(rt: HostRuntime) -> Result<(), Fail> {
     let rows: [&[u32]; 2] = [&[1], &[2]];
     assert!(rt; !is_graph(graph_of(rt.alloc(), rows.as_slice())?.as_slice()));

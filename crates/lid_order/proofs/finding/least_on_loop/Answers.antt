@@ -1,4 +1,4 @@
-use Rattle.std.proofs.Common.{◌≡◌, ℕ, Bool, List, true, set, sym, subst, below_more, arith}
+use Rattle.std.proofs.Common.{ℕ, sym, subst, below_more, arith}
 use Rattle.lid_order.specs.Graphs.{IsOnLoop}
 use Rattle.lid_order.specs.Parts.{SparesLoops}
 use Rattle.lid_order.proofs.Orders.{loop_within}

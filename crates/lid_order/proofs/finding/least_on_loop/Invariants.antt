@@ -1,4 +1,4 @@
-use Rattle.std.proofs.Common.{◌≡◌, ℕ, ◌<◌, length}
+use Rattle.std.proofs.Common.{ℕ, ◌<◌}
 use Rattle.lid_order.specs.Graphs.{IsOnLoop}
 use Rattle.lid_order.specs.Parts.{SparesLoops}
 use Rattle.lid_order.proofs.finding.least_on_loop.Given as goal

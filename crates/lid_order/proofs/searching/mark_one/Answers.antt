@@ -1,6 +1,6 @@
-use Rattle.std.proofs.Common.{◌≡◌, List, [], ◌∷◌, ℕ, true, set, sym, subst}
+use Rattle.std.proofs.Common.{List, [], ◌∷◌, ℕ, true, set, sym, subst}
 use Rattle.lid_order.specs.Searches.{Marks}
-use Rattle.lid_order.proofs.Backward.{marks_old, marks_new}
+use Rattle.lid_order.proofs.Backward.{marks_new}
 use Rattle.lid_order.proofs.searching.mark_one.Goals as goal
 
 pub returns : goal.returns
