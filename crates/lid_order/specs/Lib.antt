@@ -1,0 +1,5 @@
+pub mod Graphs
+pub mod Parts
+pub mod Rankings
+pub mod Searches
+pub mod Results
