@@ -10,3 +10,5 @@ pub mod Components
 pub mod Finishing
 pub mod Found
 pub mod Numbered
+pub mod Lagging
+pub mod Signs

@@ -5,3 +5,5 @@ pub mod Settling
 pub mod Rating
 pub mod Spreading
 pub mod Rates
+pub mod Shown
+pub mod Laws
