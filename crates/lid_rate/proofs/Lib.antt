@@ -12,3 +12,4 @@ pub mod Found
 pub mod Numbered
 pub mod Lagging
 pub mod Signs
+pub mod Grouped

@@ -3,6 +3,7 @@
 
 mod finding;
 mod following;
+mod grouping;
 mod laws;
 mod lowest;
 mod parts;
