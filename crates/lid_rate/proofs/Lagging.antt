@@ -1,6 +1,5 @@
 -- The rule for lags, and firing counts.
-use Rattle.std.proofs.Common.{◌≡◌, ℕ, zero, suc, ◌+◌, ◌*◌, ◌<◌, ◌≤◌, ◌⊎◌, inl, inr, List, [], ◌∷◌, ◌++◌, length, refl, sym, ◌∙◌, ap, subst, arith}
-use Rattle.std.proofs.Math.Nat.{mul-le-mul_left}
+use Rattle.std.proofs.Common.{◌≡◌, ℕ, zero, suc, ◌+◌, ◌*◌, ◌<◌, ◌≤◌, ◌⊎◌, inl, inr, List, [], ◌∷◌, ◌++◌, length, refl, ap, arith}
 use Rattle.std.proofs.lemmas.List.{length-append}
 use Rattle.lid_graph.specs.declared.graph.Graph.{Graph}
 use Rattle.lid_graph.specs.Walks.{edge_at, IsPaired, IsWalk, IsJoined, walk_tokens}
@@ -8,7 +7,7 @@ use Rattle.lid_graph.specs.Firings.{Counts, no_hold, firings, least_into, AreFit
 use Rattle.lid_graph.specs.Ratios.{IsLag}
 use Rattle.lid_graph.proofs.Counting.{Allowing, least_into-cases}
 use Rattle.lid_graph.proofs.Journeys.{walk-append, joined-step, joined-back}
-use Rattle.lid_rate.specs.Laws.{MeetLagRule, AreLagsNear, LagsMeetRule, RuleBoundsFirings}
+use Rattle.lid_rate.specs.Laws.{MeetLagRule, LagsMeetRule, RuleBoundsFirings}
 use Rattle.lid_rate.proofs.Backward.{tokens_append}
 
 pub lags_meet_rule : LagsMeetRule

@@ -1,8 +1,7 @@
 -- What lists of numbers show of a graph.
-use Rattle.std.proofs.Common.{◌≡◌, ℕ, ◌^◌, ◌<◌, ◌≤◌, List, length, get_or, arith}
+use Rattle.std.proofs.Common.{◌≡◌, ℕ, ◌^◌, ◌<◌, ◌≤◌, List, length, get_or}
 use Rattle.lid_graph.specs.declared.graph.Graph.{Graph}
-use Rattle.lid_graph.specs.Walks.{edge_at}
-use Rattle.lid_rate.specs.Rates.{IsRateable, IsLoopAt, WalksHaveTokens}
+use Rattle.lid_rate.specs.Rates.{IsLoopAt, WalksHaveTokens}
 use Rattle.lid_rate.specs.Shown.{IsEdgeShown, IsShown}
 use Rattle.lid_rate.proofs.Numbered.{walks_have_tokens}
 

@@ -1,5 +1,5 @@
 -- What follows from the rule for lags alone, for the firing counts of a graph.
-use Rattle.std.specs.Prelude.{◌≡◌, ℕ, ◌+◌, ◌*◌, ◌<◌, ◌≤◌, length}
+use Rattle.std.specs.Prelude.{ℕ, ◌+◌, ◌*◌, ◌<◌, ◌≤◌, length}
 use Rattle.lid_graph.specs.declared.graph.Graph.{Graph}
 use Rattle.lid_graph.specs.Walks.{edge_at, IsPaired, IsJoined}
 use Rattle.lid_graph.specs.Firings.{Counts, no_hold, firings, AreFitCaps}

@@ -1,5 +1,4 @@
-use Rattle.std.proofs.Common.{◌≡◌, ◌≤◌, ◌<◌, ◌^◌, length, arith}
-use Rattle.lid_rate.specs.Shown.{IsShown}
+use Rattle.std.proofs.Common.{arith}
 use Rattle.lid_rate.proofs.Signs.{shown_of, edges_of_shown, tokens_of_shown}
 use Rattle.lid_rate.proofs.showing.is_rateable.Goals as goal
 
