@@ -10,7 +10,7 @@ use Rattle.lid_rate.specs.Chains.{IsChain}
 use Rattle.lid_rate.specs.Raising.{AreEdges}
 use Rattle.lid_rate.proofs.Settles.{contains_within}
 
-tokens_append : (g : Graph) (ks ls : List ℕ) → walk_tokens g (ks ++ ls) ≡ walk_tokens g ks + walk_tokens g ls
+pub tokens_append : (g : Graph) (ks ls : List ℕ) → walk_tokens g (ks ++ ls) ≡ walk_tokens g ks + walk_tokens g ls
 tokens_append g [] ls = omega arith
 tokens_append g (k ∷ ks) ls = let rest = tokens_append g ks ls in omega arith
 

@@ -10,3 +10,6 @@ pub mod Components
 pub mod Finishing
 pub mod Found
 pub mod Numbered
+pub mod Lagging
+pub mod Signs
+pub mod Grouped

@@ -5,3 +5,6 @@ pub mod Settling
 pub mod Rating
 pub mod Spreading
 pub mod Rates
+pub mod Grouping
+pub mod Shown
+pub mod Laws

@@ -3,8 +3,10 @@
 ghost use Rattle.std.specs.Prelude.{◌≤◌, IfOk};
 ghost use Rattle.std.specs.List.{All};
 ghost use Rattle.lid_cert.specs.Certificates.{Certifies, IsInRange};
+ghost use Rattle.lid_rate.specs.Grouping.{AreSorted};
 ghost use Rattle.lid_rate.specs.Rates.{IsRateable, IsExact, AreLabels, AreParts, WalksHaveTokens};
 
+use crate::grouping::{Sorted, places_of, sort};
 use crate::parts::part_of;
 use lid_base::Items;
 use lid_cert::{Cert, Part};
@@ -12,15 +14,24 @@ use lid_graph::{Graph, components};
 use std::alloc::{AllocError, Global};
 
 /// The parts of all components, in the order of their least transitions.
-fn all_parts(alloc: Global, graph: &Graph, least: &[u32]) -> Result<Vec<Part>, AllocError>
+fn all_parts(
+    alloc: Global,
+    graph: &Graph,
+    least: &[u32],
+    sorted: &Sorted,
+) -> Result<Vec<Part>, AllocError>
     requires graph { IsRateable graph.now }
     requires labels { AreLabels graph.now least.now }
+    requires sorted { AreSorted graph.now least.now sorted.now.nodes.items sorted.now.edges.items sorted.now.loops.items }
     ensures { IfOk result (λ parts. AreParts graph.now least.now graph.now.nodes parts.items) }
 {
     let mut parts = Vec::new(alloc);
     for v in 0..graph.nodes {
         if least[v as usize] == v {
-            let part = part_of(alloc, graph, least, v)?;
+            let inside = places_of(&sorted.nodes, v);
+            let edges = places_of(&sorted.edges, v);
+            let first = sorted.loops[v as usize];
+            let part = part_of(alloc, graph, least, v, inside, edges, first)?;
             parts.push(part)?;
         }
     }
@@ -42,7 +53,9 @@ pub fn find(alloc: Global, graph: &Graph) -> Result<Cert, AllocError>
     ensures positive { IfOk result (λ cert. WalksHaveTokens graph.now → All (λ part. 1 ≤ part.p) cert.parts) }
 {
     let least = components(alloc, graph)?;
-    let parts = all_parts(alloc, graph, least.as_slice())?;
+    let labels = least.as_slice();
+    let sorted = sort(alloc, graph, labels)?;
+    let parts = all_parts(alloc, graph, labels, &sorted)?;
     Ok(Cert {
         parts: Items::from_vec(parts),
     })

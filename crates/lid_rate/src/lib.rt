@@ -3,11 +3,18 @@
 
 mod finding;
 mod following;
+mod grouping;
+mod laws;
 mod lowest;
 mod parts;
 mod raising;
 mod rating;
 mod settling;
+mod showing;
 mod spreading;
+#[cfg(test)]
+mod tests;
 
 pub use finding::find;
+pub use laws::lag_rule_bounds_firings;
+pub use showing::is_rateable;

@@ -11,43 +11,8 @@ use crate::rating::{Rate, least_rate};
 use crate::spreading::{Tree, reach};
 use lid_base::Items;
 use lid_cert::Part;
-use lid_graph::{Edge, Graph};
+use lid_graph::Graph;
 use std::alloc::{AllocError, Global};
-
-/// The transitions with a label, ascending.
-fn nodes_with(alloc: Global, least: &[u32], label: u32) -> Result<Vec<u32>, AllocError>
-    requires { length least.now < 2 ^ 32 }
-    ensures { IfOk result (λ nodes. nodes.items ≡ those (is_labelled least.now label) (length least.now)) }
-{
-    let mut nodes = Vec::new(alloc);
-    for v in 0..least.len() {
-        if least[v] == label {
-            nodes.push(v as u32)?;
-        }
-    }
-    Ok(nodes)
-}
-
-/// The edges that begin at a transition with a label, ascending.
-fn edges_with(
-    alloc: Global,
-    graph: &Graph,
-    least: &[u32],
-    label: u32,
-) -> Result<Vec<u32>, AllocError>
-    requires edges { length graph.now.edges < 2 ^ 32 }
-    requires from { (k : ℕ) → k < length graph.now.edges → (edge_at graph.now k).from < length least.now }
-    ensures { IfOk result (λ edges. edges.items ≡ edges_of graph.now least.now label) }
-{
-    let mut edges = Vec::new(alloc);
-    for k in 0..graph.edges.len() {
-        let from = edge(graph, k as u32).from;
-        if least[from as usize] == label {
-            edges.push(k as u32)?;
-        }
-    }
-    Ok(edges)
-}
 
 /// The numbers of the transitions.
 fn numbers(alloc: Global, nodes: &[u32], all: &[u64]) -> Result<Items<u64>, AllocError>
@@ -83,29 +48,6 @@ fn vias(alloc: Global, nodes: &[u32], all: &[Option<u32>]) -> Result<Items<Optio
         column.push(all[*v as usize])?;
     }
     Ok(Items::from_vec(column))
-}
-
-/// The edge from a transition to itself, with one token.
-fn loop_at(graph: &Graph, v: u32) -> u32
-    requires paired { IsPaired graph.now }
-    requires within { v < graph.now.nodes }
-    requires few { length graph.now.edges < 2 ^ 32 }
-    ensures { IsLoopAt graph.now v result }
-{
-    let mut k: u32 = 0;
-    let mut found = is_loop(edge(graph, k), v);
-    while !found {
-        k += 1;
-        found = is_loop(edge(graph, k), v);
-    }
-    k
-}
-
-/// Whether an edge leads from a transition to itself and has one token.
-fn is_loop(edge: Edge, v: u32) -> bool
-    ensures { result ≡ is_loop_edge edge v }
-{
-    edge.from == v && edge.to == v && edge.tokens == 1
 }
 
 /// The lead where a closed walk of so many edges starts.
@@ -144,31 +86,15 @@ fn assemble(alloc: Global, nodes: Vec<u32>, rate: Rate, tree: &Tree) -> Result<P
     })
 }
 
-/// The part of the component whose least transition is `label`, of these edges.
-fn part_on(
-    alloc: Global,
-    graph: &Graph,
-    least: &[u32],
-    label: u32,
-    edges: &[u32],
-) -> Result<Part, AllocError>
-    requires graph { IsRateable graph.now }
-    requires labels { AreLabels graph.now least.now }
-    requires within { label < graph.now.nodes }
-    requires own { slice_index least.now label ≡ label }
-    requires edges { edges.now ≡ edges_of graph.now least.now label }
-    ensures { IfOk result (IsPartOf graph.now least.now label) }
+/// The numbers of a list.
+fn copy(alloc: Global, numbers: &[u32]) -> Result<Vec<u32>, AllocError>
+    ensures { IfOk result (λ all. all.items ≡ numbers.now) }
 {
-    let rate = least_rate(alloc, graph, edges, loop_at(graph, label))?;
-    let walk = rate.walk.as_slice();
-    let start = edge(graph, walk[0]).from;
-    let first = first_lead(rate.ratio, walk.len());
-    let tree = reach(alloc, graph, edges, start, rate.ratio.q, first)?;
-    let nodes = nodes_with(alloc, least, label)?;
-    assemble(alloc, nodes, rate, &tree)
+    Vec::from_slice(alloc, numbers)
 }
 
-/// The part of the component whose least transition is `label`.
+/// The part of the component whose least transition is `label`, of these transitions and edges. `first`
+/// is an edge from `label` to itself.
 ///
 /// # Errors
 /// Where there is no memory.
@@ -177,13 +103,26 @@ pub(crate) fn part_of(
     graph: &Graph,
     least: &[u32],
     label: u32,
+    inside: &[u32],
+    edges: &[u32],
+    first: u32,
 ) -> Result<Part, AllocError>
     requires graph { IsRateable graph.now }
     requires labels { AreLabels graph.now least.now }
     requires within { label < graph.now.nodes }
     requires own { slice_index least.now label ≡ label }
+    requires nodes { inside.now ≡ those (is_labelled least.now label) (length least.now) }
+    requires edges { edges.now ≡ edges_of graph.now least.now label }
+    requires first { IsLoopAt graph.now label first }
     ensures { IfOk result (IsPartOf graph.now least.now label) }
 {
-    let edges = edges_with(alloc, graph, least, label)?;
-    part_on(alloc, graph, least, label, &edges)
+    let _ = least;
+    let _ = label;
+    let rate = least_rate(alloc, graph, edges, first)?;
+    let walk = rate.walk.as_slice();
+    let start = edge(graph, walk[0]).from;
+    let lead = first_lead(rate.ratio, walk.len());
+    let tree = reach(alloc, graph, edges, start, rate.ratio.q, lead)?;
+    let nodes = copy(alloc, inside)?;
+    assemble(alloc, nodes, rate, &tree)
 }
