@@ -1,14 +1,19 @@
 //! A board of stations that threads step without a lock.
 #![tactic(auto)]
 
+mod attended;
 mod board;
 mod calls;
+mod course;
 mod hand;
 mod halves;
+mod key;
 mod steps;
 mod view;
 
+pub use attended::Attended;
 pub use board::Board;
+pub use course::Course;
 pub use hand::Hand;
 pub use steps::Order;
 pub use view::{Held, View};
