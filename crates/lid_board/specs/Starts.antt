@@ -1,5 +1,5 @@
 -- How a board starts.
-use Rattle.std.specs.Prelude.{◌≡◌, ℕ, zero, suc, ◌+◌, ◌^◌, ◌<◌, false, List, [], ◌∷◌, length, Option, Some, None, slice_get, slice_index, slice_index_or}
+use Rattle.std.specs.Prelude.{◌≡◌, ℕ, zero, suc, ◌+◌, ◌*◌, ◌^◌, ◌<◌, false, List, [], ◌∷◌, length, Option, Some, None, slice_get, slice_index, slice_index_or}
 use Rattle.std.specs.List.{All}
 use Rattle.lid_station.specs.Starts.{start_count}
 use Rattle.lid_board.specs.Relation.{words_of}
@@ -60,3 +60,21 @@ pub record AreLaid (firsts : List (Option ℕ)) (caps words : List ℕ) (station
   pub rest :
       (station number : ℕ) → station < stations → number + 1 < words_of (slice_index caps station)
       → slice_index words (first_of caps station + (number + 1)) ≡ 0
+
+-- the numbers of the first words of the first stations
+pub record AreFirsts (caps numbers : List ℕ) (stations : ℕ) : Type 0 where
+  pub many : length numbers ≡ stations
+  pub each : (station : ℕ) → station < stations → slice_index numbers station ≡ first_of caps station
+
+-- the words of one station were added, of which the first is `word` and the others are 0
+pub record HasLaid (old : List ℕ) (word count : ℕ) (now : List ℕ) : Type 0 where
+  pub long : length now ≡ length old + count
+  pub before : (i : ℕ) → i < length old → slice_index now i ≡ slice_index old i
+  pub first : slice_index now (length old) ≡ word
+  pub rest : (i : ℕ) → length old < i → slice_index now i ≡ 0
+
+-- how many tokens passed the ends of the first stations at the start
+pub record AreNumbers (firsts : List (Option ℕ)) (numbers : List (Option ℕ)) (stations : ℕ) : Type 0 where
+  pub long : length numbers ≡ 2 * stations
+  pub fills : (station : ℕ) → station < stations → slice_index_or numbers (2 * station) None ≡ Some (start_count (slice_index_or firsts station None))
+  pub drains : (station : ℕ) → station < stations → slice_index_or numbers (2 * station + 1) None ≡ Some 0
