@@ -1,6 +1,8 @@
 pub mod CallLemmas
 pub mod FrameLemmas
 pub mod HalfLemmas
+pub mod NumberLemmas
+pub mod PartLemmas
 pub mod ReadLemmas
 pub mod StartLemmas
 pub mod StationLemmas

@@ -1,5 +1,6 @@
 pub mod Halves
 pub mod Owners
+pub mod Parting
 pub mod Relation
 pub mod Standing
 pub mod Starts

@@ -8,6 +8,7 @@ mod course;
 mod hand;
 mod halves;
 mod key;
+mod parts;
 mod starts;
 mod steps;
 mod view;

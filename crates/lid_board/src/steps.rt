@@ -1,12 +1,16 @@
 //! The rule of the table, and the steps that hands make on it.
 
-ghost use Rattle.std.specs.Prelude.{◌≡◌, ℕ, ◌<◌, bit_and, bit_or};
+ghost use Rattle.std.specs.Prelude.{◌≡◌, ℕ, ◌<◌, bit_and, bit_or, Bool, true, false, []};
 ghost use Rattle.atomic_table.specs.Table.{Allows};
+ghost use Rattle.lid_board.specs.Owners.{IsOwned};
+ghost use Rattle.lid_board.specs.Parting.{left_from, right_from, merged};
 ghost use Rattle.lid_board.specs.Relation.{Related};
+ghost use Rattle.lid_board.specs.Views.{IsEarly};
 ghost use Rattle.lid_board.specs.declared.view.View.{View};
 
 use crate::view::View;
-use atomic_table::{Play, Seat, Shared, TableRule};
+use atomic_table::{Join, Play, Seat, Shared, Split, TableRule};
+use lid_station::End;
 use std::marker::{Brand, PhantomData};
 
 /// The rule of a board, which holds between any two steps. The key has what was known at the start.
@@ -89,4 +93,61 @@ pub(crate) fn or_as<J: Telling>(
     ensures told { (found : ℕ) × J.told found seat.new.me.0 }
 {
     let _found = cells.fetch_or::<Tells<J>>(seat, word, bits);
+}
+
+/// Which ends go to a new hand.
+pub(crate) trait Choosing {
+    ghost chosen: { ℕ → Bool };
+}
+
+impl Choosing for Brand {
+    ghost chosen = { λ _. false };
+}
+
+struct Parts<J> {
+    choosing: PhantomData<J>,
+}
+
+impl<J: Choosing> Split<View> for Parts<J> {
+    ghost left = { λ v. record { ends = left_from J.chosen 0 v.ends } };
+
+    ghost right = { λ v. record { ends = right_from J.chosen 0 v.ends } };
+}
+
+/// Cuts what a seat knows in two. The ends are for contracts alone.
+pub(crate) fn split_as<J: Choosing>(
+    cells: &Cells,
+    seat: &mut Seat<(), View>,
+    _ends: &[End],
+) -> Seat<(), View>
+    requires table { seat.old.table_id ≡ cells.now.table_id }
+    requires inside { 0 < cells.now.table_id.words }
+    requires owned { (end : ℕ) → J.chosen end ≡ true → IsOwned seat.old.me.0.ends end }
+    ensures seat { (seat.new.table_id ≡ seat.old.table_id) × (seat.new.me.1 ≡ seat.old.me.1) × (result.table_id ≡ seat.old.table_id) × (result.me.1 ≡ []) }
+    ensures left { seat.new.me.0.ends ≡ left_from J.chosen 0 seat.old.me.0.ends }
+    ensures right { result.me.0.ends ≡ right_from J.chosen 0 seat.old.me.0.ends }
+    ensures early { IsEarly seat.old.me.0.ends → IsEarly seat.new.me.0.ends × IsEarly result.me.0.ends }
+{
+    cells.split_seat::<Parts<J>>(seat)
+}
+
+struct Both;
+
+impl Join<View> for Both {
+    ghost both = { λ v w. record { ends = merged v.ends w.ends } };
+
+    ghost spent = { record { ends = [] } };
+}
+
+/// Makes what two seats know one.
+pub(crate) fn join_both(cells: &Cells, seat: &mut Seat<(), View>, other: Seat<(), View>)
+    requires table { seat.old.table_id ≡ cells.now.table_id }
+    requires other { other.table_id ≡ cells.now.table_id }
+    requires no_slot { other.me.1 ≡ [] }
+    requires inside { 0 < cells.now.table_id.words }
+    ensures seat { (seat.new.table_id ≡ seat.old.table_id) × (seat.new.me.1 ≡ seat.old.me.1) }
+    ensures both { seat.new.me.0.ends ≡ merged seat.old.me.0.ends other.me.0.ends }
+    ensures early { IsEarly seat.old.me.0.ends → IsEarly other.me.0.ends → IsEarly seat.new.me.0.ends }
+{
+    cells.join_seat::<Both>(seat, other);
 }
