@@ -235,3 +235,10 @@ full-there cap stream put taken full within some =
     let place : put % cap < cap = omega arith in
     let least = half-full cap stream taken (put % cap) place in
     omega arith
+
+-- the place of a token that is held shows it
+pub held-there : (cap : ℕ) (stream : List ℕ) (put taken i : ℕ) → taken ≤ i → i < put → put ≤ length stream → put ≤ taken + cap
+    → half_of cap (take put stream) (take taken stream) (i % cap) ≡ 2147483648 + get_or stream i 0
+held-there cap stream put taken i from to within room =
+    canon cap stream put taken (i % cap) (omega arith) within
+    ∙ half-token cap stream taken (put - taken) (i % cap) i (omega arith) from (omega arith) refl

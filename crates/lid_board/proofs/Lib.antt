@@ -1,4 +1,5 @@
 pub mod CallLemmas
+pub mod CloseLemmas
 pub mod FrameLemmas
 pub mod HalfLemmas
 pub mod NumberLemmas

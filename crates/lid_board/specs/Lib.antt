@@ -1,3 +1,4 @@
+pub mod Closing
 pub mod Halves
 pub mod Owners
 pub mod Parting

@@ -4,6 +4,7 @@
 mod attended;
 mod board;
 mod calls;
+mod closing;
 mod course;
 mod hand;
 mod halves;

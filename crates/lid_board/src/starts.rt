@@ -102,6 +102,7 @@ impl Board {
         requires course { Begins firsts.now (C.streams course.now) }
         ensures of { IfOk result (λ r. IsOf r.1 r.0) }
         ensures plan { IfOk result (λ r. plan_of r.0 ≡ starts firsts.now caps.now (C.streams course.now)) }
+        ensures many { IfOk result (λ r. length (plan_of r.0) ≡ 2 * length firsts.now) }
         ensures all { IfOk result (λ r. ends_of r.1 ≡ plan_of r.0) }
         ensures fills { IfOk result (λ r. (station : ℕ) → station < length firsts.now → at (ends_of r.1) (fill station) ≡ Some (start_fill firsts.now caps.now (C.streams course.now) station)) }
         ensures drains { IfOk result (λ r. (station : ℕ) → station < length firsts.now → at (ends_of r.1) (drain station) ≡ Some (start_drain firsts.now caps.now (C.streams course.now) station)) }

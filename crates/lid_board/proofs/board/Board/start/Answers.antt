@@ -45,3 +45,8 @@ returns-clause-stands g c station inside =
     let is = ap (λ (k : Seat (Unit {0}) View). k.me.0.ends) c.in_ok-table.ensures.5 ∙ c.in_ok-key.ensures in
     let long = plan-long c.args.firsts.now c.args.caps.now (g.C.Course.streams c.args.course.now) c.in_ok-table.table.shared.key.me.0.ends is in
     plan-stream c.args.firsts.now c.args.caps.now (g.C.Course.streams c.args.course.now) c.in_ok-table.table.shared.key.me.0.ends is station (omega arith)
+
+pub returns-clause-many : goal.returns-clause-many
+returns-clause-many g c =
+    let is = ap (λ (k : Seat (Unit {0}) View). k.me.0.ends) c.in_ok-table.ensures.5 ∙ c.in_ok-key.ensures in
+    plan-long c.args.firsts.now c.args.caps.now (g.C.Course.streams c.args.course.now) c.in_ok-table.table.shared.key.me.0.ends is
