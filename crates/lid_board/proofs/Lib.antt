@@ -8,4 +8,5 @@ pub mod ReadLemmas
 pub mod StartLemmas
 pub mod StationLemmas
 pub mod StepLemmas
+pub mod StillLemmas
 pub mod TieLemmas

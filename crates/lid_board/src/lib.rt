@@ -12,6 +12,8 @@ mod key;
 mod parts;
 mod starts;
 mod steps;
+#[cfg(test)]
+mod tests;
 mod view;
 
 pub use attended::Attended;
