@@ -1,13 +1,14 @@
 ghost use Rattle.std.specs.Prelude.{◌≡◌, ℕ, ◌^◌, ◌<◌, ◌≤◌, List, [], ◌∷◌, replicate, IfSome, IsTrue, length};
 ghost use Rattle.std.specs.List.{All};
 ghost use Rattle.lid_board.specs.Owners.{IsOf, plan_of};
-ghost use Rattle.lid_board.specs.Relation.{stream_of};
+ghost use Rattle.lid_board.specs.Parting.{end_number};
 ghost use Rattle.lid_board.specs.Standing.{StandsFor};
 
 use crate::{Attended, Board, Course, Hand};
-use lid_station::{InLook, OutLook, Stations};
+use lid_station::{End, InLook, OutLook, Side, Stations};
 use std::alloc::Global;
 use std::test::Fail;
+use std::thread::{Threads, join};
 
 /// One stream for each of some stations.
 #[derive(Drop)]
@@ -121,5 +122,110 @@ fn tells_the_words_of_a_full_station(rt: HostRuntime) -> Result<(), Fail> {
     );
     assert_eq!(rt; receive(&board, &mut hand, 0), Some(InLook::Token(5)));
     assert_eq!(rt; offer(&board, &mut hand, 0, stream), Some(OutLook::Room));
+    Ok(())
+}
+
+/// Gives an end of a hand to a new one, where the hand has it.
+fn part(board: &Board, hand: &mut Hand, end: End, number: usize) -> Option<Hand>
+    requires of { IsOf hand.old board.now }
+    requires number { number ≡ end_number end }
+    ensures of { IsOf hand.new board.now }
+    ensures part { IfSome result (λ new. IsOf new board.now) }
+{
+    if number >= hand.ends.len() {
+        return None;
+    }
+    let Some(_passed) = hand.ends[number] else {
+        return None;
+    };
+    match board.split(hand, &[end]) {
+        Ok(new) => Some(new),
+        Err(_) => None,
+    }
+}
+
+/// Offers tokens to station 0 so many times.
+fn fill_some(board: &Board, mut hand: Hand, tries: u32, stream: &[u32]) -> Hand
+    requires of { IsOf hand board.now }
+    requires stands { StandsFor (plan_of board.now) (λ _. stream.now) }
+    ensures { IsOf result board.now }
+{
+    for _try in 0..tries {
+        let _look = offer(board, &mut hand, 0, stream);
+    }
+    hand
+}
+
+/// Takes tokens from station 0 so many times, and adds up how many differ from the stream's.
+fn drain_some(board: &Board, mut hand: Hand, tries: u32, stream: &[u32]) -> (Hand, u32)
+    requires { IsOf hand board.now }
+    ensures { IsOf result.0 board.now }
+{
+    let mut taken = 0;
+    let mut wrong = 0u32;
+    for _try in 0..tries {
+        if let Some(InLook::Token(token)) = receive(board, &mut hand, 0) {
+            if taken >= stream.len() || stream[taken] != token {
+                wrong = wrong.saturating_add(1);
+            }
+            taken = taken.saturating_add(1);
+        }
+    }
+    (hand, wrong)
+}
+
+/// One thread fills station 0, another drains it.
+fn relay<R: Threads + Sync>(
+    rt: &R,
+    board: &Board,
+    filler: Hand,
+    drainer: Hand,
+    stream: &[u32],
+) -> (Hand, (Hand, u32))
+    requires filler { IsOf filler board.now }
+    requires drainer { IsOf drainer board.now }
+    requires stands { StandsFor (plan_of board.now) (λ _. stream.now) }
+    ensures filler { IsOf result.0 board.now }
+    ensures drainer { IsOf result.1.0 board.now }
+{
+    join(
+        rt,
+        move || -> Hand
+            requires { IsOf filler board.now × StandsFor (plan_of board.now) (λ _. stream.now) }
+            ensures { IsOf result board.entry.now }
+        { fill_some(board, filler, 300, stream) },
+        move || -> (Hand, u32)
+            requires { IsOf drainer board.now }
+            ensures { IsOf result.0 board.entry.now }
+        { drain_some(board, drainer, 300, stream) },
+    )
+}
+
+#[test]
+fn two_threads_share_a_station(rt: HostRuntime) -> Result<(), Fail> {
+    let stream = vec![in rt.alloc(); 5, 6, 7, 8, 9, 10, 11, 12, 13, 14]?;
+    let course = Same {
+        stations: 1,
+        stream,
+    };
+    let Some((board, mut hand)) = start_same(rt.alloc(), 3, &course) else {
+        return Err(Fail::new("no board"));
+    };
+    let end = End {
+        station: 0,
+        side: Side::Drain,
+    };
+    let Some(drainer) = part(&board, &mut hand, end, 1) else {
+        return Err(Fail::new("no part"));
+    };
+    let (mut filler, (drainer, wrong)) =
+        relay(&rt, &board, hand, drainer, course.stream.as_slice());
+    assert_eq!(rt; wrong, 0);
+    board.join(&mut filler, drainer);
+    for _token in 0..10 {
+        let _look = offer(&board, &mut filler, 0, course.stream.as_slice());
+        let _look = receive(&board, &mut filler, 0);
+    }
+    assert_eq!(rt; receive(&board, &mut filler, 0), Some(InLook::Void(0)));
     Ok(())
 }
