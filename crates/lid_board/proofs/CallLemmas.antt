@@ -1,5 +1,5 @@
 -- What the four calls leave of a hand.
-use Rattle.std.proofs.Common.{◌≡◌, ℕ, ◌+◌, List, refl, sym, ◌∙◌, ap, subst, set}
+use Rattle.std.proofs.Common.{◌≡◌, ℕ, List, refl, sym, subst}
 use Rattle.std.specs.Prelude.{Option, Some, None, option_map}
 use Rattle.std.proofs.lemmas.Option.{same_Some}
 use Rattle.lid_station.specs.Boards.{Facts, fill, drain}
@@ -7,7 +7,7 @@ use Rattle.lid_board.specs.Halves.{shown}
 use Rattle.lid_board.specs.Owners.{IsOwned}
 use Rattle.lid_board.specs.Ties.{IsTied}
 use Rattle.lid_board.specs.Told.{LooksIn, LooksOut}
-use Rattle.lid_board.specs.Views.{Ends, at, facts, held, held_of, changed, seen, missing}
+use Rattle.lid_board.specs.Views.{Ends, facts, held, held_of, seen, missing}
 use Rattle.lid_board.specs.declared.view.Held.{Held}
 use Rattle.lid_board.proofs.TieLemmas.{tied-same}
 use mathlib.Core.Logic.{dite}

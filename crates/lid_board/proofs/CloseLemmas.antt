@@ -1,5 +1,5 @@
 -- A board that is closed.
-use Rattle.std.proofs.Common.{◌≡◌, ℕ, zero, suc, ◌+◌, ◌-◌, ◌*◌, ◌/◌, ◌%◌, ◌<◌, ◌≤◌, ◌==◌, Bool, true, false, List, [], ◌∷◌, length, get_or, take, set, refl, sym, ◌∙◌, ap, subst, arith, eq-eqb, ne_eqb, length-set}
+use Rattle.std.proofs.Common.{◌≡◌, ℕ, zero, suc, ◌+◌, ◌-◌, ◌*◌, ◌/◌, ◌%◌, ◌<◌, Bool, true, false, List, [], ◌∷◌, length, get_or, set, refl, sym, ◌∙◌, ap, subst, arith, length-set}
 use Rattle.std.specs.Prelude.{Option, Some, None, option_map, slice_get}
 use Rattle.std.proofs.lemmas.Option.{same_Some, slice_get_within}
 use Rattle.std.specs.List.{All}
@@ -10,7 +10,6 @@ use Rattle.atomic_table.specs.Table.{State}
 use Rattle.lid_station.specs.Boards.{Facts, fill, drain}
 use Rattle.lid_station.specs.Plain.{end_facts, plain_ends, Holds, PlainStands}
 use Rattle.lid_station.specs.PlainLaws.{ends-even, ends-odd}
-use Rattle.lid_station.specs.Words.{half_of, word}
 use Rattle.lid_station.specs.declared.pair.Pair.{Pair}
 use Rattle.lid_station.proofs.PlainLemmas.{station-there}
 use Rattle.lid_board.specs.Closing.{CanRestore, IsRestored, Restored, number_at, closed_facts}
@@ -26,7 +25,7 @@ use Rattle.lid_board.proofs.FrameLemmas.{apart}
 use Rattle.lid_board.proofs.HalfLemmas.{shown-word, held-there}
 use mathlib.Core.Option.{some, some-injective, some-ne-none}
 use mathlib.Core.Logic.{dite}
-use native.Mathlib.Decide.{ℕ_discrete, dec_le}
+use native.Mathlib.Decide.{ℕ_discrete}
 use lib.ListN.{get_elem?}
 
 pub elem-is : (xs : List ℕ) (i x : ℕ) → get_elem? xs i ≡ some x → get_or xs i 0 ≡ x

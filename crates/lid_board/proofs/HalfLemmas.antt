@@ -1,5 +1,5 @@
 -- What the words of a station show after a token was taken or put.
-use Rattle.std.proofs.Common.{◌≡◌, ℕ, Bool, zero, suc, ◌+◌, ◌-◌, ◌*◌, ◌/◌, ◌%◌, ◌^◌, ◌<◌, ◌≤◌, ◌==◌, cond, true, false, List, length, get_or, take, refl, sym, ◌∙◌, ap, arith, eq-eqb, ne_eqb, lt_of_not-le, lit≤}
+use Rattle.std.proofs.Common.{◌≡◌, ℕ, Bool, zero, suc, ◌+◌, ◌-◌, ◌*◌, ◌/◌, ◌%◌, ◌^◌, ◌<◌, ◌≤◌, ◌==◌, cond, true, false, List, length, get_or, take, refl, sym, ◌∙◌, ap, arith, eq-eqb, ne_eqb, lit≤}
 use Rattle.std.specs.Prelude.{bit_and, bit_or}
 use Rattle.std.specs.List.{All}
 use Rattle.std.proofs.lemmas.List.{length-take-le, get_or-take}
@@ -10,7 +10,7 @@ use Rattle.lid_station.specs.Words.{half, half_of, word}
 use Rattle.lid_station.proofs.WordLemmas.{half-small, half-empty, half-token, half-free, half-full, one_turn}
 use Rattle.lid_board.specs.Halves.{shown, others, filling}
 use mathlib.Core.Logic.{dite}
-use native.Mathlib.Decide.{dec_le, ℕ_discrete}
+use native.Mathlib.Decide.{ℕ_discrete}
 
 -- a place shows the same of any list that has the same tokens there
 half-take : (cap : ℕ) (tokens : List ℕ) (many first count place : ℕ) → first + count ≤ many → half cap (take many tokens) first count place ≡ half cap tokens first count place

@@ -1,5 +1,5 @@
 -- The whole board where ends go from hand to hand.
-use Rattle.std.proofs.Common.{◌≡◌, ℕ, zero, suc, ◌+◌, ◌*◌, ◌/◌, ◌<◌, ◌≤◌, cond, Bool, true, false, List, [], ◌∷◌, ◌++◌, length, get_or, set, refl, sym, ◌∙◌, ap, subst, arith, ◌⊎◌, inl, inr, map, lt_of_not-le}
+use Rattle.std.proofs.Common.{◌≡◌, ℕ, zero, suc, ◌+◌, ◌≤◌, cond, Bool, true, false, List, [], ◌∷◌, ◌++◌, length, set, refl, sym, ◌∙◌, ap, subst, arith, ◌⊎◌, inl, inr, map, lt_of_not-le}
 use Rattle.std.specs.Prelude.{Option, Some, None, option_map}
 use Rattle.std.specs.List.{sum_by}
 use Rattle.std.proofs.lemmas.List.Sums.{sum_by-append, sum_by-cons}
@@ -10,14 +10,14 @@ use Rattle.lid_station.specs.Boards.{fill, drain}
 use Rattle.lid_board.specs.Owners.{IsOwned}
 use Rattle.lid_board.specs.Parting.{unseen, or_else, left_from, right_from, merged}
 use Rattle.lid_board.specs.Relation.{Kept, Related, IsPlanned, first_word}
-use Rattle.lid_board.specs.Views.{Ends, at, held, held_of, has, one_of}
+use Rattle.lid_board.specs.Views.{Ends, at, held, has, one_of}
 use Rattle.lid_board.specs.declared.view.Held.{Held}
 use Rattle.lid_board.specs.declared.view.View.{View}
-use Rattle.lid_board.proofs.FrameLemmas.{sum-set, sum-one, sum-two}
+use Rattle.lid_board.proofs.FrameLemmas.{sum-set, sum-two}
 use Rattle.lid_board.proofs.StationLemmas.{kept-unseen_in, kept-unseen_out}
 use mathlib.Core.Option.{some}
 use mathlib.Core.Logic.{dite}
-use native.Mathlib.Decide.{ℕ_discrete, dec_le}
+use native.Mathlib.Decide.{dec_le}
 use lib.ListN.{get_elem?}
 
 none-either : (b : Bool) → ◌≡◌ {A = Option Held} None (cond b None None)
@@ -109,13 +109,13 @@ module _ {S : Type 0} (plan : Ends) where
       let truth : ℕ → Held = λ k. let_go (chosen k) (r.truth k) in
       let counts : (k : ℕ) → sum_by (has k) (set st.views id left ++ right ∷ []) ≡ sum_by (has k) st.views =
       λ k. (
-        let a = sum_by-append (has k) (set st.views id left) (right ∷ []) in
-        let b = sum_by-cons (has k) right [] in
-        let c = sum-set (has k) st.views id v left here in
-        let d : has k left ≡ one_of (cond (chosen k) None (at v.ends k)) = ap one_of (at-left chosen v.ends k) in
-        let e : has k right ≡ one_of (cond (chosen k) (option_map unseen (at v.ends k)) None) = ap one_of (at-right chosen v.ends k) in
-        let f = part-one (chosen k) (at v.ends k) in
-        omega arith) in
+      let a = sum_by-append (has k) (set st.views id left) (right ∷ []) in
+      let b = sum_by-cons (has k) right [] in
+      let c = sum-set (has k) st.views id v left here in
+      let d : has k left ≡ one_of (cond (chosen k) None (at v.ends k)) = ap one_of (at-left chosen v.ends k) in
+      let e : has k right ≡ one_of (cond (chosen k) (option_map unseen (at v.ends k)) None) = ap one_of (at-right chosen v.ends k) in
+      let f = part-one (chosen k) (at v.ends k) in
+      omega arith) in
       record {
         truth = truth;
         stations = r.stations;
@@ -192,12 +192,12 @@ module _ {S : Type 0} (plan : Ends) where
       let rests : (k : ℕ) → Rests (r.truth k) (truth k) = λ k. gone_or-rests (at w.ends k) (r.truth k) (λ h e. r.agree other w k h there e) in
       let counts : (k : ℕ) → sum_by (has k) (set (set st.views id both) other spent) ≡ sum_by (has k) st.views =
       λ k. (
-        let a = sum-set (has k) st.views id v both here in
-        let b = sum-set (has k) (set st.views id both) other w spent there_both in
-        let c : has k both ≡ one_of (or_else (at v.ends k) (option_map unseen (at w.ends k))) = ap one_of (at-merged v.ends w.ends k) in
-        let d = merge-one (at v.ends k) (at w.ends k) (few k) in
-        let e : has k spent ≡ 0 = refl in
-        omega arith) in
+      let a = sum-set (has k) st.views id v both here in
+      let b = sum-set (has k) (set st.views id both) other w spent there_both in
+      let c : has k both ≡ one_of (or_else (at v.ends k) (option_map unseen (at w.ends k))) = ap one_of (at-merged v.ends w.ends k) in
+      let d = merge-one (at v.ends k) (at w.ends k) (few k) in
+      let e : has k spent ≡ 0 = refl in
+      omega arith) in
       record {
         truth = truth;
         stations = r.stations;

@@ -1,5 +1,5 @@
 -- What a load finds in the word of the next token of an end.
-use Rattle.std.proofs.Common.{◌≡◌, ℕ, ◌+◌, ◌-◌, ◌*◌, ◌/◌, ◌%◌, ◌^◌, ◌<◌, ◌≤◌, true, List, length, get_or, take, set, refl, sym, ◌∙◌, ap, subst, arith}
+use Rattle.std.proofs.Common.{◌≡◌, ℕ, ◌+◌, ◌-◌, ◌/◌, ◌%◌, ◌<◌, ◌≤◌, List, length, get_or, take, set, sym, ◌∙◌, ap, subst, arith}
 use Rattle.std.specs.Prelude.{bit_and, bit_or, Some, slice_get}
 use Rattle.std.proofs.lemmas.List.{set-get_or}
 use Rattle.std.proofs.lemmas.List.Elements.{All-get_or}
@@ -7,7 +7,7 @@ use Rattle.std.proofs.lemmas.Option.{slice_get-get_or, slice_get_within, get_or_
 use Rattle.lid_station.specs.Words.{half_of, word, word_number}
 use Rattle.lid_station.proofs.WordLemmas.{word-nothing}
 use Rattle.lid_board.specs.Halves.{shown, others, filling}
-use Rattle.lid_board.specs.Relation.{Kept, words_of}
+use Rattle.lid_board.specs.Relation.{Kept}
 use Rattle.lid_board.specs.Told.{ShowsNext}
 use Rattle.lid_board.specs.Views.{passing}
 use Rattle.lid_board.specs.declared.view.Held.{Held}

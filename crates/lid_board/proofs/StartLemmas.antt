@@ -1,13 +1,12 @@
 -- A board at its start.
-use Rattle.std.proofs.Common.{◌≡◌, ℕ, zero, suc, ◌+◌, ◌-◌, ◌*◌, ◌/◌, ◌%◌, ◌^◌, ◌<◌, ◌≤◌, true, List, [], ◌∷◌, ◌++◌, length, get_or, take, refl, sym, ◌∙◌, ap, subst, arith, lt_of_not-le, length-append}
+use Rattle.std.proofs.Common.{◌≡◌, ℕ, zero, suc, ◌+◌, ◌-◌, ◌*◌, ◌/◌, ◌%◌, ◌^◌, ◌<◌, ◌≤◌, List, [], ◌∷◌, ◌++◌, length, get_or, take, refl, sym, ◌∙◌, ap, subst, arith, length-append}
 use Rattle.std.specs.Prelude.{Option, Some, None, option_map, slice_get, bit_or}
-use Rattle.std.specs.List.{All, sum_by}
+use Rattle.std.specs.List.{All}
 use Rattle.std.proofs.lemmas.List.{get_or_append_left, get_or-append_right, get_or_past}
 use Rattle.std.proofs.lemmas.List.Elements.{All-get_or}
 use Rattle.std.proofs.lemmas.List.Sums.{sum_by-cons}
 use Rattle.std.proofs.lemmas.Option.{same_Some, slice_get_within, get_or_from_slice_get, slice_get-get_or}
 use Rattle.atomic_table.specs.Seated.{TableId}
-use Rattle.atomic_table.specs.Table.{State}
 use Rattle.lid_station.specs.Boards.{fill, drain}
 use Rattle.lid_station.specs.Starts.{start_count}
 use Rattle.lid_station.specs.Words.{word}
@@ -235,15 +234,24 @@ module _ (firsts : List (Option ℕ)) (caps : List ℕ) (streams : List (List �
         let one = count-one first in
         let spot = plan-first station (omega arith) in
         record {
-          stream = refl; cap = refl; start = refl; two = cap_two;
+          stream = refl;
+          cap = refl;
+          start = refl;
+          two = cap_two;
           few = All-get_or (λ (c : ℕ). c ≤ 16) caps station 0 (omega arith) most;
           small = stream_small;
           short = All-get_or (λ (s : List ℕ). length s < 2 ^ 64) streams station [] (omega arith) begins.short;
-          within = le; ordered = omega arith; room = omega arith; started = omega arith;
+          within = le;
+          ordered = omega arith;
+          room = omega arith;
+          started = omega arith;
           shows = λ number inside.
               ap (λ (n : ℕ). get_or words (n + number) 0) spot
               ∙ start-shows first cap stream words (first_of caps station) cap_two stream_small begin (laid.first station there) (λ k below. laid.rest station k there below) number inside;
-          token_seen = λ e. absurd (cc); room_seen = λ e. absurd (cc); token_early = λ e. refl; room_early = λ e. refl;
+          token_seen = λ e. absurd (cc);
+          room_seen = λ e. absurd (cc);
+          token_early = λ e. refl;
+          room_early = λ e. refl;
         }
 
     -- the board is related to the plan at its start

@@ -1,23 +1,21 @@
 -- The four steps of a hand at an end, as its seat makes them.
-use Rattle.std.proofs.Common.{◌≡◌, ℕ, zero, suc, ◌+◌, ◌-◌, ◌*◌, ◌/◌, ◌%◌, ◌^◌, ◌<◌, ◌≤◌, true, List, length, get_or, take, set, refl, sym, ◌∙◌, ap, subst, arith, lt_of_not-le, Bool, cond, eq-eqb, ne_eqb}
+use Rattle.std.proofs.Common.{◌≡◌, ℕ, ◌+◌, ◌/◌, ◌%◌, ◌<◌, true, List, length, get_or, refl, sym, ◌∙◌, ap, subst, arith, lt_of_not-le, Bool, cond, eq-eqb, ne_eqb}
 use Rattle.std.specs.Prelude.{bit_and, bit_or, Some, slice_get}
 use Rattle.atomic_table.specs.Table.{State, Me, Allows, keeps}
 use Rattle.atomic_table.proofs.Lists.{set_here}
 use Rattle.std.proofs.lemmas.Option.{slice_get_within}
 use Rattle.lid_station.specs.Boards.{fill, drain}
 use Rattle.lid_board.specs.Halves.{shown, others, filling}
-use Rattle.lid_board.specs.Relation.{Kept, Related, IsPlanned, words_of, first_word, cap_of, stream_of}
-use Rattle.lid_board.specs.Told.{IsRight, FoundVoid, FoundStop, LooksIn, LooksOut, Takes, Puts, ShowsNext}
-use Rattle.lid_board.specs.Views.{Ends, at, held, changed, seen, missing, passing}
+use Rattle.lid_board.specs.Relation.{Kept, Related, words_of, first_word, cap_of, stream_of}
+use Rattle.lid_board.specs.Told.{LooksIn, LooksOut, Takes, Puts, ShowsNext}
+use Rattle.lid_board.specs.Views.{Ends, at, changed, seen, missing, passing}
 use Rattle.lid_board.specs.declared.view.Held.{Held}
 use Rattle.lid_board.specs.declared.view.View.{View}
 use Rattle.lid_board.proofs.FrameLemmas.{end-within, is-early, steps-in, steps-out, view-within, apart}
 use Rattle.lid_board.proofs.ReadLemmas.{reads-void, reads-token, reads-room, reads-full, reads-stop, kept-load, kept-taken_at, kept-put_at}
 use Rattle.lid_board.proofs.StationLemmas.{kept-token, kept-void, kept-room, kept-stop, place-within}
-use mathlib.Core.Option.{some}
 use mathlib.Core.Logic.{dite}
 use native.Mathlib.Decide.{dec_le, ℕ_discrete}
-use lib.ListN.{get_elem?}
 
 -- what a hand that has an end of a station knows of it, in a board that is related to its plan
 record Known {S : Type 0} (plan : Ends) (st : State S View) (r : Related plan st) (station : ℕ) : Type 0 where
@@ -64,24 +62,40 @@ module _ {S : Type 0} (plan : Ends) (slots id place : ℕ) (me : Me S View) (sta
       let nothing = reads-void st.words first f d place kept place_f none in
       let zero_half : shown place found ≡ 0 = ap (shown place) nothing ∙ shown-zero place in
       let next = steps-in plan st st.homes id me.0 station (place / 2) found d (missing d) r here is record { stream = refl; start = refl; cap = refl } inside
-      (kept-load st.words first f d (first + place / 2) f (missing d) (kept-void st.words first f d kept none)) in
-      (record { ends = changed me.0.ends (drain station) (missing d) }, keeps, tt, next, (refl, record {
-        right = record { stream = kept.stream ∙ k.stream; cap = kept.cap ∙ k.cap; early = is-early plan _ id _ next (set_here st.views id _ seat) };
-        void = λ _. record { now = refl; nothing = nothing; unseen = λ mark. (let some = kept.token_seen mark in omega arith) };
-        token = λ some. absurd (some zero_half);
-        exact = λ g at_g. (let e = ap (λ (y : Held). y.passed) (own g at_g) in let o = kept.ordered in ((λ _. omega arith), (λ _. zero_half)));
-      })))
+      (kept-load st.words first f d (first + place / 2) f (missing d) (kept-void st.words first f d kept none)) in (
+        record { ends = changed me.0.ends (drain station) (missing d) },
+        keeps,
+        tt,
+        next,
+        (
+          refl,
+          record {
+            right = record { stream = kept.stream ∙ k.stream; cap = kept.cap ∙ k.cap; early = is-early plan _ id _ next (set_here st.views id _ seat) };
+            void = λ _. record { now = refl; nothing = nothing; unseen = λ mark. (let some = kept.token_seen mark in omega arith) };
+            token = λ some. absurd (some zero_half);
+            exact = λ g at_g. (let e = ap (λ (y : Held). y.passed) (own g at_g) in let o = kept.ordered in ((λ _. omega arith), (λ _. zero_half)));
+          },
+        ),
+      ))
       (λ more.
       let some : d.passed < f.passed = lt_of_not-le more in
       let shows : ShowsNext d (shown place found) = reads-token st.words first f d place kept place_f some in
       let next = steps-in plan st st.homes id me.0 station (place / 2) found d (seen d) r here is record { stream = refl; start = refl; cap = refl } inside
-      (kept-load st.words first f d (first + place / 2) f (seen d) (kept-token st.words first f d kept some)) in
-      (record { ends = changed me.0.ends (drain station) (seen d) }, keeps, tt, next, (refl, record {
-        right = record { stream = kept.stream ∙ k.stream; cap = kept.cap ∙ k.cap; early = is-early plan _ id _ next (set_here st.views id _ seat) };
-        void = λ none. (let least = shows.least in absurd (omega arith));
-        token = λ _. (refl, shows);
-        exact = λ g at_g. (let e = ap (λ (y : Held). y.passed) (own g at_g) in let least = shows.least in ((λ none. omega arith), (λ same. absurd (omega arith))));
-      })))
+      (kept-load st.words first f d (first + place / 2) f (seen d) (kept-token st.words first f d kept some)) in (
+        record { ends = changed me.0.ends (drain station) (seen d) },
+        keeps,
+        tt,
+        next,
+        (
+          refl,
+          record {
+            right = record { stream = kept.stream ∙ k.stream; cap = kept.cap ∙ k.cap; early = is-early plan _ id _ next (set_here st.views id _ seat) };
+            void = λ none. (let least = shows.least in absurd (omega arith));
+            token = λ _. (refl, shows);
+            exact = λ g at_g. (let e = ap (λ (y : Held). y.passed) (own g at_g) in let least = shows.least in ((λ none. omega arith), (λ same. absurd (omega arith))));
+          },
+        ),
+      ))
 
   pub looks_out : (f : Held) → at me.0.ends (fill station) ≡ Some f → place ≡ f.passed % cap_of plan station
       → Allows (Related plan) slots id me (first_word plan station + place / 2) (λ n. n) (λ r w. (w.1 ≡ me.1) × LooksOut plan me.0.ends station place f r w.0.ends)
@@ -102,24 +116,40 @@ module _ {S : Type 0} (plan : Ends) (slots id place : ℕ) (me : Me S View) (sta
       (λ full.
       let least = reads-full st.words first f d place kept place_f full in
       let next = steps-out plan st st.homes id me.0 station (place / 2) found f (missing f) r here is record { stream = refl; start = refl; cap = refl } inside
-      (kept-load st.words first f d (first + place / 2) (missing f) d (kept-stop st.words first f d kept full)) in
-      (record { ends = changed me.0.ends (fill station) (missing f) }, keeps, tt, next, (refl, record {
-        right = record { stream = stream; cap = cap; early = is-early plan _ id _ next (set_here st.views id _ seat) };
-        room = λ none. absurd (omega arith);
-        stop = λ _. record { now = refl; unseen = λ mark. (let some = kept.room_seen mark in omega arith); filled = omega arith; full = reads-stop st.words first f d place kept place_f full };
-        exact = λ g at_g. (let e = ap (λ (y : Held). y.passed) (own g at_g) in let o = kept.room in ((λ _. omega arith), (λ _ none. omega arith)));
-      })))
+      (kept-load st.words first f d (first + place / 2) (missing f) d (kept-stop st.words first f d kept full)) in (
+        record { ends = changed me.0.ends (fill station) (missing f) },
+        keeps,
+        tt,
+        next,
+        (
+          refl,
+          record {
+            right = record { stream = stream; cap = cap; early = is-early plan _ id _ next (set_here st.views id _ seat) };
+            room = λ none. absurd (omega arith);
+            stop = λ _. record { now = refl; unseen = λ mark. (let some = kept.room_seen mark in omega arith); filled = omega arith; full = reads-stop st.words first f d place kept place_f full };
+            exact = λ g at_g. (let e = ap (λ (y : Held). y.passed) (own g at_g) in let o = kept.room in ((λ _. omega arith), (λ _ none. omega arith)));
+          },
+        ),
+      ))
       (λ more.
       let some : f.passed < d.passed + f.cap = lt_of_not-le more in
       let zero_half : shown place found ≡ 0 = reads-room st.words first f d place kept place_f some in
       let next = steps-out plan st st.homes id me.0 station (place / 2) found f (seen f) r here is record { stream = refl; start = refl; cap = refl } inside
-      (kept-load st.words first f d (first + place / 2) (seen f) d (kept-room st.words first f d kept some)) in
-      (record { ends = changed me.0.ends (fill station) (seen f) }, keeps, tt, next, (refl, record {
-        right = record { stream = stream; cap = cap; early = is-early plan _ id _ next (set_here st.views id _ seat) };
-        room = λ _. refl;
-        stop = λ full. absurd (full zero_half);
-        exact = λ g at_g. (let e = ap (λ (y : Held). y.passed) (own g at_g) in ((λ full. absurd (full zero_half)), (λ same _. omega arith)));
-      })))
+      (kept-load st.words first f d (first + place / 2) (seen f) d (kept-room st.words first f d kept some)) in (
+        record { ends = changed me.0.ends (fill station) (seen f) },
+        keeps,
+        tt,
+        next,
+        (
+          refl,
+          record {
+            right = record { stream = stream; cap = cap; early = is-early plan _ id _ next (set_here st.views id _ seat) };
+            room = λ _. refl;
+            stop = λ full. absurd (full zero_half);
+            exact = λ g at_g. (let e = ap (λ (y : Held). y.passed) (own g at_g) in ((λ full. absurd (full zero_half)), (λ same _. omega arith)));
+          },
+        ),
+      ))
 
   pub takes : (d : Held) → at me.0.ends (drain station) ≡ Some d → place ≡ d.passed % cap_of plan station → d.mark ≡ true
       → Allows (Related plan) slots id me (first_word plan station + place / 2) (λ n. bit_and n (others place)) (λ r w. (w.1 ≡ me.1) × Takes plan me.0.ends station place d r w.0.ends)
@@ -139,13 +169,21 @@ module _ {S : Type 0} (plan : Ends) (slots id place : ℕ) (me : Me S View) (sta
       let short = kept.short in
       let spot = word-within plan st r station (place / 2) k.there inside in
       let next = steps-in plan st st.homes id me.0 station (place / 2) (bit_and found (others place)) d (passing d) r here is record { stream = refl; start = refl; cap = refl } inside
-      (kept-taken_at st.words first f d place kept place_f some spot) in
-      (record { ends = changed me.0.ends (drain station) (passing d) }, keeps, tt, next, (refl, record {
-        right = record { stream = kept.stream ∙ k.stream; cap = kept.cap ∙ k.cap; early = is-early plan _ id _ next (set_here st.views id _ seat) };
-        now = refl;
-        token = shows;
-        counted = omega arith;
-      }))
+      (kept-taken_at st.words first f d place kept place_f some spot) in (
+        record { ends = changed me.0.ends (drain station) (passing d) },
+        keeps,
+        tt,
+        next,
+        (
+          refl,
+          record {
+            right = record { stream = kept.stream ∙ k.stream; cap = kept.cap ∙ k.cap; early = is-early plan _ id _ next (set_here st.views id _ seat) };
+            now = refl;
+            token = shows;
+            counted = omega arith;
+          },
+        ),
+      )
 
   pub puts : (f : Held) (token : ℕ) → at me.0.ends (fill station) ≡ Some f → place ≡ f.passed % cap_of plan station → f.mark ≡ true → slice_get (stream_of plan station) f.passed ≡ Some token
       → Allows (Related plan) slots id me (first_word plan station + place / 2) (λ n. bit_or n (filling place token)) (λ r w. (w.1 ≡ me.1) × Puts plan me.0.ends station f w.0.ends)
@@ -167,12 +205,20 @@ module _ {S : Type 0} (plan : Ends) (slots id place : ℕ) (me : Me S View) (sta
       let short = kept.short in
       let spot = word-within plan st r station (place / 2) k.there inside in
       let next = steps-out plan st st.homes id me.0 station (place / 2) (bit_or found (filling place token)) f (passing f) r here is record { stream = refl; start = refl; cap = refl } inside
-      (kept-put_at st.words first f d place token kept place_f some token_is spot) in
-      (record { ends = changed me.0.ends (fill station) (passing f) }, keeps, tt, next, (refl, record {
-        right = record { stream = stream; cap = cap; early = is-early plan _ id _ next (set_here st.views id _ seat) };
-        now = refl;
-        counted = omega arith;
-      }))
+      (kept-put_at st.words first f d place token kept place_f some token_is spot) in (
+        record { ends = changed me.0.ends (fill station) (passing f) },
+        keeps,
+        tt,
+        next,
+        (
+          refl,
+          record {
+            right = record { stream = stream; cap = cap; early = is-early plan _ id _ next (set_here st.views id _ seat) };
+            now = refl;
+            counted = omega arith;
+          },
+        ),
+      )
 
 -- the same steps at a word that is known to be the one of the place
 module _ {S : Type 0} (plan : Ends) (slots id place : ℕ) (me : Me S View) (station word : ℕ) (same : word ≡ first_word plan station + place / 2) where

@@ -1,15 +1,14 @@
 -- What is known of a hand once code over any stations gives it back.
-use Rattle.std.proofs.Common.{◌≡◌, ℕ, ◌*◌, ◌^◌, ◌<◌, List, [], ◌∷◌, length, get_or, replicate, refl, sym, ◌∙◌, ap, subst, arith}
+use Rattle.std.proofs.Common.{◌≡◌, ℕ, ◌*◌, ◌^◌, ◌<◌, List, [], length, get_or, replicate, refl, sym, ◌∙◌, ap, subst, arith}
 use Rattle.std.specs.Prelude.{Option, Some, None, option_map, slice_get}
 use Rattle.std.specs.List.{All}
 use Rattle.std.proofs.lemmas.List.{get_or-replicate, length-replicate}
 use Rattle.std.proofs.lemmas.List.Elements.{All-replicate}
-use Rattle.std.proofs.lemmas.Option.{same_Some, slice_get_within, slice_get-get_or, get_or_from_slice_get, slice_get_read}
-use base.Stored.{Gv, gnum, gcons}
+use Rattle.std.proofs.lemmas.Option.{same_Some, slice_get_within, get_or_from_slice_get, slice_get_read}
+use base.Stored.{gnum, gcons}
 use Rattle.atomic_table.specs.Seated.{TableId, table_id_coded}
-use Rattle.lid_station.specs.Boards.{Facts, fill}
+use Rattle.lid_station.specs.Boards.{Facts}
 use Rattle.lid_board.specs.Owners.{IsOf}
-use Rattle.lid_board.specs.Relation.{stream_of}
 use Rattle.lid_board.specs.Standing.{StandsFor}
 use Rattle.lid_board.specs.Starts.{Begins}
 use Rattle.lid_board.specs.Ties.{IsTied}

@@ -1,10 +1,10 @@
 -- What the numbers that a board and a hand keep are good for.
-use Rattle.std.proofs.Common.{◌≡◌, ℕ, zero, suc, ◌+◌, ◌*◌, ◌/◌, ◌%◌, ◌^◌, ◌<◌, ◌≤◌, List, [], ◌∷◌, length, get_or, set, refl, sym, ◌∙◌, ap, arith, length-set, get_or-set_same, get_or-set_other}
+use Rattle.std.proofs.Common.{◌≡◌, ℕ, zero, suc, ◌+◌, ◌*◌, ◌/◌, ◌%◌, ◌^◌, ◌<◌, List, [], ◌∷◌, length, get_or, set, refl, sym, ◌∙◌, ap, arith, get_or-set_same, get_or-set_other}
 use Rattle.std.specs.Prelude.{Option, Some, None, option_map}
 use Rattle.std.proofs.lemmas.Option.{get_or_from_slice_get, slice_get_read}
 use Rattle.atomic_table.specs.Seated.{TableId}
 use Rattle.lid_board.specs.Owners.{IsOwned}
-use Rattle.lid_board.specs.Relation.{first_word, cap_of, words_of}
+use Rattle.lid_board.specs.Relation.{cap_of, words_of}
 use Rattle.lid_board.specs.Ties.{IsTied, IsLaid}
 use Rattle.lid_board.specs.Views.{Ends, at, held, changed}
 use Rattle.lid_board.specs.declared.view.Held.{Held}

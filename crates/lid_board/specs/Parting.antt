@@ -1,10 +1,10 @@
 -- How ends go from hand to hand.
-use Rattle.std.specs.Prelude.{◌≡◌, ℕ, zero, suc, ◌+◌, ◌*◌, ◌==◌, ◌||◌, cond, Bool, true, false, List, [], ◌∷◌, map, Option, Some, None, option_map}
+use Rattle.std.specs.Prelude.{ℕ, suc, ◌==◌, ◌||◌, cond, Bool, false, List, [], ◌∷◌, map, Option, Some, None, option_map}
 use Rattle.lid_station.specs.Boards.{fill, drain}
 use Rattle.lid_station.specs.declared.looks.End.{End}
 use Rattle.lid_station.specs.declared.looks.Side.{Side}
 use Rattle.lid_station.specs.declared.looks.Side.TheVariants.{Fill, Drain}
-use Rattle.lid_board.specs.Views.{Ends, at}
+use Rattle.lid_board.specs.Views.{Ends}
 use Rattle.lid_board.specs.declared.view.Held.{Held}
 
 -- the number of a side's end of a station

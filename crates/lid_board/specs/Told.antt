@@ -1,5 +1,5 @@
 -- What a step tells the hand that makes it.
-use Rattle.std.specs.Prelude.{◌≡◌, ℕ, ◌+◌, ◌-◌, ◌^◌, ◌<◌, ◌≤◌, true, List, take, Some, slice_get}
+use Rattle.std.specs.Prelude.{◌≡◌, ℕ, ◌+◌, ◌-◌, ◌^◌, ◌<◌, ◌≤◌, true, take, Some, slice_get}
 use Rattle.lid_station.specs.Boards.{fill, drain}
 use Rattle.lid_station.specs.Words.{word, word_number}
 use Rattle.lid_board.specs.Halves.{shown}

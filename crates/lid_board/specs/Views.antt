@@ -1,6 +1,6 @@
 -- What is known at the ends of stations, by the numbers of the ends.
-use Rattle.std.specs.Prelude.{◌≡◌, ℕ, ◌+◌, ◌%◌, ◌<◌, ◌==◌, cond, Bool, true, false, List, [], Option, Some, None, option_map, slice_index_or, slice_set}
-use Rattle.lid_station.specs.Boards.{Facts, fill, drain}
+use Rattle.std.specs.Prelude.{◌≡◌, ℕ, ◌+◌, ◌%◌, ◌<◌, ◌==◌, cond, true, false, List, [], Option, Some, None, option_map, slice_index_or, slice_set}
+use Rattle.lid_station.specs.Boards.{Facts}
 use Rattle.lid_board.specs.declared.view.Held.{Held}
 use Rattle.lid_board.specs.declared.view.View.{View}
 

@@ -7,8 +7,8 @@ ghost use Rattle.lid_board.specs.Relation.{stream_of};
 ghost use Rattle.lid_board.specs.Views.{facts, facts_at, held};
 
 use crate::board::Board;
-use crate::hand::Hand;
 use crate::halves::{FULL, bits_beside, bits_of, half_at};
+use crate::hand::Hand;
 use crate::steps::{and_as, load_as, or_as};
 use lid_station::{InLook, OutLook};
 use std::marker::Brand;

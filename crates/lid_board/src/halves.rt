@@ -37,9 +37,5 @@ pub(crate) fn bits_of(place: u64, token: u32) -> u64
     ensures { result ≡ filling place token }
 {
     let half = FULL + u64::from(token);
-    if place % 2 == 0 {
-        half
-    } else {
-        HALF * half
-    }
+    if place % 2 == 0 { half } else { HALF * half }
 }

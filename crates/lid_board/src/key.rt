@@ -48,8 +48,11 @@ fn key_as<J: Sighting, C: Course>(
     ensures { IfOk result (λ seat. seat.me.0 ≡ J.sight) }
 {
     let words = [0u64];
-    let (table, _seat) =
-        Table::<(), View, (), Anything, Global>::of_words(alloc, words.as_slice(), &())?;
+    let (table, _seat) = Table::<(), View, (), Anything, Global>::of_words(
+        alloc,
+        words.as_slice(),
+        &(),
+    )?;
     Ok(table.shared.load_new_seat::<Sees<J>>(0).1)
 }
 

@@ -1,5 +1,6 @@
 ghost use Rattle.std.specs.Prelude.{◌≡◌, ℕ, ◌^◌, ◌<◌, ◌≤◌, List, [], ◌∷◌, replicate, IfSome, IsTrue, length};
 ghost use Rattle.std.specs.List.{All};
+ghost use Rattle.std.specs.Thread.{IsSync};
 ghost use Rattle.lid_board.specs.Owners.{IsOf, plan_of};
 ghost use Rattle.lid_board.specs.Parting.{end_number};
 ghost use Rattle.lid_board.specs.Standing.{StandsFor};
@@ -218,8 +219,13 @@ fn two_threads_share_a_station(rt: HostRuntime) -> Result<(), Fail> {
     let Some(drainer) = part(&board, &mut hand, end, 1) else {
         return Err(Fail::new("no part"));
     };
-    let (mut filler, (drainer, wrong)) =
-        relay(&rt, &board, hand, drainer, course.stream.as_slice());
+    let (mut filler, (drainer, wrong)) = relay(
+        &rt,
+        &board,
+        hand,
+        drainer,
+        course.stream.as_slice(),
+    );
     assert_eq!(rt; wrong, 0);
     board.join(&mut filler, drainer);
     for _token in 0..10 {
@@ -227,5 +233,185 @@ fn two_threads_share_a_station(rt: HostRuntime) -> Result<(), Fail> {
         let _look = receive(&board, &mut filler, 0);
     }
     assert_eq!(rt; receive(&board, &mut filler, 0), Some(InLook::Void(0)));
+    Ok(())
+}
+
+/// Whether there is room at a station for a token that the stream has.
+fn has_room(board: &Board, hand: &mut Hand, station: u32, stream: &[u32]) -> bool
+    requires { IsOf hand.old board.now }
+    ensures { IsOf hand.new board.now }
+{
+    let end = 2 * station as usize;
+    if end >= hand.ends.len() {
+        return false;
+    }
+    let Some(passed) = hand.ends[end] else {
+        return false;
+    };
+    if passed >= stream.len() as u64 {
+        return false;
+    }
+    let mut stations = Attended {
+        board,
+        hand: &mut *hand,
+    };
+    matches!(stations.look_out(station), OutLook::Room)
+}
+
+/// Carries a token from a station to another of the same stream so many times, where it can.
+fn carry_some(board: &Board, mut hand: Hand, from: u32, to: u32, stream: &[u32]) -> Hand
+    requires of { IsOf hand board.now }
+    requires stands { StandsFor (plan_of board.now) (λ _. stream.now) }
+    ensures { IsOf result board.now }
+{
+    for _try in 0..200 {
+        if has_room(board, &mut hand, to, stream) {
+            if let Some(InLook::Token(_)) = receive(board, &mut hand, from) {
+                let _look = offer(board, &mut hand, to, stream);
+            }
+        }
+    }
+    hand
+}
+
+/// Two threads carry tokens, one from `first` to `second`, one on to `third`.
+fn carry_two<R: Threads + Sync>(
+    rt: &R,
+    board: &Board,
+    one: Hand,
+    two: Hand,
+    first: u32,
+    second: u32,
+    third: u32,
+    stream: &[u32],
+) -> (Hand, Hand)
+    requires one { IsOf one board.now }
+    requires two { IsOf two board.now }
+    requires stands { StandsFor (plan_of board.now) (λ _. stream.now) }
+    ensures one { IsOf result.0 board.now }
+    ensures two { IsOf result.1 board.now }
+{
+    join(
+        rt,
+        move || -> Hand
+            requires { IsOf one board.now × StandsFor (plan_of board.now) (λ _. stream.now) }
+            ensures { IsOf result board.entry.now }
+        { carry_some(board, one, first, second, stream) },
+        move || -> Hand
+            requires { IsOf two board.now × StandsFor (plan_of board.now) (λ _. stream.now) }
+            ensures { IsOf result board.entry.now }
+        { carry_some(board, two, second, third, stream) },
+    )
+}
+
+/// Four threads carry tokens in a ring of stations 0 to 3.
+fn ring<R: Threads + Sync>(
+    rt: &R,
+    board: &Board,
+    one: Hand,
+    two: Hand,
+    three: Hand,
+    four: Hand,
+    stream: &[u32],
+) -> ((Hand, Hand), (Hand, Hand))
+    requires one { IsOf one board.now }
+    requires two { IsOf two board.now }
+    requires three { IsOf three board.now }
+    requires four { IsOf four board.now }
+    requires stands { StandsFor (plan_of board.now) (λ _. stream.now) }
+    ensures one { IsOf result.0.0 board.now }
+    ensures two { IsOf result.0.1 board.now }
+    ensures three { IsOf result.1.0 board.now }
+    ensures four { IsOf result.1.1 board.now }
+{
+    join(
+        rt,
+        move || -> (Hand, Hand)
+            requires { IsSync R.row × IsOf one board.now × IsOf two board.now × StandsFor (plan_of board.now) (λ _. stream.now) }
+            ensures { IsOf result.0 board.entry.now × IsOf result.1 board.entry.now }
+        { carry_two(rt, board, one, two, 0, 1, 2, stream) },
+        move || -> (Hand, Hand)
+            requires { IsSync R.row × IsOf three board.now × IsOf four board.now × StandsFor (plan_of board.now) (λ _. stream.now) }
+            ensures { IsOf result.0 board.entry.now × IsOf result.1 board.entry.now }
+        { carry_two(rt, board, three, four, 2, 3, 0, stream) },
+    )
+}
+
+/// The hand of a worker that drains a station and fills another.
+fn worker(board: &Board, hand: &mut Hand, from: u32, to: u32) -> Option<Hand>
+    requires of { IsOf hand.old board.now }
+    requires from { from < 2 ^ 31 }
+    requires to { to < 2 ^ 31 }
+    ensures of { IsOf hand.new board.now }
+    ensures worker { IfSome result (λ new. IsOf new board.now) }
+{
+    let drained = End {
+        station: from,
+        side: Side::Drain,
+    };
+    let filled = End {
+        station: to,
+        side: Side::Fill,
+    };
+    let Some(mut worker) = part(board, hand, drained, 2 * from as usize + 1) else {
+        return None;
+    };
+    let Some(other) = part(board, hand, filled, 2 * to as usize) else {
+        return None;
+    };
+    board.join(&mut worker, other);
+    Some(worker)
+}
+
+/// How many tokens a station holds, by a hand with both its ends.
+fn holds(hand: &Hand, station: usize) -> u64
+    requires { station < 2 ^ 32 }
+{
+    if 2 * station + 1 >= hand.ends.len() {
+        return 0;
+    }
+    let put = hand.ends[2 * station].unwrap_or(0);
+    let taken = hand.ends[2 * station + 1].unwrap_or(0);
+    put.saturating_sub(taken)
+}
+
+#[test]
+fn four_workers_share_a_ring(rt: HostRuntime) -> Result<(), Fail> {
+    let stream = vec![in rt.alloc(); 7; 40]?;
+    let course = Same {
+        stations: 4,
+        stream,
+    };
+    let Some((board, mut hand)) = start_same(rt.alloc(), 2, &course) else {
+        return Err(Fail::new("no board"));
+    };
+    let Some(one) = worker(&board, &mut hand, 0, 1) else {
+        return Err(Fail::new("no worker"));
+    };
+    let Some(two) = worker(&board, &mut hand, 1, 2) else {
+        return Err(Fail::new("no worker"));
+    };
+    let Some(three) = worker(&board, &mut hand, 2, 3) else {
+        return Err(Fail::new("no worker"));
+    };
+    let Some(four) = worker(&board, &mut hand, 3, 0) else {
+        return Err(Fail::new("no worker"));
+    };
+    let ((one, two), (three, four)) = ring(
+        &rt,
+        &board,
+        one,
+        two,
+        three,
+        four,
+        course.stream.as_slice(),
+    );
+    board.join(&mut hand, one);
+    board.join(&mut hand, two);
+    board.join(&mut hand, three);
+    board.join(&mut hand, four);
+    let half = holds(&hand, 0).saturating_add(holds(&hand, 1));
+    let rest = holds(&hand, 2).saturating_add(holds(&hand, 3));
+    assert_eq!(rt; half.saturating_add(rest), 4);
     Ok(())
 }

@@ -1,4 +1,4 @@
-use Rattle.std.proofs.Common.{◌≡◌, ℕ, cond, length, take, get_or, None}
+use Rattle.std.proofs.Common.{◌≡◌, ℕ, cond, take, get_or, None}
 use Rattle.lid_board.specs.Parting.{is_chosen}
 use Rattle.lid_board.proofs.parts.move_numbers.Given as goal
 

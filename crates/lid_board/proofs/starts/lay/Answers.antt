@@ -1,4 +1,4 @@
-use Rattle.std.proofs.Common.{ℕ, List, ◌+◌, ◌≤◌, refl, sym, ◌∙◌, subst, arith}
+use Rattle.std.proofs.Common.{ℕ, List, ◌+◌, ◌≤◌, refl, sym, subst, arith}
 use Rattle.std.proofs.lemmas.List.Elements.{All-get_or}
 use Rattle.lid_board.specs.Starts.{AreFirsts}
 use Rattle.lid_board.proofs.StartLemmas.{are-laid-more, are-firsts-more}

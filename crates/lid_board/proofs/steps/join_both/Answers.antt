@@ -1,6 +1,6 @@
 use Rattle.std.proofs.Common.{sym, ap, subst}
 use Rattle.atomic_table.specs.Table.{Me}
-use Rattle.lid_board.specs.Views.{Ends, IsEarly}
+use Rattle.lid_board.specs.Views.{IsEarly}
 use Rattle.lid_board.specs.declared.view.View.{View}
 use Rattle.lid_board.proofs.NumberLemmas.{early-merged}
 use Rattle.lid_board.proofs.PartLemmas.{joins}

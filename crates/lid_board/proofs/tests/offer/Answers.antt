@@ -1,6 +1,6 @@
-use Rattle.std.proofs.Common.{◌≡◌, ℕ, Some, refl, sym, ◌∙◌, ap, slice_get, arith}
+use Rattle.std.proofs.Common.{refl, ◌∙◌, ap, slice_get, arith}
 use Rattle.std.proofs.lemmas.Option.{slice_get-get_or}
-use Rattle.lid_station.specs.Boards.{Facts, fill, marked}
+use Rattle.lid_station.specs.Boards.{fill, marked}
 use Rattle.lid_station.proofs.BoardLemmas.{changed_here}
 use Rattle.lid_board.specs.Standing.{attended-next}
 use Rattle.lid_board.proofs.StillLemmas.{served-at, still-back}

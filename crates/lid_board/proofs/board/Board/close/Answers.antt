@@ -1,10 +1,8 @@
-use Rattle.std.proofs.Common.{rules, ℕ, ◌+◌, ◌*◌, List, length, refl, sym, ◌∙◌, ap, subst, arith}
-use Rattle.std.specs.Prelude.{Option, slice_get, slice_index}
-use Rattle.std.specs.Mem.Slots.{slots_items, slots_len}
+use Rattle.std.proofs.Common.{rules, List, length, refl, sym, ◌∙◌, ap, subst}
+use Rattle.std.specs.Prelude.{slice_get}
 use Rattle.std.proofs.lemmas.Option.{slice_get_within}
 use Rattle.lid_station.specs.Plain.{plain_ends, PlainStands}
 use Rattle.lid_station.specs.declared.pair.Pair.{Pair}
-use Rattle.lid_board.specs.Closing.{Restored, CanRestore, number_at}
 use Rattle.lid_board.specs.Owners.{plan_of}
 use Rattle.lid_board.proofs.CloseLemmas.{close-can, close-stands, close-ends, restored-as, can-as}
 use Rattle.lid_board.proofs.NumberLemmas.{written}

@@ -1,4 +1,4 @@
-use Rattle.std.proofs.Common.{◌∙◌, sym, refl, ap, arith}
+use Rattle.std.proofs.Common.{◌∙◌, sym, arith}
 use Rattle.lid_station.specs.Boards.{drain}
 use Rattle.lid_board.specs.Views.{held}
 use Rattle.lid_station.proofs.WordLemmas.{word-nothing}

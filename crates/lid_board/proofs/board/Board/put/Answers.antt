@@ -1,4 +1,3 @@
-use Rattle.std.proofs.Common.{◌∙◌}
 use Rattle.lid_station.specs.Boards.{fill}
 use Rattle.lid_board.specs.Views.{held}
 use Rattle.lid_board.proofs.StepLemmas.{puts_at}

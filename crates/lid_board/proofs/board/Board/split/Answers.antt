@@ -1,6 +1,6 @@
-use Rattle.std.proofs.Common.{rules, ◌≡◌, ℕ, cond, List, None, get_or, sym, ◌∙◌, ap, subst, arith}
+use Rattle.std.proofs.Common.{rules, ℕ, cond, List, None, get_or, sym, ◌∙◌, ap, subst}
 use Rattle.std.specs.Prelude.{Option}
-use Rattle.lid_board.specs.Parting.{is_chosen, left_from, right_from}
+use Rattle.lid_board.specs.Parting.{is_chosen}
 use Rattle.lid_board.specs.Ties.{IsTied}
 use Rattle.lid_board.specs.Views.{Ends, at}
 use Rattle.lid_board.proofs.NumberLemmas.{written, tied-left, tied-right}

@@ -1,4 +1,4 @@
-use Rattle.std.proofs.Common.{◌≡◌, ℕ, ◌+◌, ◌/◌, ◌%◌, ◌<◌, ◌^◌, ap, arith}
+use Rattle.std.proofs.Common.{◌≡◌, ℕ, ◌%◌, ap, arith}
 use Rattle.lid_board.proofs.TieLemmas.{station-within, spot-within}
 use Rattle.lid_board.proofs.board.Board.spot.Goals as goal
 

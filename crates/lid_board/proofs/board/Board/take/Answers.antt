@@ -1,4 +1,3 @@
-use Rattle.std.proofs.Common.{◌∙◌}
 use Rattle.lid_station.specs.Boards.{drain}
 use Rattle.lid_board.specs.Views.{held}
 use Rattle.lid_board.proofs.StepLemmas.{takes_at}
