@@ -106,7 +106,7 @@ fn receive(board: &Board, hand: &mut Hand, station: u32) -> Option<InLook>
 
 #[test]
 fn tells_the_words_of_a_full_station(rt: HostRuntime) -> Result<(), Fail> {
-    let stream = vec![in rt.alloc(); 5, 6, 7, 8]?;
+    let stream = vec![in rt.alloc(); 5, 6, 7, 8, 9]?;
     let course = Same {
         stations: 1,
         stream,
@@ -123,6 +123,10 @@ fn tells_the_words_of_a_full_station(rt: HostRuntime) -> Result<(), Fail> {
     );
     assert_eq!(rt; receive(&board, &mut hand, 0), Some(InLook::Token(5)));
     assert_eq!(rt; offer(&board, &mut hand, 0, stream), Some(OutLook::Room));
+    assert_eq!(rt;
+        offer(&board, &mut hand, 0, stream),
+        Some(OutLook::Stop(0x8000_0006_8000_0008))
+    );
     Ok(())
 }
 
