@@ -1,0 +1,12 @@
+pub mod CallLemmas
+pub mod CloseLemmas
+pub mod FrameLemmas
+pub mod HalfLemmas
+pub mod NumberLemmas
+pub mod PartLemmas
+pub mod ReadLemmas
+pub mod StartLemmas
+pub mod StationLemmas
+pub mod StepLemmas
+pub mod StillLemmas
+pub mod TieLemmas

@@ -1,0 +1,40 @@
+use Rattle.std.proofs.Common.{rules, ℕ, cond, List, None, get_or, sym, ◌∙◌, ap, subst}
+use Rattle.std.specs.Prelude.{Option}
+use Rattle.lid_board.specs.Parting.{is_chosen}
+use Rattle.lid_board.specs.Ties.{IsTied}
+use Rattle.lid_board.specs.Views.{Ends, at}
+use Rattle.lid_board.proofs.NumberLemmas.{written, tied-left, tied-right}
+use Rattle.lid_board.proofs.PartLemmas.{at-left, at-right}
+use Rattle.lid_board.proofs.board.Board.split.Goals as goal
+
+pub invariant_of-hand : goal.invariant_of-hand
+invariant_of-hand c = record {
+  tied =
+      subst (IsTied _) (sym c.split_as-seat.ensures.left)
+      (tied-left c.args.hand.now.ends.items _ c.args.hand.now.seat.me.0.ends (is_chosen c.args.ends.now) c.args.hand.now.tied
+      (λ k.
+      ap (λ (xs : List (Option ℕ)). get_or xs k None) (written c.move_numbers.new.from c.args.hand.now.ends.items c.args.hand.now.ends.len (search rules) (search rules))
+      ∙ c.move_numbers.ensures.from k
+      ∙ ap (λ (xs : List (Option ℕ)). cond (is_chosen c.args.ends.now k) None (get_or xs k None)) c.as_mut_slice.ensures.value));
+  early = (c.split_as-seat.ensures.early c.args.hand.now.early).0;
+  no_slot = c.split_as-seat.ensures.seat.1 ∙ c.args.hand.now.no_slot;
+}
+
+pub invariant_of-result : goal.invariant_of-result
+invariant_of-result c = record {
+  tied =
+      subst (IsTied _) (sym c.split_as-seat.ensures.right)
+      (tied-right c.args.hand.now.ends.items _ c.args.hand.now.seat.me.0.ends (is_chosen c.args.ends.now) c.args.hand.now.tied
+      (λ k.
+      ap (λ (xs : List (Option ℕ)). get_or xs k None) (written c.move_numbers.new.into c.in_ok-numbers.numbers.items c.in_ok-numbers.numbers.len (search rules) (search rules))
+      ∙ c.move_numbers.ensures.into k
+      ∙ ap (λ (xs : List (Option ℕ)). cond (is_chosen c.args.ends.now k) (get_or xs k None) None) c.as_mut_slice.ensures.value));
+  early = (c.split_as-seat.ensures.early c.args.hand.now.early).1;
+  no_slot = c.split_as-seat.ensures.seat.3;
+}
+
+pub returns-clause-kept : goal.returns-clause-kept
+returns-clause-kept c end = ap (λ (e : Ends). at e end) c.split_as-seat.ensures.left ∙ at-left (is_chosen c.args.ends.now) c.args.hand.now.seat.me.0.ends end
+
+pub returns-clause-given : goal.returns-clause-given
+returns-clause-given c end = ap (λ (e : Ends). at e end) c.split_as-seat.ensures.right ∙ at-right (is_chosen c.args.ends.now) c.args.hand.now.seat.me.0.ends end

@@ -1,0 +1,20 @@
+use Rattle.std.proofs.Common.{sym, ap, subst}
+use Rattle.atomic_table.specs.Table.{Me}
+use Rattle.lid_board.specs.Views.{IsEarly}
+use Rattle.lid_board.specs.declared.view.View.{View}
+use Rattle.lid_board.proofs.NumberLemmas.{early-left, early-right}
+use Rattle.lid_board.proofs.PartLemmas.{splits}
+use Rattle.lid_board.proofs.steps.split_as.Goals as goal
+
+pub split_seat-requires : goal.split_seat-requires
+split_seat-requires g c = (
+  c.requires.table,
+  c.requires.inside,
+  splits c.args.cells.now.key.me.0.ends c.args.seat.now.id c.args.seat.now.me.0 g.J.Choosing.chosen c.requires.owned,
+)
+
+pub returns-clause-early : goal.returns-clause-early
+returns-clause-early g c early = (
+  subst IsEarly (sym (ap (λ (m : Me (Unit {0}) View). m.0.ends) c.split_seat.ensures.2)) (early-left c.args.seat.now.me.0.ends g.J.Choosing.chosen early),
+  subst IsEarly (sym (ap (λ (m : Me (Unit {0}) View). m.0.ends) c.split_seat.ensures.4)) (early-right c.args.seat.now.me.0.ends g.J.Choosing.chosen early),
+)

@@ -1,0 +1,10 @@
+pub mod Closing
+pub mod Halves
+pub mod Owners
+pub mod Parting
+pub mod Relation
+pub mod Standing
+pub mod Starts
+pub mod Ties
+pub mod Told
+pub mod Views

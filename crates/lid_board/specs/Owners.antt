@@ -1,0 +1,32 @@
+-- Hands and their boards.
+use Rattle.std.specs.Prelude.{◌≡◌, ℕ, ◌+◌, ◌*◌, ◌/◌, ◌%◌, length, Some}
+use Rattle.lid_board.specs.Relation.{first_word, cap_of}
+use Rattle.lid_board.specs.Views.{Ends, at, held}
+use Rattle.lid_board.specs.declared.board.Board.{Board}
+use Rattle.lid_board.specs.declared.calls.Spot.{Spot}
+use Rattle.lid_board.specs.declared.hand.Hand.{Hand}
+use Rattle.lid_board.specs.declared.view.Held.{Held}
+
+-- what is known at the ends that a hand owns
+abbrev pub ends_of : Hand → Ends
+ends_of hand = hand.seat.me.0.ends
+
+-- what was known at the ends of a board at its start: the streams, start counts and capacities,
+-- which never change
+abbrev pub plan_of : Board → Ends
+plan_of board = board.table.shared.key.me.0.ends
+
+-- whether a hand is one of a board
+pub record IsOf (hand : Hand) (board : Board) : Type 0 where
+  pub table : hand.seat.table_id ≡ board.table.shared.table_id
+  pub room : length hand.ends.items ≡ 2 * length board.caps.items
+
+-- whether an end is among these
+abbrev pub IsOwned : Ends → ℕ → Type 0
+IsOwned ends end = at ends end ≡ Some (held ends end)
+
+-- where the next token of an end is: its place, and the word of that place
+pub record IsSpot (plan : Ends) (station : ℕ) (h : Held) (spot : Spot) : Type 0 where
+  pub passed : spot.passed ≡ h.passed
+  pub place : spot.place ≡ h.passed % cap_of plan station
+  pub word : spot.word ≡ first_word plan station + spot.place / 2

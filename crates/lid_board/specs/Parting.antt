@@ -1,0 +1,47 @@
+-- How ends go from hand to hand.
+use Rattle.std.specs.Prelude.{ℕ, suc, ◌==◌, ◌||◌, cond, Bool, false, List, [], ◌∷◌, map, Option, Some, None, option_map}
+use Rattle.lid_station.specs.Boards.{fill, drain}
+use Rattle.lid_station.specs.declared.looks.End.{End}
+use Rattle.lid_station.specs.declared.looks.Side.{Side}
+use Rattle.lid_station.specs.declared.looks.Side.TheVariants.{Fill, Drain}
+use Rattle.lid_board.specs.Views.{Ends}
+use Rattle.lid_board.specs.declared.view.Held.{Held}
+
+-- the number of a side's end of a station
+abbrev pub side_number : Side → ℕ → ℕ
+side_number Fill station = fill station
+side_number Drain station = drain station
+
+-- the number of an end
+abbrev pub end_number : End → ℕ
+end_number end = side_number end.side end.station
+
+-- whether an end is among these
+abbrev pub is_chosen : List End → ℕ → Bool
+is_chosen [] end = false
+is_chosen (e ∷ es) end = (end_number e == end) || is_chosen es end
+
+-- what was seen is not seen any more
+abbrev pub unseen : Held → Held
+unseen h = record h { mark = false }
+
+-- the first that is there
+abbrev pub or_else : {A : Type 0} → Option A → Option A → Option A
+or_else None o = o
+or_else (Some x) o = Some x
+
+-- the ends that stay, numbered from `end` on
+abbrev pub left_from : (ℕ → Bool) → ℕ → Ends → Ends
+left_from chosen end [] = []
+left_from chosen end (o ∷ os) = cond (chosen end) None o ∷ left_from chosen (suc end) os
+
+-- the ends that go, with nothing seen
+abbrev pub right_from : (ℕ → Bool) → ℕ → Ends → Ends
+right_from chosen end [] = []
+right_from chosen end (o ∷ os) = cond (chosen end) (option_map unseen o) None ∷ right_from chosen (suc end) os
+
+-- two hands' ends, with nothing seen at those of the second
+abbrev pub merged : Ends → Ends → Ends
+merged [] others = map (option_map unseen) others
+merged (o ∷ os) [] = o ∷ os
+merged (o ∷ os) (x ∷ xs) = or_else o (option_map unseen x) ∷ merged os xs

@@ -1,0 +1,47 @@
+-- Which streams a hand at its board stands for, and which tokens it may put.
+use Rattle.std.proofs.Common.{◌≡◌, ℕ, zero, suc, ◌<◌, List, [], ◌∷◌, length, get_or, refl, sym, ◌∙◌, ap, arith}
+use Rattle.std.specs.Prelude.{Option, Some, None, option_map, slice_get}
+use Rattle.std.proofs.lemmas.Option.{same_Some}
+use Rattle.lid_station.specs.Boards.{Facts, fill}
+use Rattle.lid_board.specs.Owners.{IsOf, ends_of, plan_of}
+use Rattle.lid_board.specs.Relation.{stream_of}
+use Rattle.lid_board.specs.Views.{Ends, at, facts, facts_at}
+use Rattle.lid_board.specs.declared.board.Board.{Board}
+use Rattle.lid_board.specs.declared.hand.Hand.{Hand}
+use Rattle.lid_board.specs.declared.view.Held.{Held}
+
+-- whether these are the streams of a board, for each of its stations
+abbrev pub StandsFor : Ends → (ℕ → List ℕ) → Type 0
+StandsFor plan streams = (station : ℕ) → fill station < length plan → stream_of plan station ≡ streams station
+
+-- whether a token is the next of the board's stream at the filled end of a station
+abbrev pub Admits : Ends → Ends → ℕ → ℕ → Type 0
+Admits plan ends station token =
+    (f : Facts) → facts_at ends (fill station) ≡ Some f → slice_get (stream_of plan station) f.passed ≡ Some token
+
+option-there : {A : Type 0} (xs : List (Option A)) (i : ℕ) (x : A) → get_or xs i None ≡ Some x → i < length xs
+option-there [] i x e = absurd (cc)
+option-there (y ∷ ys) zero x e = omega arith
+option-there (y ∷ ys) (suc i) x e = let l = option-there ys i x e in omega arith
+
+passed-there : (o : Option Held) (f : Facts) → option_map facts o ≡ Some f → (n : ℕ) × (option_map (λ (h : Held). h.passed) o ≡ Some n)
+passed-there None f e = absurd (cc)
+passed-there (Some h) f e = (h.passed, refl)
+
+-- an end of a hand is one of its board
+pub served-within : (board : Board) (hand : Hand) (end : ℕ) (f : Facts) → IsOf hand board → facts_at (ends_of hand) end ≡ Some f → end < length (plan_of board)
+served-within board hand end f of served =
+    let number = passed-there (at (ends_of hand) end) f served in
+    let inside = option-there hand.ends.items end number.0 (hand.tied end ∙ number.1) in
+    let room = of.room in
+    let ends = board.laid.ends in
+    omega arith
+
+-- the next token of the stream of a board's station is admitted
+pub attended-next : (board : Board) (hand : Hand) (of : IsOf hand board) (streams : ℕ → List ℕ) (station token : ℕ) (f : Facts)
+    → StandsFor (plan_of board) streams → facts_at (ends_of hand) (fill station) ≡ Some f → slice_get (streams station) f.passed ≡ Some token → Admits (plan_of board) (ends_of hand) station token
+attended-next board hand of streams station token f stands served next g at_g =
+    let same : g ≡ f = same_Some g f (sym at_g ∙ served) in
+    ap (λ (y : Facts). slice_get (stream_of (plan_of board) station) y.passed) same
+    ∙ ap (λ (s : List ℕ). slice_get s f.passed) (stands station (served-within board hand (fill station) f of served))
+    ∙ next

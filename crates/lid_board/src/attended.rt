@@ -1,0 +1,53 @@
+//! A hand at its board.
+
+ghost use Rattle.std.specs.Prelude.{◌≡◌, ◌*◌, length};
+ghost use base.Stored.{gnum, gcons};
+ghost use Rattle.atomic_table.specs.Seated.{table_id_coded};
+ghost use Rattle.lid_board.specs.Owners.{IsOf, ends_of, plan_of};
+ghost use Rattle.lid_board.specs.Standing.{StandsFor, Admits, attended-next};
+ghost use Rattle.lid_board.specs.Views.{facts_at};
+
+use crate::board::Board;
+use crate::hand::Hand;
+use lid_station::{InLook, OutLook, Stations};
+
+/// A hand at the board that it is of: stations of which the hand's ends are served.
+///
+/// It stands for the streams of the board alone, and a station admits the next token of its stream.
+/// Each call is one step on one word, and misses are counted.
+#[derive(Drop)]
+pub struct Attended<'b> {
+    /// The board.
+    pub board: &'b Board,
+    /// The hand, of that board.
+    pub hand: &'b mut Hand,
+    ghost of_board: { IsOf hand.now board.now },
+}
+
+impl<'b> Stations for Attended<'b> {
+    ghost ends = { λ a. facts_at (ends_of a.hand.now) };
+
+    ghost stands = { λ a. StandsFor (plan_of a.board.now) };
+
+    ghost admits = { λ a. Admits (plan_of a.board.now) (ends_of a.hand.now) };
+
+    ghost identity = { λ a. gcons (gnum a.hand.ghost_name) (gcons (gnum (length a.hand.now.ends.items)) (table_id_coded.code a.hand.now.seat.table_id)) };
+
+    fn look_in(&mut self, station: u32) -> InLook {
+        self.board.look_in(self.hand, station)
+    }
+
+    fn look_out(&mut self, station: u32) -> OutLook {
+        self.board.look_out(self.hand, station)
+    }
+
+    fn take(&mut self, station: u32) -> u32 {
+        self.board.take(self.hand, station)
+    }
+
+    fn put(&mut self, station: u32, token: u32) {
+        self.board.put(self.hand, station, token);
+    }
+
+    ghost next_is_admitted = { λ a. attended-next a.board.now a.hand.now a.of_board };
+}

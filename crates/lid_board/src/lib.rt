@@ -1,0 +1,24 @@
+//! A board of stations that threads step without a lock.
+#![tactic(auto)]
+
+mod attended;
+mod board;
+mod calls;
+mod closing;
+mod course;
+mod halves;
+mod hand;
+mod key;
+mod parts;
+mod starts;
+mod steps;
+#[cfg(test)]
+mod tests;
+mod view;
+
+pub use attended::Attended;
+pub use board::Board;
+pub use course::Course;
+pub use hand::Hand;
+pub use steps::Order;
+pub use view::{Held, View};

@@ -1,0 +1,124 @@
+//! How a board starts.
+
+ghost use Rattle.std.specs.Prelude.{◌≡◌, ℕ, ◌+◌, ◌*◌, ◌^◌, ◌<◌, ◌≤◌, List, length, Some, slice_index_or, IfSome, IfOk, OnOk, []};
+ghost use Rattle.std.specs.List.{All};
+ghost use Rattle.lid_station.specs.Boards.{fill, drain};
+ghost use Rattle.lid_board.specs.Owners.{IsOf, ends_of, plan_of};
+ghost use Rattle.lid_board.specs.Relation.{words_of};
+ghost use Rattle.lid_board.specs.Standing.{StandsFor};
+ghost use Rattle.lid_board.specs.Starts.{starts, start_fill, start_drain, start_word, Begins, AreLaid, AreFirsts, AreNumbers, HasLaid};
+ghost use Rattle.lid_board.specs.Views.{at};
+
+use crate::board::Board;
+use crate::course::Course;
+use crate::halves::FULL;
+use crate::hand::Hand;
+use crate::key::key_of;
+use atomic_table::Table;
+use std::alloc::{AllocError, Global};
+
+/// The words of a board, and the number of each station's first word.
+#[derive(Drop)]
+struct Laid {
+    words: Vec<u64>,
+    starts: Vec<usize>,
+}
+
+/// The first word of a station at its start.
+fn word_of(first: Option<u32>) -> u64
+    requires { IfSome first (λ token. token < 2 ^ 31) }
+    ensures { result ≡ start_word first }
+{
+    match first {
+        Some(token) => FULL + u64::from(token),
+        None => 0,
+    }
+}
+
+/// Adds the words of a station.
+fn lay_station(words: &mut Vec<u64>, word: u64, cap: u32) -> Result<(), AllocError>
+    requires two { 2 ≤ cap }
+    requires few { cap ≤ 16 }
+    ensures { OnOk result (HasLaid words.old.items word (words_of cap) words.new.items) }
+{
+    words.push(word)?;
+    for _number in 1..(cap + 1) / 2 {
+        words.push(0)?;
+    }
+    Ok(())
+}
+
+fn lay(alloc: Global, firsts: &[Option<u32>], caps: &[u32]) -> Result<Laid, AllocError>
+    requires same { length caps.now ≡ length firsts.now }
+    requires two { All (λ cap. 2 ≤ cap) caps.now }
+    requires few { All (λ cap. cap ≤ 16) caps.now }
+    requires small { All (λ first. IfSome first (λ token. token < 2 ^ 31)) firsts.now }
+    ensures words { IfOk result (λ laid. AreLaid firsts.now caps.now laid.words.items (length firsts.now)) }
+    ensures starts { IfOk result (λ laid. AreFirsts caps.now laid.starts.items (length firsts.now)) }
+{
+    let mut words = Vec::new(alloc);
+    words.push(0)?;
+    let mut starts = Vec::new(alloc);
+    for (station, first) in firsts.iter().enumerate() {
+        starts.push(words.len())?;
+        lay_station(&mut words, word_of(*first), caps[station])?;
+    }
+    Ok(Laid { words, starts })
+}
+
+/// How many tokens passed each end at the start.
+fn first_numbers(alloc: Global, firsts: &[Option<u32>]) -> Result<Vec<Option<u64>>, AllocError>
+    ensures { IfOk result (λ numbers. AreNumbers firsts.now numbers.items (length firsts.now)) }
+{
+    let mut numbers = Vec::new(alloc);
+    for (_station, first) in firsts.iter().enumerate() {
+        numbers.push(Some(u64::from(first.is_some())))?;
+        numbers.push(Some(0))?;
+    }
+    Ok(numbers)
+}
+
+impl Board {
+    /// Starts a board with one station for each entry, with its start token, if any, and its
+    /// capacity. The board carries the streams of the course, one for each station. The hand owns
+    /// all ends.
+    ///
+    /// Tokens are below 2^31, capacities lie in 2 to 16, and a start token is the first of its
+    /// stream. The start count of a station is 1 where it starts with a token, else 0.
+    ///
+    /// # Errors
+    /// Memory is wanting.
+    pub fn start<C: Course>(
+        alloc: Global,
+        firsts: &[Option<u32>],
+        caps: &[u32],
+        course: &C,
+    ) -> Result<(Board, Hand), AllocError>
+        requires many { length firsts.now < 2 ^ 32 }
+        requires same { length caps.now ≡ length firsts.now }
+        requires two { All (λ cap. 2 ≤ cap) caps.now }
+        requires few { All (λ cap. cap ≤ 16) caps.now }
+        requires small { All (λ first. IfSome first (λ token. token < 2 ^ 31)) firsts.now }
+        requires course { Begins firsts.now (C.streams course.now) }
+        ensures of { IfOk result (λ r. IsOf r.1 r.0) }
+        ensures plan { IfOk result (λ r. plan_of r.0 ≡ starts firsts.now caps.now (C.streams course.now)) }
+        ensures many { IfOk result (λ r. length (plan_of r.0) ≡ 2 * length firsts.now) }
+        ensures all { IfOk result (λ r. ends_of r.1 ≡ plan_of r.0) }
+        ensures fills { IfOk result (λ r. (station : ℕ) → station < length firsts.now → at (ends_of r.1) (fill station) ≡ Some (start_fill firsts.now caps.now (C.streams course.now) station)) }
+        ensures drains { IfOk result (λ r. (station : ℕ) → station < length firsts.now → at (ends_of r.1) (drain station) ≡ Some (start_drain firsts.now caps.now (C.streams course.now) station)) }
+        ensures stands { IfOk result (λ r. StandsFor (plan_of r.0) (λ station. slice_index_or (C.streams course.now) station [])) }
+    {
+        let key = key_of(alloc, firsts, caps, course)?;
+        let Laid { words, starts } = lay(alloc, firsts, caps)?;
+        let ends = first_numbers(alloc, firsts)?;
+        let caps = Vec::from_slice(alloc, caps)?;
+        let (table, seat) = Table::of_words(alloc, words.as_slice(), &key)?;
+        let board = Board {
+            table,
+            caps,
+            firsts: starts,
+            alloc,
+        };
+        Ok((board, Hand { seat, ends }))
+    }
+}

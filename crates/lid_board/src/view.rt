@@ -1,0 +1,25 @@
+//! What is known at the ends of stations. It exists for contracts alone: no value of these types is
+//! ever made.
+
+use std::collections::LinkedList;
+
+/// What is known at one end of a station.
+pub struct Held {
+    /// The tokens of the station, of which `passed` have passed here: the first ones.
+    pub stream: LinkedList<u32>,
+    /// How many tokens the station started with.
+    pub start: u64,
+    /// The capacity of the station.
+    pub cap: u32,
+    /// How many tokens have passed. At a filled end the start token is counted.
+    pub passed: u64,
+    /// Whether a token or room was seen and not used.
+    pub mark: bool,
+    /// How many looks found none.
+    pub misses: u64,
+}
+
+/// What is known at the ends that one hand has, by their numbers: nothing where another has it.
+pub struct View {
+    pub ends: LinkedList<Option<Held>>,
+}
