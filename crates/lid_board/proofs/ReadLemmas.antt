@@ -1,14 +1,14 @@
 -- What a load finds in the word of the next token of an end.
-use Rattle.std.proofs.Common.{◌≡◌, ℕ, ◌+◌, ◌-◌, ◌/◌, ◌%◌, ◌<◌, ◌≤◌, List, length, get_or, take, set, sym, ◌∙◌, ap, subst, arith}
+use Rattle.std.proofs.Common.{◌≡◌, ℕ, ◌+◌, ◌-◌, ◌*◌, ◌/◌, ◌%◌, ◌<◌, ◌≤◌, List, length, get_or, take, set, sym, ◌∙◌, ap, subst, arith}
 use Rattle.std.specs.Prelude.{bit_and, bit_or, Some, slice_get}
-use Rattle.std.proofs.lemmas.List.{set-get_or}
-use Rattle.std.proofs.lemmas.List.Elements.{All-get_or}
+use Rattle.std.proofs.lemmas.List.{set-get_or, length-take-le}
+use Rattle.std.proofs.lemmas.List.Elements.{All-get_or, All-take}
 use Rattle.std.proofs.lemmas.Option.{slice_get-get_or, slice_get_within, get_or_from_slice_get}
 use Rattle.lid_station.specs.Words.{half_of, word, word_number}
-use Rattle.lid_station.proofs.WordLemmas.{word-nothing}
+use Rattle.lid_station.proofs.WordLemmas.{word-nothing, word-full_even, word-full_odd}
 use Rattle.lid_board.specs.Halves.{shown, others, filling}
 use Rattle.lid_board.specs.Relation.{Kept}
-use Rattle.lid_board.specs.Told.{ShowsNext}
+use Rattle.lid_board.specs.Told.{ShowsNext, HasFullBits}
 use Rattle.lid_board.specs.Views.{passing}
 use Rattle.lid_board.specs.declared.view.Held.{Held}
 use Rattle.lid_board.proofs.HalfLemmas.{shown-word, token-there, room-there, full-there}
@@ -68,6 +68,24 @@ module _ (words : List ℕ) (first : ℕ) (f d : Held) where
       word-at f.passed place k is
       ∙ ap (λ (n : ℕ). word f.cap (take f.passed f.stream) (take n f.stream) (place / 2)) left
       ∙ ap (λ (n : ℕ). word f.cap (take f.passed f.stream) (take (f.passed - f.cap) f.stream) (n / 2)) is
+
+  -- each of its places has the full bit
+  pub reads-bits : (place : ℕ) → Kept words first f d → place ≡ f.passed % f.cap → d.passed + f.cap ≤ f.passed → HasFullBits f.cap (word_number f.cap f.passed) (get_or words (first + place / 2) 0)
+  reads-bits place k is full =
+      let e = word-at f.passed place k is in
+      let two = k.two in
+      let number : place / 2 ≡ word_number f.cap f.passed = ap (λ (n : ℕ). n / 2) is in
+      let small = All-take (λ (t : ℕ). t < 2147483648) f.passed f.stream k.small in
+      let within = k.within in
+      let room = k.room in
+      let put : length (take f.passed f.stream) ≡ f.passed = length-take-le f.passed f.stream within in
+      let taken : length (take d.passed f.stream) ≡ d.passed = length-take-le d.passed f.stream (let o = k.ordered in omega arith) in
+      let long : length (take f.passed f.stream) ≡ length (take d.passed f.stream) + f.cap = omega arith in
+      let inside : 2 * (place / 2) < f.cap = omega arith in
+      record {
+        even = ap (λ (n : ℕ). n / 2147483648 % 2) e ∙ word-full_even f.cap (take f.passed f.stream) (take d.passed f.stream) (place / 2) small long inside;
+        odd = λ there. ap (λ (n : ℕ). n / 9223372036854775808 % 2) e ∙ word-full_odd f.cap (take f.passed f.stream) (take d.passed f.stream) (place / 2) small long (omega arith);
+      }
 
   -- a load changes no word
   pub kept-load : (spot : ℕ) (e g : Held) → Kept words first e g → Kept (set words spot (get_or words spot 0)) first e g

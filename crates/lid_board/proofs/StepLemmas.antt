@@ -12,7 +12,7 @@ use Rattle.lid_board.specs.Views.{Ends, at, changed, seen, missing, passing}
 use Rattle.lid_board.specs.declared.view.Held.{Held}
 use Rattle.lid_board.specs.declared.view.View.{View}
 use Rattle.lid_board.proofs.FrameLemmas.{end-within, is-early, steps-in, steps-out, view-within, apart}
-use Rattle.lid_board.proofs.ReadLemmas.{reads-void, reads-token, reads-room, reads-full, reads-stop, kept-load, kept-taken_at, kept-put_at}
+use Rattle.lid_board.proofs.ReadLemmas.{reads-void, reads-token, reads-room, reads-full, reads-stop, reads-bits, kept-load, kept-taken_at, kept-put_at}
 use Rattle.lid_board.proofs.StationLemmas.{kept-token, kept-void, kept-room, kept-stop, place-within}
 use mathlib.Core.Logic.{dite}
 use native.Mathlib.Decide.{dec_le, ℕ_discrete}
@@ -126,7 +126,7 @@ module _ {S : Type 0} (plan : Ends) (slots id place : ℕ) (me : Me S View) (sta
           record {
             right = record { stream = stream; cap = cap; early = is-early plan _ id _ next (set_here st.views id _ seat) };
             room = λ none. absurd (omega arith);
-            stop = λ _. record { now = refl; unseen = λ mark. (let some = kept.room_seen mark in omega arith); filled = omega arith; full = reads-stop st.words first f d place kept place_f full };
+            stop = λ _. record { now = refl; unseen = λ mark. (let some = kept.room_seen mark in omega arith); filled = omega arith; full = reads-stop st.words first f d place kept place_f full; bits = reads-bits st.words first f d place kept place_f full };
             exact = λ g at_g. (let e = ap (λ (y : Held). y.passed) (own g at_g) in let o = kept.room in ((λ _. omega arith), (λ _ none. omega arith)));
           },
         ),

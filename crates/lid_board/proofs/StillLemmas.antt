@@ -5,14 +5,17 @@ use Rattle.std.specs.List.{All}
 use Rattle.std.proofs.lemmas.List.{get_or-replicate, length-replicate}
 use Rattle.std.proofs.lemmas.List.Elements.{All-replicate}
 use Rattle.std.proofs.lemmas.Option.{same_Some, slice_get_within, get_or_from_slice_get, slice_get_read}
+use mathlib.Core.Logic.{dite}
+use native.Mathlib.Decide.{ℕ_discrete}
 use base.Stored.{gnum, gcons}
 use Rattle.atomic_table.specs.Seated.{TableId, table_id_coded}
-use Rattle.lid_station.specs.Boards.{Facts}
-use Rattle.lid_board.specs.Owners.{IsOf}
+use Rattle.lid_station.specs.Boards.{Facts, Changes}
+use Rattle.lid_station.proofs.BoardLemmas.{changed_here, changed_else}
+use Rattle.lid_board.specs.Owners.{IsOf, IsOwned, ends_of}
 use Rattle.lid_board.specs.Standing.{StandsFor}
 use Rattle.lid_board.specs.Starts.{Begins}
 use Rattle.lid_board.specs.Ties.{IsTied}
-use Rattle.lid_board.specs.Views.{Ends, at, facts, facts_at}
+use Rattle.lid_board.specs.Views.{Ends, at, facts, facts_at, held, held_of}
 use Rattle.lid_board.specs.declared.board.Board.{Board}
 use Rattle.lid_board.specs.declared.hand.Hand.{Hand}
 use Rattle.lid_board.specs.declared.view.Held.{Held}
@@ -63,3 +66,24 @@ pub still-back : (old new back : Hand) (board : Board) (a b : ℕ)
 still-back old new back board a b e is of =
     let same : b ≡ a = cc in
     subst (λ (h : Hand). IsOf h board) (sym (is same)) (still-of old new board a b e of)
+
+-- an end of which something is known is owned
+owned-there : (o : Option Held) (f : Facts) → option_map facts o ≡ Some f → o ≡ Some (held_of o)
+owned-there None f e = absurd (cc)
+owned-there (Some h) f e = refl
+
+-- a change at one end leaves a hand the ends that it owns
+pub owned-kept : (old new : Ends) (end k : ℕ) (step : Facts → Facts) → Changes (facts_at old) end step (facts_at new) → IsOwned old k → IsOwned new k
+owned-kept old new end k step changes owned =
+    let known : facts_at old k ≡ Some (facts (held old k)) = ap (option_map facts) owned in
+    dite (ℕ_discrete k end)
+    (λ hit. owned-there (at new k) (step (facts (held old k))) (changed_here (facts_at old) (facts_at new) k step (facts (held old k)) (subst (λ (n : ℕ). Changes (facts_at old) n step (facts_at new)) (sym hit) changes) known))
+    (λ miss. owned-there (at new k) (facts (held old k)) (changed_else (facts_at old) (facts_at new) end k step changes miss ∙ known))
+
+-- what is owned at the hand that comes back
+pub owned-back : (old new back : Hand) (a b k : ℕ)
+    → gcons (gnum a) (gcons (gnum (length new.ends.items)) (table_id_coded.code new.seat.table_id)) ≡ gcons (gnum b) (gcons (gnum (length old.ends.items)) (table_id_coded.code old.seat.table_id))
+    → (b ≡ a → back ≡ new) → IsOwned (ends_of new) k → IsOwned (ends_of back) k
+owned-back old new back a b k e is owned =
+    let same : b ≡ a = cc in
+    subst (λ (h : Hand). IsOwned (ends_of h) k) (sym (is same)) owned

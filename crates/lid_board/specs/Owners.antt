@@ -1,5 +1,7 @@
 -- Hands and their boards.
 use Rattle.std.specs.Prelude.{◌≡◌, ℕ, ◌+◌, ◌*◌, ◌/◌, ◌%◌, length, Some}
+use base.Stored.{Gv, gnum, gcons}
+use Rattle.atomic_table.specs.Seated.{table_id_coded}
 use Rattle.lid_board.specs.Relation.{first_word, cap_of}
 use Rattle.lid_board.specs.Views.{Ends, at, held}
 use Rattle.lid_board.specs.declared.board.Board.{Board}
@@ -10,6 +12,11 @@ use Rattle.lid_board.specs.declared.view.Held.{Held}
 -- what is known at the ends that a hand owns
 abbrev pub ends_of : Hand → Ends
 ends_of hand = hand.seat.me.0.ends
+
+-- what a hand that was lent is made of: its ghost name, how many ends it has room for, and its table
+abbrev pub identity_of : ℕ → Hand → Gv
+identity_of ghost_name hand =
+    gcons (gnum ghost_name) (gcons (gnum (length hand.ends.items)) (table_id_coded.code hand.seat.table_id))
 
 -- what was known at the ends of a board at its start: the streams, start counts and capacities,
 -- which never change

@@ -4,6 +4,7 @@ ghost use Rattle.std.specs.Prelude.{◌≡◌, ℕ, ◌/◌, ◌+◌, ◌-◌, �
 ghost use Rattle.lid_station.specs.Boards.{Facts, fill, drain, advanced, Changes, looked_in, looked_out, IsToken, IsVoid, IsRoom, IsStop, FindsIn, FindsOut, TellsNothing, HasFilled};
 ghost use Rattle.lid_board.specs.Owners.{IsOf, IsOwned, IsSpot, ends_of, plan_of};
 ghost use Rattle.lid_board.specs.Relation.{stream_of};
+ghost use Rattle.lid_board.specs.Told.{TellsFull};
 ghost use Rattle.lid_board.specs.Views.{facts, facts_at, held};
 
 use crate::board::Board;
@@ -70,6 +71,7 @@ impl Board {
         ensures changed { Changes (facts_at (ends_of hand.old)) (fill station) (looked_out result) (facts_at (ends_of hand.new)) }
         ensures found { FindsOut result (facts (held (ends_of hand.old) (fill station))) (stream_of (plan_of self.now) station) }
         ensures filled { HasFilled result (facts (held (ends_of hand.old) (fill station))) }
+        ensures full { TellsFull result (facts (held (ends_of hand.old) (fill station))) }
         ensures again { (held (ends_of hand.old) (fill station)).mark ≡ true → IsRoom result }
         ensures exact { IsOwned (ends_of hand.old) (drain station) → (IsStop result ↔ (held (ends_of hand.old) (fill station)).passed ≡ (held (ends_of hand.old) (drain station)).passed + (held (ends_of hand.old) (fill station)).cap) }
     {

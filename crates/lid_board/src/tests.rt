@@ -1,12 +1,14 @@
-ghost use Rattle.std.specs.Prelude.{◌≡◌, ℕ, ◌^◌, ◌<◌, ◌≤◌, List, [], ◌∷◌, replicate, IfSome, IsTrue, length};
+ghost use Rattle.std.specs.Prelude.{◌≡◌, ℕ, ◌^◌, ◌<◌, ◌≤◌, List, [], ◌∷◌, replicate, IfSome, IsTrue, length, Some, slice_get};
 ghost use Rattle.std.specs.List.{All};
 ghost use Rattle.std.specs.Thread.{IsSync};
-ghost use Rattle.lid_board.specs.Owners.{IsOf, plan_of};
+ghost use Rattle.lid_station.specs.Boards.{fill};
+ghost use Rattle.lid_board.specs.Owners.{IsOf, IsOwned, ends_of, plan_of};
 ghost use Rattle.lid_board.specs.Parting.{end_number};
+ghost use Rattle.lid_board.specs.Relation.{stream_of};
 ghost use Rattle.lid_board.specs.Standing.{StandsFor};
 
 use crate::{Attended, Board, Course, Hand};
-use lid_station::{End, InLook, OutLook, Side, Stations};
+use lid_station::{End, InLook, OutLook, PlainBoard, Side, Stations};
 use std::alloc::Global;
 use std::test::Fail;
 use std::thread::{Threads, join};
@@ -54,11 +56,27 @@ fn start_same(alloc: Global, cap: u32, course: &Same) -> Option<(Board, Hand)>
     }
 }
 
-/// Looks for room at a station, and puts the stream's next token where there is room.
+/// The token of a number of a stream, where there is one, of 31 bits.
+fn token_of(stream: &[u32], number: u64) -> Option<u32>
+    ensures next { IfSome result (λ token. slice_get stream.now number ≡ Some token) }
+    ensures small { IfSome result (λ token. token < 2 ^ 31) }
+{
+    if number >= stream.len() as u64 {
+        return None;
+    }
+    let token = stream[number as usize];
+    if token >= 1 << 31 {
+        return None;
+    }
+    Some(token)
+}
+
+/// Looks for room at a station, and puts the stream's next token where there are both.
 fn offer(board: &Board, hand: &mut Hand, station: u32, stream: &[u32]) -> Option<OutLook>
     requires of { IsOf hand.old board.now }
-    requires stands { StandsFor (plan_of board.now) (λ _. stream.now) }
-    ensures { IsOf hand.new board.now }
+    requires stream { fill station < length (plan_of board.now) → stream_of (plan_of board.now) station ≡ stream.now }
+    ensures of { IsOf hand.new board.now }
+    ensures owned { (end : ℕ) → IsOwned (ends_of hand.old) end → IsOwned (ends_of hand.new) end }
 {
     let end = 2 * station as usize;
     if end >= hand.ends.len() {
@@ -67,25 +85,28 @@ fn offer(board: &Board, hand: &mut Hand, station: u32, stream: &[u32]) -> Option
     let Some(passed) = hand.ends[end] else {
         return None;
     };
-    if passed >= stream.len() as u64 || stream[passed as usize] >= 1 << 31 {
-        return None;
-    }
-    let token = stream[passed as usize];
+    let next = token_of(stream, passed);
     let mut stations = Attended {
         board,
         hand: &mut *hand,
     };
     let look = stations.look_out(station);
-    if let OutLook::Room = look {
-        stations.put(station, token);
-    }
+    let OutLook::Room = look else {
+        return Some(look);
+    };
+    let Some(token) = next else {
+        return Some(look);
+    };
+    stations.put(station, token);
     Some(look)
 }
 
-/// Looks for a token at a station, and takes it where there is one.
-fn receive(board: &Board, hand: &mut Hand, station: u32) -> Option<InLook>
+/// Looks for a token at a station, and takes it where there is one: what the look found, and what
+/// was taken.
+fn receive(board: &Board, hand: &mut Hand, station: u32) -> Option<(InLook, Option<u32>)>
     requires { IsOf hand.old board.now }
-    ensures { IsOf hand.new board.now }
+    ensures of { IsOf hand.new board.now }
+    ensures owned { (end : ℕ) → IsOwned (ends_of hand.old) end → IsOwned (ends_of hand.new) end }
 {
     let end = 2 * station as usize + 1;
     if end >= hand.ends.len() {
@@ -98,15 +119,17 @@ fn receive(board: &Board, hand: &mut Hand, station: u32) -> Option<InLook>
         board,
         hand: &mut *hand,
     };
-    match stations.look_in(station) {
-        InLook::Token(_) => Some(InLook::Token(stations.take(station))),
-        InLook::Void(word) => Some(InLook::Void(word)),
-    }
+    let look = stations.look_in(station);
+    let InLook::Token(_) = look else {
+        return Some((look, None));
+    };
+    let token = stations.take(station);
+    Some((look, Some(token)))
 }
 
 #[test]
 fn tells_the_words_of_a_full_station(rt: HostRuntime) -> Result<(), Fail> {
-    let stream = vec![in rt.alloc(); 5, 6, 7, 8, 9]?;
+    let stream = vec![in rt.alloc(); 5, 6, 7, 8]?;
     let course = Same {
         stations: 1,
         stream,
@@ -121,12 +144,64 @@ fn tells_the_words_of_a_full_station(rt: HostRuntime) -> Result<(), Fail> {
         offer(&board, &mut hand, 0, stream),
         Some(OutLook::Stop(0x8000_0006_8000_0005))
     );
-    assert_eq!(rt; receive(&board, &mut hand, 0), Some(InLook::Token(5)));
+    assert_eq!(rt;
+        receive(&board, &mut hand, 0),
+        Some((InLook::Token(5), Some(5)))
+    );
     assert_eq!(rt; offer(&board, &mut hand, 0, stream), Some(OutLook::Room));
     assert_eq!(rt;
         offer(&board, &mut hand, 0, stream),
         Some(OutLook::Stop(0x8000_0006_8000_0008))
     );
+    Ok(())
+}
+
+/// Streams worked by hand: `1` for station 0, and `0 1` for station 1.
+#[derive(Drop)]
+struct Worked {}
+
+impl Course for Worked {
+    ghost streams = { λ _. (1 ∷ []) ∷ (0 ∷ 1 ∷ []) ∷ [] };
+}
+
+/// A board that threads may share, and a hand that may go to another.
+fn cross<B: Sync, H: Send>(_board: &B, hand: H) -> H
+    ensures { result ≡ hand }
+{
+    hand
+}
+
+#[test]
+fn carries_the_worked_streams(rt: HostRuntime) -> Result<(), Fail> {
+    let (board, mut hand) = Board::start(rt.alloc(), &[Some(1), Some(0)], &[2, 2], &Worked {})?;
+    assert_eq!(rt;
+        receive(&board, &mut hand, 0),
+        Some((InLook::Token(1), Some(1)))
+    );
+    assert_eq!(rt;
+        receive(&board, &mut hand, 0),
+        Some((InLook::Void(0), None))
+    );
+    assert_eq!(rt; offer(&board, &mut hand, 1, &[0, 1]), Some(OutLook::Room));
+    assert_eq!(rt;
+        offer(&board, &mut hand, 1, &[0, 1]),
+        Some(OutLook::Stop(0x8000_0001_8000_0000))
+    );
+    let end = End {
+        station: 1,
+        side: Side::Drain,
+    };
+    let Some(drainer) = part(&board, &mut hand, end, 3) else {
+        return Err(Fail::new("no part"));
+    };
+    let mut drainer = cross(&board, drainer);
+    assert_eq!(rt;
+        receive(&board, &mut drainer, 1),
+        Some((InLook::Token(0), Some(0)))
+    );
+    assert_eq!(rt; receive(&board, &mut hand, 1), None);
+    board.join(&mut hand, drainer);
+    assert_eq!(rt; offer(&board, &mut hand, 1, &[0, 1]), Some(OutLook::Room));
     Ok(())
 }
 
@@ -169,7 +244,7 @@ fn drain_some(board: &Board, mut hand: Hand, tries: u32, stream: &[u32]) -> (Han
     let mut taken = 0;
     let mut wrong = 0u32;
     for _try in 0..tries {
-        if let Some(InLook::Token(token)) = receive(board, &mut hand, 0) {
+        if let Some((_, Some(token))) = receive(board, &mut hand, 0) {
             if taken >= stream.len() || stream[taken] != token {
                 wrong = wrong.saturating_add(1);
             }
@@ -236,7 +311,10 @@ fn two_threads_share_a_station(rt: HostRuntime) -> Result<(), Fail> {
         let _look = offer(&board, &mut filler, 0, course.stream.as_slice());
         let _look = receive(&board, &mut filler, 0);
     }
-    assert_eq!(rt; receive(&board, &mut filler, 0), Some(InLook::Void(0)));
+    assert_eq!(rt;
+        receive(&board, &mut filler, 0),
+        Some((InLook::Void(0), None))
+    );
     Ok(())
 }
 
@@ -270,7 +348,7 @@ fn carry_some(board: &Board, mut hand: Hand, from: u32, to: u32, stream: &[u32])
 {
     for _try in 0..200 {
         if has_room(board, &mut hand, to, stream) {
-            if let Some(InLook::Token(_)) = receive(board, &mut hand, from) {
+            if let Some((_, Some(_token))) = receive(board, &mut hand, from) {
                 let _look = offer(board, &mut hand, to, stream);
             }
         }
@@ -417,5 +495,48 @@ fn four_workers_share_a_ring(rt: HostRuntime) -> Result<(), Fail> {
     let half = holds(&hand, 0).saturating_add(holds(&hand, 1));
     let rest = holds(&hand, 2).saturating_add(holds(&hand, 3));
     assert_eq!(rt; half.saturating_add(rest), 4);
+    Ok(())
+}
+
+/// Streams worked by hand: `5 6 7 8` for station 0, and `9` for station 1.
+#[derive(Drop)]
+struct Turned {}
+
+impl Course for Turned {
+    ghost streams = { λ _. (5 ∷ 6 ∷ 7 ∷ 8 ∷ []) ∷ (9 ∷ []) ∷ [] };
+}
+
+/// Looks for a token at a plain station, and takes it where there is one.
+fn receive_plain(plain: &mut PlainBoard, station: u32) -> Option<InLook> {
+    if station as usize >= plain.pairs.len() {
+        return None;
+    }
+    let look = plain.look_in(station);
+    let InLook::Token(_) = look else {
+        return Some(look);
+    };
+    Some(InLook::Token(plain.take(station)))
+}
+
+#[test]
+fn closes_into_plain_stations(rt: HostRuntime) -> Result<(), Fail> {
+    let (board, mut hand) = Board::start(rt.alloc(), &[Some(5), None], &[3, 2], &Turned {})?;
+    let six = offer(&board, &mut hand, 0, &[5, 6, 7, 8]);
+    let seven = offer(&board, &mut hand, 0, &[5, 6, 7, 8]);
+    let five = receive(&board, &mut hand, 0);
+    let eight = offer(&board, &mut hand, 0, &[5, 6, 7, 8]);
+    let mut plain = PlainBoard::start(rt.alloc(), &[None, None], &[3, 2])?;
+    board.close(hand, &mut plain);
+    let full = plain.look_out(0);
+    assert_eq!(rt; six, Some(OutLook::Room));
+    assert_eq!(rt; seven, Some(OutLook::Room));
+    assert_eq!(rt; five, Some((InLook::Token(5), Some(5))));
+    assert_eq!(rt; eight, Some(OutLook::Room));
+    assert_eq!(rt; full, OutLook::Stop(0x8000_0006_8000_0008));
+    assert_eq!(rt; receive_plain(&mut plain, 0), Some(InLook::Token(6)));
+    assert_eq!(rt; receive_plain(&mut plain, 0), Some(InLook::Token(7)));
+    assert_eq!(rt; receive_plain(&mut plain, 0), Some(InLook::Token(8)));
+    assert_eq!(rt; receive_plain(&mut plain, 0), Some(InLook::Void(0)));
+    assert_eq!(rt; receive_plain(&mut plain, 1), Some(InLook::Void(0)));
     Ok(())
 }
