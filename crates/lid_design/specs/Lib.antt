@@ -1,3 +1,7 @@
 pub mod Network
 pub mod Columns
 pub mod Walks
+pub mod Models
+pub mod Places
+pub mod Loops
+pub mod WellFormed

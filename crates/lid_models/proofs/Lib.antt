@@ -1,0 +1,11 @@
+pub mod Fields
+pub mod Walks
+pub mod Numbers
+pub mod Steps
+pub mod Orders
+pub mod Growing
+pub mod Fixpoints
+pub mod Clocking
+pub mod Listing
+pub mod Surveying
+pub mod Distinct

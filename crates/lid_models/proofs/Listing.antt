@@ -1,0 +1,51 @@
+-- Names that are listed one group after the other, and first places among filtered names.
+use denote.Ref.{Bor}
+use Rattle.std.proofs.Common.{◌≡◌, ℕ, Bool, true, false, not, cond, List, [], ◌∷◌, ◌++◌, filter, flat_map, refl, sym, ◌∙◌, ap}
+use Rattle.std.specs.Str.{bytes_eq}
+use Rattle.std.proofs.lemmas.Slice.Eq.{bytes_eq-Decides}
+use Rattle.lid_names.specs.Names.{texts, firsts}
+use Rattle.lid_design.specs.declared.Model.{Model}
+use Rattle.lid_design.specs.Models.{cell_names, actual_names, occurrences}
+
+-- the groups of a model's names
+pub listed : (m : Model) (r0 r1 r2 r3 r4 r5 : List (Bor (List ℕ))) → texts r0 ≡ [] → texts r1 ≡ texts r0 ++ m.inputs → texts r2 ≡ texts r1 ++ m.outputs → texts r3 ≡ texts r2 ++ m.clocks → texts r4 ≡ texts r3 ++ flat_map cell_names m.cells → texts r5 ≡ texts r4 ++ flat_map actual_names m.insts → texts r5 ≡ occurrences m
+unfolding occurrences
+listed m r0 r1 r2 r3 r4 r5 e0 e1 e2 e3 e4 e5 =
+    let cells = flat_map cell_names m.cells in
+    let insts = flat_map actual_names m.insts in
+    let f1 : texts r1 ≡ m.inputs = e1 ∙ ap (λ (ns : List (List ℕ)). ns ++ m.inputs) e0 in
+    let f2 : texts r2 ≡ m.inputs ++ m.outputs = e2 ∙ ap (λ (ns : List (List ℕ)). ns ++ m.outputs) f1 in
+    let f3 : texts r3 ≡ (m.inputs ++ m.outputs) ++ m.clocks = e3 ∙ ap (λ (ns : List (List ℕ)). ns ++ m.clocks) f2 in
+    let f4 : texts r4 ≡ ((m.inputs ++ m.outputs) ++ m.clocks) ++ cells = e4 ∙ ap (λ (ns : List (List ℕ)). ns ++ cells) f3 in
+    e5 ∙ ap (λ (ns : List (List ℕ)). ns ++ insts) f4
+
+abbrev pub differs : List ℕ → List ℕ → Bool
+differs x other = not (bytes_eq other x)
+
+filters-commute : (p q : List ℕ → Bool) (xs : List (List ℕ)) → filter p (filter q xs) ≡ filter q (filter p xs)
+filters-commute p q [] = refl
+filters-commute p q (x ∷ xs) = by (p x) refl (q x) refl (filters-commute p q xs)
+  where
+    by : (a : Bool) → p x ≡ a → (b : Bool) → q x ≡ b → filter p (filter q xs) ≡ filter q (filter p xs) → filter p (cond b (x ∷ filter q xs) (filter q xs)) ≡ filter q (cond a (x ∷ filter p xs) (filter p xs))
+    by true e true f later = ap (λ (c : Bool). cond c (x ∷ filter p (filter q xs)) (filter p (filter q xs))) e ∙ ap (λ (ns : List (List ℕ)). x ∷ ns) later ∙ sym (ap (λ (c : Bool). cond c (x ∷ filter q (filter p xs)) (filter q (filter p xs))) f)
+    by true e false f later = later ∙ sym (ap (λ (c : Bool). cond c (x ∷ filter q (filter p xs)) (filter q (filter p xs))) f)
+    by false e true f later = ap (λ (c : Bool). cond c (x ∷ filter p (filter q xs)) (filter p (filter q xs))) e ∙ later
+    by false e false f later = later
+
+-- names that a test takes all differ from one that it does not take
+filter-absorbs : (p : List ℕ → Bool) (x : List ℕ) (xs : List (List ℕ)) → p x ≡ false → filter p (filter (differs x) xs) ≡ filter p xs
+filter-absorbs p x [] h = refl
+filter-absorbs p x (y ∷ ys) h = by (bytes_eq y x) refl (filter-absorbs p x ys h)
+  where
+    by : (b : Bool) → bytes_eq y x ≡ b → filter p (filter (differs x) ys) ≡ filter p ys → filter p (cond (not b) (y ∷ filter (differs x) ys) (filter (differs x) ys)) ≡ cond (p y) (y ∷ filter p ys) (filter p ys)
+    by true e later = later ∙ sym (ap (λ (c : Bool). cond c (y ∷ filter p ys) (filter p ys)) (ap p ((bytes_eq-Decides y x).0 e) ∙ h))
+    by false e later = ap (λ (ns : List (List ℕ)). cond (p y) (y ∷ ns) ns) later
+
+-- first places among the names that a test takes
+pub firsts-filter : (p : List ℕ → Bool) (xs : List (List ℕ)) → firsts (filter p xs) ≡ filter p (firsts xs)
+firsts-filter p [] = refl
+firsts-filter p (x ∷ xs) = by (p x) refl (firsts-filter p xs)
+  where
+    by : (a : Bool) → p x ≡ a → firsts (filter p xs) ≡ filter p (firsts xs) → firsts (cond a (x ∷ filter p xs) (filter p xs)) ≡ cond a (x ∷ filter p (filter (differs x) (firsts xs))) (filter p (filter (differs x) (firsts xs)))
+    by true e later = ap (λ (ns : List (List ℕ)). x ∷ filter (differs x) ns) later ∙ ap (λ (ns : List (List ℕ)). x ∷ ns) (filters-commute (differs x) p (firsts xs))
+    by false e later = later ∙ sym (filter-absorbs p x (firsts xs) e)

@@ -1,0 +1,4 @@
+pub mod Surveys
+pub mod Graphs
+pub mod Clocks
+pub mod Nets

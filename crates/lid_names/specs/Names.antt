@@ -1,0 +1,18 @@
+-- Lists of names without a name twice.
+use denote.Ref.{Bor}
+use Rattle.std.specs.Prelude.{ℕ, if◌then◌else◌, List, [], ◌∷◌, ◌++◌, map}
+use Rattle.indexmap.specs.IndexSet.{IndexSet}
+pub use Rattle.lid_design.specs.Columns.{is_among}
+pub use Rattle.lid_design.specs.Models.{firsts}
+
+-- the names that references lead to
+abbrev pub texts : List (Bor (List ℕ)) → List (List ℕ)
+texts refs = map (λ (r : Bor (List ℕ)). r.now) refs
+
+-- the names of a set, in order
+abbrev pub names_of : {S : Type 0} → IndexSet (Bor (List ℕ)) S → List (List ℕ)
+names_of set = texts set.keys
+
+-- a list with a name added after the others, unless it is there already
+abbrev pub with_name : List (List ℕ) → List ℕ → List (List ℕ)
+with_name names name = if is_among name names then names else names ++ name ∷ []
