@@ -357,3 +357,50 @@ fn tells_graphs_that_are_not_shown(rt: HostRuntime) -> Result<(), Fail> {
     assert!(rt; !is_rateable(&none, &[], &[], &[]));
     Ok(())
 }
+
+/// The certificate of a ring of so many transitions with so many tokens, one each on the first edges.
+fn ring_of(alloc: Global, count: u32, tokens: u32) -> Result<Option<Cert>, AllocError> {
+    let mut stations = Vec::new(alloc);
+    for v in 0..count {
+        let next = if v + 1 < count { v + 1 } else { 0 };
+        stations.push((v, next, if v < tokens { 1 } else { 0 }, 2))?;
+    }
+    certified(alloc, count, &stations)
+}
+
+#[test]
+fn rates_rings_by_their_tokens(rt: HostRuntime) -> Result<(), Fail> {
+    let alloc = rt.alloc();
+    for (count, tokens, p, q) in [
+        (2, 1, 1, 2),
+        (3, 1, 1, 3),
+        (3, 2, 2, 3),
+        (4, 2, 1, 2),
+        (5, 5, 1, 1),
+        (6, 4, 2, 3),
+        (10, 3, 3, 10),
+        (24, 18, 3, 4),
+    ] {
+        assert!(rt; ratio_of(&ring_of(alloc, count, tokens)?) == Some((p, q)));
+    }
+    Ok(())
+}
+
+#[test]
+fn rates_a_transition_alone(rt: HostRuntime) -> Result<(), Fail> {
+    let Some(cert) = certified(rt.alloc(), 1, &[])? else {
+        assert!(rt; false);
+        return Ok(());
+    };
+    let parts = cert.parts.as_slice();
+    assert!(rt; parts.len() == 1 && is_part(&parts[0], &[0], 1, 1, &[0]));
+    assert!(rt; goes_round(parts[0].cycle.as_slice(), &[0]));
+    Ok(())
+}
+
+#[test]
+fn rates_a_ring_of_three_thousand(rt: HostRuntime) -> Result<(), Fail> {
+    let cert = ring_of(rt.alloc(), 3_000, 1_500)?;
+    assert!(rt; ratio_of(&cert) == Some((1, 2)));
+    Ok(())
+}
