@@ -15,7 +15,7 @@ pub data Source (C : Type 0) : Type 0 where
 abbrev pub Table : Type 0 → Type 0
 Table C = ℕ → C → Bool
 
--- a latch has its first bit in row 0, and later its input's bit of the row before
+-- a latch has its first bit in the first row, and later the bit of its input in the row before
 abbrev pub latch_bit : {C : Type 0} → Table C → Bool → C → ℕ → Bool
 latch_bit b first input zero = first
 latch_bit b first input (suc t) = b t input

@@ -2,6 +2,11 @@
 //! circuit.
 #![tactic(auto)]
 
+ghost use Rattle.std.specs.Prelude.{ℕ, List};
+ghost use Rattle.lid_design.specs.Network.{Source};
+ghost use Rattle.lid_design.specs.Walks.{WalksEnd, IsDrivenOnce, AreReadsDriven, HasTable, HasOneTable};
+ghost use Rattle.lid_design.specs.Columns.{Column};
+
 use lid_base::{Items, Name};
 use lid_cover::Cover;
 
@@ -79,3 +84,11 @@ pub struct Bind {
     pub formal: Name,
     pub actual: Name,
 }
+
+/// A network in which no walk has `n` edges has a strict table for any rows where it drives no column
+/// twice, and two strict tables agree on the driven columns where all that is read is driven. This does
+/// nothing; its contract is the law, for whatever drives the columns.
+pub fn networks_have_one_table()
+    ensures some { (drivers : Column → List (Source Column)) (n : ℕ) → WalksEnd drivers n → IsDrivenOnce drivers → HasTable drivers }
+    ensures one { (drivers : Column → List (Source Column)) (n : ℕ) → WalksEnd drivers n → AreReadsDriven drivers → HasOneTable drivers }
+{}

@@ -1,3 +1,4 @@
 pub mod Fetches
 pub mod FaultLines
+pub mod StepTexts
 pub mod Writes

@@ -2,6 +2,7 @@
 #![tactic(auto)]
 
 mod fetching;
+mod paths;
 mod telling;
 mod writing;
 

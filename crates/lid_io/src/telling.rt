@@ -4,6 +4,7 @@ ghost use Rattle.std.specs.Prelude.{◌≡◌, ◌≤◌, ◌<◌, ◌^◌, ◌�
 ghost use Rattle.lid_base.specs.Outside.{Rose, Appended, AppendedPrefix};
 ghost use Rattle.lid_io.specs.Telling.{fault_line, spelled};
 
+use crate::paths::tell_path;
 use crate::writing::write_all;
 use itoa::Buffer;
 use lid_base::{Sink, SinkFailed};
@@ -17,6 +18,9 @@ pub enum Word<'a> {
     Name(&'a [u8]),
     /// A number, in decimal.
     Number(u64),
+    /// The instance numbers of a path from the root's on, in decimal and joined by `/`, or `-` where
+    /// there are none.
+    Path(&'a [u32]),
 }
 
 /// Writes `lid:`, the words, each after a blank, and a newline. It takes no memory.
@@ -63,5 +67,6 @@ fn tell_spelled<E: Sink>(err: &mut E, word: Word<'_>) -> Result<(), SinkFailed>
         Word::Text(text) => write_all(err, text.as_bytes()),
         Word::Name(name) => write_all(err, name),
         Word::Number(number) => write_all(err, Buffer::new().format(number).as_bytes()),
+        Word::Path(path) => tell_path(err, path),
     }
 }

@@ -209,7 +209,7 @@ impl<'d> Uses<'d> {
 
 impl<'d> Uses<'d> {
     /// The graph of the reached models: each reads the models of its instances.
-    pub fn graph(&self, alloc: Global) -> Result<Items<Items<u32>>, AllocError>
+    pub(crate) fn graph(&self, alloc: Global) -> Result<Items<Items<u32>>, AllocError>
         ensures used { IfOk result (IsUsedGraph self.now) }
         ensures graph { IfOk result IsGraph }
     {
@@ -217,7 +217,11 @@ impl<'d> Uses<'d> {
     }
 
     /// Those of some models that are reached.
-    pub fn keep_reached(&self, alloc: Global, models: &[u32]) -> Result<Items<u32>, AllocError>
+    pub(crate) fn keep_reached(
+        &self,
+        alloc: Global,
+        models: &[u32],
+    ) -> Result<Items<u32>, AllocError>
         ensures { IfOk result (IsKept self.now models.now) }
     {
         keep_marked(alloc, self.marks.as_slice(), models)

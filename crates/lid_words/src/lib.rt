@@ -1,0 +1,13 @@
+//! What the words of a command line ask for.
+#![tactic(auto)]
+
+mod form;
+mod given;
+mod job;
+mod reading;
+mod strict;
+mod table;
+#[cfg(test)]
+mod tests;
+
+pub use job::{Job, read_words};
