@@ -1,10 +1,11 @@
 -- How the steps of a script make the script.
 use Rattle.std.proofs.Common.{◌≡◌, ℕ, ◌≤◌, List, Option, Result, Ok, Err, inl, inr, refl, sym, subst, arith, IfOk, IfErr}
 use Rattle.lid_base.specs.Outside.{Rose}
+use Rattle.lid_design.specs.declared.Design.{Design}
 use Rattle.lid.specs.declared.fault.Stop.{Stop}
 use Rattle.lid.specs.declared.fault.Stop.TheVariants.{Refused, Read, Memory}
-use Rattle.lid.specs.Scripts.{Ending, refuses, gives, Script, Reading, good, step, read_step, IsFetched, EndsIn, Reaches}
-use Rattle.lid.specs.Causes.{refusal_line, Declines, MissesFile, IsWant, Got, Misses, IsCause}
+use Rattle.lid.specs.Scripts.{Ending, refuses, gives, Script, check, Reading, good, step, read_step, IsFetched, IsChecked, EndsIn, Reaches}
+use Rattle.lid.specs.Causes.{refusal_line, Declines, FailsCheck, MissesFile, IsWant, Got, Misses, IsCause}
 use Rattle.lid.specs.Statuses.{HasText}
 
 -- a count that rose after it had grown
@@ -54,12 +55,20 @@ module _ {A : Type 0} (held : List ℕ → Option (List ℕ)) (name : List ℕ) 
     pub text_after : (a : A) (text : List ℕ) → Got held name limit read a → HasText held (next a) text → HasText held (read_step name limit read next) text
     text_after a text g h = record { output = h.output; ends = ends_after a (gives h.output) g h.ends; text_of = h.text_of }
 
--- a step that fetches nothing
-module _ {A : Type 0} (held : List ℕ → Option (List ℕ)) (reading : Reading A) (next : A → Script) (before after : List ℕ → ℕ) where
-  pub cause_declined : (stop : Stop) → Declines reading stop → IsCause held (step reading next) before after stop
-  cause_declined (Refused refusal) d = subst (λ r. EndsIn held (step r next) (refuses (refusal_line refusal))) (sym d) refl
-  cause_declined (Read file) d = absurd d
-  cause_declined Memory d = tt
+-- a design is checked
+module _ (held : List ℕ → Option (List ℕ)) (root : Option (List ℕ)) (d : Design) (next : Design → Script) where
+  pub cause_unchecked : (before after : List ℕ → ℕ) (stop : Stop) → FailsCheck root d stop → IsCause held (check root d next) before after stop
+  cause_unchecked before after (Refused refusal) f = inr (refusal_line refusal, f, refl)
+  cause_unchecked before after (Read file) f = absurd f
+  cause_unchecked before after Memory f = tt
+
+  pub cause_checked : (checked : Design) (before after : List ℕ → ℕ) (stop : Stop) → IsChecked root d checked → IsCause held (next checked) before after stop → IsCause held (check root d next) before after stop
+  cause_checked checked before after (Refused refusal) h c = inl (checked, h, c)
+  cause_checked checked before after (Read file) h c = ((checked, h, c.0), c.1)
+  cause_checked checked before after Memory h c = tt
+
+  pub text_checked : (checked : Design) (text : List ℕ) → IsChecked root d checked → HasText held (next checked) text → HasText held (check root d next) text
+  text_checked checked text h t = record { output = t.output; ends = inl (checked, h, t.ends); text_of = t.text_of }
 
 -- want of memory may end any script
 pub want_anywhere : (held : List ℕ → Option (List ℕ)) (script : Script) (before after : List ℕ → ℕ) (stop : Stop) → IsWant stop → IsCause held script before after stop

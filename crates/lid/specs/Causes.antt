@@ -9,15 +9,15 @@ use Rattle.lid_blif.specs.declared.fault.BlifFault.{BlifFault}
 use Rattle.lid_blif.specs.declared.fault.BlifFault.TheVariants as blif
 use Rattle.lid_texts.specs.declared.rows.VecFault.{VecFault}
 use Rattle.lid_texts.specs.declared.rows.VecFault.TheVariants as rows
-use Rattle.lid_plain.specs.declared.fault.PlainFault.{PlainFault}
-use Rattle.lid_plain.specs.declared.fault.PlainFault.TheVariants.{NotBuilt}
-use Rattle.lid_plain.specs.declared.fault.PlainFault.TheVariants as plain
+use Rattle.lid_design.specs.declared.Design.{Design}
+use Rattle.lid_rules.specs.declared.fault.CheckFault.{CheckFault}
+use Rattle.lid_rules.specs.declared.fault.CheckFault.TheVariants as check
 use Rattle.lid.specs.Faults.{blif_line, rows_line, check_line, read_line, memory_line}
-use Rattle.lid.specs.Scripts.{refuses, Script, Reading, good, bad, IsFetched, EndsIn, Reaches}
+use Rattle.lid.specs.Scripts.{refuses, Script, Reading, good, bad, IsFetched, IsUnchecked, EndsIn, Reaches}
 
 abbrev pub refusal_line : Refusal → List ℕ
 refusal_line (Blif fault) = blif_line fault
-refusal_line Check = check_line
+refusal_line (Check fault) = check_line fault
 refusal_line (Rows fault) = rows_line fault
 
 -- a fault that is want of memory is no refusal
@@ -29,9 +29,9 @@ abbrev pub stop_of_rows : VecFault → Stop
 stop_of_rows rows.Memory = Memory
 stop_of_rows fault = Refused (Rows fault)
 
-abbrev pub stop_of_plain : PlainFault → Stop
-stop_of_plain NotBuilt = Refused Check
-stop_of_plain plain.Memory = Memory
+abbrev pub stop_of_check : CheckFault → Stop
+stop_of_check check.Memory = Memory
+stop_of_check fault = Refused (Check fault)
 
 -- only memory was wanting
 abbrev pub IsWant : Stop → Type 0
@@ -68,6 +68,12 @@ abbrev pub Misses : {A : Type 0} → (List ℕ → Option (List ℕ)) → List �
 Misses held name limit read before after (Refused refusal) = Refuses held name limit read (refusal_line refusal)
 Misses held name limit read before after (Read file) = (file.now ≡ name) × Rose (before name) (after name)
 Misses held name limit read before after Memory = Unit {0}
+
+-- why a design is not accepted
+abbrev pub FailsCheck : Option (List ℕ) → Design → Stop → Type 0
+FailsCheck root d (Refused refusal) = IsUnchecked root d (refusal_line refusal)
+FailsCheck root d (Read file) = ⊥
+FailsCheck root d Memory = Unit {0}
 
 -- why a script comes to no output
 abbrev pub IsCause : (List ℕ → Option (List ℕ)) → Script → (List ℕ → ℕ) → (List ℕ → ℕ) → Stop → Type 0

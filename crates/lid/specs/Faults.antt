@@ -9,7 +9,9 @@ use Rattle.lid_blif.specs.declared.fault.BlifFault.{BlifFault}
 use Rattle.lid_blif.specs.declared.fault.BlifFault.TheVariants as blif
 use Rattle.lid_texts.specs.declared.rows.VecFault.{VecFault}
 use Rattle.lid_texts.specs.declared.rows.VecFault.TheVariants as rows
-use Rattle.lid_io.specs.Telling.{fault_line}
+use Rattle.lid_rules.specs.declared.fault.CheckFault.{CheckFault}
+use Rattle.lid_rules.specs.declared.fault.CheckFault.TheVariants as check
+use Rattle.lid_io.specs.Telling.{fault_line, path_text}
 
 abbrev pub which_word : Which → List ℕ
 which_word FileBytes = codes "FileBytes"
@@ -63,6 +65,33 @@ rows_words (rows.Limit which count) = over_limit which count
 rows_words (rows.Changed count found) = codes "Changed" ∷ decimal count ∷ decimal found ∷ []
 rows_words rows.Memory = []
 
+-- the words for a refusal at an instance
+abbrev pub at_inst : List ℕ → List ℕ → ℕ → List ℕ → List (List ℕ)
+at_inst name model inst other = name ∷ model ∷ decimal inst ∷ other ∷ []
+
+-- the words for a refusal with two names
+abbrev pub with_names : List ℕ → List ℕ → List ℕ → List (List ℕ)
+with_names name first second = name ∷ first ∷ second ∷ []
+
+abbrev pub check_words : CheckFault → List (List ℕ)
+check_words check.NoRoot = codes "NoRoot" ∷ []
+check_words (check.DuplicateName model name) = with_names (codes "DuplicateName") model name
+check_words (check.UnknownModel model inst name) = at_inst (codes "UnknownModel") model inst name
+check_words (check.Recursive model) = codes "Recursive" ∷ model ∷ []
+check_words (check.UnknownFormal model inst formal) = at_inst (codes "UnknownFormal") model inst formal
+check_words (check.FormalTwice model inst formal) = at_inst (codes "FormalTwice") model inst formal
+check_words (check.Unbound model inst formal) = at_inst (codes "Unbound") model inst formal
+check_words (check.TwoDrivers model name) = with_names (codes "TwoDrivers") model name
+check_words (check.Undriven model name) = with_names (codes "Undriven") model name
+check_words (check.ClockUse model name) = with_names (codes "ClockUse") model name
+check_words (check.TwoClocks first second) = with_names (codes "TwoClocks") first second
+check_words (check.MixedEdges model name) = with_names (codes "MixedEdges") model name
+check_words (check.RootLogic name) = codes "RootLogic" ∷ name ∷ []
+check_words (check.Limit which count) = over_limit which count
+check_words (check.CombLoop path name) = codes "CombLoop" ∷ path_text path ∷ name ∷ []
+check_words (check.OutputFromInput model output input) = codes "OutputFromInput" ∷ model ∷ output ∷ input ∷ []
+check_words check.Memory = []
+
 -- status 1: the stage, the variant and its fields
 abbrev pub blif_line : BlifFault → List ℕ
 blif_line fault = fault_line (codes "blif" ∷ blif_words fault)
@@ -70,9 +99,8 @@ blif_line fault = fault_line (codes "blif" ∷ blif_words fault)
 abbrev pub rows_line : VecFault → List ℕ
 rows_line fault = fault_line (codes "rows" ∷ rows_words fault)
 
--- a design that the simulation does not take yet
-abbrev pub check_line : List ℕ
-check_line = fault_line (codes "check" ∷ codes "NotBuilt" ∷ [])
+abbrev pub check_line : CheckFault → List ℕ
+check_line fault = fault_line (codes "check" ∷ check_words fault)
 
 -- status 2
 abbrev pub usage_line : List ℕ

@@ -1,4 +1,3 @@
-pub mod Jobs
 pub mod Faults
 pub mod Outputs
 pub mod Scripts

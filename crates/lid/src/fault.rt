@@ -4,26 +4,26 @@ ghost use Rattle.std.specs.Prelude.{◌≡◌, ◌∷◌, [], codes, map};
 ghost use Rattle.std.specs.Fmt.{decimal};
 ghost use Rattle.lid_io.specs.Telling.{fault_line, spelled};
 ghost use Rattle.lid.specs.Statuses.{Says};
-ghost use Rattle.lid.specs.Faults.{which_word, at_line, over_limit, text_words, blif_line, rows_line, check_line, usage_line, read_line, write_line, memory_line};
-ghost use Rattle.lid.specs.Causes.{refusal_line, stop_status, stop_line, stop_of_blif, stop_of_rows, stop_of_plain};
+ghost use Rattle.lid.specs.Faults.{which_word, at_line, over_limit, text_words, blif_line, rows_line, usage_line, read_line, write_line, memory_line};
+ghost use Rattle.lid.specs.Causes.{refusal_line, stop_status, stop_line, stop_of_blif, stop_of_rows};
 
+use crate::unaccepted::say_check;
 use lid_base::{Sink, TextFault, Which};
 use lid_blif::BlifFault;
+use lid_check::CheckFault;
 use lid_io::{Word, tell};
-use lid_plain::PlainFault;
 use lid_texts::VecFault;
 
 /// Why a reading or a check refuses.
-#[derive(Clone, Copy)]
+#[derive(Drop)]
 pub enum Refusal {
     Blif(BlifFault),
-    /// The design is none that the simulation takes yet.
-    Check,
+    Check(CheckFault),
     Rows(VecFault),
 }
 
 /// Why the output of a job is not known.
-#[derive(Clone, Copy)]
+#[derive(Drop)]
 pub enum Stop<'a> {
     Refused(Refusal),
     /// A fetch of this file failed.
@@ -52,18 +52,8 @@ pub fn rows_stop<'a>(fault: VecFault) -> Stop<'a>
     }
 }
 
-/// Why a design is not accepted.
-pub fn plain_stop<'a>(fault: PlainFault) -> Stop<'a>
-    ensures { result ≡ stop_of_plain fault }
-{
-    match fault {
-        PlainFault::NotBuilt => Stop::Refused(Refusal::Check),
-        PlainFault::Memory => Stop::Memory,
-    }
-}
-
 /// Writes a line of words. A sink that fails changes nothing else.
-fn say<E: Sink>(err: &mut E, words: &[Word<'_>])
+pub fn say<E: Sink>(err: &mut E, words: &[Word<'_>])
     ensures { Says (E.written err.old) (E.written err.new) (E.faults err.old) (E.faults err.new) (fault_line (map spelled words.now)) }
 {
     let _ = tell(err, words);
@@ -88,6 +78,7 @@ fn which_name(which: Which) -> &'static str
     }
 }
 
+/// Says a refusal at a line.
 fn say_at<'a, E: Sink>(err: &mut E, stage: &'a str, name: &'a str, line: u32)
     ensures { Says (E.written err.old) (E.written err.new) (E.faults err.old) (E.faults err.new) (fault_line (stage.now ∷ at_line name.now line)) }
 {
@@ -101,7 +92,8 @@ fn say_at<'a, E: Sink>(err: &mut E, stage: &'a str, name: &'a str, line: u32)
     );
 }
 
-fn say_limit<E: Sink>(err: &mut E, stage: &str, which: Which, count: u64)
+/// Says that a limit is exceeded.
+pub fn say_limit<E: Sink>(err: &mut E, stage: &str, which: Which, count: u64)
     ensures { Says (E.written err.old) (E.written err.new) (E.faults err.old) (E.faults err.new) (fault_line (stage.now ∷ over_limit which count)) }
 {
     say(
@@ -179,7 +171,7 @@ fn say_refusal<E: Sink>(err: &mut E, refusal: Refusal)
 {
     match refusal {
         Refusal::Blif(fault) => say_blif(err, fault),
-        Refusal::Check => say(err, &[Word::Text("check"), Word::Text("NotBuilt")]),
+        Refusal::Check(fault) => say_check(err, &fault),
         Refusal::Rows(fault) => say_rows(err, fault),
     }
 }

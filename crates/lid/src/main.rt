@@ -1,14 +1,18 @@
 //! lid: latency-insensitive design from BLIF netlists (Berkeley Logic Interchange Format).
 //!
-//! `lid strict NET VEC` prints the strict outputs of a netlist for rows of input bits.
+//! `lid strict NET VEC [--root NAME]` prints the strict outputs of a netlist for rows of input bits.
 #![tactic(auto)]
 
+#[cfg(test)]
+mod check_tests;
 mod fault;
-mod job;
+#[cfg(test)]
+mod net_tests;
 mod run;
 #[cfg(test)]
 mod tests;
 mod top;
+mod unaccepted;
 
 use fault::{say_memory, say_usage};
 use lid_base::{DirShelf, OpenGate, Sink, StdSink, Text};

@@ -14,21 +14,21 @@ const REGISTER: &str = ".model one\n.inputs d\n.outputs q\n.latch d q 0\n.end\n"
 
 /// What a run left: its status, and what it wrote.
 #[derive(Drop)]
-struct Ran {
-    status: u8,
-    out: MemSink,
-    err: MemSink,
+pub struct Ran {
+    pub status: u8,
+    pub out: MemSink,
+    pub err: MemSink,
 }
 
 /// Which calls of the devices fail, counted from 1.
 #[derive(Clone, Copy)]
-struct Failing<'a> {
-    fetches: &'a [u64],
-    writes: &'a [u64],
-    says: &'a [u64],
+pub struct Failing<'a> {
+    pub fetches: &'a [u64],
+    pub writes: &'a [u64],
+    pub says: &'a [u64],
 }
 
-const NONE_FAILS: Failing<'static> = Failing {
+pub const NONE_FAILS: Failing<'static> = Failing {
     fetches: &[],
     writes: &[],
     says: &[],
@@ -53,7 +53,8 @@ fn numbers_of(alloc: Global, numbers: &[u64]) -> Result<Vec<u64>, AllocError> {
     Vec::from_slice(alloc, numbers)
 }
 
-fn run_failing<R: Threads + AllocGlobal + Sync>(
+/// Runs the words over files in memory.
+pub fn run_failing<R: Threads + AllocGlobal + Sync>(
     rt: &R,
     words: &[&str],
     files: &[(&str, &str)],
@@ -73,7 +74,7 @@ fn run_failing<R: Threads + AllocGlobal + Sync>(
 }
 
 /// Runs `strict` of a netlist and rows, and compares all that is left.
-fn expect_strict<R: Threads + AllocGlobal + Sync + Abort>(
+pub fn expect_strict<R: Threads + AllocGlobal + Sync + Abort>(
     rt: &R,
     net: &str,
     rows: &str,
@@ -164,40 +165,75 @@ fn netlists_that_do_not_read_are_told(rt: HostRuntime) -> Result<(), Fail> {
 }
 
 #[test]
-fn designs_that_are_not_taken_yet_are_told(rt: HostRuntime) -> Result<(), Fail> {
-    let cases = [
-        ".model m\n.inputs d\n.outputs q\n.latch d q 0\n.latch d q 0\n",
-        ".model m\n.inputs d d\n.outputs q\n.latch d q 0\n",
-        ".model m\n.inputs d\n.outputs q\n.latch e q 0\n",
-        ".model m\n.inputs d\n.outputs d\n.latch d q 0\n",
-        ".model m\n.inputs d\n.outputs q q\n.latch d q 0\n",
-        ".model m\n.inputs d c\n.outputs q\n.latch d q re c 0\n",
-        ".model m\n.outputs q\n.latch q q 0\n",
-        ".model m\n.inputs d\n.subckt n\n.model n\n",
-        ".model m\n.inputs d\n.outputs q\n.names b a\n1 1\n.names d b\n1 1\n.latch a q 0\n",
-    ];
-    for net in cases {
-        expect_strict(&rt, net, "d\n", 1, "", "lid: check NotBuilt\n")?;
-    }
-    Ok(())
-}
-
-#[test]
 fn other_words_are_no_job(rt: HostRuntime) -> Result<(), Fail> {
     let files = [("one.blif", REGISTER), ("one.vec", "d\n1\n")];
-    let cases: [&[&str]; 6] = [
+    let cases: [&[&str]; 16] = [
         &[],
+        &[""],
         &["strict"],
         &["strict", "one.blif"],
         &["strict", "one.blif", "one.vec", "one.vec"],
         &["strict", "--root", "one.blif"],
+        &["strict", "one.blif", "one.vec", "--root"],
+        &[
+            "strict", "--root", "a", "--root", "a", "one.blif", "one.vec",
+        ],
+        &["strict", "one.blif", "one.vec", "--workers", "2"],
+        &["strict", "one.blif", "one.vec", "--tally"],
+        &["strict", "one.blif", "one.vec", "--help"],
+        &["strict", "one.blif", "one.vec", "-h"],
+        &["strict", "one.blif", "one.vec", "--version"],
         &["stric", "one.blif", "one.vec"],
+        &["clock", "one.blif"],
+        &["\u{e9}", "one.blif", "one.vec"],
     ];
     for words in cases {
         let ran = run_failing(&rt, words, &files, NONE_FAILS)?;
         assert_eq!(rt; ran.status, 2);
         assert_eq!(rt; ran.out.written(), b"".as_slice());
         assert_eq!(rt; ran.err.written(), b"lid: usage\n".as_slice());
+    }
+    Ok(())
+}
+
+#[test]
+fn options_stand_before_between_and_after_files(rt: HostRuntime) -> Result<(), Fail> {
+    let files = [
+        ("one.blif", REGISTER),
+        ("one.vec", "d\n1\n0\n"),
+        ("-", "d\n1\n0\n"),
+        ("--vec", "d\n1\n0\n"),
+    ];
+    let cases: [&[&str]; 8] = [
+        &["strict", "one.blif", "one.vec"],
+        &["strict", "--root", "one", "one.blif", "one.vec"],
+        &["--root", "one", "strict", "one.blif", "one.vec"],
+        &["strict", "one.blif", "--root=one", "one.vec"],
+        &["strict", "one.blif", "one.vec", "--root", "one"],
+        &["strict", "--", "one.blif", "one.vec"],
+        &["strict", "one.blif", "--", "--vec"],
+        &["strict", "one.blif", "-"],
+    ];
+    for words in cases {
+        let ran = run_failing(&rt, words, &files, NONE_FAILS)?;
+        assert_eq!(rt; ran.status, 0);
+        assert_eq!(rt; ran.out.written(), b"q\n0\n1\n".as_slice());
+    }
+    Ok(())
+}
+
+#[test]
+fn a_root_that_no_model_has_is_refused(rt: HostRuntime) -> Result<(), Fail> {
+    let files = [("one.blif", REGISTER), ("one.vec", "d\n1\n0\n")];
+    let cases: [&[&str]; 2] = [
+        &["strict", "one.blif", "one.vec", "--root", "two"],
+        &["strict", "one.blif", "one.vec", "--root="],
+    ];
+    for words in cases {
+        let ran = run_failing(&rt, words, &files, NONE_FAILS)?;
+        assert_eq!(rt; ran.status, 1);
+        assert_eq!(rt; ran.out.written(), b"".as_slice());
+        assert_eq!(rt; ran.err.written(), b"lid: check NoRoot\n".as_slice());
     }
     Ok(())
 }

@@ -3,15 +3,15 @@
 ghost use Rattle.std.specs.Prelude.{◌≡◌, ◌≢◌, ◌≤◌, ◌⊎◌, None, IfSome, IsSomeAnd};
 ghost use Rattle.lid_base.specs.Outside.{Rose, Appended, AppendedPrefix};
 ghost use Rattle.lid.specs.Faults.{write_line};
-ghost use Rattle.lid.specs.Jobs.{job_of, job_shown};
+ghost use Rattle.lid_words.specs.Jobs.{job_of};
 ghost use Rattle.lid.specs.Scripts.{script_of};
 ghost use Rattle.lid.specs.Statuses.{Says, Writes, WritesPrefix, SaysRefusal, SaysRead, SaysPlain, ReadsAll, IsStatusOf};
 
-use crate::fault::{say_stop, say_usage, say_write};
-use crate::job::{Job, job_in};
+use crate::fault::{say_memory, say_stop, say_usage, say_write};
 use crate::run::text_of;
 use lid_base::{Gate, Shelf, Sink, Text};
 use lid_io::write_all;
+use lid_words::{Job, read_words};
 use std::alloc::Global;
 use std::thread::Threads;
 
@@ -71,11 +71,16 @@ where
         → (result ≡ 5) ⊎ IsStatusOf (S.held shelf.old) (script_of job) result) }
 {
     let _ = gate;
-    match job_in(words) {
-        Some(job) => run_job(rt.alloc(), job, shelf, out, err),
-        None => {
+    let alloc = rt.alloc();
+    match read_words(alloc, words) {
+        Ok(Some(job)) => run_job(alloc, &job, shelf, out, err),
+        Ok(None) => {
             say_usage(err);
             2
+        }
+        Err(_) => {
+            say_memory(err);
+            5
         }
     }
 }
@@ -83,27 +88,27 @@ where
 /// Runs a job, and answers its status.
 fn run_job<S: Shelf, O: Sink, E: Sink>(
     alloc: Global,
-    job: Job<'_>,
+    job: &Job,
     shelf: &mut S,
     out: &mut O,
     err: &mut E,
 ) -> u8
-    ensures done { result ≡ 0 → Writes (S.held shelf.old) (script_of (job_shown job.entry)) (O.written out.old) (O.written out.new) }
-    ensures refused { result ≡ 1 → SaysRefusal (S.held shelf.old) (script_of (job_shown job.entry))
+    ensures done { result ≡ 0 → Writes (S.held shelf.old) (script_of job.now) (O.written out.old) (O.written out.new) }
+    ensures refused { result ≡ 1 → SaysRefusal (S.held shelf.old) (script_of job.now)
         (Says (E.written err.old) (E.written err.new) (E.faults err.old) (E.faults err.new)) }
-    ensures read { result ≡ 3 → SaysRead (S.held shelf.old) (script_of (job_shown job.entry)) (S.faults shelf.old) (S.faults shelf.new)
+    ensures read { result ≡ 3 → SaysRead (S.held shelf.old) (script_of job.now) (S.faults shelf.old) (S.faults shelf.new)
         (Says (E.written err.old) (E.written err.new) (E.faults err.old) (E.faults err.new)) }
     ensures write { result ≡ 4 → Rose (O.faults out.old) (O.faults out.new)
-        × WritesPrefix (S.held shelf.old) (script_of (job_shown job.entry)) (O.written out.old) (O.written out.new) }
+        × WritesPrefix (S.held shelf.old) (script_of job.now) (O.written out.old) (O.written out.new) }
     ensures unwritten { result ≢ 0 → result ≢ 4 → out.new ≡ out.old }
     ensures says { SaysPlain result (Says (E.written err.old) (E.written err.new) (E.faults err.old) (E.faults err.new)) }
     ensures quiet { result ≡ 0 → err.new ≡ err.old }
     ensures job { result ≢ 2 }
     ensures most { result ≤ 5 }
     ensures kept { S.held shelf.new ≡ S.held shelf.old }
-    ensures complete { ReadsAll (S.held shelf.old) (script_of (job_shown job.entry)) (S.faults shelf.old) (S.faults shelf.new)
+    ensures complete { ReadsAll (S.held shelf.old) (script_of job.now) (S.faults shelf.old) (S.faults shelf.new)
         → ¬ Rose (O.faults out.old) (O.faults out.new)
-        → (result ≡ 5) ⊎ IsStatusOf (S.held shelf.old) (script_of (job_shown job.entry)) result }
+        → (result ≡ 5) ⊎ IsStatusOf (S.held shelf.old) (script_of job.now) result }
 {
     match text_of(alloc, shelf, job) {
         Ok(text) => write_out(out, err, &text),

@@ -7,7 +7,7 @@ use Rattle.lid.proofs.run.rows_text.Goals as goal
 pub returns-in-Ok-clause-ok : goal.returns-in-Ok-clause-ok
 unfolding rows_script
 returns-in-Ok-clause-ok g c =
-    let d = c.args.design.now in
+    let d = c.args.checked.now in
     let next : List (List Bool) → Script = λ rows. end (gives (strict_output d rows)) in
     let bits = c.in-Ok.rows.bits in
     if_ok c.strict_text.result
@@ -18,7 +18,7 @@ returns-in-Ok-clause-ok g c =
 pub returns-in-Err-clause-err : goal.returns-in-Err-clause-err
 unfolding rows_script
 returns-in-Err-clause-err g c =
-    let d = c.args.design.now in
+    let d = c.args.checked.now in
     let next : List (List Bool) → Script = λ rows. end (gives (strict_output d rows)) in
     cause_here (g.S.Shelf.held c.args.shelf.now) c.args.vec.now rows_limit (vec_reading d) next (g.S.Shelf.faults c.args.shelf.now)
     (g.S.Shelf.faults c.read_vec.new.shelf) c.in-Err.stop c.in-Err.ensures.err
@@ -26,5 +26,5 @@ returns-in-Err-clause-err g c =
 pub returns-in-Ok-clause-err : goal.returns-in-Ok-clause-err
 returns-in-Ok-clause-err g c =
     if_err c.strict_text.result
-    (want_anywhere (g.S.Shelf.held c.args.shelf.now) (rows_script c.args.design.now c.args.vec.now) (g.S.Shelf.faults c.args.shelf.now) (g.S.Shelf.faults c.read_vec.new.shelf))
+    (want_anywhere (g.S.Shelf.held c.args.shelf.now) (rows_script c.args.checked.now c.args.vec.now) (g.S.Shelf.faults c.args.shelf.now) (g.S.Shelf.faults c.read_vec.new.shelf))
     c.strict_text.ensures.err

@@ -1,0 +1,9 @@
+pub mod Apart
+pub mod Assembly
+pub mod Geometry
+pub mod Leads
+pub mod Lists
+pub mod Marking
+pub mod Numbered
+pub mod Exclusive
+pub mod Widths

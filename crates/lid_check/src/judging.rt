@@ -1,0 +1,78 @@
+ghost use Rattle.std.specs.Prelude.{◌≡◌, ◌⊎◌, length, IfOk, IfErr};
+ghost use Rattle.lid_design.specs.Loops.{pearls};
+ghost use Rattle.lid_design.specs.WellFormed.{IsWellFormed};
+ghost use Rattle.lid_rules.specs.declared.fault.CheckFault.TheVariants.{Memory};
+ghost use Rattle.lid_rules.specs.Acceptance.{ModelsPass};
+ghost use Rattle.lid_check.specs.Acceptance.{IsAccepted, IsRefusal};
+ghost use Rattle.lid_check.specs.Facts.{AreFacts};
+
+use crate::loops::order_columns;
+use crate::outputs::judge_outputs;
+use crate::pearls::find_inputs;
+use lid_base::{Items, Name};
+use lid_columns::{elaborate, find_reads};
+use lid_design::Design;
+use lid_models::Survey;
+use lid_rules::{CheckFault, check_models, count_latches};
+use std::alloc::Global;
+
+/// What is kept of an accepted design.
+#[derive(Drop)]
+pub struct Facts {
+    /// The data inputs of the root, in order.
+    pub inputs: Items<Name>,
+    pub pearls: u32,
+    pub latches: u64,
+    pub defaulted: u64,
+}
+
+/// Judges a design with its root by all conditions but `NoRoot`.
+///
+/// # Errors
+/// The first condition that applies is told, at its first place. `Memory` may come at any design.
+pub fn judge(alloc: Global, design: &Design) -> Result<Facts, CheckFault>
+    requires { IsWellFormed design.now }
+    ensures ok { IfOk result (λ facts. AreFacts design.now facts) }
+    ensures err { IfErr result (λ fault. (fault ≡ Memory) ⊎ IsRefusal design.now fault) }
+{
+    let survey = check_models(alloc, design)?;
+    let columns = elaborate(alloc, &survey)?;
+    let reads = find_reads(alloc, columns.drivers.as_slice())?;
+    let order = order_columns(alloc, &survey, &columns, reads.as_slice())?;
+    if let Err(fault) = judge_outputs(
+        alloc,
+        &survey,
+        &columns,
+        reads.as_slice(),
+        order.as_slice(),
+    ) {
+        return Err(fault);
+    }
+    find_facts(alloc, &survey)
+}
+
+/// What is kept of a design: its inputs and its counts.
+fn find_facts(alloc: Global, survey: &Survey<'_>) -> Result<Facts, CheckFault>
+    requires passed { ModelsPass survey.now }
+    requires accepted { IsAccepted survey.now }
+    ensures ok { IfOk result (λ facts. AreFacts survey.now facts) }
+    ensures err { IfErr result (λ fault. fault ≡ Memory) }
+{
+    let latches = count_latches(alloc, survey)?;
+    let inputs = find_inputs(alloc, survey, survey.design().root)?;
+    Ok(Facts {
+        inputs,
+        pearls: count_pearls(survey),
+        latches: latches.all,
+        defaulted: latches.defaulted,
+    })
+}
+
+/// How many pearls there are: the instances of the root, or one where it has none.
+fn count_pearls(survey: &Survey<'_>) -> u32
+    ensures { result ≡ length (pearls survey.now) }
+{
+    let design = survey.design();
+    let insts = design.models.as_slice()[design.root as usize].insts.len();
+    if insts == 0 { 1 } else { insts as u32 }
+}

@@ -1,0 +1,207 @@
+//! Pearls, and the numbers of their columns.
+
+ghost use Rattle.std.specs.Prelude.{◌≡◌, ◌⊎◌, ◌↔◌, ◌+◌, ◌<◌, ◌≤◌, ℕ, true, false, not, length, filter, IfOk, OnOk};
+ghost use Rattle.std.specs.List.{AllByRecursion};
+ghost use Rattle.lid_design.specs.Models.{IsReached, insts_of, is_clock_of};
+ghost use Rattle.lid_order.specs.Graphs.{flag};
+ghost use Rattle.lid_check.specs.Pearls.{inputs_of, number_in, IsNumberOf, IsInputOf, Fits, is_marked, ArePearls};
+
+use lid_base::{Items, Name};
+use lid_models::Survey;
+use std::alloc::{AllocError, Global};
+
+/// A pearl: an instance of the root, or the root itself where it has none.
+#[derive(Clone, Copy)]
+pub(crate) struct Pearl {
+    /// The number of its model.
+    pub(crate) model: u32,
+    /// The number of its first column.
+    pub(crate) start: u32,
+}
+
+/// The names that are no clock names of a model.
+fn without_clocks(
+    alloc: Global,
+    survey: &Survey<'_>,
+    model: u32,
+    names: &[Name],
+) -> Result<Items<Name>, AllocError>
+    requires { IsReached survey.now model }
+    ensures { IfOk result (λ found. found ≡ filter (λ net. not (is_clock_of survey.now model net)) names.now) }
+{
+    let mut found = Vec::new(alloc);
+    for name in names {
+        if !survey.is_clock(model, name.as_slice()) {
+            found.push(Items::from_vec(name.as_slice().to_vec(alloc)?))?;
+        }
+    }
+    Ok(Items::from_vec(found))
+}
+
+/// The data inputs of a reached model, in order.
+///
+/// # Errors
+/// Where there is no memory.
+pub(crate) fn find_inputs(
+    alloc: Global,
+    survey: &Survey<'_>,
+    model: u32,
+) -> Result<Items<Name>, AllocError>
+    requires { IsReached survey.now model }
+    ensures { IfOk result (λ names. names ≡ inputs_of survey.now model) }
+{
+    match survey.design().models.as_slice().get(model as usize) {
+        Some(body) => without_clocks(alloc, survey, model, body.inputs.as_slice()),
+        None => Ok(Items::from_vec(Vec::new(alloc))),
+    }
+}
+
+/// A pearl for each instance of the root, by the numbers of their first columns.
+fn list_instances(
+    alloc: Global,
+    survey: &Survey<'_>,
+    starts: &[u32],
+) -> Result<Items<Pearl>, AllocError>
+    requires some { 0 < length (insts_of survey.now survey.now.root) }
+    requires count { length starts.now ≡ length (insts_of survey.now survey.now.root) }
+    ensures { IfOk result (ArePearls survey.now starts.now) }
+{
+    let root = survey.design().root;
+    let mut pearls = Vec::new(alloc);
+    for i in 0..starts.len() {
+        match survey.model_of(root, i as u32) {
+            Some(model) => pearls.push(Pearl {
+                model,
+                start: starts[i],
+            })?,
+            None => unreachable!(),
+        }
+    }
+    Ok(Items::from_vec(pearls))
+}
+
+/// The pearls of a design, by the numbers of the first columns of the root's instances.
+///
+/// # Errors
+/// Where there is no memory.
+pub(crate) fn list_pearls(
+    alloc: Global,
+    survey: &Survey<'_>,
+    starts: &[u32],
+) -> Result<Items<Pearl>, AllocError>
+    requires { length starts.now ≡ length (insts_of survey.now survey.now.root) }
+    ensures { IfOk result (ArePearls survey.now starts.now) }
+{
+    if starts.is_empty() {
+        let whole = Pearl {
+            model: survey.design().root,
+            start: 0,
+        };
+        return Ok(Items::from_vec(vec![in alloc; whole]?));
+    }
+    list_instances(alloc, survey, starts)
+}
+
+/// The number of the column of a net of a pearl, where it has one.
+pub(crate) fn number_of(survey: &Survey<'_>, pearl: Pearl, net: &[u8]) -> Option<u32>
+    requires { Fits survey.now 1048577 pearl }
+    ensures { result ≡ number_in survey.now pearl net.now }
+{
+    match survey.place_of(pearl.model, net) {
+        Some(place) => Some(pearl.start + place as u32),
+        None => None,
+    }
+}
+
+/// Whether the column of a net of a pearl is marked.
+pub(crate) fn is_marked(survey: &Survey<'_>, pearl: Pearl, marks: &[bool], net: &[u8]) -> bool
+    requires fits { Fits survey.now (length marks.now) pearl }
+    requires few { length marks.now ≤ 1048576 }
+    ensures { result ≡ is_marked survey.now pearl marks.now net.now }
+{
+    match number_of(survey, pearl, net) {
+        Some(number) => marks[number as usize],
+        None => false,
+    }
+}
+
+/// Marks the column of a net of a pearl, where it has one.
+fn mark_net(marks: &mut [bool], survey: &Survey<'_>, pearl: Pearl, net: &[u8])
+    requires fits { Fits survey.now (length marks.old) pearl }
+    requires few { length marks.old ≤ 1048576 }
+    ensures { (k : ℕ) → (flag marks.new k ≡ true) ↔ ((flag marks.old k ≡ true) ⊎ (number_in survey.now pearl net.now ≡ Some k)) }
+{
+    match number_of(survey, pearl, net) {
+        Some(number) => marks[number as usize] = true,
+        None => (),
+    }
+}
+
+/// Marks the columns of some nets of a pearl.
+fn mark_nets(marks: &mut [bool], survey: &Survey<'_>, pearl: Pearl, nets: &[Name])
+    requires fits { Fits survey.now (length marks.old) pearl }
+    requires few { length marks.old ≤ 1048576 }
+    ensures { (k : ℕ) → (flag marks.new k ≡ true) ↔ ((flag marks.old k ≡ true) ⊎ IsNumberOf survey.now pearl nets.now k) }
+{
+    for net in nets {
+        mark_net(marks, survey, pearl, net.as_slice());
+    }
+}
+
+/// Marks the columns of the data inputs of some pearls.
+fn mark_inputs(
+    alloc: Global,
+    marks: &mut [bool],
+    survey: &Survey<'_>,
+    pearls: &[Pearl],
+) -> Result<(), AllocError>
+    requires fit { AllByRecursion (Fits survey.now (length marks.old)) pearls.now }
+    requires few { length marks.old ≤ 1048576 }
+    ensures { OnOk result ((k : ℕ) → (flag marks.new k ≡ true) ↔ ((flag marks.old k ≡ true) ⊎ IsInputOf survey.now pearls.now k)) }
+{
+    for pearl in pearls {
+        let inputs = find_inputs(alloc, survey, pearl.model)?;
+        mark_nets(marks, survey, *pearl, inputs.as_slice());
+    }
+    Ok(())
+}
+
+/// For each column whether it is that of a data input of a pearl.
+///
+/// # Errors
+/// Where there is no memory.
+pub(crate) fn find_starts(
+    alloc: Global,
+    survey: &Survey<'_>,
+    pearls: &[Pearl],
+    count: usize,
+) -> Result<Items<bool>, AllocError>
+    requires fit { AllByRecursion (Fits survey.now count) pearls.now }
+    requires few { count ≤ 1048576 }
+    ensures count { IfOk result (λ starts. length starts ≡ count) }
+    ensures exact { IfOk result (λ starts. (k : ℕ) → (flag starts k ≡ true) ↔ IsInputOf survey.now pearls.now k) }
+{
+    let mut starts = Vec::from_elem(alloc, false, count)?;
+    mark_inputs(alloc, starts.as_mut_slice(), survey, pearls)?;
+    Ok(Items::from_vec(starts))
+}
+
+/// Marks the first ones of some numbers.
+///
+/// # Errors
+/// Where there is no memory.
+pub(crate) fn mark_first(
+    alloc: Global,
+    first: usize,
+    count: usize,
+) -> Result<Items<bool>, AllocError>
+    requires { first ≤ count }
+    ensures count { IfOk result (λ marks. length marks ≡ count) }
+    ensures exact { IfOk result (λ marks. (k : ℕ) → (flag marks k ≡ true) ↔ (k < first)) }
+{
+    let mut marks = Vec::from_elem(alloc, false, count)?;
+    for k in 0..first {
+        marks[k] = true;
+    }
+    Ok(Items::from_vec(marks))
+}

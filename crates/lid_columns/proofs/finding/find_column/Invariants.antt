@@ -1,0 +1,10 @@
+use Rattle.std.proofs.Common.{reverse}
+use Rattle.lid_columns.specs.Numbers.{weight_of}
+use Rattle.lid_columns.proofs.Entering.{IsSpot}
+use Rattle.lid_columns.proofs.finding.find_column.Given as goal
+
+abbrev pub invariant-loop-spot : goal.invariant-loop-spot
+invariant-loop-spot l = IsSpot l.survey (reverse l.path.items) l.spot.model l.spot.number l.number
+
+abbrev pub decreases-loop-spot : goal.decreases-loop-spot
+decreases-loop-spot l = weight_of l.survey l.spot.model

@@ -1,0 +1,6 @@
+pub mod Elaborations
+pub mod Numbers
+pub mod Locals
+pub mod Templates
+pub mod Writing
+pub mod Parts

@@ -1,0 +1,58 @@
+ghost use Rattle.std.specs.Prelude.{◌≡◌, ◌≤◌, length, map, IfOk};
+ghost use Rattle.lid_rules.specs.Acceptance.{ModelsPass};
+ghost use Rattle.lid_columns.specs.Elaborations.{shown_driver, IsElaborated};
+ghost use Rattle.lid_columns.specs.Writing.{IsJudged};
+
+use crate::driver::Driver;
+use crate::template::find_templates;
+use crate::writing::write_all;
+use lid_base::Items;
+use lid_models::Survey;
+use std::alloc::{AllocError, Global};
+
+/// The columns of a design in order: by the paths of their models, a path before its extensions and
+/// instances in order, and at a path by the first appearance of their names.
+#[derive(Drop)]
+pub struct Elaboration<'d> {
+    /// What drives each column.
+    pub drivers: Items<Driver<'d>>,
+    /// For each instance of the root, the number of its first column.
+    pub starts: Items<u32>,
+}
+
+/// Numbers the columns of a design that meets the conditions on models.
+pub fn elaborate<'d>(alloc: Global, survey: &Survey<'d>) -> Result<Elaboration<'d>, AllocError>
+    requires { ModelsPass survey.now }
+    ensures whole { IfOk result (λ e. IsElaborated survey.now (map shown_driver e.drivers) e.starts) }
+    ensures few { IfOk result (λ e. length e.drivers ≤ 1048576) }
+{
+    judge(survey);
+    let templates = find_templates(alloc, survey)?;
+    let drivers = write_all(alloc, survey, templates.as_slice())?;
+    let root = &templates.as_slice()[survey.design().root as usize];
+    let starts = copy_all(alloc, root.offsets.as_slice())?;
+    Ok(Elaboration {
+        drivers: Items::from_vec(drivers),
+        starts,
+    })
+}
+
+/// What a survey tells of a design that meets the conditions on models.
+pub fn judge(survey: &Survey<'_>)
+    requires { ModelsPass survey.now }
+    ensures { IsJudged survey.now }
+{
+    let _ = survey.design();
+    let _ = survey.order();
+}
+
+/// Some numbers once more.
+fn copy_all(alloc: Global, numbers: &[u32]) -> Result<Items<u32>, AllocError>
+    ensures { IfOk result (λ copied. copied ≡ numbers.now) }
+{
+    let mut copied = Vec::with_capacity(alloc, numbers.len())?;
+    for number in numbers {
+        copied.push(*number)?;
+    }
+    Ok(Items::from_vec(copied))
+}

@@ -1,0 +1,173 @@
+ghost use Rattle.std.specs.Prelude.{◌≡◌, ◌≤◌, ◌<◌, ◌+◌, length, map, IfOk};
+ghost use Rattle.std.specs.List.{All};
+ghost use Rattle.lid_design.specs.Models.{IsReached};
+ghost use Rattle.lid_columns.specs.Elaborations.{shown_driver};
+ghost use Rattle.lid_columns.specs.Parts.{AreSizes, output_sets};
+ghost use Rattle.lid_columns.specs.Templates.{shown_local, placed, seen_around, IsSmall};
+ghost use Rattle.lid_columns.specs.Writing.{IsJudged, IsTemplate, AreTemplates};
+
+use crate::bound::actuals_of;
+use crate::driven::{collect_outputs, driven_of};
+use crate::driver::Driver;
+use crate::picks::picks_of;
+use crate::sizes::{find_sizes, offsets_of};
+use lid_base::Items;
+use lid_cover::Cover;
+use lid_models::Survey;
+use lid_names::NameSet;
+use std::alloc::{AllocError, Global};
+
+/// What drives a net inside its model. Nets are told by their places among the nets of a model.
+#[derive(Drop)]
+pub enum LocalDriver<'d> {
+    /// A data input of the model, by its place among them.
+    Input(u32),
+    /// A latch, that begins with the bit `first`.
+    Latch {
+        first: bool,
+        input: u32,
+    },
+    /// A cover, with its inputs in order.
+    Cover {
+        cover: &'d Cover,
+        inputs: Items<u32>,
+    },
+    /// A net of the model of an instance, that is bound to this one.
+    Output {
+        inst: u32,
+        net: u32,
+    },
+}
+
+/// What is known of a model before it is placed.
+#[derive(Drop)]
+pub struct Template<'d> {
+    /// All that drives nets of the model.
+    pub locals: Items<LocalDriver<'d>>,
+    /// For each net, the place of what drives it among `locals`.
+    pub picks: Items<u32>,
+    /// For each instance, how many columns of the model and of earlier instances stand before it.
+    pub offsets: Items<u32>,
+    /// For each instance, the nets that its data inputs are bound to.
+    pub actuals: Items<Items<u32>>,
+}
+
+/// What gives a column its bit, from what drives its net in its model. The columns of the place
+/// begin at `start`, those of its instances at `offsets` behind it. In an instance, `around` has the
+/// first column of the place around, and the nets there that the inputs are bound to.
+pub fn place_driver<'d>(
+    alloc: Global,
+    start: u32,
+    offsets: &[u32],
+    around: Option<(u32, &[u32])>,
+    local: &LocalDriver<'d>,
+) -> Result<Driver<'d>, AllocError>
+    requires start { start ≤ 1048576 }
+    requires small { IsSmall offsets.now (seen_around around) (shown_local local.now) }
+    ensures { IfOk result (λ driver. shown_driver driver ≡ placed start offsets.now (seen_around around.entry) (shown_local local.now)) }
+{
+    Ok(match local {
+        LocalDriver::Input(place) => match around {
+            None => Driver::Given(*place),
+            Some((first, actuals)) => Driver::Same(first + actuals[*place as usize]),
+        },
+        LocalDriver::Latch { first, input } => Driver::Held {
+            first: *first,
+            input: start + *input,
+        },
+        LocalDriver::Cover { cover, inputs } => Driver::Made {
+            cover: *cover,
+            inputs: shift_all(alloc, start, inputs.as_slice())?,
+        },
+        LocalDriver::Output { inst, net } => {
+            Driver::Same(start + (offsets[*inst as usize] + *net))
+        }
+    })
+}
+
+/// Some numbers, each greater by `start`.
+fn shift_all(alloc: Global, start: u32, numbers: &[u32]) -> Result<Items<u32>, AllocError>
+    requires start { start ≤ 1048576 }
+    requires small { All (λ n. n ≤ 1048576) numbers.now }
+    ensures { IfOk result (λ shifted. shifted ≡ map (λ n. start + n) numbers.now) }
+{
+    let mut shifted = Vec::with_capacity(alloc, numbers.len())?;
+    for number in numbers {
+        shifted.push(start + *number)?;
+    }
+    Ok(Items::from_vec(shifted))
+}
+
+/// What is known of each reached model before it is placed, by the model's number.
+pub fn find_templates<'d>(
+    alloc: Global,
+    survey: &Survey<'d>,
+) -> Result<Items<Template<'d>>, AllocError>
+    requires { IsJudged survey.now }
+    ensures { IfOk result (AreTemplates survey.now) }
+{
+    let sizes = find_sizes(alloc, survey)?;
+    let outputs = collect_outputs(alloc, survey.design().models.as_slice())?;
+    let mut templates = Vec::with_capacity(alloc, sizes.len())?;
+    for model in 0..sizes.len() as u32 {
+        let template = template_of(alloc, survey, sizes.as_slice(), outputs.as_slice(), model)?;
+        templates.push(template)?;
+    }
+    Ok(Items::from_vec(templates))
+}
+
+/// What is known of a model before it is placed; nothing where it is not reached.
+fn template_of<'d>(
+    alloc: Global,
+    survey: &Survey<'d>,
+    sizes: &[Option<u32>],
+    outputs: &[NameSet<'d>],
+    model: u32,
+) -> Result<Template<'d>, AllocError>
+    requires judged { IsJudged survey.now }
+    requires sizes { AreSizes survey.now (IsReached survey.now) sizes.now }
+    requires outputs { outputs.now ≡ output_sets survey.now.models }
+    requires below { model < length sizes.now }
+    ensures { IfOk result (λ t. IsReached survey.now model → IsTemplate survey.now model t) }
+{
+    match sizes[model as usize] {
+        Some(_) => describe(alloc, survey, sizes, outputs, model),
+        None => Ok(no_template(alloc)),
+    }
+}
+
+/// What is known of a reached model before it is placed.
+fn describe<'d>(
+    alloc: Global,
+    survey: &Survey<'d>,
+    sizes: &[Option<u32>],
+    outputs: &[NameSet<'d>],
+    model: u32,
+) -> Result<Template<'d>, AllocError>
+    requires judged { IsJudged survey.now }
+    requires reached { IsReached survey.now model }
+    requires sizes { AreSizes survey.now (IsReached survey.now) sizes.now }
+    requires outputs { outputs.now ≡ output_sets survey.now.models }
+    ensures { IfOk result (IsTemplate survey.now model) }
+{
+    let driven = driven_of(alloc, survey, outputs, model)?;
+    let picks = picks_of(alloc, survey, driven.nets.as_slice(), model)?;
+    let offsets = offsets_of(alloc, survey, sizes, model)?;
+    let actuals = actuals_of(alloc, survey, model)?;
+    Ok(Template {
+        locals: Items::from_vec(driven.locals),
+        picks,
+        offsets,
+        actuals,
+    })
+}
+
+/// A template of nothing.
+fn no_template<'d>(alloc: Global) -> Template<'d> {
+    Template {
+        locals: Items::from_vec(Vec::new(alloc)),
+        picks: Items::from_vec(Vec::new(alloc)),
+        offsets: Items::from_vec(Vec::new(alloc)),
+        actuals: Items::from_vec(Vec::new(alloc)),
+    }
+}

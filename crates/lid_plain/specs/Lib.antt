@@ -1,4 +1,0 @@
-pub mod Built
-pub mod Netlists
-pub mod Steps
-pub mod Texts

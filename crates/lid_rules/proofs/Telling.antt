@@ -1,0 +1,41 @@
+-- What conditions tell, by the names that they tell of.
+use Rattle.std.proofs.Common.{slice_get, ◌≡◌, ℕ, not, find, Option, Some, None, option_map, option_and_then, refl, ◌∙◌, ap}
+use Rattle.lid_design.specs.declared.Design.{Design}
+use Rattle.lid_design.specs.declared.Model.{Model}
+use Rattle.lid_design.specs.declared.Inst.{Inst}
+use Rattle.lid_design.specs.Columns.{is_among, model_named, data_inputs}
+use Rattle.lid_design.specs.Models.{is_port}
+use Rattle.lid_rules.specs.declared.fault.CheckFault.TheVariants as fault
+use Rattle.lid_rules.specs.declared.instances.InstRule.{InstRule}
+use Rattle.lid_rules.specs.declared.instances.InstRule.TheVariants.{UnknownFormal, FormalTwice, Unbound}
+use Rattle.lid_rules.specs.declared.names.NameRule.{NameRule}
+use Rattle.lid_rules.specs.declared.names.NameRule.TheVariants.{TwoDrivers, Undriven, ClockUse}
+use Rattle.lid_rules.specs.Conditions.{formal_of, formals, first_name}
+use Rattle.lid_rules.specs.declared.rules.Rule.{Rule}
+use Rattle.lid_rules.specs.Rules.{rule_at, rule_in, inst_rule, faulty_formal, told_formal, name_rule, is_faulty, told_name}
+use Rattle.lid_rules.proofs.Sets.{find-map}
+
+map-then : {A B C : Type 0} (f : B → C) (g : A → Option B) (o : Option A) → option_and_then (λ a. option_map f (g a)) o ≡ option_map f (option_and_then g o)
+map-then f g None = refl
+map-then f g (Some a) = refl
+
+then-same : {A B : Type 0} (f g : A → Option B) (o : Option A) → ((a : A) → f a ≡ g a) → option_and_then f o ≡ option_and_then g o
+then-same f g None same = refl
+then-same f g (Some a) same = same a
+
+pub rule_by_formal : (rule : InstRule) (d : Design) (m : Model) (i : ℕ) (inst : Inst) → inst_rule rule d m i inst ≡ option_map (told_formal rule m.name i) (faulty_formal rule d inst)
+rule_by_formal UnknownFormal d m i inst =
+    then-same _ _ (model_named d inst.model) (λ sub. find-map (fault.UnknownFormal m.name i) (λ n. not (is_port sub n)) formal_of inst.binds)
+    ∙ map-then (fault.UnknownFormal m.name i) (λ sub. find (λ n. not (is_port sub n)) (formals inst)) (model_named d inst.model)
+rule_by_formal FormalTwice d m i inst = refl
+rule_by_formal Unbound d m i inst = map-then (fault.Unbound m.name i) (λ sub. find (λ n. not (is_among n (formals inst))) (data_inputs d sub)) (model_named d inst.model)
+
+pub rule_by_name : (rule : NameRule) (d : Design) (m : Model) → name_rule rule d m ≡ option_map (told_name rule m.name) (first_name (is_faulty rule d m) m)
+rule_by_name TwoDrivers d m = refl
+rule_by_name Undriven d m = refl
+rule_by_name ClockUse d m = refl
+
+-- what a condition tells of the model of a number
+pub rule_here : (rule : Rule) (d : Design) (k : ℕ) (m : Model) → slice_get d.models k ≡ Some m → rule_at rule d k ≡ rule_in rule d m
+unfolding rule_at
+rule_here rule d k m here = ap (option_and_then (rule_in rule d)) here

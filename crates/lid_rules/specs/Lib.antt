@@ -1,0 +1,9 @@
+pub mod Conditions
+pub mod Acceptance
+pub mod Ports
+pub mod Rules
+pub mod Early
+pub mod Edges
+pub mod Counts
+pub mod Limits
+pub mod Late

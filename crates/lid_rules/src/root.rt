@@ -1,0 +1,153 @@
+ghost use Rattle.std.specs.Prelude.{◌≡◌, ◌==◌, ◌&&◌, ◌||◌, not, true, false, [], ◌∷◌, Some, Option, filter, find, length, option_map, slice_get, IfOk};
+ghost use Rattle.std.specs.List.{AllByRecursion};
+ghost use denote.Ref.{Bor};
+ghost use Rattle.lid_cover.specs.Cover.{IsCover, cover_value};
+ghost use Rattle.lid_names.specs.Names.{texts};
+ghost use Rattle.lid_design.specs.declared.Cell.{Cell};
+ghost use Rattle.lid_design.specs.WellFormed.{IsWellFormedCell};
+ghost use Rattle.lid_design.specs.Columns.{is_clock};
+ghost use Rattle.lid_design.specs.Models.{IsReached, is_clock_of, port_drivers, is_buffer, is_constant};
+ghost use Rattle.lid_rules.specs.Conditions.{first_two, two_clocks, root_logic, logic_in};
+
+use crate::fault::CheckFault;
+use crate::lists::{copy_name, out_of};
+use crate::names::push_port_drivers;
+use crate::ports::Ports;
+use lid_base::Name;
+use lid_cover::{Cover, eval};
+use lid_design::{Cell, Model};
+use std::alloc::{AllocError, Global};
+
+/// Tells of the first two clock names of the root, where it has more than one.
+pub fn find_two_clocks(alloc: Global, ports: &Ports<'_>) -> Result<Option<CheckFault>, AllocError>
+    ensures { IfOk result (λ told. told ≡ two_clocks ports.now) }
+{
+    let root = ports.survey().design().root;
+    match ports.model(root) {
+        Some(model) => judge_clocks(alloc, ports, root, model),
+        None => Ok(None),
+    }
+}
+
+/// Tells of the first two clock names of a model, where it has more than one.
+fn judge_clocks<'d>(
+    alloc: Global,
+    ports: &Ports<'d>,
+    k: u32,
+    model: &'d Model,
+) -> Result<Option<CheckFault>, AllocError>
+    requires reached { IsReached ports.now k }
+    requires model { slice_get ports.now.models k ≡ Some model.now }
+    ensures { IfOk result (λ told. told ≡ first_two (filter (is_clock ports.now model.now) (port_drivers model.now))) }
+{
+    let mut names = Vec::new(alloc);
+    push_port_drivers(&mut names, ports, k, model)?;
+    let clocks = keep_clocks(alloc, ports, k, names.as_slice())?;
+    tell_two(alloc, clocks.as_slice())
+}
+
+/// Those of some names that are clock names of a model.
+fn keep_clocks<'d>(
+    alloc: Global,
+    ports: &Ports<'d>,
+    k: u32,
+    names: &[&'d [u8]],
+) -> Result<Vec<&'d [u8]>, AllocError>
+    requires { IsReached ports.now k }
+    ensures { IfOk result (λ clocks. texts clocks.items ≡ filter (is_clock_of ports.now k) (texts names.now)) }
+{
+    let mut clocks = Vec::new(alloc);
+    for name in names {
+        if ports.survey().is_clock(k, name) {
+            clocks.push(*name)?;
+        }
+    }
+    Ok(clocks)
+}
+
+/// Tells of the first two of some names, where there are two.
+fn tell_two(alloc: Global, names: &[&[u8]]) -> Result<Option<CheckFault>, AllocError>
+    ensures { IfOk result (λ told. told ≡ first_two (texts names.now)) }
+{
+    if names.len() < 2 {
+        return Ok(None);
+    }
+    Ok(Some(CheckFault::TwoClocks {
+        first: copy_name(alloc, names[0])?,
+        second: copy_name(alloc, names[1])?,
+    }))
+}
+
+/// Tells of a root with instances that has a cell which is neither a buffer nor a constant.
+pub fn find_root_logic(alloc: Global, ports: &Ports<'_>) -> Result<Option<CheckFault>, AllocError>
+    ensures { IfOk result (λ told. told ≡ root_logic ports.now) }
+{
+    match ports.model(ports.survey().design().root) {
+        Some(model) => judge_logic(alloc, model),
+        None => Ok(None),
+    }
+}
+
+/// Tells of a model with instances that has a cell which is neither a buffer nor a constant.
+fn judge_logic(alloc: Global, model: &Model) -> Result<Option<CheckFault>, AllocError>
+    requires { AllByRecursion IsWellFormedCell model.now.cells }
+    ensures { IfOk result (λ told. told ≡ logic_in model.now) }
+{
+    if model.insts.is_empty() {
+        return Ok(None);
+    }
+    match find_logic(model.cells.as_slice()) {
+        Some(cell) => Ok(Some(CheckFault::RootLogic {
+            name: copy_name(alloc, out_of(cell).as_slice())?,
+        })),
+        None => Ok(None),
+    }
+}
+
+/// The first cell that is neither a buffer nor a constant.
+fn find_logic(cells: &[Cell]) -> Option<&Cell>
+    requires { AllByRecursion IsWellFormedCell cells.now }
+    ensures { option_map (λ (c : Bor Cell). c.now) result ≡ find (λ cell. not (is_buffer cell || is_constant cell)) cells.now }
+{
+    for cell in cells {
+        if !is_wire(cell) {
+            return Some(cell);
+        }
+    }
+    None
+}
+
+/// Whether a cell is a buffer or a constant.
+fn is_wire(cell: &Cell) -> bool
+    requires { IsWellFormedCell cell.now }
+    ensures { result ≡ (is_buffer cell.now || is_constant cell.now) }
+{
+    match cell {
+        Cell::Names { inputs, cover, .. } => {
+            is_buffer(inputs.as_slice(), cover) || inputs.len() == 0
+        }
+        Cell::Latch { .. } => false,
+    }
+}
+
+/// Whether a cover has one input, whose value it takes.
+fn is_buffer(inputs: &[Name], cover: &Cover) -> bool
+    requires cover { IsCover cover.now }
+    requires width { cover.now.inputs ≡ length inputs.now }
+    ensures { result ≡ ((length inputs.now == 1) && (not (cover_value cover.now (false ∷ [])) && cover_value cover.now (true ∷ []))) }
+{
+    if inputs.len() == 1 {
+        passes(cover)
+    } else {
+        false
+    }
+}
+
+/// Whether a cover of one input takes its value.
+fn passes(cover: &Cover) -> bool
+    requires cover { IsCover cover.now }
+    requires width { cover.now.inputs ≡ 1 }
+    ensures { result ≡ (not (cover_value cover.now (false ∷ [])) && cover_value cover.now (true ∷ [])) }
+{
+    !eval(cover, 0) && eval(cover, 1)
+}

@@ -1,0 +1,140 @@
+-- The covers that drive columns meet the rules of covers.
+use Rattle.std.proofs.Common.{◌≡◌, ℕ, zero, suc, ◌+◌, Bool, true, false, cond, ◌&&◌, List, [], ◌∷◌, ◌++◌, length, map, flat_map, find, Option, Some, None, option_and_then, slice_get, inl, inr, refl, sym, ◌∙◌, subst}
+use Rattle.std.specs.Option.{option_map_or}
+use Rattle.std.specs.List.{AllByRecursion, enumerate_from}
+use Rattle.std.specs.Str.{bytes_eq}
+use Rattle.std.proofs.lemmas.List.{length-map}
+use Rattle.lid_cover.specs.Cover.{IsCover}
+use Rattle.lid_design.specs.declared.Design.{Design}
+use Rattle.lid_design.specs.declared.Model.{Model}
+use Rattle.lid_design.specs.declared.Cell.{Cell}
+use Rattle.lid_design.specs.declared.Cell.TheVariants.{Names, Latch}
+use Rattle.lid_design.specs.declared.Inst.{Inst}
+use Rattle.lid_design.specs.declared.Bind.{Bind}
+use Rattle.lid_design.specs.Network.{Source, given, held, made, same}
+use Rattle.lid_design.specs.Columns.{Column, column, is_among, model_named, instance_model, model_at, is_clock, places_of, cell_at, output_at, actuals_of, port_at, drivers_in, drivers, data_inputs, first_bit}
+use Rattle.lid_design.specs.WellFormed.{IsWellFormed, IsWellFormedCell}
+use Rattle.lid_design.specs.Walks.{Among}
+
+-- a cover that a source evaluates meets the rules of covers, with as many inputs as it reads
+abbrev pub IsCovered : {C : Type 0} → Source C → Type 0
+IsCovered (given j) = Unit {0}
+IsCovered (held first input) = Unit {0}
+IsCovered (made cover inputs) = IsCover cover × (cover.inputs ≡ length inputs)
+IsCovered (same c) = Unit {0}
+
+all_append : {A : Type 0} (P : A → Type 0) (xs ys : List A) → AllByRecursion P xs → AllByRecursion P ys → AllByRecursion P (xs ++ ys)
+all_append P [] ys left right = right
+all_append P (x ∷ xs) ys left right = (left.0, all_append P xs ys left.1 right)
+
+all_flat : {A B : Type 0} (P : B → Type 0) (f : A → List B) (xs : List A) → ((x : A) → Among x xs → AllByRecursion P (f x)) → AllByRecursion P (flat_map f xs)
+all_flat P f [] each = tt
+all_flat P f (x ∷ xs) each = all_append P (f x) (flat_map f xs) (each x (inl refl)) (all_flat P f xs (λ y i. each y (inr i)))
+
+all_among : {A : Type 0} (P : A → Type 0) (xs : List A) (x : A) → AllByRecursion P xs → Among x xs → P x
+all_among P [] x all i = absurd i
+all_among P (y ∷ ys) x all (inl e) = subst P (sym e) all.0
+all_among P (y ∷ ys) x all (inr i) = all_among P ys x all.1 i
+
+found_among : {A : Type 0} (p : A → Bool) (xs : List A) (x : A) → find p xs ≡ Some x → Among x xs
+found_among p [] x h = absurd (let e : None ≡ Some x = h in cc)
+found_among {A} p (y ∷ ys) x h = by (p y) h (found_among p ys x)
+  where
+    by : (b : Bool) → cond b (Some y) (find p ys) ≡ Some x → (find p ys ≡ Some x → Among x ys) → Among x (y ∷ ys)
+    by true e later = inl (let f : Some y ≡ Some x = e in cc)
+    by false e later = inr (later e)
+
+pub got_among : {A : Type 0} (xs : List A) (i : ℕ) (x : A) → slice_get xs i ≡ Some x → Among x xs
+got_among [] i x h = absurd (let e : None ≡ Some x = h in cc)
+got_among (y ∷ ys) zero x h = inl (let f : Some y ≡ Some x = h in cc)
+got_among (y ∷ ys) (suc i) x h = inr (got_among ys i x h)
+
+then_some : {A B : Type 0} (o : Option A) (f : A → Option B) (b : B) → option_and_then f o ≡ Some b → (a : A) × (o ≡ Some a) × (f a ≡ Some b)
+then_some None f b h = absurd (let e : None ≡ Some b = h in cc)
+then_some (Some a) f b h = (a, refl, h)
+
+-- the model at a path is one of the models
+model_among : (d : Design) (path : List ℕ) (m : Model) → model_at d path ≡ Some m → Among m d.models
+unfolding model_at
+model_among d [] m h = got_among d.models d.root m h
+model_among d (i ∷ path) m h =
+    let outer = then_some (model_at d path) (instance_model d i) m h in
+    let inst = then_some (slice_get outer.0.insts i) (λ (inst : Inst). model_named d inst.model) m outer.2 in
+    found_among (λ n. bytes_eq n.name inst.0.model) d.models m inst.2
+
+module _ (d : Design) (path net : List ℕ) where
+  of_places : (k : ℕ) (names : List (List ℕ)) → AllByRecursion IsCovered (places_of net k names)
+  of_places k [] = tt
+  of_places k (name ∷ names) = by (bytes_eq name net) (of_places (k + 1) names)
+    where
+      by : (b : Bool) → AllByRecursion IsCovered (places_of net (k + 1) names) → AllByRecursion IsCovered (cond b (given k ∷ []) [] ++ places_of net (k + 1) names)
+      by true rest = (tt, rest)
+      by false rest = rest
+
+  of_cell : (cell : Cell) → IsWellFormedCell cell → AllByRecursion IsCovered (cell_at path net cell)
+  of_cell (Names inputs out cover) formed = by (bytes_eq out net)
+    where
+      by : (b : Bool) → AllByRecursion IsCovered (cond b (made cover (map (column path) inputs) ∷ []) [])
+      by true = ((formed.0, formed.1 ∙ sym (length-map inputs (column path))), tt)
+      by false = tt
+  of_cell (Latch input out kind control init) formed = by (bytes_eq out net)
+    where
+      by : (b : Bool) → AllByRecursion IsCovered (cond b (held (first_bit init) (column path input) ∷ []) [])
+      by true = (tt, tt)
+      by false = tt
+
+  of_output : (p : ℕ × Inst) → AllByRecursion IsCovered (output_at d path net p)
+  of_output p = by (model_named d p.1.model)
+    where
+      of_bind : (m : Model) (b : Bind) → AllByRecursion IsCovered (cond (bytes_eq b.actual net && is_among b.formal m.outputs) (same (column (p.0 ∷ path) b.formal) ∷ []) [])
+      of_bind m b = chosen (bytes_eq b.actual net && is_among b.formal m.outputs)
+        where
+          chosen : (v : Bool) → AllByRecursion IsCovered (cond v (same (column (p.0 ∷ path) b.formal) ∷ []) [])
+          chosen true = (tt, tt)
+          chosen false = tt
+
+      by : (o : Option Model) → AllByRecursion IsCovered (option_map_or (λ m. flat_map (λ b. cond (bytes_eq b.actual net && is_among b.formal m.outputs) (same (column (p.0 ∷ path) b.formal) ∷ []) []) p.1.binds) o [])
+      by None = tt
+      by (Some m) = all_flat IsCovered _ p.1.binds (λ b i. of_bind m b)
+
+  of_actuals : (up : List ℕ) (inst : Inst) → AllByRecursion IsCovered (actuals_of up net inst)
+  of_actuals up inst = all_flat IsCovered _ inst.binds (λ b i. by b (bytes_eq b.formal net))
+    where
+      by : (b : Bind) (v : Bool) → AllByRecursion IsCovered (cond v (same (column up b.actual) ∷ []) [])
+      by b true = (tt, tt)
+      by b false = tt
+
+  of_port : (m : Model) (at : List ℕ) → AllByRecursion IsCovered (port_at d m at net)
+  of_port m [] = of_places 0 (data_inputs d m)
+  of_port m (i ∷ up) = by (is_among net m.inputs)
+    where
+      of_inst : (o : Option Inst) → AllByRecursion IsCovered (option_map_or (actuals_of up net) o [])
+      of_inst None = tt
+      of_inst (Some inst) = of_actuals up inst
+
+      by : (b : Bool) → AllByRecursion IsCovered (cond b (option_map_or (actuals_of up net) (option_and_then (λ around. slice_get around.insts i) (model_at d up)) []) [])
+      by true = of_inst (option_and_then (λ around. slice_get around.insts i) (model_at d up))
+      by false = tt
+
+  of_model : IsWellFormed d → (m : Model) → model_at d path ≡ Some m → AllByRecursion IsCovered (drivers_in d path net m)
+  of_model formed m here = by (is_clock d m net)
+    where
+      cells : AllByRecursion IsWellFormedCell m.cells
+      cells = all_among (λ n. AllByRecursion IsWellFormedCell n.cells) d.models m formed.cells (model_among d path m here)
+
+      by : (b : Bool) → AllByRecursion IsCovered (cond b [] (port_at d m path net ++ flat_map (cell_at path net) m.cells ++ flat_map (output_at d path net) (enumerate_from 0 m.insts)))
+      by true = tt
+      by false =
+          all_append IsCovered (port_at d m path net ++ flat_map (cell_at path net) m.cells) (flat_map (output_at d path net) (enumerate_from 0 m.insts))
+          (all_append IsCovered (port_at d m path net) (flat_map (cell_at path net) m.cells) (of_port m path)
+          (all_flat IsCovered (cell_at path net) m.cells (λ cell i. of_cell cell (all_among IsWellFormedCell m.cells cell cells i))))
+          (all_flat IsCovered (output_at d path net) (enumerate_from 0 m.insts) (λ p i. of_output p))
+
+-- each driver of a column is covered
+pub all_covered : (d : Design) → IsWellFormed d → (c : Column) → AllByRecursion IsCovered (drivers d c)
+unfolding drivers
+all_covered d formed c = by (model_at d c.path) refl
+  where
+    by : (o : Option Model) → model_at d c.path ≡ o → AllByRecursion IsCovered (option_map_or (drivers_in d c.path c.net) o [])
+    by None here = tt
+    by (Some m) here = of_model d c.path c.net formed m here

@@ -1,0 +1,10 @@
+pub mod Packing
+pub mod Settling
+pub mod Running
+pub mod Tables
+pub mod Covered
+pub mod Outputs
+pub mod Placing
+pub mod Descent
+pub mod Levels
+pub mod Accepted

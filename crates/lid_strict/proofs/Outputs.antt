@@ -1,0 +1,92 @@
+-- The outputs of a run are those of every strict table of the design.
+use Rattle.std.proofs.Common.{◌≡◌, ℕ, zero, suc, ◌+◌, ◌<◌, Bool, List, [], ◌∷◌, ◌++◌, length, map, Some, slice_get, option_map, refl, sym, ◌∙◌, ap, subst, arith}
+use Rattle.std.specs.List.{AllByRecursion}
+use Rattle.std.proofs.lemmas.List.{length-map}
+use Rattle.std.proofs.lemmas.Option.{slice_get_within, slice_get-map}
+use Rattle.lid_design.specs.declared.Design.{Design}
+use Rattle.lid_design.specs.Network.{Source, given, held, made, same, Table, IsStrict, from_each}
+use Rattle.lid_design.specs.Columns.{Column, column, root_outputs, output_row, IsStrictOutput}
+use Rattle.lid_design.specs.WellFormed.{IsWellFormed}
+use Rattle.lid_design.specs.Walks.{read_now, read_before}
+use Rattle.lid_order.specs.Graphs.{IsOrder}
+use Rattle.lid_columns.specs.declared.driver.Driver.{Driver}
+use Rattle.lid_columns.specs.Elaborations.{shown_driver, map_source, column_at, IsElaborated}
+use Rattle.lid_check.proofs.Numbered.{column_here}
+use Rattle.lid_strict.specs.Networks.{driver_of, reads_of, HasCover, AreHeldBelow, AreNumbersOf, rows_at}
+use Rattle.lid_strict.proofs.Covered.{IsCovered, all_covered}
+use Rattle.lid_strict.proofs.Tables.{map-map, numbered, table}
+
+-- what holds of the item at each place holds of all
+all_from_at : {A : Type 0} (P : A → Type 0) (xs : List A) → ((k : ℕ) (x : A) → slice_get xs k ≡ Some x → P x) → AllByRecursion P xs
+all_from_at P [] each = tt
+all_from_at P (x ∷ xs) each = (each zero x refl, all_from_at P xs (λ k y here. each (suc k) y here))
+
+all_right : {A : Type 0} (P : A → Type 0) (xs ys : List A) → AllByRecursion P (xs ++ ys) → AllByRecursion P ys
+all_right P [] ys all = all
+all_right P (x ∷ xs) ys all = all_right P xs ys all.1
+
+from_each-same : {A : Type 0} (f g : ℕ → A) (k n : ℕ) → ((t : ℕ) → f t ≡ g t) → from_each f k n ≡ from_each g k n
+from_each-same f g k zero equal = refl
+from_each-same f g k (suc n) equal =
+    let head = equal k in
+    let tail = from_each-same f g (k + 1) n equal in
+    cc
+
+pub from_each-long : {A : Type 0} (f : ℕ → A) (k n : ℕ) → length (from_each f k n) ≡ n
+from_each-long f k zero = refl
+from_each-long f k (suc n) = let h = from_each-long f (k + 1) n in omega arith
+
+from_each-all : {A : Type 0} (P : A → Type 0) (f : ℕ → A) (k n : ℕ) → ((t : ℕ) → P (f t)) → AllByRecursion P (from_each f k n)
+from_each-all P f k zero each = tt
+from_each-all P f k (suc n) each = (each k, from_each-all P f (k + 1) n each)
+
+map-names : (f : Column → Bool) (names : List (List ℕ)) → map f (map (column []) names) ≡ map (λ net. f (column [] net)) names
+map-names f [] = refl
+map-names f (n ∷ names) = ap (λ (bs : List Bool). f (column [] n) ∷ bs) (map-names f names)
+
+module _ (d : Design) (list : List Driver) (starts : List ℕ) (is : IsElaborated d (map shown_driver list) starts) where
+  uncovered : (s : Source ℕ) → IsCovered (map_source (column_at d) s) → HasCover s
+  uncovered (given j) h = tt
+  uncovered (held first input) h = tt
+  uncovered (made cover inputs) h = (h.0, h.1 ∙ length-map inputs (column_at d))
+  uncovered (same other) h = tt
+
+  pub covers : IsWellFormed d → AllByRecursion (λ driver. HasCover (shown_driver driver)) list
+  covers formed = all_from_at (λ (driver : Driver). HasCover (shown_driver driver)) list each
+    where
+      each : (k : ℕ) (driver : Driver) → slice_get list k ≡ Some driver → HasCover (shown_driver driver)
+      each k driver here =
+          let shown : slice_get (map shown_driver list) k ≡ Some (shown_driver driver) = slice_get-map shown_driver list k ∙ ap (option_map shown_driver) here in
+          let driven = is.each k (column_at d k) (column_here d (map shown_driver list) starts is k (slice_get_within (map shown_driver list) k (shown_driver driver) shown)) in
+          let e : Some (shown_driver driver) ≡ Some driven.source = sym shown ∙ driven.here in
+          let same_source : driven.source ≡ shown_driver driver = cc in
+          let all = subst (λ (ss : List (Source Column)). AllByRecursion IsCovered ss) driven.only (all_covered d formed (column_at d k)) in
+          subst HasCover same_source (uncovered driven.source all.0)
+
+  pub held_below : AreHeldBelow (map shown_driver list)
+  held_below = all_from_at (λ (s : Source ℕ). AllByRecursion (λ a. a < length (map shown_driver list)) (read_before s)) (map shown_driver list) each
+    where
+      each : (k : ℕ) (s : Source ℕ) → slice_get (map shown_driver list) k ≡ Some s → AllByRecursion (λ a. a < length (map shown_driver list)) (read_before s)
+      each k s here =
+          let driven = is.each k (column_at d k) (column_here d (map shown_driver list) starts is k (slice_get_within (map shown_driver list) k s here)) in
+          let e : Some s ≡ Some driven.source = sym here ∙ driven.here in
+          let same_source : driven.source ≡ s = cc in
+          subst (λ (r : Source ℕ). AllByRecursion (λ a. a < length (map shown_driver list)) (read_before r)) same_source (all_right (λ (a : ℕ). a < length (map shown_driver list)) (read_now driven.source) (read_before driven.source) driven.below)
+
+  pub strict_output : (order outs : List ℕ) → IsOrder (reads_of (map shown_driver list)) order → AreNumbersOf d (length list) outs → (rows out : List (List Bool)) → ((b : Table ℕ) → IsStrict (driver_of (map shown_driver list)) rows b → out ≡ rows_at outs b (length rows)) → IsStrictOutput d rows out
+  strict_output order outs ordered numbers rows out every = record {
+    some = table d (map shown_driver list) starts is order ordered rows;
+    each = λ b strict.
+        every (λ t k. b t (column_at d k)) (numbered d (map shown_driver list) starts is rows b strict)
+        ∙ from_each-same (λ t. map (λ k. b t (column_at d k)) outs) (output_row d b) 0 (length rows)
+        (λ t. sym (map-map (b t) (column_at d) outs) ∙ ap (map (b t)) numbers.outputs ∙ map-names (b t) (root_outputs d));
+  }
+
+-- as many rows as the inputs have, each as wide as the outputs
+pub output_height : (d : Design) (rows out : List (List Bool)) → IsStrictOutput d rows out → length out ≡ length rows
+output_height d rows out is = ap length (is.each is.some.0 is.some.1) ∙ from_each-long (output_row d is.some.0) 0 (length rows)
+
+pub output_width : (d : Design) (rows out : List (List Bool)) → IsStrictOutput d rows out → AllByRecursion (λ row. length row ≡ length (root_outputs d)) out
+output_width d rows out is =
+    subst (AllByRecursion (λ (row : List Bool). length row ≡ length (root_outputs d))) (sym (is.each is.some.0 is.some.1))
+    (from_each-all (λ (row : List Bool). length row ≡ length (root_outputs d)) (output_row d is.some.0) 0 (length rows) (λ t. length-map (root_outputs d) _))

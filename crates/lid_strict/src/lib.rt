@@ -1,0 +1,15 @@
+//! The strict outputs of accepted designs, by a simulation of all columns row by row.
+#![tactic(auto)]
+
+mod law;
+mod simulation;
+#[cfg(test)]
+mod tests;
+mod whole;
+
+pub use law::accepted_have_one_table;
+pub use simulation::simulate;
+pub use whole::strict;
+
+#[cfg(test)]
+mod tests;

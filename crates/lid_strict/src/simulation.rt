@@ -1,0 +1,168 @@
+ghost use Rattle.std.specs.Prelude.{◌≡◌, ◌<◌, ◌≤◌, ◌++◌, if◌then◌else◌, ℕ, Bool, length, map, IfOk, OnOk};
+ghost use Rattle.std.specs.List.{AllByRecursion};
+ghost use Rattle.lid_cover.specs.Cover.{cover_value, IsCover};
+ghost use Rattle.lid_cover.specs.Masks.{packed};
+ghost use Rattle.lid_design.specs.Network.{Table, IsStrict};
+ghost use Rattle.lid_order.specs.Graphs.{Among, IsOrder};
+ghost use Rattle.lid_columns.specs.Elaborations.{shown_driver};
+ghost use Rattle.lid_strict.specs.Networks.{driver_of, bit_at, reads_of, AreHeldBelow, HasCover, bit_from, FitsRow, AgreesAt, rows_at};
+
+use lid_base::Items;
+use lid_columns::Driver;
+use lid_cover::{Cover, eval};
+use std::alloc::{AllocError, Global};
+use std::mem::swap;
+
+/// The bit of a number, and 0 where there is none.
+fn bit_of(bits: &[bool], number: u32) -> bool
+    ensures { result ≡ bit_at bits.now number }
+{
+    bits.get(number as usize).copied().unwrap_or(false)
+}
+
+/// A bit as a number.
+fn value_of(bit: bool) -> u64
+    ensures value { result ≡ (if bit then 1 else 0) }
+    ensures small { result ≤ 1 }
+{
+    if bit { 1 } else { 0 }
+}
+
+/// The bits of some numbers as one number: bit j is that of the j-th.
+fn pack(bits: &[bool], numbers: &[u32]) -> u64
+    requires { length numbers.now ≤ 64 }
+    ensures { result ≡ packed (map (bit_at bits.now) numbers.now) }
+{
+    let mut packed = 0u64;
+    let mut left = numbers.len();
+    while left > 0 {
+        left -= 1;
+        packed = packed * 2 + value_of(bit_of(bits, numbers[left]));
+    }
+    packed
+}
+
+/// The value of a cover that reads some numbers.
+fn cover_bit(cover: &Cover, bits: &[bool], numbers: &[u32]) -> bool
+    requires rules { IsCover cover.now }
+    requires width { cover.now.inputs ≡ length numbers.now }
+    ensures { result ≡ cover_value cover.now (map (bit_at bits.now) numbers.now) }
+{
+    eval(cover, pack(bits, numbers))
+}
+
+/// What a driver gives in a row.
+fn driver_bit(
+    driver: &Driver<'_>,
+    row: &[bool],
+    is_first: bool,
+    before: &[bool],
+    now: &[bool],
+) -> bool
+    requires { HasCover (shown_driver driver.now) }
+    ensures { result ≡ bit_from row.now is_first before.now (bit_at now.now) (shown_driver driver.now) }
+{
+    match driver {
+        Driver::Given(place) => bit_of(row, *place),
+        Driver::Held { first, input } => {
+            if is_first {
+                *first
+            } else {
+                bit_of(before, *input)
+            }
+        }
+        Driver::Made { cover, inputs } => cover_bit(cover, now, inputs.as_slice()),
+        Driver::Same(other) => bit_of(now, *other),
+    }
+}
+
+/// Fills the bits of a row, in an order in which each number stands after all that it reads.
+fn settle(
+    drivers: &[Driver<'_>],
+    order: &[u32],
+    row: &[bool],
+    is_first: bool,
+    before: &[bool],
+    now: &mut [bool],
+)
+    requires ordered { IsOrder (reads_of (map shown_driver drivers.now)) order.now }
+    requires covers { AllByRecursion (λ driver. HasCover (shown_driver driver)) drivers.now }
+    requires size { length now.old ≡ length drivers.now }
+    ensures size { length now.new ≡ length now.old }
+    ensures bits { (f : ℕ → Bool) → FitsRow (map shown_driver drivers.now) row.now is_first before.now f → AgreesAt f order.now now.new }
+{
+    for number in order {
+        let k = *number as usize;
+        now[k] = driver_bit(&drivers[k], row, is_first, before, now);
+    }
+}
+
+/// The bits of some numbers.
+fn gather(alloc: Global, bits: &[bool], numbers: &[u32]) -> Result<Items<bool>, AllocError>
+    ensures { IfOk result (λ row. row ≡ map (bit_at bits.now) numbers.now) }
+{
+    let mut row = Vec::with_capacity(alloc, numbers.len())?;
+    for number in numbers {
+        row.push(bit_of(bits, *number))?;
+    }
+    Ok(Items::from_vec(row))
+}
+
+/// Fills the bits of a row, and answers those of some numbers.
+fn run_row(
+    alloc: Global,
+    drivers: &[Driver<'_>],
+    order: &[u32],
+    outs: &[u32],
+    row: &[bool],
+    is_first: bool,
+    before: &[bool],
+    now: &mut [bool],
+) -> Result<Items<bool>, AllocError>
+    requires ordered { IsOrder (reads_of (map shown_driver drivers.now)) order.now }
+    requires covers { AllByRecursion (λ driver. HasCover (shown_driver driver)) drivers.now }
+    requires outs { AllByRecursion (λ k. k < length drivers.now) outs.now }
+    requires size { length now.old ≡ length drivers.now }
+    ensures size { length now.new ≡ length now.old }
+    ensures bits { (f : ℕ → Bool) → FitsRow (map shown_driver drivers.now) row.now is_first before.now f → (k : ℕ) → k < length drivers.now → bit_at now.new k ≡ f k }
+    ensures out { IfOk result (λ out. (f : ℕ → Bool) → FitsRow (map shown_driver drivers.now) row.now is_first before.now f → out ≡ map f outs.now) }
+{
+    settle(drivers, order, row, is_first, before, now);
+    gather(alloc, now, outs)
+}
+
+/// Runs a network row by row, in an order in which each number stands after all that it reads, and
+/// answers the bits of some numbers in each row.
+pub fn simulate(
+    alloc: Global,
+    drivers: &[Driver<'_>],
+    order: &[u32],
+    outs: &[u32],
+    rows: &[Items<bool>],
+) -> Result<Items<Items<bool>>, AllocError>
+    requires ordered { IsOrder (reads_of (map shown_driver drivers.now)) order.now }
+    requires covers { AllByRecursion (λ driver. HasCover (shown_driver driver)) drivers.now }
+    requires held { AreHeldBelow (map shown_driver drivers.now) }
+    requires outs { AllByRecursion (λ k. k < length drivers.now) outs.now }
+    ensures { IfOk result (λ out. (b : Table ℕ) → IsStrict (driver_of (map shown_driver drivers.now)) rows.now b → out ≡ rows_at outs.now b (length rows.now)) }
+{
+    let mut before = Vec::from_elem(alloc, false, drivers.len())?;
+    let mut now = Vec::from_elem(alloc, false, drivers.len())?;
+    let mut results = Vec::with_capacity(alloc, rows.len())?;
+    for t in 0..rows.len() {
+        let row = rows[t].as_slice();
+        let out = run_row(
+            alloc,
+            drivers,
+            order,
+            outs,
+            row,
+            t == 0,
+            before.as_slice(),
+            now.as_mut_slice(),
+        )?;
+        results.push(out)?;
+        swap(&mut before, &mut now);
+    }
+    Ok(Items::from_vec(results))
+}

@@ -1,0 +1,112 @@
+ghost use Rattle.std.specs.Prelude.{◌≡◌, ◌≤◌, ◌<◌, ℕ, Some, length, map, position, IfOk};
+ghost use Rattle.std.specs.List.{AllByRecursion};
+ghost use Rattle.std.specs.Str.{bytes_eq};
+ghost use Rattle.lid_design.specs.Columns.{column, root_outputs, IsStrictOutput};
+ghost use Rattle.lid_design.specs.Places.{model_nets};
+ghost use Rattle.lid_design.specs.Walks.{Among};
+ghost use Rattle.lid_design.specs.WellFormed.{IsWellFormed};
+ghost use Rattle.lid_columns.specs.Elaborations.{shown_driver, column_at, IsElaborated};
+ghost use Rattle.lid_rules.specs.Acceptance.{ModelsPass};
+ghost use Rattle.lid_check.specs.Acceptance.{IsAccepted};
+ghost use Rattle.lid_strict.specs.Networks.{AreNumbersOf};
+
+use crate::simulation::simulate;
+use lid_base::{Items, Name};
+use lid_check::Checked;
+use lid_columns::{Elaboration, elaborate, find_reads};
+use lid_design::Design;
+use lid_models::Survey;
+use lid_order::{Found, find_order};
+use lid_rules::check_models;
+use lid_texts::{Rows, copy_names};
+use std::alloc::{AllocError, Global};
+
+/// The strict outputs of an accepted design for input rows, by a plain simulation of all its
+/// columns: an order of the covers is found once, and each row costs one pass over them.
+///
+/// # Errors
+/// Where there is no memory.
+pub fn strict(alloc: Global, checked: &Checked, rows: &Rows) -> Result<Rows, AllocError>
+    ensures columns { IfOk result (λ out. out.columns ≡ root_outputs checked.now) }
+    ensures ok { IfOk result (λ out. IsStrictOutput checked.now rows.now.bits out.bits) }
+    ensures height { IfOk result (λ out. length out.bits ≡ length rows.now.bits) }
+    ensures width { IfOk result (λ out. AllByRecursion (λ row. length row ≡ length (root_outputs checked.now)) out.bits) }
+{
+    let columns = copy_names(alloc, checked.outputs())?;
+    let bits = run(alloc, checked.design(), rows.bits.as_slice())?;
+    Ok(Rows { columns, bits })
+}
+
+/// The strict outputs of an accepted design for input rows.
+fn run(
+    alloc: Global,
+    design: &Design,
+    rows: &[Items<bool>],
+) -> Result<Items<Items<bool>>, AllocError>
+    requires formed { IsWellFormed design.now }
+    requires accepted { IsAccepted design.now }
+    ensures { IfOk result (IsStrictOutput design.now rows.now) }
+{
+    let Ok(survey) = check_models(alloc, design) else {
+        return Err(AllocError);
+    };
+    let columns = elaborate(alloc, &survey)?;
+    let outs = number_outputs(alloc, &survey, &columns)?;
+    run_columns(alloc, design, &columns, outs.as_slice(), rows)
+}
+
+/// Runs the columns of an accepted design.
+fn run_columns(
+    alloc: Global,
+    design: &Design,
+    columns: &Elaboration<'_>,
+    outs: &[u32],
+    rows: &[Items<bool>],
+) -> Result<Items<Items<bool>>, AllocError>
+    requires formed { IsWellFormed design.now }
+    requires accepted { IsAccepted design.now }
+    requires elaborated { IsElaborated design.now (map shown_driver columns.now.drivers) columns.now.starts }
+    requires few { length columns.now.drivers ≤ 1048576 }
+    requires outs { AreNumbersOf design.now (length columns.now.drivers) outs.now }
+    ensures { IfOk result (IsStrictOutput design.now rows.now) }
+{
+    let drivers = columns.drivers.as_slice();
+    let reads = find_reads(alloc, drivers)?;
+    match find_order(alloc, reads.as_slice())? {
+        Found::Order(order) => simulate(alloc, drivers, order.as_slice(), outs, rows),
+        Found::Loop(_) => unreachable!(),
+    }
+}
+
+/// The numbers of the columns of the root's outputs, in order.
+fn number_outputs(
+    alloc: Global,
+    survey: &Survey<'_>,
+    columns: &Elaboration<'_>,
+) -> Result<Items<u32>, AllocError>
+    requires passed { ModelsPass survey.now }
+    requires elaborated { IsElaborated survey.now (map shown_driver columns.now.drivers) columns.now.starts }
+    requires few { length columns.now.drivers ≤ 1048576 }
+    ensures { IfOk result (AreNumbersOf survey.now (length columns.now.drivers)) }
+{
+    let design = survey.design();
+    let root = &design.models.as_slice()[design.root as usize];
+    let mut numbers = Vec::with_capacity(alloc, root.outputs.len())?;
+    for name in root.outputs.as_slice() {
+        numbers.push(place_of(survey, name) as u32)?;
+    }
+    Ok(Items::from_vec(numbers))
+}
+
+/// The place of an output of the root among the nets of the root.
+fn place_of(survey: &Survey<'_>, name: &Name) -> usize
+    requires passed { ModelsPass survey.now }
+    requires output { Among name.now (root_outputs survey.now) }
+    ensures { position (bytes_eq name.now) (model_nets survey.now survey.now.root) ≡ Some result }
+{
+    let _ = survey.order();
+    match survey.place_of(survey.design().root, name.as_slice()) {
+        Some(place) => place,
+        None => unreachable!(),
+    }
+}
