@@ -8,3 +8,5 @@ pub mod Placing
 pub mod Descent
 pub mod Levels
 pub mod Accepted
+pub mod Laying
+pub mod Steps

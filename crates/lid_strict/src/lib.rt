@@ -2,9 +2,8 @@
 #![tactic(auto)]
 
 mod law;
+mod program;
 mod simulation;
-#[cfg(test)]
-mod tests;
 mod whole;
 
 pub use law::accepted_have_one_table;

@@ -1,15 +1,19 @@
-ghost use Rattle.std.specs.Prelude.{◌≡◌, ◌<◌, ◌≤◌, ◌++◌, if◌then◌else◌, ℕ, Bool, length, map, IfOk, OnOk};
-ghost use Rattle.std.specs.List.{AllByRecursion};
+//! Runs of networks that are laid out.
+
+ghost use Rattle.std.specs.Prelude.{◌≡◌, ◌<◌, ◌≤◌, ◌++◌, if◌then◌else◌, ℕ, Bool, List, length, map, IfOk, OnOk};
+ghost use Rattle.std.specs.List.{AllByRecursion, list_any};
 ghost use Rattle.lid_cover.specs.Cover.{cover_value, IsCover};
-ghost use Rattle.lid_cover.specs.Masks.{packed};
-ghost use Rattle.lid_design.specs.Network.{Table, IsStrict};
+ghost use Rattle.lid_cover.specs.Masks.{packed, is_met};
+ghost use Rattle.lid_design.specs.Network.{Source, Table, IsStrict};
 ghost use Rattle.lid_order.specs.Graphs.{Among, IsOrder};
 ghost use Rattle.lid_columns.specs.Elaborations.{shown_driver};
 ghost use Rattle.lid_strict.specs.Networks.{driver_of, bit_at, reads_of, AreHeldBelow, HasCover, bit_from, FitsRow, AgreesAt, rows_at};
+ghost use Rattle.lid_strict.specs.Programs.{cover_of, shown_step, shown_program, IsThere, IsWhole, IsLaidOut};
 
+use crate::program::{Program, Step, lay_out};
 use lid_base::Items;
 use lid_columns::Driver;
-use lid_cover::{Cover, eval};
+use lid_cover::Cube;
 use std::alloc::{AllocError, Global};
 use std::mem::swap;
 
@@ -42,58 +46,73 @@ fn pack(bits: &[bool], numbers: &[u32]) -> u64
     packed
 }
 
-/// The value of a cover that reads some numbers.
-fn cover_bit(cover: &Cover, bits: &[bool], numbers: &[u32]) -> bool
-    requires rules { IsCover cover.now }
-    requires width { cover.now.inputs ≡ length numbers.now }
-    ensures { result ≡ cover_value cover.now (map (bit_at bits.now) numbers.now) }
+/// Whether some row of a cover agrees with packed inputs.
+fn any_met(cubes: &[Cube], bits: u64) -> bool
+    ensures { result ≡ list_any (is_met bits) cubes.now }
 {
-    eval(cover, pack(bits, numbers))
+    cubes
+        .iter()
+        .any(|cube| (bits ^ cube.value) & cube.care == 0)
 }
 
-/// What a driver gives in a row.
-fn driver_bit(
-    driver: &Driver<'_>,
+/// The value of a cover, by its rows and the numbers that it reads.
+fn cover_bit(on: bool, cubes: &[Cube], numbers: &[u32], bits: &[bool]) -> bool
+    requires { IsCover (cover_of (length numbers.now) on cubes.now) }
+    ensures { result ≡ cover_value (cover_of (length numbers.now) on cubes.now) (map (bit_at bits.now) numbers.now) }
+{
+    any_met(cubes, pack(bits, numbers)) == on
+}
+
+/// What a step gives in a row.
+fn step_bit(
+    program: &Program,
+    step: Step,
     row: &[bool],
     is_first: bool,
     before: &[bool],
     now: &[bool],
 ) -> bool
-    requires { HasCover (shown_driver driver.now) }
-    ensures { result ≡ bit_from row.now is_first before.now (bit_at now.now) (shown_driver driver.now) }
+    requires there { IsThere program.now.reads.items program.now.cubes.items step }
+    requires cover { HasCover (shown_step program.now.reads.items program.now.cubes.items step) }
+    ensures { result ≡ bit_from row.now is_first before.now (bit_at now.now) (shown_step program.now.reads.items program.now.cubes.items step) }
 {
-    match driver {
-        Driver::Given(place) => bit_of(row, *place),
-        Driver::Held { first, input } => {
+    match step {
+        Step::Given(place) => bit_of(row, place),
+        Step::Held { first, input } => {
             if is_first {
-                *first
+                first
             } else {
-                bit_of(before, *input)
+                bit_of(before, input)
             }
         }
-        Driver::Made { cover, inputs } => cover_bit(cover, now, inputs.as_slice()),
-        Driver::Same(other) => bit_of(now, *other),
+        Step::Made { on, reads, cubes } => cover_bit(
+            on,
+            &program.cubes.as_slice()[cubes.start..cubes.end],
+            &program.reads.as_slice()[reads.start..reads.end],
+            now,
+        ),
+        Step::Same(other) => bit_of(now, other),
     }
 }
 
 /// Fills the bits of a row, in an order in which each number stands after all that it reads.
 fn settle(
-    drivers: &[Driver<'_>],
+    program: &Program,
     order: &[u32],
     row: &[bool],
     is_first: bool,
     before: &[bool],
     now: &mut [bool],
 )
-    requires ordered { IsOrder (reads_of (map shown_driver drivers.now)) order.now }
-    requires covers { AllByRecursion (λ driver. HasCover (shown_driver driver)) drivers.now }
-    requires size { length now.old ≡ length drivers.now }
+    requires whole { IsWhole program.now }
+    requires covers { AllByRecursion HasCover (shown_program program.now) }
+    requires long { length order.now ≡ length program.now.steps.items }
+    requires below { AllByRecursion (λ k. k < length now.old) order.now }
     ensures size { length now.new ≡ length now.old }
-    ensures bits { (f : ℕ → Bool) → FitsRow (map shown_driver drivers.now) row.now is_first before.now f → AgreesAt f order.now now.new }
+    ensures bits { (sources : List (Source ℕ)) → IsLaidOut sources order.now program.now → (f : ℕ → Bool) → FitsRow sources row.now is_first before.now f → AgreesAt f order.now now.new }
 {
-    for number in order {
-        let k = *number as usize;
-        now[k] = driver_bit(&drivers[k], row, is_first, before, now);
+    for i in 0..order.len() {
+        now[order[i] as usize] = step_bit(program, program.steps[i], row, is_first, before, now);
     }
 }
 
@@ -111,7 +130,7 @@ fn gather(alloc: Global, bits: &[bool], numbers: &[u32]) -> Result<Items<bool>, 
 /// Fills the bits of a row, and answers those of some numbers.
 fn run_row(
     alloc: Global,
-    drivers: &[Driver<'_>],
+    program: &Program,
     order: &[u32],
     outs: &[u32],
     row: &[bool],
@@ -119,15 +138,16 @@ fn run_row(
     before: &[bool],
     now: &mut [bool],
 ) -> Result<Items<bool>, AllocError>
-    requires ordered { IsOrder (reads_of (map shown_driver drivers.now)) order.now }
-    requires covers { AllByRecursion (λ driver. HasCover (shown_driver driver)) drivers.now }
-    requires outs { AllByRecursion (λ k. k < length drivers.now) outs.now }
-    requires size { length now.old ≡ length drivers.now }
+    requires whole { IsWhole program.now }
+    requires covers { AllByRecursion HasCover (shown_program program.now) }
+    requires long { length order.now ≡ length program.now.steps.items }
+    requires below { AllByRecursion (λ k. k < length now.old) order.now }
+    requires outs { AllByRecursion (λ k. k < length now.old) outs.now }
     ensures size { length now.new ≡ length now.old }
-    ensures bits { (f : ℕ → Bool) → FitsRow (map shown_driver drivers.now) row.now is_first before.now f → (k : ℕ) → k < length drivers.now → bit_at now.new k ≡ f k }
-    ensures out { IfOk result (λ out. (f : ℕ → Bool) → FitsRow (map shown_driver drivers.now) row.now is_first before.now f → out ≡ map f outs.now) }
+    ensures bits { (sources : List (Source ℕ)) → IsLaidOut sources order.now program.now → (f : ℕ → Bool) → FitsRow sources row.now is_first before.now f → (k : ℕ) → k < length sources → bit_at now.new k ≡ f k }
+    ensures out { IfOk result (λ out. (sources : List (Source ℕ)) → IsLaidOut sources order.now program.now → length sources ≡ length now.old → (f : ℕ → Bool) → FitsRow sources row.now is_first before.now f → out ≡ map f outs.now) }
 {
-    settle(drivers, order, row, is_first, before, now);
+    settle(program, order, row, is_first, before, now);
     gather(alloc, now, outs)
 }
 
@@ -146,6 +166,7 @@ pub fn simulate(
     requires outs { AllByRecursion (λ k. k < length drivers.now) outs.now }
     ensures { IfOk result (λ out. (b : Table ℕ) → IsStrict (driver_of (map shown_driver drivers.now)) rows.now b → out ≡ rows_at outs.now b (length rows.now)) }
 {
+    let program = lay_out(alloc, drivers, order)?;
     let mut before = Vec::from_elem(alloc, false, drivers.len())?;
     let mut now = Vec::from_elem(alloc, false, drivers.len())?;
     let mut results = Vec::with_capacity(alloc, rows.len())?;
@@ -153,7 +174,7 @@ pub fn simulate(
         let row = rows[t].as_slice();
         let out = run_row(
             alloc,
-            drivers,
+            &program,
             order,
             outs,
             row,

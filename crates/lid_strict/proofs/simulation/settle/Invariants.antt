@@ -1,9 +1,10 @@
-use Rattle.std.proofs.Common.{◌≡◌, ℕ, Bool, length, map, take}
-use Rattle.lid_columns.specs.Elaborations.{shown_driver}
+use Rattle.std.proofs.Common.{◌≡◌, ℕ, Bool, List, length, take}
+use Rattle.lid_design.specs.Network.{Source}
 use Rattle.lid_strict.specs.Networks.{FitsRow, AgreesAt}
+use Rattle.lid_strict.specs.Programs.{IsLaidOut}
 use Rattle.lid_strict.proofs.simulation.settle.Given as goal
 
-abbrev pub invariant-loop-number : goal.invariant-loop-number
-invariant-loop-number l =
+abbrev pub invariant-loop-i : goal.invariant-loop-i
+invariant-loop-i l =
     (length l.now ≡ length l.fn.now)
-    × ((f : ℕ → Bool) → FitsRow (map shown_driver l.drivers) l.row l.is_first l.before f → AgreesAt f (take l.number-index l.order) l.now)
+    × ((sources : List (Source ℕ)) → IsLaidOut sources l.order l.program → (f : ℕ → Bool) → FitsRow sources l.row l.is_first l.before f → AgreesAt f (take l.i l.order) l.now)

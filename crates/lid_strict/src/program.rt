@@ -1,0 +1,114 @@
+//! Networks laid out for running: flat arrays, in the order in which the numbers are run, so that a row
+//! is one pass over them.
+
+ghost use Rattle.std.specs.Prelude.{◌≡◌, ◌<◌, ◌++◌, ◌∷◌, [], length, map, IfOk, OnOk};
+ghost use Rattle.std.specs.List.{AllByRecursion};
+ghost use Rattle.lid_columns.specs.Elaborations.{shown_driver};
+ghost use Rattle.lid_strict.specs.Networks.{HasCover};
+ghost use Rattle.lid_strict.specs.Programs.{shown_step, shown_program, in_order, Extends, IsThere, IsWhole};
+
+use lid_columns::Driver;
+use lid_cover::Cube;
+use std::alloc::{AllocError, Global};
+
+/// Consecutive items of a flat array.
+#[derive(Clone, Copy)]
+pub struct Part {
+    /// The place of the first.
+    pub start: usize,
+    /// The place after the last.
+    pub end: usize,
+}
+
+/// What gives a number its bit.
+#[derive(Clone, Copy)]
+pub enum Step {
+    /// A data input of the root, by its place among them.
+    Given(u32),
+    /// A latch, that begins with the bit `first`.
+    Held { first: bool, input: u32 },
+    /// A cover, with its inputs and its rows among those of the program.
+    Made { on: bool, reads: Part, cubes: Part },
+    /// The other side of a binding.
+    Same(u32),
+}
+
+/// What gives each number of an order its bit, step by step.
+#[derive(Drop)]
+pub struct Program {
+    pub steps: Vec<Step>,
+    /// The numbers that covers read.
+    pub reads: Vec<u32>,
+    /// The rows of covers.
+    pub cubes: Vec<Cube>,
+}
+
+/// Lays out the drivers of some numbers, in their order.
+pub fn lay_out(alloc: Global, drivers: &[Driver<'_>], order: &[u32]) -> Result<Program, AllocError>
+    requires covers { AllByRecursion (λ driver. HasCover (shown_driver driver)) drivers.now }
+    requires below { AllByRecursion (λ k. k < length drivers.now) order.now }
+    ensures whole { IfOk result IsWhole }
+    ensures shown { IfOk result (λ program. shown_program program ≡ in_order (map shown_driver drivers.now) order.now) }
+{
+    let mut program = Program {
+        steps: Vec::with_capacity(alloc, order.len())?,
+        reads: Vec::new(alloc),
+        cubes: Vec::new(alloc),
+    };
+    for number in order {
+        push_step(&mut program, &drivers[*number as usize])?;
+    }
+    Ok(program)
+}
+
+/// Adds the step of a driver.
+fn push_step(program: &mut Program, driver: &Driver<'_>) -> Result<(), AllocError>
+    requires cover { HasCover (shown_driver driver.now) }
+    requires whole { IsWhole program.now }
+    ensures whole { OnOk result (IsWhole program.new) }
+    ensures shown { OnOk result (shown_program program.new ≡ shown_program program.old ++ shown_driver driver.now ∷ []) }
+{
+    let step = step_of(&mut program.reads, &mut program.cubes, driver)?;
+    program.steps.push(step)?;
+    Ok(())
+}
+
+/// The step of a driver, whose inputs and rows are appended.
+fn step_of(
+    reads: &mut Vec<u32>,
+    cubes: &mut Vec<Cube>,
+    driver: &Driver<'_>,
+) -> Result<Step, AllocError>
+    requires { HasCover (shown_driver driver.now) }
+    ensures reads { OnOk result (Extends reads.old.items reads.new.items) }
+    ensures cubes { OnOk result (Extends cubes.old.items cubes.new.items) }
+    ensures there { IfOk result (IsThere reads.new.items cubes.new.items) }
+    ensures shown { IfOk result (λ step. shown_step reads.new.items cubes.new.items step ≡ shown_driver driver.now) }
+{
+    Ok(match driver {
+        Driver::Given(place) => Step::Given(*place),
+        Driver::Held { first, input } => Step::Held {
+            first: *first,
+            input: *input,
+        },
+        Driver::Made { cover, inputs } => Step::Made {
+            on: cover.on,
+            reads: append(reads, inputs.as_slice())?,
+            cubes: append(cubes, cover.cubes.as_slice())?,
+        },
+        Driver::Same(other) => Step::Same(*other),
+    })
+}
+
+/// Appends some items, and answers where they are.
+fn append<T: Copy>(to: &mut Vec<T>, items: &[T]) -> Result<Part, AllocError>
+    ensures items { OnOk result (to.new.items ≡ to.old.items ++ items.now) }
+    ensures part { IfOk result (λ part. (part.start ≡ length to.old.items) × (part.end ≡ length to.new.items)) }
+{
+    let start = to.len();
+    to.extend_from_slice(items)?;
+    Ok(Part {
+        start,
+        end: to.len(),
+    })
+}
