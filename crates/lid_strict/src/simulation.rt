@@ -46,13 +46,16 @@ fn pack(bits: &[bool], numbers: &[u32]) -> u64
     packed
 }
 
-/// Whether some row of a cover agrees with packed inputs.
+/// Whether some row of a cover agrees with packed inputs. All rows are looked at: most covers have
+/// few, and a branch that is often guessed wrong costs more.
 fn any_met(cubes: &[Cube], bits: u64) -> bool
     ensures { result ≡ list_any (is_met bits) cubes.now }
 {
-    cubes
-        .iter()
-        .any(|cube| (bits ^ cube.value) & cube.care == 0)
+    let mut found = false;
+    for cube in cubes {
+        found |= (bits ^ cube.value) & cube.care == 0;
+    }
+    found
 }
 
 /// The value of a cover, by its rows and the numbers that it reads.
