@@ -63,7 +63,7 @@ fn a_pipeline_delays_by_four_and_feeds_one_bit_back(rt: HostRuntime) -> Result<(
     for t in 0..100_u32 {
         let fed_back = u32::from(t % 2 == 1 && (t / 4) % 2 == 1);
         write!(outs, "{fed_back}")?;
-        for j in 0..8 {
+        for j in 0..8_u32 {
             write!(rows, "{}", (t >> j) & 1)?;
             if j > 0 {
                 let late = if t < 4 { 0 } else { ((t - 4) >> j) & 1 };
