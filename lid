@@ -10,7 +10,7 @@ stale() {
     -newer "$program" -print -quit 2>/dev/null)" ]
 }
 if stale; then
-  echo "lid: the first run proves all crates before it builds the program; that takes up to half an hour" >&2
+  echo "lid: the first run proves all crates before it builds the program; that takes tens of minutes" >&2
   # rt runs what it has built, here on the example of the crate
   (cd "$here/crates/lid" && rt run -- strict data/one.blif data/one.vec) >/dev/null ||
     { echo "lid: the program was not built; rt check in crates/lid tells why" >&2; exit 70; }
