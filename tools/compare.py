@@ -15,7 +15,7 @@ import tempfile
 from collections import Counter
 from pathlib import Path
 
-from reference import Cover, Judge, Latch, Model, Refused, simulate
+from reference import Cover, Judge, Latch, Model, Refused, firsts, simulate
 
 LID = Path(__file__).parent.parent / "lid"
 
@@ -79,7 +79,7 @@ class Maker:
             avail.append(f"n{j}")
         m.insts = [(sub.name, self.bind(sub, avail, nets)) for sub, nets in zip(chosen, fresh)]
         likely = [net for net in avail if net[0] == "w" or self.dice.random() < 0.3]
-        m.outputs = [net for net in firsts_of(likely) if is_root or net not in m.inputs][:3]
+        m.outputs = [net for net in firsts(likely) if is_root or net not in m.inputs][:3]
         if any(actual == "clk" for _, binds in m.insts for _, actual in binds):
             self.add_clock(m)
         return m
@@ -125,12 +125,14 @@ class Maker:
         elif binds:
             j = self.dice.randrange(len(binds))
             formal, actual = binds[j]
-            more = {10: [], 11: [(formal, net)], 12: [(self.dice.choice(["u", "clk", "i0"]), actual)]}
-            binds[j : j + 1] = more[at] if at != 11 or self.dice.random() < 0.5 else [(formal, actual), (formal, net)]
-
-
-def firsts_of(names: list[str]) -> list[str]:
-    return list(dict.fromkeys(names))
+            if at == 10:
+                del binds[j]
+            elif at == 11:
+                binds.insert(j, (formal, net))
+                if self.dice.random() < 0.5:
+                    del binds[j + 1]
+            else:
+                binds[j] = (self.dice.choice(["u", "clk", "i0"]), actual)
 
 
 def line_of(cell: Cover | Latch) -> list[str]:
