@@ -9,8 +9,6 @@ mod meet;
 mod memory;
 mod outside;
 mod system;
-#[cfg(test)]
-mod tests;
 mod text;
 mod which;
 

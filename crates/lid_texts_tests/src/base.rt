@@ -1,4 +1,4 @@
-use crate::{
+use lid_base::{
     DirShelf, File, Gate, Items, Line, MeetGate, MemShelf, MemSink, Name, OpenGate, Shelf,
     ShelfFailed, Sink, SinkFailed, StdSink, Text, TextFault, lines,
 };
