@@ -1,0 +1,103 @@
+//! Netlists that are accepted and refused, with their roots.
+
+use crate::told::{Told, design_of, expect_told, names, numbered};
+use lid_base::{Items, Name};
+use lid_check::{Checked, check};
+use std::alloc::{AllocError, Global};
+use std::process::Abort;
+use std::test::Fail;
+
+/// Two instances of a model `p` without a state, each of which drives the other's input.
+const RING: &str =
+    ".model t\n.inputs x c\n.outputs v\n.subckt p a=v b=u c=c\n.subckt p a=u b=v c=c\n\
+.end\n.model p\n.inputs a c\n.outputs b\n.names a b\n1 1\n.end\n";
+
+/// Two instances of a model `p` without a state, one behind the other.
+const CHAIN: &str =
+    ".model t\n.inputs x c\n.outputs v\n.subckt p a=x b=u c=c\n.subckt p a=u b=v c=c\n\
+.end\n.model p\n.inputs a c\n.outputs b\n.names a b\n1 1\n.end\n";
+
+/// Two instances of a register `p` whose first bit is left open, one behind the other.
+const OPEN: &str =
+    ".model t\n.inputs x c\n.outputs v\n.subckt p a=x b=u c=c\n.subckt p a=u b=v c=c\n\
+.end\n.model p\n.inputs a c\n.outputs b\n.latch a b re c\n.end\n";
+
+/// The same with registers that begin at 1.
+const SET: &str =
+    ".model t\n.inputs x c\n.outputs v\n.subckt p a=x b=u c=c\n.subckt p a=u b=v c=c\n\
+.end\n.model p\n.inputs a c\n.outputs b\n.latch a b re c 1\n.end\n";
+
+fn name(alloc: Global, text: &str) -> Result<Name, AllocError> {
+    Ok(Items::from_vec(text.as_bytes().to_vec(alloc)?))
+}
+
+fn is(found: &[Name], text: &str) -> bool {
+    found.len() == 1 && found[0].as_slice() == text.as_bytes()
+}
+
+/// A netlist is refused with the root of this name, or with its own, and this is told.
+fn expect_fault(rt: &impl Abort, alloc: Global, net: &str, root: Option<&Name>, wanted: Told<'_>) {
+    match check(alloc, design_of(rt, alloc, net), root) {
+        Ok(_) => panic!(rt; "it is accepted: {net}"),
+        Err(fault) => expect_told(rt, net, &fault, wanted),
+    }
+}
+
+/// A netlist is accepted with the root of this name, or with its own.
+fn accepted(rt: &impl Abort, alloc: Global, net: &str, root: Option<&Name>) -> Checked {
+    match check(alloc, design_of(rt, alloc, net), root) {
+        Ok(checked) => checked,
+        Err(_) => panic!(rt; "it is refused: {net}"),
+    }
+}
+
+#[test]
+fn loops_and_dependences_are_told(rt: HostRuntime) -> Result<(), Fail> {
+    let alloc = rt.alloc();
+    // (a walk may have no edge)
+    let through = ".model t\n.inputs x\n.outputs x\n.end\n";
+    let cases = [
+        (RING, numbered(b"CombLoop", b"v", b"", 0)),
+        (CHAIN, depends(b"p", b"b", b"a")),
+        (through, depends(b"t", b"x", b"x")),
+    ];
+    for (net, wanted) in cases {
+        expect_fault(&rt, alloc, net, None, wanted);
+    }
+    let chosen = name(alloc, "q")?;
+    expect_fault(&rt, alloc, SET, Some(&chosen), names(b"NoRoot", b"", b""));
+    Ok(())
+}
+
+/// An output of a model depends on an input of it.
+fn depends<'a>(model: &'a [u8], output: &'a [u8], input: &'a [u8]) -> Told<'a> {
+    Told {
+        fault: b"OutputFromInput",
+        first: model,
+        second: output,
+        third: input,
+        number: 0,
+    }
+}
+
+#[test]
+fn a_pair_of_registers_is_accepted(rt: HostRuntime) {
+    let checked = accepted(&rt, rt.alloc(), OPEN, None);
+    assert_eq!(rt; checked.root(), 0);
+    assert_eq!(rt; checked.pearls(), 2);
+    assert_eq!(rt; checked.latches(), 2);
+    assert_eq!(rt; checked.defaulted(), 2);
+    assert!(rt; is(checked.inputs(), "x"));
+    assert!(rt; is(checked.outputs(), "v"));
+}
+
+#[test]
+fn a_chosen_root_is_one_pearl(rt: HostRuntime) -> Result<(), Fail> {
+    let chosen = name(rt.alloc(), "p")?;
+    let checked = accepted(&rt, rt.alloc(), SET, Some(&chosen));
+    assert_eq!(rt; checked.root(), 1);
+    assert_eq!(rt; checked.pearls(), 1);
+    assert_eq!(rt; checked.latches(), 1);
+    assert_eq!(rt; checked.defaulted(), 0);
+    Ok(())
+}

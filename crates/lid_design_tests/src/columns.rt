@@ -1,0 +1,82 @@
+//! What drives the columns of a design, by their numbers.
+
+use crate::told::design_of;
+use lid_columns::{Driver, Elaboration, elaborate};
+use lid_design::Design;
+use lid_models::is_well_formed;
+use lid_rules::check_models;
+use std::alloc::{AllocError, Global};
+use std::process::Abort;
+use std::test::Fail;
+
+/// Two instances of a register, one behind the other.
+const TWO: &str = ".model top\n.inputs ck x\n.outputs z\n.subckt reg a=x b=y clk=ck\n\
+.subckt reg a=y b=z clk=ck\n.end\n.model reg\n.inputs a clk\n.outputs b\n.latch a b re clk 1\n.end\n";
+
+/// The last model has an instance of `mid`, which has logic and an instance of a register.
+const NESTED: &str =
+    ".model reg\n.inputs a clk\n.outputs b\n.latch a b re clk 2\n.end\n.model mid\n\
+.inputs d c\n.outputs q\n.names w d q\n11 1\n.subckt reg a=d b=w clk=c\n.end\n.model top\n.inputs x ck\n\
+.outputs o\n.subckt mid d=x q=o c=ck\n.end\n";
+
+/// A driver in words and numbers.
+fn shown(alloc: Global, driver: &Driver<'_>) -> Result<String, AllocError> {
+    match driver {
+        Driver::Given(place) => format!(in alloc; "given {place}"),
+        Driver::Held { first, input } => format!(in alloc; "held {first} {input}"),
+        Driver::Made { inputs, .. } => made(alloc, inputs.as_slice()),
+        Driver::Same(other) => format!(in alloc; "same {other}"),
+    }
+}
+
+/// A cover, by the columns that it reads.
+fn made(alloc: Global, inputs: &[u32]) -> Result<String, AllocError> {
+    let mut text = String::from_str(alloc, "made")?;
+    for input in inputs {
+        text.push_str(format!(in alloc; " {input}")?.as_str())?;
+    }
+    Ok(text)
+}
+
+/// The drivers and the starts of an elaboration, one a line.
+fn lines(alloc: Global, elaboration: &Elaboration<'_>) -> Result<String, AllocError> {
+    let mut text = String::new(alloc);
+    for driver in elaboration.drivers.as_slice() {
+        text.push_str(shown(alloc, driver)?.as_str())?;
+        text.push('\n')?;
+    }
+    for start in elaboration.starts.as_slice() {
+        text.push_str(format!(in alloc; "start {start}\n")?.as_str())?;
+    }
+    Ok(text)
+}
+
+/// Checks what a design is elaborated to.
+fn expect(rt: &impl Abort, alloc: Global, design: &Design, wanted: &str) -> Result<(), Fail> {
+    if !is_well_formed(alloc, design)? {
+        panic!(rt; "the design is not well formed");
+    }
+    match check_models(alloc, design) {
+        Ok(survey) => {
+            let elaboration = elaborate(alloc, &survey)?;
+            assert_eq!(rt; lines(alloc, &elaboration)?.as_str(), wanted);
+            Ok(())
+        }
+        Err(_) => panic!(rt; "the design is refused"),
+    }
+}
+
+#[test]
+fn instances_beside_and_in_one_another(rt: HostRuntime) -> Result<(), Fail> {
+    let alloc = rt.alloc();
+    let design = design_of(&rt, alloc, TWO);
+    let wanted =
+        "given 0\nsame 6\nsame 4\nsame 0\nheld true 3\nsame 2\nheld true 5\nstart 3\nstart 5\n";
+    expect(&rt, alloc, &design, wanted)?;
+    let design = Design {
+        models: design_of(&rt, alloc, NESTED).models,
+        root: 2,
+    };
+    let wanted = "given 0\nsame 3\nsame 0\nmade 4 2\nsame 6\nsame 2\nheld false 5\nstart 2\n";
+    expect(&rt, alloc, &design, wanted)
+}

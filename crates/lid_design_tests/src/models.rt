@@ -1,0 +1,115 @@
+//! Uses of models, and designs that are not well formed.
+
+use crate::told::design_of;
+use lid_base::Items;
+use lid_cover::{Cover, Cube};
+use lid_design::{Cell, Design, Model};
+use lid_models::{find_uses, is_well_formed};
+use std::alloc::{AllocError, Global};
+use std::process::Abort;
+use std::test::Fail;
+
+/// `top` has two instances of `mid`, which has one of `reg`; `idle` is in no instance.
+const NESTED: &str = ".model top\n.inputs ck x\n.outputs z\n.subckt mid d=x q=y c=ck\n\
+.subckt mid d=y q=z c=ck\n.end\n.model idle\n.inputs i\n.outputs o\n.end\n.model reg\n.inputs a clk\n\
+.outputs b\n.latch a b re clk 0\n.end\n.model mid\n.inputs d c\n.outputs q\n.subckt reg a=d b=q clk=c\n\
+.end\n";
+
+/// A cover of two inputs.
+const GATE: &str = ".model m\n.inputs a b\n.outputs y\n.names a b y\n10 1\n.end\n";
+
+#[test]
+fn instances_name_models_and_reach_them(rt: HostRuntime) -> Result<(), Fail> {
+    let alloc = rt.alloc();
+    let design = design_of(&rt, alloc, NESTED);
+    assert!(rt; is_well_formed(alloc, &design)?);
+    let uses = find_uses(alloc, &design)?;
+    assert_eq!(rt; uses.reached(), [0, 2, 3].as_slice());
+    assert_eq!(rt; uses.model_of(0, 1), Some(3));
+    assert_eq!(rt; uses.model_of(0, 2), None);
+    assert_eq!(rt; uses.model_of(3, 0), Some(2));
+    assert_eq!(rt; uses.model_of(2, 0), None);
+    Ok(())
+}
+
+/// A cell, with another cover where it has one.
+fn with_cover(cell: Cell, cover: Cover) -> Cell {
+    match cell {
+        Cell::Names { inputs, out, .. } => Cell::Names { inputs, out, cover },
+        latch => latch,
+    }
+}
+
+/// A model, with another cover in each of its cells: one row, for so many inputs.
+fn with_row(alloc: Global, model: Model, inputs: u32, row: Cube) -> Result<Model, AllocError> {
+    let mut cells = Vec::new(alloc);
+    for cell in model.cells.into_vec() {
+        let cover = Cover {
+            inputs,
+            on: true,
+            cubes: Items::from_vec(vec![in alloc; row]?),
+        };
+        cells.push(with_cover(cell, cover))?;
+    }
+    Ok(Model {
+        name: model.name,
+        inputs: model.inputs,
+        outputs: model.outputs,
+        clocks: model.clocks,
+        cells: Items::from_vec(cells),
+        insts: model.insts,
+    })
+}
+
+/// The gate, with a row for so many inputs in place of its own.
+fn gated(rt: &impl Abort, alloc: Global, inputs: u32, row: Cube) -> Result<Design, AllocError> {
+    let mut models = Vec::new(alloc);
+    for model in design_of(rt, alloc, GATE).models.into_vec() {
+        models.push(with_row(alloc, model, inputs, row)?)?;
+    }
+    Ok(Design {
+        models: Items::from_vec(models),
+        root: 0,
+    })
+}
+
+#[test]
+fn covers_that_are_not_well_formed(rt: HostRuntime) -> Result<(), Fail> {
+    let alloc = rt.alloc();
+    let cases = [
+        (2, 3, 1, true),
+        // more inputs than the cover counts
+        (1, 1, 1, false),
+        // a row that looks at a third input
+        (2, 4, 0, false),
+        // a value where the row does not look
+        (2, 1, 2, false),
+    ];
+    for (inputs, care, value, wanted) in cases {
+        let design = gated(&rt, alloc, inputs, Cube { care, value })?;
+        assert_eq!(rt;
+            is_well_formed(alloc, &design)?,
+            wanted,
+            "{inputs} {care} {value}"
+        );
+    }
+    Ok(())
+}
+
+#[test]
+fn models_that_are_not_well_formed(rt: HostRuntime) -> Result<(), Fail> {
+    let alloc = rt.alloc();
+    let models = design_of(&rt, alloc, GATE).models;
+    let rootless = Design { models, root: 1 };
+    assert!(rt; !is_well_formed(alloc, &rootless)?);
+    let mut models = design_of(&rt, alloc, NESTED).models.into_vec();
+    for model in design_of(&rt, alloc, ".model mid\n").models.into_vec() {
+        models.push(model)?;
+    }
+    let twice = Design {
+        models: Items::from_vec(models),
+        root: 0,
+    };
+    assert!(rt; !is_well_formed(alloc, &twice)?);
+    Ok(())
+}

@@ -1,0 +1,242 @@
+//! Models that are accepted and refused.
+
+ghost use Rattle.lid_design.specs.Models.{IsReached};
+ghost use Rattle.lid_rules.specs.Acceptance.{ModelsPass};
+
+use crate::told::{Told, design_of, expect_told, names, numbered};
+use lid_models::Survey;
+use lid_rules::{check_models, count_latches};
+use std::alloc::{AllocError, Global};
+use std::fmt::Write;
+use std::process::Abort;
+use std::test::Fail;
+
+/// A register `p` with input a, output b and clock c.
+const REGISTER: &str = ".end\n.model p\n.inputs a c\n.outputs b\n.latch a b re c 1\n.end\n";
+
+/// A netlist with a register `p` is refused, and this is told.
+fn expect(rt: &impl Abort, alloc: Global, net: &str, wanted: Told<'_>) -> Result<(), AllocError> {
+    let mut text = String::from_str(alloc, net)?;
+    text.push_str(REGISTER)?;
+    expect_whole(rt, alloc, text.as_str(), wanted);
+    Ok(())
+}
+
+/// A netlist is refused, and this is told.
+fn expect_whole(rt: &impl Abort, alloc: Global, net: &str, wanted: Told<'_>) {
+    let design = design_of(rt, alloc, net);
+    match check_models(alloc, &design) {
+        Ok(_) => panic!(rt; "it is accepted: {net}"),
+        Err(fault) => expect_told(rt, net, &fault, wanted),
+    }
+}
+
+/// A netlist is accepted.
+fn expect_none(rt: &impl Abort, alloc: Global, net: &str) {
+    let design = design_of(rt, alloc, net);
+    assert!(rt;
+        check_models(alloc, &design).is_ok(),
+        "it is refused: {net}"
+    );
+}
+
+/// What is found of a model of a pair of registers: the root or the register.
+fn expect_model(rt: &impl Abort, survey: &Survey<'_>, k: u32)
+    requires { IsReached survey.now k }
+{
+    assert!(rt; survey.is_clock(k, b"c") && !survey.is_clock(k, b"a"));
+    assert!(rt; survey.place_of(k, b"c").is_none());
+    let is_root = k == 0;
+    assert_eq!(rt; survey.count_nets(k), if is_root { 4 } else { 2 });
+    let first: &[u8] = if is_root { b"x" } else { b"a" };
+    assert!(rt; survey.net_at(k, 0) == Some(first));
+    assert_eq!(rt;
+        survey.place_of(k, b"u"),
+        if is_root { Some(3) } else { None }
+    );
+}
+
+/// What is found of the models of a pair of registers.
+fn expect_pair(rt: &impl Abort, alloc: Global, survey: &Survey<'_>) -> Result<(), AllocError>
+    requires { ModelsPass survey.now }
+{
+    let reached = survey.reached();
+    assert_eq!(rt; reached, [0, 1].as_slice());
+    assert_eq!(rt; survey.order(), [1, 0].as_slice());
+    assert_eq!(rt; survey.model_of(0, 1), Some(1));
+    assert_eq!(rt; survey.model_of(0, 2), None);
+    for k in reached {
+        expect_model(rt, survey, *k);
+    }
+    let latches = count_latches(alloc, survey)?;
+    assert!(rt; latches.all == 2 && latches.defaulted == 0);
+    Ok(())
+}
+
+#[test]
+fn a_pair_of_registers_is_accepted(rt: HostRuntime) -> Result<(), Fail> {
+    let alloc = rt.alloc();
+    let net = ".model t\n.inputs x d c\n.outputs v\n.subckt p a=x b=u c=c\n.subckt p a=u b=v c=c\n\
+.end\n.model p\n.inputs a c\n.outputs b\n.latch a b re c 1\n.end\n";
+    let pair = design_of(&rt, alloc, net);
+    match check_models(alloc, &pair) {
+        Ok(survey) => expect_pair(&rt, alloc, &survey)?,
+        Err(_) => panic!(rt; "it is refused"),
+    }
+    Ok(())
+}
+
+#[test]
+fn accepted_models(rt: HostRuntime) {
+    let nets = [
+        // wires of a root with an instance; an output that is an input
+        ".model t\n.inputs x d c\n.outputs u w z x\n.names w\n1\n.names x z\n1 1\n.subckt p a=x b=u c=c\n\
+.end\n.model p\n.inputs a c\n.outputs b\n.latch a b re c 1\n.end\n",
+        // logic of a root without instances; a latch without a type beside one with a type
+        ".model t\n.inputs x d c\n.outputs w x\n.names x y\n0 1\n.latch y z\n.latch z w fe c 1\n.end\n",
+        // a clock that is an input, an input that is an output, and a model that is not reached
+        ".model t\n.inputs x c\n.outputs x\n.clock c\n.end\n.model q\n.inputs a\n.outputs a\n.end\n",
+    ];
+    for net in nets {
+        expect_none(&rt, rt.alloc(), net);
+    }
+}
+
+#[test]
+fn faulty_lists_and_instances_are_told(rt: HostRuntime) -> Result<(), Fail> {
+    let cases = [
+        (
+            ".model t\n.inputs x d c\n.outputs d x x\n.subckt q\n",
+            names(b"DuplicateName", b"t", b"x"),
+        ),
+        (
+            ".model t\n.inputs x\n.subckt q a=x\n.end\n.model q\n.inputs a\n.outputs a\n",
+            names(b"DuplicateName", b"q", b"a"),
+        ),
+        (
+            ".model t\n.inputs x d c\n.subckt p a=x b=u c=c\n.subckt q a=x b=u c=c\n.subckt r a=x b=u c=c\n",
+            numbered(b"UnknownModel", b"t", b"q", 1),
+        ),
+        (
+            ".model t\n.subckt q\n.end\n.model q\n.subckt r\n.end\n.model r\n.subckt q\n",
+            names(b"Recursive", b"q", b""),
+        ),
+        (
+            ".model t\n.inputs x d c\n.subckt p a=x b=u c=c\n.subckt p a=x a=x z=x\n",
+            numbered(b"UnknownFormal", b"t", b"z", 1),
+        ),
+        (
+            ".model t\n.inputs x d c\n.subckt p b=u a=x a=d\n",
+            numbered(b"FormalTwice", b"t", b"a", 0),
+        ),
+        (
+            ".model t\n.inputs x d c\n.subckt p a=x\n.subckt p b=u\n",
+            numbered(b"Unbound", b"t", b"a", 1),
+        ),
+    ];
+    for (net, wanted) in cases {
+        expect(&rt, rt.alloc(), net, wanted)?;
+    }
+    Ok(())
+}
+
+#[test]
+fn faulty_nets_clocks_and_cells_are_told(rt: HostRuntime) -> Result<(), Fail> {
+    let cases = [
+        (
+            ".model t\n.inputs x d c\n.outputs u\n.names x u\n1 1\n.subckt p a=x b=u c=c\n",
+            names(b"TwoDrivers", b"t", b"u"),
+        ),
+        (
+            ".model t\n.inputs x d c\n.outputs w\n.latch d x re c 1\n",
+            names(b"TwoDrivers", b"t", b"x"),
+        ),
+        (
+            ".model t\n.inputs x d c\n.outputs v\n.subckt p a=u b=v c=c\n",
+            names(b"Undriven", b"t", b"u"),
+        ),
+        (
+            ".model t\n.inputs x d c\n.outputs x w\n",
+            names(b"Undriven", b"t", b"w"),
+        ),
+        (
+            ".model t\n.inputs x d c\n.outputs u\n.names c y\n1 1\n.subckt p a=x b=u c=c\n",
+            names(b"ClockUse", b"t", b"c"),
+        ),
+        (
+            ".model t\n.inputs x d c\n.outputs y\n.latch x y re k 1\n",
+            names(b"ClockUse", b"t", b"k"),
+        ),
+        (
+            ".model t\n.inputs x d c\n.outputs u\n.subckt p a=x b=u c=c\n.subckt p a=x c=d\n",
+            names(b"TwoClocks", b"d", b"c"),
+        ),
+        (
+            ".model t\n.inputs x d c\n.outputs y\n.latch x w\n.latch x y re c 1\n.latch y z fe c 1\n",
+            names(b"MixedEdges", b"t", b"z"),
+        ),
+        (
+            ".model t\n.inputs x d c\n.outputs y\n.names x z\n1 1\n.names x y\n0 1\n.latch x w\n\
+.subckt p a=x b=u c=c\n",
+            names(b"RootLogic", b"y", b""),
+        ),
+    ];
+    for (net, wanted) in cases {
+        expect(&rt, rt.alloc(), net, wanted)?;
+    }
+    Ok(())
+}
+
+/// So many models, each of which has so many instances of the next and binds its inputs to theirs.
+fn chain(alloc: Global, levels: u32, copies: u32, inputs: &[&str]) -> Result<String, Fail> {
+    let mut net = String::new(alloc);
+    for k in 0..levels {
+        write!(net, ".model m{k}\n.inputs")?;
+        for input in inputs {
+            write!(net, " {input}")?;
+        }
+        net.push_str("\n")?;
+        if k + 1 < levels {
+            push_copies(&mut net, k + 1, copies, inputs)?;
+        }
+    }
+    Ok(net)
+}
+
+/// Appends so many instances of a model, whose inputs are bound to the nets of the same names.
+fn push_copies(net: &mut String, model: u32, copies: u32, inputs: &[&str]) -> Result<(), Fail> {
+    for _ in 0..copies {
+        write!(net, ".subckt m{model}")?;
+        for input in inputs {
+            write!(net, " {input}={input}")?;
+        }
+        net.push_str("\n")?;
+    }
+    Ok(())
+}
+
+#[test]
+fn limits_are_told_past_their_last_count(rt: HostRuntime) -> Result<(), Fail> {
+    let alloc = rt.alloc();
+    let nine = ["a", "b", "c", "d", "e", "f", "g", "h", "i"];
+    for (levels, copies, inputs) in [(2, 4096, 0), (65, 1, 0), (18, 2, 0), (17, 2, 8)] {
+        let net = chain(alloc, levels, copies, &nine[..inputs])?;
+        expect_none(&rt, alloc, net.as_str());
+    }
+    let cases: [(u32, u32, usize, &[u8], u64); 4] = [
+        (2, 4097, 0, b"RootInsts", 4097),
+        (66, 1, 0, b"Depth", 65),
+        (19, 2, 0, b"Cells", 524_286),
+        (17, 2, 9, b"Nets", 1_179_639),
+    ];
+    for (levels, copies, inputs, limit, count) in cases {
+        let net = chain(alloc, levels, copies, &nine[..inputs])?;
+        expect_whole(
+            &rt,
+            alloc,
+            net.as_str(),
+            numbered(b"Limit", limit, b"", count),
+        );
+    }
+    Ok(())
+}

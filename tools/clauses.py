@@ -1,0 +1,83 @@
+#!/usr/bin/env python3
+"""Prints what the public functions of the crates promise, one clause a line, so that two states of
+the tree can be compared:
+
+    tools/clauses.py > before
+    tools/clauses.py > after
+    diff before after
+
+A line is `crate function: clause`, with the spaces of a clause drawn together. With --specs the
+definitions of specs/ are printed too, an equation or a field a line, without comments.
+"""
+
+import pathlib
+import re
+import sys
+
+HEAD = re.compile(r"^ *pub (?:const |unsafe )*fn (\w+)", re.M)
+
+
+def closing(text, at):
+    """The place after the brace that closes the one at `at`."""
+    depth = 0
+    for place in range(at, len(text)):
+        depth += {"{": 1, "}": -1}.get(text[place], 0)
+        if depth == 0:
+            return place + 1
+    return len(text)
+
+
+def clauses(text, at):
+    """The signature and the clauses of the function whose head begins at `at`."""
+    found, place = [], text.index("(", at)
+    signature = text[at:place]
+    word = re.compile(r"\b(requires|ensures)\*?\s*(\w+\s*)?\{|^ *\{|;", re.M)
+    while True:
+        step = word.search(text, place)
+        if step is None:
+            break
+        if not found:
+            signature = text[at : step.start()]
+        if not step[1]:
+            break
+        end = closing(text, step.end() - 1)
+        found.append(text[step.start() : end])
+        place = end
+    return [signature, *found]
+
+
+def shown(text):
+    """The text without comments, its spaces drawn together."""
+    text = re.sub(r"^ *//.*$", "", text, flags=re.M)
+    return re.sub(r"\s+", " ", text).strip()
+
+
+def of_sources(crate):
+    for file in sorted((crate / "src").glob("*.rt")):
+        if "test" in file.name:
+            continue
+        text = file.read_text()
+        for head in HEAD.finditer(text):
+            for clause in clauses(text, head.start()):
+                yield f"{crate.name} {head[1]}: {shown(clause)}"
+
+
+def of_specs(crate):
+    for file in sorted((crate / "specs").glob("*.antt")):
+        for line in file.read_text().split("\n"):
+            line = line.split("--")[0].rstrip()
+            if line and not line.startswith(("use ", "pub mod ")):
+                yield f"{crate.name} {file.stem}: {line}"
+
+
+def main(words):
+    top = pathlib.Path(__file__).resolve().parent.parent
+    crates = sorted(it for it in (top / "crates").iterdir() if not it.name.endswith("_tests"))
+    lines = [line for crate in crates for line in of_sources(crate)]
+    if "--specs" in words:
+        lines += [line for crate in crates for line in of_specs(crate)]
+    print("\n".join(sorted(lines) if "--specs" not in words else lines))
+
+
+if __name__ == "__main__":
+    main(sys.argv[1:])
