@@ -3,7 +3,6 @@ ghost use Rattle.std.specs.List.{All};
 ghost use Rattle.std.specs.Thread.{IsSync};
 ghost use Rattle.lid_station.specs.Boards.{fill};
 ghost use Rattle.lid_board.specs.Owners.{IsOf, IsOwned, ends_of, plan_of};
-ghost use Rattle.lid_board.specs.Parting.{end_number};
 ghost use Rattle.lid_board.specs.Relation.{stream_of};
 ghost use Rattle.lid_board.specs.Standing.{StandsFor};
 
@@ -78,11 +77,11 @@ fn offer(board: &Board, hand: &mut Hand, station: u32, stream: &[u32]) -> Option
     ensures of { IsOf hand.new board.now }
     ensures owned { (end : ℕ) → IsOwned (ends_of hand.old) end → IsOwned (ends_of hand.new) end }
 {
-    let end = 2 * station as usize;
-    if end >= hand.ends.len() {
-        return None;
-    }
-    let Some(passed) = hand.ends[end] else {
+    let end = End {
+        station,
+        side: Side::Fill,
+    };
+    let Some(passed) = hand.passed(end) else {
         return None;
     };
     let next = token_of(stream, passed);
@@ -108,11 +107,11 @@ fn receive(board: &Board, hand: &mut Hand, station: u32) -> Option<(InLook, Opti
     ensures of { IsOf hand.new board.now }
     ensures owned { (end : ℕ) → IsOwned (ends_of hand.old) end → IsOwned (ends_of hand.new) end }
 {
-    let end = 2 * station as usize + 1;
-    if end >= hand.ends.len() {
-        return None;
-    }
-    let Some(_passed) = hand.ends[end] else {
+    let end = End {
+        station,
+        side: Side::Drain,
+    };
+    let Some(_passed) = hand.passed(end) else {
         return None;
     };
     let mut stations = Attended {
@@ -191,7 +190,7 @@ fn carries_the_worked_streams(rt: HostRuntime) -> Result<(), Fail> {
         station: 1,
         side: Side::Drain,
     };
-    let Some(drainer) = part(&board, &mut hand, end, 3) else {
+    let Some(drainer) = part(&board, &mut hand, end) else {
         return Err(Fail::new("no part"));
     };
     let mut drainer = cross(&board, drainer);
@@ -206,16 +205,12 @@ fn carries_the_worked_streams(rt: HostRuntime) -> Result<(), Fail> {
 }
 
 /// Gives an end of a hand to a new one, where the hand has it.
-fn part(board: &Board, hand: &mut Hand, end: End, number: usize) -> Option<Hand>
+fn part(board: &Board, hand: &mut Hand, end: End) -> Option<Hand>
     requires of { IsOf hand.old board.now }
-    requires number { number ≡ end_number end }
     ensures of { IsOf hand.new board.now }
     ensures part { IfSome result (λ new. IsOf new board.now) }
 {
-    if number >= hand.ends.len() {
-        return None;
-    }
-    let Some(_passed) = hand.ends[number] else {
+    let Some(_passed) = hand.passed(end) else {
         return None;
     };
     match board.split(hand, &[end]) {
@@ -295,7 +290,7 @@ fn two_threads_share_a_station(rt: HostRuntime) -> Result<(), Fail> {
         station: 0,
         side: Side::Drain,
     };
-    let Some(drainer) = part(&board, &mut hand, end, 1) else {
+    let Some(drainer) = part(&board, &mut hand, end) else {
         return Err(Fail::new("no part"));
     };
     let (mut filler, (drainer, wrong)) = relay(
@@ -323,11 +318,11 @@ fn has_room(board: &Board, hand: &mut Hand, station: u32, stream: &[u32]) -> boo
     requires { IsOf hand.old board.now }
     ensures { IsOf hand.new board.now }
 {
-    let end = 2 * station as usize;
-    if end >= hand.ends.len() {
-        return false;
-    }
-    let Some(passed) = hand.ends[end] else {
+    let end = End {
+        station,
+        side: Side::Fill,
+    };
+    let Some(passed) = hand.passed(end) else {
         return false;
     };
     if passed >= stream.len() as u64 {
@@ -422,8 +417,6 @@ fn ring<R: Threads + Sync>(
 /// The hand of a worker that drains a station and fills another.
 fn worker(board: &Board, hand: &mut Hand, from: u32, to: u32) -> Option<Hand>
     requires of { IsOf hand.old board.now }
-    requires from { from < 2 ^ 31 }
-    requires to { to < 2 ^ 31 }
     ensures of { IsOf hand.new board.now }
     ensures worker { IfSome result (λ new. IsOf new board.now) }
 {
@@ -435,10 +428,10 @@ fn worker(board: &Board, hand: &mut Hand, from: u32, to: u32) -> Option<Hand>
         station: to,
         side: Side::Fill,
     };
-    let Some(mut worker) = part(board, hand, drained, 2 * from as usize + 1) else {
+    let Some(mut worker) = part(board, hand, drained) else {
         return None;
     };
-    let Some(other) = part(board, hand, filled, 2 * to as usize) else {
+    let Some(other) = part(board, hand, filled) else {
         return None;
     };
     board.join(&mut worker, other);
@@ -446,15 +439,17 @@ fn worker(board: &Board, hand: &mut Hand, from: u32, to: u32) -> Option<Hand>
 }
 
 /// How many tokens a station holds, by a hand with both its ends.
-fn holds(hand: &Hand, station: usize) -> u64
-    requires { station < 2 ^ 32 }
-{
-    if 2 * station + 1 >= hand.ends.len() {
-        return 0;
-    }
-    let put = hand.ends[2 * station].unwrap_or(0);
-    let taken = hand.ends[2 * station + 1].unwrap_or(0);
-    put.saturating_sub(taken)
+fn holds(hand: &Hand, station: u32) -> u64 {
+    let filled = End {
+        station,
+        side: Side::Fill,
+    };
+    let drained = End {
+        station,
+        side: Side::Drain,
+    };
+    let put = hand.passed(filled).unwrap_or(0);
+    put.saturating_sub(hand.passed(drained).unwrap_or(0))
 }
 
 #[test]
