@@ -14,6 +14,3 @@ mod words;
 
 pub use fault::BlifFault;
 pub use reader::read;
-
-#[cfg(test)]
-mod tests;

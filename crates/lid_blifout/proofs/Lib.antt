@@ -10,4 +10,3 @@ pub mod ReadWords
 pub mod ReadLaw
 pub mod WritableLaw
 pub mod Law
-pub mod Examples

@@ -1,4 +1,3 @@
 pub mod Canonical
 pub mod Writable
 pub mod Pieces
-pub mod Examples

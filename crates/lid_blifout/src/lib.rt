@@ -4,7 +4,4 @@
 
 mod writer;
 
-pub use writer::{read_back_law, write};
-
-#[cfg(test)]
-mod tests;
+pub use writer::{append_models, read_back_law, write};

@@ -8,5 +8,4 @@ pub mod ReadLemmas
 pub mod StartLemmas
 pub mod StationLemmas
 pub mod StepLemmas
-pub mod StillLemmas
 pub mod TieLemmas

@@ -12,8 +12,6 @@ mod key;
 mod parts;
 mod starts;
 mod steps;
-#[cfg(test)]
-mod tests;
 mod view;
 
 pub use attended::Attended;

@@ -4,6 +4,7 @@ ghost use Rattle.std.specs.Prelude.{◌≡◌, ℕ, ◌+◌, ◌*◌, ◌^◌, �
 ghost use Rattle.lid_board.specs.Owners.{IsOf, IsOwned, ends_of, plan_of};
 ghost use Rattle.lid_board.specs.Parting.{end_number, is_chosen, or_else, unseen};
 ghost use Rattle.lid_board.specs.Views.{at};
+ghost use Rattle.lid_board.specs.declared.view.Held.{Held};
 
 use crate::board::Board;
 use crate::hand::Hand;
@@ -56,6 +57,20 @@ fn merge_numbers(into: &mut [Option<u64>], from: &[Option<u64>])
 {
     for number in 0..from.len() {
         into[number] = first_of(into[number], from[number]);
+    }
+}
+
+impl Hand {
+    /// How many tokens passed an end; none where another hand has it.
+    pub fn passed(&self, end: End) -> Option<u64>
+        ensures { result ≡ option_map (λ (h : Held). h.passed) (at (ends_of self.now) (end_number end)) }
+    {
+        let number = number_of(end);
+        if number < self.ends.len() {
+            self.ends[number]
+        } else {
+            None
+        }
     }
 }
 

@@ -7,8 +7,6 @@ mod mover;
 mod pair;
 mod plain;
 mod stations;
-#[cfg(test)]
-mod tests;
 
 pub use looks::{End, InLook, OutLook, Side};
 pub use mover::{Carried, carry};

@@ -10,6 +10,3 @@ mod walk;
 pub use print::print_rows;
 pub use read::{copy_names, read_rows};
 pub use rows::{Rows, VecFault};
-
-#[cfg(test)]
-mod tests;

@@ -7,7 +7,5 @@ mod job;
 mod reading;
 mod strict;
 mod table;
-#[cfg(test)]
-mod tests;
 
 pub use job::{Job, read_words};

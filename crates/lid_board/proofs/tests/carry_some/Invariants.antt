@@ -1,5 +1,0 @@
-use Rattle.lid_board.specs.Owners.{IsOf}
-use Rattle.lid_board.proofs.tests.carry_some.Given as goal
-
-abbrev pub invariant-loop-try : goal.invariant-loop-try
-invariant-loop-try l = IsOf l.hand l.board
