@@ -4,10 +4,10 @@ use Rattle.lid_base.specs.declared.which.Which.{Which}
 use Rattle.lid_base.specs.declared.which.Which.TheVariants as which
 use Rattle.lid_design.specs.declared.Design.{Design}
 use Rattle.lid_rules.specs.declared.fault.CheckFault.{CheckFault}
-use Rattle.lid_rules.specs.declared.counts.Measure.{Measure}
-use Rattle.lid_rules.specs.declared.counts.Measure.TheVariants as count
+use Rattle.lid_counts.specs.declared.counts.Measure.{Measure}
+use Rattle.lid_counts.specs.declared.counts.Measure.TheVariants as count
 use Rattle.lid_rules.specs.Conditions.{over, or_fault}
-use Rattle.lid_rules.specs.Counts.{count_at_root}
+use Rattle.lid_counts.specs.Counts.{count_at_root}
 
 -- what is counted over all places, where it is more than the greatest
 unfoldable pub total_limit : ℕ → Which → Measure → Design → Option CheckFault

@@ -1,21 +1,21 @@
 ghost use Rattle.std.specs.Prelude.{◌≡◌, ◌<◌, ◌^◌, length, Some, not, map, filter, find, slice_get, IfOk};
-ghost use Rattle.lid_names.specs.Names.{texts};
+ghost use Rattle.lid_names.specs.Names.{texts, is_twice, formal_of};
 ghost use Rattle.lid_design.specs.Columns.{is_among};
-ghost use Rattle.lid_design.specs.Models.{IsReached, insts_of, is_clock_of};
-ghost use Rattle.lid_rules.specs.Conditions.{formal_of, formals, is_twice, in_insts};
-ghost use Rattle.lid_rules.specs.Rules.{inst_rule, faulty_formal, told_formal};
+ghost use Rattle.lid_design.specs.Models.{IsReached, AreReached, insts_of, is_clock_of};
+ghost use Rattle.lid_rules.specs.Conditions.{formals, in_insts};
+ghost use Rattle.lid_rules.specs.Rules.{inst_rule, inst_at, by_inst, by_insts, faulty_formal, told_formal, name_behind, is_port_of, first_unbound_of};
+ghost use Rattle.lid_rules.specs.Told.{shown, shown_of};
 ghost use Rattle.lid_rules.specs.declared.instances.InstRule.TheVariants.{UnknownFormal, Unbound};
-ghost use Rattle.lid_rules.specs.Ports.{name_behind, is_port_of, first_unbound_of};
 
-use crate::fault::CheckFault;
-use crate::ports::{Port, Ports};
+use crate::told::Told;
 use lid_base::Name;
 use lid_design::{Bind, Inst, Model};
-use lid_names::{NameSet, copy_name, find_twice, list_formals};
+use lid_names::{NameSet, find_twice, list_formals};
+use lid_ports::{Port, Ports};
 use std::alloc::{AllocError, Global};
 
 /// A condition that speaks of an instance.
-#[derive(Clone, Copy, Debug, PartialEq, Eq)]
+#[derive(Clone, Copy)]
 pub enum InstRule {
     /// Each formal is in a list of the instance's model.
     UnknownFormal,
@@ -25,18 +25,72 @@ pub enum InstRule {
     Unbound,
 }
 
-/// What a condition tells of the instances of a model.
-pub fn judge_insts(
+/// Tells of the first of some conditions that an instance of a reached model breaks.
+pub fn find_by_rules<'d>(
     alloc: Global,
-    ports: &Ports<'_>,
+    ports: &Ports<'d>,
+    reached: &[u32],
+    rules: &[InstRule],
+) -> Result<Option<Told<'d>>, AllocError>
+    requires { AreReached ports.now reached.now }
+    ensures { IfOk result (λ told. shown_of told ≡ by_insts ports.now reached.now rules.now) }
+{
+    for rule in rules {
+        let told = find_at_insts(alloc, ports, reached, *rule)?;
+        if told.is_some() {
+            return Ok(told);
+        }
+    }
+    Ok(None)
+}
+
+/// Tells of the first instance of a reached model that breaks a condition.
+fn find_at_insts<'d>(
+    alloc: Global,
+    ports: &Ports<'d>,
+    reached: &[u32],
+    rule: InstRule,
+) -> Result<Option<Told<'d>>, AllocError>
+    requires { AreReached ports.now reached.now }
+    ensures { IfOk result (λ told. shown_of told ≡ by_inst rule ports.now reached.now) }
+{
+    for k in reached {
+        let told = judge_model(alloc, ports, rule, *k)?;
+        if told.is_some() {
+            return Ok(told);
+        }
+    }
+    Ok(None)
+}
+
+/// Tells of the first instance of the model of a number that breaks a condition.
+fn judge_model<'d>(
+    alloc: Global,
+    ports: &Ports<'d>,
     rule: InstRule,
     k: u32,
-    model: &Model,
-) -> Result<Option<CheckFault>, AllocError>
+) -> Result<Option<Told<'d>>, AllocError>
+    requires { IsReached ports.now k }
+    ensures { IfOk result (λ told. shown_of told ≡ inst_at rule ports.now k) }
+{
+    match ports.model(k) {
+        Some(model) => judge_insts(alloc, ports, rule, k, model),
+        None => Ok(None),
+    }
+}
+
+/// Tells of the first instance of a model that breaks a condition.
+fn judge_insts<'d>(
+    alloc: Global,
+    ports: &Ports<'d>,
+    rule: InstRule,
+    k: u32,
+    model: &'d Model,
+) -> Result<Option<Told<'d>>, AllocError>
     requires reached { IsReached ports.now k }
     requires model { slice_get ports.now.models k ≡ Some model.now }
     requires few { length model.now.insts < 2 ^ 32 }
-    ensures { IfOk result (λ told. told ≡ in_insts (inst_rule rule ports.now model.now) model.now) }
+    ensures { IfOk result (λ told. shown_of told ≡ in_insts (inst_rule rule ports.now model.now) model.now) }
 {
     let insts = model.insts.as_slice();
     for i in 0..insts.len() {
@@ -49,54 +103,46 @@ pub fn judge_insts(
 }
 
 /// What a condition tells of an instance.
-fn judge_inst(
+fn judge_inst<'d>(
     alloc: Global,
-    ports: &Ports<'_>,
+    ports: &Ports<'d>,
     rule: InstRule,
     k: u32,
     i: u32,
-    model: &Model,
-    inst: &Inst,
-) -> Result<Option<CheckFault>, AllocError>
+    model: &'d Model,
+    inst: &'d Inst,
+) -> Result<Option<Told<'d>>, AllocError>
     requires reached { IsReached ports.now k }
     requires inst { slice_get (insts_of ports.now k) i ≡ Some inst.now }
-    ensures { IfOk result (λ told. told ≡ inst_rule rule ports.now model.now i inst.now) }
+    ensures { IfOk result (λ told. shown_of told ≡ inst_rule rule ports.now model.now i inst.now) }
 {
     match find_formal(alloc, ports, rule, k, i, inst)? {
-        Some(formal) => Ok(Some(tell_formal(alloc, rule, model, i, formal)?)),
+        Some(formal) => Ok(Some(tell_formal(rule, model.name.as_slice(), i, formal))),
         None => Ok(None),
     }
 }
 
 /// Tells of a formal.
-fn tell_formal(
-    alloc: Global,
-    rule: InstRule,
-    model: &Model,
-    inst: u32,
-    formal: &[u8],
-) -> Result<CheckFault, AllocError>
-    ensures { IfOk result (λ fault. fault ≡ told_formal rule model.now.name inst formal.now) }
+fn tell_formal<'d>(rule: InstRule, model: &'d [u8], inst: u32, formal: &'d [u8]) -> Told<'d>
+    ensures { shown result ≡ told_formal rule model.now inst formal.now }
 {
-    let model = copy_name(alloc, model.name.as_slice())?;
-    let formal = copy_name(alloc, formal)?;
-    Ok(match rule {
-        InstRule::UnknownFormal => CheckFault::UnknownFormal {
+    match rule {
+        InstRule::UnknownFormal => Told::UnknownFormal {
             model,
             inst,
             formal,
         },
-        InstRule::FormalTwice => CheckFault::FormalTwice {
+        InstRule::FormalTwice => Told::FormalTwice {
             model,
             inst,
             formal,
         },
-        InstRule::Unbound => CheckFault::Unbound {
+        InstRule::Unbound => Told::Unbound {
             model,
             inst,
             formal,
         },
-    })
+    }
 }
 
 /// The formal of an instance that a condition tells of.

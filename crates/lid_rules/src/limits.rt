@@ -5,12 +5,13 @@ ghost use Rattle.lid_design.specs.Places.{count_latches, count_defaulted};
 ghost use Rattle.lid_rules.specs.Acceptance.{ModelsPass};
 ghost use Rattle.lid_rules.specs.Conditions.{over, limits};
 ghost use Rattle.lid_rules.specs.Limits.{total_limit, wide_limits, deep_limits};
+ghost use Rattle.lid_rules.specs.Told.{shown_of};
 
-use crate::counts::{Measure, count_all};
-use crate::fault::CheckFault;
-use crate::lists::model_at;
+use crate::told::Told;
 use lid_base::Which;
+use lid_counts::{Measure, count_all};
 use lid_models::Survey;
+use lid_names::model_at;
 use std::alloc::{AllocError, Global};
 
 /// The latches of a design, over all places.
@@ -33,38 +34,38 @@ pub fn count_latches(alloc: Global, survey: &Survey<'_>) -> Result<Latches, Allo
 }
 
 /// Tells of the first limit that a design exceeds: instances of the root, depth, cells, columns.
-pub fn find_limit(alloc: Global, survey: &Survey<'_>) -> Result<Option<CheckFault>, AllocError>
-    ensures { IfOk result (λ told. told ≡ limits survey.now) }
+pub fn find_limit<'d>(alloc: Global, survey: &Survey<'d>) -> Result<Option<Told<'d>>, AllocError>
+    ensures { IfOk result (λ told. shown_of told ≡ limits survey.now) }
 {
     match judge_root(survey) {
-        Some(fault) => Ok(Some(fault)),
+        Some(told) => Ok(Some(told)),
         None => find_deep(alloc, survey),
     }
 }
 
 /// Tells of the first limit that a design exceeds of depth, cells and columns.
-fn find_deep(alloc: Global, survey: &Survey<'_>) -> Result<Option<CheckFault>, AllocError>
-    ensures { IfOk result (λ told. told ≡ deep_limits survey.now) }
+fn find_deep<'d>(alloc: Global, survey: &Survey<'d>) -> Result<Option<Told<'d>>, AllocError>
+    ensures { IfOk result (λ told. shown_of told ≡ deep_limits survey.now) }
 {
     match judge_total(alloc, survey, Measure::Depth, Which::Depth, 64)? {
-        Some(fault) => Ok(Some(fault)),
+        Some(told) => Ok(Some(told)),
         None => find_wide(alloc, survey),
     }
 }
 
 /// Tells of the first limit that a design exceeds of cells and columns.
-fn find_wide(alloc: Global, survey: &Survey<'_>) -> Result<Option<CheckFault>, AllocError>
-    ensures { IfOk result (λ told. told ≡ wide_limits survey.now) }
+fn find_wide<'d>(alloc: Global, survey: &Survey<'d>) -> Result<Option<Told<'d>>, AllocError>
+    ensures { IfOk result (λ told. shown_of told ≡ wide_limits survey.now) }
 {
     match judge_total(alloc, survey, Measure::Cells, Which::Cells, 262_144)? {
-        Some(fault) => Ok(Some(fault)),
+        Some(told) => Ok(Some(told)),
         None => judge_total(alloc, survey, Measure::Nets, Which::Nets, 1_048_576),
     }
 }
 
 /// Tells of the instances of the root, where they are too many.
-fn judge_root(survey: &Survey<'_>) -> Option<CheckFault>
-    ensures { result ≡ over 4096 RootInsts (length (insts_of survey.now survey.now.root)) }
+fn judge_root<'d>(survey: &Survey<'d>) -> Option<Told<'d>>
+    ensures { shown_of result ≡ over 4096 RootInsts (length (insts_of survey.now survey.now.root)) }
 {
     let count = match model_at(survey.design(), survey.design().root) {
         Some(model) => model.insts.len() as u64,
@@ -75,27 +76,27 @@ fn judge_root(survey: &Survey<'_>) -> Option<CheckFault>
 
 /// Tells of what is counted over all places, where it is too much.
 #[tactic(auto, unfolding(crate::specs::Limits::total_limit))]
-fn judge_total(
+fn judge_total<'d>(
     alloc: Global,
-    survey: &Survey<'_>,
+    survey: &Survey<'d>,
     what: Measure,
     which: Which,
     greatest: u64,
-) -> Result<Option<CheckFault>, AllocError>
+) -> Result<Option<Told<'d>>, AllocError>
     requires { greatest < 4294967295 }
-    ensures { IfOk result (λ told. told ≡ total_limit greatest which what survey.now) }
+    ensures { IfOk result (λ told. shown_of told ≡ total_limit greatest which what survey.now) }
 {
     let count = count_all(alloc, survey, what)?;
     Ok(judge_count(greatest, which, count))
 }
 
 /// Tells of a count that is too much. The count may be cut at 4,294,967,295.
-fn judge_count(greatest: u64, which: Which, count: u64) -> Option<CheckFault>
+fn judge_count<'d>(greatest: u64, which: Which, count: u64) -> Option<Told<'d>>
     requires { greatest < 4294967295 }
-    ensures { (n : ℕ) → count ≡ min n 4294967295 → result ≡ over greatest which n }
+    ensures { (n : ℕ) → count ≡ min n 4294967295 → shown_of result ≡ over greatest which n }
 {
     if count > greatest {
-        Some(CheckFault::Limit { which, count })
+        Some(Told::Limit { which, count })
     } else {
         None
     }

@@ -3,7 +3,8 @@ use Rattle.lid_design.specs.declared.Design.{Design}
 use Rattle.lid_design.specs.Models.{instance_number}
 use Rattle.lid_names.specs.Names.{firsts, texts}
 use Rattle.lid_rules.specs.Conditions.{formal_of, formals}
-use Rattle.lid_rules.proofs.Subs.{sub_reached, unbound_by, none_by}
+use Rattle.lid_rules.proofs.Subs.{unbound_by}
+use Rattle.lid_ports.proofs.Subs.{sub_reached, none_by}
 use Rattle.lid_rules.proofs.instances.find_unbound.Goals as goal
 
 pub first_unbound-requires : goal.first_unbound-requires

@@ -3,8 +3,9 @@ use Rattle.lid_design.specs.declared.Design.{Design}
 use Rattle.lid_design.specs.Models.{instance_number}
 use Rattle.lid_design.specs.declared.Bind.{Bind}
 use Rattle.lid_rules.specs.Conditions.{formal_of, formals}
-use Rattle.lid_rules.specs.Ports.{is_port_of}
-use Rattle.lid_rules.proofs.Subs.{unknown_by, none_by}
+use Rattle.lid_rules.specs.Rules.{is_port_of}
+use Rattle.lid_rules.proofs.Subs.{unknown_by}
+use Rattle.lid_ports.proofs.Subs.{none_by}
 use Rattle.lid_rules.proofs.instances.find_unknown.Goals as goal
 
 pub returns-in-Some : goal.returns-in-Some

@@ -1,6 +1,6 @@
 use Rattle.std.proofs.Common.{◌≡◌, not, map, find, drop}
 use Rattle.lid_rules.specs.Conditions.{formal_of}
-use Rattle.lid_rules.specs.Ports.{is_port_of}
+use Rattle.lid_rules.specs.Rules.{is_port_of}
 use Rattle.lid_rules.proofs.instances.first_unknown.Given as goal
 
 abbrev pub invariant-loop-bind : goal.invariant-loop-bind

@@ -1,5 +1,5 @@
 use Rattle.std.proofs.Common.{◌∙◌}
-use Rattle.lid_rules.proofs.Placed.{latches_are, defaulted_are}
+use Rattle.lid_rules.proofs.Limiting.{latches_are, defaulted_are}
 use Rattle.lid_rules.proofs.limits.count_latches.Goals as goal
 
 pub returns : goal.returns
