@@ -1,24 +1,43 @@
 -- Which data inputs of a pearl lead to which outputs, by marks.
 use Rattle.std.proofs.Common.{◌≡◌, ◌↔◌, ℕ, ◌+◌, ◌<◌, ◌≤◌, Bool, true, false, List, [], length, Option, Some, None, slice_get, nat_lt, inl, inr, refl, sym, ◌∙◌, ap, subst, arith}
 use Rattle.std.specs.Option.{option_map_or}
-use Rattle.std.proofs.lemmas.Option.{slice_get_within, slice_get-get_or}
+use Rattle.std.proofs.lemmas.Option.{slice_get_within, slice_get-get_or, slice_get_read}
 use Rattle.std.proofs.Common.{get_or}
 use Rattle.std.proofs.lemmas.Bool.{ltb-true, ltb-false}
 use Rattle.lid_design.specs.declared.Design.{Design}
 use Rattle.lid_design.specs.declared.Model.{Model}
 use Rattle.lid_design.specs.Columns.{data_inputs}
+use Rattle.lid_design.specs.Models.{IsReached}
 use Rattle.lid_design.specs.Walks.{Among}
 use Rattle.lid_design.specs.Loops.{pearls}
 use Rattle.lid_order.specs.Graphs.{flag, IsReaching}
-use Rattle.lid_rules.specs.declared.fault.CheckFault.{CheckFault}
+use Rattle.lid_rules.specs.declared.fault.CheckFault.TheVariants.{OutputFromInput}
+use Rattle.lid_check.specs.declared.outputs.Lead.{Lead}
 use Rattle.lid_check.specs.declared.pearls.Pearl.{Pearl}
 use Rattle.lid_check.specs.Acceptance.{DependsOn, HasNoDependence, StandsBefore, TellsDependence}
-use Rattle.lid_check.specs.Pearls.{inputs_of, number_in, is_marked, Fits, IsFirstMarked, AreUnmarked, LeadsTo, AreReachedIn, AreCutOff, NoneLeads, IsFirstInput, TellsLead}
+use Rattle.lid_check.specs.Pearls.{inputs_of, number_in, is_marked, Fits, IsFirstMarked, AreUnmarked, LeadsTo, AreReachedIn, AreCutOff, NoneLeads, IsFirstInput}
+use Rattle.lid_check.specs.Flaws.{IsFirstLead, IsFirstDependence}
 use Rattle.lid_check.proofs.Lists.{get_among, among_get}
 
 pub marked_number : (marks : List Bool) (o : Option ℕ) → option_map_or (flag marks) o false ≡ true → (a : ℕ) × (o ≡ Some a) × (flag marks a ≡ true)
 marked_number marks None on = absurd (let e : false ≡ true = on in cc)
 marked_number marks (Some a) on = (a, refl, on)
+
+-- not all of some nets are unmarked where one is marked
+pub some_unmarked : (d : Design) (pearl : Pearl) (marks : List Bool) (names : List (List ℕ)) → AreUnmarked d pearl marks names → ¬ ((name : List ℕ) × Among name names × (is_marked d pearl marks name ≡ true))
+some_unmarked d pearl marks names unmarked (name, among, on) =
+    let at = among_get names name among in
+    let off : true ≡ false = sym on ∙ unmarked at.0 name at.1 in
+    cc
+
+-- the model that was read at a number
+pub model_read : (d : Design) (ms : List Model) (k : ℕ) (m : Model) (e : Design) → e ≡ d → ms ≡ e.models → m ≡ get_or ms k m → k < length d.models → slice_get d.models k ≡ Some m
+model_read d ms k m e same models is below =
+    let all : ms ≡ d.models = models ∙ ap (λ (x : Design). x.models) same in
+    slice_get_read d.models (length d.models) k m refl below (is ∙ ap (λ (xs : List Model). get_or xs k m) all)
+
+pub inputs_at : (d : Design) (k : ℕ) (m : Model) → slice_get d.models k ≡ Some m → inputs_of d k ≡ data_inputs d m
+inputs_at d k m here = ap (λ (o : Option Model). option_map_or (data_inputs d) o []) here
 
 module _ (d : Design) (g : List (List ℕ)) (cut : List Bool) (pearl : Pearl) where
   module _ (output : List ℕ) (end : ℕ) (number : number_in d pearl output ≡ Some end) (marks : List Bool) (exact : (a : ℕ) → (flag marks a ≡ true) ↔ IsReaching g cut a end) where
@@ -34,22 +53,17 @@ module _ (d : Design) (g : List (List ℕ)) (cut : List Bool) (pearl : Pearl) wh
         let end_is : k ≡ end = cc in
         ap (λ (o : Option ℕ). option_map_or (flag marks) o false) from ∙ (exact a).1 (subst (λ (x : ℕ). IsReaching g cut a x) end_is reaches)
 
-    pub first_leads : (i : ℕ) (input : List ℕ) → slice_get (inputs_of d pearl.model) i ≡ Some input → IsFirstMarked d pearl marks (inputs_of d pearl.model) i → IsFirstInput d g cut pearl output input
-    first_leads i input here first =
-        let same : Some first.name ≡ Some input = sym first.here ∙ here in
-        let name : first.name ≡ input = cc in
-        record {
-          i = i;
-          here = here;
-          on = marked_leads input (subst (λ (x : List ℕ). is_marked d pearl marks x ≡ true) name first.on);
-          first = λ j other below there leads. let on : true ≡ false = sym (leads_marked other leads) ∙ first.first j other below there in cc;
-        }
+    pub first_leads : (i : ℕ) → IsFirstMarked d pearl marks (inputs_of d pearl.model) i → IsFirstInput d g cut pearl output i
+    first_leads i first = record {
+      input = first.name;
+      here = first.here;
+      on = marked_leads first.name first.on;
+      first = λ j other below there leads. let on : true ≡ false = sym (leads_marked other leads) ∙ first.first j other below there in cc;
+    }
 
-    pub none_leads : AreUnmarked d pearl marks (inputs_of d pearl.model) → (input : List ℕ) → Among input (inputs_of d pearl.model) → ¬ LeadsTo d g cut pearl input output
-    none_leads unmarked input among leads =
-        let at = among_get (inputs_of d pearl.model) input among in
-        let on : true ≡ false = sym (leads_marked input leads) ∙ unmarked at.0 input at.1 in
-        cc
+    -- where a data input leads to the output, one is marked
+    pub some_marked : ((input : List ℕ) × Among input (inputs_of d pearl.model) × LeadsTo d g cut pearl input output) → (input : List ℕ) × Among input (inputs_of d pearl.model) × (is_marked d pearl marks input ≡ true)
+    some_marked (input, among, leads) = (input, among, leads_marked input leads)
 
   module _ (reached : List Bool) (are : AreReachedIn d g cut reached pearl) where
     pub unmarked_none : (m : Model) → slice_get d.models pearl.model ≡ Some m → AreUnmarked d pearl reached m.outputs → NoneLeads d g cut pearl
@@ -63,9 +77,6 @@ module _ (d : Design) (g : List (List ℕ)) (cut : List Bool) (pearl : Pearl) wh
     unmarked_before m o first j input other below there among leads =
         let on : true ≡ false = sym ((are other).1 (input, among, leads)) ∙ first.first j other below there in
         cc
-
-pub no_model : (d : Design) (g : List (List ℕ)) (cut : List Bool) (pearl : Pearl) → slice_get d.models pearl.model ≡ None → NoneLeads d g cut pearl
-no_model d g cut pearl none o m input output here out among leads = let e : None ≡ Some m = sym none ∙ here in cc
 
 module _ (d : Design) (g : List (List ℕ)) (cut reached : List Bool) (ps : List Pearl) (apart : AreCutOff d g cut reached ps) where
   -- a pearl's entry
@@ -98,14 +109,11 @@ module _ (d : Design) (g : List (List ℕ)) (cut reached : List Bool) (ps : List
           let is : pearl ≡ other = cc in
           subst (λ (x : Pearl). NoneLeads d g cut x) is none
 
-  inputs_at : (k : ℕ) (m : Model) → slice_get d.models k ≡ Some m → inputs_of d k ≡ data_inputs d m
-  inputs_at k m here = ap (λ (o : Option Model). option_map_or (data_inputs d) o []) here
-
   depends_leads : (p o i : ℕ) (m : Model) (output input : List ℕ) → DependsOn d p o i m output input → (pearl : Pearl) → slice_get ps p ≡ Some pearl → (slice_get d.models pearl.model ≡ Some m) × Among input (inputs_of d pearl.model) × LeadsTo d g cut pearl input output
   depends_leads p o i m output input on pearl here =
       let off = apart.each p on.path pearl on.pearl here in
       let model : slice_get d.models pearl.model ≡ Some m = sym off.model ∙ on.model in
-      let among : Among input (inputs_of d pearl.model) = subst (λ (xs : List (List ℕ)). Among input xs) (sym (inputs_at pearl.model m model)) (get_among (data_inputs d m) i input on.given) in
+      let among : Among input (inputs_of d pearl.model) = subst (λ (xs : List (List ℕ)). Among input xs) (sym (inputs_at d pearl.model m model)) (get_among (data_inputs d m) i input on.given) in
       (model, among, (off.exact input output among).0 on.walk)
 
   pub none_depends : ((p : ℕ) (pearl : Pearl) → slice_get ps p ≡ Some pearl → NoneLeads d g cut pearl) → HasNoDependence d
@@ -114,49 +122,66 @@ module _ (d : Design) (g : List (List ℕ)) (cut reached : List Bool) (ps : List
       let leads = depends_leads p o i m output input on at.0 at.1 in
       none p at.0 at.1 o m input output leads.0 on.out leads.1 leads.2
 
-  pub tells_dependence : (p : ℕ) (pearl : Pearl) → slice_get ps p ≡ Some pearl → ((q : ℕ) (other : Pearl) → q < p → slice_get ps q ≡ Some other → NoneLeads d g cut other) → (fault : CheckFault) → TellsLead d g cut pearl fault → TellsDependence d fault
-  tells_dependence p pearl here before fault tells =
+  pub first_dependence : (p : ℕ) (pearl : Pearl) → slice_get ps p ≡ Some pearl → ((q : ℕ) (other : Pearl) → q < p → slice_get ps q ≡ Some other → NoneLeads d g cut other) → (lead : Lead) → IsFirstLead d g cut pearl lead → IsFirstDependence d lead
+  first_dependence p pearl here before lead told =
       let at = path_of p pearl here in
       let off = apart.each p at.0 pearl at.1 here in
-      let input = tells.told.0 in
-      let first = tells.told.1 in
-      let inputs = inputs_at pearl.model tells.m tells.here in
+      let input = told.leads.input in
+      let inputs = inputs_at d pearl.model told.m told.here in
       record {
         p = p;
-        o = tells.o;
-        i = first.i;
-        m = tells.m;
-        output = tells.output;
+        m = told.m;
+        output = told.output;
         input = input;
+        reached = subst (λ (k : ℕ). IsReached d k) (sym told.same) off.fits.reached;
+        here = ap (slice_get d.models) told.same ∙ told.here;
         on = record {
           path = at.0;
           pearl = at.1;
-          model = off.model ∙ tells.here;
-          out = tells.out;
-          given = subst (λ (xs : List (List ℕ)). slice_get xs first.i ≡ Some input) inputs first.here;
-          walk = (off.exact input tells.output (get_among (inputs_of d pearl.model) first.i input first.here)).1 first.on;
+          model = off.model ∙ told.here;
+          out = told.out;
+          given = subst (λ (xs : List (List ℕ)). slice_get xs lead.input ≡ Some input) inputs told.leads.here;
+          walk = (off.exact input told.output (get_among (inputs_of d pearl.model) lead.input input told.leads.here)).1 told.leads.on;
         };
         first = earlier;
-        told = tells.told.2;
       }
     where
       same_pearl : (q o i : ℕ) (m : Model) (output input : List ℕ) → DependsOn d q o i m output input → q ≡ p → (slice_get d.models pearl.model ≡ Some m) × Among input (inputs_of d pearl.model) × LeadsTo d g cut pearl input output
       same_pearl q o i m output input on same = depends_leads q o i m output input on pearl (ap (slice_get ps) same ∙ here)
 
-      model_is : (m : Model) → slice_get d.models pearl.model ≡ Some m → m ≡ tells.m
-      model_is m there = let e : Some m ≡ Some tells.m = sym there ∙ tells.here in cc
+      model_is : (m : Model) → slice_get d.models pearl.model ≡ Some m → m ≡ told.m
+      model_is m there = let e : Some m ≡ Some told.m = sym there ∙ told.here in cc
 
-      earlier : (q o i : ℕ) (m : Model) (output input : List ℕ) → StandsBefore q o i p tells.o tells.told.1.i → ¬ DependsOn d q o i m output input
+      earlier : (q o i : ℕ) (m : Model) (output input : List ℕ) → StandsBefore q o i p lead.output lead.input → ¬ DependsOn d q o i m output input
       earlier q o i m output input (inl below) on =
           let at = entry q on.path on.pearl in
           let leads = depends_leads q o i m output input on at.0 at.1 in
           before q at.0 below at.1 o m input output leads.0 on.out leads.1 leads.2
       earlier q o i m output input (inr (same, inl below)) on =
           let leads = same_pearl q o i m output input on same in
-          tells.first o input output below (subst (λ (x : Model). slice_get x.outputs o ≡ Some output) (model_is m leads.0) on.out) leads.1 leads.2
+          told.first o input output below (subst (λ (x : Model). slice_get x.outputs o ≡ Some output) (model_is m leads.0) on.out) leads.1 leads.2
       earlier q o i m output input (inr (same, inr (output_same, below))) on =
           let leads = same_pearl q o i m output input on same in
-          let out : Some output ≡ Some tells.output = sym (subst (λ (x : Model). slice_get x.outputs o ≡ Some output) (model_is m leads.0) on.out) ∙ ap (slice_get tells.m.outputs) output_same ∙ tells.out in
-          let output_is : output ≡ tells.output = cc in
-          let given : slice_get (inputs_of d pearl.model) i ≡ Some input = subst (λ (xs : List (List ℕ)). slice_get xs i ≡ Some input) (sym (inputs_at pearl.model m leads.0)) on.given in
-          tells.told.1.first i input below given (subst (λ (x : List ℕ). LeadsTo d g cut pearl input x) output_is leads.2)
+          let out : Some output ≡ Some told.output = sym (subst (λ (x : Model). slice_get x.outputs o ≡ Some output) (model_is m leads.0) on.out) ∙ ap (slice_get told.m.outputs) output_same ∙ told.out in
+          let output_is : output ≡ told.output = cc in
+          let given : slice_get (inputs_of d pearl.model) i ≡ Some input = subst (λ (xs : List (List ℕ)). slice_get xs i ≡ Some input) (sym (inputs_at d pearl.model m leads.0)) on.given in
+          told.leads.first i input below given (subst (λ (x : List ℕ). LeadsTo d g cut pearl input x) output_is leads.2)
+
+-- the first output that depends on an input, told by names
+pub tells_dependence : (d : Design) (lead : Lead) (first : IsFirstDependence d lead) (name output input : List ℕ) → name ≡ first.m.name → slice_get first.m.outputs lead.output ≡ Some output → slice_get (inputs_of d lead.model) lead.input ≡ Some input → TellsDependence d (OutputFromInput name output input)
+tells_dependence d lead first name output input named out given =
+    let out_same : Some output ≡ Some first.output = sym out ∙ first.on.out in
+    let output_is : output ≡ first.output = cc in
+    let in_same : Some input ≡ Some first.input = sym given ∙ ap (λ (xs : List (List ℕ)). slice_get xs lead.input) (inputs_at d lead.model first.m first.here) ∙ first.on.given in
+    let input_is : input ≡ first.input = cc in
+    record {
+      p = first.p;
+      o = lead.output;
+      i = lead.input;
+      m = first.m;
+      output = first.output;
+      input = first.input;
+      on = first.on;
+      first = first.first;
+      told = cc;
+    }

@@ -14,6 +14,7 @@ use Rattle.lid_order.specs.Results.{IsLeastOnLoop}
 use Rattle.lid_columns.specs.Elaborations.{map_source, column_at, IsElaborated}
 use Rattle.lid_rules.specs.declared.fault.CheckFault.TheVariants.{CombLoop}
 use Rattle.lid_check.specs.Acceptance.{TellsLoop}
+use Rattle.lid_check.specs.Flaws.{IsFirstOnLoop}
 use Rattle.lid_check.proofs.Lists.{to_numbers, from_numbers, among_map, map_among, among_get, all_among}
 
 read_now-map : {A B : Type 0} (f : A → B) (s : Source A) → read_now (map_source f s) ≡ map f (read_now s)
@@ -123,12 +124,24 @@ module _ (d : Design) (sources : List (Source ℕ)) (starts : List ℕ) (is : Is
       none number.0 (loop_up number.0 number.1 (subst (λ (x : Column). IsColumnOnLoop d x) (sym number.2) on))
 
   -- the least number on a closed walk is that of the first column on one
-  pub tells_loop : (k : ℕ) (path net : List ℕ) → IsLeastOnLoop graph k → slice_get (columns d) k ≡ Some (column (reverse path) net) → TellsLoop d (CombLoop path net)
-  tells_loop k path net least here = record {
-    k = k;
-    c = column (reverse path) net;
-    here = here;
-    on = subst (λ (x : Column). IsColumnOnLoop d x) (column_is k (column (reverse path) net) here) (loop_down k least.on);
+  pub first_loop : (k : ℕ) → IsLeastOnLoop graph k → IsFirstOnLoop d k
+  first_loop k least = record {
+    c = column_at d k;
+    here = column_here k (loop_within k least.on);
+    on = loop_down k least.on;
     first = λ j b below there on. least.least j below (loop_up j (within j b there) (subst (λ (x : Column). IsColumnOnLoop d x) (sym (column_is j b there)) on));
-    told = ap (λ (p : List ℕ). CombLoop p net) (sym (reverse-reverse path));
   }
+
+-- the first column on a closed walk, told by its path and its name
+pub tells_loop : (d : Design) (k : ℕ) (path net : List ℕ) → IsFirstOnLoop d k → slice_get (columns d) k ≡ Some (column (reverse path) net) → TellsLoop d (CombLoop path net)
+tells_loop d k path net first here =
+    let same : Some first.c ≡ Some (column (reverse path) net) = sym first.here ∙ here in
+    let told : first.c ≡ column (reverse path) net = cc in
+    record {
+      k = k;
+      c = column (reverse path) net;
+      here = here;
+      on = subst (λ (x : Column). IsColumnOnLoop d x) told first.on;
+      first = first.first;
+      told = ap (λ (p : List ℕ). CombLoop p net) (sym (reverse-reverse path));
+    }

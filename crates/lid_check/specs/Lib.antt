@@ -1,3 +1,4 @@
 pub mod Acceptance
 pub mod Facts
+pub mod Flaws
 pub mod Pearls

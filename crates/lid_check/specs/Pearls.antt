@@ -9,9 +9,7 @@ use Rattle.lid_design.specs.Models.{IsReached, insts_of, instance_number}
 use Rattle.lid_design.specs.Places.{model_nets}
 use Rattle.lid_design.specs.Loops.{pearls, IsDependent}
 use Rattle.lid_design.specs.Walks.{Among}
-use Rattle.lid_order.specs.Graphs.{flag, IsReaching}
-use Rattle.lid_rules.specs.declared.fault.CheckFault.{CheckFault}
-use Rattle.lid_rules.specs.declared.fault.CheckFault.TheVariants.{OutputFromInput}
+use Rattle.lid_order.specs.Graphs.{flag, IsReaching, IsReached as IsReachedFrom}
 use Rattle.lid_check.specs.declared.pearls.Pearl.{Pearl}
 
 -- the data inputs of a model, by its number
@@ -102,28 +100,20 @@ NoneLeads d g cut pearl =
     → Among input (inputs_of d pearl.model)
     → ¬ LeadsTo d g cut pearl input output
 
--- the first data input of a pearl that leads to an output of it
-pub record IsFirstInput (d : Design) (g : List (List ℕ)) (cut : List Bool) (pearl : Pearl) (output input : List ℕ) : Type 0 where
-  pub i : ℕ
+-- the place among the data inputs of a pearl of the first one that leads to an output of it
+pub record IsFirstInput (d : Design) (g : List (List ℕ)) (cut : List Bool) (pearl : Pearl) (output : List ℕ) (i : ℕ) : Type 0 where
+  pub input : List ℕ
   pub here : slice_get (inputs_of d pearl.model) i ≡ Some input
   pub on : LeadsTo d g cut pearl input output
   pub first : (j : ℕ) (other : List ℕ) → j < i → slice_get (inputs_of d pearl.model) j ≡ Some other → ¬ LeadsTo d g cut pearl other output
 
--- an output of a pearl is told, with the first data input that leads to it
-abbrev pub TellsInput : Design → List (List ℕ) → List Bool → Pearl → Model → List ℕ → CheckFault → Type 0
-TellsInput d g cut pearl m output fault = (input : List ℕ) × IsFirstInput d g cut pearl output input × (fault ≡ OutputFromInput m.name output input)
+-- marks tell of each column whether a data input of a pearl leads to it past the cut
+abbrev pub AreLed : Design → List (List ℕ) → List Bool → List Pearl → List Bool → Type 0
+AreLed d g cut ps led =
+    (starts : List Bool)
+    × ((k : ℕ) → (flag starts k ≡ true) ↔ IsInputOf d ps k)
+    × ((k : ℕ) → k < length g → (flag led k ≡ true) ↔ IsReachedFrom g cut starts k)
 
--- the first output of a pearl to which a data input leads is told, with the first such input
-pub record TellsLead (d : Design) (g : List (List ℕ)) (cut : List Bool) (pearl : Pearl) (fault : CheckFault) : Type 0 where
-  pub o : ℕ
-  pub m : Model
-  pub output : List ℕ
-  pub here : slice_get d.models pearl.model ≡ Some m
-  pub out : slice_get m.outputs o ≡ Some output
-  pub first :
-      (j : ℕ) (input other : List ℕ)
-      → j < o
-      → slice_get m.outputs j ≡ Some other
-      → Among input (inputs_of d pearl.model)
-      → ¬ LeadsTo d g cut pearl input other
-  pub told : TellsInput d g cut pearl m output fault
+-- past the cut, walks stay in their pearls
+abbrev pub CutsOff : Design → List (List ℕ) → List Bool → List Pearl → Type 0
+CutsOff d g cut ps = (led : List Bool) → AreLed d g cut ps led → AreCutOff d g cut led ps

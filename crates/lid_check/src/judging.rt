@@ -6,11 +6,9 @@ ghost use Rattle.lid_rules.specs.Acceptance.{ModelsPass};
 ghost use Rattle.lid_check.specs.Acceptance.{IsAccepted, IsRefusal};
 ghost use Rattle.lid_check.specs.Facts.{AreFacts};
 
-use crate::loops::order_columns;
-use crate::outputs::judge_outputs;
+use crate::flaws::{find_flaw, tell_flaw};
 use crate::pearls::find_inputs;
 use lid_base::{Items, Name};
-use lid_columns::{elaborate, find_reads};
 use lid_design::Design;
 use lid_models::Survey;
 use lid_rules::{CheckFault, check_models, count_latches};
@@ -36,19 +34,22 @@ pub fn judge(alloc: Global, design: &Design) -> Result<Facts, CheckFault>
     ensures err { IfErr result (λ fault. (fault ≡ Memory) ⊎ IsRefusal design.now fault) }
 {
     let survey = check_models(alloc, design)?;
-    let columns = elaborate(alloc, &survey)?;
-    let reads = find_reads(alloc, columns.drivers.as_slice())?;
-    let order = order_columns(alloc, &survey, &columns, reads.as_slice())?;
-    if let Err(fault) = judge_outputs(
-        alloc,
-        &survey,
-        &columns,
-        reads.as_slice(),
-        order.as_slice(),
-    ) {
-        return Err(fault);
+    judge_columns(alloc, &survey)
+}
+
+/// Judges the columns of a design that meets the conditions on models.
+///
+/// # Errors
+/// The first condition that applies is told, at its first place. `Memory` may come at any design.
+fn judge_columns(alloc: Global, survey: &Survey<'_>) -> Result<Facts, CheckFault>
+    requires { ModelsPass survey.now }
+    ensures ok { IfOk result (λ facts. AreFacts survey.now facts) }
+    ensures err { IfErr result (λ fault. (fault ≡ Memory) ⊎ IsRefusal survey.now fault) }
+{
+    match find_flaw(alloc, survey)? {
+        None => find_facts(alloc, survey),
+        Some(flaw) => Err(tell_flaw(alloc, survey, flaw)?),
     }
-    find_facts(alloc, &survey)
 }
 
 /// What is kept of a design: its inputs and its counts.

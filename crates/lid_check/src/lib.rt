@@ -2,13 +2,11 @@
 #![tactic(auto)]
 
 mod checked;
+mod flaws;
 mod judging;
 mod law;
-mod loops;
 mod outputs;
 mod pearls;
-#[cfg(test)]
-mod tests;
 
 pub use checked::{Checked, check};
 pub use law::acceptance_is_one;

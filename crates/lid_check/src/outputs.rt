@@ -1,24 +1,33 @@
 //! Outputs of pearls that depend on their inputs in one row.
 
-ghost use Rattle.std.specs.Prelude.{◌≡◌, ◌⊎◌, ◌≤◌, ℕ, List, length, map, IfOk, OnOk, IfErr};
+ghost use Rattle.std.specs.Prelude.{◌≡◌, ◌≤◌, ℕ, true, List, length, map, IfOk};
+ghost use Rattle.std.specs.List.{AllByRecursion};
 ghost use Rattle.std.specs.Option.{MatchOption};
 ghost use Rattle.lid_design.specs.Walks.{Among, read_now};
 ghost use Rattle.lid_order.specs.Graphs.{IsGraph, IsOrder};
 ghost use Rattle.lid_columns.specs.Elaborations.{shown_driver, IsElaborated};
-ghost use Rattle.lid_rules.specs.declared.fault.CheckFault.TheVariants.{Memory};
-ghost use Rattle.lid_check.specs.Acceptance.{HasNoDependence, TellsDependence};
-ghost use Rattle.lid_check.specs.Pearls.{inputs_of, Fits, IsFirstMarked, AreUnmarked, ArePearls, LeadsTo, AreReachedIn, AreCutOff, count_cut, NoneLeads, IsFirstInput, TellsInput, TellsLead};
+ghost use Rattle.lid_check.specs.Pearls.{inputs_of, is_marked, Fits, IsFirstMarked, AreUnmarked, LeadsTo, AreReachedIn, AreCutOff, AreLed, CutsOff, count_cut, IsFirstInput};
+ghost use Rattle.lid_check.specs.Flaws.{FindsLead, FindsDependence};
 
 use crate::pearls::{
     Pearl, find_inputs, find_starts, is_marked, list_pearls, mark_first, number_of,
 };
 use lid_base::{Items, Name};
 use lid_columns::Elaboration;
-use lid_design::Model;
 use lid_models::Survey;
 use lid_order::{find_reached, find_reaching};
-use lid_rules::CheckFault;
 use std::alloc::{AllocError, Global};
+
+/// An output of a pearl that depends on a data input of it, by their places and the number of the
+/// pearl's model.
+#[derive(Clone, Copy)]
+pub(crate) struct Lead {
+    pub(crate) model: u32,
+    /// The place of the output among the outputs of the model.
+    pub(crate) output: usize,
+    /// The place of the input among the data inputs of the model.
+    pub(crate) input: usize,
+}
 
 /// The place of the first of some nets of a pearl whose column is marked.
 fn first_marked(survey: &Survey<'_>, pearl: Pearl, marks: &[bool], names: &[Name]) -> Option<usize>
@@ -34,14 +43,7 @@ fn first_marked(survey: &Survey<'_>, pearl: Pearl, marks: &[bool], names: &[Name
     None
 }
 
-/// A copy of a name.
-pub(crate) fn copy(alloc: Global, name: &Name) -> Result<Name, AllocError>
-    ensures { IfOk result (λ copied. copied ≡ name.now) }
-{
-    Ok(Items::from_vec(name.as_slice().to_vec(alloc)?))
-}
-
-/// The first data input of a pearl that leads to an output of it.
+/// The place among the data inputs of a pearl of the first one that leads to an output of it.
 fn find_input(
     alloc: Global,
     survey: &Survey<'_>,
@@ -49,7 +51,7 @@ fn find_input(
     reads: &[Items<u32>],
     cut: &[bool],
     output: &[u8],
-) -> Result<Name, AllocError>
+) -> Result<usize, AllocError>
     requires graph { IsGraph reads.now }
     requires cut { length cut.now ≡ length reads.now }
     requires few { length reads.now ≤ 1048576 }
@@ -61,97 +63,86 @@ fn find_input(
         unreachable!();
     };
     let reaching = find_reaching(alloc, reads, cut, end)?;
+    first_input(alloc, survey, pearl, reaching.as_slice())
+}
+
+/// The place of the first data input of a pearl whose column is marked.
+fn first_input(
+    alloc: Global,
+    survey: &Survey<'_>,
+    pearl: Pearl,
+    marks: &[bool],
+) -> Result<usize, AllocError>
+    requires fits { Fits survey.now (length marks.now) pearl }
+    requires few { length marks.now ≤ 1048576 }
+    requires some { (input : List ℕ) × Among input (inputs_of survey.now pearl.model) × (is_marked survey.now pearl marks.now input ≡ true) }
+    ensures { IfOk result (IsFirstMarked survey.now pearl marks.now (inputs_of survey.now pearl.model)) }
+{
     let inputs = find_inputs(alloc, survey, pearl.model)?;
-    match first_marked(survey, pearl, reaching.as_slice(), inputs.as_slice()) {
-        Some(i) => copy(alloc, &inputs.as_slice()[i]),
+    match first_marked(survey, pearl, marks, inputs.as_slice()) {
+        Some(i) => Ok(i),
         None => unreachable!(),
     }
 }
 
-/// Tells an output of a pearl, with the first data input that leads to it.
-fn tell_output(
-    alloc: Global,
-    survey: &Survey<'_>,
-    pearl: Pearl,
-    reads: &[Items<u32>],
-    cut: &[bool],
-    model: &Model,
-    output: &Name,
-) -> Result<CheckFault, AllocError>
-    requires graph { IsGraph reads.now }
-    requires cut { length cut.now ≡ length reads.now }
-    requires few { length reads.now ≤ 1048576 }
-    requires fits { Fits survey.now (length reads.now) pearl }
-    requires some { (input : List ℕ) × Among input (inputs_of survey.now pearl.model) × LeadsTo survey.now reads.now cut.now pearl input output.now }
-    ensures { IfOk result (TellsInput survey.now reads.now cut.now pearl model.now output.now) }
-{
-    let input = find_input(alloc, survey, pearl, reads, cut, output.as_slice())?;
-    let name = copy(alloc, &model.name)?;
-    let output = copy(alloc, output)?;
-    Ok(CheckFault::OutputFromInput {
-        model: name,
-        output,
-        input,
-    })
-}
-
-/// Judges the outputs of a pearl in order.
-///
-/// # Errors
-/// The first output to which a data input leads is told, with the first such input.
-fn judge_pearl(
+/// The first output of a pearl to which a data input leads, with the first such input.
+fn find_lead(
     alloc: Global,
     survey: &Survey<'_>,
     pearl: Pearl,
     reads: &[Items<u32>],
     cut: &[bool],
     reached: &[bool],
-) -> Result<(), CheckFault>
+) -> Result<Option<Lead>, AllocError>
     requires graph { IsGraph reads.now }
     requires cut { length cut.now ≡ length reads.now }
     requires reached { length reached.now ≡ length reads.now }
     requires few { length reads.now ≤ 1048576 }
     requires fits { Fits survey.now (length reads.now) pearl }
     requires marks { AreReachedIn survey.now reads.now cut.now reached.now pearl }
-    ensures ok { OnOk result (NoneLeads survey.now reads.now cut.now pearl) }
-    ensures err { IfErr result (λ fault. (fault ≡ Memory) ⊎ TellsLead survey.now reads.now cut.now pearl fault) }
+    ensures { IfOk result (FindsLead survey.now reads.now cut.now pearl) }
 {
-    let Some(model) = survey.design().models.as_slice().get(pearl.model as usize) else {
-        return Ok(());
-    };
-    let outputs = model.outputs.as_slice();
+    let body = &survey.design().models.as_slice()[pearl.model as usize];
+    let outputs = body.outputs.as_slice();
     match first_marked(survey, pearl, reached, outputs) {
-        None => Ok(()),
-        Some(o) => Err(tell_output(alloc, survey, pearl, reads, cut, model, &outputs[o])?),
+        None => Ok(None),
+        Some(output) => {
+            let name = outputs[output].as_slice();
+            let input = find_input(alloc, survey, pearl, reads, cut, name)?;
+            let model = pearl.model;
+            Ok(Some(Lead {
+                model,
+                output,
+                input,
+            }))
+        }
     }
 }
 
-/// Judges the outputs of the pearls in order.
-///
-/// # Errors
-/// The first output that depends on a data input of its pearl is told, with the first such input.
-fn judge_pearls(
+/// The first output that depends on a data input of its pearl, with the first such input, by the
+/// pearls in order.
+fn find_in_pearls(
     alloc: Global,
     survey: &Survey<'_>,
     pearls: &[Pearl],
     reads: &[Items<u32>],
     cut: &[bool],
     reached: &[bool],
-) -> Result<(), CheckFault>
+) -> Result<Option<Lead>, AllocError>
     requires graph { IsGraph reads.now }
     requires cut { length cut.now ≡ length reads.now }
     requires reached { length reached.now ≡ length reads.now }
     requires few { length reads.now ≤ 1048576 }
     requires apart { AreCutOff survey.now reads.now cut.now reached.now pearls.now }
-    ensures ok { OnOk result (HasNoDependence survey.now) }
-    ensures err { IfErr result (λ fault. (fault ≡ Memory) ⊎ TellsDependence survey.now fault) }
+    ensures { IfOk result (FindsDependence survey.now) }
 {
     for p in 0..pearls.len() {
-        if let Err(fault) = judge_pearl(alloc, survey, pearls[p], reads, cut, reached) {
-            return Err(fault);
+        match find_lead(alloc, survey, pearls[p], reads, cut, reached)? {
+            Some(lead) => return Ok(Some(lead)),
+            None => (),
         }
     }
-    Ok(())
+    Ok(None)
 }
 
 /// The number of the root's columns where it has instances, and else 0.
@@ -166,36 +157,68 @@ fn count_cut(survey: &Survey<'_>) -> usize
     survey.count_nets(root)
 }
 
-/// Judges the outputs of all pearls. The columns are given with an order in which each stands after
-/// all that it reads in the same row.
+/// For each column whether a data input of a pearl leads to it past the cut.
+fn mark_led(
+    alloc: Global,
+    survey: &Survey<'_>,
+    pearls: &[Pearl],
+    reads: &[Items<u32>],
+    order: &[u32],
+    cut: &[bool],
+) -> Result<Items<bool>, AllocError>
+    requires graph { IsGraph reads.now }
+    requires order { IsOrder reads.now order.now }
+    requires cut { length cut.now ≡ length reads.now }
+    requires few { length reads.now ≤ 1048576 }
+    requires fit { AllByRecursion (Fits survey.now (length reads.now)) pearls.now }
+    ensures count { IfOk result (λ led. length led ≡ length reads.now) }
+    ensures exact { IfOk result (AreLed survey.now reads.now cut.now pearls.now) }
+{
+    let starts = find_starts(alloc, survey, pearls, reads.len())?;
+    find_reached(alloc, reads, order, cut, starts.as_slice())
+}
+
+/// The first output of a pearl that depends on a data input of it, with the first such input. The
+/// columns are given with an order in which each stands after all that it reads in the same row.
 ///
 /// # Errors
-/// The first output that depends on a data input of its pearl is told, with the first such input.
-pub(crate) fn judge_outputs(
+/// Where there is no memory.
+pub(crate) fn find_dependence(
     alloc: Global,
     survey: &Survey<'_>,
     columns: &Elaboration<'_>,
     reads: &[Items<u32>],
     order: &[u32],
-) -> Result<(), CheckFault>
+) -> Result<Option<Lead>, AllocError>
     requires elaborated { IsElaborated survey.now (map shown_driver columns.now.drivers) columns.now.starts }
     requires few { length columns.now.drivers ≤ 1048576 }
     requires reads { reads.now ≡ map read_now (map shown_driver columns.now.drivers) }
     requires graph { IsGraph reads.now }
     requires order { IsOrder reads.now order.now }
-    ensures ok { OnOk result (HasNoDependence survey.now) }
-    ensures err { IfErr result (λ fault. (fault ≡ Memory) ⊎ TellsDependence survey.now fault) }
+    ensures { IfOk result (FindsDependence survey.now) }
 {
     let pearls = list_pearls(alloc, survey, columns.starts.as_slice())?;
     let cut = mark_first(alloc, count_cut(survey), reads.len())?;
-    let starts = find_starts(alloc, survey, pearls.as_slice(), reads.len())?;
-    let reached = find_reached(alloc, reads, order, cut.as_slice(), starts.as_slice())?;
-    judge_pearls(
-        alloc,
-        survey,
-        pearls.as_slice(),
-        reads,
-        cut.as_slice(),
-        reached.as_slice(),
-    )
+    find_past(alloc, survey, pearls.as_slice(), reads, order, cut.as_slice())
+}
+
+/// The first output of a pearl that depends on a data input of it, by walks past the cut.
+fn find_past(
+    alloc: Global,
+    survey: &Survey<'_>,
+    pearls: &[Pearl],
+    reads: &[Items<u32>],
+    order: &[u32],
+    cut: &[bool],
+) -> Result<Option<Lead>, AllocError>
+    requires graph { IsGraph reads.now }
+    requires order { IsOrder reads.now order.now }
+    requires few { length reads.now ≤ 1048576 }
+    requires size { length cut.now ≡ length reads.now }
+    requires fit { AllByRecursion (Fits survey.now (length reads.now)) pearls.now }
+    requires apart { CutsOff survey.now reads.now cut.now pearls.now }
+    ensures { IfOk result (FindsDependence survey.now) }
+{
+    let led = mark_led(alloc, survey, pearls, reads, order, cut)?;
+    find_in_pearls(alloc, survey, pearls, reads, cut, led.as_slice())
 }

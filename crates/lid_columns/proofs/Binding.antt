@@ -21,8 +21,9 @@ use Rattle.lid_columns.specs.Numbers.{offset_of}
 use Rattle.lid_columns.specs.Locals.{of_net, first_name_of, actual_for}
 use Rattle.lid_columns.specs.Templates.{place_in}
 use Rattle.lid_columns.specs.Parts.{formal_of, Shows, picks_among, places_bound, places_in_inst}
-use Rattle.lid_columns.specs.Writing.{IsJudged, IsTemplate, IsPicked, model_locals, model_inputs}
+use Rattle.lid_columns.specs.Writing.{IsJudged, IsTemplate, IsPicked, ArePicked, model_locals, model_inputs}
 use Rattle.lid_columns.specs.declared.driven.Driven.{Driven}
+use Rattle.lid_columns.specs.declared.template.LocalDriver.{LocalDriver}
 use Rattle.lid_columns.specs.declared.template.Template.{Template}
 use Rattle.lid_columns.proofs.Names.{get-among}
 use Rattle.lid_columns.proofs.Passing.{IsSoundInst}
@@ -115,32 +116,39 @@ module _ (d : Design) (judged : IsJudged d) (k : ℕ) (reached : IsReached d k) 
       judged_inst : IsSoundInst d sub.model inst
       judged_inst = (sound d judged.formed judged.order judged.ordered judged.known judged.pass k reached m here).insts i inst sub.model own sub.named
 
-  -- the parts of a template make it
-  pub template_whole : (t : Template) (driven : Driven) → Shows d k (model_locals d k) driven → t.locals ≡ driven.locals.items → t.picks ≡ picks_among d k (firsts (texts driven.nets.items)) → length t.offsets ≡ length (insts_of d k) → ((i o : ℕ) → slice_get t.offsets i ≡ Some o → o ≡ offset_of d k i) → t.actuals ≡ map (places_in_inst d k) (insts_of d k) → IsTemplate d k t
-  template_whole t driven shows locals picks few offset actuals = record {
-    long = ap length picks ∙ length-map (model_nets d k) pick_of;
+  -- the first places of the nets among those that are driven pick what drives them
+  pub nets_picked : (all : List LocalDriver) (picks : List ℕ) (driven : Driven) → Shows d k (model_locals d k) driven → all ≡ driven.locals.items → picks ≡ picks_among d k (firsts (texts driven.nets.items)) → ArePicked d k all picks
+  nets_picked all picks driven shows locals is = record {
+    long = ap length is ∙ length-map (model_nets d k) pick_of;
     each = each;
-    few = few;
-    offset = offset;
-    actual = actual;
   }
     where
       pick_of : List ℕ → ℕ
       pick_of net = position_or_len (bytes_eq net) (firsts (texts driven.nets.items))
 
-      each : (j pick : ℕ) (net : List ℕ) → slice_get t.picks j ≡ Some pick → slice_get (model_nets d k) j ≡ Some net → IsPicked d k t.locals pick net
+      each : (j pick : ℕ) (net : List ℕ) → slice_get picks j ≡ Some pick → slice_get (model_nets d k) j ≡ Some net → IsPicked d k all pick net
       each j pick net at there =
-          let mapped : Some (pick_of net) ≡ Some pick = sym (ap (λ (ps : List ℕ). slice_get ps j) picks ∙ slice_get-map pick_of (model_nets d k) j ∙ ap (option_map pick_of) there) ∙ at in
+          let mapped : Some (pick_of net) ≡ Some pick = sym (ap (λ (ps : List ℕ). slice_get ps j) is ∙ slice_get-map pick_of (model_nets d k) j ∙ ap (option_map pick_of) there) ∙ at in
           let same : pick_of net ≡ pick = cc in
-          subst (λ (p : ℕ). IsPicked d k t.locals p net) same
+          subst (λ (p : ℕ). IsPicked d k all p net) same
           (subst (λ ls. IsPicked d k ls (pick_of net) net) (sym locals) (picked_by d judged k reached m here driven shows net (get-among (model_nets d k) j net there)))
 
-      actual : (i j : ℕ) (inst : Inst) → slice_get (insts_of d k) i ≡ Some inst → instance_number d i k ≡ Some j → slice_get t.actuals i ≡ Some (map (λ formal. place_in d k (actual_for inst formal)) (model_inputs d j))
-      actual i j inst at number =
-          ap (λ (rows : List (List ℕ)). slice_get rows i) actuals
-          ∙ slice_get-map (places_in_inst d k) (insts_of d k) i
-          ∙ ap (option_map (places_in_inst d k)) at
-          ∙ ap Some (bound_in d k i j inst at number)
+-- the parts of a template make it
+pub template_whole : (d : Design) (k : ℕ) (t : Template) → ArePicked d k t.locals t.picks → length t.offsets ≡ length (insts_of d k) → ((i o : ℕ) → slice_get t.offsets i ≡ Some o → o ≡ offset_of d k i) → t.actuals ≡ map (places_in_inst d k) (insts_of d k) → IsTemplate d k t
+template_whole d k t picked few offset actuals = record {
+  long = picked.long;
+  each = picked.each;
+  few = few;
+  offset = offset;
+  actual = actual;
+}
+  where
+    actual : (i j : ℕ) (inst : Inst) → slice_get (insts_of d k) i ≡ Some inst → instance_number d i k ≡ Some j → slice_get t.actuals i ≡ Some (map (λ formal. place_in d k (actual_for inst formal)) (model_inputs d j))
+    actual i j inst at number =
+        ap (λ (rows : List (List ℕ)). slice_get rows i) actuals
+        ∙ slice_get-map (places_in_inst d k) (insts_of d k) i
+        ∙ ap (option_map (places_in_inst d k)) at
+        ∙ ap Some (bound_in d k i j inst at number)
 
 get-last : {A : Type 0} (xs : List A) (x : A) → slice_get (xs ++ x ∷ []) (length xs) ≡ Some x
 get-last [] x = refl

@@ -9,19 +9,13 @@ use Rattle.lid_design.specs.declared.Inst.{Inst}
 use Rattle.lid_design.specs.Columns.{column}
 use Rattle.lid_design.specs.Models.{insts_of, instance_number, number_from, IsReached}
 use Rattle.lid_design.specs.Places.{model_nets, columns, places}
-use Rattle.lid_columns.specs.Numbers.{over_insts, size_of, offset_of, start_of, weight_of}
+use Rattle.lid_columns.specs.Numbers.{over_insts, size_of, offset_of, start_of, weight_of, IsSpot}
 use Rattle.lid_columns.specs.Writing.{IsJudged, AreTemplates}
 use Rattle.lid_columns.specs.declared.template.Template.{Template}
 use Rattle.lid_columns.proofs.Shallow.{IsShallow}
 use Rattle.lid_columns.proofs.Numbering.{columns-length, starts_at}
 use Rattle.lid_columns.proofs.Stacking.{size_sum, weight_sum, over_more}
 use Rattle.lid_columns.proofs.Judged.{shallow_of}
-
--- a column of the model at a path or of the instances in it, by its number from there on
-pub record IsSpot (d : Design) (path : List ℕ) (k number total : ℕ) : Type 0 where
-  pub leads : number_from d d.root path ≡ Some k
-  pub sum : start_of d path + number ≡ total
-  pub within : number < size_of d k
 
 module _ (d : Design) where
   pub root_spot : (number : ℕ) → number < length (columns d) → IsSpot d [] d.root number number

@@ -1,6 +1,6 @@
 -- The numbers of columns: how many columns stand at a model and in its instances, and where the
 -- columns of a place start.
-use Rattle.std.specs.Prelude.{◌≡◌, ℕ, zero, suc, ◌+◌, List, [], ◌∷◌, ◌++◌, length, take, flat_map}
+use Rattle.std.specs.Prelude.{◌≡◌, ℕ, zero, suc, ◌+◌, ◌<◌, Some, List, [], ◌∷◌, ◌++◌, length, take, flat_map}
 use Rattle.std.specs.Option.{option_map_or}
 use Rattle.lid_design.specs.declared.Design.{Design}
 use Rattle.lid_design.specs.declared.Inst.{Inst}
@@ -48,3 +48,9 @@ weight_within (suc n) d k = 1 + over_insts d (weight_within n d) (insts_of d k)
 
 unfoldable pub weight_of : Design → ℕ → ℕ
 weight_of d k = weight_within (length d.models) d k
+
+-- a column of the model at a path or of the instances in it, by its number from there on
+pub record IsSpot (d : Design) (path : List ℕ) (k number total : ℕ) : Type 0 where
+  pub leads : number_from d d.root path ≡ Some k
+  pub sum : start_of d path + number ≡ total
+  pub within : number < size_of d k

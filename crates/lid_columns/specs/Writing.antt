@@ -52,6 +52,11 @@ pub record IsPicked (d : Design) (k : ℕ) (all : List LocalDriver) (pick : ℕ)
   pub here : slice_get all pick ≡ Some driver
   pub shown : shown_local driver ≡ numbered d k local
 
+-- for each net of a model, the place among some drivers of what drives it
+pub record ArePicked (d : Design) (k : ℕ) (all : List LocalDriver) (picks : List ℕ) : Type 0 where
+  pub long : length picks ≡ length (model_nets d k)
+  pub each : (j pick : ℕ) (net : List ℕ) → slice_get picks j ≡ Some pick → slice_get (model_nets d k) j ≡ Some net → IsPicked d k all pick net
+
 -- what is known of a model before it is placed
 pub record IsTemplate (d : Design) (k : ℕ) (t : Template) : Type 0 where
   pub long : length t.picks ≡ length (model_nets d k)

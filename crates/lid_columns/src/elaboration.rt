@@ -1,10 +1,10 @@
 ghost use Rattle.std.specs.Prelude.{◌≡◌, ◌≤◌, length, map, IfOk};
 ghost use Rattle.lid_rules.specs.Acceptance.{ModelsPass};
 ghost use Rattle.lid_columns.specs.Elaborations.{shown_driver, IsElaborated};
-ghost use Rattle.lid_columns.specs.Writing.{IsJudged};
+ghost use Rattle.lid_columns.specs.Writing.{IsJudged, AreTemplates};
 
 use crate::driver::Driver;
-use crate::template::find_templates;
+use crate::template::{Template, find_templates};
 use crate::writing::write_all;
 use lid_base::Items;
 use lid_models::Survey;
@@ -28,13 +28,24 @@ pub fn elaborate<'d>(alloc: Global, survey: &Survey<'d>) -> Result<Elaboration<'
 {
     judge(survey);
     let templates = find_templates(alloc, survey)?;
-    let drivers = write_all(alloc, survey, templates.as_slice())?;
-    let root = &templates.as_slice()[survey.design().root as usize];
+    elaborate_by(alloc, survey, templates.as_slice())
+}
+
+/// Numbers the columns of a design, by what is known of its models.
+fn elaborate_by<'d>(
+    alloc: Global,
+    survey: &Survey<'d>,
+    templates: &[Template<'d>],
+) -> Result<Elaboration<'d>, AllocError>
+    requires judged { IsJudged survey.now }
+    requires templates { AreTemplates survey.now templates.now }
+    ensures whole { IfOk result (λ e. IsElaborated survey.now (map shown_driver e.drivers) e.starts) }
+    ensures few { IfOk result (λ e. length e.drivers ≤ 1048576) }
+{
+    let root = &templates[survey.design().root as usize];
     let starts = copy_all(alloc, root.offsets.as_slice())?;
-    Ok(Elaboration {
-        drivers: Items::from_vec(drivers),
-        starts,
-    })
+    let drivers = write_all(alloc, survey, templates)?;
+    Ok(Elaboration { drivers, starts })
 }
 
 /// What a survey tells of a design that meets the conditions on models.
@@ -50,9 +61,5 @@ pub fn judge(survey: &Survey<'_>)
 fn copy_all(alloc: Global, numbers: &[u32]) -> Result<Items<u32>, AllocError>
     ensures { IfOk result (λ copied. copied ≡ numbers.now) }
 {
-    let mut copied = Vec::with_capacity(alloc, numbers.len())?;
-    for number in numbers {
-        copied.push(*number)?;
-    }
-    Ok(Items::from_vec(copied))
+    Ok(Items::from_vec(numbers.to_vec(alloc)?))
 }

@@ -1,11 +1,11 @@
 //! The column of a number.
 
-ghost use Rattle.std.specs.Prelude.{◌≡◌, ◌≤◌, ◌<◌, ◌+◌, Some, length, reverse, slice_get, slice_index, IfOk};
+ghost use Rattle.std.specs.Prelude.{◌≡◌, ◌≤◌, ◌<◌, ◌+◌, [], Some, length, reverse, slice_get, slice_index, IfOk};
 ghost use Rattle.lid_design.specs.Columns.{column};
 ghost use Rattle.lid_design.specs.Models.{IsReached, instance_number};
 ghost use Rattle.lid_design.specs.Places.{columns, model_nets};
 ghost use Rattle.lid_rules.specs.Acceptance.{ModelsPass};
-ghost use Rattle.lid_columns.specs.Numbers.{size_of, offset_of};
+ghost use Rattle.lid_columns.specs.Numbers.{size_of, offset_of, IsSpot};
 ghost use Rattle.lid_columns.specs.Writing.{IsJudged, AreTemplates};
 
 use crate::elaboration::judge;
@@ -38,18 +38,52 @@ pub fn find_column(
 {
     judge(survey);
     let templates = find_templates(alloc, survey)?;
+    find_by(alloc, survey, templates.as_slice(), number)
+}
+
+/// The path and the name of a column, by what is known of the models.
+fn find_by(
+    alloc: Global,
+    survey: &Survey<'_>,
+    templates: &[Template<'_>],
+    number: u32,
+) -> Result<(Items<u32>, Name), AllocError>
+    requires judged { IsJudged survey.now }
+    requires templates { AreTemplates survey.now templates.now }
+    requires exists { number < length (columns survey.now) }
+    ensures { IfOk result (λ found. slice_get (columns survey.now) number ≡ Some (column (reverse found.0) found.1)) }
+{
     let mut path = Vec::new(alloc);
+    let spot = enter_all(survey, templates, number, &mut path)?;
+    let name = copy_name(alloc, net_of(survey, spot))?;
+    Ok((Items::from_vec(path), name))
+}
+
+/// Pushes the instances that a column stands in, from the root's on, and answers where it stands in
+/// the last one.
+fn enter_all(
+    survey: &Survey<'_>,
+    templates: &[Template<'_>],
+    number: u32,
+    path: &mut Vec<u32>,
+) -> Result<Spot, AllocError>
+    requires judged { IsJudged survey.now }
+    requires templates { AreTemplates survey.now templates.now }
+    requires exists { number < length (columns survey.now) }
+    requires none { path.old.items ≡ [] }
+    ensures spot { IfOk result (λ spot. IsSpot survey.now (reverse path.new.items) spot.model spot.number number) }
+    ensures net { IfOk result (λ spot. spot.number < length (model_nets survey.now spot.model)) }
+{
     let mut spot = Spot {
         model: survey.design().root,
         number,
     };
     while survey.count_nets(spot.model) <= spot.number as usize {
-        let (inst, inner) = enter(survey, templates.as_slice(), spot);
+        let (inst, inner) = enter(survey, templates, spot);
         path.push(inst)?;
         spot = inner;
     }
-    let name = copy_name(alloc, net_of(survey, spot))?;
-    Ok((Items::from_vec(path), name))
+    Ok(spot)
 }
 
 /// The instance that a column past the nets of a model stands in, and the column in there.

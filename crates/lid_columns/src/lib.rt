@@ -17,6 +17,3 @@ pub use driver::Driver;
 pub use elaboration::{Elaboration, elaborate};
 pub use finding::find_column;
 pub use reads::find_reads;
-
-#[cfg(test)]
-mod tests;

@@ -1,10 +1,11 @@
-ghost use Rattle.std.specs.Prelude.{◌≡◌, ◌≤◌, ◌<◌, ◌+◌, length, map, IfOk};
+ghost use Rattle.std.specs.Prelude.{◌≡◌, ◌≤◌, ◌<◌, ◌+◌, ℕ, [], Some, length, map, slice_get, IfOk, OnOk};
 ghost use Rattle.std.specs.List.{All};
-ghost use Rattle.lid_design.specs.Models.{IsReached};
+ghost use Rattle.lid_design.specs.Models.{insts_of, IsReached};
 ghost use Rattle.lid_columns.specs.Elaborations.{shown_driver};
-ghost use Rattle.lid_columns.specs.Parts.{AreSizes, output_sets};
+ghost use Rattle.lid_columns.specs.Numbers.{offset_of};
+ghost use Rattle.lid_columns.specs.Parts.{AreSizes, output_sets, places_in_inst};
 ghost use Rattle.lid_columns.specs.Templates.{shown_local, placed, seen_around, IsSmall};
-ghost use Rattle.lid_columns.specs.Writing.{IsJudged, IsTemplate, AreTemplates};
+ghost use Rattle.lid_columns.specs.Writing.{IsJudged, ArePicked, IsTemplate, AreTemplates};
 
 use crate::bound::actuals_of;
 use crate::driven::{collect_outputs, driven_of};
@@ -108,12 +109,30 @@ pub fn find_templates<'d>(
 {
     let sizes = find_sizes(alloc, survey)?;
     let outputs = collect_outputs(alloc, survey.design().models.as_slice())?;
-    let mut templates = Vec::with_capacity(alloc, sizes.len())?;
+    let mut templates = Vec::new(alloc);
+    push_templates(alloc, survey, sizes.as_slice(), outputs.as_slice(), &mut templates)?;
+    Ok(Items::from_vec(templates))
+}
+
+/// Pushes what is known of each model before it is placed, where there is nothing yet.
+fn push_templates<'d>(
+    alloc: Global,
+    survey: &Survey<'d>,
+    sizes: &[Option<u32>],
+    outputs: &[NameSet<'d>],
+    templates: &mut Vec<Template<'d>>,
+) -> Result<(), AllocError>
+    requires judged { IsJudged survey.now }
+    requires sizes { AreSizes survey.now (IsReached survey.now) sizes.now }
+    requires outputs { outputs.now ≡ output_sets survey.now.models }
+    requires none { templates.old.items ≡ [] }
+    ensures { OnOk result (AreTemplates survey.now templates.new.items) }
+{
     for model in 0..sizes.len() as u32 {
-        let template = template_of(alloc, survey, sizes.as_slice(), outputs.as_slice(), model)?;
+        let template = template_of(alloc, survey, sizes, outputs, model)?;
         templates.push(template)?;
     }
-    Ok(Items::from_vec(templates))
+    Ok(())
 }
 
 /// What is known of a model before it is placed; nothing where it is not reached.
@@ -150,16 +169,68 @@ fn describe<'d>(
     requires outputs { outputs.now ≡ output_sets survey.now.models }
     ensures { IfOk result (IsTemplate survey.now model) }
 {
+    let nets = describe_nets(alloc, survey, outputs, model)?;
+    let insts = describe_insts(alloc, survey, sizes, model)?;
+    Ok(Template {
+        locals: nets.locals,
+        picks: nets.picks,
+        offsets: insts.offsets,
+        actuals: insts.actuals,
+    })
+}
+
+/// What is known of the nets of a model.
+#[derive(Drop)]
+struct Nets<'d> {
+    locals: Items<LocalDriver<'d>>,
+    picks: Items<u32>,
+}
+
+/// What drives the nets of a reached model, and which of it drives each.
+fn describe_nets<'d>(
+    alloc: Global,
+    survey: &Survey<'d>,
+    outputs: &[NameSet<'d>],
+    model: u32,
+) -> Result<Nets<'d>, AllocError>
+    requires judged { IsJudged survey.now }
+    requires reached { IsReached survey.now model }
+    requires outputs { outputs.now ≡ output_sets survey.now.models }
+    ensures { IfOk result (λ nets. ArePicked survey.now model nets.locals nets.picks) }
+{
     let driven = driven_of(alloc, survey, outputs, model)?;
     let picks = picks_of(alloc, survey, driven.nets.as_slice(), model)?;
-    let offsets = offsets_of(alloc, survey, sizes, model)?;
-    let actuals = actuals_of(alloc, survey, model)?;
-    Ok(Template {
+    Ok(Nets {
         locals: Items::from_vec(driven.locals),
         picks,
-        offsets,
-        actuals,
     })
+}
+
+/// What is known of the instances of a model.
+#[derive(Drop)]
+struct Insts {
+    offsets: Items<u32>,
+    actuals: Items<Items<u32>>,
+}
+
+/// Where the columns of the instances of a reached model begin, and the nets that their data inputs
+/// are bound to.
+fn describe_insts(
+    alloc: Global,
+    survey: &Survey<'_>,
+    sizes: &[Option<u32>],
+    model: u32,
+) -> Result<Insts, AllocError>
+    requires judged { IsJudged survey.now }
+    requires reached { IsReached survey.now model }
+    requires sizes { AreSizes survey.now (IsReached survey.now) sizes.now }
+    ensures few { IfOk result (λ insts. length insts.offsets ≡ length (insts_of survey.now model)) }
+    ensures each { IfOk result (λ insts. (i o : ℕ) → slice_get insts.offsets i ≡ Some o → o ≡ offset_of survey.now model i) }
+    ensures actuals { IfOk result (λ insts. insts.actuals ≡ map (places_in_inst survey.now model) (insts_of survey.now model)) }
+{
+    let offsets = offsets_of(alloc, survey, sizes, model)?;
+    let actuals = actuals_of(alloc, survey, model)?;
+    Ok(Insts { offsets, actuals })
 }
 
 /// A template of nothing.

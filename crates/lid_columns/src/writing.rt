@@ -1,4 +1,4 @@
-ghost use Rattle.std.specs.Prelude.{◌≡◌, ◌≤◌, ◌<◌, ◌++◌, ◌+◌, ℕ, List, Some, length, map, reverse, take, slice_get, IfOk, OnOk};
+ghost use Rattle.std.specs.Prelude.{◌≡◌, ◌≤◌, ◌<◌, ◌++◌, ◌+◌, ℕ, List, [], Some, length, map, reverse, take, slice_get, IfOk, OnOk};
 ghost use Rattle.std.specs.List.{All};
 ghost use Rattle.lid_design.specs.Models.{insts_of};
 ghost use Rattle.lid_design.specs.Places.{model_nets, columns};
@@ -9,6 +9,7 @@ ghost use Rattle.lid_columns.specs.Writing.{picked, IsSmallAt, IsJudged, AreTemp
 
 use crate::driver::Driver;
 use crate::template::{LocalDriver, Template, place_driver};
+use lid_base::Items;
 use lid_models::Survey;
 use std::alloc::{AllocError, Global};
 
@@ -188,13 +189,30 @@ pub fn write_all<'d>(
     alloc: Global,
     survey: &Survey<'d>,
     templates: &[Template<'d>],
-) -> Result<Vec<Driver<'d>>, AllocError>
+) -> Result<Items<Driver<'d>>, AllocError>
     requires judged { IsJudged survey.now }
     requires templates { AreTemplates survey.now templates.now }
-    ensures written { IfOk result (λ drivers. AreWritten survey.now (map shown_driver drivers.items)) }
-    ensures whole { IfOk result (λ drivers. length drivers.items ≡ length (columns survey.now)) }
+    ensures written { IfOk result (λ drivers. AreWritten survey.now (map shown_driver drivers)) }
+    ensures whole { IfOk result (λ drivers. length drivers ≡ length (columns survey.now)) }
 {
     let mut drivers = Vec::new(alloc);
+    push_all(alloc, survey, templates, &mut drivers)?;
+    Ok(Items::from_vec(drivers))
+}
+
+/// Pushes what gives each column its bit, in order, where there is nothing yet.
+fn push_all<'d>(
+    alloc: Global,
+    survey: &Survey<'d>,
+    templates: &[Template<'d>],
+    drivers: &mut Vec<Driver<'d>>,
+) -> Result<(), AllocError>
+    requires judged { IsJudged survey.now }
+    requires templates { AreTemplates survey.now templates.now }
+    requires none { drivers.old.items ≡ [] }
+    ensures written { OnOk result (AreWritten survey.now (map shown_driver drivers.new.items)) }
+    ensures whole { OnOk result (length drivers.new.items ≡ length (columns survey.now)) }
+{
     let mut stack = Vec::new(alloc);
     stack.push(Place {
         model: survey.design().root,
@@ -202,7 +220,7 @@ pub fn write_all<'d>(
         around: None,
     })?;
     while let Some(place) = stack.pop() {
-        visit(alloc, survey, templates, &mut drivers, &mut stack, place)?;
+        visit(alloc, survey, templates, drivers, &mut stack, place)?;
     }
-    Ok(drivers)
+    Ok(())
 }

@@ -9,6 +9,3 @@ mod whole;
 pub use law::accepted_have_one_table;
 pub use simulation::simulate;
 pub use whole::strict;
-
-#[cfg(test)]
-mod tests;

@@ -15,9 +15,8 @@ use lid_base::{Items, Name};
 use lid_check::Checked;
 use lid_columns::{Elaboration, elaborate, find_reads};
 use lid_design::Design;
-use lid_models::Survey;
+use lid_models::{Survey, SurveyFault, find_uses, survey_models};
 use lid_order::{Found, find_order};
-use lid_rules::check_models;
 use lid_texts::{Rows, copy_names};
 use std::alloc::{AllocError, Global};
 
@@ -47,12 +46,36 @@ fn run(
     requires accepted { IsAccepted design.now }
     ensures { IfOk result (IsStrictOutput design.now rows.now) }
 {
-    let Ok(survey) = check_models(alloc, design) else {
-        return Err(AllocError);
-    };
-    let columns = elaborate(alloc, &survey)?;
-    let outs = number_outputs(alloc, &survey, &columns)?;
-    run_columns(alloc, design, &columns, outs.as_slice(), rows)
+    let survey = survey_passed(alloc, design)?;
+    run_survey(alloc, &survey, rows)
+}
+
+/// What is found of the models of a design that meets the conditions on models.
+fn survey_passed<'d>(alloc: Global, design: &'d Design) -> Result<Survey<'d>, AllocError>
+    requires formed { IsWellFormed design.now }
+    requires passed { ModelsPass design.now }
+    ensures { IfOk result (λ survey. survey ≡ design.now) }
+{
+    let uses = find_uses(alloc, design)?;
+    match survey_models(alloc, uses) {
+        Ok(survey) => Ok(survey),
+        Err(SurveyFault::Recursive { model: _ }) => unreachable!(),
+        Err(SurveyFault::Memory) => Err(AllocError),
+    }
+}
+
+/// The strict outputs of an accepted design for input rows, by what is found of its models.
+fn run_survey(
+    alloc: Global,
+    survey: &Survey<'_>,
+    rows: &[Items<bool>],
+) -> Result<Items<Items<bool>>, AllocError>
+    requires { IsAccepted survey.now }
+    ensures { IfOk result (IsStrictOutput survey.now rows.now) }
+{
+    let columns = elaborate(alloc, survey)?;
+    let outs = number_outputs(alloc, survey, &columns)?;
+    run_columns(alloc, survey.design(), &columns, outs.as_slice(), rows)
 }
 
 /// Runs the columns of an accepted design.

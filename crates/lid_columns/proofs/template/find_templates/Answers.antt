@@ -1,17 +1,7 @@
-use Rattle.std.proofs.Common.{◌<◌, List, sym, subst, arith}
+use Rattle.std.proofs.Common.{List, sym, subst}
 use Rattle.lid_columns.specs.declared.template.Template.{Template}
-use Rattle.lid_columns.proofs.Counting.{model_below}
-use Rattle.lid_columns.proofs.Binding.{HasTemplate, templates_next}
+use Rattle.lid_columns.specs.Writing.{AreTemplates}
 use Rattle.lid_columns.proofs.template.find_templates.Goals as goal
 
-pub loop-model-preserved : goal.loop-model-preserved
-loop-model-preserved c = record {
-  long = (let a = c.in_ok-push.ensures.len in let b = c.loop-model.invariant.long in omega arith);
-  each = templates_next c.args.survey.now c.loop-model.templates.items c.push.new.self.items c.in_ok-template.template c.loop-model.model c.loop-model.invariant.long c.in_ok-push.ensures.items c.in_ok-template.ensures c.loop-model.invariant.each;
-}
-
 pub returns : goal.returns
-returns c k reached =
-    let d = c.args.survey.now in
-    let below : k < c.loop-model.model = (let a = model_below d c.requires k reached in let f = c.loop-model-test.false in let e = c.len-model-end.ensures in let l = c.in_ok-sizes.ensures.long in omega arith) in
-    subst (λ (ts : List Template). HasTemplate d ts k) (sym c.from_vec.ensures) (c.loop-model.invariant.each k below reached)
+returns c = subst (λ (ts : List Template). AreTemplates c.args.survey.now ts) (sym c.from_vec.ensures) c.in_ok-push_templates.ensures

@@ -1,19 +1,8 @@
-use Rattle.std.proofs.Common.{◌≡◌, ℕ, List, [], ◌∷◌, ◌++◌, length, map, reverse, None, Some, slice_get, sym, ◌∙◌, ap, subst}
-use Rattle.lid_design.specs.declared.Design.{Design}
-use Rattle.lid_columns.specs.Elaborations.{shown_driver}
+use Rattle.std.proofs.Common.{List, map, sym, subst}
 use Rattle.lid_columns.specs.declared.driver.Driver.{Driver}
-use Rattle.lid_columns.specs.declared.writing.Place.{Place}
-use Rattle.lid_columns.specs.Writing.{AreNext}
-use Rattle.lid_columns.proofs.Stacking.{root_first}
+use Rattle.lid_columns.specs.Elaborations.{shown_driver}
+use Rattle.lid_columns.specs.Writing.{AreWritten}
 use Rattle.lid_columns.proofs.writing.write_all.Goals as goal
 
-pub loop-place-init : goal.loop-place-init
-loop-place-init c = record {
-  written = λ n column source at here. absurd (let e : None ≡ Some source = ap (λ (ds : List Driver). slice_get (map shown_driver ds) n) (sym c.new-drivers.ensures.items) ∙ here in cc);
-  next =
-      let d = c.args.survey.now in
-      let first : Design → List Place = (λ (e : Design). record { model = e.root; start = 0; around = None } ∷ []) in
-      let stack : reverse c.push.new.self.items ≡ first d = ap reverse (c.in_ok-push.ensures.items ∙ ap (λ (ps : List Place). ps ++ first c.design.result.now) c.new-stack.ensures.items) ∙ ap first c.design.ensures.same in
-      let none : length c.new-drivers.result.items ≡ 0 = ap length c.new-drivers.ensures.items in
-      subst (λ (n : ℕ). AreNext d n (reverse c.push.new.self.items)) (sym none) (subst (AreNext d 0) (sym stack) (root_first d));
-}
+pub returns-clause-written : goal.returns-clause-written
+returns-clause-written c = subst (λ (ds : List Driver). AreWritten c.args.survey.now (map shown_driver ds)) (sym c.from_vec.ensures) c.in_ok-push_all.ensures.written

@@ -2,7 +2,7 @@ use Rattle.std.proofs.Common.{◌≡◌, ◌<◌, ℕ, Some, length, slice_get}
 use Rattle.lid_design.specs.Models.{IsReached}
 use Rattle.lid_columns.specs.Writing.{IsTemplate}
 use Rattle.lid_columns.specs.declared.template.Template.{Template}
-use Rattle.lid_columns.proofs.template.find_templates.Given as goal
+use Rattle.lid_columns.proofs.template.push_templates.Given as goal
 
 abbrev pub invariant-loop-model : goal.invariant-loop-model
 invariant-loop-model l = record {

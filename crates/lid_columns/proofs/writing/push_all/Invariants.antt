@@ -1,7 +1,7 @@
 use Rattle.std.proofs.Common.{length, map, reverse}
 use Rattle.lid_columns.specs.Elaborations.{shown_driver}
 use Rattle.lid_columns.specs.Writing.{AreWritten, AreNext, weights}
-use Rattle.lid_columns.proofs.writing.write_all.Given as goal
+use Rattle.lid_columns.proofs.writing.push_all.Given as goal
 
 abbrev pub invariant-loop-place : goal.invariant-loop-place
 invariant-loop-place l = record {

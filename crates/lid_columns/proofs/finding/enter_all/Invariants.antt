@@ -1,7 +1,6 @@
 use Rattle.std.proofs.Common.{reverse}
-use Rattle.lid_columns.specs.Numbers.{weight_of}
-use Rattle.lid_columns.proofs.Entering.{IsSpot}
-use Rattle.lid_columns.proofs.finding.find_column.Given as goal
+use Rattle.lid_columns.specs.Numbers.{weight_of, IsSpot}
+use Rattle.lid_columns.proofs.finding.enter_all.Given as goal
 
 abbrev pub invariant-loop-spot : goal.invariant-loop-spot
 invariant-loop-spot l = IsSpot l.survey (reverse l.path.items) l.spot.model l.spot.number l.number

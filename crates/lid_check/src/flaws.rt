@@ -1,0 +1,126 @@
+//! Why the columns of a design are refused, by numbers, and how it is told by names.
+
+ghost use Rattle.std.specs.Prelude.{◌≡◌, ◌≤◌, Some, length, map, slice_get, IfOk};
+ghost use Rattle.lid_design.specs.Walks.{read_now};
+ghost use Rattle.lid_columns.specs.Elaborations.{shown_driver, IsElaborated};
+ghost use Rattle.lid_rules.specs.Acceptance.{ModelsPass};
+ghost use Rattle.lid_check.specs.Acceptance.{TellsLoop, TellsDependence};
+ghost use Rattle.lid_check.specs.Pearls.{inputs_of};
+ghost use Rattle.lid_check.specs.Flaws.{IsFirstOnLoop, IsFirstDependence, IsFirstFlaw, FindsFlaw, TellsFlaw};
+
+use crate::outputs::{Lead, find_dependence};
+use crate::pearls::find_inputs;
+use lid_base::{Items, Name};
+use lid_columns::{Elaboration, elaborate, find_column, find_reads};
+use lid_models::Survey;
+use lid_order::{Found, find_order};
+use lid_rules::CheckFault;
+use std::alloc::{AllocError, Global};
+
+/// Why the columns of a design are refused.
+#[derive(Clone, Copy)]
+pub(crate) enum Flaw {
+    /// The first column that lies on a closed walk, by its number.
+    Loop(u32),
+    /// The first output of a pearl that depends on an input of it.
+    Dependence(Lead),
+}
+
+/// The first flaw of the columns of a design, where there is one.
+///
+/// # Errors
+/// Where there is no memory.
+pub(crate) fn find_flaw(alloc: Global, survey: &Survey<'_>) -> Result<Option<Flaw>, AllocError>
+    requires { ModelsPass survey.now }
+    ensures { IfOk result (FindsFlaw survey.now) }
+{
+    let columns = elaborate(alloc, survey)?;
+    let reads = find_reads(alloc, columns.drivers.as_slice())?;
+    find_among(alloc, survey, &columns, reads.as_slice())
+}
+
+/// The first flaw of some columns, by what each reads in the same row.
+fn find_among(
+    alloc: Global,
+    survey: &Survey<'_>,
+    columns: &Elaboration<'_>,
+    reads: &[Items<u32>],
+) -> Result<Option<Flaw>, AllocError>
+    requires elaborated { IsElaborated survey.now (map shown_driver columns.now.drivers) columns.now.starts }
+    requires few { length columns.now.drivers ≤ 1048576 }
+    requires reads { reads.now ≡ map read_now (map shown_driver columns.now.drivers) }
+    ensures { IfOk result (FindsFlaw survey.now) }
+{
+    match find_order(alloc, reads)? {
+        Found::Order(order) => match find_dependence(alloc, survey, columns, reads, order.as_slice())? {
+            Some(lead) => Ok(Some(Flaw::Dependence(lead))),
+            None => Ok(None),
+        },
+        Found::Loop(first) => Ok(Some(Flaw::Loop(first))),
+    }
+}
+
+/// Tells a flaw by names.
+///
+/// # Errors
+/// Where there is no memory.
+pub(crate) fn tell_flaw(
+    alloc: Global,
+    survey: &Survey<'_>,
+    flaw: Flaw,
+) -> Result<CheckFault, AllocError>
+    requires passed { ModelsPass survey.now }
+    requires flaw { IsFirstFlaw survey.now flaw }
+    ensures { IfOk result (TellsFlaw survey.now) }
+{
+    match flaw {
+        Flaw::Loop(first) => tell_loop(alloc, survey, first),
+        Flaw::Dependence(lead) => tell_dependence(alloc, survey, lead),
+    }
+}
+
+/// Tells the first column on a closed walk by its path and its name.
+fn tell_loop(alloc: Global, survey: &Survey<'_>, first: u32) -> Result<CheckFault, AllocError>
+    requires passed { ModelsPass survey.now }
+    requires first { IsFirstOnLoop survey.now first }
+    ensures { IfOk result (TellsLoop survey.now) }
+{
+    let (path, name) = find_column(alloc, survey, first)?;
+    Ok(CheckFault::CombLoop { path, name })
+}
+
+/// Tells an output that depends on an input by their names and that of their model.
+fn tell_dependence(
+    alloc: Global,
+    survey: &Survey<'_>,
+    lead: Lead,
+) -> Result<CheckFault, AllocError>
+    requires { IsFirstDependence survey.now lead }
+    ensures { IfOk result (TellsDependence survey.now) }
+{
+    let body = &survey.design().models.as_slice()[lead.model as usize];
+    let input = copy_input(alloc, survey, lead)?;
+    let model = copy(alloc, &body.name)?;
+    let output = copy(alloc, &body.outputs.as_slice()[lead.output])?;
+    Ok(CheckFault::OutputFromInput {
+        model,
+        output,
+        input,
+    })
+}
+
+/// The name of the data input that leads to an output.
+fn copy_input(alloc: Global, survey: &Survey<'_>, lead: Lead) -> Result<Name, AllocError>
+    requires { IsFirstDependence survey.now lead }
+    ensures { IfOk result (λ name. slice_get (inputs_of survey.now lead.model) lead.input ≡ Some name) }
+{
+    let inputs = find_inputs(alloc, survey, lead.model)?;
+    copy(alloc, &inputs.as_slice()[lead.input])
+}
+
+/// A copy of a name.
+fn copy(alloc: Global, name: &Name) -> Result<Name, AllocError>
+    ensures { IfOk result (λ copied. copied ≡ name.now) }
+{
+    Ok(Items::from_vec(name.as_slice().to_vec(alloc)?))
+}
