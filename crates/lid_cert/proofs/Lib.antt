@@ -1,10 +1,3 @@
 pub mod Ascending
 pub mod Consequences
-pub mod Numerals
 pub mod Parts
-pub mod PlainTexts
-pub mod PlainWords
-pub mod PrintedLengths
-pub mod PrintedLines
-pub mod Read
-pub mod ReadBack

@@ -1,4 +1,2 @@
 pub mod Certificates
 pub mod Laws
-pub mod Printed
-pub mod Texts

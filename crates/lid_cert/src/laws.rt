@@ -1,7 +1,6 @@
 //! What follows from a certificate. Each function here does nothing; its contract is a law for all
 //! graphs and certificates.
 
-ghost use Rattle.lid_cert.specs.Printed.{PrintedIsReadBack, PrintedIsShort};
 ghost use Rattle.lid_cert.specs.Laws.{EachIsShown, WalksHaveTokens, RatioIsShown, LagsAreShown, LeadsBoundFirings, LagsBoundFirings, CapsAreReached};
 
 /// Each transition of a certified graph stands in a part.
@@ -31,17 +30,4 @@ pub fn lags_bound_firings()
 /// `(q*cap + lag)/p` cycles, rounded up.
 pub fn caps_are_reached()
     ensures { CapsAreReached }
-{}
-
-/// The text of a certificate is read back as the certificate, where each part has a transition, an edge
-/// of its walk, and numbers in the ranges of the text, and the text has at most 16,777,216 bytes. A
-/// longer text is refused, whatever it says.
-pub fn printed_is_read_back()
-    ensures { PrintedIsReadBack }
-{}
-
-/// The text of such a certificate, with fewer than 2^32 transitions in each part, has at most 11 bytes,
-/// and for each part 50, 11 for each edge of its walk and 78 for each transition.
-pub fn printed_is_short()
-    ensures { PrintedIsShort }
 {}

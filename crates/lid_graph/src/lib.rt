@@ -4,8 +4,6 @@
 mod graph;
 mod joining;
 mod pairing;
-#[cfg(test)]
-mod tests;
 
 pub use graph::{Edge, Graph};
 pub use joining::components;

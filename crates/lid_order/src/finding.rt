@@ -4,12 +4,13 @@ ghost use Rattle.std.specs.Prelude.{◌≡◌, ◌+◌, ◌<◌, ◌≤◌, ℕ,
 ghost use Rattle.std.specs.Option.{MatchOption};
 ghost use Rattle.lid_order.specs.Graphs.{IsGraph, IsOnLoop, HasNoLoop, flag};
 ghost use Rattle.lid_order.specs.Parts.{marked, IsPart, IsStuck, AreBelow, HoldsLoops, SparesLoops};
+ghost use Rattle.lid_order.specs.Rankings.{AreVisited};
 ghost use Rattle.lid_order.specs.Results.{IsLeastOnLoop, IsFound};
 
 use crate::ranking::looping;
 use crate::searching::is_on_loop;
 use crate::taking::{sweep, take_all};
-use crate::visiting::visit_all;
+use crate::visiting::{Visited, visit_all};
 use lid_base::Items;
 use std::alloc::{AllocError, Global};
 
@@ -20,6 +21,13 @@ pub enum Found {
     Order(Items<u32>),
     /// The least number on a closed walk.
     Loop(u32),
+}
+
+/// A part of an order, and whether each number is left out of it.
+#[derive(Drop)]
+struct Taken {
+    order: Vec<u32>,
+    left: Vec<bool>,
 }
 
 /// Takes all numbers into the order that can be: those of the list first, and then in rounds.
@@ -41,6 +49,19 @@ fn take(
         took = sweep(order, left, reads)?;
     }
     Ok(())
+}
+
+/// The order of all numbers that can be taken, those of the list first.
+fn taken_of(alloc: Global, reads: &[Items<u32>], numbers: &[u32]) -> Result<Taken, AllocError>
+    requires graph { IsGraph reads.now }
+    requires numbers { AreBelow (length reads.now) numbers.now }
+    ensures part { IfOk result (λ taken. IsPart reads.now taken.order.items taken.left.items) }
+    ensures stuck { IfOk result (λ taken. IsStuck reads.now taken.left.items) }
+{
+    let mut order = Vec::with_capacity(alloc, reads.len())?;
+    let mut left = Vec::from_elem(alloc, true, reads.len())?;
+    take(&mut order, left.as_mut_slice(), reads, numbers)?;
+    Ok(Taken { order, left })
 }
 
 /// Marks what lies on no closed walk: what is not left, and what is not told to lie on one.
@@ -82,6 +103,28 @@ fn least_on_loop(
     Ok(None)
 }
 
+/// The least number on a closed walk, where there is one, and all on closed walks are left.
+fn least_left(
+    alloc: Global,
+    reads: &[Items<u32>],
+    visited: &Visited,
+    left: &[bool],
+) -> Result<u32, AllocError>
+    requires graph { IsGraph reads.now }
+    requires visited { AreVisited (length reads.now) visited.now }
+    requires count { length left.now ≡ length reads.now }
+    requires loops { HoldsLoops reads.now left.now }
+    requires some { HasNoLoop reads.now → ⊥ }
+    ensures { IfOk result (IsLeastOnLoop reads.now) }
+{
+    let looping = looping(alloc, reads, visited)?;
+    let mut cut = cut_of(alloc, left, looping.as_slice())?;
+    match least_on_loop(alloc, reads, cut.as_mut_slice())? {
+        Some(k) => Ok(k),
+        None => unreachable!(),
+    }
+}
+
 /// An order of all numbers, in which each stands after all that it reads, or else the least number on a
 /// closed walk.
 ///
@@ -95,21 +138,10 @@ pub fn find_order(alloc: Global, reads: &[Items<u32>]) -> Result<Found, AllocErr
     ensures { IfOk result (IsFound reads.now) }
 {
     let visited = visit_all(alloc, reads)?;
-    let mut order = Vec::with_capacity(alloc, reads.len())?;
-    let mut left = Vec::from_elem(alloc, true, reads.len())?;
-    take(
-        &mut order,
-        left.as_mut_slice(),
-        reads,
-        visited.ended.as_slice(),
-    )?;
+    let Taken { order, left } = taken_of(alloc, reads, visited.ended.as_slice())?;
     if order.len() == reads.len() {
         return Ok(Found::Order(Items::from_vec(order)));
     }
-    let looping = looping(alloc, reads, &visited)?;
-    let mut cut = cut_of(alloc, left.as_slice(), looping.as_slice())?;
-    match least_on_loop(alloc, reads, cut.as_mut_slice())? {
-        Some(k) => Ok(Found::Loop(k)),
-        None => unreachable!(),
-    }
+    let k = least_left(alloc, reads, &visited, left.as_slice())?;
+    Ok(Found::Loop(k))
 }

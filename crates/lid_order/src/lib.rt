@@ -6,8 +6,6 @@ mod ranking;
 mod rows;
 mod searching;
 mod taking;
-#[cfg(test)]
-mod tests;
 mod visiting;
 
 pub use finding::{Found, find_order};

@@ -92,6 +92,20 @@ fn rank_one(
     Ok(())
 }
 
+/// What is known before the first number is ranked.
+fn unranked(alloc: Global, count: usize, begun: &[u32]) -> Result<Ranking, AllocError>
+    requires { AreBelow count begun.now }
+    ensures { IfOk result (IsRanking count) }
+{
+    Ok(Ranking {
+        entries: places_in(alloc, count, begun)?,
+        lows: places_in(alloc, count, begun)?,
+        ranks: Vec::from_elem(alloc, 0, count)?,
+        ranked: Vec::from_elem(alloc, false, count)?,
+        waiting: Vec::new(alloc),
+    })
+}
+
 /// A rank for each number: no number has a greater rank than its readers, and those that walks join both
 /// ways have one rank. This is for the caller to see.
 fn ranks_of(
@@ -103,13 +117,7 @@ fn ranks_of(
     requires visited { AreVisited (length reads.now) visited.now }
     ensures { IfOk result (λ ranks. length ranks.items ≡ length reads.now) }
 {
-    let mut ranking = Ranking {
-        entries: places_in(alloc, reads.len(), visited.begun.as_slice())?,
-        lows: places_in(alloc, reads.len(), visited.begun.as_slice())?,
-        ranks: Vec::from_elem(alloc, 0, reads.len())?,
-        ranked: Vec::from_elem(alloc, false, reads.len())?,
-        waiting: Vec::new(alloc),
-    };
+    let mut ranking = unranked(alloc, reads.len(), visited.begun.as_slice())?;
     for (rank, v) in visited.ended.as_slice().iter().enumerate() {
         rank_one(&mut ranking, reads, *v, rank)?;
     }

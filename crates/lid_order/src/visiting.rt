@@ -39,6 +39,27 @@ fn next_new(entered: &[bool], numbers: &[u32], from: usize) -> usize
     next
 }
 
+/// Enters a number, whose visit begins.
+fn enter(
+    entered: &mut [bool],
+    stack: &mut Vec<Visit>,
+    visited: &mut Visited,
+    number: u32,
+) -> Result<(), AllocError>
+    requires within { number < length entered.old }
+    requires new { flag entered.old number ≡ false }
+    requires stack { AreVisits (length entered.old) stack.old.items }
+    requires visited { AreVisited (length entered.old) visited.old }
+    ensures stack { OnOk result (AreVisits (length entered.old) stack.new.items) }
+    ensures visited { OnOk result (AreVisited (length entered.old) visited.new) }
+    ensures less { OnOk result (2 * unmarked entered.new + vec_len stack.new < 2 * unmarked entered.old + vec_len stack.old) }
+{
+    entered[number as usize] = true;
+    visited.begun.push(number)?;
+    stack.push(Visit { number, next: 0 })?;
+    Ok(())
+}
+
 /// Goes on with a visit: enters the next number that it reads, or ends the visit.
 fn go_on(
     entered: &mut [bool],
@@ -62,15 +83,11 @@ fn go_on(
         visited.ended.push(visit.number)?;
         return Ok(());
     }
-    let number = numbers[next];
-    entered[number as usize] = true;
-    visited.begun.push(number)?;
     stack.push(Visit {
         number: visit.number,
         next: next + 1,
     })?;
-    stack.push(Visit { number, next: 0 })?;
-    Ok(())
+    enter(entered, stack, visited, numbers[next])
 }
 
 /// Visits a number and, before its visit ends, all that it reads and that has not been entered.
@@ -92,9 +109,7 @@ fn visit_from(
     if entered[number as usize] {
         return Ok(());
     }
-    entered[number as usize] = true;
-    visited.begun.push(number)?;
-    stack.push(Visit { number, next: 0 })?;
+    enter(entered, stack, visited, number)?;
     while let Some(visit) = stack.pop() {
         go_on(entered, stack, visited, reads, visit)?;
     }

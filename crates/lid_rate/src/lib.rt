@@ -12,8 +12,6 @@ mod rating;
 mod settling;
 mod showing;
 mod spreading;
-#[cfg(test)]
-mod tests;
 
 pub use finding::find;
 pub use laws::lag_rule_bounds_firings;
