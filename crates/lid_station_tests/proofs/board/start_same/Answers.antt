@@ -4,7 +4,7 @@ use Rattle.std.specs.List.{All}
 use Rattle.std.proofs.lemmas.List.{length-replicate}
 use Rattle.std.proofs.lemmas.Option.{slice_get_read}
 use Rattle.lid_board.specs.Starts.{Begins}
-use Rattle.lid_board.proofs.StillLemmas.{begins-same, stands-same}
+use Rattle.lid_station_tests.proofs.StillLemmas.{begins-same, stands-same}
 use Rattle.lid_station_tests.proofs.board.start_same.Goals as goal
 
 pub start-requires-clause-course : goal.start-requires-clause-course
