@@ -2,7 +2,7 @@ use lid_base::{TextFault, Which};
 
 /// Why a text stands for no design. `line` is the number of a logical line: that of its first
 /// physical line, counted from 1.
-#[derive(Clone, Copy, Debug, PartialEq, Eq)]
+#[derive(Clone, Copy)]
 pub enum BlifFault {
     /// The text has no logical lines: a bad byte, or a word of more than 1,024 bytes. The inner fault
     /// is never `Memory`.

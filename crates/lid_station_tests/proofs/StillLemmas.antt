@@ -4,7 +4,7 @@ use Rattle.std.specs.Prelude.{Option, Some, None, option_map, slice_get}
 use Rattle.std.specs.List.{All}
 use Rattle.std.proofs.lemmas.List.{get_or-replicate, length-replicate}
 use Rattle.std.proofs.lemmas.List.Elements.{All-replicate}
-use Rattle.std.proofs.lemmas.Option.{same_Some, slice_get_within, get_or_from_slice_get, slice_get_read}
+use Rattle.std.proofs.lemmas.Option.{same_Some, slice_get_within, get_or_from_slice_get}
 use mathlib.Core.Logic.{dite}
 use native.Mathlib.Decide.{ℕ_discrete}
 use base.Stored.{gnum, gcons}
@@ -14,7 +14,6 @@ use Rattle.lid_station.proofs.BoardLemmas.{changed_here, changed_else}
 use Rattle.lid_board.specs.Owners.{IsOf, IsOwned, ends_of}
 use Rattle.lid_board.specs.Standing.{StandsFor}
 use Rattle.lid_board.specs.Starts.{Begins}
-use Rattle.lid_board.specs.Ties.{IsTied}
 use Rattle.lid_board.specs.Views.{Ends, at, facts, facts_at, held, held_of}
 use Rattle.lid_board.specs.declared.board.Board.{Board}
 use Rattle.lid_board.specs.declared.hand.Hand.{Hand}
@@ -36,11 +35,9 @@ facts-there : (o : Option Held) (n : ℕ) → option_map (λ (h : Held). h.passe
 facts-there None n e = absurd (cc)
 facts-there (Some h) n e = (facts h, refl, same_Some h.passed n e)
 
--- an end of which a hand keeps a number is served
-pub served-at : (numbers : List (Option ℕ)) (ends : Ends) (end n : ℕ) (o : Option ℕ) → IsTied numbers ends → end < length numbers → o ≡ get_or numbers end o → o ≡ Some n → (f : Facts) × (facts_at ends end ≡ Some f) × (f.passed ≡ n)
-served-at numbers ends end n o tied inside is some_n =
-    let read = get_or_from_slice_get numbers end o None (slice_get_read numbers (length numbers) end o refl inside is) in
-    facts-there (at ends end) n (sym (tied end) ∙ read ∙ some_n)
+-- an end of which a number is told is served
+pub served-here : (ends : Ends) (end n : ℕ) (o : Option ℕ) → o ≡ option_map (λ (h : Held). h.passed) (at ends end) → o ≡ Some n → (f : Facts) × (facts_at ends end ≡ Some f) × (f.passed ≡ n)
+served-here ends end n o told some_n = facts-there (at ends end) n (sym told ∙ some_n)
 
 -- one stream for each station
 pub begins-same : (n token : ℕ) (stream : List ℕ) → slice_get stream 0 ≡ Some token → length stream < 2 ^ 64 → All (λ t. t < 2 ^ 31) stream → Begins (replicate n (Some token)) (replicate n stream)

@@ -1,3 +1,5 @@
+//! Boards, on one thread and shared by threads: what the looks answer, and what is carried.
+
 ghost use Rattle.std.specs.Prelude.{◌≡◌, ℕ, ◌^◌, ◌<◌, ◌≤◌, List, [], ◌∷◌, replicate, IfSome, IsTrue, length, Some, slice_get};
 ghost use Rattle.std.specs.List.{All};
 ghost use Rattle.std.specs.Thread.{IsSync};
@@ -9,18 +11,17 @@ ghost use Rattle.lid_board.specs.Standing.{StandsFor};
 use lid_board::{Attended, Board, Course, Hand};
 use lid_station::{End, InLook, OutLook, PlainBoard, Side, Stations};
 use std::alloc::Global;
-use std::test::Fail;
 use std::thread::{Threads, join};
 
 /// One stream for each of some stations.
-#[derive(Drop)]
+#[derive(Clone, Copy)]
 struct Same {
     stations: usize,
-    stream: Vec<u32>,
+    stream: &'static [u32],
 }
 
 impl Course for Same {
-    ghost streams = { λ c. replicate c.stations c.stream.items };
+    ghost streams = { λ c. replicate c.stations c.stream.now };
 }
 
 /// Whether a stream has tokens of 31 bits, and some.
@@ -37,9 +38,9 @@ fn start_same(alloc: Global, cap: u32, course: &Same) -> Option<(Board, Hand)>
     requires two { 2 ≤ cap }
     requires few { cap ≤ 16 }
     ensures of { IfSome result (λ r. IsOf r.1 r.0) }
-    ensures stands { IfSome result (λ r. StandsFor (plan_of r.0) (λ _. course.now.stream.items)) }
+    ensures stands { IfSome result (λ r. StandsFor (plan_of r.0) (λ _. course.now.stream.now)) }
 {
-    if !is_stream(course.stream.as_slice()) {
+    if !is_stream(course.stream) {
         return None;
     }
     let first = course.stream[0];
@@ -126,33 +127,84 @@ fn receive(board: &Board, hand: &mut Hand, station: u32) -> Option<(InLook, Opti
     Some((look, Some(token)))
 }
 
-#[test]
-fn tells_the_words_of_a_full_station(rt: HostRuntime) -> Result<(), Fail> {
-    let stream = vec![in rt.alloc(); 5, 6, 7, 8]?;
+/// A step at a station, and what its look answers.
+#[derive(Clone, Copy)]
+enum Step {
+    /// Looks for room, and puts the stream's next token where there are both.
+    Offer(OutLook),
+    /// Looks for a token, and takes it where there is one.
+    Receive(InLook),
+    /// Looks for a token at an end that another hand has.
+    ReceiveElsewhere,
+}
+
+/// What a look and a taking give where the look answers this.
+fn received(look: InLook) -> (InLook, Option<u32>) {
+    match look {
+        InLook::Token(token) => (look, Some(token)),
+        InLook::Void(_) => (look, None),
+    }
+}
+
+fn is_as_told(board: &Board, hand: &mut Hand, station: u32, stream: &[u32], step: Step) -> bool
+    requires of { IsOf hand.old board.now }
+    requires stream { fill station < length (plan_of board.now) → stream_of (plan_of board.now) station ≡ stream.now }
+    ensures of { IsOf hand.new board.now }
+    ensures owned { (end : ℕ) → IsOwned (ends_of hand.old) end → IsOwned (ends_of hand.new) end }
+{
+    match step {
+        Step::Offer(look) => offer(board, hand, station, stream) == Some(look),
+        Step::Receive(look) => receive(board, hand, station) == Some(received(look)),
+        Step::ReceiveElsewhere => receive(board, hand, station) == None,
+    }
+}
+
+/// The number of the first step that is not as it is told, and the number of steps where all are.
+fn first_other(
+    board: &Board,
+    hand: &mut Hand,
+    station: u32,
+    stream: &[u32],
+    steps: &[Step],
+) -> usize
+    requires of { IsOf hand.old board.now }
+    requires stream { fill station < length (plan_of board.now) → stream_of (plan_of board.now) station ≡ stream.now }
+    ensures of { IsOf hand.new board.now }
+    ensures owned { (end : ℕ) → IsOwned (ends_of hand.old) end → IsOwned (ends_of hand.new) end }
+{
+    for (number, step) in steps.iter().enumerate() {
+        if !is_as_told(board, hand, station, stream, *step) {
+            return number;
+        }
+    }
+    steps.len()
+}
+
+/// A station of 3 places that starts with the token 5 of the stream 5, 6, 7, 8.
+static FULL: [Step; 6] = [
+    Step::Offer(OutLook::Room),
+    Step::Offer(OutLook::Room),
+    Step::Offer(OutLook::Stop(0x8000_0006_8000_0005)),
+    Step::Receive(InLook::Token(5)),
+    Step::Offer(OutLook::Room),
+    Step::Offer(OutLook::Stop(0x8000_0006_8000_0008)),
+];
+
+/// How many of the steps are as they are told.
+fn told_when_full(alloc: Global) -> Option<usize> {
     let course = Same {
         stations: 1,
-        stream,
+        stream: &[5, 6, 7, 8],
     };
-    let Some((board, mut hand)) = start_same(rt.alloc(), 3, &course) else {
-        return Err(Fail::new("no board"));
+    let Some((board, mut hand)) = start_same(alloc, 3, &course) else {
+        return None;
     };
-    let stream = course.stream.as_slice();
-    assert_eq!(rt; offer(&board, &mut hand, 0, stream), Some(OutLook::Room));
-    assert_eq!(rt; offer(&board, &mut hand, 0, stream), Some(OutLook::Room));
-    assert_eq!(rt;
-        offer(&board, &mut hand, 0, stream),
-        Some(OutLook::Stop(0x8000_0006_8000_0005))
-    );
-    assert_eq!(rt;
-        receive(&board, &mut hand, 0),
-        Some((InLook::Token(5), Some(5)))
-    );
-    assert_eq!(rt; offer(&board, &mut hand, 0, stream), Some(OutLook::Room));
-    assert_eq!(rt;
-        offer(&board, &mut hand, 0, stream),
-        Some(OutLook::Stop(0x8000_0006_8000_0008))
-    );
-    Ok(())
+    Some(first_other(&board, &mut hand, 0, course.stream, &FULL))
+}
+
+#[test]
+fn stations_tell_what_they_hold(rt: HostRuntime) {
+    assert_eq!(rt; told_when_full(rt.alloc()), Some(6));
 }
 
 /// Streams worked by hand: `1` for station 0, and `0 1` for station 1.
@@ -170,40 +222,6 @@ fn cross<B: Sync, H: Send>(_board: &B, hand: H) -> H
     hand
 }
 
-#[test]
-fn carries_the_worked_streams(rt: HostRuntime) -> Result<(), Fail> {
-    let (board, mut hand) = Board::start(rt.alloc(), &[Some(1), Some(0)], &[2, 2], &Worked {})?;
-    assert_eq!(rt;
-        receive(&board, &mut hand, 0),
-        Some((InLook::Token(1), Some(1)))
-    );
-    assert_eq!(rt;
-        receive(&board, &mut hand, 0),
-        Some((InLook::Void(0), None))
-    );
-    assert_eq!(rt; offer(&board, &mut hand, 1, &[0, 1]), Some(OutLook::Room));
-    assert_eq!(rt;
-        offer(&board, &mut hand, 1, &[0, 1]),
-        Some(OutLook::Stop(0x8000_0001_8000_0000))
-    );
-    let end = End {
-        station: 1,
-        side: Side::Drain,
-    };
-    let Some(drainer) = part(&board, &mut hand, end) else {
-        return Err(Fail::new("no part"));
-    };
-    let mut drainer = cross(&board, drainer);
-    assert_eq!(rt;
-        receive(&board, &mut drainer, 1),
-        Some((InLook::Token(0), Some(0)))
-    );
-    assert_eq!(rt; receive(&board, &mut hand, 1), None);
-    board.join(&mut hand, drainer);
-    assert_eq!(rt; offer(&board, &mut hand, 1, &[0, 1]), Some(OutLook::Room));
-    Ok(())
-}
-
 /// Gives an end of a hand to a new one, where the hand has it.
 fn part(board: &Board, hand: &mut Hand, end: End) -> Option<Hand>
     requires of { IsOf hand.old board.now }
@@ -217,6 +235,57 @@ fn part(board: &Board, hand: &mut Hand, end: End) -> Option<Hand>
         Ok(new) => Some(new),
         Err(_) => None,
     }
+}
+
+/// Station 0 of the worked streams, at its drained end.
+static LONE: [Step; 2] = [
+    Step::Receive(InLook::Token(1)),
+    Step::Receive(InLook::Void(0)),
+];
+
+/// Station 1 of the worked streams, before its drained end goes to another hand.
+static BEFORE: [Step; 2] = [
+    Step::Offer(OutLook::Room),
+    Step::Offer(OutLook::Stop(0x8000_0001_8000_0000)),
+];
+
+/// How many steps are as they are told at station 1, whose drained end goes to another hand for a
+/// while.
+fn told_by_two_hands(board: &Board, hand: &mut Hand) -> Option<usize>
+    requires of { IsOf hand.old board.now }
+    requires stream { stream_of (plan_of board.now) 1 ≡ 0 ∷ 1 ∷ [] }
+    ensures of { IsOf hand.new board.now }
+{
+    let before = first_other(board, hand, 1, &[0, 1], &BEFORE);
+    let end = End {
+        station: 1,
+        side: Side::Drain,
+    };
+    let Some(drainer) = part(board, hand, end) else {
+        return None;
+    };
+    let mut drainer = cross(board, drainer);
+    let there = first_other(board, &mut drainer, 1, &[0, 1], &[Step::Receive(InLook::Token(0))]);
+    let here = first_other(board, hand, 1, &[0, 1], &[Step::ReceiveElsewhere]);
+    board.join(hand, drainer);
+    let after = first_other(board, hand, 1, &[0, 1], &[Step::Offer(OutLook::Room)]);
+    Some(before.saturating_add(there).saturating_add(here).saturating_add(after))
+}
+
+fn told_of_worked(alloc: Global) -> Option<(usize, usize)> {
+    let Ok((board, mut hand)) = Board::start(alloc, &[Some(1), Some(0)], &[2, 2], &Worked {}) else {
+        return None;
+    };
+    let lone = first_other(&board, &mut hand, 0, &[1], &LONE);
+    match told_by_two_hands(&board, &mut hand) {
+        Some(told) => Some((lone, told)),
+        None => None,
+    }
+}
+
+#[test]
+fn an_end_goes_to_another_hand_and_back(rt: HostRuntime) {
+    assert_eq!(rt; told_of_worked(rt.alloc()), Some((2, 5)));
 }
 
 /// Offers tokens to station 0 so many times.
@@ -276,41 +345,61 @@ fn relay<R: Threads + Sync>(
     )
 }
 
-#[test]
-fn two_threads_share_a_station(rt: HostRuntime) -> Result<(), Fail> {
-    let stream = vec![in rt.alloc(); 5, 6, 7, 8, 9, 10, 11, 12, 13, 14]?;
-    let course = Same {
-        stations: 1,
-        stream,
-    };
-    let Some((board, mut hand)) = start_same(rt.alloc(), 3, &course) else {
-        return Err(Fail::new("no board"));
-    };
+/// Parts a hand, lets two threads relay, and joins the hands: how many tokens were wrong.
+fn relayed<R: Threads + Sync>(
+    rt: &R,
+    board: &Board,
+    mut hand: Hand,
+    stream: &[u32],
+) -> Option<(Hand, u32)>
+    requires of { IsOf hand board.now }
+    requires stands { StandsFor (plan_of board.now) (λ _. stream.now) }
+    ensures { IfSome result (λ r. IsOf r.0 board.now) }
+{
     let end = End {
         station: 0,
         side: Side::Drain,
     };
-    let Some(drainer) = part(&board, &mut hand, end) else {
-        return Err(Fail::new("no part"));
+    let Some(drainer) = part(board, &mut hand, end) else {
+        return None;
     };
-    let (mut filler, (drainer, wrong)) = relay(
-        &rt,
-        &board,
-        hand,
-        drainer,
-        course.stream.as_slice(),
-    );
-    assert_eq!(rt; wrong, 0);
+    let (mut filler, (drainer, wrong)) = relay(rt, board, hand, drainer, stream);
     board.join(&mut filler, drainer);
-    for _token in 0..10 {
-        let _look = offer(&board, &mut filler, 0, course.stream.as_slice());
-        let _look = receive(&board, &mut filler, 0);
+    Some((filler, wrong))
+}
+
+/// What the next look finds after as many rounds of one offer and one taking.
+fn found_after(board: &Board, mut hand: Hand, rounds: u32, stream: &[u32]) -> Option<(InLook, Option<u32>)>
+    requires of { IsOf hand board.now }
+    requires stands { StandsFor (plan_of board.now) (λ _. stream.now) }
+{
+    for _round in 0..rounds {
+        let _look = offer(board, &mut hand, 0, stream);
+        let _look = receive(board, &mut hand, 0);
     }
-    assert_eq!(rt;
-        receive(&board, &mut filler, 0),
-        Some((InLook::Void(0), None))
-    );
-    Ok(())
+    receive(board, &mut hand, 0)
+}
+
+/// How many tokens of ten came wrong through a station between two threads, and what is found once
+/// the rest is carried too.
+fn relay_of_ten<R: Threads + Sync>(rt: &R, alloc: Global) -> Option<(u32, Option<(InLook, Option<u32>)>)> {
+    let course = Same {
+        stations: 1,
+        stream: &[5, 6, 7, 8, 9, 10, 11, 12, 13, 14],
+    };
+    let Some((board, hand)) = start_same(alloc, 3, &course) else {
+        return None;
+    };
+    let Some((hand, wrong)) = relayed(rt, &board, hand, course.stream) else {
+        return None;
+    };
+    Some((wrong, found_after(&board, hand, 10, course.stream)))
+}
+
+#[test]
+fn two_threads_share_a_station(rt: HostRuntime) {
+    let found = relay_of_ten(&rt, rt.alloc());
+    assert_eq!(rt; found, Some((0, Some((InLook::Void(0), None)))));
 }
 
 /// Whether there is room at a station for a token that the stream has.
@@ -438,6 +527,52 @@ fn worker(board: &Board, hand: &mut Hand, from: u32, to: u32) -> Option<Hand>
     Some(worker)
 }
 
+/// Two workers, one from `first` to `second`, one on to `third`.
+fn two_workers(
+    board: &Board,
+    hand: &mut Hand,
+    first: u32,
+    second: u32,
+    third: u32,
+) -> Option<(Hand, Hand)>
+    requires of { IsOf hand.old board.now }
+    ensures of { IsOf hand.new board.now }
+    ensures one { IfSome result (λ workers. IsOf workers.0 board.now) }
+    ensures two { IfSome result (λ workers. IsOf workers.1 board.now) }
+{
+    let Some(one) = worker(board, hand, first, second) else {
+        return None;
+    };
+    let Some(two) = worker(board, hand, second, third) else {
+        return None;
+    };
+    Some((one, two))
+}
+
+/// Lets four workers carry in a ring; the hand has all ends again then.
+fn carried_round<R: Threads + Sync>(
+    rt: &R,
+    board: &Board,
+    mut hand: Hand,
+    stream: &[u32],
+) -> Option<Hand>
+    requires of { IsOf hand board.now }
+    requires stands { StandsFor (plan_of board.now) (λ _. stream.now) }
+{
+    let Some((one, two)) = two_workers(board, &mut hand, 0, 1, 2) else {
+        return None;
+    };
+    let Some((three, four)) = two_workers(board, &mut hand, 2, 3, 0) else {
+        return None;
+    };
+    let ((one, two), (three, four)) = ring(rt, board, one, two, three, four, stream);
+    board.join(&mut hand, one);
+    board.join(&mut hand, two);
+    board.join(&mut hand, three);
+    board.join(&mut hand, four);
+    Some(hand)
+}
+
 /// How many tokens a station holds, by a hand with both its ends.
 fn holds(hand: &Hand, station: u32) -> u64 {
     let filled = End {
@@ -452,45 +587,27 @@ fn holds(hand: &Hand, station: u32) -> u64 {
     put.saturating_sub(hand.passed(drained).unwrap_or(0))
 }
 
-#[test]
-fn four_workers_share_a_ring(rt: HostRuntime) -> Result<(), Fail> {
-    let stream = vec![in rt.alloc(); 7; 40]?;
+/// How many tokens four stations hold that started with one each, after four workers carried them
+/// in a ring.
+fn held_in_ring<R: Threads + Sync>(rt: &R, alloc: Global) -> Option<u64> {
     let course = Same {
         stations: 4,
-        stream,
+        stream: &[7; 40],
     };
-    let Some((board, mut hand)) = start_same(rt.alloc(), 2, &course) else {
-        return Err(Fail::new("no board"));
+    let Some((board, hand)) = start_same(alloc, 2, &course) else {
+        return None;
     };
-    let Some(one) = worker(&board, &mut hand, 0, 1) else {
-        return Err(Fail::new("no worker"));
+    let Some(hand) = carried_round(rt, &board, hand, course.stream) else {
+        return None;
     };
-    let Some(two) = worker(&board, &mut hand, 1, 2) else {
-        return Err(Fail::new("no worker"));
-    };
-    let Some(three) = worker(&board, &mut hand, 2, 3) else {
-        return Err(Fail::new("no worker"));
-    };
-    let Some(four) = worker(&board, &mut hand, 3, 0) else {
-        return Err(Fail::new("no worker"));
-    };
-    let ((one, two), (three, four)) = ring(
-        &rt,
-        &board,
-        one,
-        two,
-        three,
-        four,
-        course.stream.as_slice(),
-    );
-    board.join(&mut hand, one);
-    board.join(&mut hand, two);
-    board.join(&mut hand, three);
-    board.join(&mut hand, four);
     let half = holds(&hand, 0).saturating_add(holds(&hand, 1));
     let rest = holds(&hand, 2).saturating_add(holds(&hand, 3));
-    assert_eq!(rt; half.saturating_add(rest), 4);
-    Ok(())
+    Some(half.saturating_add(rest))
+}
+
+#[test]
+fn four_workers_share_a_ring(rt: HostRuntime) {
+    assert_eq!(rt; held_in_ring(&rt, rt.alloc()), Some(4));
 }
 
 /// Streams worked by hand: `5 6 7 8` for station 0, and `9` for station 1.
@@ -513,25 +630,60 @@ fn receive_plain(plain: &mut PlainBoard, station: u32) -> Option<InLook> {
     Some(InLook::Token(plain.take(station)))
 }
 
-#[test]
-fn closes_into_plain_stations(rt: HostRuntime) -> Result<(), Fail> {
-    let (board, mut hand) = Board::start(rt.alloc(), &[Some(5), None], &[3, 2], &Turned {})?;
-    let six = offer(&board, &mut hand, 0, &[5, 6, 7, 8]);
-    let seven = offer(&board, &mut hand, 0, &[5, 6, 7, 8]);
-    let five = receive(&board, &mut hand, 0);
-    let eight = offer(&board, &mut hand, 0, &[5, 6, 7, 8]);
-    let mut plain = PlainBoard::start(rt.alloc(), &[None, None], &[3, 2])?;
+/// Steps at station 0 of 3 places, before the board is closed.
+static TURNED: [Step; 4] = [
+    Step::Offer(OutLook::Room),
+    Step::Offer(OutLook::Room),
+    Step::Receive(InLook::Token(5)),
+    Step::Offer(OutLook::Room),
+];
+
+/// How many of those steps are as they are told, and the plain stations after them.
+fn closed(alloc: Global) -> Option<(usize, PlainBoard)>
+    ensures { IfSome result (λ r. length r.1.pairs.items ≡ 2) }
+{
+    let Ok(mut plain) = PlainBoard::start(alloc, &[None, None], &[3, 2]) else {
+        return None;
+    };
+    let Ok((board, mut hand)) = Board::start(alloc, &[Some(5), None], &[3, 2], &Turned {}) else {
+        return None;
+    };
+    let told = first_other(&board, &mut hand, 0, &[5, 6, 7, 8], &TURNED);
     board.close(hand, &mut plain);
+    Some((told, plain))
+}
+
+/// Whether the looks at plain stations answer these.
+fn are_received(plain: &mut PlainBoard, looks: &[(u32, InLook)]) -> bool {
+    for (station, look) in looks {
+        if receive_plain(plain, *station) != Some(*look) {
+            return false;
+        }
+    }
+    true
+}
+
+/// What plain stations hold, by their numbers.
+static HELD: [(u32, InLook); 5] = [
+    (0, InLook::Token(6)),
+    (0, InLook::Token(7)),
+    (0, InLook::Token(8)),
+    (0, InLook::Void(0)),
+    (1, InLook::Void(0)),
+];
+
+/// How many steps are as they are told, what is found for room, and whether the plain stations hold
+/// what they must.
+fn left_after_close(alloc: Global) -> Option<(usize, OutLook, bool)> {
+    let Some((told, mut plain)) = closed(alloc) else {
+        return None;
+    };
     let full = plain.look_out(0);
-    assert_eq!(rt; six, Some(OutLook::Room));
-    assert_eq!(rt; seven, Some(OutLook::Room));
-    assert_eq!(rt; five, Some((InLook::Token(5), Some(5))));
-    assert_eq!(rt; eight, Some(OutLook::Room));
-    assert_eq!(rt; full, OutLook::Stop(0x8000_0006_8000_0008));
-    assert_eq!(rt; receive_plain(&mut plain, 0), Some(InLook::Token(6)));
-    assert_eq!(rt; receive_plain(&mut plain, 0), Some(InLook::Token(7)));
-    assert_eq!(rt; receive_plain(&mut plain, 0), Some(InLook::Token(8)));
-    assert_eq!(rt; receive_plain(&mut plain, 0), Some(InLook::Void(0)));
-    assert_eq!(rt; receive_plain(&mut plain, 1), Some(InLook::Void(0)));
-    Ok(())
+    Some((told, full, are_received(&mut plain, &HELD)))
+}
+
+#[test]
+fn a_board_closes_into_plain_stations(rt: HostRuntime) {
+    let full = OutLook::Stop(0x8000_0006_8000_0008);
+    assert_eq!(rt; left_after_close(rt.alloc()), Some((4, full, true)));
 }

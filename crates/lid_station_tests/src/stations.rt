@@ -1,5 +1,18 @@
+//! Plain stations, with the answers that follow from what they hold.
+
+ghost use Rattle.std.specs.Prelude.{◌<◌};
+
 use lid_station::{InLook, OutLook, PlainBoard, Stations};
 use std::test::Fail;
+
+/// A step at station 0, and what its look answers.
+#[derive(Clone, Copy)]
+enum Step {
+    /// Looks for room, and puts the token where there is room.
+    Offer(u32, OutLook),
+    /// Looks for a token, and takes it where there is one.
+    Receive(InLook),
+}
 
 /// Looks for room at station 0, and puts the token where there is room.
 fn offer(board: &mut PlainBoard, token: u32) -> Option<OutLook> {
@@ -25,51 +38,82 @@ fn receive(board: &mut PlainBoard) -> Option<InLook> {
     }
 }
 
-#[test]
-fn tells_the_words_of_a_full_station(rt: HostRuntime) -> Result<(), Fail> {
-    let mut board = PlainBoard::start(rt.alloc(), &[Some(5)], &[3])?;
-    assert_eq!(rt; offer(&mut board, 6), Some(OutLook::Room));
-    assert_eq!(rt; offer(&mut board, 7), Some(OutLook::Room));
-    assert_eq!(rt;
-        offer(&mut board, 8),
-        Some(OutLook::Stop(0x8000_0006_8000_0005))
-    );
-    assert_eq!(rt; receive(&mut board), Some(InLook::Token(5)));
-    assert_eq!(rt; offer(&mut board, 8), Some(OutLook::Room));
-    assert_eq!(rt;
-        offer(&mut board, 9),
-        Some(OutLook::Stop(0x8000_0006_8000_0008))
-    );
-    assert_eq!(rt; receive(&mut board), Some(InLook::Token(6)));
-    assert_eq!(rt; offer(&mut board, 9), Some(OutLook::Room));
-    assert_eq!(rt; offer(&mut board, 10), Some(OutLook::Stop(0x8000_0007)));
-    Ok(())
-}
-
-#[test]
-fn goes_round_at_the_most_places(rt: HostRuntime) -> Result<(), Fail> {
-    let mut board = PlainBoard::start(rt.alloc(), &[None], &[16])?;
-    for round in 0..2 {
-        for token in 0..16 {
-            assert_eq!(rt; offer(&mut board, 100 * round + token), Some(OutLook::Room));
-        }
-        assert!(rt; matches!(offer(&mut board, 99), Some(OutLook::Stop(_))));
-        for token in 0..16 {
-            assert_eq!(rt;
-                receive(&mut board),
-                Some(InLook::Token(100 * round + token))
-            );
-        }
-        assert_eq!(rt; receive(&mut board), Some(InLook::Void(0)));
+fn is_as_told(board: &mut PlainBoard, step: Step) -> bool {
+    match step {
+        Step::Offer(token, look) => offer(board, token) == Some(look),
+        Step::Receive(look) => receive(board) == Some(look),
     }
+}
+
+/// The number of the first step that is not as it is told.
+fn first_other(board: &mut PlainBoard, steps: &[Step]) -> Option<usize> {
+    for (number, step) in steps.iter().enumerate() {
+        if !is_as_told(board, *step) {
+            return Some(number);
+        }
+    }
+    None
+}
+
+/// A station of 3 places that starts with the token 5.
+static FULL: [Step; 10] = [
+    Step::Offer(6, OutLook::Room),
+    Step::Offer(7, OutLook::Room),
+    Step::Offer(8, OutLook::Stop(0x8000_0006_8000_0005)),
+    Step::Receive(InLook::Token(5)),
+    Step::Offer(8, OutLook::Room),
+    Step::Offer(9, OutLook::Stop(0x8000_0006_8000_0008)),
+    Step::Receive(InLook::Token(6)),
+    Step::Offer(9, OutLook::Room),
+    Step::Offer(10, OutLook::Stop(0x8000_0007)),
+    Step::Receive(InLook::Token(7)),
+];
+
+/// A station of 2 places that starts empty.
+static EMPTY: [Step; 3] = [
+    Step::Receive(InLook::Void(0)),
+    Step::Offer(2_147_483_647, OutLook::Room),
+    Step::Receive(InLook::Token(2_147_483_647)),
+];
+
+#[test]
+fn stations_tell_what_they_hold(rt: HostRuntime) -> Result<(), Fail> {
+    let mut board = PlainBoard::start(rt.alloc(), &[Some(5)], &[3])?;
+    assert_eq!(rt; first_other(&mut board, &FULL), None);
     Ok(())
 }
 
 #[test]
-fn starts_empty(rt: HostRuntime) -> Result<(), Fail> {
+fn stations_start_empty(rt: HostRuntime) -> Result<(), Fail> {
     let mut board = PlainBoard::start(rt.alloc(), &[None, Some(5)], &[2, 2])?;
-    assert_eq!(rt; receive(&mut board), Some(InLook::Void(0)));
-    assert_eq!(rt; offer(&mut board, 2_147_483_647), Some(OutLook::Room));
-    assert_eq!(rt; receive(&mut board), Some(InLook::Token(2_147_483_647)));
+    assert_eq!(rt; first_other(&mut board, &EMPTY), None);
+    Ok(())
+}
+
+/// Whether 16 tokens go into an empty station of 16 places, no more, and come out again.
+fn goes_round(board: &mut PlainBoard, first: u32) -> bool
+    requires { first < 1000 }
+{
+    for token in first..first + 16 {
+        if offer(board, token) != Some(OutLook::Room) {
+            return false;
+        }
+    }
+    if !matches!(offer(board, 99), Some(OutLook::Stop(_))) {
+        return false;
+    }
+    for token in first..first + 16 {
+        if receive(board) != Some(InLook::Token(token)) {
+            return false;
+        }
+    }
+    receive(board) == Some(InLook::Void(0))
+}
+
+#[test]
+fn sixteen_places_go_round(rt: HostRuntime) -> Result<(), Fail> {
+    let mut board = PlainBoard::start(rt.alloc(), &[None], &[16])?;
+    let first = goes_round(&mut board, 0);
+    assert!(rt; first && goes_round(&mut board, 100));
     Ok(())
 }

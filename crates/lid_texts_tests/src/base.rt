@@ -1,6 +1,8 @@
+//! Logical lines, files and outputs in memory and of the system, and gates.
+
 use lid_base::{
-    DirShelf, File, Gate, Items, Line, MeetGate, MemShelf, MemSink, Name, OpenGate, Shelf,
-    ShelfFailed, Sink, SinkFailed, StdSink, Text, TextFault, lines,
+    DirShelf, File, Gate, Items, Line, MeetGate, MemShelf, MemSink, Name, OpenGate, Shelf, Sink,
+    StdSink, Text, TextFault, lines,
 };
 use std::alloc::{AllocError, Global};
 use std::convert::AsStr;
@@ -18,92 +20,160 @@ fn is_line(line: &Line, number: u32, words: &[&[u8]]) -> bool {
             .all(|(word, want)| word.as_slice() == *want)
 }
 
-fn name(alloc: Global, bytes: &[u8]) -> Result<Name, AllocError> {
-    Ok(Items::from_vec(Vec::from_slice(alloc, bytes)?))
+/// Whether the logical lines of a text have these numbers and words.
+fn are_lines(alloc: Global, text: &[u8], wanted: &[(u32, &[&[u8]])]) -> bool {
+    let Ok(found) = lines(alloc, text, 1024) else {
+        return false;
+    };
+    if found.len() != wanted.len() {
+        return false;
+    }
+    for (line, (number, words)) in found.as_slice().iter().zip(wanted) {
+        if !is_line(line, *number, words) {
+            return false;
+        }
+    }
+    true
 }
 
 #[test]
-fn joins_lines(rt: HostRuntime) -> Result<(), Fail> {
+fn lines_are_joined(rt: HostRuntime) {
     let text = b"# top \\\n.model  a\tb \\ # goes on\n c\\d\r\n\n \\\n.end\nlast \\";
-    let found = lines(rt.alloc(), text, 1024)?;
-    let found = found.as_slice();
-    assert_eq!(rt; found.len(), 3);
-    assert!(rt; is_line(&found[0], 2, &[b".model", b"a", b"b", b"c\\d"]));
-    assert!(rt; is_line(&found[1], 5, &[b".end"]));
-    assert!(rt; is_line(&found[2], 7, &[b"last"]));
-    Ok(())
+    let wanted: [(u32, &[&[u8]]); 3] = [
+        (2, &[b".model", b"a", b"b", b"c\\d"]),
+        (5, &[b".end"]),
+        (7, &[b"last"]),
+    ];
+    assert!(rt; are_lines(rt.alloc(), text, &wanted));
 }
 
-#[test]
-fn refuses_bytes(rt: HostRuntime) {
-    let cases: [(&[u8], u32); 5] = [
-        (b"a\\\\", 1),
-        (b"a\nb\\ c\n", 2),
-        (b"\n\na\x7f", 3),
-        (b"a\x00 # b", 1),
-        (b"# \xff\n\xff", 2),
-    ];
-    for (text, line) in cases {
-        assert!(rt; text.len() < 100);
-        assert_eq!(rt;
-            lines(rt.alloc(), text, 1024).err(),
-            Some(TextFault::BadByte { line })
-        );
+/// What is told of a text: the name of its fault and the line, or how many logical lines it has.
+type Told = (&'static str, u64);
+
+fn told_of(alloc: Global, text: &[u8]) -> Told {
+    match lines(alloc, text, 1024) {
+        Ok(found) => ("lines", found.len() as u64),
+        Err(TextFault::BadByte { line }) => ("BadByte", u64::from(line)),
+        Err(TextFault::NameTooLong { line }) => ("NameTooLong", u64::from(line)),
+        Err(TextFault::Memory) => ("Memory", 0),
     }
 }
 
+/// Texts with a bad byte, and its line.
+static BAD_BYTES: [(&[u8], u64); 5] = [
+    (b"a\\\\", 1),
+    (b"a\nb\\ c\n", 2),
+    (b"\n\na\x7f", 3),
+    (b"a\x00 # b", 1),
+    (b"# \xff\n\xff", 2),
+];
+
 #[test]
-fn refuses_long_words(rt: HostRuntime) -> Result<(), Fail> {
-    let mut text = b"first\n".to_vec(rt.alloc())?;
-    for _ in 0..1024 {
+fn bad_bytes_are_told(rt: HostRuntime) {
+    for (text, line) in &BAD_BYTES {
+        assert_eq!(rt; told_of(rt.alloc(), text), ("BadByte", *line), "{text:?}");
+    }
+}
+
+/// What is told of a text whose second line is one word of so many bytes.
+fn told_of_word(alloc: Global, bytes: usize) -> Result<Told, AllocError> {
+    let mut text = Vec::from_slice(alloc, b"first\n")?;
+    for _ in 0..bytes {
         text.push(b'x')?;
     }
-    assert!(rt; text.len() < 2000);
-    let found = lines(rt.alloc(), text.as_slice(), 1024)?;
-    assert_eq!(rt; found.len(), 2);
-    text.push(b'x')?;
-    assert!(rt; text.len() < 2000);
-    let fault = lines(rt.alloc(), text.as_slice(), 1024).err();
-    assert_eq!(rt; fault, Some(TextFault::NameTooLong { line: 2 }));
-    Ok(())
+    Ok(told_of(alloc, text.as_slice()))
 }
 
 #[test]
-fn fetches_from_memory(rt: HostRuntime) -> Result<(), Fail> {
-    let alloc = rt.alloc();
-    let mut files = Vec::new(alloc);
-    for bytes in [b"hello", b"other"] {
-        files.push(File {
-            name: name(alloc, b"a")?,
-            bytes: name(alloc, bytes)?,
-        })?;
+fn long_words_are_told(rt: HostRuntime) -> Result<(), Fail> {
+    assert_eq!(rt; told_of_word(rt.alloc(), 1024)?, ("lines", 2));
+    assert_eq!(rt; told_of_word(rt.alloc(), 1025)?, ("NameTooLong", 2));
+    Ok(())
+}
+
+/// Whether a fetch into `into` gives these bytes, or fails where there are none.
+fn is_fetched<S: Shelf>(
+    shelf: &mut S,
+    name: &str,
+    at: u64,
+    into: &mut [u8],
+    wanted: Option<&[u8]>,
+) -> bool {
+    let fetched = shelf.fetch(name, at, into);
+    match (fetched, wanted) {
+        (Ok(count), Some(bytes)) => count == bytes.len() && into.starts_with(bytes),
+        (Err(_), None) => true,
+        _ => false,
     }
-    let mut shelf = MemShelf::new(files, [2].to_vec(alloc)?);
+}
+
+fn file(alloc: Global, name: &[u8], bytes: &[u8]) -> Result<File, AllocError> {
+    let name = Vec::from_slice(alloc, name)?;
+    let bytes = Vec::from_slice(alloc, bytes)?;
+    Ok(File {
+        name: Items::from_vec(name),
+        bytes: Items::from_vec(bytes),
+    })
+}
+
+/// A shelf with two files of one name, whose second call fails.
+fn shelf(alloc: Global) -> Result<MemShelf, AllocError> {
+    let mut files = Vec::new(alloc);
+    files.push(file(alloc, b"a", b"hello")?)?;
+    files.push(file(alloc, b"a", b"other")?)?;
+    let failing = Vec::from_slice(alloc, &[2])?;
+    Ok(MemShelf::new(files, failing))
+}
+
+/// Fetches of 3 bytes at a name and a place, and what they give.
+static FETCHES: [(&str, u64, Option<&[u8]>); 5] = [
+    ("a", 1, Some(b"ell")),
+    ("a", 1, None),
+    ("a", 4, Some(b"o")),
+    ("a", 9, Some(b"")),
+    ("b", 0, None),
+];
+
+#[test]
+fn files_are_fetched_from_memory(rt: HostRuntime) -> Result<(), Fail> {
+    let mut shelf = shelf(rt.alloc())?;
     let mut into = [0u8; 3];
-    assert_eq!(rt; shelf.fetch("a", 1, &mut into), Ok(3));
-    assert_eq!(rt; &into, b"ell");
-    assert_eq!(rt; shelf.fetch("a", 1, &mut into), Err(ShelfFailed));
-    assert_eq!(rt; shelf.fetch("a", 4, &mut into), Ok(1));
-    assert_eq!(rt; into[0], b'o');
-    assert_eq!(rt; shelf.fetch("a", 9, &mut into), Ok(0));
-    assert_eq!(rt; shelf.fetch("b", 0, &mut into), Err(ShelfFailed));
+    for (name, at, bytes) in &FETCHES {
+        assert!(rt; is_fetched(&mut shelf, name, *at, &mut into, *bytes), "{name} {at}");
+    }
+    Ok(())
+}
+
+/// Writes of pieces, and whether they succeed: the second call fails, and more than 6 bytes do not
+/// fit.
+static WRITES: [(&[u8], bool); 4] = [
+    (b"abc", true),
+    (b"d", false),
+    (b"efgh", false),
+    (b"xyz", true),
+];
+
+/// Whether writes to an output succeed as they should.
+fn are_written<S: Sink>(sink: &mut S, writes: &[(&[u8], bool)]) -> bool {
+    for (piece, is_written) in writes {
+        if sink.write(piece).is_ok() != *is_written {
+            return false;
+        }
+    }
+    true
+}
+
+#[test]
+fn bytes_are_written_to_memory(rt: HostRuntime) -> Result<(), Fail> {
+    let failing = Vec::from_slice(rt.alloc(), &[2])?;
+    let mut sink = MemSink::new(rt.alloc(), 6, failing)?;
+    let as_told = are_written(&mut sink, &WRITES);
+    assert!(rt; as_told && sink.written() == b"abcxyz".as_slice());
     Ok(())
 }
 
 #[test]
-fn writes_to_memory(rt: HostRuntime) -> Result<(), Fail> {
-    let alloc = rt.alloc();
-    let mut sink = MemSink::new(alloc, 6, [2].to_vec(alloc)?)?;
-    assert_eq!(rt; sink.write(b"abc"), Ok(()));
-    assert_eq!(rt; sink.write(b"d"), Err(SinkFailed));
-    assert_eq!(rt; sink.write(b"efgh"), Err(SinkFailed));
-    assert_eq!(rt; sink.write(b"xyz"), Ok(()));
-    assert_eq!(rt; sink.written(), b"abcxyz".as_slice());
-    Ok(())
-}
-
-#[test]
-fn passes_gates(rt: HostRuntime) {
+fn gates_are_passed(rt: HostRuntime) {
     OpenGate.pass(0, 0);
     let gate = MeetGate::new(2, 3);
     gate.pass(0, 0);
@@ -116,24 +186,24 @@ fn passes_gates(rt: HostRuntime) {
 }
 
 #[test]
-fn sees_text(rt: HostRuntime) -> Result<(), Fail> {
+fn a_text_is_seen(rt: HostRuntime) -> Result<(), Fail> {
     let text = Text::new(String::from_str(rt.alloc(), "copy")?);
-    assert_eq!(rt; text.as_str(), "copy");
+    assert!(rt; text.as_str() == "copy");
     Ok(())
 }
 
+/// The file that a test writes.
+const PATH: &str = "lid_base_written.txt";
+
 #[test]
-fn writes_and_fetches_files(rt: HostRuntime) -> Result<(), Fail> {
-    let path = "lid_base_written.txt";
-    let mut sink = StdSink::new(fs::create(&rt, path)?);
-    assert_eq!(rt; sink.write(b"one "), Ok(()));
-    assert_eq!(rt; sink.write(b"two"), Ok(()));
+fn files_are_written_and_fetched(rt: HostRuntime) -> Result<(), Fail> {
+    let mut sink = StdSink::new(fs::create(&rt, PATH)?);
+    assert!(rt; are_written(&mut sink, &[(b"one ", true), (b"two", true)]));
     let mut shelf = DirShelf::new(&rt);
     let mut into = [0u8; 5];
-    assert_eq!(rt; shelf.fetch(path, 2, &mut into), Ok(5));
-    assert_eq!(rt; &into, b"e two");
-    assert_eq!(rt; shelf.fetch(path, 7, &mut into), Ok(0));
-    fs::remove_file(&rt, path)?;
-    assert_eq!(rt; shelf.fetch(path, 0, &mut into), Err(ShelfFailed));
+    assert!(rt; is_fetched(&mut shelf, PATH, 2, &mut into, Some(b"e two")));
+    assert!(rt; is_fetched(&mut shelf, PATH, 7, &mut into, Some(b"")));
+    fs::remove_file(&rt, PATH)?;
+    assert!(rt; is_fetched(&mut shelf, PATH, 0, &mut into, None));
     Ok(())
 }

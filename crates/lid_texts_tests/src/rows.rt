@@ -56,16 +56,13 @@ fn told_of(alloc: Global, text: &[u8], letters: &[u8], outs: u32) -> Told {
     }
 }
 
-/// What a text is, read and printed again.
-fn printed(alloc: Global, text: &[u8], letters: &[u8]) -> Option<Vec<u8>> {
+/// Whether a text, read and printed again, is this; nothing where it is no rows.
+fn is_printed(alloc: Global, text: &[u8], letters: &[u8], want: &[u8]) -> bool {
     let Ok(rows) = rows_of(alloc, text, letters, 1) else {
-        return None;
+        return want.is_empty();
     };
     let mut into = Vec::new(alloc);
-    match print_rows(&rows, &mut into) {
-        Ok(()) => Some(into),
-        Err(_) => None,
-    }
+    print_rows(&rows, &mut into).is_ok() && into.as_slice() == want
 }
 
 /// Whether the rows are one column of this name and these bits.
@@ -108,10 +105,7 @@ static TEXTS: [(&[u8], &[u8], &[u8]); 7] = [
 #[test]
 fn what_was_read_is_printed(rt: HostRuntime) {
     for (text, letters, want) in &TEXTS {
-        match printed(rt.alloc(), text, letters) {
-            Some(got) => assert_eq!(rt; got.as_slice(), *want),
-            None => assert_eq!(rt; want.len(), 0),
-        }
+        assert!(rt; is_printed(rt.alloc(), text, letters, want), "{text:?}");
     }
 }
 
@@ -158,21 +152,32 @@ fn told_of_comment(alloc: Global, bytes: usize) -> Result<Told, AllocError> {
     Ok(told_of(alloc, text.as_slice(), b"d", 1))
 }
 
+/// Numbers of rows and of outputs, and what is told.
+static MANY_ROWS: [(u32, u32, Told); 4] = [
+    (1_000_000, 67, NO_FAULT),
+    (1_000_001, 1, ("Limit Rows", 1_000_001)),
+    (986_895, 68, NO_FAULT),
+    (986_896, 68, ("Limit OutBits", 67_108_928)),
+];
+
+/// Numbers of bytes, and what is told.
+static MANY_BYTES: [(usize, Told); 2] = [
+    (67_108_864, ("Header", 0)),
+    (67_108_865, ("Limit FileBytes", 67_108_865)),
+];
+
 #[test]
-fn limits_are_told(rt: HostRuntime) -> Result<(), Fail> {
-    for (rows, outs, want) in [
-        (1_000_000, 67, NO_FAULT),
-        (1_000_001, 1, ("Limit Rows", 1_000_001)),
-        (986_895, 68, NO_FAULT),
-        (986_896, 68, ("Limit OutBits", 67_108_928)),
-    ] {
-        assert_eq!(rt; told_of_rows(rt.alloc(), rows, outs)?, want, "{rows}");
+fn limits_on_rows_are_told(rt: HostRuntime) -> Result<(), Fail> {
+    for (rows, outs, want) in &MANY_ROWS {
+        assert_eq!(rt; told_of_rows(rt.alloc(), *rows, *outs)?, *want, "{rows}");
     }
-    for (bytes, want) in [
-        (67_108_864, ("Header", 0)),
-        (67_108_865, ("Limit FileBytes", 67_108_865)),
-    ] {
-        assert_eq!(rt; told_of_comment(rt.alloc(), bytes)?, want, "{bytes}");
+    Ok(())
+}
+
+#[test]
+fn limits_on_bytes_are_told(rt: HostRuntime) -> Result<(), Fail> {
+    for (bytes, want) in &MANY_BYTES {
+        assert_eq!(rt; told_of_comment(rt.alloc(), *bytes)?, *want, "{bytes}");
     }
     Ok(())
 }

@@ -173,22 +173,25 @@ fn is_expected(job: Option<&Job>, expected: Option<Strict>) -> bool {
     }
 }
 
-#[test]
-fn words_are_the_jobs_of_the_table(rt: HostRuntime) -> Result<(), Fail> {
-    for (words, expected) in &CASES {
-        let texts = texts_of(rt.alloc(), words)?;
-        let job = read_words(rt.alloc(), &texts)?;
-        assert!(rt; is_expected(job.as_ref(), *expected), "{words:?}");
-    }
-    Ok(())
+/// Whether words are this job, or none.
+fn are_words_of(
+    alloc: Global,
+    words: &[&str],
+    expected: Option<Strict>,
+) -> Result<bool, AllocError> {
+    let texts = texts_of(alloc, words)?;
+    let job = read_words(alloc, &texts)?;
+    Ok(is_expected(job.as_ref(), expected))
 }
 
 #[test]
-fn no_option_of_another_command_stands(rt: HostRuntime) -> Result<(), Fail> {
+fn words_are_the_jobs_of_the_table(rt: HostRuntime) -> Result<(), Fail> {
+    for (words, expected) in &CASES {
+        assert!(rt; are_words_of(rt.alloc(), words, *expected)?, "{words:?}");
+    }
     for option in &OTHERS {
-        let texts = texts_of(rt.alloc(), &["strict", "a", "b", option])?;
-        let job = read_words(rt.alloc(), &texts)?;
-        assert!(rt; job.is_none(), "{option}");
+        let words = ["strict", "a", "b", *option];
+        assert!(rt; are_words_of(rt.alloc(), &words, None)?, "{option}");
     }
     Ok(())
 }

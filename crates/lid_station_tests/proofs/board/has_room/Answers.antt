@@ -1,11 +1,11 @@
-use Rattle.std.proofs.Common.{arith}
 use Rattle.lid_station.specs.Boards.{fill}
-use Rattle.lid_board.proofs.StillLemmas.{served-at, still-back}
+use Rattle.lid_board.specs.Owners.{ends_of}
+use Rattle.lid_station_tests.proofs.StillLemmas.{served-here, still-back}
 use Rattle.lid_station_tests.proofs.board.has_room.Goals as goal
 
 pub look_out-requires : goal.look_out-requires
 look_out-requires c =
-    let there = served-at c.args.hand.now.ends.items c.args.hand.now.seat.me.0.ends (fill c.args.station) c.in-Some.passed c.index.result.now c.args.hand.now.tied (omega arith) c.index.ensures c.in-Some.is in
+    let there = served-here (ends_of c.args.hand.now) (fill c.args.station) c.in-Some.passed c.passed.result c.passed.ensures c.in-Some.is in
     (there.0, there.1)
 
 pub returns-in-Room : goal.returns-in-Room

@@ -1,12 +1,12 @@
-use Rattle.std.proofs.Common.{◌∙◌, arith}
+use Rattle.std.proofs.Common.{◌∙◌}
 use Rattle.lid_station.specs.Boards.{drain, advanced}
 use Rattle.lid_board.specs.Owners.{ends_of}
-use Rattle.lid_board.proofs.StillLemmas.{served-at, still-back, owned-kept, owned-back}
+use Rattle.lid_station_tests.proofs.StillLemmas.{served-here, still-back, owned-kept, owned-back}
 use Rattle.lid_station_tests.proofs.board.receive.Goals as goal
 
 pub look_in-look-requires : goal.look_in-look-requires
 look_in-look-requires c =
-    let there = served-at c.args.hand.now.ends.items c.args.hand.now.seat.me.0.ends (drain c.args.station) c.in-Some._passed c.index.result.now c.args.hand.now.tied (omega arith) c.index.ensures c.in-Some.is in
+    let there = served-here (ends_of c.args.hand.now) (drain c.args.station) c.in-Some._passed c.passed.result c.passed.ensures c.in-Some.is in
     (there.0, there.1)
 
 pub returns-in_default-look-clause-of : goal.returns-in_default-look-clause-of
