@@ -5,21 +5,16 @@
 
 #[cfg(test)]
 mod check_tests;
-mod fault;
 #[cfg(test)]
 mod net_tests;
-mod run;
 #[cfg(test)]
 mod tests;
-mod top;
-mod unaccepted;
 
-use fault::{say_memory, say_usage};
 use lid_base::{DirShelf, OpenGate, Sink, StdSink, Text};
+use lid_top::{lid_run, say_memory, say_usage};
 use std::env::Env;
 use std::process::ExitCode;
 use std::{env, io};
-use top::lid_run;
 
 /// The words after the program's name.
 fn words_of(rt: &(impl Env + AllocGlobal)) -> io::Result<Vec<Text>> {

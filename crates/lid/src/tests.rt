@@ -2,8 +2,8 @@
 
 ghost use Rattle.std.specs.Prelude.{None};
 
-use crate::top::lid_run;
 use lid_base::{File, Items, MemShelf, MemSink, OpenGate, Shelf, ShelfFailed, Text};
+use lid_top::lid_run;
 use std::alloc::{AllocError, Global};
 use std::process::Abort;
 use std::test::Fail;
@@ -34,6 +34,14 @@ pub const NONE_FAILS: Failing<'static> = Failing {
     says: &[],
 };
 
+/// What a run is to leave: its status, and all that it wrote.
+#[derive(Clone, Copy)]
+pub struct Left<'a> {
+    pub status: u8,
+    pub out: &'a str,
+    pub err: &'a str,
+}
+
 fn words_of(alloc: Global, words: &[&str]) -> Result<Vec<Text>, AllocError> {
     let mut texts = Vec::new(alloc);
     for word in words {
@@ -42,15 +50,57 @@ fn words_of(alloc: Global, words: &[&str]) -> Result<Vec<Text>, AllocError> {
     Ok(texts)
 }
 
+fn bytes_of(alloc: Global, text: &str) -> Result<Items<u8>, AllocError> {
+    Ok(Items::from_vec(Vec::from_slice(alloc, text.as_bytes())?))
+}
+
 fn file_of(alloc: Global, name: &str, text: &str) -> Result<File, AllocError> {
     Ok(File {
-        name: Items::from_vec(Vec::from_slice(alloc, name.as_bytes())?),
-        bytes: Items::from_vec(Vec::from_slice(alloc, text.as_bytes())?),
+        name: bytes_of(alloc, name)?,
+        bytes: bytes_of(alloc, text)?,
     })
 }
 
-fn numbers_of(alloc: Global, numbers: &[u64]) -> Result<Vec<u64>, AllocError> {
-    Vec::from_slice(alloc, numbers)
+fn shelf_of(
+    alloc: Global,
+    files: &[(&str, &str)],
+    fetches: &[u64],
+) -> Result<MemShelf, AllocError> {
+    let mut held = Vec::new(alloc);
+    for (name, text) in files {
+        held.push(file_of(alloc, name, text)?)?;
+    }
+    Ok(MemShelf::new(held, Vec::from_slice(alloc, fetches)?))
+}
+
+fn sink_of(alloc: Global, writes: &[u64]) -> Result<MemSink, AllocError> {
+    let failing = Vec::from_slice(alloc, writes)?;
+    MemSink::new(alloc, 1_048_576, failing)
+}
+
+/// Runs the words over a shelf in memory.
+fn run_over<R: Threads + AllocGlobal + Sync, S: Shelf>(
+    rt: &R,
+    words: &[&str],
+    shelf: &mut S,
+    failing: Failing<'_>,
+) -> Result<Ran, AllocError> {
+    let words = words_of(rt.alloc(), words)?;
+    let out = sink_of(rt.alloc(), failing.writes)?;
+    let err = sink_of(rt.alloc(), failing.says)?;
+    Ok(run_words(rt, &words, shelf, out, err))
+}
+
+/// Runs the words, and keeps what is left.
+fn run_words<R: Threads + AllocGlobal + Sync, S: Shelf>(
+    rt: &R,
+    words: &[Text],
+    shelf: &mut S,
+    mut out: MemSink,
+    mut err: MemSink,
+) -> Ran {
+    let status = lid_run(rt, words, shelf, &mut out, &mut err, &OpenGate);
+    Ran { status, out, err }
 }
 
 /// Runs the words over files in memory.
@@ -60,17 +110,32 @@ pub fn run_failing<R: Threads + AllocGlobal + Sync>(
     files: &[(&str, &str)],
     failing: Failing<'_>,
 ) -> Result<Ran, AllocError> {
-    let alloc = rt.alloc();
-    let words = words_of(alloc, words)?;
-    let mut held = Vec::new(alloc);
-    for (name, text) in files {
-        held.push(file_of(alloc, name, text)?)?;
-    }
-    let mut shelf = MemShelf::new(held, numbers_of(alloc, failing.fetches)?);
-    let mut out = MemSink::new(alloc, 1_048_576, numbers_of(alloc, failing.writes)?)?;
-    let mut err = MemSink::new(alloc, 1_048_576, numbers_of(alloc, failing.says)?)?;
-    let status = lid_run(rt, &words, &mut shelf, &mut out, &mut err, &OpenGate);
-    Ok(Ran { status, out, err })
+    let mut shelf = shelf_of(rt.alloc(), files, failing.fetches)?;
+    run_over(rt, words, &mut shelf, failing)
+}
+
+/// A run left this.
+fn expect_left(rt: &impl Abort, ran: &Ran, left: Left<'_>, case: &str) {
+    assert_eq!(rt; ran.status, left.status, "{case}");
+    assert_eq!(rt; ran.out.written(), left.out.as_bytes(), "{case}");
+    assert_eq!(rt; ran.err.written(), left.err.as_bytes(), "{case}");
+}
+
+/// Runs the words over files in memory, and compares all that is left.
+pub fn expect_run<R: Threads + AllocGlobal + Sync + Abort>(
+    rt: &R,
+    words: &[&str],
+    files: &[(&str, &str)],
+    failing: Failing<'_>,
+    left: Left<'_>,
+) -> Result<(), AllocError> {
+    let ran = run_failing(rt, words, files, failing)?;
+    let case = match words.last() {
+        Some(word) => word,
+        None => "",
+    };
+    expect_left(rt, &ran, left, case);
+    Ok(())
 }
 
 /// Runs `strict` of a netlist and rows, and compares all that is left.
@@ -78,265 +143,325 @@ pub fn expect_strict<R: Threads + AllocGlobal + Sync + Abort>(
     rt: &R,
     net: &str,
     rows: &str,
-    status: u8,
-    out: &str,
-    err: &str,
+    left: Left<'_>,
 ) -> Result<(), AllocError> {
     let files = [("one.blif", net), ("one.vec", rows)];
     let ran = run_failing(rt, &["strict", "one.blif", "one.vec"], &files, NONE_FAILS)?;
-    assert_eq!(rt; ran.status, status, "{net}");
-    assert_eq!(rt; ran.out.written(), out.as_bytes(), "{net}");
-    assert_eq!(rt; ran.err.written(), err.as_bytes(), "{net}");
+    expect_left(rt, &ran, left, net);
     Ok(())
 }
 
-#[test]
-fn a_register_delays_its_rows_by_one(rt: HostRuntime) -> Result<(), Fail> {
-    expect_strict(&rt, REGISTER, "d\n1\n0\n1\n", 0, "q\n0\n1\n0\n", "")?;
-    Ok(())
-}
-
-#[test]
-fn latches_begin_as_is_written(rt: HostRuntime) -> Result<(), Fail> {
-    let net = ".model two\n.inputs d\n.outputs p q\n.latch d p 1\n.latch p q\n.end\n";
-    expect_strict(&rt, net, "d\n1\n0\n1\n", 0, "p q\n10\n11\n01\n", "")?;
-    let net = ".model two\n.inputs d\n.outputs p q\n.latch d p 2\n.latch p q 3\n";
-    expect_strict(&rt, net, "d\n1\n0\n", 0, "p q\n00\n10\n", "")?;
-    Ok(())
-}
-
-#[test]
-fn rows_with_output_zero_are_off_rows(rt: HostRuntime) -> Result<(), Fail> {
-    let net = ".model m\n.inputs a b\n.outputs q\n.names a b n\n11 0\n.latch n q 0\n.end\n";
-    expect_strict(&rt, net, "a b\n11\n10\n00\n11\n", 0, "q\n0\n0\n1\n1\n", "")?;
-    Ok(())
-}
-
-#[test]
-fn no_rows_give_no_rows(rt: HostRuntime) -> Result<(), Fail> {
-    expect_strict(&rt, REGISTER, "d\n", 0, "q\n", "")?;
-    Ok(())
-}
-
-#[test]
-fn rows_that_do_not_read_are_told(rt: HostRuntime) -> Result<(), Fail> {
-    let cases = [
-        ("d\n10\n", "lid: rows Width 2\n"),
-        ("e\n1\n", "lid: rows Header\n"),
-        ("d\nx\n", "lid: rows Char 2\n"),
-        ("", "lid: rows Header\n"),
-        ("d\n1\n\u{7f}\n", "lid: rows Char 3\n"),
-    ];
-    for (rows, line) in cases {
-        expect_strict(&rt, REGISTER, rows, 1, "", line)?;
+/// Runs `strict` of netlists and rows that are accepted, and compares the outputs.
+pub fn expect_outputs<R: Threads + AllocGlobal + Sync + Abort>(
+    rt: &R,
+    cases: &[(&str, &str, &str)],
+) -> Result<(), AllocError> {
+    for (net, rows, out) in cases {
+        let left = Left {
+            status: 0,
+            out,
+            err: "",
+        };
+        expect_strict(rt, net, rows, left)?;
     }
     Ok(())
 }
 
-#[test]
-fn netlists_that_do_not_read_are_told(rt: HostRuntime) -> Result<(), Fail> {
-    let cases = [
-        ("", "lid: blif NoModel 0\n"),
-        (".inputs a\n", "lid: blif NoModel 1\n"),
-        (
-            ".model m\n.gate nand2 A=a\n.end\n",
-            "lid: blif Unsupported 2\n",
-        ),
-        (".model m n\n", "lid: blif Arity 1\n"),
-        (".model m\n1 1\n", "lid: blif RowOutside 2\n"),
-        (
-            ".model m\n.inputs a\n.names a q\n1\n",
-            "lid: blif RowShape 4\n",
-        ),
-        (
-            ".model m\n.inputs a\n.names a x\n1 1\n0 0\n.latch x q 0\n.end\n",
-            "lid: blif MixedRows 5\n",
-        ),
-        (".model m\n.latch a q ah c 0\n", "lid: blif LatchType 2\n"),
-        (".model m\n.latch a q 4\n", "lid: blif LatchInit 2\n"),
-        (".model m\n.subckt n a\n", "lid: blif BindShape 2\n"),
-        (".model m\n.end\n.model m\n", "lid: blif DuplicateModel 3\n"),
-        (".model m\n.inputs \u{8}\n", "lid: blif BadByte 2\n"),
-    ];
-    for (net, line) in cases {
-        expect_strict(&rt, net, "d\n", 1, "", line)?;
+/// Runs `strict` of netlists and rows that are refused, and compares the line.
+pub fn expect_refused<R: Threads + AllocGlobal + Sync + Abort>(
+    rt: &R,
+    cases: &[(&str, &str, &str)],
+) -> Result<(), AllocError> {
+    for (net, rows, err) in cases {
+        let left = Left {
+            status: 1,
+            out: "",
+            err,
+        };
+        expect_strict(rt, net, rows, left)?;
     }
     Ok(())
 }
+
+/// Netlists that run, with their rows and outputs.
+const RUNS: &[(&str, &str, &str)] = &[
+    // a register delays its rows by one
+    (REGISTER, "d\n1\n0\n1\n", "q\n0\n1\n0\n"),
+    // latches begin as is written
+    (
+        ".model two\n.inputs d\n.outputs p q\n.latch d p 1\n.latch p q\n.end\n",
+        "d\n1\n0\n1\n",
+        "p q\n10\n11\n01\n",
+    ),
+    (
+        ".model two\n.inputs d\n.outputs p q\n.latch d p 2\n.latch p q 3\n",
+        "d\n1\n0\n",
+        "p q\n00\n10\n",
+    ),
+    // rows with output 0 are off rows
+    (
+        ".model m\n.inputs a b\n.outputs q\n.names a b n\n11 0\n.latch n q 0\n.end\n",
+        "a b\n11\n10\n00\n11\n",
+        "q\n0\n0\n1\n1\n",
+    ),
+    // no rows give no rows
+    (REGISTER, "d\n", "q\n"),
+];
+
+#[test]
+fn small_netlists_run(rt: HostRuntime) -> Result<(), Fail> {
+    expect_outputs(&rt, RUNS)?;
+    Ok(())
+}
+
+/// Netlists and rows that do not read, with what is told.
+const UNREAD: &[(&str, &str, &str)] = &[
+    (REGISTER, "d\n10\n", "lid: rows Width 2\n"),
+    (REGISTER, "e\n1\n", "lid: rows Header\n"),
+    (REGISTER, "d\nx\n", "lid: rows Char 2\n"),
+    (REGISTER, "", "lid: rows Header\n"),
+    (REGISTER, "d\n1\n\u{7f}\n", "lid: rows Char 3\n"),
+    ("", "d\n", "lid: blif NoModel 0\n"),
+    (".inputs a\n", "d\n", "lid: blif NoModel 1\n"),
+    (
+        ".model m\n.gate nand2 A=a\n.end\n",
+        "d\n",
+        "lid: blif Unsupported 2\n",
+    ),
+    (".model m n\n", "d\n", "lid: blif Arity 1\n"),
+    (".model m\n1 1\n", "d\n", "lid: blif RowOutside 2\n"),
+    (
+        ".model m\n.inputs a\n.names a q\n1\n",
+        "d\n",
+        "lid: blif RowShape 4\n",
+    ),
+    (
+        ".model m\n.inputs a\n.names a x\n1 1\n0 0\n.latch x q 0\n.end\n",
+        "d\n",
+        "lid: blif MixedRows 5\n",
+    ),
+    (
+        ".model m\n.latch a q ah c 0\n",
+        "d\n",
+        "lid: blif LatchType 2\n",
+    ),
+    (".model m\n.latch a q 4\n", "d\n", "lid: blif LatchInit 2\n"),
+    (".model m\n.subckt n a\n", "d\n", "lid: blif BindShape 2\n"),
+    (
+        ".model m\n.end\n.model m\n",
+        "d\n",
+        "lid: blif DuplicateModel 3\n",
+    ),
+    (".model m\n.inputs \u{8}\n", "d\n", "lid: blif BadByte 2\n"),
+];
+
+#[test]
+fn texts_that_do_not_read_are_told(rt: HostRuntime) -> Result<(), Fail> {
+    expect_refused(&rt, UNREAD)?;
+    Ok(())
+}
+
+/// The files of the runs that vary in their words.
+const FILES: &[(&str, &str)] = &[
+    ("one.blif", REGISTER),
+    ("one.vec", "d\n1\n0\n"),
+    ("-", "d\n1\n0\n"),
+    ("--vec", "d\n1\n0\n"),
+];
+
+/// Runs each of some words, and compares what is left.
+fn expect_words<R: Threads + AllocGlobal + Sync + Abort>(
+    rt: &R,
+    cases: &[&[&str]],
+    left: Left<'_>,
+) -> Result<(), AllocError> {
+    for words in cases {
+        expect_run(rt, words, FILES, NONE_FAILS, left)?;
+    }
+    Ok(())
+}
+
+/// Words that are no job.
+const NO_JOBS: &[&[&str]] = &[
+    &[],
+    &[""],
+    &["strict"],
+    &["strict", "one.blif"],
+    &["strict", "one.blif", "one.vec", "one.vec"],
+    &["strict", "--root", "one.blif"],
+    &["strict", "one.blif", "one.vec", "--root"],
+    &[
+        "strict", "--root", "a", "--root", "a", "one.blif", "one.vec",
+    ],
+    &["strict", "one.blif", "one.vec", "--workers", "2"],
+    &["strict", "one.blif", "one.vec", "--tally"],
+    &["strict", "one.blif", "one.vec", "--help"],
+    &["strict", "one.blif", "one.vec", "-h"],
+    &["strict", "one.blif", "one.vec", "--version"],
+    &["stric", "one.blif", "one.vec"],
+    &["clock", "one.blif"],
+    &["\u{e9}", "one.blif", "one.vec"],
+];
 
 #[test]
 fn other_words_are_no_job(rt: HostRuntime) -> Result<(), Fail> {
-    let files = [("one.blif", REGISTER), ("one.vec", "d\n1\n")];
-    let cases: [&[&str]; 16] = [
-        &[],
-        &[""],
-        &["strict"],
-        &["strict", "one.blif"],
-        &["strict", "one.blif", "one.vec", "one.vec"],
-        &["strict", "--root", "one.blif"],
-        &["strict", "one.blif", "one.vec", "--root"],
-        &[
-            "strict", "--root", "a", "--root", "a", "one.blif", "one.vec",
-        ],
-        &["strict", "one.blif", "one.vec", "--workers", "2"],
-        &["strict", "one.blif", "one.vec", "--tally"],
-        &["strict", "one.blif", "one.vec", "--help"],
-        &["strict", "one.blif", "one.vec", "-h"],
-        &["strict", "one.blif", "one.vec", "--version"],
-        &["stric", "one.blif", "one.vec"],
-        &["clock", "one.blif"],
-        &["\u{e9}", "one.blif", "one.vec"],
-    ];
-    for words in cases {
-        let ran = run_failing(&rt, words, &files, NONE_FAILS)?;
-        assert_eq!(rt; ran.status, 2);
-        assert_eq!(rt; ran.out.written(), b"".as_slice());
-        assert_eq!(rt; ran.err.written(), b"lid: usage\n".as_slice());
-    }
+    let left = Left {
+        status: 2,
+        out: "",
+        err: "lid: usage\n",
+    };
+    expect_words(&rt, NO_JOBS, left)?;
     Ok(())
 }
+
+/// Words in which options stand before, between and after the files.
+const JOBS: &[&[&str]] = &[
+    &["strict", "one.blif", "one.vec"],
+    &["strict", "--root", "one", "one.blif", "one.vec"],
+    &["--root", "one", "strict", "one.blif", "one.vec"],
+    &["strict", "one.blif", "--root=one", "one.vec"],
+    &["strict", "one.blif", "one.vec", "--root", "one"],
+    &["strict", "--", "one.blif", "one.vec"],
+    &["strict", "one.blif", "--", "--vec"],
+    &["strict", "one.blif", "-"],
+];
 
 #[test]
 fn options_stand_before_between_and_after_files(rt: HostRuntime) -> Result<(), Fail> {
-    let files = [
-        ("one.blif", REGISTER),
-        ("one.vec", "d\n1\n0\n"),
-        ("-", "d\n1\n0\n"),
-        ("--vec", "d\n1\n0\n"),
-    ];
-    let cases: [&[&str]; 8] = [
-        &["strict", "one.blif", "one.vec"],
-        &["strict", "--root", "one", "one.blif", "one.vec"],
-        &["--root", "one", "strict", "one.blif", "one.vec"],
-        &["strict", "one.blif", "--root=one", "one.vec"],
-        &["strict", "one.blif", "one.vec", "--root", "one"],
-        &["strict", "--", "one.blif", "one.vec"],
-        &["strict", "one.blif", "--", "--vec"],
-        &["strict", "one.blif", "-"],
-    ];
-    for words in cases {
-        let ran = run_failing(&rt, words, &files, NONE_FAILS)?;
-        assert_eq!(rt; ran.status, 0);
-        assert_eq!(rt; ran.out.written(), b"q\n0\n1\n".as_slice());
-    }
+    let left = Left {
+        status: 0,
+        out: "q\n0\n1\n",
+        err: "",
+    };
+    expect_words(&rt, JOBS, left)?;
     Ok(())
 }
+
+/// Words with a root that no model has.
+const ROOTLESS: &[&[&str]] = &[
+    &["strict", "one.blif", "one.vec", "--root", "two"],
+    &["strict", "one.blif", "one.vec", "--root="],
+];
 
 #[test]
 fn a_root_that_no_model_has_is_refused(rt: HostRuntime) -> Result<(), Fail> {
-    let files = [("one.blif", REGISTER), ("one.vec", "d\n1\n0\n")];
-    let cases: [&[&str]; 2] = [
-        &["strict", "one.blif", "one.vec", "--root", "two"],
-        &["strict", "one.blif", "one.vec", "--root="],
-    ];
-    for words in cases {
-        let ran = run_failing(&rt, words, &files, NONE_FAILS)?;
-        assert_eq!(rt; ran.status, 1);
-        assert_eq!(rt; ran.out.written(), b"".as_slice());
-        assert_eq!(rt; ran.err.written(), b"lid: check NoRoot\n".as_slice());
-    }
-    Ok(())
-}
-
-/// The example's run, with calls that fail.
-fn run_register<R: Threads + AllocGlobal + Sync>(
-    rt: &R,
-    failing: Failing<'_>,
-) -> Result<Ran, AllocError> {
-    let files = [("one.blif", REGISTER), ("one.vec", "d\n1\n0\n1\n")];
-    run_failing(rt, &["strict", "one.blif", "one.vec"], &files, failing)
-}
-
-#[test]
-fn each_failing_fetch_names_its_file(rt: HostRuntime) -> Result<(), Fail> {
-    let cases: [(u64, u8, &str, &str); 5] = [
-        (1, 3, "", "lid: read one.blif\n"),
-        (2, 3, "", "lid: read one.blif\n"),
-        (3, 3, "", "lid: read one.vec\n"),
-        (4, 3, "", "lid: read one.vec\n"),
-        (5, 0, "q\n0\n1\n0\n", ""),
-    ];
-    for (call, status, out, err) in cases {
-        let failing = Failing {
-            fetches: &[call],
-            writes: &[],
-            says: &[],
-        };
-        let ran = run_register(&rt, failing)?;
-        assert_eq!(rt; ran.status, status);
-        assert_eq!(rt; ran.out.written(), out.as_bytes());
-        assert_eq!(rt; ran.err.written(), err.as_bytes());
-    }
-    Ok(())
-}
-
-#[test]
-fn a_missing_file_is_named(rt: HostRuntime) -> Result<(), Fail> {
-    let files = [("one.vec", "d\n1\n")];
-    let ran = run_failing(&rt, &["strict", "one.blif", "one.vec"], &files, NONE_FAILS)?;
-    assert_eq!(rt; ran.status, 3);
-    assert_eq!(rt; ran.out.written(), b"".as_slice());
-    assert_eq!(rt; ran.err.written(), b"lid: read one.blif\n".as_slice());
-    Ok(())
-}
-
-#[test]
-fn each_failing_write_is_told(rt: HostRuntime) -> Result<(), Fail> {
-    let cases: [(&[u64], &[u64], u8, &str, &str); 5] = [
-        (&[1], &[], 4, "", "lid: write\n"),
-        (&[2], &[], 0, "q\n0\n1\n0\n", ""),
-        (&[1], &[1], 4, "", ""),
-        (&[], &[1], 0, "q\n0\n1\n0\n", ""),
-        (&[1], &[3], 4, "", "lid: "),
-    ];
-    for (writes, says, status, out, err) in cases {
-        let failing = Failing {
-            fetches: &[],
-            writes,
-            says,
-        };
-        let ran = run_register(&rt, failing)?;
-        assert_eq!(rt; ran.status, status);
-        assert_eq!(rt; ran.out.written(), out.as_bytes());
-        assert_eq!(rt; ran.err.written(), err.as_bytes());
-    }
-    Ok(())
-}
-
-#[test]
-fn a_failing_err_changes_no_status(rt: HostRuntime) -> Result<(), Fail> {
-    let failing = Failing {
-        fetches: &[],
-        writes: &[],
-        says: &[1],
+    let left = Left {
+        status: 1,
+        out: "",
+        err: "lid: check NoRoot\n",
     };
-    let ran = run_failing(&rt, &["clock"], &[], failing)?;
-    assert_eq!(rt; ran.status, 2);
-    assert_eq!(rt; ran.err.written(), b"".as_slice());
+    expect_words(&rt, ROOTLESS, left)?;
+    Ok(())
+}
+
+/// The files of the example's run.
+const EXAMPLE: &[(&str, &str)] = &[("one.blif", REGISTER), ("one.vec", "d\n1\n0\n1\n")];
+
+/// Runs the example with calls that fail.
+fn expect_example<R: Threads + AllocGlobal + Sync + Abort>(
+    rt: &R,
+    cases: &[(Failing<'_>, Left<'_>)],
+) -> Result<(), AllocError> {
+    for (failing, left) in cases {
+        expect_run(
+            rt,
+            &["strict", "one.blif", "one.vec"],
+            EXAMPLE,
+            *failing,
+            *left,
+        )?;
+    }
+    Ok(())
+}
+
+/// The example's run, of which one fetch fails.
+const fn fetch(fetches: &'static [u64]) -> Failing<'static> {
+    Failing {
+        fetches,
+        writes: &[],
+        says: &[],
+    }
+}
+
+/// The example's run, of which writes to its outputs fail.
+const fn write(writes: &'static [u64], says: &'static [u64]) -> Failing<'static> {
+    Failing {
+        fetches: &[],
+        writes,
+        says,
+    }
+}
+
+const fn leaving(status: u8, out: &'static str, err: &'static str) -> Left<'static> {
+    Left { status, out, err }
+}
+
+#[test]
+fn each_failing_call_is_told(rt: HostRuntime) -> Result<(), Fail> {
+    let cases = [
+        (fetch(&[1]), leaving(3, "", "lid: read one.blif\n")),
+        (fetch(&[2]), leaving(3, "", "lid: read one.blif\n")),
+        (fetch(&[3]), leaving(3, "", "lid: read one.vec\n")),
+        (fetch(&[4]), leaving(3, "", "lid: read one.vec\n")),
+        (fetch(&[5]), leaving(0, "q\n0\n1\n0\n", "")),
+        (write(&[1], &[]), leaving(4, "", "lid: write\n")),
+        (write(&[2], &[]), leaving(0, "q\n0\n1\n0\n", "")),
+        (write(&[1], &[1]), leaving(4, "", "")),
+        (write(&[], &[1]), leaving(0, "q\n0\n1\n0\n", "")),
+        (write(&[1], &[3]), leaving(4, "", "lid: ")),
+    ];
+    expect_example(&rt, &cases)?;
+    Ok(())
+}
+
+#[test]
+fn a_missing_file_is_named_and_a_failing_err_changes_no_status(
+    rt: HostRuntime,
+) -> Result<(), Fail> {
+    let words = ["strict", "one.blif", "one.vec"];
+    let files = [("one.vec", "d\n1\n")];
+    expect_run(
+        &rt,
+        &words,
+        &files,
+        NONE_FAILS,
+        leaving(3, "", "lid: read one.blif\n"),
+    )?;
+    expect_run(&rt, &["clock"], &[], write(&[], &[1]), leaving(2, "", ""))?;
+    Ok(())
+}
+
+/// A rows text of so many rows of one 0.
+fn zeros(alloc: Global, rows: u32) -> Result<String, AllocError> {
+    let mut text = String::from_str(alloc, "d\n")?;
+    for _ in 0..rows {
+        text.push_str("0\n")?;
+    }
+    Ok(text)
+}
+
+/// Runs the register over many rows, and compares the status and how much was written.
+fn expect_pieces<R: Threads + AllocGlobal + Sync + Abort>(
+    rt: &R,
+    rows: &str,
+    failing: Failing<'_>,
+    status: u8,
+    written: usize,
+) -> Result<(), AllocError> {
+    let files = [("one.blif", REGISTER), ("one.vec", rows)];
+    let ran = run_failing(rt, &["strict", "one.blif", "one.vec"], &files, failing)?;
+    assert_eq!(rt; ran.status, status);
+    assert_eq!(rt; ran.out.written().len(), written);
+    let said = if status == 0 { "" } else { "lid: write\n" };
+    assert_eq!(rt; ran.err.written(), said.as_bytes());
     Ok(())
 }
 
 #[test]
 fn a_long_output_is_written_in_pieces(rt: HostRuntime) -> Result<(), Fail> {
-    let alloc = rt.alloc();
-    let mut rows = String::from_str(alloc, "d\n")?;
-    for _ in 0..70_000 {
-        rows.push_str("0\n")?;
-    }
-    let files = [("one.blif", REGISTER), ("one.vec", rows.as_str())];
-    let words = ["strict", "one.blif", "one.vec"];
-    let ran = run_failing(&rt, &words, &files, NONE_FAILS)?;
-    assert_eq!(rt; ran.status, 0);
-    assert_eq!(rt; ran.out.written().len(), 140_002);
-    let failing = Failing {
-        fetches: &[],
-        writes: &[3],
-        says: &[],
-    };
-    let ran = run_failing(&rt, &words, &files, failing)?;
-    assert_eq!(rt; ran.status, 4);
-    assert_eq!(rt; ran.out.written().len(), 131_072);
-    assert_eq!(rt; ran.err.written(), b"lid: write\n".as_slice());
+    let rows = zeros(rt.alloc(), 70_000)?;
+    expect_pieces(&rt, rows.as_str(), NONE_FAILS, 0, 140_002)?;
+    expect_pieces(&rt, rows.as_str(), write(&[3], &[]), 4, 131_072)?;
     Ok(())
 }
 
@@ -371,17 +496,12 @@ impl Shelf for Drip<'_> {
 
 #[test]
 fn a_file_ends_only_at_a_fetch_of_no_bytes(rt: HostRuntime) -> Result<(), Fail> {
-    let alloc = rt.alloc();
-    let words = words_of(alloc, &["strict", "one.blif", "one.vec"])?;
     let mut shelf = Drip {
         net: REGISTER.as_bytes(),
         vec: b"d\n1\n0\n1\n",
     };
-    let mut out = MemSink::new(alloc, 1_024, Vec::new(alloc))?;
-    let mut err = MemSink::new(alloc, 1_024, Vec::new(alloc))?;
-    let status = lid_run(&rt, &words, &mut shelf, &mut out, &mut err, &OpenGate);
-    assert_eq!(rt; status, 0);
-    assert_eq!(rt; out.written(), b"q\n0\n1\n0\n".as_slice());
-    assert_eq!(rt; err.written(), b"".as_slice());
+    let words = ["strict", "one.blif", "one.vec"];
+    let ran = run_over(&rt, &words, &mut shelf, NONE_FAILS)?;
+    expect_left(&rt, &ran, leaving(0, "q\n0\n1\n0\n", ""), "byte by byte");
     Ok(())
 }

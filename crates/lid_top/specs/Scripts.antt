@@ -1,0 +1,110 @@
+-- The steps of a job, and how they end.
+use Rattle.std.specs.Prelude.{◌≡◌, ℕ, ◌+◌, ◌≤◌, Bool, List, length, take, Option, Some, None, IfSome, Result, Ok, Err, ◌⊎◌}
+use Rattle.lid_base.specs.Lines.{logical_lines}
+use Rattle.lid_design.specs.declared.Design.{Design}
+use Rattle.lid_design.specs.Columns.{root_inputs, root_outputs}
+use Rattle.lid_blif.specs.declared.fault.BlifFault.{BlifFault}
+use Rattle.lid_blif.specs.Designs.{design_of}
+use Rattle.lid_blif.specs.Faults.{blif_fault}
+use Rattle.lid_rules.specs.declared.fault.CheckFault.{CheckFault}
+use Rattle.lid_check.specs.Acceptance.{with_root, IsAccepted, IsRefused}
+use Rattle.lid_texts.specs.declared.rows.Rows.{Rows}
+use Rattle.lid_texts.specs.declared.rows.VecFault.{VecFault}
+use Rattle.lid_texts.specs.Rows.{rows_reading}
+use Rattle.lid_words.specs.declared.job.Job.{Job}
+use Rattle.lid_words.specs.declared.job.Job.TheVariants.{Strict}
+use Rattle.lid_top.specs.Faults.{blif_line, rows_line, check_line}
+use Rattle.lid_top.specs.Outputs.{Output, strict_output}
+
+-- how a job ends, where all is fetched and memory is there
+pub data Ending : Type 0 where
+  refuses : List ℕ → Ending  -- with this line on `err`
+  gives : Output → Ending
+
+-- the steps of a job
+pub data Script : Type 0 where
+  fetch : List ℕ → ℕ → (List ℕ → Script) → Script  -- a file, up to one byte more than its limit
+  check : Option (List ℕ) → Design → (Design → Script) → Script  -- a design with the root that was chosen by name, if one was
+  end : Ending → Script
+
+-- what a step makes of a value
+pub data Reading (A : Type 0) : Type 0 where
+  good : A → Reading A
+  bad : List ℕ → Reading A  -- the line on `err`
+
+abbrev pub step : {A : Type 0} → Reading A → (A → Script) → Script
+step (good a) next = next a
+step (bad line) next = end (refuses line)
+
+-- fetches a file and reads it
+abbrev pub read_step : {A : Type 0} → List ℕ → ℕ → (List ℕ → Reading A) → (A → Script) → Script
+read_step name limit read next = fetch name limit (λ bytes. step (read bytes) next)
+
+abbrev pub net_limit : ℕ
+net_limit = 16777216
+
+abbrev pub rows_limit : ℕ
+rows_limit = 67108864
+
+abbrev pub unless_faulty : {A : Type 0} → Option BlifFault → A → Reading A
+unless_faulty None a = good a
+unless_faulty (Some fault) a = bad (blif_line fault)
+
+-- the design that a BLIF text stands for
+unfoldable pub net_reading : List ℕ → Reading Design
+net_reading bytes = unless_faulty (blif_fault bytes) (design_of (logical_lines bytes))
+
+abbrev pub bits_read : Result Rows VecFault → Reading (List (List Bool))
+bits_read (Ok rows) = good rows.bits
+bits_read (Err fault) = bad (rows_line fault)
+
+-- the rows for the inputs of a design
+unfoldable pub vec_reading : Design → List ℕ → Reading (List (List Bool))
+vec_reading d bytes = bits_read (rows_reading (root_inputs d) (length (root_outputs d)) bytes)
+
+-- `strict` of an accepted design: the rows are fetched and read
+unfoldable pub rows_script : Design → List ℕ → Script
+rows_script d vec = read_step vec rows_limit (vec_reading d) (λ rows. end (gives (strict_output d rows)))
+
+-- `strict` of a design: it is checked first
+unfoldable pub check_script : Design → List ℕ → Option (List ℕ) → Script
+check_script d vec root = check root d (λ checked. rows_script checked vec)
+
+-- `strict`: the netlist is fetched, read and checked, and then the rows are fetched and read
+unfoldable pub strict_script : List ℕ → List ℕ → Option (List ℕ) → Script
+strict_script net vec root = read_step net net_limit net_reading (λ d. check_script d vec root)
+
+-- the steps of a job
+abbrev pub script_of : Job → Script
+script_of (Strict net vec root) = strict_script net vec root
+
+-- what a fetch of a whole file may give: at most one byte more than the limit, and where the file's
+-- bytes are told, these
+pub record IsFetched (held : List ℕ → Option (List ℕ)) (name : List ℕ) (limit : ℕ) (bytes : List ℕ) : Type 0 where
+  pub short : length bytes ≤ limit + 1
+  pub told : IfSome (held name) (λ file. bytes ≡ take (limit + 1) file)
+
+-- the design with its root is accepted
+pub record IsChecked (root : Option (List ℕ)) (d checked : Design) : Type 0 where
+  pub rooted : with_root d root ≡ Some checked
+  pub accepted : IsAccepted checked
+
+-- the design is refused, and told so
+pub record IsUnchecked (root : Option (List ℕ)) (d : Design) (line : List ℕ) : Type 0 where
+  pub fault : CheckFault
+  pub refused : IsRefused (with_root d root) fault
+  pub told : line ≡ check_line fault
+
+-- the script ends so for some bytes of its files, those told where they are told
+abbrev pub EndsIn : (List ℕ → Option (List ℕ)) → Script → Ending → Type 0
+EndsIn held (fetch name limit next) ending = (bytes : List ℕ) × IsFetched held name limit bytes × EndsIn held (next bytes) ending
+EndsIn held (check root d next) ending =
+    ((checked : Design) × IsChecked root d checked × EndsIn held (next checked) ending)
+    ⊎ ((line : List ℕ) × IsUnchecked root d line × (refuses line ≡ ending))
+EndsIn held (end last) ending = last ≡ ending
+
+-- the script comes to the fetch of this file for some bytes of the files before it
+abbrev pub Reaches : (List ℕ → Option (List ℕ)) → Script → List ℕ → Type 0
+Reaches held (fetch name limit next) file = (name ≡ file) ⊎ ((bytes : List ℕ) × IsFetched held name limit bytes × Reaches held (next bytes) file)
+Reaches held (check root d next) file = (checked : Design) × IsChecked root d checked × Reaches held (next checked) file
+Reaches held (end last) file = ⊥
