@@ -3,6 +3,4 @@ pub mod Subs
 pub mod Telling
 pub mod Roots
 pub mod Faults
-pub mod Limiting
 pub mod Passing
-pub mod Judging

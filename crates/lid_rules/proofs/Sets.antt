@@ -1,7 +1,5 @@
 -- First items by tests that agree, and the laws of sets that these conditions share with others.
-use Rattle.std.proofs.Common.{◌≡◌, ℕ, nat_lt, Bool, true, false, cond, List, [], ◌∷◌, map, find, count_by, Option, Some, option_map, refl, ◌∙◌, ap, subst}
-use Rattle.std.specs.Str.{bytes_eq}
-use Rattle.lid_names.specs.Names.{is_among}
+use Rattle.std.proofs.Common.{◌≡◌, Bool, true, false, cond, List, [], ◌∷◌, map, find, Option, Some, option_map, refl, ◌∙◌, ap}
 pub use Rattle.lid_names.proofs.Lists.{is_among-firsts}
 pub use Rattle.lid_ports.proofs.Sets.{filter-same}
 
@@ -17,9 +15,3 @@ find-map {A} {B} {C} f p g (x ∷ xs) = by (p (g x)) (find-map f p g xs)
     by : (b : Bool) → option_map (λ a. f (g a)) (find (λ a. p (g a)) xs) ≡ option_map f (find p (map g xs)) → option_map (λ a. f (g a)) (cond b (Some x) (find (λ a. p (g a)) xs)) ≡ option_map f (cond b (Some (g x)) (find p (map g xs)))
     by true later = refl
     by false later = later
-
--- the first name that is in a set of those that come again
-pub find_again_by : (twice : List (List ℕ)) (list names : List (List ℕ)) → list ≡ names → ((n : List ℕ) → is_among n twice ≡ nat_lt 1 (count_by (bytes_eq n) list)) → find (λ n. is_among n twice) list ≡ find (λ n. nat_lt 1 (count_by (bytes_eq n) names)) names
-find_again_by twice list names same again =
-    subst (λ (ns : List (List ℕ)). find (λ n. is_among n twice) list ≡ find (λ n. nat_lt 1 (count_by (bytes_eq n) ns)) ns) same
-    (find-same (λ n. is_among n twice) (λ n. nat_lt 1 (count_by (bytes_eq n) list)) list again)

@@ -4,9 +4,7 @@ use Rattle.lid_design.specs.Models.{AreReached}
 use Rattle.lid_rules.specs.Acceptance.{fault_before_recursion}
 use Rattle.lid_design.specs.declared.Design.{Design}
 use Rattle.lid_design.specs.declared.Model.{Model}
-use Rattle.lid_names.specs.Names.{IsTally}
 use Rattle.lid_rules.specs.declared.fault.CheckFault.{CheckFault}
-use Rattle.lid_rules.specs.declared.duplicates.Lists.{Lists}
 use Rattle.lid_rules.specs.Conditions.{first_told, in_insts, duplicate_in, unknown_at}
 
 -- a name that stands twice in the lists of the model of a number
@@ -15,12 +13,6 @@ duplicate_at d k = option_and_then (duplicate_in (k == d.root)) (slice_get d.mod
 
 abbrev pub duplicates : Design → List ℕ → Option CheckFault
 duplicates d ks = first_told (duplicate_at d) ks
-
--- the names of the lists of a model, and those that stand in a list more than once
-pub record AreLists (m : Model) (lists : Lists) : Type 0 where
-  pub inputs : IsTally m.inputs lists.inputs.all lists.inputs.twice
-  pub outputs : IsTally m.outputs lists.outputs.all lists.outputs.twice
-  pub clocks : IsTally m.clocks lists.clocks.all lists.clocks.twice
 
 -- an instance of the model of a number whose model is unknown
 unfoldable pub unknown_in : Design → ℕ → Option CheckFault

@@ -5,5 +5,3 @@ pub mod Rules
 pub mod Names
 pub mod Early
 pub mod Edges
-pub mod Limits
-pub mod Late

@@ -1,7 +1,7 @@
 ghost use Rattle.std.specs.Prelude.{◌≡◌, find, IfOk};
-ghost use Rattle.lid_names.specs.Names.{texts};
+ghost use Rattle.lid_names.specs.Names.{texts, IsTally};
 ghost use Rattle.lid_rules.specs.Conditions.{is_duplicate, duplicate_in, first_name};
-ghost use Rattle.lid_rules.specs.Early.{duplicate_at, duplicates, AreLists};
+ghost use Rattle.lid_rules.specs.Early.{duplicate_at, duplicates};
 ghost use Rattle.lid_rules.specs.Rules.{name_behind};
 ghost use Rattle.lid_rules.specs.Told.{shown_of};
 
@@ -9,14 +9,6 @@ use crate::told::Told;
 use lid_design::{Design, Model};
 use lid_names::{Tally, list_occurrences, model_at, tally_of};
 use std::alloc::{AllocError, Global};
-
-/// The names of the lists of a model, and those that stand in a list more than once.
-#[derive(Drop)]
-struct Lists<'d> {
-    inputs: Tally<'d>,
-    outputs: Tally<'d>,
-    clocks: Tally<'d>,
-}
 
 /// Tells of the first reached model in whose lists a name stands twice.
 pub fn find_duplicate<'d>(
@@ -75,23 +67,75 @@ fn find_doubled<'d>(
 ) -> Result<Option<&'d [u8]>, AllocError>
     ensures { IfOk result (λ name. name_behind name ≡ first_name (is_duplicate is_root model.now) model.now) }
 {
+    let inputs = tally_of(alloc, model.inputs.as_slice())?;
+    find_by_inputs(alloc, is_root, model, &inputs)
+}
+
+/// The first name of a model that stands twice in its lists, by the names of its inputs.
+fn find_by_inputs<'d>(
+    alloc: Global,
+    is_root: bool,
+    model: &'d Model,
+    inputs: &Tally<'d>,
+) -> Result<Option<&'d [u8]>, AllocError>
+    requires inputs { IsTally model.now.inputs inputs.now.all inputs.now.twice }
+    ensures { IfOk result (λ name. name_behind name ≡ first_name (is_duplicate is_root model.now) model.now) }
+{
+    let outputs = tally_of(alloc, model.outputs.as_slice())?;
+    find_by_ports(alloc, is_root, model, inputs, &outputs)
+}
+
+/// The first name of a model that stands twice in its lists, by the names of its inputs and
+/// outputs.
+fn find_by_ports<'d>(
+    alloc: Global,
+    is_root: bool,
+    model: &'d Model,
+    inputs: &Tally<'d>,
+    outputs: &Tally<'d>,
+) -> Result<Option<&'d [u8]>, AllocError>
+    requires inputs { IsTally model.now.inputs inputs.now.all inputs.now.twice }
+    requires outputs { IsTally model.now.outputs outputs.now.all outputs.now.twice }
+    ensures { IfOk result (λ name. name_behind name ≡ first_name (is_duplicate is_root model.now) model.now) }
+{
+    let clocks = tally_of(alloc, model.clocks.as_slice())?;
+    find_by_lists(alloc, is_root, model, inputs, outputs, &clocks)
+}
+
+/// The first name of a model that stands twice in its lists, by the names of each.
+fn find_by_lists<'d>(
+    alloc: Global,
+    is_root: bool,
+    model: &'d Model,
+    inputs: &Tally<'d>,
+    outputs: &Tally<'d>,
+    clocks: &Tally<'d>,
+) -> Result<Option<&'d [u8]>, AllocError>
+    requires inputs { IsTally model.now.inputs inputs.now.all inputs.now.twice }
+    requires outputs { IsTally model.now.outputs outputs.now.all outputs.now.twice }
+    requires clocks { IsTally model.now.clocks clocks.now.all clocks.now.twice }
+    ensures { IfOk result (λ name. name_behind name ≡ first_name (is_duplicate is_root model.now) model.now) }
+{
     let names = list_occurrences(alloc, model)?;
-    let lists = collect_lists(alloc, model)?;
-    Ok(first_doubled(is_root, model, &lists, names.as_slice()))
+    Ok(first_doubled(is_root, model, inputs, outputs, clocks, names.as_slice()))
 }
 
 /// The first of some names that stands twice in the lists of a model.
 fn first_doubled<'d>(
     is_root: bool,
-    model: &'d Model,
-    lists: &Lists<'d>,
+    model: &Model,
+    inputs: &Tally<'d>,
+    outputs: &Tally<'d>,
+    clocks: &Tally<'d>,
     names: &[&'d [u8]],
 ) -> Option<&'d [u8]>
-    requires { AreLists model.now lists.now }
+    requires inputs { IsTally model.now.inputs inputs.now.all inputs.now.twice }
+    requires outputs { IsTally model.now.outputs outputs.now.all outputs.now.twice }
+    requires clocks { IsTally model.now.clocks clocks.now.all clocks.now.twice }
     ensures { name_behind result ≡ find (is_duplicate is_root model.now) (texts names.now) }
 {
     for name in names {
-        if is_doubled(is_root, model, lists, name) {
+        if is_doubled(is_root, model, inputs, outputs, clocks, name) {
             return Some(*name);
         }
     }
@@ -99,29 +143,23 @@ fn first_doubled<'d>(
 }
 
 /// Whether a name stands twice in the lists of a model.
-fn is_doubled(is_root: bool, model: &Model, lists: &Lists<'_>, name: &[u8]) -> bool
-    requires { AreLists model.now lists.now }
+fn is_doubled(
+    is_root: bool,
+    model: &Model,
+    inputs: &Tally<'_>,
+    outputs: &Tally<'_>,
+    clocks: &Tally<'_>,
+    name: &[u8],
+) -> bool
+    requires inputs { IsTally model.now.inputs inputs.now.all inputs.now.twice }
+    requires outputs { IsTally model.now.outputs outputs.now.all outputs.now.twice }
+    requires clocks { IsTally model.now.clocks clocks.now.all clocks.now.twice }
     ensures { result ≡ is_duplicate is_root model.now name.now }
 {
     let _ = model;
-    lists.inputs.twice.has(name)
-        || (lists.outputs.twice.has(name)
-            || (lists.clocks.twice.has(name)
+    inputs.twice.has(name)
+        || (outputs.twice.has(name)
+            || (clocks.twice.has(name)
                 || (!is_root
-                    && (lists.outputs.all.has(name)
-                        && (lists.inputs.all.has(name) || lists.clocks.all.has(name))))))
-}
-
-/// Collects the names of the lists of a model.
-fn collect_lists<'d>(alloc: Global, model: &'d Model) -> Result<Lists<'d>, AllocError>
-    ensures { IfOk result (λ lists. AreLists model.now lists) }
-{
-    let inputs = tally_of(alloc, model.inputs.as_slice())?;
-    let outputs = tally_of(alloc, model.outputs.as_slice())?;
-    let clocks = tally_of(alloc, model.clocks.as_slice())?;
-    Ok(Lists {
-        inputs,
-        outputs,
-        clocks,
-    })
+                    && (outputs.all.has(name) && (inputs.all.has(name) || clocks.all.has(name))))))
 }

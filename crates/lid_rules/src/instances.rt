@@ -1,5 +1,5 @@
 ghost use Rattle.std.specs.Prelude.{◌≡◌, ◌<◌, ◌^◌, length, Some, not, map, filter, find, slice_get, IfOk};
-ghost use Rattle.lid_names.specs.Names.{texts, is_twice, formal_of};
+ghost use Rattle.lid_names.specs.Names.{texts, is_twice, formal_of, firsts};
 ghost use Rattle.lid_design.specs.Columns.{is_among};
 ghost use Rattle.lid_design.specs.Models.{IsReached, AreReached, insts_of, is_clock_of};
 ghost use Rattle.lid_rules.specs.Conditions.{formals, in_insts};
@@ -204,8 +204,15 @@ fn find_again<'d>(alloc: Global, inst: &'d Inst) -> Result<Option<&'d [u8]>, All
     ensures { IfOk result (λ formal. name_behind formal ≡ find (is_twice (formals inst.now)) (formals inst.now)) }
 {
     let formals = list_formals(alloc, inst.binds.as_slice())?;
-    let twice = find_twice(alloc, formals.as_slice())?;
-    Ok(first_in(formals.as_slice(), &twice))
+    find_repeated(alloc, formals.as_slice())
+}
+
+/// The first of some names that stands among them more than once.
+fn find_repeated<'d>(alloc: Global, names: &[&'d [u8]]) -> Result<Option<&'d [u8]>, AllocError>
+    ensures { IfOk result (λ name. name_behind name ≡ find (is_twice (texts names.now)) (texts names.now)) }
+{
+    let twice = find_twice(alloc, names)?;
+    Ok(first_in(names, &twice))
 }
 
 /// The first of some names that is in a set.
@@ -232,12 +239,19 @@ fn find_unbound<'d>(
     requires inst { slice_get (insts_of ports.now k) i ≡ Some inst.now }
     ensures { IfOk result (λ formal. name_behind formal ≡ faulty_formal Unbound ports.now inst.now) }
 {
-    let formals = list_formals(alloc, inst.binds.as_slice())?;
-    let bound = NameSet::collect(alloc, formals.as_slice())?;
+    let bound = collect_bound(alloc, inst)?;
     match ports.survey().model_of(k, i) {
         Some(sub) => Ok(first_unbound(ports, sub, &bound)),
         None => Ok(None),
     }
+}
+
+/// The formals that an instance binds.
+fn collect_bound<'d>(alloc: Global, inst: &'d Inst) -> Result<NameSet<'d>, AllocError>
+    ensures { IfOk result (λ set. set ≡ firsts (formals inst.now)) }
+{
+    let formals = list_formals(alloc, inst.binds.as_slice())?;
+    NameSet::collect(alloc, formals.as_slice())
 }
 
 /// The first data input of a model that is not in a set.

@@ -132,8 +132,25 @@ fn judge_names<'d>(
     ensures { IfOk result (λ found. (rule : NameRule) → told_by rule found ≡ name_rule rule ports.now model.now) }
 {
     let names = list_occurrences(alloc, model)?;
+    judge_listed(alloc, ports, k, model, names.as_slice())
+}
+
+/// What each condition on names tells of a model, by its names.
+fn judge_listed<'d>(
+    alloc: Global,
+    ports: &Ports<'d>,
+    k: u32,
+    model: &'d Model,
+    names: &[&'d [u8]],
+) -> Result<Findings<'d>, AllocError>
+    requires reached { IsReached ports.now k }
+    requires model { slice_get ports.now.models k ≡ Some model.now }
+    requires few { length model.now.insts < 2 ^ 32 }
+    requires names { texts names.now ≡ occurrences model.now }
+    ensures { IfOk result (λ found. (rule : NameRule) → told_by rule found ≡ name_rule rule ports.now model.now) }
+{
     let nets = collect_nets(alloc, ports, k, model)?;
-    Ok(tell_each(ports, k, model, &nets, names.as_slice()))
+    Ok(tell_each(ports, k, model, &nets, names))
 }
 
 /// What each condition on names tells of a model, by its names and what is driven and read in it.

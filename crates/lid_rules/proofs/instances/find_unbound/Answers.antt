@@ -1,8 +1,7 @@
-use Rattle.std.proofs.Common.{◌≡◌, map, Some, None, sym, ◌∙◌, ap}
+use Rattle.std.proofs.Common.{◌≡◌, Some, None, sym, ◌∙◌, ap}
 use Rattle.lid_design.specs.declared.Design.{Design}
 use Rattle.lid_design.specs.Models.{instance_number}
-use Rattle.lid_names.specs.Names.{firsts, texts}
-use Rattle.lid_rules.specs.Conditions.{formal_of, formals}
+use Rattle.lid_rules.specs.Conditions.{formals}
 use Rattle.lid_rules.proofs.Subs.{unbound_by}
 use Rattle.lid_ports.proofs.Subs.{sub_reached, none_by}
 use Rattle.lid_rules.proofs.instances.find_unbound.Goals as goal
@@ -15,9 +14,8 @@ first_unbound-requires c =
 pub returns-in-Some : goal.returns-in-Some
 returns-in-Some c =
     let number : instance_number c.args.ports.now c.args.i c.args.k ≡ Some c.in-Some.sub = sym (c.model_of.ensures ∙ ap (λ (d : Design). instance_number d c.args.i c.args.k) c.survey.ensures) ∙ c.in-Some.is in
-    let names : texts c.as_slice-2.result.now ≡ formals c.args.inst.now = ap texts c.as_slice-2.ensures.value ∙ c.in_ok-formals.ensures ∙ ap (map formal_of) c.as_slice.ensures in
     c.first_unbound.ensures
-    ∙ unbound_by c.args.ports.now c.args.k c.args.i c.args.inst.now c.requires.inst c.in_ok-bound.bound (formals c.args.inst.now) (c.in_ok-bound.ensures ∙ ap firsts names) c.in-Some.sub number
+    ∙ unbound_by c.args.ports.now c.args.k c.args.i c.args.inst.now c.requires.inst c.in_ok-bound.bound (formals c.args.inst.now) c.in_ok-bound.ensures c.in-Some.sub number
 
 pub returns : goal.returns
 returns c =
