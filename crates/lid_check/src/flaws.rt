@@ -13,6 +13,7 @@ use crate::pearls::find_inputs;
 use lid_base::{Items, Name};
 use lid_columns::{Elaboration, elaborate, find_column, find_reads};
 use lid_models::Survey;
+use lid_names::copy_name;
 use lid_order::{Found, find_order};
 use lid_rules::CheckFault;
 use std::alloc::{AllocError, Global};
@@ -100,8 +101,8 @@ fn tell_dependence(
 {
     let body = &survey.design().models.as_slice()[lead.model as usize];
     let input = copy_input(alloc, survey, lead)?;
-    let model = copy(alloc, &body.name)?;
-    let output = copy(alloc, &body.outputs.as_slice()[lead.output])?;
+    let model = copy_name(alloc, body.name.as_slice())?;
+    let output = copy_name(alloc, body.outputs.as_slice()[lead.output].as_slice())?;
     Ok(CheckFault::OutputFromInput {
         model,
         output,
@@ -115,12 +116,5 @@ fn copy_input(alloc: Global, survey: &Survey<'_>, lead: Lead) -> Result<Name, Al
     ensures { IfOk result (λ name. slice_get (inputs_of survey.now lead.model) lead.input ≡ Some name) }
 {
     let inputs = find_inputs(alloc, survey, lead.model)?;
-    copy(alloc, &inputs.as_slice()[lead.input])
-}
-
-/// A copy of a name.
-fn copy(alloc: Global, name: &Name) -> Result<Name, AllocError>
-    ensures { IfOk result (λ copied. copied ≡ name.now) }
-{
-    Ok(Items::from_vec(name.as_slice().to_vec(alloc)?))
+    copy_name(alloc, inputs.as_slice()[lead.input].as_slice())
 }

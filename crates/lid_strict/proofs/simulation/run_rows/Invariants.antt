@@ -1,7 +1,7 @@
 use Rattle.std.proofs.Common.{◌≡◌, length, map}
 use Rattle.lid_columns.specs.Elaborations.{shown_driver}
 use Rattle.lid_strict.specs.Networks.{IsRun}
-use Rattle.lid_strict.proofs.simulation.simulate.Given as goal
+use Rattle.lid_strict.proofs.simulation.run_rows.Given as goal
 
 abbrev pub invariant-loop-t : goal.invariant-loop-t
 invariant-loop-t l =

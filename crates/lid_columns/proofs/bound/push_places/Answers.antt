@@ -2,7 +2,7 @@ use Rattle.std.proofs.Common.{◌<◌, length, arith}
 use Rattle.lid_columns.specs.Locals.{actual_for}
 use Rattle.lid_columns.specs.Templates.{place_in}
 use Rattle.lid_columns.proofs.Driving.{placed_next}
-use Rattle.lid_columns.proofs.bound.find_places.Goals as goal
+use Rattle.lid_columns.proofs.bound.push_places.Goals as goal
 
 pub loop-input-preserved : goal.loop-input-preserved
 loop-input-preserved c =
