@@ -53,7 +53,13 @@ fn find_among(
     ensures { IfOk result (FindsFlaw survey.now) }
 {
     match find_order(alloc, reads)? {
-        Found::Order(order) => match find_dependence(alloc, survey, columns, reads, order.as_slice())? {
+        Found::Order(order) => match find_dependence(
+            alloc,
+            survey,
+            columns,
+            reads,
+            order.as_slice(),
+        )? {
             Some(lead) => Ok(Some(Flaw::Dependence(lead))),
             None => Ok(None),
         },
@@ -91,11 +97,7 @@ fn tell_loop(alloc: Global, survey: &Survey<'_>, first: u32) -> Result<CheckFaul
 }
 
 /// Tells an output that depends on an input by their names and that of their model.
-fn tell_dependence(
-    alloc: Global,
-    survey: &Survey<'_>,
-    lead: Lead,
-) -> Result<CheckFault, AllocError>
+fn tell_dependence(alloc: Global, survey: &Survey<'_>, lead: Lead) -> Result<CheckFault, AllocError>
     requires { IsFirstDependence survey.now lead }
     ensures { IfOk result (TellsDependence survey.now) }
 {
