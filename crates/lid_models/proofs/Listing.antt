@@ -1,23 +1,8 @@
--- Names that are listed one group after the other, and first places among filtered names.
-use denote.Ref.{Bor}
-use Rattle.std.proofs.Common.{◌≡◌, ℕ, Bool, true, false, not, cond, List, [], ◌∷◌, ◌++◌, filter, flat_map, refl, sym, ◌∙◌, ap}
+-- First places among filtered names.
+use Rattle.std.proofs.Common.{◌≡◌, ℕ, Bool, true, false, not, cond, List, [], ◌∷◌, filter, refl, sym, ◌∙◌, ap}
 use Rattle.std.specs.Str.{bytes_eq}
 use Rattle.std.proofs.lemmas.Slice.Eq.{bytes_eq-Decides}
-use Rattle.lid_names.specs.Names.{texts, firsts}
-use Rattle.lid_design.specs.declared.Model.{Model}
-use Rattle.lid_design.specs.Models.{cell_names, actual_names, occurrences}
-
--- the groups of a model's names
-pub listed : (m : Model) (r0 r1 r2 r3 r4 r5 : List (Bor (List ℕ))) → texts r0 ≡ [] → texts r1 ≡ texts r0 ++ m.inputs → texts r2 ≡ texts r1 ++ m.outputs → texts r3 ≡ texts r2 ++ m.clocks → texts r4 ≡ texts r3 ++ flat_map cell_names m.cells → texts r5 ≡ texts r4 ++ flat_map actual_names m.insts → texts r5 ≡ occurrences m
-unfolding occurrences
-listed m r0 r1 r2 r3 r4 r5 e0 e1 e2 e3 e4 e5 =
-    let cells = flat_map cell_names m.cells in
-    let insts = flat_map actual_names m.insts in
-    let f1 : texts r1 ≡ m.inputs = e1 ∙ ap (λ (ns : List (List ℕ)). ns ++ m.inputs) e0 in
-    let f2 : texts r2 ≡ m.inputs ++ m.outputs = e2 ∙ ap (λ (ns : List (List ℕ)). ns ++ m.outputs) f1 in
-    let f3 : texts r3 ≡ (m.inputs ++ m.outputs) ++ m.clocks = e3 ∙ ap (λ (ns : List (List ℕ)). ns ++ m.clocks) f2 in
-    let f4 : texts r4 ≡ ((m.inputs ++ m.outputs) ++ m.clocks) ++ cells = e4 ∙ ap (λ (ns : List (List ℕ)). ns ++ cells) f3 in
-    e5 ∙ ap (λ (ns : List (List ℕ)). ns ++ insts) f4
+use Rattle.lid_names.specs.Names.{firsts}
 
 abbrev pub differs : List ℕ → List ℕ → Bool
 differs x other = not (bytes_eq other x)

@@ -11,6 +11,3 @@ mod uses;
 pub use formed::is_well_formed;
 pub use survey::{Survey, SurveyFault, survey_models};
 pub use uses::{Uses, find_uses};
-
-#[cfg(test)]
-mod tests;

@@ -2,6 +2,7 @@
 use denote.Ref.{Bor}
 use Rattle.std.specs.Prelude.{ℕ, if◌then◌else◌, List, [], ◌∷◌, ◌++◌, map}
 use Rattle.indexmap.specs.IndexSet.{IndexSet}
+use Rattle.lid_design.specs.declared.Bind.{Bind}
 pub use Rattle.lid_design.specs.Columns.{is_among}
 pub use Rattle.lid_design.specs.Models.{firsts}
 
@@ -16,3 +17,7 @@ names_of set = texts set.keys
 -- a list with a name added after the others, unless it is there already
 abbrev pub with_name : List (List ℕ) → List ℕ → List (List ℕ)
 with_name names name = if is_among name names then names else names ++ name ∷ []
+
+-- the formal of a binding
+abbrev pub formal_of : Bind → List ℕ
+formal_of b = b.formal

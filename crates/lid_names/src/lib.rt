@@ -1,9 +1,12 @@
-//! Sets of borrowed names, in the order in which the names first came.
+//! Sets and lists of borrowed names: a set in the order in which the names first came, a list in
+//! the order in which a model gives them.
 #![tactic(auto)]
 
+mod listing;
 mod set;
 
+pub use listing::{
+    copy_name, list_formals, list_occurrences, out_of, push_name, push_names, push_outs,
+    push_reads, set_of,
+};
 pub use set::{NameSet, find_twice};
-
-#[cfg(test)]
-mod tests;

@@ -13,7 +13,7 @@ use Rattle.lid_design.specs.declared.Cell.TheVariants.{Names, Latch}
 use Rattle.lid_design.specs.declared.LatchKind.{LatchKind}
 use Rattle.lid_design.specs.declared.LatchKind.TheVariants.{Plain, Rise, Fall}
 use Rattle.lid_design.specs.declared.Inst.{Inst}
-use Rattle.lid_design.specs.declared.Bind.{Bind}
+pub use Rattle.lid_names.specs.Names.{formal_of}
 use Rattle.lid_design.specs.Columns.{is_among, model_named, is_clock, data_inputs}
 use Rattle.lid_design.specs.Models.{occurrences, is_port, port_drivers, inner_drivers, driver_names, read_names, cell_out, is_buffer, is_constant, number_named, insts_of}
 use Rattle.lid_design.specs.Places.{depth, count_cells, count_nets}
@@ -53,9 +53,6 @@ first_name is_faulty m = find is_faulty (occurrences m)
 -- whether a name stands in a list more than once
 abbrev pub is_twice : List (List ℕ) → List ℕ → Bool
 is_twice names name = nat_lt 1 (count_by (bytes_eq name) names)
-
-abbrev pub formal_of : Bind → List ℕ
-formal_of b = b.formal
 
 abbrev pub formals : Inst → List (List ℕ)
 formals inst = map formal_of inst.binds

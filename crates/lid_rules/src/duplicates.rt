@@ -5,10 +5,10 @@ ghost use Rattle.lid_rules.specs.Ports.{name_behind};
 ghost use Rattle.lid_rules.specs.Early.{duplicate_at, duplicates, AreLists};
 
 use crate::fault::CheckFault;
-use crate::lists::{copy_name, list_occurrences, model_at, push_names};
+use crate::lists::model_at;
 use lid_base::Name;
 use lid_design::{Design, Model};
-use lid_names::{NameSet, find_twice};
+use lid_names::{NameSet, copy_name, find_twice, list_occurrences, push_names};
 use std::alloc::{AllocError, Global};
 
 /// The names of the lists of a model, and those that stand in a list more than once.

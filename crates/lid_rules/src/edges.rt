@@ -5,8 +5,9 @@ ghost use Rattle.lid_rules.specs.Conditions.{typed_cell, typed_latches, same_edg
 ghost use Rattle.lid_rules.specs.Edges.{seen, typed_in, typed_of};
 
 use crate::fault::CheckFault;
-use crate::lists::{copy_name, model_at};
+use crate::lists::model_at;
 use lid_design::{Cell, Design, LatchKind, Model};
+use lid_names::copy_name;
 use std::alloc::{AllocError, Global};
 
 /// A latch that has a type, with the names of its model and of its output.

@@ -8,11 +8,10 @@ ghost use Rattle.lid_rules.specs.declared.instances.InstRule.TheVariants.{Unknow
 ghost use Rattle.lid_rules.specs.Ports.{name_behind, is_port_of, first_unbound_of};
 
 use crate::fault::CheckFault;
-use crate::lists::{copy_name, list_formals};
 use crate::ports::{Port, Ports};
 use lid_base::Name;
 use lid_design::{Bind, Inst, Model};
-use lid_names::{NameSet, find_twice};
+use lid_names::{NameSet, copy_name, find_twice, list_formals};
 use std::alloc::{AllocError, Global};
 
 /// A condition that speaks of an instance.

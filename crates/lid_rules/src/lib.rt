@@ -19,6 +19,3 @@ mod unknown;
 pub use fault::CheckFault;
 pub use limits::{Latches, count_latches};
 pub use models::check_models;
-
-#[cfg(test)]
-mod tests;

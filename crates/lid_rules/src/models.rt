@@ -8,11 +8,12 @@ ghost use Rattle.lid_models.specs.Surveys.{IsFirstRecursive};
 use crate::duplicates::find_duplicate;
 use crate::fault::CheckFault;
 use crate::late::find_late;
-use crate::lists::{copy_name, model_at};
+use crate::lists::model_at;
 use crate::ports::Ports;
 use crate::unknown::find_unknown_model;
 use lid_design::Design;
 use lid_models::{Survey, SurveyFault, Uses, find_uses, survey_models};
+use lid_names::copy_name;
 use std::alloc::{AllocError, Global};
 
 /// Judges the models of a design by the conditions that speak of models: all but `NoRoot`,

@@ -7,11 +7,12 @@ ghost use Rattle.lid_rules.specs.Ports.{name_behind, is_in};
 ghost use Rattle.lid_rules.specs.Rules.{name_rule, is_faulty, told_name, AreNets};
 
 use crate::fault::CheckFault;
-use crate::lists::{copy_name, list_occurrences, push_names, push_outs, push_reads};
 use crate::ports::{Port, Ports, Side, push_nets};
 use lid_base::Name;
 use lid_design::Model;
-use lid_names::{NameSet, find_twice};
+use lid_names::{
+    NameSet, copy_name, find_twice, list_occurrences, push_names, push_outs, push_reads,
+};
 use std::alloc::{AllocError, Global};
 
 /// A condition that speaks of the names of a model.

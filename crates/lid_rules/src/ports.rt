@@ -6,11 +6,10 @@ ghost use Rattle.lid_design.specs.Columns.{is_among};
 ghost use Rattle.lid_design.specs.Models.{HasNoRecursion, IsReached, insts_of};
 ghost use Rattle.lid_rules.specs.Ports.{names_in, sets_in, is_in, is_on, actuals_on, nets_on};
 
-use crate::lists::{push_name, set_of};
 use lid_base::{Items, Name};
 use lid_design::{Bind, Inst};
 use lid_models::Survey;
-use lid_names::NameSet;
+use lid_names::{NameSet, push_name, set_of};
 use std::alloc::{AllocError, Global};
 use std::marker::Model;
 

@@ -10,12 +10,12 @@ ghost use Rattle.lid_design.specs.Models.{IsReached, is_clock_of, port_drivers, 
 ghost use Rattle.lid_rules.specs.Conditions.{first_two, two_clocks, root_logic, logic_in};
 
 use crate::fault::CheckFault;
-use crate::lists::{copy_name, out_of};
 use crate::names::push_port_drivers;
 use crate::ports::Ports;
 use lid_base::Name;
 use lid_cover::{Cover, eval};
 use lid_design::{Cell, Model};
+use lid_names::{copy_name, out_of};
 use std::alloc::{AllocError, Global};
 
 /// Tells of the first two clock names of the root, where it has more than one.

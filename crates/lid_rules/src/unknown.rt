@@ -4,9 +4,10 @@ ghost use Rattle.lid_rules.specs.Conditions.{in_insts, unknown_at};
 ghost use Rattle.lid_rules.specs.Early.{unknown_in, unknowns};
 
 use crate::fault::CheckFault;
-use crate::lists::{copy_name, model_at};
+use crate::lists::model_at;
 use lid_design::{Inst, Model};
 use lid_models::Uses;
+use lid_names::copy_name;
 use std::alloc::{AllocError, Global};
 
 /// Tells of the first instance of a reached model that names no model.

@@ -1,7 +1,0 @@
-use Rattle.std.proofs.Common.{◌≡◌, ◌++◌, drop, map}
-use Rattle.lid_names.specs.Names.{texts}
-use Rattle.lid_design.specs.Models.{actual_of}
-use Rattle.lid_models.proofs.nets.push_actuals.Given as goal
-
-abbrev pub invariant-loop-bind : goal.invariant-loop-bind
-invariant-loop-bind l = texts l.into.items ++ map actual_of (drop l.bind-index l.binds) ≡ texts l.fn.into.items ++ map actual_of l.binds
