@@ -11,12 +11,14 @@ use Rattle.lid_design.specs.Models.{IsReached}
 use Rattle.lid_design.specs.Walks.{Among}
 use Rattle.lid_design.specs.Loops.{pearls}
 use Rattle.lid_order.specs.Graphs.{flag, IsReaching}
+use Rattle.lid_rules.specs.declared.fault.CheckFault.{CheckFault}
 use Rattle.lid_rules.specs.declared.fault.CheckFault.TheVariants.{OutputFromInput}
+use Rattle.lid_rules.specs.Acceptance.{ModelsPass}
 use Rattle.lid_check.specs.declared.outputs.Lead.{Lead}
 use Rattle.lid_check.specs.declared.pearls.Pearl.{Pearl}
-use Rattle.lid_check.specs.Acceptance.{DependsOn, HasNoDependence, StandsBefore, TellsDependence}
+use Rattle.lid_check.specs.Acceptance.{DependsOn, HasNoDependence, StandsBefore, TellsDependence, IsRefusal}
 use Rattle.lid_check.specs.Pearls.{inputs_of, number_in, is_marked, Fits, IsFirstMarked, AreUnmarked, LeadsTo, AreReachedIn, AreCutOff, NoneLeads, IsFirstInput}
-use Rattle.lid_check.specs.Flaws.{IsFirstLead, IsFirstDependence}
+use Rattle.lid_check.specs.Flaws.{IsFirstLead, IsFirstDependence, TellsFlaw}
 use Rattle.lid_check.proofs.Lists.{get_among, among_get}
 
 pub marked_number : (marks : List Bool) (o : Option ℕ) → option_map_or (flag marks) o false ≡ true → (a : ℕ) × (o ≡ Some a) × (flag marks a ≡ true)
@@ -185,3 +187,8 @@ tells_dependence d lead first name output input named out given =
       first = first.first;
       told = cc;
     }
+
+-- a flaw of the columns that is told refuses the design
+pub told_refuses : (d : Design) (fault : CheckFault) → ModelsPass d → TellsFlaw d fault → IsRefusal d fault
+told_refuses d fault pass (inl on_loop) = inr (inl (pass, on_loop))
+told_refuses d fault pass (inr told) = inr (inr (pass, told.0, told.1))

@@ -13,6 +13,7 @@ use crate::pearls::find_inputs;
 use lid_base::{Items, Name};
 use lid_columns::{Elaboration, elaborate, find_column, find_reads};
 use lid_models::Survey;
+use lid_names::copy_name;
 use lid_order::{Found, find_order};
 use lid_rules::CheckFault;
 use std::alloc::{AllocError, Global};
@@ -52,7 +53,13 @@ fn find_among(
     ensures { IfOk result (FindsFlaw survey.now) }
 {
     match find_order(alloc, reads)? {
-        Found::Order(order) => match find_dependence(alloc, survey, columns, reads, order.as_slice())? {
+        Found::Order(order) => match find_dependence(
+            alloc,
+            survey,
+            columns,
+            reads,
+            order.as_slice(),
+        )? {
             Some(lead) => Ok(Some(Flaw::Dependence(lead))),
             None => Ok(None),
         },
@@ -90,18 +97,14 @@ fn tell_loop(alloc: Global, survey: &Survey<'_>, first: u32) -> Result<CheckFaul
 }
 
 /// Tells an output that depends on an input by their names and that of their model.
-fn tell_dependence(
-    alloc: Global,
-    survey: &Survey<'_>,
-    lead: Lead,
-) -> Result<CheckFault, AllocError>
+fn tell_dependence(alloc: Global, survey: &Survey<'_>, lead: Lead) -> Result<CheckFault, AllocError>
     requires { IsFirstDependence survey.now lead }
     ensures { IfOk result (TellsDependence survey.now) }
 {
     let body = &survey.design().models.as_slice()[lead.model as usize];
     let input = copy_input(alloc, survey, lead)?;
-    let model = copy(alloc, &body.name)?;
-    let output = copy(alloc, &body.outputs.as_slice()[lead.output])?;
+    let model = copy_name(alloc, body.name.as_slice())?;
+    let output = copy_name(alloc, body.outputs.as_slice()[lead.output].as_slice())?;
     Ok(CheckFault::OutputFromInput {
         model,
         output,
@@ -115,12 +118,5 @@ fn copy_input(alloc: Global, survey: &Survey<'_>, lead: Lead) -> Result<Name, Al
     ensures { IfOk result (λ name. slice_get (inputs_of survey.now lead.model) lead.input ≡ Some name) }
 {
     let inputs = find_inputs(alloc, survey, lead.model)?;
-    copy(alloc, &inputs.as_slice()[lead.input])
-}
-
-/// A copy of a name.
-fn copy(alloc: Global, name: &Name) -> Result<Name, AllocError>
-    ensures { IfOk result (λ copied. copied ≡ name.now) }
-{
-    Ok(Items::from_vec(name.as_slice().to_vec(alloc)?))
+    copy_name(alloc, inputs.as_slice()[lead.input].as_slice())
 }

@@ -199,7 +199,14 @@ pub(crate) fn find_dependence(
 {
     let pearls = list_pearls(alloc, survey, columns.starts.as_slice())?;
     let cut = mark_first(alloc, count_cut(survey), reads.len())?;
-    find_past(alloc, survey, pearls.as_slice(), reads, order, cut.as_slice())
+    find_past(
+        alloc,
+        survey,
+        pearls.as_slice(),
+        reads,
+        order,
+        cut.as_slice(),
+    )
 }
 
 /// The first output of a pearl that depends on a data input of it, by walks past the cut.

@@ -8,6 +8,7 @@ ghost use Rattle.lid_check.specs.Pearls.{inputs_of, number_in, IsNumberOf, IsInp
 
 use lid_base::{Items, Name};
 use lid_models::Survey;
+use lid_names::copy_name;
 use std::alloc::{AllocError, Global};
 
 /// A pearl: an instance of the root, or the root itself where it has none.
@@ -32,7 +33,7 @@ fn without_clocks(
     let mut found = Vec::new(alloc);
     for name in names {
         if !survey.is_clock(model, name.as_slice()) {
-            found.push(Items::from_vec(name.as_slice().to_vec(alloc)?))?;
+            found.push(copy_name(alloc, name.as_slice())?)?;
         }
     }
     Ok(Items::from_vec(found))

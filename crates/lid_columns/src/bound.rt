@@ -9,7 +9,7 @@ use crate::places::{insts_at, model_at, place_in};
 use lid_base::{Items, Name};
 use lid_design::{Bind, Inst};
 use lid_models::Survey;
-use lid_names::NameSet;
+use lid_names::{NameSet, list_formals};
 use std::alloc::{AllocError, Global};
 
 /// For each instance of a model, the nets that its data inputs are bound to.
@@ -69,10 +69,30 @@ fn find_places(
 {
     let formals = formals_of(alloc, inst.binds.as_slice())?;
     let mut places = Vec::new(alloc);
-    for input in inputs {
-        push_place(&mut places, survey, model, sub, inst, &formals, input)?;
-    }
+    push_places(&mut places, survey, model, sub, inst, &formals, inputs)?;
     Ok(Items::from_vec(places))
+}
+
+/// Pushes the nets that some inputs of an instance are bound to, but those of clock names.
+fn push_places(
+    places: &mut Vec<u32>,
+    survey: &Survey<'_>,
+    model: u32,
+    sub: u32,
+    inst: &Inst,
+    formals: &NameSet<'_>,
+    inputs: &[Name],
+) -> Result<(), AllocError>
+    requires judged { IsJudged survey.now }
+    requires reached { IsReached survey.now model }
+    requires sub { IsReached survey.now sub }
+    requires formals { formals.now ≡ map formal_of inst.now.binds }
+    ensures { OnOk result (places.new.items ≡ places.old.items ++ map (λ formal. place_in survey.now model (actual_for inst.now formal)) (data_of survey.now sub inputs.now)) }
+{
+    for input in inputs {
+        push_place(places, survey, model, sub, inst, formals, input)?;
+    }
+    Ok(())
 }
 
 /// Pushes the net that an input of an instance is bound to, where the input is no clock name.
@@ -103,10 +123,7 @@ fn push_place(
 fn formals_of<'d>(alloc: Global, binds: &'d [Bind]) -> Result<NameSet<'d>, AllocError>
     ensures { IfOk result (λ set. set ≡ firsts (map formal_of binds.now)) }
 {
-    let mut formals = Vec::with_capacity(alloc, binds.len())?;
-    for bind in binds {
-        formals.push(bind.formal.as_slice())?;
-    }
+    let formals = list_formals(alloc, binds)?;
     NameSet::collect(alloc, formals.as_slice())
 }
 

@@ -1,6 +1,6 @@
 ghost use Rattle.std.specs.Prelude.{◌≡◌, ◌+◌, ◌++◌, ◌∷◌, [], Some, length, map, flat_map, slice_get, IfOk, OnOk};
 ghost use Rattle.lid_design.specs.Columns.{first_bit};
-ghost use Rattle.lid_design.specs.Models.{firsts, insts_of, instance_number, IsReached};
+ghost use Rattle.lid_design.specs.Models.{insts_of, instance_number, IsReached};
 ghost use Rattle.std.specs.List.{enumerate_from};
 ghost use Rattle.lid_names.specs.Names.{texts};
 ghost use Rattle.lid_columns.specs.Locals.{inputs_from, local_of, output_of, outputs_of};
@@ -13,7 +13,7 @@ use crate::template::LocalDriver;
 use lid_base::Name;
 use lid_design::{Bind, Cell, Init, Inst, Model};
 use lid_models::Survey;
-use lid_names::NameSet;
+use lid_names::{NameSet, set_of};
 use std::alloc::{AllocError, Global};
 
 /// What drives nets of a model, and the names of these nets, in the same order.
@@ -35,17 +35,6 @@ pub fn collect_outputs<'d>(
         sets.push(set_of(alloc, model.outputs.as_slice())?)?;
     }
     Ok(sets)
-}
-
-/// A set of some names.
-fn set_of<'d>(alloc: Global, names: &'d [Name]) -> Result<NameSet<'d>, AllocError>
-    ensures { IfOk result (λ set. set ≡ firsts names.now) }
-{
-    let mut list = Vec::with_capacity(alloc, names.len())?;
-    for name in names {
-        list.push(name.as_slice())?;
-    }
-    NameSet::collect(alloc, list.as_slice())
 }
 
 /// All that drives nets of a model: its data inputs, its cells, and the outputs of its instances.
@@ -80,8 +69,8 @@ fn push_net<'d>(
     ensures nets { OnOk result (texts into.new.nets.items ≡ texts into.old.nets.items ++ net.now ∷ []) }
     ensures locals { OnOk result (map shown_local into.new.locals.items ≡ map shown_local into.old.locals.items ++ shown_local local.entry ∷ []) }
 {
-    into.nets.push(net)?;
     into.locals.push(local)?;
+    into.nets.push(net)?;
     Ok(())
 }
 

@@ -12,6 +12,7 @@ use crate::elaboration::judge;
 use crate::template::{Template, find_templates};
 use lid_base::{Items, Name};
 use lid_models::Survey;
+use lid_names::copy_name;
 use std::alloc::{AllocError, Global};
 
 /// A column of a model or of the instances in it, by its number from the first column of the model
@@ -135,11 +136,4 @@ fn net_of<'d>(survey: &Survey<'d>, spot: Spot) -> &'d [u8]
         Some(net) => net,
         None => unreachable!(),
     }
-}
-
-/// A copy of a name.
-fn copy_name(alloc: Global, name: &[u8]) -> Result<Name, AllocError>
-    ensures { IfOk result (λ copied. copied ≡ name.now) }
-{
-    Ok(Items::from_vec(name.to_vec(alloc)?))
 }

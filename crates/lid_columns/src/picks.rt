@@ -23,9 +23,22 @@ pub fn picks_of<'d>(
     ensures { IfOk result (λ picks. picks ≡ picks_among survey.now model (firsts (texts driven.now))) }
 {
     let set = NameSet::collect(alloc, driven)?;
+    picks_in(alloc, survey, &set, model)
+}
+
+/// For each net of a model, its place in a set.
+fn picks_in(
+    alloc: Global,
+    survey: &Survey<'_>,
+    set: &NameSet<'_>,
+    model: u32,
+) -> Result<Items<u32>, AllocError>
+    requires { IsReached survey.now model }
+    ensures { IfOk result (λ picks. picks ≡ picks_among survey.now model set.now) }
+{
     let mut picks = Vec::new(alloc);
     for place in 0..survey.count_nets(model) {
-        picks.push(pick_in(&set, net_at(survey, model, place))?)?;
+        picks.push(pick_in(set, net_at(survey, model, place))?)?;
     }
     Ok(Items::from_vec(picks))
 }

@@ -110,7 +110,13 @@ pub fn find_templates<'d>(
     let sizes = find_sizes(alloc, survey)?;
     let outputs = collect_outputs(alloc, survey.design().models.as_slice())?;
     let mut templates = Vec::new(alloc);
-    push_templates(alloc, survey, sizes.as_slice(), outputs.as_slice(), &mut templates)?;
+    push_templates(
+        alloc,
+        survey,
+        sizes.as_slice(),
+        outputs.as_slice(),
+        &mut templates,
+    )?;
     Ok(Items::from_vec(templates))
 }
 

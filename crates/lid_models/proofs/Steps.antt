@@ -12,3 +12,7 @@ if_both_ok P Q R f (Err e) h k = tt
 pub on_ok : {A E : Type 0} (P : Type 0) → P → (r : Result A E) → OnOk r P
 on_ok P p (Ok x) = p
 on_ok P p (Err e) = tt
+
+pub on_ok_by : {A E : Type 0} (P Q : Type 0) → (P → Q) → (r : Result A E) → OnOk r P → OnOk r Q
+on_ok_by P Q f (Ok x) p = f p
+on_ok_by P Q f (Err e) p = tt

@@ -6,9 +6,9 @@ use Rattle.lid_design.specs.declared.Design.{Design}
 use Rattle.lid_design.specs.declared.Model.{Model}
 use Rattle.lid_design.specs.WellFormed.{IsWellFormed}
 use Rattle.lid_design.specs.Columns.{is_among, is_clock}
-use Rattle.lid_design.specs.Models.{occurrences, firsts, nets, IsReached, HasNoRecursion, is_clock_of}
+use Rattle.lid_design.specs.Models.{occurrences, firsts, nets, IsReached, is_clock_of}
 use Rattle.lid_design.specs.Places.{model_nets}
-use Rattle.lid_models.specs.Surveys.{AreKnown, IsModelOrder, IsSurvey}
+use Rattle.lid_models.specs.Surveys.{AreNames, IsModelOrder}
 use Rattle.lid_models.specs.Graphs.{IsUsedGraph}
 use Rattle.lid_models.specs.Clocks.{HaveClocks}
 use Rattle.lid_models.specs.Nets.{nets_by, nets_of_all}
@@ -38,7 +38,7 @@ filter-same p q (x ∷ xs) same =
     ap (λ (b : Bool). cond b (x ∷ filter p xs) (filter p xs)) (same x)
     ∙ ap (λ (ns : List (List ℕ)). cond (q x) (x ∷ ns) ns) (filter-same p q xs same)
 
-module _ (d : Design) (formed : IsWellFormed d) (known : AreKnown d) (flat : HasNoRecursion d) (order : List ℕ) (ordered : IsModelOrder d order) (clocks named : List (List (List ℕ))) (have : HaveClocks d order clocks) (made : named ≡ nets_of_all d.models clocks) where
+module _ (d : Design) (formed : IsWellFormed d) (order : List ℕ) (ordered : IsModelOrder d order) (clocks named : List (List (List ℕ))) (have : HaveClocks d order clocks) (made : named ≡ nets_of_all d.models clocks) where
   clock : (k : ℕ) (name : List ℕ) → IsReached d k → is_among name (get_or clocks k []) ≡ is_clock_of d k name
   clock k name reached = have.each k name (ordered.each k reached)
 
@@ -52,11 +52,8 @@ module _ (d : Design) (formed : IsWellFormed d) (known : AreKnown d) (flat : Has
           firsts-filter (λ net. not (is_among net (get_or clocks k []))) (occurrences m)
           ∙ filter-same _ _ (firsts (occurrences m)) (λ net. ap not (clock k net reached ∙ ap (λ (o : Option Model). option_map_or (λ m. is_clock d m net) o false) here))
 
-  pub surveyed : IsSurvey d order clocks named
-  surveyed = record {
-    known = known;
-    flat = flat;
-    ordered = ordered;
+  pub named_of : AreNames d clocks named
+  named_of = record {
     inside = reached_below d formed;
     each_clock = have.size;
     each_nets = ap length made ∙ nets-long d.models clocks have.size;

@@ -48,16 +48,20 @@ pub record IsModelOrder (d : Design) (order : List ℕ) : Type 0 where
   pub short : length order ≤ length d.models
   pub after : StandsAfterItsModels d [] order
 
--- what is known of the models that are reached
-pub record IsSurvey (d : Design) (order : List ℕ) (clocks named : List (List (List ℕ))) : Type 0 where
-  pub known : AreKnown d
-  pub flat : HasNoRecursion d
-  pub ordered : IsModelOrder d order
+-- the clock names and the nets of the models that are reached, each in its place
+pub record AreNames (d : Design) (clocks named : List (List (List ℕ))) : Type 0 where
   pub inside : (k : ℕ) → IsReached d k → k < length d.models
   pub each_clock : length clocks ≡ length d.models
   pub each_nets : length named ≡ length d.models
   pub clock : (k : ℕ) (name : List ℕ) → IsReached d k → is_among name (slice_index_or clocks k []) ≡ is_clock_of d k name
   pub nets : (k : ℕ) → IsReached d k → slice_index_or named k [] ≡ model_nets d k
+
+-- what is known of the models that are reached
+pub record IsSurvey (d : Design) (order : List ℕ) (clocks named : List (List (List ℕ))) : Type 0 where
+  pub known : AreKnown d
+  pub flat : HasNoRecursion d
+  pub ordered : IsModelOrder d order
+  pub names : AreNames d clocks named
 
 -- a refusal: want of memory, or the first model that reaches itself
 abbrev pub IsSurveyFault : Design → SurveyFault → Type 0

@@ -1,9 +1,10 @@
-ghost use Rattle.std.specs.Prelude.{◌≡◌, ◌≢◌, ◌<◌, ◌&&◌, ℕ, List, [], Some, length, slice_get, slice_index_or, IfOk, OnOk};
+ghost use Rattle.std.specs.Prelude.{◌≡◌, ◌≢◌, ◌<◌, ◌^◌, ◌&&◌, ℕ, [], Some, length, slice_get, slice_index_or, IfOk, OnOk};
 ghost use Rattle.std.specs.List.{list_any};
 ghost use Rattle.std.specs.Str.{bytes_eq};
 ghost use Rattle.lid_design.specs.Columns.{is_among, is_clocked_by, is_own_clock};
 ghost use Rattle.lid_design.specs.Models.{insts_of};
-ghost use Rattle.lid_models.specs.Clocks.{binds_to, inst_binds, in_sets, HasClocks, HaveClocks, GrowsBy};
+ghost use Rattle.lid_design.specs.WellFormed.{IsWellFormed};
+ghost use Rattle.lid_models.specs.Clocks.{binds_to, inst_binds, in_sets, is_clock_by, HasClocks, HaveClocks, GrowsBy};
 ghost use Rattle.lid_models.specs.Surveys.{IsModelOrder};
 
 use crate::uses::Uses;
@@ -23,23 +24,52 @@ pub fn clocks_of<'d>(
     requires sets { length sets.now ≡ length uses.now.models }
     ensures { IfOk result (HasClocks uses.now sets.now model) }
 {
-    let body = &uses.design().models.as_slice()[model as usize];
-    let mut set = own_clocks(alloc, body)?;
-    for i in 0..body.insts.len() as u32 {
-        let inst = &body.insts.as_slice()[i as usize];
-        add_bound(&mut set, uses, sets, model, i, inst)?;
-    }
+    let mut set = NameSet::new(alloc);
+    add_clocks(&mut set, uses, sets, model)?;
     Ok(set)
 }
 
-/// The names that a model itself makes clock names.
-fn own_clocks<'d>(alloc: Global, model: &'d Model) -> Result<NameSet<'d>, AllocError>
-    ensures { IfOk result (λ set. (net : List ℕ) → is_among net set ≡ is_own_clock model.now net) }
+/// Adds the clock names of a model, from those of the models of its instances.
+fn add_clocks<'d>(
+    set: &mut NameSet<'d>,
+    uses: &Uses<'d>,
+    sets: &[NameSet<'d>],
+    model: u32,
+) -> Result<(), AllocError>
+    requires exists { model < length uses.now.models }
+    requires sets { length sets.now ≡ length uses.now.models }
+    ensures { OnOk result (GrowsBy (is_clock_by uses.now (in_sets sets.now) model) set.old set.new) }
 {
-    let mut set = NameSet::new(alloc);
-    add_names(&mut set, model.clocks.as_slice())?;
-    add_controls(&mut set, model.cells.as_slice())?;
-    Ok(set)
+    let body = &uses.design().models.as_slice()[model as usize];
+    add_own(set, body)?;
+    add_all_bound(set, uses, sets, model, body.insts.as_slice())
+}
+
+/// Adds the names that a model itself makes clock names.
+fn add_own<'d>(set: &mut NameSet<'d>, model: &'d Model) -> Result<(), AllocError>
+    ensures { OnOk result (GrowsBy (is_own_clock model.now) set.old set.new) }
+{
+    add_names(set, model.clocks.as_slice())?;
+    add_controls(set, model.cells.as_slice())
+}
+
+/// Adds what the instances of a model bind to clock names of their models.
+fn add_all_bound<'d>(
+    set: &mut NameSet<'d>,
+    uses: &Uses<'d>,
+    sets: &[NameSet<'d>],
+    model: u32,
+    insts: &'d [Inst],
+) -> Result<(), AllocError>
+    requires sets { length sets.now ≡ length uses.now.models }
+    requires insts { insts.now ≡ insts_of uses.now model }
+    requires few { length insts.now < 2 ^ 32 }
+    ensures { OnOk result (GrowsBy (λ net. list_any (inst_binds uses.now (in_sets sets.now) net) insts.now) set.old set.new) }
+{
+    for i in 0..insts.len() as u32 {
+        add_bound(set, uses, sets, model, i, &insts[i as usize])?;
+    }
+    Ok(())
 }
 
 /// Adds some names.
@@ -142,11 +172,28 @@ pub fn find_clocks<'d>(
     ensures { IfOk result (HaveClocks uses.now order.now) }
 {
     let mut sets = no_names(alloc, uses.design().models.len())?;
+    put_clocks(alloc, &mut sets, uses, order)?;
+    Ok(Items::from_vec(sets))
+}
+
+/// Puts the clock names of the models of an order in their places, each after those of its
+/// instances.
+fn put_clocks<'d>(
+    alloc: Global,
+    sets: &mut Vec<NameSet<'d>>,
+    uses: &Uses<'d>,
+    order: &[u32],
+) -> Result<(), AllocError>
+    requires formed { IsWellFormed uses.now }
+    requires order { IsModelOrder uses.now order.now }
+    requires size { length sets.old.items ≡ length uses.now.models }
+    ensures { OnOk result (HaveClocks uses.now order.now sets.new.items) }
+{
     for model in order {
         let set = clocks_of(alloc, uses, sets.as_slice(), *model)?;
-        put_at(&mut sets, *model as usize, set)?;
+        put_at(sets, *model as usize, set)?;
     }
-    Ok(Items::from_vec(sets))
+    Ok(())
 }
 
 /// Puts a set in the place of another.

@@ -6,7 +6,7 @@ ghost use Rattle.lid_design.specs.Places.{model_nets};
 ghost use Rattle.lid_design.specs.WellFormed.{IsWellFormed};
 ghost use Rattle.lid_models.specs.declared.survey.SurveyFault.TheVariants.{Memory};
 ghost use Rattle.lid_models.specs.Graphs.{IsKept};
-ghost use Rattle.lid_models.specs.Surveys.{AreKnown, IsModelOrder, IsSurveyFault};
+ghost use Rattle.lid_models.specs.Surveys.{AreKnown, AreNames, IsModelOrder, IsSurveyFault};
 
 use crate::clocks::find_clocks;
 use crate::nets::find_nets;
@@ -15,7 +15,7 @@ use lid_base::Items;
 use lid_design::Design;
 use lid_names::NameSet;
 use lid_order::{Found, find_order};
-use std::alloc::Global;
+use std::alloc::{AllocError, Global};
 use std::marker::Model;
 
 /// The models of a design that are reached, none of which reaches itself. A contract sees the
@@ -25,9 +25,15 @@ pub struct Survey<'d> {
     uses: Uses<'d>,
     /// The numbers of the reached models, each after those of the models of its instances.
     order: Items<u32>,
-    /// The clock names of each model, none where it is not reached.
+    names: ModelNames<'d>,
+}
+
+/// The names in each model, none where it is not reached.
+#[derive(Drop)]
+pub struct ModelNames<'d> {
+    /// The clock names.
     clocks: Items<NameSet<'d>>,
-    /// The nets of each model, none where it is not reached.
+    /// The nets.
     nets: Items<NameSet<'d>>,
 }
 
@@ -41,11 +47,11 @@ impl<'d> Model for Survey<'d> {
 
     ghost view = { λ s. s.uses };
 
-    ghost invariant = { λ s. IsSurvey s.uses s.order s.clocks s.nets };
+    ghost invariant = { λ s. IsSurvey s.uses s.order s.names.clocks s.names.nets };
 }
 
 /// Why the models of a design are not surveyed.
-#[derive(Clone, Copy, Debug, PartialEq, Eq)]
+#[derive(Clone, Copy)]
 pub enum SurveyFault {
     /// The first model, in the order of the text, that is reached and reaches itself.
     Recursive { model: u32 },
@@ -62,23 +68,42 @@ pub fn survey_models<'d>(alloc: Global, uses: Uses<'d>) -> Result<Survey<'d>, Su
     ensures ok { IfOk result (λ s. s ≡ uses.entry) }
     ensures err { IfErr result (IsSurveyFault uses.entry) }
 {
-    let order = match find_model_order(alloc, &uses) {
-        Ok(order) => order,
-        Err(fault) => return Err(fault),
-    };
-    let Ok(clocks) = find_clocks(alloc, &uses, order.as_slice()) else {
-        return Err(SurveyFault::Memory);
-    };
-    let models = uses.design().models.as_slice();
-    let Ok(nets) = find_nets(alloc, models, clocks.as_slice()) else {
-        return Err(SurveyFault::Memory);
-    };
-    Ok(Survey {
-        uses,
-        order,
-        clocks,
-        nets,
-    })
+    match find_model_order(alloc, &uses) {
+        Ok(order) => survey_in_order(alloc, uses, order),
+        Err(fault) => Err(fault),
+    }
+}
+
+/// The survey of some models, by an order of those that are reached.
+fn survey_in_order<'d>(
+    alloc: Global,
+    uses: Uses<'d>,
+    order: Items<u32>,
+) -> Result<Survey<'d>, SurveyFault>
+    requires known { AreKnown uses }
+    requires flat { HasNoRecursion uses }
+    requires order { IsModelOrder uses order }
+    ensures ok { IfOk result (λ s. s ≡ uses.entry) }
+    ensures err { IfErr result (IsSurveyFault uses.entry) }
+{
+    match find_names(alloc, &uses, order.as_slice()) {
+        Ok(names) => Ok(Survey { uses, order, names }),
+        Err(_) => Err(SurveyFault::Memory),
+    }
+}
+
+/// The clock names and the nets of the models of an order.
+fn find_names<'d>(
+    alloc: Global,
+    uses: &Uses<'d>,
+    order: &[u32],
+) -> Result<ModelNames<'d>, AllocError>
+    requires { IsModelOrder uses.now order.now }
+    ensures { IfOk result (λ names. AreNames uses.now names.clocks names.nets) }
+{
+    let clocks = find_clocks(alloc, uses, order)?;
+    let nets = find_nets(alloc, uses.design().models.as_slice(), clocks.as_slice())?;
+    Ok(ModelNames { clocks, nets })
 }
 
 /// An order of the reached models, each after those of the models of its instances.
@@ -149,7 +174,7 @@ impl<'d> Survey<'d> {
         requires { IsReached self.now model }
         ensures { result ≡ is_clock_of self.now model name.now }
     {
-        self.clocks.as_slice()[model as usize].has(name)
+        self.names.clocks.as_slice()[model as usize].has(name)
     }
 
     /// How many nets a reached model has: its names that are no clock names.
@@ -158,7 +183,7 @@ impl<'d> Survey<'d> {
         ensures value { result ≡ length (model_nets self.now model) }
         ensures small { result < 2 ^ 63 }
     {
-        self.nets.as_slice()[model as usize].len()
+        self.names.nets.as_slice()[model as usize].len()
     }
 
     /// The name of a net of a reached model, by its place among the nets.
@@ -166,7 +191,7 @@ impl<'d> Survey<'d> {
         requires { IsReached self.now model }
         ensures { option_map (λ (r : Bor (List ℕ)). r.now) result ≡ slice_get (model_nets self.now model) place }
     {
-        self.nets.as_slice()[model as usize].name_at(place)
+        self.names.nets.as_slice()[model as usize].name_at(place)
     }
 
     /// The place of a net of a reached model, by its name.
@@ -174,6 +199,6 @@ impl<'d> Survey<'d> {
         requires { IsReached self.now model }
         ensures { result ≡ position (bytes_eq name.now) (model_nets self.now model) }
     {
-        self.nets.as_slice()[model as usize].place_of(name)
+        self.names.nets.as_slice()[model as usize].place_of(name)
     }
 }

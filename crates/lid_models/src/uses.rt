@@ -21,10 +21,16 @@ pub struct Uses<'d> {
     design: &'d Design,
     /// For each model, the number of the model of each of its instances.
     numbers: Items<Items<Option<u32>>>,
-    /// Which models are reached.
+    reached: Reached,
+}
+
+/// Which models are reached.
+#[derive(Drop)]
+struct Reached {
+    /// Whether each is.
     marks: Items<bool>,
-    /// The numbers of the reached models, in the order of the text.
-    reached: Items<u32>,
+    /// The numbers of those that are, in the order of the text.
+    numbers: Items<u32>,
 }
 
 impl<'d> Model for Uses<'d> {
@@ -35,7 +41,7 @@ impl<'d> Model for Uses<'d> {
 
     ghost view = { λ s. s.design.now };
 
-    ghost invariant = { λ s. IsUses s.design.now s.numbers s.marks s.reached };
+    ghost invariant = { λ s. IsUses s.design.now s.numbers s.reached.marks s.reached.numbers };
 }
 
 /// Finds which models the instances of a design name, and which models are reached.
@@ -44,14 +50,28 @@ pub fn find_uses<'d>(alloc: Global, design: &'d Design) -> Result<Uses<'d>, Allo
     ensures { IfOk result (λ uses. uses ≡ design.now) }
 {
     let numbers = number_instances(alloc, design)?;
-    let marks = mark_used(alloc, design, numbers.as_slice())?;
-    let reached = list_marked(alloc, marks.as_slice())?;
+    let reached = find_models(alloc, design, numbers.as_slice())?;
     Ok(Uses {
         design,
         numbers,
-        marks,
         reached,
     })
+}
+
+/// Finds which models are reached from the root.
+fn find_models(
+    alloc: Global,
+    design: &Design,
+    numbers: &[Items<Option<u32>>],
+) -> Result<Reached, AllocError>
+    requires formed { IsWellFormed design.now }
+    requires numbers { numbers.now ≡ instance_numbers design.now }
+    ensures marks { IfOk result (λ reached. AreMarked design.now reached.marks) }
+    ensures numbers { IfOk result (λ reached. AreReached design.now reached.numbers) }
+{
+    let marks = mark_used(alloc, design, numbers)?;
+    let numbers = list_marked(alloc, marks.as_slice())?;
+    Ok(Reached { marks, numbers })
 }
 
 /// The number of the model of each instance of each model.
@@ -193,7 +213,7 @@ impl<'d> Uses<'d> {
     pub fn reached(&self) -> &[u32]
         ensures { AreReached self.now result.now }
     {
-        self.reached.as_slice()
+        self.reached.numbers.as_slice()
     }
 
     /// The number of the model of an instance, by the numbers of the model that has it and of the
@@ -213,7 +233,11 @@ impl<'d> Uses<'d> {
         ensures used { IfOk result (IsUsedGraph self.now) }
         ensures graph { IfOk result IsGraph }
     {
-        keep_marked_rows(alloc, self.marks.as_slice(), self.numbers.as_slice())
+        keep_marked_rows(
+            alloc,
+            self.reached.marks.as_slice(),
+            self.numbers.as_slice(),
+        )
     }
 
     /// Those of some models that are reached.
@@ -224,7 +248,7 @@ impl<'d> Uses<'d> {
     ) -> Result<Items<u32>, AllocError>
         ensures { IfOk result (IsKept self.now models.now) }
     {
-        keep_marked(alloc, self.marks.as_slice(), models)
+        keep_marked(alloc, self.reached.marks.as_slice(), models)
     }
 }
 

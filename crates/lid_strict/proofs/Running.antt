@@ -74,3 +74,6 @@ refilled n new old long = ap (λ (m : ℕ). take m (new ++ drop (length new) old
     whole : (xs ys : List Bool) → take (length xs) (xs ++ ys) ≡ xs
     whole [] ys = refl
     whole (x ∷ xs) ys = ap (λ (zs : List Bool). x ∷ zs) (whole xs ys)
+
+pub below_same : (sources : List (Source ℕ)) (n : ℕ) → length sources ≡ n → (xs : List ℕ) → AllByRecursion (λ k. k < length sources) xs → AllByRecursion (λ k. k < n) xs
+below_same sources n equal xs all = subst (λ (m : ℕ). AllByRecursion (λ k. k < m) xs) equal all

@@ -1,6 +1,6 @@
 //! Runs of networks that are laid out.
 
-ghost use Rattle.std.specs.Prelude.{◌≡◌, ◌<◌, ◌≤◌, ◌++◌, if◌then◌else◌, ℕ, Bool, List, length, map, IfOk, OnOk};
+ghost use Rattle.std.specs.Prelude.{◌≡◌, ◌<◌, ◌≤◌, ◌++◌, if◌then◌else◌, ℕ, Bool, List, [], length, map, IfOk, OnOk};
 ghost use Rattle.std.specs.List.{AllByRecursion, list_any};
 ghost use Rattle.lid_cover.specs.Cover.{cover_value, IsCover};
 ghost use Rattle.lid_cover.specs.Masks.{packed, is_met};
@@ -170,14 +170,37 @@ pub fn simulate(
     ensures { IfOk result (λ out. (b : Table ℕ) → IsStrict (driver_of (map shown_driver drivers.now)) rows.now b → out ≡ rows_at outs.now b (length rows.now)) }
 {
     let program = lay_out(alloc, drivers, order)?;
+    let mut results = Vec::with_capacity(alloc, rows.len())?;
+    run_rows(alloc, drivers, &program, order, outs, rows, &mut results)?;
+    Ok(Items::from_vec(results))
+}
+
+/// Runs a network that is laid out row by row, and pushes the bits of some numbers in each row, where
+/// there are none yet.
+fn run_rows(
+    alloc: Global,
+    drivers: &[Driver<'_>],
+    program: &Program,
+    order: &[u32],
+    outs: &[u32],
+    rows: &[Items<bool>],
+    results: &mut Vec<Items<bool>>,
+) -> Result<(), AllocError>
+    requires laid { IsLaidOut (map shown_driver drivers.now) order.now program.now }
+    requires whole { IsWhole program.now }
+    requires covers { AllByRecursion (λ driver. HasCover (shown_driver driver)) drivers.now }
+    requires held { AreHeldBelow (map shown_driver drivers.now) }
+    requires outs { AllByRecursion (λ k. k < length drivers.now) outs.now }
+    requires none { results.old.items ≡ [] }
+    ensures { OnOk result ((b : Table ℕ) → IsStrict (driver_of (map shown_driver drivers.now)) rows.now b → results.new.items ≡ rows_at outs.now b (length rows.now)) }
+{
     let mut before = Vec::from_elem(alloc, false, drivers.len())?;
     let mut now = Vec::from_elem(alloc, false, drivers.len())?;
-    let mut results = Vec::with_capacity(alloc, rows.len())?;
     for t in 0..rows.len() {
         let row = rows[t].as_slice();
         let out = run_row(
             alloc,
-            &program,
+            program,
             order,
             outs,
             row,
@@ -188,5 +211,5 @@ pub fn simulate(
         results.push(out)?;
         swap(&mut before, &mut now);
     }
-    Ok(Items::from_vec(results))
+    Ok(())
 }

@@ -1,65 +1,15 @@
-use Rattle.std.proofs.Common.{◌≡◌, ℕ, Bool, List, [], ◌+◌, ◌<◌, length, map, sym, ◌∙◌, ap, subst, arith}
-use Rattle.std.specs.Prelude.{vec_items}
-use Rattle.std.proofs.lemmas.List.{length-map, get_or_default}
-use Rattle.lid_columns.specs.Elaborations.{shown_driver}
+use Rattle.std.proofs.Common.{◌≡◌, ℕ, List, ◌<◌, length, map, ◌∙◌, subst}
 use Rattle.std.specs.List.{AllByRecursion}
-use Rattle.lid_design.specs.Network.{Source}
-use Rattle.lid_strict.specs.Networks.{rows_at, IsRun, HasCover}
-use Rattle.lid_strict.specs.Programs.{IsLaidOut}
-use Rattle.lid_strict.proofs.Steps.{order_below, all_map, covers_in_order}
-use Rattle.lid_strict.proofs.Running.{runs_next, refilled}
+use Rattle.std.proofs.lemmas.List.{length-map}
+use Rattle.lid_columns.specs.Elaborations.{shown_driver}
+use Rattle.lid_strict.proofs.Steps.{order_below}
+use Rattle.lid_strict.proofs.Running.{below_same}
 use Rattle.lid_strict.proofs.simulation.simulate.Goals as goal
-
-below : (sources : List (Source ℕ)) (n : ℕ) → length sources ≡ n → (xs : List ℕ) → AllByRecursion (λ k. k < length sources) xs → AllByRecursion (λ k. k < n) xs
-below sources n same xs all = subst (λ (m : ℕ). AllByRecursion (λ k. k < m) xs) same all
 
 pub lay_out-requires-clause-below : goal.lay_out-requires-clause-below
 lay_out-requires-clause-below c =
     let sources = map shown_driver c.args.drivers.now in
-    below sources (length c.args.drivers.now) (length-map c.args.drivers.now shown_driver) c.args.order.now (order_below sources c.args.order.now c.requires.ordered)
-
-pub run_row-requires-clause-covers : goal.run_row-requires-clause-covers
-run_row-requires-clause-covers c =
-    let sources = map shown_driver c.args.drivers.now in
-    let covers = all_map HasCover shown_driver c.args.drivers.now c.requires.covers in
-    subst (AllByRecursion HasCover) (sym c.in_ok-program.ensures.shown)
-    (covers_in_order sources covers c.args.order.now (order_below sources c.args.order.now c.requires.ordered))
-
-pub run_row-requires-clause-below : goal.run_row-requires-clause-below
-run_row-requires-clause-below c =
-    let sources = map shown_driver c.args.drivers.now in
-    let wide = length-map c.args.drivers.now shown_driver ∙ sym (ap length c.as_mut_slice.ensures.value ∙ c.loop-t.invariant.0) in
-    below sources (length c.as_mut_slice.result.now) wide c.args.order.now (order_below sources c.args.order.now c.requires.ordered)
-
-pub run_row-requires-clause-outs : goal.run_row-requires-clause-outs
-run_row-requires-clause-outs c =
-    let wide = ap length c.as_mut_slice.ensures.value ∙ c.loop-t.invariant.0 in
-    subst (λ (m : ℕ). AllByRecursion (λ k. k < m) c.args.outs.now) (sym wide) c.requires.outs
-
-pub loop-t-preserved : goal.loop-t-preserved
-loop-t-preserved c =
-    let sources = map shown_driver c.args.drivers.now in
-    let outs = c.args.outs.now in
-    let rows = c.args.rows.now in
-    let t = c.loop-t.t in
-    let h : t < length rows = omega arith in
-    let long = length-map c.args.drivers.now shown_driver in
-    let run = subst (λ (bits : List Bool). IsRun sources outs rows t bits c.loop-t.results.items) (sym c.as_slice.ensures.value) c.loop-t.invariant.1 in
-    let same_row = c.as_slice-row.ensures ∙ c.index-rows-t.is ∙ get_or_default rows t c.index-rows-t.result [] h in
-    let size = c.run_row.ensures.size ∙ ap length c.as_mut_slice.ensures.value ∙ c.loop-t.invariant.0 ∙ sym long in
-    let laid : IsLaidOut sources c.args.order.now c.in_ok-program.program = record { ordered = c.requires.ordered; steps = c.in_ok-program.ensures.shown } in
-    let width = long ∙ sym (ap length c.as_mut_slice.ensures.value ∙ c.loop-t.invariant.0) in
-    let next = runs_next sources outs rows c.requires.held t c.as_slice.result.now c.run_row.new.now c.loop-t.results.items c.as_slice-row.result.now c.in_ok-out.out run h same_row size
-    (c.run_row.ensures.bits sources laid)
-    (c.in_ok-out.ensures.out sources laid width) in
-    let items_x : c.swap.new.x.items ≡ c.run_row.new.now = ap vec_items c.swap.ensures.x_after ∙ refilled c.loop-t.now.len c.run_row.new.now c.loop-t.now.items (c.run_row.ensures.size ∙ c.as_mut_slice.ensures.len) in
-    let items_y : c.swap.new.y.items ≡ c.loop-t.before.items = ap vec_items c.swap.ensures.y_after in (
-      ap length items_y ∙ c.loop-t.invariant.1.size ∙ long,
-      subst (λ (bits : List Bool). IsRun sources outs rows (t + 1) bits c.push.new.self.items) (sym items_x)
-          (subst (λ (rs : List (List Bool)). IsRun sources outs rows (t + 1) c.run_row.new.now rs) (sym c.in_ok-push.ensures.items) next),
-    )
+    below_same sources (length c.args.drivers.now) (length-map c.args.drivers.now shown_driver) c.args.order.now (order_below sources c.args.order.now c.requires.ordered)
 
 pub returns : goal.returns
-returns c b strict =
-    let done : c.loop-t.t ≡ length c.args.rows.now = omega arith in
-    c.from_vec.ensures ∙ c.loop-t.invariant.1.rows_so_far b strict ∙ ap (rows_at c.args.outs.now b) done
+returns c b strict = c.from_vec.ensures ∙ c.in_ok-run_rows.ensures b strict

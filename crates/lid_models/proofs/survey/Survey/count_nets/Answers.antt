@@ -8,16 +8,16 @@ use Rattle.lid_models.proofs.survey.Survey.count_nets.Goals as goal
 pub bounds-as_slice-model : goal.bounds-as_slice-model
 bounds-as_slice-model c =
     let reached = subst (λ (d : Design). IsReached d c.args.model) (sym c.self.view_is) c.requires in
-    let below = c.self.invariant.inside c.args.model reached in
-    let size = c.self.invariant.each_nets in
+    let below = c.self.invariant.names.inside c.args.model reached in
+    let size = c.self.invariant.names.each_nets in
     omega (arith, ap length c.as_slice.ensures)
 
 pub returns-clause-value : goal.returns-clause-value
 returns-clause-value c =
     let reached = subst (λ (d : Design). IsReached d c.args.model) (sym c.self.view_is) c.requires in
-    let below = c.self.invariant.inside c.args.model reached in
-    let size = c.self.invariant.each_nets in
+    let below = c.self.invariant.names.inside c.args.model reached in
+    let size = c.self.invariant.names.each_nets in
     let here : c.args.model < length c.as_slice.result.now = omega (arith, ap length c.as_slice.ensures) in
-    let field = field_at c.self.inside.nets c.as_slice.result.now c.args.model [] c.index-as_slice-model.result c.as_slice.ensures c.index-as_slice-model.is here in
+    let field = field_at c.self.inside.names.nets c.as_slice.result.now c.args.model [] c.index-as_slice-model.result c.as_slice.ensures c.index-as_slice-model.is here in
     c.len.ensures.value
-    ∙ ap length (field ∙ c.self.invariant.nets c.args.model reached ∙ ap (λ (d : Design). model_nets d c.args.model) c.self.view_is)
+    ∙ ap length (field ∙ c.self.invariant.names.nets c.args.model reached ∙ ap (λ (d : Design). model_nets d c.args.model) c.self.view_is)
