@@ -64,55 +64,56 @@ fn found_in(alloc: Global, chain: u32, rows: &[&[u32]]) -> Result<Outcome, Alloc
     })
 }
 
-/// Whether this order is found.
-fn orders(alloc: Global, rows: &[&[u32]], want: &[u32]) -> bool {
-    match found_in(alloc, 0, rows) {
-        Ok(found) => found.graph && found.least.is_none() && are(found.order.as_slice(), want),
-        Err(_) => false,
-    }
-}
-
-/// Nothing, a chain, and a diamond, with their orders.
-static ORDERS: [(&[&[u32]], &[u32]); 3] = [
-    (&[], &[]),
-    (&[&[1], &[2], &[]], &[2, 1, 0]),
-    (&[&[], &[0], &[0, 0], &[2, 1]], &[0, 1, 2, 3]),
-];
-
-#[test]
-fn finds_orders(rt: HostRuntime) {
-    for case in &ORDERS {
-        assert!(rt; orders(rt.alloc(), case.0, case.1));
-    }
-}
-
-/// Whether this is found as the least number on a closed walk.
-fn loops(alloc: Global, chain: u32, rows: &[&[u32]], want: u32) -> bool {
+/// Whether this is found: whether there is a graph, and then an order or the least number on a closed
+/// walk.
+fn finds(
+    alloc: Global,
+    chain: u32,
+    rows: &[&[u32]],
+    graph: bool,
+    order: &[u32],
+    least: Option<u32>,
+) -> bool {
     match found_in(alloc, chain, rows) {
-        Ok(found) => found.least == Some(want),
+        Ok(found) => {
+            found.graph == graph && found.least == least && are(found.order.as_slice(), order)
+        }
         Err(_) => false,
     }
 }
 
-/// A chain and what comes after it, and the least number on a closed walk.
-static LOOPS: [(u32, &[&[u32]], u32); 6] = [
-    (0, &[&[], &[0, 1]], 1),
+/// A chain and the rows after it, whether they are a graph, and the order or the least number on a
+/// closed walk.
+static FOUND: [(u32, &[&[u32]], bool, &[u32], Option<u32>); 10] = [
+    // Nothing, a chain, and a diamond.
+    (0, &[], true, &[], None),
+    (0, &[&[1], &[2], &[]], true, &[2, 1, 0], None),
+    (0, &[&[], &[0], &[0, 0], &[2, 1]], true, &[0, 1, 2, 3], None),
+    // 1 reads past the last number.
+    (0, &[&[1], &[2]], false, &[], None),
+    (0, &[&[], &[0, 1]], true, &[], Some(1)),
     // 0 leads from the loop of 3 and 4, which is met first; 1 and 2 lie on the other.
-    (0, &[&[4], &[2], &[1], &[4], &[3]], 1),
+    (0, &[&[4], &[2], &[1], &[4], &[3]], true, &[], Some(1)),
     // 0 leads into the loop of 2 and 3, and 1 out of it.
-    (0, &[&[], &[3], &[3], &[2, 0]], 2),
+    (0, &[&[], &[3], &[3], &[2, 0]], true, &[], Some(2)),
     // 0 lies between the loops of 1 and of 2.
-    (0, &[&[1], &[1], &[0, 2]], 1),
+    (0, &[&[1], &[1], &[0, 2]], true, &[], Some(1)),
     // A loop behind a million.
-    (999_999, &[&[999_990]], 999_990),
+    (999_999, &[&[999_990]], true, &[], Some(999_990)),
     // The last of the chain reads itself, and one more reads itself and the chain.
-    (299_999, &[&[299_999], &[0, 300_000]], 299_999),
+    (
+        299_999,
+        &[&[299_999], &[0, 300_000]],
+        true,
+        &[],
+        Some(299_999),
+    ),
 ];
 
 #[test]
-fn tells_the_least_number_on_a_loop(rt: HostRuntime) {
-    for case in &LOOPS {
-        assert!(rt; loops(rt.alloc(), case.0, case.1, case.2));
+fn finds_orders_and_loops(rt: HostRuntime) {
+    for case in &FOUND {
+        assert!(rt; finds(rt.alloc(), case.0, case.1, case.2, case.3, case.4));
     }
 }
 
@@ -127,19 +128,6 @@ fn orders_a_million(alloc: Global) -> bool {
 #[test]
 fn orders_a_chain_of_a_million(rt: HostRuntime) {
     assert!(rt; orders_a_million(rt.alloc()));
-}
-
-/// Whether a number that reads one past the last is told.
-fn tells_no_graph(alloc: Global) -> bool {
-    match found_in(alloc, 0, &[&[1], &[2]]) {
-        Ok(found) => !found.graph,
-        Err(_) => false,
-    }
-}
-
-#[test]
-fn tells_what_is_no_graph(rt: HostRuntime) {
-    assert!(rt; tells_no_graph(rt.alloc()));
 }
 
 /// Whether bit 3 * c + b is set: whether c reads b, of three numbers.

@@ -383,30 +383,46 @@ fn finds_the_least_of_all_ratios(rt: HostRuntime) {
     }
 }
 
-/// The capacity of a station, without tokens, between two transitions; lists of edges back, of self
-/// edges and of numbers; and whether they show that the search takes the graph.
-static SHOWN: [(u32, &[u32], &[u32], &[u32], bool); 9] = [
-    (2, &[1, 0, 2, 3], &[2, 3], &[4, 5], true),
-    (2, &[1, 1, 2, 3], &[2, 3], &[4, 5], false),
-    (2, &[1, 0, 2, 3], &[2, 2], &[4, 5], false),
-    (2, &[1, 0, 2, 3], &[2, 3], &[4, 4], false),
-    (2, &[1, 0, 2], &[2, 3], &[4, 5], false),
-    (2, &[1, 0, 2, 9], &[2, 3], &[4, 5], false),
-    (2, &[1, 0, 2, 3], &[2, 3, 0], &[4, 5], false),
-    (2, &[1, 0, 2, 3], &[2, 3], &[4, 5, 6], false),
-    (17, &[1, 0, 2, 3], &[2, 3], &[4, 5], false),
+/// Transitions and stations; lists of edges back, of self edges and of numbers; and whether they show
+/// that the search takes the graph.
+static SHOWN: [(u32, &[Station], &[u32], &[u32], &[u32], bool); 10] = [
+    (2, &[(0, 1, 0, 2)], &[1, 0, 2, 3], &[2, 3], &[4, 5], true),
+    (2, &[(0, 1, 0, 2)], &[1, 1, 2, 3], &[2, 3], &[4, 5], false),
+    (2, &[(0, 1, 0, 2)], &[1, 0, 2, 3], &[2, 2], &[4, 5], false),
+    (2, &[(0, 1, 0, 2)], &[1, 0, 2, 3], &[2, 3], &[4, 4], false),
+    (2, &[(0, 1, 0, 2)], &[1, 0, 2], &[2, 3], &[4, 5], false),
+    (2, &[(0, 1, 0, 2)], &[1, 0, 2, 9], &[2, 3], &[4, 5], false),
+    (
+        2,
+        &[(0, 1, 0, 2)],
+        &[1, 0, 2, 3],
+        &[2, 3, 0],
+        &[4, 5],
+        false,
+    ),
+    (
+        2,
+        &[(0, 1, 0, 2)],
+        &[1, 0, 2, 3],
+        &[2, 3],
+        &[4, 5, 6],
+        false,
+    ),
+    (2, &[(0, 1, 0, 17)], &[1, 0, 2, 3], &[2, 3], &[4, 5], false),
+    (0, &[], &[], &[], &[], false),
 ];
 
-/// Whether it is this that these lists show.
+/// Whether it is this that the lists show.
 fn shows(
     alloc: Global,
-    capacity: u32,
+    nodes: u32,
+    stations: &[Station],
     backs: &[u32],
     loops: &[u32],
     numbers: &[u32],
     want: bool,
 ) -> bool {
-    match graph_of(alloc, 2, &[(0, 1, 0, capacity)]) {
+    match graph_of(alloc, nodes, stations) {
         Ok(graph) => is_rateable(&graph, backs, loops, numbers) == want,
         Err(_) => false,
     }
@@ -415,15 +431,6 @@ fn shows(
 #[test]
 fn tells_graphs_that_are_not_shown(rt: HostRuntime) {
     for case in &SHOWN {
-        assert!(rt; shows(rt.alloc(), case.0, case.1, case.2, case.3, case.4));
+        assert!(rt; shows(rt.alloc(), case.0, case.1, case.2, case.3, case.4, case.5));
     }
-}
-
-#[test]
-fn tells_a_graph_without_transitions(rt: HostRuntime) {
-    let told = match graph_of(rt.alloc(), 0, &[]) {
-        Ok(graph) => !is_rateable(&graph, &[], &[], &[]),
-        Err(_) => false,
-    };
-    assert!(rt; told);
 }
