@@ -1,7 +1,8 @@
 //! From lines to the parts of a certificate.
 
-ghost use Rattle.std.specs.Prelude.{◌≡◌, map, drop, IfOk, codes};
-ghost use Rattle.lid_certtext.specs.Texts.{word_at, value_below, via_value, words_at, node_lines, column, part_of, parts_of};
+ghost use Rattle.std.specs.Prelude.{◌≡◌, map, drop, IfOk, OnOk, codes};
+ghost use Rattle.lid_certtext.specs.Columns.{AreMore, AreColumns};
+ghost use Rattle.lid_certtext.specs.Texts.{value_below, words_at, node_lines, part_of, parts_of};
 
 use crate::stage::begins_with;
 use crate::words::{LARGE, RATIO, after_first, small, value_below, via_value, word};
@@ -32,37 +33,44 @@ fn node_lines(lines: &[Line]) -> &[Line]
     lines
 }
 
-/// The small numbers at a place of each line.
-fn small_column(alloc: Global, at: usize, lines: &[Line]) -> Result<Items<u32>, AllocError>
-    ensures { IfOk result (λ numbers. numbers ≡ column 4294967296 at lines.now) }
-{
-    let mut numbers = Vec::with_capacity(alloc, lines.len())?;
-    for line in lines {
-        numbers.push(small(word(line.words.as_slice(), at)))?;
-    }
-    Ok(Items::from_vec(numbers))
+/// What the `node` lines of a part say, with an entry for each line.
+#[derive(Drop)]
+struct Columns {
+    nodes: Vec<u32>,
+    lag: Vec<u64>,
+    lead: Vec<u64>,
+    depth: Vec<u32>,
+    via: Vec<Option<u32>>,
 }
 
-/// The large numbers at a place of each line.
-fn large_column(alloc: Global, at: usize, lines: &[Line]) -> Result<Items<u64>, AllocError>
-    ensures { IfOk result (λ numbers. numbers ≡ column 4611686018427387904 at lines.now) }
+/// Appends what a `node` line says.
+fn append(columns: &mut Columns, line: &Line) -> Result<(), AllocError>
+    ensures { OnOk result (AreMore columns.old columns.new line.now.words) }
 {
-    let mut numbers = Vec::with_capacity(alloc, lines.len())?;
-    for line in lines {
-        numbers.push(value_below(LARGE, word(line.words.as_slice(), at)))?;
-    }
-    Ok(Items::from_vec(numbers))
+    let words = line.words.as_slice();
+    columns.nodes.push(small(word(words, 1)))?;
+    columns.lag.push(value_below(LARGE, word(words, 2)))?;
+    columns.lead.push(value_below(LARGE, word(words, 3)))?;
+    columns.depth.push(small(word(words, 4)))?;
+    columns.via.push(via_value(word(words, 5)))?;
+    Ok(())
 }
 
-/// The via edges of `node` lines.
-fn via_column(alloc: Global, lines: &[Line]) -> Result<Items<Option<u32>>, AllocError>
-    ensures { IfOk result (λ vias. vias ≡ map (λ l. via_value (word_at l.words 5)) lines.now) }
+/// What `node` lines say.
+fn columns_of(alloc: Global, lines: &[Line]) -> Result<Columns, AllocError>
+    ensures { IfOk result (λ columns. AreColumns columns lines.now) }
 {
-    let mut vias = Vec::with_capacity(alloc, lines.len())?;
+    let mut columns = Columns {
+        nodes: Vec::new(alloc),
+        lag: Vec::new(alloc),
+        lead: Vec::new(alloc),
+        depth: Vec::new(alloc),
+        via: Vec::new(alloc),
+    };
     for line in lines {
-        vias.push(via_value(word(line.words.as_slice(), 5)))?;
+        append(&mut columns, line)?;
     }
-    Ok(Items::from_vec(vias))
+    Ok(columns)
 }
 
 /// The small numbers of some words.
@@ -88,16 +96,24 @@ fn part_of(alloc: Global, lines: &[Line]) -> Result<Part, AllocError>
     ensures { IfOk result (λ part. part ≡ part_of lines.now) }
 {
     let ratio = words_at(lines, 0);
-    let nodes = node_lines(after_two(lines));
+    let cycle = small_numbers(alloc, after_first(words_at(lines, 1)))?;
+    let columns = columns_of(alloc, node_lines(after_two(lines)))?;
+    let Columns {
+        nodes,
+        lag,
+        lead,
+        depth,
+        via,
+    } = columns;
     Ok(Part {
-        nodes: small_column(alloc, 1, nodes)?,
+        nodes: Items::from_vec(nodes),
         p: value_below(RATIO, word(ratio, 1)),
         q: value_below(RATIO, word(ratio, 2)),
-        cycle: small_numbers(alloc, after_first(words_at(lines, 1)))?,
-        lag: large_column(alloc, 2, nodes)?,
-        lead: large_column(alloc, 3, nodes)?,
-        via: via_column(alloc, nodes)?,
-        depth: small_column(alloc, 4, nodes)?,
+        cycle,
+        lag: Items::from_vec(lag),
+        lead: Items::from_vec(lead),
+        via: Items::from_vec(via),
+        depth: Items::from_vec(depth),
     })
 }
 

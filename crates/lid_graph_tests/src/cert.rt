@@ -1,9 +1,10 @@
 //! Certificates written out by hand for two small designs, and texts that are no certificates.
 
-ghost use Rattle.std.specs.Prelude.{◌≤◌, length};
+ghost use Rattle.std.specs.List.{All};
+ghost use Rattle.lid_cert.specs.Certificates.{AreLists};
 
-use crate::designs::{DIAMOND, RING, Station, are, graph_of};
-use lid_cert::{Part, check};
+use crate::designs::{DIAMOND, RING, Station, are, are_large, graph_of};
+use lid_cert::{Cert, Part, check};
 use lid_certtext::{CertFault, print_cert, read_cert};
 use std::alloc::{AllocError, Global};
 
@@ -37,83 +38,141 @@ node 6 1 7 2 4
 node 7 2 7 3 6
 ";
 
-/// Whether a text is read, and is a certificate of the graph of these stations.
-fn certifies(alloc: Global, nodes: u32, stations: &[Station], text: &[u8]) -> bool {
+/// A lone transition may have a large lag.
+const LARGE_LAG: &[u8] = b"lid-cert 1
+part 1
+ratio 1 1
+cycle 8
+node 0 4611686018427387903 0 0 -
+part 4
+ratio 2 3
+cycle 0 2 4
+node 1 1 2 0 -
+node 2 2 5 1 5
+node 3 1 8 2 6
+node 4 0 5 1 0
+";
+
+/// The lag of 2 is less by one.
+const LAG_TOO_SMALL: &[u8] = b"lid-cert 1
+part 1
+ratio 1 1
+cycle 8
+node 0 0 0 0 -
+part 4
+ratio 2 3
+cycle 0 2 4
+node 1 1 2 0 -
+node 2 1 5 1 5
+node 3 1 8 2 6
+node 4 0 5 1 0
+";
+
+/// The lag of 1 is more by one.
+const LAG_TOO_LARGE: &[u8] = b"lid-cert 1
+part 1
+ratio 1 1
+cycle 8
+node 0 0 0 0 -
+part 4
+ratio 2 3
+cycle 0 2 4
+node 1 2 2 0 -
+node 2 2 5 1 5
+node 3 1 8 2 6
+node 4 0 5 1 0
+";
+
+/// The depth of 2 is that of 1.
+const DEPTH_TOO_SMALL: &[u8] = b"lid-cert 1
+part 1
+ratio 1 1
+cycle 8
+node 0 0 0 0 -
+part 4
+ratio 2 3
+cycle 0 2 4
+node 1 1 2 0 -
+node 2 2 5 0 5
+node 3 1 8 2 6
+node 4 0 5 1 0
+";
+
+/// The walk of 0 goes along no edge of the graph.
+const NO_EDGE: &[u8] = b"lid-cert 1
+part 1
+ratio 1 1
+cycle 99
+node 0 0 0 0 -
+part 4
+ratio 2 3
+cycle 0 2 4
+node 1 1 2 0 -
+node 2 2 5 1 5
+node 3 1 8 2 6
+node 4 0 5 1 0
+";
+
+/// The second ratio has a common factor.
+const COMMON_FACTOR: &[u8] = b"lid-cert 1
+part 1
+ratio 1 1
+cycle 8
+node 0 0 0 0 -
+part 4
+ratio 4 6
+cycle 0 2 4
+node 1 1 2 0 -
+node 2 2 5 1 5
+node 3 1 8 2 6
+node 4 0 5 1 0
+";
+
+/// The via edge of 4 leads to another transition.
+const WRONG_VIA: &[u8] = b"lid-cert 1
+part 1
+ratio 1 1
+cycle 8
+node 0 0 0 0 -
+part 4
+ratio 2 3
+cycle 0 2 4
+node 1 1 2 0 -
+node 2 2 5 1 5
+node 3 1 8 2 6
+node 4 0 5 1 9
+";
+
+/// Graphs with certificates, and whether these certify them.
+static CHECKED: [(u32, &[Station], &[u8], bool); 11] = [
+    (5, &RING, RING_CERT, true),
+    (8, &DIAMOND, DIAMOND_CERT, true),
+    (5, &RING, LARGE_LAG, true),
+    (8, &DIAMOND, RING_CERT, false),
+    (5, &RING, LAG_TOO_SMALL, false),
+    (5, &RING, LAG_TOO_LARGE, false),
+    (5, &RING, DEPTH_TOO_SMALL, false),
+    (5, &RING, NO_EDGE, false),
+    (5, &RING, COMMON_FACTOR, false),
+    (5, &RING, WRONG_VIA, false),
+    (5, &RING, b"lid-cert 1\n", false),
+];
+
+/// Whether a text is read, and it is this that it certifies the graph of these stations.
+fn is_checked(alloc: Global, nodes: u32, stations: &[Station], text: &[u8], want: bool) -> bool {
     let Ok(graph) = graph_of(alloc, nodes, stations) else {
         return false;
     };
     match read_cert(alloc, text) {
-        Ok(cert) => check(&graph, &cert),
+        Ok(cert) => check(&graph, &cert) == want,
         Err(_) => false,
     }
 }
 
-/// Where a text has these bytes for the first time, or its end.
-fn place_of(text: &[u8], bytes: &[u8]) -> usize
-    ensures { result ≤ length text.now }
-{
-    for place in 0..text.len() {
-        if text[place..].starts_with(bytes) {
-            return place;
-        }
-    }
-    text.len()
-}
-
-/// A text with one place of it written anew.
-fn changed(alloc: Global, text: &[u8], old: &[u8], new: &[u8]) -> Result<Vec<u8>, AllocError> {
-    let place = place_of(text, old);
-    let mut into = Vec::from_slice(alloc, &text[..place])?;
-    into.extend_from_slice(new)?;
-    into.extend_from_slice(text[place..].strip_prefix(old).unwrap_or(b""))?;
-    Ok(into)
-}
-
-/// Whether the ring's certificate with one change is one of the ring's graph.
-fn holds_with(alloc: Global, old: &[u8], new: &[u8]) -> Option<bool> {
-    match changed(alloc, RING_CERT, old, new) {
-        Ok(text) => Some(certifies(alloc, 5, &RING, text.as_slice())),
-        Err(_) => None,
-    }
-}
-
-/// Whether the ring's certificate with one change is none of the ring's graph.
-fn fails_with(alloc: Global, old: &[u8], new: &[u8]) -> bool {
-    holds_with(alloc, old, new) == Some(false)
-}
-
 #[test]
-fn accepts_certificates(rt: HostRuntime) {
-    let alloc = rt.alloc();
-    // A lone transition may have a large lag.
-    assert!(rt;
-        certifies(alloc, 5, &RING, RING_CERT)
-            && certifies(alloc, 8, &DIAMOND, DIAMOND_CERT)
-            && holds_with(alloc, b"node 0 0 0", b"node 0 4611686018427387903 0") == Some(true)
-    );
-}
-
-#[test]
-fn refuses_certificates(rt: HostRuntime) {
-    let alloc = rt.alloc();
-    assert!(rt;
-        fails_with(alloc, b"node 2 2", b"node 2 1")
-            && fails_with(alloc, b"node 1 1", b"node 1 2")
-            && fails_with(alloc, b"node 2 2 5 1", b"node 2 2 5 0")
-            && fails_with(alloc, b"cycle 8", b"cycle 99")
-            && fails_with(alloc, b"ratio 2 3", b"ratio 4 6")
-            && fails_with(alloc, b"node 4 0 5 1 0", b"node 4 0 5 1 9")
-    );
-    assert!(rt;
-        !certifies(alloc, 5, &RING, b"lid-cert 1\n") && !certifies(alloc, 8, &DIAMOND, RING_CERT)
-    );
-}
-
-/// Whether a text is refused at this line.
-fn is_word_at(alloc: Global, text: &[u8], line: u32) -> bool {
-    match read_cert(alloc, text) {
-        Err(CertFault::Word { line: told }) => told == line,
-        _ => false,
+fn checks_certificates(rt: HostRuntime) {
+    for case in &CHECKED {
+        assert!(rt; is_checked(rt.alloc(), case.0, case.1, case.2, case.3));
     }
 }
 
@@ -144,41 +203,34 @@ ratio 2 3
 cycle 0 2 4
 ";
 
+/// Texts, and at which line they are refused.
+static REFUSED: [(&[u8], u32); 9] = [
+    (CUT_OFF, 8),
+    (b"", 0),
+    (b"lid-cert 2\n", 1),
+    (b"lid-cert 1\npart 0\n", 2),
+    (b"lid-cert 1\npart 1\nratio 2147483648 1\n", 3),
+    (b"lid-cert 1\npart 1\nratio 1 1\ncycle\n", 4),
+    (
+        b"lid-cert 1\npart 1\nratio 1 1\ncycle 0\nnode 0 00 0 0 -\n",
+        5,
+    ),
+    (b"lid-cert 1\npart 1\x01\n", 2),
+    (LARGER, 5),
+];
+
+/// Whether a text is refused at this line.
+fn is_refused_at(alloc: Global, text: &[u8], line: u32) -> bool {
+    match read_cert(alloc, text) {
+        Err(CertFault::Word { line: told }) => told == line,
+        _ => false,
+    }
+}
+
 #[test]
 fn tells_faulty_lines(rt: HostRuntime) {
-    let alloc = rt.alloc();
-    assert!(rt;
-        is_word_at(alloc, CUT_OFF, 8)
-            && is_word_at(alloc, b"", 0)
-            && is_word_at(alloc, b"lid-cert 2\n", 1)
-            && is_word_at(alloc, b"lid-cert 1\npart 0\n", 2)
-            && is_word_at(alloc, b"lid-cert 1\npart 1\nratio 2147483648 1\n", 3)
-            && is_word_at(alloc, b"lid-cert 1\npart 1\nratio 1 1\ncycle\n", 4)
-            && is_word_at(
-                alloc,
-                b"lid-cert 1\npart 1\nratio 1 1\ncycle 0\nnode 0 00 0 0 -\n",
-                5,
-            )
-            && is_word_at(alloc, b"lid-cert 1\npart 1\x01\n", 2)
-            && is_word_at(alloc, LARGER, 5)
-    );
-    assert!(rt; read_cert(alloc, b"lid-cert 1\n").is_ok());
-}
-
-/// What stands before a text, and then the text, read and printed again.
-fn printed(alloc: Global, before: &[u8], text: &[u8]) -> Result<Vec<u8>, AllocError> {
-    let mut into = Vec::from_slice(alloc, before)?;
-    if let Ok(cert) = read_cert(alloc, text) {
-        print_cert(&cert, &mut into)?;
-    }
-    Ok(into)
-}
-
-/// Whether this is printed after `>` where a text is read.
-fn prints(alloc: Global, text: &[u8], want: &[u8]) -> bool {
-    match printed(alloc, b">", text) {
-        Ok(into) => into.as_slice().strip_prefix(b">") == Some(want),
-        Err(_) => false,
+    for case in &REFUSED {
+        assert!(rt; is_refused_at(rt.alloc(), case.0, case.1));
     }
 }
 
@@ -186,62 +238,98 @@ fn prints(alloc: Global, text: &[u8], want: &[u8]) -> bool {
 const SPREAD: &[u8] =
     b"lid-cert 1 # a comment\n\npart \\\n 1\nratio 0 1\ncycle 7 7\nnode 3 2 1 0 -\n";
 
+/// Texts, and what is printed where they have been read.
+static PRINTED: [(&[u8], &[u8]); 4] = [
+    (RING_CERT, RING_CERT),
+    (DIAMOND_CERT, DIAMOND_CERT),
+    (LARGEST, LARGEST),
+    (
+        SPREAD,
+        b"lid-cert 1\npart 1\nratio 0 1\ncycle 7 7\nnode 3 2 1 0 -\n",
+    ),
+];
+
+/// Whether this is printed of a certificate, after what stands before.
+fn is_printed(alloc: Global, cert: &Cert, want: &[u8]) -> Result<bool, AllocError>
+    requires { All AreLists cert.now.parts }
+{
+    let mut into = Vec::from_slice(alloc, b">")?;
+    print_cert(cert, &mut into)?;
+    Ok(into.as_slice().strip_prefix(b">") == Some(want))
+}
+
+/// The same where a text has been read.
+fn prints(alloc: Global, text: &[u8], want: &[u8]) -> bool {
+    match read_cert(alloc, text) {
+        Ok(cert) => is_printed(alloc, &cert, want).unwrap_or(false),
+        Err(_) => false,
+    }
+}
+
 #[test]
 fn prints_what_it_reads(rt: HostRuntime) {
-    let alloc = rt.alloc();
-    assert!(rt;
-        prints(alloc, RING_CERT, RING_CERT)
-            && prints(alloc, DIAMOND_CERT, DIAMOND_CERT)
-            && prints(alloc, LARGEST, LARGEST)
-            && prints(
-                alloc,
-                SPREAD,
-                b"lid-cert 1\npart 1\nratio 0 1\ncycle 7 7\nnode 3 2 1 0 -\n",
-            )
-    );
+    for case in &PRINTED {
+        assert!(rt; prints(rt.alloc(), case.0, case.1));
+    }
 }
 
-/// Whether lists of large numbers are the same.
-fn are_large(numbers: &[u64], want: &[u64]) -> bool {
-    numbers == want
+/// What a part says.
+struct Said {
+    p: u64,
+    q: u64,
+    cycle: &'static [u32],
+    nodes: &'static [u32],
+    lag: &'static [u64],
+    lead: &'static [u64],
+    via: &'static [Option<u32>],
+    depth: &'static [u32],
 }
 
-/// Whether the lists of via edges are the same.
-fn are_vias(vias: &[Option<u32>], want: &[Option<u32>]) -> bool {
-    vias == want
+/// What the parts of the ring's certificate say.
+static RING_PARTS: [Said; 2] = [
+    Said {
+        p: 1,
+        q: 1,
+        cycle: &[8],
+        nodes: &[0],
+        lag: &[0],
+        lead: &[0],
+        via: &[None],
+        depth: &[0],
+    },
+    Said {
+        p: 2,
+        q: 3,
+        cycle: &[0, 2, 4],
+        nodes: &[1, 2, 3, 4],
+        lag: &[1, 2, 1, 0],
+        lead: &[2, 5, 8, 5],
+        via: &[None, Some(5), Some(6), Some(0)],
+        depth: &[0, 1, 2, 1],
+    },
+];
+
+/// Whether a part says this of its walk and transitions.
+fn says(part: &Part, said: &Said) -> bool {
+    part.p == said.p
+        && part.q == said.q
+        && are(part.cycle.as_slice(), said.cycle)
+        && are(part.nodes.as_slice(), said.nodes)
+        && are_large(part.lag.as_slice(), said.lag)
+        && are_large(part.lead.as_slice(), said.lead)
+        && part.via.as_slice() == said.via
+        && are(part.depth.as_slice(), said.depth)
 }
 
-/// Whether a part is that of the ring's source.
-fn is_lone(part: &Part) -> bool {
-    part.p == 1
-        && part.q == 1
-        && are(part.cycle.as_slice(), &[8])
-        && are(part.nodes.as_slice(), &[0])
-        && are_large(part.lag.as_slice(), &[0])
-        && are_large(part.lead.as_slice(), &[0])
-        && are_vias(part.via.as_slice(), &[None])
-        && are(part.depth.as_slice(), &[0])
-}
-
-/// Whether a part is that of the ring's other actors.
-fn is_joined(part: &Part) -> bool {
-    part.p == 2
-        && part.q == 3
-        && are(part.cycle.as_slice(), &[0, 2, 4])
-        && are(part.nodes.as_slice(), &[1, 2, 3, 4])
-        && are_large(part.lag.as_slice(), &[1, 2, 1, 0])
-        && are_large(part.lead.as_slice(), &[2, 5, 8, 5])
-        && are_vias(part.via.as_slice(), &[None, Some(5), Some(6), Some(0)])
-        && are(part.depth.as_slice(), &[0, 1, 2, 1])
+/// Whether the parts are those of the ring.
+fn are_ring_parts(parts: &[Part]) -> bool {
+    parts.len() == 2 && says(&parts[0], &RING_PARTS[0]) && says(&parts[1], &RING_PARTS[1])
 }
 
 #[test]
 fn reads_what_is_written(rt: HostRuntime) {
     let read = match read_cert(rt.alloc(), RING_CERT) {
-        Ok(cert) => match cert.parts.as_slice() {
-            [lone, joined] => is_lone(lone) && is_joined(joined),
-            _ => false,
-        },
+        Ok(cert) => are_ring_parts(cert.parts.as_slice()),
         Err(_) => false,
     };
     assert!(rt; read);

@@ -24,8 +24,20 @@ pub(crate) const DIAMOND: [Station; 8] = [
 ];
 
 /// The edge with these ends and tokens.
-pub(crate) fn edge(from: u32, to: u32, tokens: u32) -> Edge {
+fn edge(from: u32, to: u32, tokens: u32) -> Edge {
     Edge { from, to, tokens }
+}
+
+/// The edge of a station from its filler to its drainer.
+fn forth(station: &Station) -> Edge {
+    let (filler, drainer, tokens, _) = *station;
+    edge(filler, drainer, tokens)
+}
+
+/// The edge back.
+fn back(station: &Station) -> Edge {
+    let (filler, drainer, tokens, capacity) = *station;
+    edge(drainer, filler, capacity.saturating_sub(tokens))
 }
 
 /// A graph with two edges for each station, one forth and one back, and then the self edges.
@@ -35,9 +47,9 @@ pub(crate) fn graph_of(
     stations: &[Station],
 ) -> Result<Graph, AllocError> {
     let mut edges = Vec::new(alloc);
-    for (filler, drainer, tokens, capacity) in stations {
-        edges.push(edge(*filler, *drainer, *tokens))?;
-        edges.push(edge(*drainer, *filler, capacity.saturating_sub(*tokens)))?;
+    for station in stations {
+        edges.push(forth(station))?;
+        edges.push(back(station))?;
     }
     for v in 0..nodes {
         edges.push(edge(v, v, 1))?;
@@ -48,5 +60,10 @@ pub(crate) fn graph_of(
 
 /// Whether two lists are the same.
 pub(crate) fn are(numbers: &[u32], want: &[u32]) -> bool {
+    numbers == want
+}
+
+/// The same of large numbers.
+pub(crate) fn are_large(numbers: &[u64], want: &[u64]) -> bool {
     numbers == want
 }

@@ -1,6 +1,6 @@
 //! Small graphs, with answers worked out by hand, and slow functions beside the definitions.
 
-use crate::designs::{RING, Station, are, edge, graph_of};
+use crate::designs::{RING, Station, are, graph_of};
 use crate::walks::rate_at;
 use lid_base::Items;
 use lid_graph::{Edge, Graph, components, is_paired};
@@ -28,12 +28,61 @@ fn has_components(alloc: Global, nodes: u32, stations: &[Station], least: &[u32]
 /// Two components, whose edges lead from greater to lesser transitions first.
 const BACK: [Station; 3] = [(4, 3, 0, 1), (2, 0, 3, 3), (3, 1, 0, 0)];
 
+/// Graphs, and the least transition that a walk joins to each.
+static JOINED: [(&[Station], &[u32]); 2] = [(&RING, &[0, 1, 1, 1, 1]), (&BACK, &[0, 1, 0, 1, 1])];
+
 #[test]
 fn finds_components(rt: HostRuntime) {
-    let alloc = rt.alloc();
-    assert!(rt; has_components(alloc, 5, &RING, &[0, 1, 1, 1, 1]));
-    assert!(rt; has_components(alloc, 5, &BACK, &[0, 1, 0, 1, 1]));
+    for case in &JOINED {
+        assert!(rt; has_components(rt.alloc(), 5, case.0, case.1));
+    }
 }
+
+/// Graphs that are not paired: without an edge back, with an end that is no transition, and without a
+/// self edge.
+static BARE: [(u32, &[Edge]); 3] = [
+    (
+        2,
+        &[
+            Edge {
+                from: 0,
+                to: 1,
+                tokens: 0,
+            },
+            Edge {
+                from: 0,
+                to: 0,
+                tokens: 1,
+            },
+            Edge {
+                from: 1,
+                to: 1,
+                tokens: 1,
+            },
+        ],
+    ),
+    (
+        1,
+        &[
+            Edge {
+                from: 0,
+                to: 1,
+                tokens: 0,
+            },
+            Edge {
+                from: 1,
+                to: 0,
+                tokens: 0,
+            },
+            Edge {
+                from: 0,
+                to: 0,
+                tokens: 1,
+            },
+        ],
+    ),
+    (1, &[]),
+];
 
 /// Whether a graph with these edges is not paired.
 fn is_bare(alloc: Global, nodes: u32, edges: &[Edge]) -> bool {
@@ -48,14 +97,9 @@ fn is_bare(alloc: Global, nodes: u32, edges: &[Edge]) -> bool {
 
 #[test]
 fn tells_graphs_that_are_not_paired(rt: HostRuntime) {
-    let alloc = rt.alloc();
-    let loops = [edge(0, 0, 1), edge(1, 1, 1)];
-    // No edge back, an end that is no transition, and no self edge.
-    assert!(rt;
-        is_bare(alloc, 2, &[edge(0, 1, 0), loops[0], loops[1]])
-            && is_bare(alloc, 1, &[edge(0, 1, 0), edge(1, 0, 0), loops[0]])
-            && is_bare(alloc, 1, &[])
-    );
+    for case in &BARE {
+        assert!(rt; is_bare(rt.alloc(), case.0, case.1));
+    }
 }
 
 /// The firing counts of five transitions.
@@ -89,7 +133,7 @@ fn fires(graph: &Graph, caps: &Counts, table: &[Counts]) -> bool {
 }
 
 /// What the ring's transitions have fired after 0 cycles, after one, and so on.
-const COUNTS: [Counts; 7] = [
+static COUNTS: [Counts; 7] = [
     [0, 0, 0, 0, 0],
     [1, 1, 0, 1, 1],
     [2, 1, 1, 1, 2],

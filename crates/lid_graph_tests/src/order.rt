@@ -6,72 +6,128 @@ use lid_base::Items;
 use lid_order::{Found, find_order, find_reached, find_reaching, is_graph};
 use std::alloc::{AllocError, Global};
 
-/// What each number reads: of so many numbers the first each read the next, and then come these rows.
+/// The row of a number: of so many numbers the first each read the next, and then come these rows.
+fn row_of(alloc: Global, chain: u32, rows: &[&[u32]], k: usize) -> Result<Vec<u32>, AllocError> {
+    if k < chain as usize {
+        return Vec::from_slice(alloc, &[k as u32 + 1]);
+    }
+    match rows.get(k - chain as usize) {
+        Some(row) => Vec::from_slice(alloc, row),
+        None => Ok(Vec::new(alloc)),
+    }
+}
+
+/// What each number reads: a chain and then these rows.
 fn graph_of(alloc: Global, chain: u32, rows: &[&[u32]]) -> Result<Vec<Items<u32>>, AllocError> {
     let mut reads = Vec::new(alloc);
-    for k in 0..chain {
-        reads.push(Items::from_vec(Vec::from_slice(alloc, &[k + 1])?))?;
-    }
-    for row in rows {
-        reads.push(Items::from_vec(Vec::from_slice(alloc, row)?))?;
+    for k in 0..(chain as usize).saturating_add(rows.len()) {
+        reads.push(Items::from_vec(row_of(alloc, chain, rows, k)?))?;
     }
     Ok(reads)
 }
 
-/// What is found of these rows after a chain, where they are a graph.
-fn found_in(alloc: Global, chain: u32, rows: &[&[u32]]) -> Option<Found> {
-    let Ok(reads) = graph_of(alloc, chain, rows) else {
-        return None;
-    };
-    if !is_graph(reads.as_slice()) {
-        return None;
-    }
-    find_order(alloc, reads.as_slice()).ok()
+/// What comes of some rows: whether they are a graph, and then the order or the least number on a closed
+/// walk.
+#[derive(Drop)]
+struct Outcome {
+    graph: bool,
+    order: Vec<u32>,
+    least: Option<u32>,
 }
 
-/// Whether this order is found.
-fn orders(alloc: Global, rows: &[&[u32]], want: &[u32]) -> bool {
-    match found_in(alloc, 0, rows) {
-        Some(Found::Order(order)) => are(order.as_slice(), want),
-        _ => false,
+/// What is found of a graph.
+fn outcome_of(alloc: Global, found: Found) -> Outcome {
+    match found {
+        Found::Order(order) => Outcome {
+            graph: true,
+            order: order.into_vec(),
+            least: None,
+        },
+        Found::Loop(k) => Outcome {
+            graph: true,
+            order: Vec::new(alloc),
+            least: Some(k),
+        },
     }
 }
 
-/// Whether this is found as the least number on a closed walk.
-fn loops(alloc: Global, chain: u32, rows: &[&[u32]], want: u32) -> bool {
+/// What is found of the rows after the chain.
+fn found_in(alloc: Global, chain: u32, rows: &[&[u32]]) -> Result<Outcome, AllocError> {
+    let reads = graph_of(alloc, chain, rows)?;
+    if is_graph(reads.as_slice()) {
+        return Ok(outcome_of(alloc, find_order(alloc, reads.as_slice())?));
+    }
+    Ok(Outcome {
+        graph: false,
+        order: Vec::new(alloc),
+        least: None,
+    })
+}
+
+/// Whether this is found: whether there is a graph, and then an order or the least number on a closed
+/// walk.
+fn finds(
+    alloc: Global,
+    chain: u32,
+    rows: &[&[u32]],
+    graph: bool,
+    order: &[u32],
+    least: Option<u32>,
+) -> bool {
     match found_in(alloc, chain, rows) {
-        Some(Found::Loop(least)) => least == want,
-        _ => false,
+        Ok(found) => {
+            found.graph == graph && found.least == least && are(found.order.as_slice(), order)
+        }
+        Err(_) => false,
     }
 }
+
+/// A chain and the rows after it, whether they are a graph, and the order or the least number on a
+/// closed walk.
+static FOUND: [(u32, &[&[u32]], bool, &[u32], Option<u32>); 10] = [
+    // Nothing, a chain, and a diamond.
+    (0, &[], true, &[], None),
+    (0, &[&[1], &[2], &[]], true, &[2, 1, 0], None),
+    (0, &[&[], &[0], &[0, 0], &[2, 1]], true, &[0, 1, 2, 3], None),
+    // 1 reads past the last number.
+    (0, &[&[1], &[2]], false, &[], None),
+    (0, &[&[], &[0, 1]], true, &[], Some(1)),
+    // 0 leads from the loop of 3 and 4, which is met first; 1 and 2 lie on the other.
+    (0, &[&[4], &[2], &[1], &[4], &[3]], true, &[], Some(1)),
+    // 0 leads into the loop of 2 and 3, and 1 out of it.
+    (0, &[&[], &[3], &[3], &[2, 0]], true, &[], Some(2)),
+    // 0 lies between the loops of 1 and of 2.
+    (0, &[&[1], &[1], &[0, 2]], true, &[], Some(1)),
+    // A loop behind a million.
+    (999_999, &[&[999_990]], true, &[], Some(999_990)),
+    // The last of the chain reads itself, and one more reads itself and the chain.
+    (
+        299_999,
+        &[&[299_999], &[0, 300_000]],
+        true,
+        &[],
+        Some(299_999),
+    ),
+];
 
 #[test]
 fn finds_orders_and_loops(rt: HostRuntime) {
-    let alloc = rt.alloc();
-    // Nothing, a chain, and a diamond.
-    assert!(rt;
-        orders(alloc, &[], &[])
-            && orders(alloc, &[&[1], &[2], &[]], &[2, 1, 0])
-            && orders(alloc, &[&[], &[0], &[0, 0], &[2, 1]], &[0, 1, 2, 3])
-    );
-    // In the second 0 leads from the loop of 3 and 4, which is met first; 1 and 2 lie on the other. In
-    // the third 0 leads into the loop of 2 and 3, and 1 out of it. In the last 0 lies between the loops
-    // of 1 and of 2.
-    assert!(rt;
-        loops(alloc, 0, &[&[], &[0, 1]], 1)
-            && loops(alloc, 0, &[&[4], &[2], &[1], &[4], &[3]], 1)
-            && loops(alloc, 0, &[&[], &[3], &[3], &[2, 0]], 2)
-            && loops(alloc, 0, &[&[1], &[1], &[0, 2]], 1)
-    );
+    for case in &FOUND {
+        assert!(rt; finds(rt.alloc(), case.0, case.1, case.2, case.3, case.4));
+    }
+}
+
+/// Whether the order of a chain of a million numbers begins with the last.
+fn orders_a_million(alloc: Global) -> bool {
+    match found_in(alloc, 999_999, &[&[]]) {
+        Ok(found) => found.order.len() == 1_000_000 && found.order[0] == 999_999,
+        Err(_) => false,
+    }
 }
 
 #[test]
-fn tells_what_is_no_graph(rt: HostRuntime) {
-    let told = match graph_of(rt.alloc(), 0, &[&[1], &[2]]) {
-        Ok(reads) => !is_graph(reads.as_slice()),
-        Err(_) => false,
-    };
-    assert!(rt; told);
+fn orders_a_chain_of_a_million(rt: HostRuntime) {
+    assert!(rt; orders_a_million(rt.alloc()));
 }
 
 /// Whether bit 3 * c + b is set: whether c reads b, of three numbers.
@@ -89,7 +145,7 @@ fn with(bits: u32, c: u32, b: u32) -> u32 {
 }
 
 /// The numbers of three bits.
-const SETS: [&[u32]; 8] = [&[], &[0], &[1], &[0, 1], &[2], &[0, 2], &[1, 2], &[0, 1, 2]];
+static SETS: [&[u32]; 8] = [&[], &[0], &[1], &[0, 1], &[2], &[0, 2], &[1, 2], &[0, 1, 2]];
 
 /// Whether a walk with an edge leads from b to c, for each pair of three numbers: Warshall's closure.
 fn closure(bits: u32) -> u32 {
@@ -129,6 +185,14 @@ fn is_order(bits: u32, order: &[u32]) -> bool {
     order.len() == 3
 }
 
+/// Whether an order is one, or the least number on a closed walk is that of the slow closure.
+fn agrees_in(bits: u32, found: &Outcome) -> bool {
+    match found.least {
+        Some(k) => k < 3 && is_least(bits, k),
+        None => is_least(bits, 3) && is_order(bits, found.order.as_slice()),
+    }
+}
+
 /// Whether what is found of three numbers agrees with the slow closure.
 fn agrees(alloc: Global, bits: u32) -> bool {
     let (low, middle, high) = (bits & 7, (bits >> 3) & 7, (bits >> 6) & 7);
@@ -138,9 +202,8 @@ fn agrees(alloc: Global, bits: u32) -> bool {
         SETS[high as usize],
     ];
     match found_in(alloc, 0, &rows) {
-        Some(Found::Order(order)) => is_least(bits, 3) && is_order(bits, order.as_slice()),
-        Some(Found::Loop(k)) => k < 3 && is_least(bits, k),
-        None => false,
+        Ok(found) => found.graph && agrees_in(bits, &found),
+        Err(_) => false,
     }
 }
 
@@ -150,9 +213,6 @@ fn agrees_with_a_slow_closure(rt: HostRuntime) {
         assert!(rt; agrees(rt.alloc(), bits));
     }
 }
-
-/// For each of some numbers whether something is so.
-type Flags = [bool; 6];
 
 /// 5 reads 4 and 3, 4 reads 2 and 1, 3 reads 2, 2 reads 0.
 const ROWS: [&[u32]; 6] = [&[], &[], &[0], &[2], &[2, 1], &[4, 3]];
@@ -183,30 +243,38 @@ fn reached_in(
 }
 
 /// Whether this is reached from the starts.
-fn is_reached(alloc: Global, cut: &Flags, starts: &Flags, want: &Flags) -> bool {
+fn is_reached(alloc: Global, cut: &[bool], starts: &[bool], want: &[bool]) -> bool {
     match graph_of(alloc, 0, &ROWS) {
         Ok(reads) => reached_in(alloc, reads.as_slice(), cut, starts, want),
         Err(_) => false,
     }
 }
 
+/// What is cut, where walks start, and what is reached. With 2 cut only 0 itself is reached from 0, and
+/// a start that is cut is reached still.
+static REACHED: [(&[bool], &[bool], &[bool]); 3] = [
+    (
+        &[false; 6],
+        &[true, false, false, false, false, false],
+        &[true, false, true, true, true, true],
+    ),
+    (
+        &[true, false, true, false, false, false],
+        &[true, false, false, false, false, false],
+        &[true, false, false, false, false, false],
+    ),
+    (
+        &[true, false, true, false, false, false],
+        &[false, false, true, false, false, false],
+        &[false, false, true, true, true, true],
+    ),
+];
+
 #[test]
 fn tells_what_is_reached(rt: HostRuntime) {
-    let alloc = rt.alloc();
-    let (no, yes) = (false, true);
-    let zero = [yes, no, no, no, no, no];
-    let shut = [yes, no, yes, no, no, no];
-    // With 2 cut only 0 itself is reached from 0. A start that is cut is reached still.
-    assert!(rt;
-        is_reached(alloc, &[no; 6], &zero, &[yes, no, yes, yes, yes, yes])
-            && is_reached(alloc, &shut, &zero, &zero)
-            && is_reached(
-                alloc,
-                &shut,
-                &[no, no, yes, no, no, no],
-                &[no, no, yes, yes, yes, yes],
-            )
-    );
+    for case in &REACHED {
+        assert!(rt; is_reached(rt.alloc(), case.0, case.1, case.2));
+    }
 }
 
 /// Whether these numbers of a graph reach the end.
@@ -228,42 +296,33 @@ fn is_reaching(alloc: Global, rows: &[&[u32]], cut: &[bool], end: u32, want: &[b
     }
 }
 
+/// What is cut, where walks end, and what reaches the end. With 2 cut nothing is followed past it, an end
+/// that is cut reaches itself alone, and a closed walk is no matter.
+static REACHING: [(&[&[u32]], &[bool], u32, &[bool]); 4] = [
+    (
+        &ROWS,
+        &[false; 6],
+        4,
+        &[true, true, true, false, true, false],
+    ),
+    (
+        &ROWS,
+        &[false, false, true, false, false, false],
+        5,
+        &[false, true, true, true, true, true],
+    ),
+    (
+        &ROWS,
+        &[false, false, true, false, false, false],
+        2,
+        &[false, false, true, false, false, false],
+    ),
+    (&[&[1], &[0], &[1]], &[false; 3], 0, &[true, true, false]),
+];
+
 #[test]
 fn tells_what_reaches_a_number(rt: HostRuntime) {
-    let alloc = rt.alloc();
-    let (no, yes) = (false, true);
-    let two = [no, no, yes, no, no, no];
-    // With 2 cut nothing is followed past it. An end that is cut reaches itself alone. A closed walk is
-    // no matter.
-    assert!(rt;
-        is_reaching(alloc, &ROWS, &[no; 6], 4, &[yes, yes, yes, no, yes, no])
-            && is_reaching(alloc, &ROWS, &two, 5, &[no, yes, yes, yes, yes, yes])
-            && is_reaching(alloc, &ROWS, &two, 2, &two)
-            && is_reaching(alloc, &[&[1], &[0], &[1]], &[no; 3], 0, &[yes, yes, no])
-    );
-}
-
-/// Whether an order has so many numbers and begins with this one.
-fn begins(order: &[u32], count: usize, first: u32) -> bool {
-    order.len() == count && count > 0 && order[0] == first
-}
-
-#[test]
-fn orders_a_chain_of_a_million(rt: HostRuntime) {
-    let ordered = match found_in(rt.alloc(), 999_999, &[&[]]) {
-        Some(Found::Order(order)) => begins(order.as_slice(), 1_000_000, 999_999),
-        _ => false,
-    };
-    assert!(rt; ordered);
-}
-
-#[test]
-fn tells_a_loop_behind_a_million(rt: HostRuntime) {
-    assert!(rt; loops(rt.alloc(), 999_999, &[&[999_990]], 999_990));
-}
-
-#[test]
-fn passes_over_what_lies_between_loops(rt: HostRuntime) {
-    // The last of the chain reads itself, and one more reads itself and the chain.
-    assert!(rt; loops(rt.alloc(), 299_999, &[&[299_999], &[0, 300_000]], 299_999));
+    for case in &REACHING {
+        assert!(rt; is_reaching(rt.alloc(), case.0, case.1, case.2, case.3));
+    }
 }

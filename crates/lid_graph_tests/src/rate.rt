@@ -3,7 +3,7 @@
 ghost use Rattle.std.specs.Prelude.{IfOk, IsTrue};
 ghost use Rattle.lid_rate.specs.Rates.{IsRateable};
 
-use crate::designs::{DIAMOND, RING, Station, are, graph_of};
+use crate::designs::{DIAMOND, RING, Station, are, are_large, graph_of};
 use crate::walks::rate_at;
 use lid_cert::{Cert, Part, check};
 use lid_graph::Graph;
@@ -116,7 +116,7 @@ fn is_part(part: &Part, shown: &Shown) -> bool {
     are(part.nodes.as_slice(), nodes)
         && part.p == *p
         && part.q == *q
-        && part.lag.as_slice() == *lags
+        && are_large(part.lag.as_slice(), lags)
         && goes_round(part.cycle.as_slice(), walk)
 }
 
@@ -141,19 +141,6 @@ fn rates(alloc: Global, nodes: u32, stations: &[Station], shown: &[Shown]) -> bo
     }
 }
 
-const RING_PARTS: [Shown<'static>; 2] = [
-    (&[0], 1, 1, &[0], &[8]),
-    (&[1, 2, 3, 4], 2, 3, &[1, 2, 1, 0], &[0, 2, 4]),
-];
-
-const DIAMOND_PARTS: [Shown<'static>; 1] = [(
-    &[0, 1, 2, 3, 4, 5, 6, 7],
-    1,
-    2,
-    &[0, 1, 3, 2, 2, 0, 1, 2],
-    &[2, 4, 6, 8, 15, 11],
-)];
-
 /// A ring of three and one of four transitions, and one alone.
 const RINGS: [Station; 7] = [
     (0, 2, 1, 2),
@@ -165,21 +152,44 @@ const RINGS: [Station; 7] = [
     (7, 1, 0, 2),
 ];
 
-const RINGS_PARTS: [Shown<'static>; 3] = [
-    (&[0, 2, 4], 2, 3, &[2, 1, 0], &[0, 4, 8]),
-    (&[1, 3, 5, 7], 1, 4, &[3, 0, 1, 2], &[2, 6, 10, 12]),
-    (&[6], 1, 1, &[0], &[20]),
+/// Graphs, and the parts of their certificates.
+static RATED: [(u32, &[Station], &[Shown<'static>]); 4] = [
+    (1, &[], &[(&[0], 1, 1, &[0], &[0])]),
+    (
+        5,
+        &RING,
+        &[
+            (&[0], 1, 1, &[0], &[8]),
+            (&[1, 2, 3, 4], 2, 3, &[1, 2, 1, 0], &[0, 2, 4]),
+        ],
+    ),
+    (
+        8,
+        &DIAMOND,
+        &[(
+            &[0, 1, 2, 3, 4, 5, 6, 7],
+            1,
+            2,
+            &[0, 1, 3, 2, 2, 0, 1, 2],
+            &[2, 4, 6, 8, 15, 11],
+        )],
+    ),
+    (
+        8,
+        &RINGS,
+        &[
+            (&[0, 2, 4], 2, 3, &[2, 1, 0], &[0, 4, 8]),
+            (&[1, 3, 5, 7], 1, 4, &[3, 0, 1, 2], &[2, 6, 10, 12]),
+            (&[6], 1, 1, &[0], &[20]),
+        ],
+    ),
 ];
 
 #[test]
 fn rates_small_graphs(rt: HostRuntime) {
-    let alloc = rt.alloc();
-    assert!(rt;
-        rates(alloc, 1, &[], &[(&[0], 1, 1, &[0], &[0])])
-            && rates(alloc, 5, &RING, &RING_PARTS)
-            && rates(alloc, 8, &DIAMOND, &DIAMOND_PARTS)
-            && rates(alloc, 8, &RINGS, &RINGS_PARTS)
-    );
+    for case in &RATED {
+        assert!(rt; rates(rt.alloc(), case.0, case.1, case.2));
+    }
 }
 
 /// Whether there is one part, with this ratio.
@@ -213,16 +223,14 @@ fn rates_two_ways(alloc: Global, capacity: u32, p: u64, q: u64) -> bool {
     has_ratio(alloc, 7, &stations, p, q)
 }
 
+/// Capacities, and the ratios at them.
+static WAYS: [(u32, u64, u64); 5] = [(2, 3, 7), (3, 4, 7), (5, 6, 7), (6, 1, 1), (16, 1, 1)];
+
 #[test]
 fn rates_by_the_room_of_a_station(rt: HostRuntime) {
-    let alloc = rt.alloc();
-    assert!(rt;
-        rates_two_ways(alloc, 2, 3, 7)
-            && rates_two_ways(alloc, 3, 4, 7)
-            && rates_two_ways(alloc, 5, 6, 7)
-            && rates_two_ways(alloc, 6, 1, 1)
-            && rates_two_ways(alloc, 16, 1, 1)
-    );
+    for case in &WAYS {
+        assert!(rt; rates_two_ways(rt.alloc(), case.0, case.1, case.2));
+    }
 }
 
 /// A ring of so many stations with so many tokens, one each on the first edges.
@@ -243,24 +251,24 @@ fn rates_ring(alloc: Global, count: u32, tokens: u32, p: u64, q: u64) -> bool {
     }
 }
 
-#[test]
-fn rates_rings_by_their_tokens(rt: HostRuntime) {
-    let alloc = rt.alloc();
-    assert!(rt;
-        rates_ring(alloc, 2, 1, 1, 2)
-            && rates_ring(alloc, 3, 1, 1, 3)
-            && rates_ring(alloc, 3, 2, 2, 3)
-            && rates_ring(alloc, 4, 2, 1, 2)
-            && rates_ring(alloc, 5, 5, 1, 1)
-            && rates_ring(alloc, 6, 4, 2, 3)
-            && rates_ring(alloc, 10, 3, 3, 10)
-            && rates_ring(alloc, 24, 18, 3, 4)
-    );
-}
+/// How many stations and tokens a ring has, and its ratio.
+static RATIOS: [(u32, u32, u64, u64); 9] = [
+    (2, 1, 1, 2),
+    (3, 1, 1, 3),
+    (3, 2, 2, 3),
+    (4, 2, 1, 2),
+    (5, 5, 1, 1),
+    (6, 4, 2, 3),
+    (10, 3, 3, 10),
+    (24, 18, 3, 4),
+    (3_000, 1_500, 1, 2),
+];
 
 #[test]
-fn rates_a_ring_of_three_thousand(rt: HostRuntime) {
-    assert!(rt; rates_ring(rt.alloc(), 3_000, 1_500, 1, 2));
+fn rates_rings_by_their_tokens(rt: HostRuntime) {
+    for case in &RATIOS {
+        assert!(rt; rates_ring(rt.alloc(), case.0, case.1, case.2, case.3));
+    }
 }
 
 /// Whether the lags are those of a ring of 300 with 7 tokens.
@@ -375,45 +383,54 @@ fn finds_the_least_of_all_ratios(rt: HostRuntime) {
     }
 }
 
-/// Whether lists of numbers show that the search takes a graph of one station, without tokens, between
-/// two transitions.
-fn shows(graph: &Graph, loops: &[u32], numbers: &[u32]) -> bool {
-    is_rateable(graph, &[1, 0, 2, 3], loops, numbers)
-}
+/// Transitions and stations; lists of edges back, of self edges and of numbers; and whether they show
+/// that the search takes the graph.
+static SHOWN: [(u32, &[Station], &[u32], &[u32], &[u32], bool); 10] = [
+    (2, &[(0, 1, 0, 2)], &[1, 0, 2, 3], &[2, 3], &[4, 5], true),
+    (2, &[(0, 1, 0, 2)], &[1, 1, 2, 3], &[2, 3], &[4, 5], false),
+    (2, &[(0, 1, 0, 2)], &[1, 0, 2, 3], &[2, 2], &[4, 5], false),
+    (2, &[(0, 1, 0, 2)], &[1, 0, 2, 3], &[2, 3], &[4, 4], false),
+    (2, &[(0, 1, 0, 2)], &[1, 0, 2], &[2, 3], &[4, 5], false),
+    (2, &[(0, 1, 0, 2)], &[1, 0, 2, 9], &[2, 3], &[4, 5], false),
+    (
+        2,
+        &[(0, 1, 0, 2)],
+        &[1, 0, 2, 3],
+        &[2, 3, 0],
+        &[4, 5],
+        false,
+    ),
+    (
+        2,
+        &[(0, 1, 0, 2)],
+        &[1, 0, 2, 3],
+        &[2, 3],
+        &[4, 5, 6],
+        false,
+    ),
+    (2, &[(0, 1, 0, 17)], &[1, 0, 2, 3], &[2, 3], &[4, 5], false),
+    (0, &[], &[], &[], &[], false),
+];
 
-/// Whether edges that do not lead back are told.
-fn tells_backs(graph: &Graph) -> bool {
-    !is_rateable(graph, &[1, 1, 2, 3], &[2, 3], &[4, 5])
-        && !is_rateable(graph, &[1, 0, 2], &[2, 3], &[4, 5])
-        && !is_rateable(graph, &[1, 0, 2, 9], &[2, 3], &[4, 5])
-}
-
-/// Whether lists that do not show what they are to show are told.
-fn tells_lists(graph: &Graph) -> bool {
-    shows(graph, &[2, 3], &[4, 5])
-        && tells_backs(graph)
-        && !shows(graph, &[2, 2], &[4, 5])
-        && !shows(graph, &[2, 3], &[4, 4])
-        && !shows(graph, &[2, 3, 0], &[4, 5])
-        && !shows(graph, &[2, 3], &[4, 5, 6])
-}
-
-/// Whether a station of 17 places and a graph without transitions are told.
-fn tells_limits(alloc: Global) -> bool {
-    let Ok(wide) = graph_of(alloc, 2, &[(0, 1, 0, 17)]) else {
-        return false;
-    };
-    match graph_of(alloc, 0, &[]) {
-        Ok(none) => !shows(&wide, &[2, 3], &[4, 5]) && !is_rateable(&none, &[], &[], &[]),
+/// Whether it is this that the lists show.
+fn shows(
+    alloc: Global,
+    nodes: u32,
+    stations: &[Station],
+    backs: &[u32],
+    loops: &[u32],
+    numbers: &[u32],
+    want: bool,
+) -> bool {
+    match graph_of(alloc, nodes, stations) {
+        Ok(graph) => is_rateable(&graph, backs, loops, numbers) == want,
         Err(_) => false,
     }
 }
 
 #[test]
 fn tells_graphs_that_are_not_shown(rt: HostRuntime) {
-    let told = match graph_of(rt.alloc(), 2, &[(0, 1, 0, 2)]) {
-        Ok(graph) => tells_lists(&graph) && tells_limits(rt.alloc()),
-        Err(_) => false,
-    };
-    assert!(rt; told);
+    for case in &SHOWN {
+        assert!(rt; shows(rt.alloc(), case.0, case.1, case.2, case.3, case.4, case.5));
+    }
 }
