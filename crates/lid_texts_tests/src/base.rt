@@ -9,6 +9,9 @@ use std::convert::AsStr;
 use std::fs;
 use std::test::Fail;
 
+/// The most bytes of a text.
+const MOST_BYTES: usize = 67_108_864;
+
 fn is_line(line: &Line, number: u32, words: &[&[u8]]) -> bool {
     line.number == number
         && line.words.len() == words.len()
@@ -22,6 +25,9 @@ fn is_line(line: &Line, number: u32, words: &[&[u8]]) -> bool {
 
 /// Whether the logical lines of a text have these numbers and words.
 fn are_lines(alloc: Global, text: &[u8], wanted: &[(u32, &[&[u8]])]) -> bool {
+    if text.len() > MOST_BYTES {
+        return false;
+    }
     let Ok(found) = lines(alloc, text, 1024) else {
         return false;
     };
@@ -51,6 +57,9 @@ fn lines_are_joined(rt: HostRuntime) {
 type Told = (&'static str, u64);
 
 fn told_of(alloc: Global, text: &[u8]) -> Told {
+    if text.len() > MOST_BYTES {
+        return ("too many bytes", 0);
+    }
     match lines(alloc, text, 1024) {
         Ok(found) => ("lines", found.len() as u64),
         Err(TextFault::BadByte { line }) => ("BadByte", u64::from(line)),
