@@ -46,16 +46,58 @@ fn insts_of(alloc: Global, body: &[Line]) -> Result<Items<Inst>, AllocError>
     Ok(Items::from_vec(insts))
 }
 
+/// The names that a model lists.
+#[derive(Drop)]
+struct Ports {
+    inputs: Items<Name>,
+    outputs: Items<Name>,
+    clocks: Items<Name>,
+}
+
+fn ports_of(alloc: Global, body: &[Line]) -> Result<Ports, AllocError>
+    ensures inputs { IfOk result (λ ports. ports.inputs ≡ names_of Keyword.Inputs body.now) }
+    ensures outputs { IfOk result (λ ports. ports.outputs ≡ names_of Keyword.Outputs body.now) }
+    ensures clocks { IfOk result (λ ports. ports.clocks ≡ names_of Keyword.Clock body.now) }
+{
+    let inputs = names_of(alloc, Keyword::Inputs, body)?;
+    let outputs = names_of(alloc, Keyword::Outputs, body)?;
+    let clocks = names_of(alloc, Keyword::Clock, body)?;
+    Ok(Ports {
+        inputs,
+        outputs,
+        clocks,
+    })
+}
+
+/// The cells and the instances of a model.
+#[derive(Drop)]
+struct Parts {
+    cells: Items<Cell>,
+    insts: Items<Inst>,
+}
+
+fn parts_of(alloc: Global, body: &[Line]) -> Result<Parts, AllocError>
+    ensures cells { IfOk result (λ parts. parts.cells ≡ cells_of body.now) }
+    ensures insts { IfOk result (λ parts. parts.insts ≡ insts_of body.now) }
+{
+    let cells = cells_of(alloc, body)?;
+    let insts = insts_of(alloc, body)?;
+    Ok(Parts { cells, insts })
+}
+
 #[tactic(auto, unfolding(crate::specs::Designs::model_of))]
 fn model_of(alloc: Global, name: &[u8], body: &[Line]) -> Result<Model, AllocError>
     ensures { IfOk result (λ model. model ≡ model_of name.now body.now) }
 {
+    let ports = ports_of(alloc, body)?;
+    let parts = parts_of(alloc, body)?;
     let name = copy(alloc, name)?;
-    let inputs = names_of(alloc, Keyword::Inputs, body)?;
-    let outputs = names_of(alloc, Keyword::Outputs, body)?;
-    let clocks = names_of(alloc, Keyword::Clock, body)?;
-    let cells = cells_of(alloc, body)?;
-    let insts = insts_of(alloc, body)?;
+    let Ports {
+        inputs,
+        outputs,
+        clocks,
+    } = ports;
+    let Parts { cells, insts } = parts;
     Ok(Model {
         name,
         inputs,

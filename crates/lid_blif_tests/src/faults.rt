@@ -3,7 +3,6 @@
 use lid_base::{TextFault, Which};
 use lid_blif::{BlifFault, read};
 use std::alloc::{AllocError, Global};
-use std::test::Fail;
 
 /// What is told of a text: the name of its fault, with the line or the count.
 type Told = (&'static str, u64);
@@ -103,32 +102,32 @@ fn faults_are_told(rt: HostRuntime) {
     }
 }
 
-/// What is told of the text `head`, then so many times `part`, then `tail`.
-fn told_of_repeated(
+/// The text `head`, then so many times `part`, then `tail`.
+fn repeated(
     alloc: Global,
     head: &str,
     part: &str,
     times: usize,
     tail: &str,
-) -> Result<Told, AllocError> {
-    let mut text = Vec::new(alloc);
-    text.extend_from_slice(head.as_bytes())?;
+) -> Result<Vec<u8>, AllocError> {
+    let mut text = Vec::from_slice(alloc, head.as_bytes())?;
     for _ in 0..times {
         text.extend_from_slice(part.as_bytes())?;
     }
     text.extend_from_slice(tail.as_bytes())?;
-    Ok(told_of(alloc, text.as_slice()))
+    Ok(text)
+}
+
+fn told_of_repeated(alloc: Global, head: &str, part: &str, times: usize, tail: &str) -> Told {
+    match repeated(alloc, head, part, times, tail) {
+        Ok(text) => told_of(alloc, text.as_slice()),
+        Err(_) => ("Memory", 0),
+    }
 }
 
 /// Texts that repeat a part as often as they may, and the fault of one time more.
 static LIMITS: [(&str, &str, usize, &str, Told); 4] = [
-    (
-        ".model m\n.names",
-        " a",
-        64,
-        " q\n",
-        ("TooManyInputs", 2),
-    ),
+    (".model m\n.names", " a", 64, " q\n", ("TooManyInputs", 2)),
     (".model ", "m", 1024, "\n", ("NameTooLong", 1)),
     (
         ".model m\n.names a q\n",
@@ -146,33 +145,35 @@ static LIMITS: [(&str, &str, usize, &str, Told); 4] = [
     ),
 ];
 
-#[test]
-fn limits_are_told(rt: HostRuntime) -> Result<(), Fail> {
-    for (head, part, times, tail, fault) in &LIMITS {
-        let at_limit = told_of_repeated(rt.alloc(), head, part, *times, tail)?;
-        assert_eq!(rt; at_limit, NO_FAULT, "{head}");
-        let above = told_of_repeated(rt.alloc(), head, part, times.saturating_add(1), tail)?;
-        assert_eq!(rt; above, *fault, "{head}");
-    }
-    Ok(())
-}
-
-/// What is told of a text with so many models.
-fn told_of_models(alloc: Global, count: u32) -> Result<Told, AllocError> {
+/// A text with so many models.
+fn models(alloc: Global, count: u32) -> Result<Vec<u8>, AllocError> {
     let mut text = Vec::new(alloc);
     for number in 0..count {
         let line = format!(in alloc; ".model m{number}\n")?;
         text.extend_from_slice(line.as_bytes())?;
     }
-    Ok(told_of(alloc, text.as_slice()))
+    Ok(text)
+}
+
+fn told_of_models(alloc: Global, count: u32) -> Told {
+    match models(alloc, count) {
+        Ok(text) => told_of(alloc, text.as_slice()),
+        Err(_) => ("Memory", 0),
+    }
 }
 
 #[test]
-fn too_many_models_are_told(rt: HostRuntime) -> Result<(), Fail> {
-    assert_eq!(rt; told_of_models(rt.alloc(), 4096)?, NO_FAULT);
-    assert_eq!(rt;
-        told_of_models(rt.alloc(), 4097)?,
-        ("Limit Models", 4097)
-    );
-    Ok(())
+fn limits_are_told(rt: HostRuntime) {
+    for (head, part, times, tail, fault) in &LIMITS {
+        let at_limit = told_of_repeated(rt.alloc(), head, part, *times, tail);
+        let above = told_of_repeated(rt.alloc(), head, part, times.saturating_add(1), tail);
+        assert_eq!(rt; (at_limit, above), (NO_FAULT, *fault), "{head}");
+    }
+}
+
+#[test]
+fn too_many_models_are_told(rt: HostRuntime) {
+    let at_limit = told_of_models(rt.alloc(), 4096);
+    let above = told_of_models(rt.alloc(), 4097);
+    assert_eq!(rt; (at_limit, above), (NO_FAULT, ("Limit Models", 4097)));
 }

@@ -78,6 +78,37 @@ fn first_numbers(alloc: Global, firsts: &[Option<u32>]) -> Result<Vec<Option<u64
     Ok(numbers)
 }
 
+/// The lists that a board and its hand start with: the words, the number of each station's first
+/// word, the capacities, and how many tokens passed each end.
+#[derive(Drop)]
+struct Ground {
+    words: Vec<u64>,
+    starts: Vec<usize>,
+    caps: Vec<u32>,
+    ends: Vec<Option<u64>>,
+}
+
+fn lay_ground(alloc: Global, firsts: &[Option<u32>], caps: &[u32]) -> Result<Ground, AllocError>
+    requires same { length caps.now ≡ length firsts.now }
+    requires two { All (λ cap. 2 ≤ cap) caps.now }
+    requires few { All (λ cap. cap ≤ 16) caps.now }
+    requires small { All (λ first. IfSome first (λ token. token < 2 ^ 31)) firsts.now }
+    ensures words { IfOk result (λ ground. AreLaid firsts.now caps.now ground.words.items (length firsts.now)) }
+    ensures starts { IfOk result (λ ground. AreFirsts caps.now ground.starts.items (length firsts.now)) }
+    ensures caps { IfOk result (λ ground. ground.caps.items ≡ caps.now) }
+    ensures ends { IfOk result (λ ground. AreNumbers firsts.now ground.ends.items (length firsts.now)) }
+{
+    let ends = first_numbers(alloc, firsts)?;
+    let kept = Vec::from_slice(alloc, caps)?;
+    let Laid { words, starts } = lay(alloc, firsts, caps)?;
+    Ok(Ground {
+        words,
+        starts,
+        caps: kept,
+        ends,
+    })
+}
+
 impl Board {
     /// Starts a board with one station for each entry, with its start token, if any, and its
     /// capacity. The board carries the streams of the course, one for each station. The hand owns
@@ -109,10 +140,14 @@ impl Board {
         ensures stands { IfOk result (λ r. StandsFor (plan_of r.0) (λ station. slice_index_or (C.streams course.now) station [])) }
     {
         let key = key_of(alloc, firsts, caps, course)?;
-        let Laid { words, starts } = lay(alloc, firsts, caps)?;
-        let ends = first_numbers(alloc, firsts)?;
-        let caps = Vec::from_slice(alloc, caps)?;
-        let (table, seat) = Table::of_words(alloc, words.as_slice(), &key)?;
+        let ground = lay_ground(alloc, firsts, caps)?;
+        let (table, seat) = Table::of_words(alloc, ground.words.as_slice(), &key)?;
+        let Ground {
+            words: _words,
+            starts,
+            caps,
+            ends,
+        } = ground;
         let board = Board {
             table,
             caps,

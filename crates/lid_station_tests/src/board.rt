@@ -265,11 +265,22 @@ fn told_by_two_hands(board: &Board, hand: &mut Hand) -> Option<usize>
         return None;
     };
     let mut drainer = cross(board, drainer);
-    let there = first_other(board, &mut drainer, 1, &[0, 1], &[Step::Receive(InLook::Token(0))]);
+    let there = first_other(
+        board,
+        &mut drainer,
+        1,
+        &[0, 1],
+        &[Step::Receive(InLook::Token(0))],
+    );
     let here = first_other(board, hand, 1, &[0, 1], &[Step::ReceiveElsewhere]);
     board.join(hand, drainer);
     let after = first_other(board, hand, 1, &[0, 1], &[Step::Offer(OutLook::Room)]);
-    Some(before.saturating_add(there).saturating_add(here).saturating_add(after))
+    Some(
+        before
+            .saturating_add(there)
+            .saturating_add(here)
+            .saturating_add(after),
+    )
 }
 
 fn told_of_worked(alloc: Global) -> Option<(usize, usize)> {
@@ -369,7 +380,12 @@ fn relayed<R: Threads + Sync>(
 }
 
 /// What the next look finds after as many rounds of one offer and one taking.
-fn found_after(board: &Board, mut hand: Hand, rounds: u32, stream: &[u32]) -> Option<(InLook, Option<u32>)>
+fn found_after(
+    board: &Board,
+    mut hand: Hand,
+    rounds: u32,
+    stream: &[u32],
+) -> Option<(InLook, Option<u32>)>
     requires of { IsOf hand board.now }
     requires stands { StandsFor (plan_of board.now) (λ _. stream.now) }
 {
@@ -382,7 +398,10 @@ fn found_after(board: &Board, mut hand: Hand, rounds: u32, stream: &[u32]) -> Op
 
 /// How many tokens of ten came wrong through a station between two threads, and what is found once
 /// the rest is carried too.
-fn relay_of_ten<R: Threads + Sync>(rt: &R, alloc: Global) -> Option<(u32, Option<(InLook, Option<u32>)>)> {
+fn relay_of_ten<R: Threads + Sync>(
+    rt: &R,
+    alloc: Global,
+) -> Option<(u32, Option<(InLook, Option<u32>)>)> {
     let course = Same {
         stations: 1,
         stream: &[5, 6, 7, 8, 9, 10, 11, 12, 13, 14],

@@ -3,7 +3,7 @@
 ghost use Rattle.std.specs.Prelude.{◌<◌};
 
 use lid_station::{InLook, OutLook, PlainBoard, Stations};
-use std::test::Fail;
+use std::alloc::Global;
 
 /// A step at station 0, and what its look answers.
 #[derive(Clone, Copy)]
@@ -45,14 +45,14 @@ fn is_as_told(board: &mut PlainBoard, step: Step) -> bool {
     }
 }
 
-/// The number of the first step that is not as it is told.
-fn first_other(board: &mut PlainBoard, steps: &[Step]) -> Option<usize> {
+/// How many steps are as they are told, before the first that is not.
+fn told_before_other(board: &mut PlainBoard, steps: &[Step]) -> usize {
     for (number, step) in steps.iter().enumerate() {
         if !is_as_told(board, *step) {
-            return Some(number);
+            return number;
         }
     }
-    None
+    steps.len()
 }
 
 /// A station of 3 places that starts with the token 5.
@@ -76,18 +76,26 @@ static EMPTY: [Step; 3] = [
     Step::Receive(InLook::Token(2_147_483_647)),
 ];
 
-#[test]
-fn stations_tell_what_they_hold(rt: HostRuntime) -> Result<(), Fail> {
-    let mut board = PlainBoard::start(rt.alloc(), &[Some(5)], &[3])?;
-    assert_eq!(rt; first_other(&mut board, &FULL), None);
-    Ok(())
+/// How many steps are as they are told at a station of 3 places that starts with a token.
+fn told_when_full(alloc: Global) -> Option<usize> {
+    match PlainBoard::start(alloc, &[Some(5)], &[3]) {
+        Ok(mut board) => Some(told_before_other(&mut board, &FULL)),
+        Err(_) => None,
+    }
+}
+
+/// How many steps are as they are told at a station of 2 places that starts empty.
+fn told_when_empty(alloc: Global) -> Option<usize> {
+    match PlainBoard::start(alloc, &[None, Some(5)], &[2, 2]) {
+        Ok(mut board) => Some(told_before_other(&mut board, &EMPTY)),
+        Err(_) => None,
+    }
 }
 
 #[test]
-fn stations_start_empty(rt: HostRuntime) -> Result<(), Fail> {
-    let mut board = PlainBoard::start(rt.alloc(), &[None, Some(5)], &[2, 2])?;
-    assert_eq!(rt; first_other(&mut board, &EMPTY), None);
-    Ok(())
+fn stations_tell_what_they_hold(rt: HostRuntime) {
+    assert_eq!(rt; told_when_full(rt.alloc()), Some(10));
+    assert_eq!(rt; told_when_empty(rt.alloc()), Some(3));
 }
 
 /// Whether 16 tokens go into an empty station of 16 places, no more, and come out again.
@@ -110,10 +118,15 @@ fn goes_round(board: &mut PlainBoard, first: u32) -> bool
     receive(board) == Some(InLook::Void(0))
 }
 
+/// Whether a station of 16 places goes round twice.
+fn goes_round_twice(alloc: Global) -> bool {
+    match PlainBoard::start(alloc, &[None], &[16]) {
+        Ok(mut board) => goes_round(&mut board, 0) && goes_round(&mut board, 100),
+        Err(_) => false,
+    }
+}
+
 #[test]
-fn sixteen_places_go_round(rt: HostRuntime) -> Result<(), Fail> {
-    let mut board = PlainBoard::start(rt.alloc(), &[None], &[16])?;
-    let first = goes_round(&mut board, 0);
-    assert!(rt; first && goes_round(&mut board, 100));
-    Ok(())
+fn sixteen_places_go_round(rt: HostRuntime) {
+    assert!(rt; goes_round_twice(rt.alloc()));
 }

@@ -9,6 +9,9 @@ use std::convert::AsStr;
 use std::fs;
 use std::test::Fail;
 
+/// The most bytes of a text.
+const MOST_BYTES: usize = 67_108_864;
+
 fn is_line(line: &Line, number: u32, words: &[&[u8]]) -> bool {
     line.number == number
         && line.words.len() == words.len()
@@ -22,6 +25,9 @@ fn is_line(line: &Line, number: u32, words: &[&[u8]]) -> bool {
 
 /// Whether the logical lines of a text have these numbers and words.
 fn are_lines(alloc: Global, text: &[u8], wanted: &[(u32, &[&[u8]])]) -> bool {
+    if text.len() > MOST_BYTES {
+        return false;
+    }
     let Ok(found) = lines(alloc, text, 1024) else {
         return false;
     };
@@ -51,6 +57,9 @@ fn lines_are_joined(rt: HostRuntime) {
 type Told = (&'static str, u64);
 
 fn told_of(alloc: Global, text: &[u8]) -> Told {
+    if text.len() > MOST_BYTES {
+        return ("too many bytes", 0);
+    }
     match lines(alloc, text, 1024) {
         Ok(found) => ("lines", found.len() as u64),
         Err(TextFault::BadByte { line }) => ("BadByte", u64::from(line)),
@@ -75,20 +84,30 @@ fn bad_bytes_are_told(rt: HostRuntime) {
     }
 }
 
-/// What is told of a text whose second line is one word of so many bytes.
-fn told_of_word(alloc: Global, bytes: usize) -> Result<Told, AllocError> {
+/// A text whose second line is one word of so many bytes.
+fn text_with_word(alloc: Global, bytes: usize) -> Result<Vec<u8>, AllocError> {
     let mut text = Vec::from_slice(alloc, b"first\n")?;
     for _ in 0..bytes {
         text.push(b'x')?;
     }
-    Ok(told_of(alloc, text.as_slice()))
+    Ok(text)
 }
 
+fn told_of_word(alloc: Global, bytes: usize) -> Told {
+    match text_with_word(alloc, bytes) {
+        Ok(text) => told_of(alloc, text.as_slice()),
+        Err(_) => ("Memory", 0),
+    }
+}
+
+/// Lengths of a word of the second line, and what is told.
+static WORDS: [(usize, Told); 2] = [(1024, ("lines", 2)), (1025, ("NameTooLong", 2))];
+
 #[test]
-fn long_words_are_told(rt: HostRuntime) -> Result<(), Fail> {
-    assert_eq!(rt; told_of_word(rt.alloc(), 1024)?, ("lines", 2));
-    assert_eq!(rt; told_of_word(rt.alloc(), 1025)?, ("NameTooLong", 2));
-    Ok(())
+fn long_words_are_told(rt: HostRuntime) {
+    for (bytes, told) in &WORDS {
+        assert_eq!(rt; told_of_word(rt.alloc(), *bytes), *told);
+    }
 }
 
 /// Whether a fetch into `into` gives these bytes, or fails where there are none.
@@ -134,14 +153,23 @@ static FETCHES: [(&str, u64, Option<&[u8]>); 5] = [
     ("b", 0, None),
 ];
 
-#[test]
-fn files_are_fetched_from_memory(rt: HostRuntime) -> Result<(), Fail> {
-    let mut shelf = shelf(rt.alloc())?;
+/// Whether those fetches give what they must.
+fn are_fetched(shelf: &mut MemShelf) -> bool {
     let mut into = [0u8; 3];
     for (name, at, bytes) in &FETCHES {
-        assert!(rt; is_fetched(&mut shelf, name, *at, &mut into, *bytes), "{name} {at}");
+        if !is_fetched(shelf, name, *at, &mut into, *bytes) {
+            return false;
+        }
     }
-    Ok(())
+    true
+}
+
+#[test]
+fn files_are_fetched_from_memory(rt: HostRuntime) {
+    match shelf(rt.alloc()) {
+        Ok(mut shelf) => assert!(rt; are_fetched(&mut shelf)),
+        Err(_) => assert!(rt; false, "no memory"),
+    }
 }
 
 /// Writes of pieces, and whether they succeed: the second call fails, and more than 6 bytes do not
@@ -163,13 +191,21 @@ fn are_written<S: Sink>(sink: &mut S, writes: &[(&[u8], bool)]) -> bool {
     true
 }
 
+/// An output of at most 6 bytes, whose second call fails.
+fn sink(alloc: Global) -> Result<MemSink, AllocError> {
+    let failing = Vec::from_slice(alloc, &[2])?;
+    MemSink::new(alloc, 6, failing)
+}
+
 #[test]
-fn bytes_are_written_to_memory(rt: HostRuntime) -> Result<(), Fail> {
-    let failing = Vec::from_slice(rt.alloc(), &[2])?;
-    let mut sink = MemSink::new(rt.alloc(), 6, failing)?;
-    let as_told = are_written(&mut sink, &WRITES);
-    assert!(rt; as_told && sink.written() == b"abcxyz".as_slice());
-    Ok(())
+fn bytes_are_written_to_memory(rt: HostRuntime) {
+    match sink(rt.alloc()) {
+        Ok(mut sink) => {
+            let as_told = are_written(&mut sink, &WRITES);
+            assert!(rt; as_told && sink.written() == b"abcxyz".as_slice());
+        }
+        Err(_) => assert!(rt; false, "no memory"),
+    }
 }
 
 #[test]
@@ -185,25 +221,41 @@ fn gates_are_passed(rt: HostRuntime) {
     assert!(rt; gate.met());
 }
 
+fn is_seen(alloc: Global, text: &str) -> bool {
+    match String::from_str(alloc, text) {
+        Ok(string) => Text::new(string).as_str() == text,
+        Err(_) => false,
+    }
+}
+
 #[test]
-fn a_text_is_seen(rt: HostRuntime) -> Result<(), Fail> {
-    let text = Text::new(String::from_str(rt.alloc(), "copy")?);
-    assert!(rt; text.as_str() == "copy");
-    Ok(())
+fn a_text_is_seen(rt: HostRuntime) {
+    assert!(rt; is_seen(rt.alloc(), "copy"));
 }
 
 /// The file that a test writes.
 const PATH: &str = "lid_base_written.txt";
+
+/// Whether the bytes of the file that was written are fetched.
+fn are_bytes_fetched<S: Shelf>(shelf: &mut S) -> bool {
+    let mut into = [0u8; 5];
+    is_fetched(shelf, PATH, 2, &mut into, Some(b"e two"))
+        && is_fetched(shelf, PATH, 7, &mut into, Some(b""))
+}
+
+/// Whether the file that was removed is not fetched.
+fn is_nothing_fetched<S: Shelf>(shelf: &mut S) -> bool {
+    let mut into = [0u8; 5];
+    is_fetched(shelf, PATH, 0, &mut into, None)
+}
 
 #[test]
 fn files_are_written_and_fetched(rt: HostRuntime) -> Result<(), Fail> {
     let mut sink = StdSink::new(fs::create(&rt, PATH)?);
     assert!(rt; are_written(&mut sink, &[(b"one ", true), (b"two", true)]));
     let mut shelf = DirShelf::new(&rt);
-    let mut into = [0u8; 5];
-    assert!(rt; is_fetched(&mut shelf, PATH, 2, &mut into, Some(b"e two")));
-    assert!(rt; is_fetched(&mut shelf, PATH, 7, &mut into, Some(b"")));
+    assert!(rt; are_bytes_fetched(&mut shelf));
     fs::remove_file(&rt, PATH)?;
-    assert!(rt; is_fetched(&mut shelf, PATH, 0, &mut into, None));
+    assert!(rt; is_nothing_fetched(&mut shelf));
     Ok(())
 }

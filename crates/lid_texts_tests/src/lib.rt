@@ -1,9 +1,7 @@
-//! Tests of the texts and words that lid reads and writes, over the public calls of their crates.
+//! Tests of what every part stands on and of the texts of rows, over their public calls.
 #![tactic(auto)]
 
 #[cfg(test)]
 mod base;
 #[cfg(test)]
 mod rows;
-#[cfg(test)]
-mod words;

@@ -10,22 +10,22 @@ use Rattle.lid_board.proofs.board.Board.start.Goals as goal
 pub of_words-requires : goal.of_words-requires
 of_words-requires g c =
     start-related c.args.firsts.now c.args.caps.now (g.C.Course.streams c.args.course.now) c.in_ok-key.key.me.0.ends c.in_ok-key.ensures c.as_slice.result.now _ c.in_ok-key.key.me.0 refl c.requires.course c.requires.same c.requires.two c.requires.few
-    (subst (λ (ws : List ℕ). AreLaid c.args.firsts.now c.args.caps.now ws (length c.args.firsts.now)) (sym c.as_slice.ensures.value) c.in_ok-words.ensures.words)
+    (subst (λ (ws : List ℕ). AreLaid c.args.firsts.now c.args.caps.now ws (length c.args.firsts.now)) (sym c.as_slice.ensures.value) c.in_ok-ground.ensures.words)
 
 pub invariant_of-board : goal.invariant_of-board
 invariant_of-board g c = record {
   laid =
       let plan_is = ap (λ (k : Seat (Unit {0}) View). k.me.0.ends) c.in_ok-table.ensures.5 ∙ c.in_ok-key.ensures in
-      subst (λ (xs : List ℕ). IsLaid c.in_ok-table.table.shared.key.me.0.ends xs c.in_ok-words.field-0.starts.items c.in_ok-table.table.shared.table_id) (sym c.in_ok-caps.ensures.items)
-      (plan-laid c.args.firsts.now c.args.caps.now (g.C.Course.streams c.args.course.now) c.in_ok-table.table.shared.key.me.0.ends plan_is c.in_ok-words.field-0.starts.items c.in_ok-table.table.shared.table_id c.in_ok-words.field-0.words.items
-      c.requires.many c.requires.same c.requires.two c.requires.few (search c.in_ok-words.ensures.starts) c.in_ok-words.ensures.words (c.in_ok-table.ensures.0 ∙ ap (λ (ws : List ℕ). length ws) c.as_slice.ensures.value) c.in_ok-table.ensures.1);
+      subst (λ (xs : List ℕ). IsLaid c.in_ok-table.table.shared.key.me.0.ends xs c.in_ok-ground.ground.starts.items c.in_ok-table.table.shared.table_id) (sym c.in_ok-ground.ensures.caps)
+      (plan-laid c.args.firsts.now c.args.caps.now (g.C.Course.streams c.args.course.now) c.in_ok-table.table.shared.key.me.0.ends plan_is c.in_ok-ground.ground.starts.items c.in_ok-table.table.shared.table_id c.in_ok-ground.ground.words.items
+      c.requires.many c.requires.same c.requires.two c.requires.few (search c.in_ok-ground.ensures.starts) c.in_ok-ground.ensures.words (c.in_ok-table.ensures.0 ∙ ap (λ (ws : List ℕ). length ws) c.as_slice.ensures.value) c.in_ok-table.ensures.1);
 }
 
 pub invariant_of-result : goal.invariant_of-result
 invariant_of-result g c =
     let is = ap (λ (m : Me (Unit {0}) View). m.0.ends) c.in_ok-table.ensures.4 ∙ c.in_ok-key.ensures in
     record {
-      tied = plan-tied c.args.firsts.now c.args.caps.now (g.C.Course.streams c.args.course.now) c.in_ok-table.seat.me.0.ends is c.in_ok-ends.ends.items c.in_ok-ends.ensures;
+      tied = plan-tied c.args.firsts.now c.args.caps.now (g.C.Course.streams c.args.course.now) c.in_ok-table.seat.me.0.ends is c.in_ok-ground.ground.ends.items c.in_ok-ground.ensures.ends;
       early = plan-early c.args.firsts.now c.args.caps.now (g.C.Course.streams c.args.course.now) c.in_ok-table.seat.me.0.ends is;
       no_slot = ap (λ (m : Me (Unit {0}) View). m.1) c.in_ok-table.ensures.4;
     }
