@@ -202,12 +202,26 @@ fn an_earlier_condition_is_told_before_a_later_one(rt: HostRuntime) -> Result<()
     expect_faults(&rt, EARLIER)
 }
 
+/// Appends a text so many times.
+fn push_times(net: &mut String, text: &str, count: u32) -> Result<(), Fail> {
+    for _ in 0..count {
+        net.push_str(text)?;
+    }
+    Ok(())
+}
+
+/// Appends the numbers from 0 on, so many, each between two texts.
+fn push_numbered(net: &mut String, before: &str, count: u32, after: &str) -> Result<(), Fail> {
+    for k in 0..count {
+        write!(net, "{before}{k}{after}")?;
+    }
+    Ok(())
+}
+
 /// A root with so many instances.
 fn with_instances(alloc: Global, count: u32) -> Result<String, Fail> {
     let mut net = String::from_str(alloc, ".model m\n")?;
-    for _ in 0..count {
-        net.push_str(".subckt n\n")?;
-    }
+    push_times(&mut net, ".subckt n\n", count)?;
     net.push_str(".model n\n")?;
     Ok(net)
 }
@@ -226,17 +240,11 @@ fn with_depth(alloc: Global, depth: u32) -> Result<String, Fail> {
 /// instances.
 fn with_cells(alloc: Global, each: u32, others: u32) -> Result<String, Fail> {
     let mut net = String::from_str(alloc, ".model m\n")?;
-    for _ in 0..512 {
-        net.push_str(".subckt n\n")?;
-    }
+    push_times(&mut net, ".subckt n\n", 512)?;
     net.push_str(".subckt o\n.model n\n")?;
-    for k in 0..each {
-        write!(net, ".names q{k}\n")?;
-    }
+    push_numbered(&mut net, ".names q", each, "\n")?;
     net.push_str(".model o\n")?;
-    for k in 0..others {
-        write!(net, ".names q{k}\n")?;
-    }
+    push_numbered(&mut net, ".names q", others, "\n")?;
     Ok(net)
 }
 
@@ -244,20 +252,12 @@ fn with_cells(alloc: Global, each: u32, others: u32) -> Result<String, Fail> {
 /// inputs of the root.
 fn with_columns(alloc: Global, each: u32, inputs: u32) -> Result<String, Fail> {
     let mut net = String::from_str(alloc, ".model m\n.inputs")?;
-    for k in 0..inputs {
-        write!(net, " x{k}")?;
-    }
-    for _ in 0..1_024 {
-        net.push_str("\n.subckt n")?;
-    }
+    push_numbered(&mut net, " x", inputs, "")?;
+    push_times(&mut net, "\n.subckt n", 1_024)?;
     net.push_str("\n.model n\n.names y\n.subckt o")?;
-    for k in 0..each {
-        write!(net, " i{k}=y")?;
-    }
+    push_numbered(&mut net, " i", each, "=y")?;
     net.push_str("\n.model o\n.inputs")?;
-    for k in 0..each {
-        write!(net, " i{k}")?;
-    }
+    push_numbered(&mut net, " i", each, "")?;
     net.push_str("\n")?;
     Ok(net)
 }
@@ -314,19 +314,30 @@ fn a_loop_is_told_at_its_first_column(rt: HostRuntime) -> Result<(), Fail> {
     Ok(())
 }
 
-#[test]
-fn an_immense_design_is_refused_at_once(rt: HostRuntime) -> Result<(), Fail> {
-    let mut net = String::new(rt.alloc());
+/// Appends a model with four instances of the next.
+fn push_four(net: &mut String, k: u32) -> Result<(), Fail> {
+    write!(net, ".model m{k}\n")?;
+    for _ in 0..4 {
+        write!(net, ".subckt m{}\n", k + 1)?;
+    }
+    net.push_str(".end\n")?;
+    Ok(())
+}
+
+/// Thirteen models, each with four instances of the next, and a latch in the last.
+fn immense(alloc: Global) -> Result<String, Fail> {
+    let mut net = String::new(alloc);
     for k in 0..13 {
-        write!(net, ".model m{k}\n")?;
-        for _ in 0..4 {
-            write!(net, ".subckt m{}\n", k + 1)?;
-        }
-        net.push_str(".end\n")?;
+        push_four(&mut net, k)?;
     }
     net.push_str(".model m13\n.latch q q 0\n.end\n")?;
-    expect_fault(&rt, net.as_str(), "Limit Cells 156587348")?;
-    Ok(())
+    Ok(net)
+}
+
+#[test]
+fn an_immense_design_is_refused_at_once(rt: HostRuntime) -> Result<(), Fail> {
+    let net = immense(rt.alloc())?;
+    expect_fault(&rt, net.as_str(), "Limit Cells 156587348")
 }
 
 /// Runs a netlist without inputs and outputs, over no rows.

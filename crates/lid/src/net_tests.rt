@@ -112,22 +112,27 @@ const FILES: &[(&str, &str)] = &[
     ("none.vec", "-\n-\n"),
 ];
 
+/// Runs the ring with another root.
+fn expect_rooted<R: Threads + AllocGlobal + Sync + Abort>(
+    rt: &R,
+    root: &str,
+    vec: &str,
+    out: &str,
+) -> Result<(), AllocError> {
+    let left = Left {
+        status: 0,
+        out,
+        err: "",
+    };
+    let words = ["strict", "n.blif", vec, "--root", root];
+    expect_run(rt, &words, FILES, NONE_FAILS, left)
+}
+
 #[test]
 fn each_model_can_be_the_root(rt: HostRuntime) -> Result<(), Fail> {
-    let cases = [
-        ("reg0", "d.vec", "q\n0\n1\n0\n"),
-        ("reg1", "d.vec", "q\n1\n1\n0\n"),
-        ("ring", "none.vec", "y\n1\n"),
-    ];
-    for (root, vec, out) in cases {
-        let left = Left {
-            status: 0,
-            out,
-            err: "",
-        };
-        let words = ["strict", "n.blif", vec, "--root", root];
-        expect_run(&rt, &words, FILES, NONE_FAILS, left)?;
-    }
+    expect_rooted(&rt, "reg0", "d.vec", "q\n0\n1\n0\n")?;
+    expect_rooted(&rt, "reg1", "d.vec", "q\n1\n1\n0\n")?;
+    expect_rooted(&rt, "ring", "none.vec", "y\n1\n")?;
     Ok(())
 }
 

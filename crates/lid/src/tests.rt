@@ -114,11 +114,16 @@ pub fn run_failing<R: Threads + AllocGlobal + Sync>(
     run_over(rt, words, &mut shelf, failing)
 }
 
+/// Whether a run left this.
+fn is_left(ran: &Ran, left: Left<'_>) -> bool {
+    ran.status == left.status
+        && ran.out.written() == left.out.as_bytes()
+        && ran.err.written() == left.err.as_bytes()
+}
+
 /// A run left this.
 fn expect_left(rt: &impl Abort, ran: &Ran, left: Left<'_>, case: &str) {
-    assert_eq!(rt; ran.status, left.status, "{case}");
-    assert_eq!(rt; ran.out.written(), left.out.as_bytes(), "{case}");
-    assert_eq!(rt; ran.err.written(), left.err.as_bytes(), "{case}");
+    assert!(rt; is_left(ran, left), "another status or other texts: {case}");
 }
 
 /// Runs the words over files in memory, and compares all that is left.
@@ -357,77 +362,84 @@ fn a_root_that_no_model_has_is_refused(rt: HostRuntime) -> Result<(), Fail> {
 /// The files of the example's run.
 const EXAMPLE: &[(&str, &str)] = &[("one.blif", REGISTER), ("one.vec", "d\n1\n0\n1\n")];
 
+/// The calls that fail in a run of the example (fetches, writes of the output, writes of the line), and
+/// what is left: the status, the output and the line.
+type Call = (
+    &'static [u64],
+    &'static [u64],
+    &'static [u64],
+    u8,
+    &'static str,
+    &'static str,
+);
+
+const CALLS: &[Call] = &[
+    (&[1], &[], &[], 3, "", "lid: read one.blif\n"),
+    (&[2], &[], &[], 3, "", "lid: read one.blif\n"),
+    (&[3], &[], &[], 3, "", "lid: read one.vec\n"),
+    (&[4], &[], &[], 3, "", "lid: read one.vec\n"),
+    (&[5], &[], &[], 0, "q\n0\n1\n0\n", ""),
+    (&[], &[1], &[], 4, "", "lid: write\n"),
+    (&[], &[2], &[], 0, "q\n0\n1\n0\n", ""),
+    (&[], &[1], &[1], 4, "", ""),
+    (&[], &[], &[1], 0, "q\n0\n1\n0\n", ""),
+    (&[], &[1], &[3], 4, "", "lid: "),
+];
+
 /// Runs the example with calls that fail.
-fn expect_example<R: Threads + AllocGlobal + Sync + Abort>(
+fn expect_call<R: Threads + AllocGlobal + Sync + Abort>(
     rt: &R,
-    cases: &[(Failing<'_>, Left<'_>)],
+    call: Call,
 ) -> Result<(), AllocError> {
-    for (failing, left) in cases {
-        expect_run(
-            rt,
-            &["strict", "one.blif", "one.vec"],
-            EXAMPLE,
-            *failing,
-            *left,
-        )?;
-    }
-    Ok(())
-}
-
-/// The example's run, of which one fetch fails.
-const fn fetch(fetches: &'static [u64]) -> Failing<'static> {
-    Failing {
+    let (fetches, writes, says, status, out, err) = call;
+    let failing = Failing {
         fetches,
-        writes: &[],
-        says: &[],
-    }
-}
-
-/// The example's run, of which writes to its outputs fail.
-const fn write(writes: &'static [u64], says: &'static [u64]) -> Failing<'static> {
-    Failing {
-        fetches: &[],
         writes,
         says,
-    }
-}
-
-const fn leaving(status: u8, out: &'static str, err: &'static str) -> Left<'static> {
-    Left { status, out, err }
+    };
+    let left = Left { status, out, err };
+    expect_run(
+        rt,
+        &["strict", "one.blif", "one.vec"],
+        EXAMPLE,
+        failing,
+        left,
+    )
 }
 
 #[test]
 fn each_failing_call_is_told(rt: HostRuntime) -> Result<(), Fail> {
-    let cases = [
-        (fetch(&[1]), leaving(3, "", "lid: read one.blif\n")),
-        (fetch(&[2]), leaving(3, "", "lid: read one.blif\n")),
-        (fetch(&[3]), leaving(3, "", "lid: read one.vec\n")),
-        (fetch(&[4]), leaving(3, "", "lid: read one.vec\n")),
-        (fetch(&[5]), leaving(0, "q\n0\n1\n0\n", "")),
-        (write(&[1], &[]), leaving(4, "", "lid: write\n")),
-        (write(&[2], &[]), leaving(0, "q\n0\n1\n0\n", "")),
-        (write(&[1], &[1]), leaving(4, "", "")),
-        (write(&[], &[1]), leaving(0, "q\n0\n1\n0\n", "")),
-        (write(&[1], &[3]), leaving(4, "", "lid: ")),
-    ];
-    expect_example(&rt, &cases)?;
+    for call in CALLS {
+        expect_call(&rt, *call)?;
+    }
     Ok(())
 }
 
 #[test]
-fn a_missing_file_is_named_and_a_failing_err_changes_no_status(
-    rt: HostRuntime,
-) -> Result<(), Fail> {
+fn a_missing_file_is_named(rt: HostRuntime) -> Result<(), Fail> {
+    let left = Left {
+        status: 3,
+        out: "",
+        err: "lid: read one.blif\n",
+    };
     let words = ["strict", "one.blif", "one.vec"];
-    let files = [("one.vec", "d\n1\n")];
-    expect_run(
-        &rt,
-        &words,
-        &files,
-        NONE_FAILS,
-        leaving(3, "", "lid: read one.blif\n"),
-    )?;
-    expect_run(&rt, &["clock"], &[], write(&[], &[1]), leaving(2, "", ""))?;
+    expect_run(&rt, &words, &[("one.vec", "d\n1\n")], NONE_FAILS, left)?;
+    Ok(())
+}
+
+#[test]
+fn a_failing_err_changes_no_status(rt: HostRuntime) -> Result<(), Fail> {
+    let failing = Failing {
+        fetches: &[],
+        writes: &[],
+        says: &[1],
+    };
+    let left = Left {
+        status: 2,
+        out: "",
+        err: "",
+    };
+    expect_run(&rt, &["clock"], &[], failing, left)?;
     Ok(())
 }
 
@@ -440,6 +452,12 @@ fn zeros(alloc: Global, rows: u32) -> Result<String, AllocError> {
     Ok(text)
 }
 
+/// Whether a run ended with a status after so many bytes of output.
+fn has_written(ran: &Ran, status: u8, written: usize) -> bool {
+    let said: &[u8] = if status == 0 { b"" } else { b"lid: write\n" };
+    ran.status == status && ran.out.written().len() == written && ran.err.written() == said
+}
+
 /// Runs the register over many rows, and compares the status and how much was written.
 fn expect_pieces<R: Threads + AllocGlobal + Sync + Abort>(
     rt: &R,
@@ -450,10 +468,7 @@ fn expect_pieces<R: Threads + AllocGlobal + Sync + Abort>(
 ) -> Result<(), AllocError> {
     let files = [("one.blif", REGISTER), ("one.vec", rows)];
     let ran = run_failing(rt, &["strict", "one.blif", "one.vec"], &files, failing)?;
-    assert_eq!(rt; ran.status, status);
-    assert_eq!(rt; ran.out.written().len(), written);
-    let said = if status == 0 { "" } else { "lid: write\n" };
-    assert_eq!(rt; ran.err.written(), said.as_bytes());
+    assert!(rt; has_written(&ran, status, written), "status {status}");
     Ok(())
 }
 
@@ -461,7 +476,12 @@ fn expect_pieces<R: Threads + AllocGlobal + Sync + Abort>(
 fn a_long_output_is_written_in_pieces(rt: HostRuntime) -> Result<(), Fail> {
     let rows = zeros(rt.alloc(), 70_000)?;
     expect_pieces(&rt, rows.as_str(), NONE_FAILS, 0, 140_002)?;
-    expect_pieces(&rt, rows.as_str(), write(&[3], &[]), 4, 131_072)?;
+    let failing = Failing {
+        fetches: &[],
+        writes: &[3],
+        says: &[],
+    };
+    expect_pieces(&rt, rows.as_str(), failing, 4, 131_072)?;
     Ok(())
 }
 
@@ -502,6 +522,11 @@ fn a_file_ends_only_at_a_fetch_of_no_bytes(rt: HostRuntime) -> Result<(), Fail> 
     };
     let words = ["strict", "one.blif", "one.vec"];
     let ran = run_over(&rt, &words, &mut shelf, NONE_FAILS)?;
-    expect_left(&rt, &ran, leaving(0, "q\n0\n1\n0\n", ""), "byte by byte");
+    let left = Left {
+        status: 0,
+        out: "q\n0\n1\n0\n",
+        err: "",
+    };
+    expect_left(&rt, &ran, left, "byte by byte");
     Ok(())
 }

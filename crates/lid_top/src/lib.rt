@@ -3,8 +3,9 @@
 
 mod fault;
 mod run;
+mod saying;
+mod told;
 mod top;
-mod unaccepted;
 
 pub use fault::{say_memory, say_usage};
 pub use top::lid_run;

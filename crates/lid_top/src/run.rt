@@ -9,8 +9,7 @@ ghost use Rattle.lid_top.specs.Scripts.{IsFetched, good, net_limit, rows_limit, 
 ghost use Rattle.lid_top.specs.Causes.{Declines, MissesFile, Got, Misses, FailsCheck, IsCause, IsWant};
 ghost use Rattle.lid_top.specs.Statuses.{HasText};
 
-use crate::fault::{Stop, blif_stop, rows_stop};
-use crate::unaccepted::check_stop;
+use crate::fault::{Stop, blif_stop, check_stop, rows_stop};
 use lid_base::{Name, Shelf};
 use lid_check::{Checked, check};
 use lid_design::Design;
