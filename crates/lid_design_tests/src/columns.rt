@@ -3,8 +3,8 @@
 use crate::told::design_of;
 use lid_columns::{Driver, Elaboration, elaborate};
 use lid_design::Design;
+use lid_judge::check_models;
 use lid_models::is_well_formed;
-use lid_rules::check_models;
 use std::alloc::{AllocError, Global};
 use std::process::Abort;
 use std::test::Fail;

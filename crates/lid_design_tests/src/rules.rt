@@ -4,8 +4,8 @@ ghost use Rattle.lid_design.specs.Models.{IsReached};
 ghost use Rattle.lid_rules.specs.Acceptance.{ModelsPass};
 
 use crate::told::{Told, design_of, expect_told, names, numbered};
+use lid_judge::{check_models, count_latches};
 use lid_models::Survey;
-use lid_rules::{check_models, count_latches};
 use std::alloc::{AllocError, Global};
 use std::fmt::Write;
 use std::process::Abort;
