@@ -52,12 +52,31 @@ def shown(text):
     return re.sub(r"\s+", " ", text).strip()
 
 
+def exported(crate):
+    """The names that the root file gives out; of a program none, and then all count."""
+    root = crate / "src" / "lib.rt"
+    text = root.read_text() if root.exists() else ""
+    uses = re.findall(r"^pub use [\w:]+?::(?:\{([^}]*)\}|(\w+));", text, re.M)
+    return set(re.findall(r"\w+", " ".join(many + one for many, one in uses)))
+
+
+def owner(text, head):
+    """The type of the `impl` that a method stands in; the function's own name where it is none."""
+    if text[head.start()] != " ":
+        return head[1]
+    around = re.findall(r"^impl[^{]*?(\w+)(?:<[^{]*>)? (?:where[^{]*)?\{", text[: head.start()], re.M)
+    return around[-1] if around else head[1]
+
+
 def of_sources(crate):
+    given = exported(crate)
     for file in sorted((crate / "src").glob("*.rt")):
         if "test" in file.name:
             continue
         text = file.read_text()
         for head in HEAD.finditer(text):
+            if given and file.name != "lib.rt" and owner(text, head) not in given:
+                continue
             for clause in clauses(text, head.start()):
                 yield f"{crate.name} {head[1]}: {shown(clause)}"
 
