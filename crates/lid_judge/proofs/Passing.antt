@@ -5,8 +5,8 @@ use Rattle.lid_design.specs.Models.{AreReached, HasNoRecursion}
 use Rattle.lid_models.specs.Surveys.{AreKnown}
 use Rattle.lid_rules.specs.declared.fault.CheckFault.{CheckFault}
 use Rattle.lid_rules.specs.declared.fault.CheckFault.TheVariants.{Memory}
-use Rattle.lid_rules.specs.declared.instances.InstRule.{InstRule}
-use Rattle.lid_rules.specs.declared.instances.InstRule.TheVariants.{UnknownFormal, FormalTwice, Unbound}
+use Rattle.lid_ports.specs.declared.formals.InstRule.{InstRule}
+use Rattle.lid_ports.specs.declared.formals.InstRule.TheVariants.{UnknownFormal, FormalTwice, Unbound}
 use Rattle.lid_rules.specs.declared.names.NameRule.TheVariants.{TwoDrivers, Undriven, ClockUse}
 use Rattle.lid_rules.specs.declared.told.Told.{Told}
 use Rattle.lid_rules.specs.Conditions.{or_fault, unknown_model, duplicate_name, unknown_formal, formal_twice, unbound, two_drivers, undriven, clock_use, two_clocks, mixed_edges, root_logic, limits}

@@ -5,10 +5,9 @@ ghost use Rattle.lid_judge.specs.Late.{after_insts, after_names, after_clocks, a
 ghost use Rattle.lid_rules.specs.Told.{shown_of};
 
 use crate::limits::find_limit;
-use lid_ports::Ports;
+use lid_ports::{InstRule, Ports};
 use lid_rules::{
-    InstRule, Told, find_by_names, find_by_rules, find_mixed_edges, find_root_logic,
-    find_two_clocks,
+    Told, find_by_names, find_by_rules, find_mixed_edges, find_root_logic, find_two_clocks,
 };
 use std::alloc::{AllocError, Global};
 

@@ -1,5 +1,5 @@
 -- Sets of the names of lists, and lists by tests that agree.
-use Rattle.std.proofs.Common.{◌≡◌, ℕ, zero, suc, Bool, true, false, ◌||◌, ◌&&◌, cond, List, [], ◌∷◌, filter, slice_get, slice_index_or, refl, sym, ◌∙◌, ap}
+use Rattle.std.proofs.Common.{◌≡◌, ℕ, zero, suc, Bool, true, false, ◌||◌, ◌&&◌, cond, List, [], ◌∷◌, filter, find, Option, Some, slice_get, slice_index_or, refl, sym, ◌∙◌, ap}
 use Rattle.std.specs.Option.{option_map_or}
 use Rattle.std.specs.Str.{bytes_eq}
 use Rattle.lid_design.specs.declared.Design.{Design}
@@ -17,6 +17,11 @@ has_set port (m ∷ ms) (suc k) n = has_set port ms k n
 
 pub has_port : (d : Design) (port : Port) (sets held : List (List (List ℕ))) → held ≡ sets → sets ≡ sets_in port d.models → (k : ℕ) (n : List ℕ) → is_among n (slice_index_or held k []) ≡ is_in d port k n
 has_port d port sets held same whole k n = ap (λ (s : List (List (List ℕ))). is_among n (slice_index_or s k [])) (same ∙ whole) ∙ has_set port d.models k n
+
+pub find-same : {A : Type 0} (p q : A → Bool) (xs : List A) → ((x : A) → p x ≡ q x) → find p xs ≡ find q xs
+find-same p q [] same = refl
+find-same {A} p q (x ∷ xs) same =
+    ap (λ (b : Bool). cond b (Some x) (find p xs)) (same x) ∙ ap (λ (o : Option A). cond (q x) (Some x) o) (find-same p q xs same)
 
 pub filter-same : {A : Type 0} (p q : A → Bool) (xs : List A) → ((x : A) → p x ≡ q x) → filter p xs ≡ filter q xs
 filter-same p q [] same = refl

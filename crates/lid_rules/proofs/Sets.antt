@@ -1,12 +1,7 @@
--- First items by tests that agree, and the laws of sets that these conditions share with others.
-use Rattle.std.proofs.Common.{◌≡◌, Bool, true, false, cond, List, [], ◌∷◌, map, find, Option, Some, option_map, refl, ◌∙◌, ap}
+-- First items of lists, and the laws of sets that the crates above cite.
+use Rattle.std.proofs.Common.{◌≡◌, Bool, true, false, cond, List, [], ◌∷◌, map, find, Option, Some, option_map, refl}
 pub use Rattle.lid_names.proofs.Lists.{is_among-firsts}
 pub use Rattle.lid_ports.proofs.Sets.{filter-same}
-
-pub find-same : {A : Type 0} (p q : A → Bool) (xs : List A) → ((x : A) → p x ≡ q x) → find p xs ≡ find q xs
-find-same p q [] same = refl
-find-same {A} p q (x ∷ xs) same =
-    ap (λ (b : Bool). cond b (Some x) (find p xs)) (same x) ∙ ap (λ (o : Option A). cond (q x) (Some x) o) (find-same p q xs same)
 
 pub find-map : {A B C : Type 0} (f : B → C) (p : B → Bool) (g : A → B) (xs : List A) → option_map (λ a. f (g a)) (find (λ a. p (g a)) xs) ≡ option_map f (find p (map g xs))
 find-map f p g [] = refl

@@ -2,7 +2,7 @@ ghost use Rattle.std.specs.Prelude.{◌≡◌, find, IfOk};
 ghost use Rattle.lid_names.specs.Names.{texts, IsTally};
 ghost use Rattle.lid_rules.specs.Conditions.{is_duplicate, duplicate_in, first_name};
 ghost use Rattle.lid_rules.specs.Early.{duplicate_at, duplicates};
-ghost use Rattle.lid_rules.specs.Rules.{name_behind};
+ghost use Rattle.lid_ports.specs.Formals.{name_behind};
 ghost use Rattle.lid_rules.specs.Told.{shown_of};
 
 use crate::told::Told;

@@ -13,7 +13,7 @@ mod unknown;
 pub use duplicates::find_duplicate;
 pub use edges::find_mixed_edges;
 pub use fault::CheckFault;
-pub use instances::{InstRule, find_by_rules};
+pub use instances::find_by_rules;
 pub use names::find_by_names;
 pub use root::{find_root_logic, find_two_clocks};
 pub use told::Told;

@@ -5,7 +5,7 @@ ghost use Rattle.lid_ports.specs.Nets.{AreNets};
 ghost use Rattle.lid_rules.specs.declared.names.NameRule.{NameRule};
 ghost use Rattle.lid_rules.specs.Conditions.{first_told};
 ghost use Rattle.lid_rules.specs.Names.{told_by, first_by_rules, name_rule, name_at, by_names, is_faulty, told_name};
-ghost use Rattle.lid_rules.specs.Rules.{name_behind};
+ghost use Rattle.lid_ports.specs.Formals.{name_behind};
 ghost use Rattle.lid_rules.specs.Told.{shown, shown_of};
 
 use crate::told::{Told, first_of};

@@ -1,5 +1,6 @@
 use Rattle.std.proofs.Common.{ℕ, List, Some, option_map, sym, ◌∙◌, ap}
-use Rattle.lid_rules.specs.Rules.{told_formal, name_behind}
+use Rattle.lid_rules.specs.Rules.{told_formal}
+use Rattle.lid_ports.specs.Formals.{name_behind}
 use Rattle.lid_rules.proofs.Telling.{rule_by_formal}
 use Rattle.lid_rules.proofs.instances.judge_inst.Goals as goal
 

@@ -1,6 +1,6 @@
 use Rattle.std.proofs.Common.{ℕ, List, Some, find, option_map, sym, ◌∙◌, ap}
 use Rattle.lid_rules.specs.Names.{is_faulty, told_name}
-use Rattle.lid_rules.specs.Rules.{name_behind}
+use Rattle.lid_ports.specs.Formals.{name_behind}
 use Rattle.lid_rules.proofs.Telling.{rule_by_name}
 use Rattle.lid_rules.proofs.names.tell_first.Goals as goal
 

@@ -2,11 +2,12 @@ use Rattle.std.proofs.Common.{◌≡◌, List, not, map, find, Some, None, sym, 
 use Rattle.lid_design.specs.declared.Design.{Design}
 use Rattle.lid_design.specs.Models.{instance_number}
 use Rattle.lid_design.specs.declared.Bind.{Bind}
-use Rattle.lid_rules.specs.Conditions.{formal_of, formals}
-use Rattle.lid_rules.specs.Rules.{is_port_of}
-use Rattle.lid_rules.proofs.Subs.{unknown_by}
+use Rattle.lid_names.specs.Names.{formal_of}
+use Rattle.lid_ports.specs.Formals.{formals}
+use Rattle.lid_ports.specs.Formals.{is_port_of}
 use Rattle.lid_ports.proofs.Subs.{none_by}
-use Rattle.lid_rules.proofs.instances.find_unknown.Goals as goal
+use Rattle.lid_ports.proofs.Unbound.{unknown_by}
+use Rattle.lid_ports.proofs.formals.find_unknown.Goals as goal
 
 pub returns-in-Some : goal.returns-in-Some
 returns-in-Some c =

@@ -1,10 +1,10 @@
 use Rattle.std.proofs.Common.{◌≡◌, Some, None, sym, ◌∙◌, ap}
 use Rattle.lid_design.specs.declared.Design.{Design}
 use Rattle.lid_design.specs.Models.{instance_number}
-use Rattle.lid_rules.specs.Conditions.{formals}
-use Rattle.lid_rules.proofs.Subs.{unbound_by}
+use Rattle.lid_ports.specs.Formals.{formals}
+use Rattle.lid_ports.proofs.Unbound.{unbound_by}
 use Rattle.lid_ports.proofs.Subs.{sub_reached, none_by}
-use Rattle.lid_rules.proofs.instances.find_unbound.Goals as goal
+use Rattle.lid_ports.proofs.formals.find_unbound.Goals as goal
 
 pub first_unbound-requires : goal.first_unbound-requires
 first_unbound-requires c =

@@ -1,9 +1,9 @@
 use Rattle.std.proofs.Common.{ℕ, List, not, filter, find, option_and_then, sym, ◌∙◌, ap}
 use Rattle.lid_design.specs.Columns.{is_among, data_inputs}
 use Rattle.lid_design.specs.Models.{is_clock_of}
-use Rattle.lid_rules.proofs.Subs.{outside_is}
+use Rattle.lid_ports.proofs.Unbound.{outside_is}
 use Rattle.lid_names.proofs.Numbers.{here_is}
-use Rattle.lid_rules.proofs.instances.first_unbound.Goals as goal
+use Rattle.lid_ports.proofs.formals.first_unbound.Goals as goal
 
 pub returns-in-Some : goal.returns-in-Some
 returns-in-Some c =
