@@ -27,6 +27,15 @@ is_among-without n x (y ∷ ys) other = by (bytes_eq y x) refl (bytes_eq n y) re
     by true e false h later = later ∙ ap (λ (a : Bool). a || is_among n ys) (sym h)
     by false e a h later = ap (λ (b : Bool). bytes_eq n y || b) later
 
+-- a name stands among the first places exactly where it stands in the list
+pub is_among-firsts : (n : List ℕ) (names : List (List ℕ)) → is_among n (firsts names) ≡ is_among n names
+is_among-firsts n [] = refl
+is_among-firsts n (x ∷ xs) = by (bytes_eq n x) refl (is_among-firsts n xs)
+  where
+    by : (b : Bool) → bytes_eq n x ≡ b → is_among n (firsts xs) ≡ is_among n xs → (bytes_eq n x || is_among n (filter (differs x) (firsts xs))) ≡ (bytes_eq n x || is_among n xs)
+    by true e later = ap (λ (a : Bool). a || is_among n (filter (differs x) (firsts xs))) e ∙ ap (λ (a : Bool). a || is_among n xs) (sym e)
+    by false e later = ap (λ (a : Bool). bytes_eq n x || a) (is_among-without n x (firsts xs) e ∙ later)
+
 -- names without x, that grow by a name
 grown-same : (names : List (List ℕ)) (n x : List ℕ) (a : Bool) → bytes_eq n x ≡ true → filter (differs x) (cond a names (names ++ n ∷ [])) ≡ filter (differs x) names
 grown-same names n x true e = refl
@@ -119,6 +128,15 @@ is_among-with_name n names m = by (is_among m names) refl (bytes_eq n m) refl
     by true h true e = subst (λ (k : List ℕ). is_among k names ≡ (is_among k names || true)) (sym (same_bytes n m e)) (let i : is_among m names ≡ true = h in cc)
     by true h false e = sym (or_false (is_among n names))
     by false h b e = is_among-append n names (m ∷ []) ∙ ap (λ (c : Bool). is_among n names || c) (or_false (bytes_eq n m) ∙ e)
+
+-- a name stands in a list exactly where it stands there at least once
+pub among_counted : (n : List ℕ) (names : List (List ℕ)) → is_among n names ≡ nat_lt 0 (count_by (bytes_eq n) names)
+among_counted n [] = refl
+among_counted n (x ∷ xs) = by (bytes_eq n x) (among_counted n xs) ∙ ap (nat_lt 0) (sym (count-append n (x ∷ []) xs))
+  where
+    by : (b : Bool) → is_among n xs ≡ nat_lt 0 (count_by (bytes_eq n) xs) → (b || is_among n xs) ≡ nat_lt 0 ((0 + (if b then 1 else 0)) + count_by (bytes_eq n) xs)
+    by true later = sym (lt-ltb 0 ((0 + 1) + count_by (bytes_eq n) xs) (omega arith))
+    by false later = later ∙ ap (nat_lt 0) (sym (zero-add (count_by (bytes_eq n) xs)))
 
 -- the names that came, and those that came again, after one more name
 module _ (all twice names : List (List ℕ)) (m : List ℕ) (came : (n : List ℕ) → is_among n all ≡ nat_lt 0 (count_by (bytes_eq n) names)) (again : (n : List ℕ) → is_among n twice ≡ nat_lt 1 (count_by (bytes_eq n) names)) where

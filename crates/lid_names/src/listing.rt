@@ -1,12 +1,14 @@
 //! Lists of borrowed names, in the order in which a model gives them.
 
-ghost use Rattle.std.specs.Prelude.{◌≡◌, [], ◌∷◌, ◌++◌, map, flat_map, IfOk, OnOk};
+ghost use Rattle.std.specs.Prelude.{◌≡◌, [], ◌∷◌, ◌++◌, map, flat_map, option_map, slice_get, IfOk, OnOk};
+ghost use denote.Ref.{Bor};
+ghost use Rattle.lid_design.specs.declared.Model.{Model};
 ghost use Rattle.lid_design.specs.Models.{occurrences, cell_names, cell_out, cell_reads, actual_of, actual_names};
-ghost use Rattle.lid_names.specs.Names.{texts, firsts, formal_of};
+ghost use Rattle.lid_names.specs.Names.{texts, firsts, formal_of, IsTally};
 
-use crate::set::NameSet;
+use crate::set::{NameSet, Tally, tally_names};
 use lid_base::Name;
-use lid_design::{Bind, Cell, Inst, Model};
+use lid_design::{Bind, Cell, Design, Inst, Model};
 use std::alloc::{AllocError, Global};
 
 /// The nets that a model names, at all its places in order.
@@ -167,6 +169,27 @@ pub fn set_of<'d>(alloc: Global, names: &'d [Name]) -> Result<NameSet<'d>, Alloc
     let mut list = Vec::new(alloc);
     push_names(&mut list, names)?;
     NameSet::collect(alloc, list.as_slice())
+}
+
+/// The names of a list, and those that stand in it more than once.
+pub fn tally_of<'d>(alloc: Global, names: &'d [Name]) -> Result<Tally<'d>, AllocError>
+    ensures { IfOk result (λ tally. IsTally names.now tally.all tally.twice) }
+{
+    let mut list = Vec::new(alloc);
+    push_names(&mut list, names)?;
+    tally_names(alloc, list.as_slice())
+}
+
+/// The model of a number.
+pub fn model_at<'d>(design: &'d Design, number: u32) -> Option<&'d Model>
+    ensures { option_map (λ (m : Bor Model). m.now) result ≡ slice_get design.now.models number }
+{
+    let models = design.models.as_slice();
+    if (number as usize) < models.len() {
+        Some(&models[number as usize])
+    } else {
+        None
+    }
 }
 
 /// A copy of a name.

@@ -1,7 +1,7 @@
-ghost use Rattle.std.specs.Prelude.{◌≡◌, ℕ, List, ◌<◌, ◌^◌, [], ◌∷◌, ◌++◌, not, if◌then◌else◌, nat_lt, length, count_by, position, slice_get, option_map, IfOk, OnOk};
+ghost use Rattle.std.specs.Prelude.{◌≡◌, ℕ, List, ◌<◌, ◌^◌, [], ◌∷◌, ◌++◌, not, if◌then◌else◌, length, position, slice_get, option_map, IfOk, OnOk};
 ghost use denote.Ref.{Bor};
 ghost use Rattle.std.specs.Str.{bytes_eq};
-ghost use Rattle.lid_names.specs.Names.{is_among, firsts, with_name, texts, names_of};
+ghost use Rattle.lid_names.specs.Names.{is_among, firsts, with_name, texts, names_of, is_twice, IsTally};
 
 use indexmap::IndexSet;
 use std::alloc::{AllocError, Global};
@@ -82,15 +82,32 @@ impl<'a> NameSet<'a> {
     }
 }
 
-/// The names that stand in a list more than once, in the order of their second places.
-pub fn find_twice<'a>(alloc: Global, names: &[&'a [u8]]) -> Result<NameSet<'a>, AllocError>
-    ensures { IfOk result (λ set. (name : List ℕ) → is_among name set ≡ nat_lt 1 (count_by (bytes_eq name) (texts names.now))) }
+/// The names of a list, and those of them that stand in it more than once.
+#[derive(Drop)]
+pub struct Tally<'a> {
+    /// Each name of the list.
+    pub all: NameSet<'a>,
+    /// The names that stand in the list more than once.
+    pub twice: NameSet<'a>,
+}
+
+/// Collects the names of a list, and those of them that stand in it more than once.
+pub fn tally_names<'a>(alloc: Global, names: &[&'a [u8]]) -> Result<Tally<'a>, AllocError>
+    ensures { IfOk result (λ tally. IsTally (texts names.now) tally.all tally.twice) }
 {
     let mut all = NameSet::new(alloc);
     let mut twice = NameSet::new(alloc);
     for name in names {
         note(&mut all, &mut twice, name)?;
     }
+    Ok(Tally { all, twice })
+}
+
+/// The names that stand in a list more than once.
+pub fn find_twice<'a>(alloc: Global, names: &[&'a [u8]]) -> Result<NameSet<'a>, AllocError>
+    ensures { IfOk result (λ set. (name : List ℕ) → is_among name set ≡ is_twice (texts names.now) name) }
+{
+    let Tally { twice, .. } = tally_names(alloc, names)?;
     Ok(twice)
 }
 

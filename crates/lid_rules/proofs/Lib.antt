@@ -2,7 +2,5 @@ pub mod Sets
 pub mod Subs
 pub mod Telling
 pub mod Roots
-pub mod Counting
-pub mod Placed
+pub mod Faults
 pub mod Passing
-pub mod Judging

@@ -1,25 +1,17 @@
--- Conditions in order, and what is known of a design that passes the first of them.
-use Rattle.std.proofs.Common.{◌≡◌, ◌⊎◌, ℕ, zero, suc, ◌+◌, ◌<◌, ◌≤◌, cond, is_none, List, [], ◌∷◌, length, Option, Some, None, IsSome, option_and_then, slice_get, inl, inr, refl, sym, ◌∙◌, ap, arith}
+-- The reached models are one list, and where no unknown model is told each instance has a model.
+use Rattle.std.proofs.Common.{◌≡◌, ℕ, zero, suc, ◌+◌, ◌<◌, ◌≤◌, cond, is_none, List, [], ◌∷◌, length, Option, Some, None, IsSome, option_and_then, slice_get, inl, inr, refl, sym, ◌∙◌, ap, arith}
 use Rattle.std.specs.Option.{option_map_or}
 use Rattle.std.specs.List.{enumerate_from}
 use Rattle.lid_design.specs.declared.Design.{Design}
 use Rattle.lid_design.specs.declared.Model.{Model}
 use Rattle.lid_design.specs.declared.Inst.{Inst}
 use Rattle.lid_design.specs.Walks.{Among}
-use Rattle.lid_design.specs.Models.{number_named, Ascend, AreReached, HasNoRecursion}
+use Rattle.lid_design.specs.Models.{number_named, Ascend, AreReached}
 use Rattle.lid_models.specs.Surveys.{AreKnown}
 use Rattle.lid_rules.specs.declared.fault.CheckFault.{CheckFault}
-use Rattle.lid_rules.specs.declared.fault.CheckFault.TheVariants.{UnknownModel, Memory}
-use Rattle.lid_rules.specs.declared.instances.InstRule.TheVariants.{UnknownFormal, FormalTwice, Unbound}
-use Rattle.lid_rules.specs.declared.names.NameRule.TheVariants.{TwoDrivers, Undriven, ClockUse}
-use Rattle.lid_rules.specs.declared.rules.Rule.{Rule}
-use Rattle.lid_rules.specs.declared.rules.Rule.TheVariants.{AtInsts, AtNames}
-use Rattle.lid_rules.specs.Conditions.{or_fault, first_told, in_insts, unknown_at, unknown_model, duplicate_name, unknown_formal, formal_twice, unbound, two_drivers, undriven, clock_use, two_clocks, mixed_edges, root_logic, limits}
-use Rattle.lid_rules.specs.Acceptance.{fault_before_recursion, fault_after_recursion, TellsRecursive, IsModelFault, ModelsPass}
-use Rattle.lid_rules.specs.Rules.{rule_at, by_rule}
-use Rattle.lid_rules.specs.Late.{by_rules, after_names, after_clocks, after_edges}
-use Rattle.lid_rules.specs.Early.{duplicates, unknowns, duplicate_at, unknown_in, TellsEarly, PassesEarly}
-use Rattle.lid_rules.proofs.Placed.{none_both, first_fault, later_fault}
+use Rattle.lid_rules.specs.declared.fault.CheckFault.TheVariants.{UnknownModel}
+use Rattle.lid_rules.specs.Conditions.{first_told, in_insts, unknown_at, unknown_model}
+use Rattle.lid_rules.proofs.Faults.{none_both}
 
 least_low : (least : ℕ) (xs : List ℕ) (k : ℕ) → Ascend least xs → Among k xs → least ≤ k
 least_low least [] k up none = absurd none
@@ -85,98 +77,3 @@ known_by d ks are none k i reached h = by (slice_get d.models k) (told_none (λ 
     by : (o : Option Model) → option_and_then (λ m. in_insts (unknown_at d m) m) o ≡ None → i < length (option_map_or (λ m. m.insts) o []) → IsSome (option_and_then (λ inst. number_named d inst.model) (slice_get (option_map_or (λ m. m.insts) o []) i))
     by None none h = absurd (omega arith)
     by (Some m) none h = known_insts d m m.insts 0 none i h
-
--- what each of the conditions on one model tells of some models
-tells_unknown_formal : (d : Design) (ks : List ℕ) → unknown_formal d ks ≡ by_rule (AtInsts UnknownFormal) d ks
-unfolding unknown_formal rule_at
-tells_unknown_formal d ks = refl
-
-tells_formal_twice : (d : Design) (ks : List ℕ) → formal_twice d ks ≡ by_rule (AtInsts FormalTwice) d ks
-unfolding formal_twice rule_at
-tells_formal_twice d ks = refl
-
-tells_unbound : (d : Design) (ks : List ℕ) → unbound d ks ≡ by_rule (AtInsts Unbound) d ks
-unfolding unbound rule_at
-tells_unbound d ks = refl
-
-tells_two_drivers : (d : Design) (ks : List ℕ) → two_drivers d ks ≡ by_rule (AtNames TwoDrivers) d ks
-unfolding two_drivers rule_at
-tells_two_drivers d ks = refl
-
-tells_undriven : (d : Design) (ks : List ℕ) → undriven d ks ≡ by_rule (AtNames Undriven) d ks
-unfolding undriven rule_at
-tells_undriven d ks = refl
-
-tells_clock_use : (d : Design) (ks : List ℕ) → clock_use d ks ≡ by_rule (AtNames ClockUse) d ks
-unfolding clock_use rule_at
-tells_clock_use d ks = refl
-
--- the conditions after those on names
-tells_after_names : (d : Design) (ks : List ℕ) → or_fault (two_clocks d) (or_fault (mixed_edges d ks) (or_fault (root_logic d) (limits d))) ≡ after_names d ks
-unfolding after_names after_clocks after_edges
-tells_after_names d ks = refl
-
-six_first : (a b c e f g rest : Option CheckFault) → or_fault a (or_fault b (or_fault c (or_fault e (or_fault f (or_fault g rest))))) ≡ or_fault (or_fault a (or_fault b (or_fault c (or_fault e (or_fault f (or_fault g None)))))) rest
-six_first (Some x) b c e f g rest = refl
-six_first None (Some x) c e f g rest = refl
-six_first None None (Some x) e f g rest = refl
-six_first None None None (Some x) f g rest = refl
-six_first None None None None (Some x) g rest = refl
-six_first None None None None None (Some x) rest = refl
-six_first None None None None None None rest = refl
-
--- equals in place of six conditions and the others
-six_same : (a b c e f g rest a' b' c' e' f' g' rest' : Option CheckFault) → a ≡ a' → b ≡ b' → c ≡ c' → e ≡ e' → f ≡ f' → g ≡ g' → rest ≡ rest'
-    → or_fault (or_fault a (or_fault b (or_fault c (or_fault e (or_fault f (or_fault g None)))))) rest
-    ≡ or_fault (or_fault a' (or_fault b' (or_fault c' (or_fault e' (or_fault f' (or_fault g' None)))))) rest'
-six_same a b c e f g rest a' b' c' e' f' g' rest' sa sb sc se sf sg sr = cc
-
-abbrev pub six : List Rule
-six = AtInsts UnknownFormal ∷ AtInsts FormalTwice ∷ AtInsts Unbound ∷ AtNames TwoDrivers ∷ AtNames Undriven ∷ AtNames ClockUse ∷ []
-
--- the conditions after recursion: six that speak of each model, and the others
-pub late_are : (d : Design) (ks : List ℕ) → fault_after_recursion d ks ≡ or_fault (by_rules d ks six) (after_names d ks)
-unfolding fault_after_recursion
-late_are d ks =
-    let rest : Option CheckFault = or_fault (two_clocks d) (or_fault (mixed_edges d ks) (or_fault (root_logic d) (limits d))) in
-    six_first (unknown_formal d ks) (formal_twice d ks) (unbound d ks) (two_drivers d ks) (undriven d ks) (clock_use d ks) rest
-    ∙ six_same (unknown_formal d ks) (formal_twice d ks) (unbound d ks) (two_drivers d ks) (undriven d ks) (clock_use d ks) rest
-    (by_rule (AtInsts UnknownFormal) d ks) (by_rule (AtInsts FormalTwice) d ks) (by_rule (AtInsts Unbound) d ks)
-    (by_rule (AtNames TwoDrivers) d ks) (by_rule (AtNames Undriven) d ks) (by_rule (AtNames ClockUse) d ks) (after_names d ks)
-    (tells_unknown_formal d ks) (tells_formal_twice d ks) (tells_unbound d ks)
-    (tells_two_drivers d ks) (tells_undriven d ks) (tells_clock_use d ks) (tells_after_names d ks)
-
--- where one of the six is told, and where none is
-pub late_told : (d : Design) (ks : List ℕ) (o : Option CheckFault) (fault : CheckFault) → o ≡ Some fault → o ≡ by_rules d ks six → Some fault ≡ fault_after_recursion d ks
-late_told d ks o fault is told = first_fault (by_rules d ks six) (after_names d ks) o is told ∙ sym (late_are d ks)
-
-pub late_rest : (d : Design) (ks : List ℕ) (o : Option CheckFault) → o ≡ None → o ≡ by_rules d ks six → after_names d ks ≡ fault_after_recursion d ks
-late_rest d ks o is told = later_fault (by_rules d ks six) (after_names d ks) o is told ∙ sym (late_are d ks)
-
--- a design that passes the conditions before recursion has only known models
-pub known_early : (d : Design) → PassesEarly d → AreKnown d
-unfolding fault_before_recursion
-known_early d pass = known_by d pass.ks pass.reached (none_both (duplicate_name d pass.ks) (unknown_model d pass.ks) pass.before).1
-
--- what is told before recursion, of it, and after it
-pub early_told : (d : Design) (o : Option CheckFault) (fault : CheckFault) → TellsEarly d o → o ≡ Some fault → IsModelFault d fault
-early_told d o fault tells is = (tells.ks, tells.reached, inl (sym tells.tells ∙ is))
-
-pub recursive_told : (d : Design) (fault : CheckFault) → PassesEarly d → (fault ≡ Memory) ⊎ TellsRecursive d fault → (fault ≡ Memory) ⊎ IsModelFault d fault
-recursive_told d fault pass (inl memory) = inl memory
-recursive_told d fault pass (inr told) = inr (pass.ks, pass.reached, inr (inl (pass.before, told)))
-
-pub after_told : (d : Design) (o : Option CheckFault) (fault : CheckFault) → PassesEarly d → HasNoRecursion d → ((ks : List ℕ) → AreReached d ks → o ≡ fault_after_recursion d ks) → o ≡ Some fault → IsModelFault d fault
-after_told d o fault pass flat told is = (pass.ks, pass.reached, inr (inr (pass.before, flat, sym (told pass.ks pass.reached) ∙ is)))
-
--- a design of which nothing is told
-pub passes_early : (d : Design) (o : Option CheckFault) → TellsEarly d o → o ≡ None → PassesEarly d
-passes_early d o tells is = record { ks = tells.ks; reached = tells.reached; before = sym tells.tells ∙ is }
-
-pub passes_all : (d : Design) (o : Option CheckFault) → PassesEarly d → HasNoRecursion d → ((ks : List ℕ) → AreReached d ks → o ≡ fault_after_recursion d ks) → o ≡ None → ModelsPass d
-passes_all d o pass flat told is = record { ks = pass.ks; reached = pass.reached; before = pass.before; flat = flat; after = sym (told pass.ks pass.reached) ∙ is }
-
--- the conditions before recursion, model by model
-pub early_are : (d : Design) (ks : List ℕ) → fault_before_recursion d ks ≡ or_fault (duplicates d ks) (unknowns d ks)
-unfolding fault_before_recursion duplicate_name unknown_model duplicate_at unknown_in
-early_are d ks = refl

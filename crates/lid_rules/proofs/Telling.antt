@@ -1,18 +1,21 @@
 -- What conditions tell, by the names that they tell of.
-use Rattle.std.proofs.Common.{slice_get, ◌≡◌, ℕ, not, find, Option, Some, None, option_map, option_and_then, refl, ◌∙◌, ap}
+use Rattle.std.proofs.Common.{◌≡◌, ℕ, not, find, List, map, Option, Some, None, option_map, option_and_then, refl, ◌∙◌}
 use Rattle.lid_design.specs.declared.Design.{Design}
 use Rattle.lid_design.specs.declared.Model.{Model}
 use Rattle.lid_design.specs.declared.Inst.{Inst}
 use Rattle.lid_design.specs.Columns.{is_among, model_named, data_inputs}
 use Rattle.lid_design.specs.Models.{is_port}
 use Rattle.lid_rules.specs.declared.fault.CheckFault.TheVariants as fault
-use Rattle.lid_rules.specs.declared.instances.InstRule.{InstRule}
-use Rattle.lid_rules.specs.declared.instances.InstRule.TheVariants.{UnknownFormal, FormalTwice, Unbound}
+use Rattle.lid_ports.specs.declared.formals.InstRule.{InstRule}
+use Rattle.lid_ports.specs.declared.formals.InstRule.TheVariants.{UnknownFormal, FormalTwice, Unbound}
 use Rattle.lid_rules.specs.declared.names.NameRule.{NameRule}
 use Rattle.lid_rules.specs.declared.names.NameRule.TheVariants.{TwoDrivers, Undriven, ClockUse}
-use Rattle.lid_rules.specs.Conditions.{formal_of, formals, first_name}
-use Rattle.lid_rules.specs.declared.rules.Rule.{Rule}
-use Rattle.lid_rules.specs.Rules.{rule_at, rule_in, inst_rule, faulty_formal, told_formal, name_rule, is_faulty, told_name}
+use Rattle.lid_rules.specs.Conditions.{or_fault, formal_of, formals, first_name}
+use Rattle.lid_rules.specs.Rules.{inst_rule, told_formal}
+use Rattle.lid_ports.specs.Formals.{faulty_formal}
+use Rattle.lid_rules.specs.Names.{name_rule, name_at, by_names, told_by, first_by_rules, is_faulty, told_name}
+use Rattle.lid_rules.specs.declared.names.Findings.{Findings}
+use Rattle.lid_rules.proofs.Faults.{same_told}
 use Rattle.lid_rules.proofs.Sets.{find-map}
 
 map-then : {A B C : Type 0} (f : B → C) (g : A → Option B) (o : Option A) → option_and_then (λ a. option_map f (g a)) o ≡ option_map f (option_and_then g o)
@@ -35,7 +38,11 @@ rule_by_name TwoDrivers d m = refl
 rule_by_name Undriven d m = refl
 rule_by_name ClockUse d m = refl
 
--- what a condition tells of the model of a number
-pub rule_here : (rule : Rule) (d : Design) (k : ℕ) (m : Model) → slice_get d.models k ≡ Some m → rule_at rule d k ≡ rule_in rule d m
-unfolding rule_at
-rule_here rule d k m here = ap (option_and_then (rule_in rule d)) here
+-- what the conditions on names tell, by what each tells of each model
+pub told_by_rules : (d : Design) (ks : List ℕ) (list : List Findings) → ((rule : NameRule) → map (told_by rule) list ≡ map (name_at rule d) ks) → first_by_rules list ≡ by_names d ks
+unfolding by_names
+told_by_rules d ks list tells =
+    let two = same_told (told_by TwoDrivers) (name_at TwoDrivers d) list ks (tells TwoDrivers) in
+    let undriven = same_told (told_by Undriven) (name_at Undriven d) list ks (tells Undriven) in
+    let misused = same_told (told_by ClockUse) (name_at ClockUse d) list ks (tells ClockUse) in
+    cc

@@ -1,9 +1,8 @@
 -- The conditions under which the models of a design are refused, one each. Each speaks of a list of
 -- model numbers, those that are reached in the order of the text, and tells the first place.
-use Rattle.std.specs.Prelude.{ℕ, ◌==◌, nat_lt, min, Bool, true, false, not, ◌&&◌, ◌||◌, if◌then◌else◌, List, [], ◌∷◌, length, map, filter, flat_map, find, count_by, Option, Some, None, option_map, option_and_then, is_none, slice_get}
+use Rattle.std.specs.Prelude.{ℕ, ◌==◌, nat_lt, min, Bool, true, false, not, ◌&&◌, ◌||◌, if◌then◌else◌, List, [], ◌∷◌, length, filter, flat_map, find, Option, Some, None, option_map, option_and_then, is_none, slice_get}
 use Rattle.std.specs.Option.{option_map_or}
 use Rattle.std.specs.List.{enumerate_from}
-use Rattle.std.specs.Str.{bytes_eq}
 use Rattle.lid_base.specs.declared.which.Which.{Which}
 use Rattle.lid_base.specs.declared.which.Which.TheVariants.{RootInsts, Depth, Cells, Nets}
 use Rattle.lid_design.specs.declared.Design.{Design}
@@ -13,7 +12,8 @@ use Rattle.lid_design.specs.declared.Cell.TheVariants.{Names, Latch}
 use Rattle.lid_design.specs.declared.LatchKind.{LatchKind}
 use Rattle.lid_design.specs.declared.LatchKind.TheVariants.{Plain, Rise, Fall}
 use Rattle.lid_design.specs.declared.Inst.{Inst}
-pub use Rattle.lid_names.specs.Names.{formal_of}
+pub use Rattle.lid_names.specs.Names.{is_twice, formal_of}
+pub use Rattle.lid_ports.specs.Formals.{formals}
 use Rattle.lid_design.specs.Columns.{is_among, model_named, is_clock, data_inputs}
 use Rattle.lid_design.specs.Models.{occurrences, is_port, port_drivers, inner_drivers, driver_names, read_names, cell_out, is_buffer, is_constant, number_named, insts_of}
 use Rattle.lid_design.specs.Places.{depth, count_cells, count_nets}
@@ -49,13 +49,6 @@ in_root told d = option_and_then told (slice_get d.models d.root)
 -- the first name of a model, in the order of its places, that is faulty
 abbrev pub first_name : (List ℕ → Bool) → Model → Option (List ℕ)
 first_name is_faulty m = find is_faulty (occurrences m)
-
--- whether a name stands in a list more than once
-abbrev pub is_twice : List (List ℕ) → List ℕ → Bool
-is_twice names name = nat_lt 1 (count_by (bytes_eq name) names)
-
-abbrev pub formals : Inst → List (List ℕ)
-formals inst = map formal_of inst.binds
 
 -- a name twice in .inputs, twice in .outputs or twice in .clock; or, in a model other than the
 -- root, both in .outputs and in .inputs or .clock

@@ -4,9 +4,8 @@ use Rattle.lid_design.specs.Models.{AreReached}
 use Rattle.lid_rules.specs.Acceptance.{fault_before_recursion}
 use Rattle.lid_design.specs.declared.Design.{Design}
 use Rattle.lid_design.specs.declared.Model.{Model}
-use Rattle.lid_design.specs.Columns.{is_among}
 use Rattle.lid_rules.specs.declared.fault.CheckFault.{CheckFault}
-use Rattle.lid_rules.specs.Conditions.{first_told, in_insts, duplicate_in, is_twice, unknown_at}
+use Rattle.lid_rules.specs.Conditions.{first_told, in_insts, duplicate_in, unknown_at}
 
 -- a name that stands twice in the lists of the model of a number
 unfoldable pub duplicate_at : Design → ℕ → Option CheckFault
@@ -14,15 +13,6 @@ duplicate_at d k = option_and_then (duplicate_in (k == d.root)) (slice_get d.mod
 
 abbrev pub duplicates : Design → List ℕ → Option CheckFault
 duplicates d ks = first_told (duplicate_at d) ks
-
--- the sets of the names of the lists of a model, and of those that stand in a list more than once
-pub record AreLists (m : Model) (ins outs clks ins_twice outs_twice clks_twice : List (List ℕ)) : Type 0 where
-  pub in_inputs : (n : List ℕ) → is_among n ins ≡ is_among n m.inputs
-  pub in_outputs : (n : List ℕ) → is_among n outs ≡ is_among n m.outputs
-  pub in_clocks : (n : List ℕ) → is_among n clks ≡ is_among n m.clocks
-  pub inputs_twice : (n : List ℕ) → is_among n ins_twice ≡ is_twice m.inputs n
-  pub outputs_twice : (n : List ℕ) → is_among n outs_twice ≡ is_twice m.outputs n
-  pub clocks_twice : (n : List ℕ) → is_among n clks_twice ≡ is_twice m.clocks n
 
 -- an instance of the model of a number whose model is unknown
 unfoldable pub unknown_in : Design → ℕ → Option CheckFault

@@ -1,9 +1,7 @@
 pub mod Conditions
 pub mod Acceptance
-pub mod Ports
+pub mod Told
 pub mod Rules
+pub mod Names
 pub mod Early
 pub mod Edges
-pub mod Counts
-pub mod Limits
-pub mod Late

@@ -1,34 +1,22 @@
 ghost use Rattle.std.specs.Prelude.{◌≡◌, find, IfOk};
-ghost use Rattle.lid_names.specs.Names.{texts};
+ghost use Rattle.lid_names.specs.Names.{texts, IsTally};
 ghost use Rattle.lid_rules.specs.Conditions.{is_duplicate, duplicate_in, first_name};
-ghost use Rattle.lid_rules.specs.Ports.{name_behind};
-ghost use Rattle.lid_rules.specs.Early.{duplicate_at, duplicates, AreLists};
+ghost use Rattle.lid_rules.specs.Early.{duplicate_at, duplicates};
+ghost use Rattle.lid_ports.specs.Formals.{name_behind};
+ghost use Rattle.lid_rules.specs.Told.{shown_of};
 
-use crate::fault::CheckFault;
-use crate::lists::model_at;
-use lid_base::Name;
+use crate::told::Told;
 use lid_design::{Design, Model};
-use lid_names::{NameSet, copy_name, find_twice, list_occurrences, push_names};
+use lid_names::{Tally, list_occurrences, model_at, tally_of};
 use std::alloc::{AllocError, Global};
 
-/// The names of the lists of a model, and those that stand in a list more than once.
-#[derive(Drop)]
-struct Lists<'d> {
-    inputs: NameSet<'d>,
-    outputs: NameSet<'d>,
-    clocks: NameSet<'d>,
-    inputs_twice: NameSet<'d>,
-    outputs_twice: NameSet<'d>,
-    clocks_twice: NameSet<'d>,
-}
-
 /// Tells of the first reached model in whose lists a name stands twice.
-pub fn find_duplicate(
+pub fn find_duplicate<'d>(
     alloc: Global,
-    design: &Design,
+    design: &'d Design,
     reached: &[u32],
-) -> Result<Option<CheckFault>, AllocError>
-    ensures { IfOk result (λ told. told ≡ duplicates design.now reached.now) }
+) -> Result<Option<Told<'d>>, AllocError>
+    ensures { IfOk result (λ told. shown_of told ≡ duplicates design.now reached.now) }
 {
     for k in reached {
         let told = judge_lists(alloc, design, *k)?;
@@ -41,8 +29,12 @@ pub fn find_duplicate(
 
 /// Tells of a name that stands twice in the lists of the model of a number.
 #[tactic(auto, unfolding(crate::specs::Early::duplicate_at))]
-fn judge_lists(alloc: Global, design: &Design, k: u32) -> Result<Option<CheckFault>, AllocError>
-    ensures { IfOk result (λ told. told ≡ duplicate_at design.now k) }
+fn judge_lists<'d>(
+    alloc: Global,
+    design: &'d Design,
+    k: u32,
+) -> Result<Option<Told<'d>>, AllocError>
+    ensures { IfOk result (λ told. shown_of told ≡ duplicate_at design.now k) }
 {
     match model_at(design, k) {
         Some(model) => judge_model(alloc, k == design.root, model),
@@ -51,17 +43,17 @@ fn judge_lists(alloc: Global, design: &Design, k: u32) -> Result<Option<CheckFau
 }
 
 /// Tells of a name that stands twice in the lists of a model.
-fn judge_model(
+fn judge_model<'d>(
     alloc: Global,
     is_root: bool,
-    model: &Model,
-) -> Result<Option<CheckFault>, AllocError>
-    ensures { IfOk result (λ told. told ≡ duplicate_in is_root model.now) }
+    model: &'d Model,
+) -> Result<Option<Told<'d>>, AllocError>
+    ensures { IfOk result (λ told. shown_of told ≡ duplicate_in is_root model.now) }
 {
     match find_doubled(alloc, is_root, model)? {
-        Some(name) => Ok(Some(CheckFault::DuplicateName {
-            model: copy_name(alloc, model.name.as_slice())?,
-            name: copy_name(alloc, name)?,
+        Some(name) => Ok(Some(Told::DuplicateName {
+            model: model.name.as_slice(),
+            name,
         })),
         None => Ok(None),
     }
@@ -75,23 +67,75 @@ fn find_doubled<'d>(
 ) -> Result<Option<&'d [u8]>, AllocError>
     ensures { IfOk result (λ name. name_behind name ≡ first_name (is_duplicate is_root model.now) model.now) }
 {
-    let lists = collect_lists(alloc, model)?;
+    let inputs = tally_of(alloc, model.inputs.as_slice())?;
+    find_by_inputs(alloc, is_root, model, &inputs)
+}
+
+/// The first name of a model that stands twice in its lists, by the names of its inputs.
+fn find_by_inputs<'d>(
+    alloc: Global,
+    is_root: bool,
+    model: &'d Model,
+    inputs: &Tally<'d>,
+) -> Result<Option<&'d [u8]>, AllocError>
+    requires inputs { IsTally model.now.inputs inputs.now.all inputs.now.twice }
+    ensures { IfOk result (λ name. name_behind name ≡ first_name (is_duplicate is_root model.now) model.now) }
+{
+    let outputs = tally_of(alloc, model.outputs.as_slice())?;
+    find_by_ports(alloc, is_root, model, inputs, &outputs)
+}
+
+/// The first name of a model that stands twice in its lists, by the names of its inputs and
+/// outputs.
+fn find_by_ports<'d>(
+    alloc: Global,
+    is_root: bool,
+    model: &'d Model,
+    inputs: &Tally<'d>,
+    outputs: &Tally<'d>,
+) -> Result<Option<&'d [u8]>, AllocError>
+    requires inputs { IsTally model.now.inputs inputs.now.all inputs.now.twice }
+    requires outputs { IsTally model.now.outputs outputs.now.all outputs.now.twice }
+    ensures { IfOk result (λ name. name_behind name ≡ first_name (is_duplicate is_root model.now) model.now) }
+{
+    let clocks = tally_of(alloc, model.clocks.as_slice())?;
+    find_by_lists(alloc, is_root, model, inputs, outputs, &clocks)
+}
+
+/// The first name of a model that stands twice in its lists, by the names of each.
+fn find_by_lists<'d>(
+    alloc: Global,
+    is_root: bool,
+    model: &'d Model,
+    inputs: &Tally<'d>,
+    outputs: &Tally<'d>,
+    clocks: &Tally<'d>,
+) -> Result<Option<&'d [u8]>, AllocError>
+    requires inputs { IsTally model.now.inputs inputs.now.all inputs.now.twice }
+    requires outputs { IsTally model.now.outputs outputs.now.all outputs.now.twice }
+    requires clocks { IsTally model.now.clocks clocks.now.all clocks.now.twice }
+    ensures { IfOk result (λ name. name_behind name ≡ first_name (is_duplicate is_root model.now) model.now) }
+{
     let names = list_occurrences(alloc, model)?;
-    Ok(first_doubled(is_root, model, &lists, names.as_slice()))
+    Ok(first_doubled(is_root, model, inputs, outputs, clocks, names.as_slice()))
 }
 
 /// The first of some names that stands twice in the lists of a model.
 fn first_doubled<'d>(
     is_root: bool,
-    model: &'d Model,
-    lists: &Lists<'d>,
+    model: &Model,
+    inputs: &Tally<'d>,
+    outputs: &Tally<'d>,
+    clocks: &Tally<'d>,
     names: &[&'d [u8]],
 ) -> Option<&'d [u8]>
-    requires { AreLists model.now lists.now.inputs lists.now.outputs lists.now.clocks lists.now.inputs_twice lists.now.outputs_twice lists.now.clocks_twice }
+    requires inputs { IsTally model.now.inputs inputs.now.all inputs.now.twice }
+    requires outputs { IsTally model.now.outputs outputs.now.all outputs.now.twice }
+    requires clocks { IsTally model.now.clocks clocks.now.all clocks.now.twice }
     ensures { name_behind result ≡ find (is_duplicate is_root model.now) (texts names.now) }
 {
     for name in names {
-        if is_doubled(is_root, model, lists, name) {
+        if is_doubled(is_root, model, inputs, outputs, clocks, name) {
             return Some(*name);
         }
     }
@@ -99,41 +143,23 @@ fn first_doubled<'d>(
 }
 
 /// Whether a name stands twice in the lists of a model.
-fn is_doubled(is_root: bool, model: &Model, lists: &Lists<'_>, name: &[u8]) -> bool
-    requires { AreLists model.now lists.now.inputs lists.now.outputs lists.now.clocks lists.now.inputs_twice lists.now.outputs_twice lists.now.clocks_twice }
+fn is_doubled(
+    is_root: bool,
+    model: &Model,
+    inputs: &Tally<'_>,
+    outputs: &Tally<'_>,
+    clocks: &Tally<'_>,
+    name: &[u8],
+) -> bool
+    requires inputs { IsTally model.now.inputs inputs.now.all inputs.now.twice }
+    requires outputs { IsTally model.now.outputs outputs.now.all outputs.now.twice }
+    requires clocks { IsTally model.now.clocks clocks.now.all clocks.now.twice }
     ensures { result ≡ is_duplicate is_root model.now name.now }
 {
     let _ = model;
-    lists.inputs_twice.has(name)
-        || (lists.outputs_twice.has(name)
-            || (lists.clocks_twice.has(name)
+    inputs.twice.has(name)
+        || (outputs.twice.has(name)
+            || (clocks.twice.has(name)
                 || (!is_root
-                    && (lists.outputs.has(name)
-                        && (lists.inputs.has(name) || lists.clocks.has(name))))))
-}
-
-/// Collects the names of the lists of a model.
-fn collect_lists<'d>(alloc: Global, model: &'d Model) -> Result<Lists<'d>, AllocError>
-    ensures { IfOk result (λ lists. AreLists model.now lists.inputs lists.outputs lists.clocks lists.inputs_twice lists.outputs_twice lists.clocks_twice) }
-{
-    let inputs = list_names(alloc, model.inputs.as_slice())?;
-    let outputs = list_names(alloc, model.outputs.as_slice())?;
-    let clocks = list_names(alloc, model.clocks.as_slice())?;
-    Ok(Lists {
-        inputs: NameSet::collect(alloc, inputs.as_slice())?,
-        outputs: NameSet::collect(alloc, outputs.as_slice())?,
-        clocks: NameSet::collect(alloc, clocks.as_slice())?,
-        inputs_twice: find_twice(alloc, inputs.as_slice())?,
-        outputs_twice: find_twice(alloc, outputs.as_slice())?,
-        clocks_twice: find_twice(alloc, clocks.as_slice())?,
-    })
-}
-
-/// A list of some names.
-fn list_names<'d>(alloc: Global, names: &'d [Name]) -> Result<Vec<&'d [u8]>, AllocError>
-    ensures { IfOk result (λ list. texts list.items ≡ names.now) }
-{
-    let mut list = Vec::new(alloc);
-    push_names(&mut list, names)?;
-    Ok(list)
+                    && (outputs.all.has(name) && (inputs.all.has(name) || clocks.all.has(name))))))
 }

@@ -3,11 +3,11 @@ ghost use denote.Ref.{Bor};
 ghost use Rattle.lid_rules.specs.declared.edges.Typed.{Typed};
 ghost use Rattle.lid_rules.specs.Conditions.{typed_cell, typed_latches, same_edge, other_edge, mixed_edges};
 ghost use Rattle.lid_rules.specs.Edges.{seen, typed_in, typed_of};
+ghost use Rattle.lid_rules.specs.Told.{shown_of};
 
-use crate::fault::CheckFault;
-use crate::lists::model_at;
+use crate::told::Told;
 use lid_design::{Cell, Design, LatchKind, Model};
-use lid_names::copy_name;
+use lid_names::model_at;
 use std::alloc::{AllocError, Global};
 
 /// A latch that has a type, with the names of its model and of its output.
@@ -20,15 +20,15 @@ struct Typed<'d> {
 }
 
 /// Tells of the first latch of a reached model that has another type than the first with a type.
-pub fn find_mixed_edges(
+pub fn find_mixed_edges<'d>(
     alloc: Global,
-    design: &Design,
+    design: &'d Design,
     reached: &[u32],
-) -> Result<Option<CheckFault>, AllocError>
-    ensures { IfOk result (λ told. told ≡ other_edge (typed_of design.now reached.now)) }
+) -> Result<Option<Told<'d>>, AllocError>
+    ensures { IfOk result (λ told. shown_of told ≡ other_edge (typed_of design.now reached.now)) }
 {
     let latches = list_typed(alloc, design, reached)?;
-    tell_other(alloc, latches.as_slice())
+    Ok(tell_other(latches.as_slice()))
 }
 
 /// The latches of some models that have a type.
@@ -95,18 +95,18 @@ fn push_cell<'d>(
 }
 
 /// Tells of a latch that has another type than the first.
-fn tell_other(alloc: Global, latches: &[Typed<'_>]) -> Result<Option<CheckFault>, AllocError>
-    ensures { IfOk result (λ told. told ≡ other_edge (map seen latches.now)) }
+fn tell_other<'d>(latches: &[Typed<'d>]) -> Option<Told<'d>>
+    ensures { shown_of result ≡ other_edge (map seen latches.now) }
 {
     if latches.is_empty() {
-        return Ok(None);
+        return None;
     }
     match find_other(latches[0].rises, &latches[1..]) {
-        Some(latch) => Ok(Some(CheckFault::MixedEdges {
-            model: copy_name(alloc, latch.model)?,
-            name: copy_name(alloc, latch.out)?,
-        })),
-        None => Ok(None),
+        Some(latch) => Some(Told::MixedEdges {
+            model: latch.model,
+            name: latch.out,
+        }),
+        None => None,
     }
 }
 

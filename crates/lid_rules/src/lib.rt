@@ -1,21 +1,20 @@
 //! The conditions on the models of a design, each with the place that it tells.
 #![tactic(auto)]
 
-mod counts;
 mod duplicates;
 mod edges;
 mod fault;
 mod instances;
-mod late;
-mod limits;
-mod lists;
-mod models;
 mod names;
-mod ports;
 mod root;
-mod rules;
+mod told;
 mod unknown;
 
+pub use duplicates::find_duplicate;
+pub use edges::find_mixed_edges;
 pub use fault::CheckFault;
-pub use limits::{Latches, count_latches};
-pub use models::check_models;
+pub use instances::find_by_rules;
+pub use names::find_by_names;
+pub use root::{find_root_logic, find_two_clocks};
+pub use told::Told;
+pub use unknown::find_unknown_model;

@@ -1,22 +1,21 @@
-ghost use Rattle.std.specs.Prelude.{◌≡◌, ◌<◌, ◌^◌, ◌++◌, Some, not, filter, find, length, slice_get, IfOk, OnOk};
+ghost use Rattle.std.specs.Prelude.{◌≡◌, ◌<◌, ◌^◌, Some, None, find, map, length, slice_get, IfOk};
 ghost use Rattle.lid_names.specs.Names.{texts};
-ghost use Rattle.lid_design.specs.Models.{IsReached, driver_names, inner_drivers, read_names, port_drivers};
-ghost use Rattle.lid_rules.specs.Conditions.{first_name};
-ghost use Rattle.lid_rules.specs.declared.ports.Port.TheVariants.{Input};
-ghost use Rattle.lid_rules.specs.Ports.{name_behind, is_in};
-ghost use Rattle.lid_rules.specs.Rules.{name_rule, is_faulty, told_name, AreNets};
+ghost use Rattle.lid_design.specs.Models.{IsReached, AreReached, occurrences};
+ghost use Rattle.lid_ports.specs.Nets.{AreNets};
+ghost use Rattle.lid_rules.specs.declared.names.NameRule.{NameRule};
+ghost use Rattle.lid_rules.specs.Conditions.{first_told};
+ghost use Rattle.lid_rules.specs.Names.{told_by, first_by_rules, name_rule, name_at, by_names, is_faulty, told_name};
+ghost use Rattle.lid_ports.specs.Formals.{name_behind};
+ghost use Rattle.lid_rules.specs.Told.{shown, shown_of};
 
-use crate::fault::CheckFault;
-use crate::ports::{Port, Ports, Side, push_nets};
-use lid_base::Name;
+use crate::told::{Told, first_of};
 use lid_design::Model;
-use lid_names::{
-    NameSet, copy_name, find_twice, list_occurrences, push_names, push_outs, push_reads,
-};
+use lid_names::list_occurrences;
+use lid_ports::{Nets, Port, Ports, collect_nets};
 use std::alloc::{AllocError, Global};
 
 /// A condition that speaks of the names of a model.
-#[derive(Clone, Copy, Debug, PartialEq, Eq)]
+#[derive(Clone, Copy)]
 pub enum NameRule {
     /// A net is driven once at most.
     TwoDrivers,
@@ -26,72 +25,185 @@ pub enum NameRule {
     ClockUse,
 }
 
-/// What is driven and read in a model.
-#[derive(Drop)]
-struct Nets<'d> {
-    /// The nets that are driven.
-    drivers: NameSet<'d>,
-    /// The nets that are driven more than once.
-    twice: NameSet<'d>,
-    /// The nets that cells and instances drive.
-    inner: NameSet<'d>,
-    /// The nets that are read.
-    reads: NameSet<'d>,
+/// What the conditions that speak of names tell of a model, each for itself.
+#[derive(Clone, Copy)]
+struct Findings<'d> {
+    two_drivers: Option<Told<'d>>,
+    undriven: Option<Told<'d>>,
+    clock_use: Option<Told<'d>>,
 }
 
-/// What a condition tells of the names of a model.
-pub fn judge_names(
+/// Tells of the first condition on names that a reached model breaks. What is driven and read in a
+/// model is collected once for all of them.
+pub fn find_by_names<'d>(
     alloc: Global,
-    ports: &Ports<'_>,
-    rule: NameRule,
-    k: u32,
-    model: &Model,
-) -> Result<Option<CheckFault>, AllocError>
-    requires reached { IsReached ports.now k }
-    requires model { slice_get ports.now.models k ≡ Some model.now }
-    requires few { length model.now.insts < 2 ^ 32 }
-    ensures { IfOk result (λ told. told ≡ name_rule rule ports.now model.now) }
+    ports: &Ports<'d>,
+    reached: &[u32],
+) -> Result<Option<Told<'d>>, AllocError>
+    requires { AreReached ports.now reached.now }
+    ensures { IfOk result (λ told. shown_of told ≡ by_names ports.now reached.now) }
 {
-    match find_net(alloc, ports, rule, k, model)? {
-        Some(net) => Ok(Some(tell_net(alloc, rule, model, net)?)),
-        None => Ok(None),
+    let findings = list_findings(alloc, ports, reached)?;
+    Ok(first_by_rules(findings.as_slice()))
+}
+
+/// What each condition on names tells of the reached models.
+fn list_findings<'d>(
+    alloc: Global,
+    ports: &Ports<'d>,
+    reached: &[u32],
+) -> Result<Vec<Findings<'d>>, AllocError>
+    requires { AreReached ports.now reached.now }
+    ensures { IfOk result (λ list. (rule : NameRule) → map (told_by rule) list.items ≡ map (name_at rule ports.now) reached.now) }
+{
+    let mut list = Vec::new(alloc);
+    for k in reached {
+        list.push(judge_model(alloc, ports, *k)?)?;
+    }
+    Ok(list)
+}
+
+/// What is told first, where each condition is asked of all models before the next.
+fn first_by_rules<'d>(findings: &[Findings<'d>]) -> Option<Told<'d>>
+    ensures { shown_of result ≡ first_by_rules findings.now }
+{
+    let two_drivers = first_by(findings, NameRule::TwoDrivers);
+    let undriven = first_by(findings, NameRule::Undriven);
+    let clock_use = first_by(findings, NameRule::ClockUse);
+    first_of(two_drivers, first_of(undriven, clock_use))
+}
+
+/// What a condition tells first.
+fn first_by<'d>(findings: &[Findings<'d>], rule: NameRule) -> Option<Told<'d>>
+    ensures { shown_of result ≡ first_told (told_by rule) findings.now }
+{
+    for found in findings {
+        let told = told_by(found, rule);
+        if told.is_some() {
+            return told;
+        }
+    }
+    None
+}
+
+/// What a condition tells.
+fn told_by<'d>(found: &Findings<'d>, rule: NameRule) -> Option<Told<'d>>
+    ensures { shown_of result ≡ told_by rule found.now }
+{
+    match rule {
+        NameRule::TwoDrivers => found.two_drivers,
+        NameRule::Undriven => found.undriven,
+        NameRule::ClockUse => found.clock_use,
     }
 }
 
-/// Tells of a net.
-fn tell_net(
-    alloc: Global,
-    rule: NameRule,
-    model: &Model,
-    net: &[u8],
-) -> Result<CheckFault, AllocError>
-    ensures { IfOk result (λ fault. fault ≡ told_name rule model.now.name net.now) }
+/// Nothing is told.
+fn no_findings<'d>() -> Findings<'d>
+    ensures { (rule : NameRule) → told_by rule result ≡ None }
 {
-    let model = copy_name(alloc, model.name.as_slice())?;
-    let name = copy_name(alloc, net)?;
-    Ok(match rule {
-        NameRule::TwoDrivers => CheckFault::TwoDrivers { model, name },
-        NameRule::Undriven => CheckFault::Undriven { model, name },
-        NameRule::ClockUse => CheckFault::ClockUse { model, name },
-    })
+    Findings {
+        two_drivers: None,
+        undriven: None,
+        clock_use: None,
+    }
 }
 
-/// The first net of a model at which a condition is broken.
-fn find_net<'d>(
+/// What each condition on names tells of the model of a number.
+fn judge_model<'d>(alloc: Global, ports: &Ports<'d>, k: u32) -> Result<Findings<'d>, AllocError>
+    requires { IsReached ports.now k }
+    ensures { IfOk result (λ found. (rule : NameRule) → told_by rule found ≡ name_at rule ports.now k) }
+{
+    match ports.model(k) {
+        Some(model) => judge_names(alloc, ports, k, model),
+        None => Ok(no_findings()),
+    }
+}
+
+/// What each condition on names tells of a model.
+fn judge_names<'d>(
     alloc: Global,
+    ports: &Ports<'d>,
+    k: u32,
+    model: &'d Model,
+) -> Result<Findings<'d>, AllocError>
+    requires reached { IsReached ports.now k }
+    requires model { slice_get ports.now.models k ≡ Some model.now }
+    requires few { length model.now.insts < 2 ^ 32 }
+    ensures { IfOk result (λ found. (rule : NameRule) → told_by rule found ≡ name_rule rule ports.now model.now) }
+{
+    let names = list_occurrences(alloc, model)?;
+    judge_listed(alloc, ports, k, model, names.as_slice())
+}
+
+/// What each condition on names tells of a model, by its names.
+fn judge_listed<'d>(
+    alloc: Global,
+    ports: &Ports<'d>,
+    k: u32,
+    model: &'d Model,
+    names: &[&'d [u8]],
+) -> Result<Findings<'d>, AllocError>
+    requires reached { IsReached ports.now k }
+    requires model { slice_get ports.now.models k ≡ Some model.now }
+    requires few { length model.now.insts < 2 ^ 32 }
+    requires names { texts names.now ≡ occurrences model.now }
+    ensures { IfOk result (λ found. (rule : NameRule) → told_by rule found ≡ name_rule rule ports.now model.now) }
+{
+    let nets = collect_nets(alloc, ports, k, model)?;
+    Ok(tell_each(ports, k, model, &nets, names))
+}
+
+/// What each condition on names tells of a model, by its names and what is driven and read in it.
+fn tell_each<'d>(
+    ports: &Ports<'d>,
+    k: u32,
+    model: &'d Model,
+    nets: &Nets<'d>,
+    names: &[&'d [u8]],
+) -> Findings<'d>
+    requires reached { IsReached ports.now k }
+    requires model { slice_get ports.now.models k ≡ Some model.now }
+    requires nets { AreNets ports.now model.now nets.now.drivers.all nets.now.drivers.twice nets.now.inner nets.now.reads }
+    requires names { texts names.now ≡ occurrences model.now }
+    ensures { (rule : NameRule) → told_by rule result ≡ name_rule rule ports.now model.now }
+{
+    Findings {
+        two_drivers: tell_first(ports, NameRule::TwoDrivers, k, model, nets, names),
+        undriven: tell_first(ports, NameRule::Undriven, k, model, nets, names),
+        clock_use: tell_first(ports, NameRule::ClockUse, k, model, nets, names),
+    }
+}
+
+/// Tells of the first name of a model at which a condition is broken.
+fn tell_first<'d>(
     ports: &Ports<'d>,
     rule: NameRule,
     k: u32,
     model: &'d Model,
-) -> Result<Option<&'d [u8]>, AllocError>
+    nets: &Nets<'d>,
+    names: &[&'d [u8]],
+) -> Option<Told<'d>>
     requires reached { IsReached ports.now k }
     requires model { slice_get ports.now.models k ≡ Some model.now }
-    requires few { length model.now.insts < 2 ^ 32 }
-    ensures { IfOk result (λ net. name_behind net ≡ first_name (is_faulty rule ports.now model.now) model.now) }
+    requires nets { AreNets ports.now model.now nets.now.drivers.all nets.now.drivers.twice nets.now.inner nets.now.reads }
+    requires names { texts names.now ≡ occurrences model.now }
+    ensures { shown_of result ≡ name_rule rule ports.now model.now }
 {
-    let nets = collect_nets(alloc, ports, k, model)?;
-    let names = list_occurrences(alloc, model)?;
-    Ok(first_faulty(ports, rule, k, model, &nets, names.as_slice()))
+    match first_faulty(ports, rule, k, model, nets, names) {
+        Some(name) => Some(tell_name(rule, model.name.as_slice(), name)),
+        None => None,
+    }
+}
+
+/// Tells of a name.
+fn tell_name<'d>(rule: NameRule, model: &'d [u8], name: &'d [u8]) -> Told<'d>
+    ensures { shown result ≡ told_name rule model.now name.now }
+{
+    match rule {
+        NameRule::TwoDrivers => Told::TwoDrivers { model, name },
+        NameRule::Undriven => Told::Undriven { model, name },
+        NameRule::ClockUse => Told::ClockUse { model, name },
+    }
 }
 
 /// The first of some names of a model at which a condition is broken.
@@ -105,7 +217,7 @@ fn first_faulty<'d>(
 ) -> Option<&'d [u8]>
     requires reached { IsReached ports.now k }
     requires model { slice_get ports.now.models k ≡ Some model.now }
-    requires nets { AreNets ports.now model.now nets.now.drivers nets.now.twice nets.now.inner nets.now.reads }
+    requires nets { AreNets ports.now model.now nets.now.drivers.all nets.now.drivers.twice nets.now.inner nets.now.reads }
     ensures { name_behind result ≡ find (is_faulty rule ports.now model.now) (texts names.now) }
 {
     for name in names {
@@ -127,144 +239,17 @@ fn is_faulty(
 ) -> bool
     requires reached { IsReached ports.now k }
     requires model { slice_get ports.now.models k ≡ Some model.now }
-    requires nets { AreNets ports.now model.now nets.now.drivers nets.now.twice nets.now.inner nets.now.reads }
+    requires nets { AreNets ports.now model.now nets.now.drivers.all nets.now.drivers.twice nets.now.inner nets.now.reads }
     ensures { result ≡ is_faulty rule ports.now model.now name.now }
 {
     let _ = model;
     match rule {
-        NameRule::TwoDrivers => nets.twice.has(name),
-        NameRule::Undriven => nets.reads.has(name) && !nets.drivers.has(name),
+        NameRule::TwoDrivers => nets.drivers.twice.has(name),
+        NameRule::Undriven => nets.reads.has(name) && !nets.drivers.all.has(name),
         NameRule::ClockUse => {
             ports.survey().is_clock(k, name)
                 && (!(ports.has(Port::Input, k, name) || ports.has(Port::Clock, k, name))
                     || (nets.reads.has(name) || nets.inner.has(name)))
         }
     }
-}
-
-/// Finds what is driven and read in a model.
-fn collect_nets<'d>(
-    alloc: Global,
-    ports: &Ports<'d>,
-    k: u32,
-    model: &'d Model,
-) -> Result<Nets<'d>, AllocError>
-    requires reached { IsReached ports.now k }
-    requires model { slice_get ports.now.models k ≡ Some model.now }
-    requires few { length model.now.insts < 2 ^ 32 }
-    ensures { IfOk result (λ nets. AreNets ports.now model.now nets.drivers nets.twice nets.inner nets.reads) }
-{
-    let drivers = list_drivers(alloc, ports, k, model)?;
-    let inner = list_inner(alloc, ports, k, model)?;
-    let reads = list_reads(alloc, ports, k, model)?;
-    Ok(Nets {
-        drivers: NameSet::collect(alloc, drivers.as_slice())?,
-        twice: find_twice(alloc, drivers.as_slice())?,
-        inner: NameSet::collect(alloc, inner.as_slice())?,
-        reads: NameSet::collect(alloc, reads.as_slice())?,
-    })
-}
-
-/// The nets that are driven in a model, once for each driver.
-#[tactic(auto, unfolding(lid_design::specs::Models::driver_names))]
-fn list_drivers<'d>(
-    alloc: Global,
-    ports: &Ports<'d>,
-    k: u32,
-    model: &'d Model,
-) -> Result<Vec<&'d [u8]>, AllocError>
-    requires reached { IsReached ports.now k }
-    requires model { slice_get ports.now.models k ≡ Some model.now }
-    requires few { length model.now.insts < 2 ^ 32 }
-    ensures { IfOk result (λ list. texts list.items ≡ driver_names ports.now model.now) }
-{
-    let mut list = Vec::new(alloc);
-    push_port_drivers(&mut list, ports, k, model)?;
-    push_inner(&mut list, ports, k, model)?;
-    Ok(list)
-}
-
-/// The nets that cells and instances of a model drive, once for each driver.
-fn list_inner<'d>(
-    alloc: Global,
-    ports: &Ports<'d>,
-    k: u32,
-    model: &'d Model,
-) -> Result<Vec<&'d [u8]>, AllocError>
-    requires reached { IsReached ports.now k }
-    requires model { slice_get ports.now.models k ≡ Some model.now }
-    requires few { length model.now.insts < 2 ^ 32 }
-    ensures { IfOk result (λ list. texts list.items ≡ inner_drivers ports.now model.now) }
-{
-    let mut list = Vec::new(alloc);
-    push_inner(&mut list, ports, k, model)?;
-    Ok(list)
-}
-
-/// The nets that are read in a model.
-#[tactic(auto, unfolding(lid_design::specs::Models::read_names))]
-fn list_reads<'d>(
-    alloc: Global,
-    ports: &Ports<'d>,
-    k: u32,
-    model: &'d Model,
-) -> Result<Vec<&'d [u8]>, AllocError>
-    requires reached { IsReached ports.now k }
-    requires model { slice_get ports.now.models k ≡ Some model.now }
-    requires few { length model.now.insts < 2 ^ 32 }
-    ensures { IfOk result (λ list. texts list.items ≡ read_names ports.now model.now) }
-{
-    let mut list = Vec::new(alloc);
-    push_reads(&mut list, model.cells.as_slice())?;
-    push_nets(&mut list, ports, Side::Read, k, model.insts.as_slice())?;
-    push_names(&mut list, model.outputs.as_slice())?;
-    Ok(list)
-}
-
-/// Appends what cells and instances of a model drive.
-fn push_inner<'d>(
-    list: &mut Vec<&'d [u8]>,
-    ports: &Ports<'d>,
-    k: u32,
-    model: &'d Model,
-) -> Result<(), AllocError>
-    requires reached { IsReached ports.now k }
-    requires model { slice_get ports.now.models k ≡ Some model.now }
-    requires few { length model.now.insts < 2 ^ 32 }
-    ensures { OnOk result (texts list.new.items ≡ texts list.old.items ++ inner_drivers ports.now model.now) }
-{
-    push_outs(list, model.cells.as_slice())?;
-    push_nets(list, ports, Side::Driven, k, model.insts.as_slice())
-}
-
-/// Appends what the lists of a model drive: a name of both lists once.
-pub fn push_port_drivers<'d>(
-    list: &mut Vec<&'d [u8]>,
-    ports: &Ports<'d>,
-    k: u32,
-    model: &'d Model,
-) -> Result<(), AllocError>
-    requires { slice_get ports.now.models k ≡ Some model.now }
-    ensures { OnOk result (texts list.new.items ≡ texts list.old.items ++ port_drivers model.now) }
-{
-    push_names(list, model.inputs.as_slice())?;
-    push_others(list, ports, k, model.clocks.as_slice())
-}
-
-/// Appends those of some names that are no inputs of a model.
-fn push_others<'d>(
-    list: &mut Vec<&'d [u8]>,
-    ports: &Ports<'d>,
-    k: u32,
-    names: &'d [Name],
-) -> Result<(), AllocError>
-    ensures { OnOk result (texts list.new.items ≡ texts list.old.items ++ filter (λ net. not (is_in ports.now Input k net)) names.now) }
-{
-    for name in names {
-        let name = name.as_slice();
-        if !ports.has(Port::Input, k, name) {
-            list.push(name)?;
-        }
-    }
-    Ok(())
 }

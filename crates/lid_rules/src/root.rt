@@ -8,19 +8,19 @@ ghost use Rattle.lid_design.specs.WellFormed.{IsWellFormedCell};
 ghost use Rattle.lid_design.specs.Columns.{is_clock};
 ghost use Rattle.lid_design.specs.Models.{IsReached, is_clock_of, port_drivers, is_buffer, is_constant};
 ghost use Rattle.lid_rules.specs.Conditions.{first_two, two_clocks, root_logic, logic_in};
+ghost use Rattle.lid_rules.specs.Told.{shown_of};
 
-use crate::fault::CheckFault;
-use crate::names::push_port_drivers;
-use crate::ports::Ports;
+use crate::told::Told;
 use lid_base::Name;
 use lid_cover::{Cover, eval};
 use lid_design::{Cell, Model};
-use lid_names::{copy_name, out_of};
+use lid_names::out_of;
+use lid_ports::{Ports, push_port_drivers};
 use std::alloc::{AllocError, Global};
 
 /// Tells of the first two clock names of the root, where it has more than one.
-pub fn find_two_clocks(alloc: Global, ports: &Ports<'_>) -> Result<Option<CheckFault>, AllocError>
-    ensures { IfOk result (λ told. told ≡ two_clocks ports.now) }
+pub fn find_two_clocks<'d>(alloc: Global, ports: &Ports<'d>) -> Result<Option<Told<'d>>, AllocError>
+    ensures { IfOk result (λ told. shown_of told ≡ two_clocks ports.now) }
 {
     let root = ports.survey().design().root;
     match ports.model(root) {
@@ -35,15 +35,15 @@ fn judge_clocks<'d>(
     ports: &Ports<'d>,
     k: u32,
     model: &'d Model,
-) -> Result<Option<CheckFault>, AllocError>
+) -> Result<Option<Told<'d>>, AllocError>
     requires reached { IsReached ports.now k }
     requires model { slice_get ports.now.models k ≡ Some model.now }
-    ensures { IfOk result (λ told. told ≡ first_two (filter (is_clock ports.now model.now) (port_drivers model.now))) }
+    ensures { IfOk result (λ told. shown_of told ≡ first_two (filter (is_clock ports.now model.now) (port_drivers model.now))) }
 {
     let mut names = Vec::new(alloc);
     push_port_drivers(&mut names, ports, k, model)?;
     let clocks = keep_clocks(alloc, ports, k, names.as_slice())?;
-    tell_two(alloc, clocks.as_slice())
+    Ok(tell_two(clocks.as_slice()))
 }
 
 /// Those of some names that are clock names of a model.
@@ -66,41 +66,41 @@ fn keep_clocks<'d>(
 }
 
 /// Tells of the first two of some names, where there are two.
-fn tell_two(alloc: Global, names: &[&[u8]]) -> Result<Option<CheckFault>, AllocError>
-    ensures { IfOk result (λ told. told ≡ first_two (texts names.now)) }
+fn tell_two<'d>(names: &[&'d [u8]]) -> Option<Told<'d>>
+    ensures { shown_of result ≡ first_two (texts names.now) }
 {
     if names.len() < 2 {
-        return Ok(None);
+        return None;
     }
-    Ok(Some(CheckFault::TwoClocks {
-        first: copy_name(alloc, names[0])?,
-        second: copy_name(alloc, names[1])?,
-    }))
+    Some(Told::TwoClocks {
+        first: names[0],
+        second: names[1],
+    })
 }
 
 /// Tells of a root with instances that has a cell which is neither a buffer nor a constant.
-pub fn find_root_logic(alloc: Global, ports: &Ports<'_>) -> Result<Option<CheckFault>, AllocError>
-    ensures { IfOk result (λ told. told ≡ root_logic ports.now) }
+pub fn find_root_logic<'d>(ports: &Ports<'d>) -> Option<Told<'d>>
+    ensures { shown_of result ≡ root_logic ports.now }
 {
     match ports.model(ports.survey().design().root) {
-        Some(model) => judge_logic(alloc, model),
-        None => Ok(None),
+        Some(model) => judge_logic(model),
+        None => None,
     }
 }
 
 /// Tells of a model with instances that has a cell which is neither a buffer nor a constant.
-fn judge_logic(alloc: Global, model: &Model) -> Result<Option<CheckFault>, AllocError>
+fn judge_logic<'d>(model: &'d Model) -> Option<Told<'d>>
     requires { AllByRecursion IsWellFormedCell model.now.cells }
-    ensures { IfOk result (λ told. told ≡ logic_in model.now) }
+    ensures { shown_of result ≡ logic_in model.now }
 {
     if model.insts.is_empty() {
-        return Ok(None);
+        return None;
     }
     match find_logic(model.cells.as_slice()) {
-        Some(cell) => Ok(Some(CheckFault::RootLogic {
-            name: copy_name(alloc, out_of(cell).as_slice())?,
-        })),
-        None => Ok(None),
+        Some(cell) => Some(Told::RootLogic {
+            name: out_of(cell).as_slice(),
+        }),
+        None => None,
     }
 }
 

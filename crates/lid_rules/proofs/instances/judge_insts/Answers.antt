@@ -2,7 +2,7 @@ use Rattle.std.proofs.Common.{◌≡◌, List, length, arith, slice_get, sym, �
 use Rattle.std.proofs.lemmas.Option.{slice_get_read}
 use Rattle.lid_design.specs.declared.Inst.{Inst}
 use Rattle.lid_design.specs.Models.{insts_of}
-use Rattle.lid_rules.proofs.Subs.{insts_here}
+use Rattle.lid_names.proofs.Numbers.{insts_here}
 use Rattle.lid_rules.proofs.instances.judge_insts.Goals as goal
 
 pub overflow_cast-i : goal.overflow_cast-i

@@ -1,6 +1,6 @@
 use Rattle.std.proofs.Common.{◌≡◌, find, drop}
 use Rattle.lid_names.specs.Names.{texts}
-use Rattle.lid_rules.specs.Rules.{is_faulty}
+use Rattle.lid_rules.specs.Names.{is_faulty}
 use Rattle.lid_rules.proofs.names.first_faulty.Given as goal
 
 abbrev pub invariant-loop-name : goal.invariant-loop-name

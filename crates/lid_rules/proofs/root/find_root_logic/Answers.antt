@@ -1,8 +1,7 @@
 use Rattle.std.proofs.Common.{option_and_then, slice_get, sym, ◌∙◌, ap}
 use Rattle.lid_design.specs.declared.Design.{Design}
-use Rattle.lid_models.proofs.Steps.{if_ok}
 use Rattle.lid_rules.specs.Conditions.{logic_in, root_logic}
-use Rattle.lid_rules.proofs.Subs.{here_is}
+use Rattle.lid_names.proofs.Numbers.{here_is}
 use Rattle.lid_rules.proofs.root.find_root_logic.Goals as goal
 
 pub returns-in-Some : goal.returns-in-Some
@@ -10,7 +9,7 @@ unfolding root_logic
 returns-in-Some c =
     let root = ap (λ (d : Design). d.root) (c.design.ensures.same ∙ c.survey.ensures) in
     let here = sym (ap (slice_get c.args.ports.now.models) root) ∙ here_is _ _ _ c.model.ensures.here c.in-Some.is in
-    if_ok _ _ (λ told e. e ∙ sym (ap (option_and_then logic_in) here)) c.judge_logic.result c.judge_logic.ensures
+    c.judge_logic.ensures ∙ sym (ap (option_and_then logic_in) here)
 
 pub returns-in-None : goal.returns-in-None
 unfolding root_logic

@@ -4,7 +4,7 @@ use Rattle.lid_design.specs.Columns.{is_clock}
 use Rattle.lid_design.specs.Models.{port_drivers, number_from}
 use Rattle.lid_models.proofs.Steps.{if_ok}
 use Rattle.lid_rules.specs.Conditions.{first_two, two_clocks}
-use Rattle.lid_rules.proofs.Subs.{here_is}
+use Rattle.lid_names.proofs.Numbers.{here_is}
 use Rattle.lid_rules.proofs.root.find_two_clocks.Goals as goal
 
 pub judge_clocks-requires-clause-reached : goal.judge_clocks-requires-clause-reached

@@ -1,0 +1,51 @@
+-- What is counted over the places of a design, by recurrence on its models.
+use Rattle.std.specs.Prelude.{ℕ, zero, suc, ◌+◌, max, List, [], ◌∷◌, length}
+use Rattle.std.specs.Option.{option_map_or}
+use Rattle.lid_design.specs.declared.Design.{Design}
+use Rattle.lid_design.specs.declared.Inst.{Inst}
+use Rattle.lid_design.specs.Models.{number_named, insts_of}
+use Rattle.lid_design.specs.Places.{cells_of, model_nets, count_in, is_latch, is_defaulted}
+use Rattle.lid_counts.specs.declared.counts.Measure.{Measure}
+use Rattle.lid_counts.specs.declared.counts.Measure.TheVariants.{Depth, Cells, Nets, Latches, Defaulted}
+
+-- what is counted in a model itself
+abbrev pub own : Measure → Design → ℕ → ℕ
+own Depth d k = 0
+own Cells d k = cells_of d k
+own Nets d k = length (model_nets d k)
+own Latches d k = count_in is_latch d k
+own Defaulted d k = count_in is_defaulted d k
+
+-- a count, and that of a further instance's model
+abbrev pub joined : Measure → ℕ → ℕ → ℕ
+joined Depth n sub = max n (sub + 1)
+joined Cells n sub = n + sub
+joined Nets n sub = n + sub
+joined Latches n sub = n + sub
+joined Defaulted n sub = n + sub
+
+-- a count, and that of the model of an instance, by those of all models
+abbrev pub with_inst : Measure → Design → (ℕ → ℕ) → ℕ → Inst → ℕ
+with_inst what d counts n inst = option_map_or (λ j. joined what n (counts j)) (number_named d inst.model) n
+
+-- a count, and those of the models of some instances
+abbrev pub with_insts : Measure → Design → (ℕ → ℕ) → ℕ → List Inst → ℕ
+with_insts what d counts n [] = n
+with_insts what d counts n (inst ∷ insts) = with_insts what d counts (with_inst what d counts n inst) insts
+
+-- the count of a model, by those of all models
+unfoldable pub count_by_subs : Measure → Design → (ℕ → ℕ) → ℕ → ℕ
+count_by_subs what d counts k = with_insts what d counts (own what d k) (insts_of d k)
+
+-- the count of a model by at most so many steps into instances
+abbrev pub count_within : ℕ → Measure → Design → ℕ → ℕ
+count_within zero what d k = own what d k
+count_within (suc n) what d k = count_by_subs what d (count_within n what d) k
+
+-- the count of a model
+unfoldable pub count_of : Measure → Design → ℕ → ℕ
+count_of what d k = count_within (length d.models) what d k
+
+-- what is counted over all places
+unfoldable pub count_at_root : Measure → Design → ℕ
+count_at_root what d = count_of what d d.root

@@ -1,0 +1,49 @@
+-- Models and instances by their numbers.
+use denote.Ref.{Bor}
+use Rattle.std.proofs.Common.{option_map, ◌≡◌, ℕ, zero, suc, ◌<◌, ◌^◌, nat_lt, Bool, true, false, not, cond, List, [], ◌∷◌, length, get_or, position, Option, Some, None, slice_get, inl, inr, refl, sym, ◌∙◌, ap, subst, arith}
+use Rattle.std.specs.Option.{option_map_or}
+use Rattle.std.specs.List.{AllByRecursion, prefix_len}
+use Rattle.std.proofs.lemmas.Bool.{ltb-true}
+use Rattle.lid_design.specs.declared.Design.{Design}
+use Rattle.lid_design.specs.declared.Model.{Model}
+use Rattle.lid_design.specs.declared.Inst.{Inst}
+use Rattle.lid_design.specs.WellFormed.{IsWellFormed}
+use Rattle.lid_design.specs.Walks.{Among}
+use Rattle.lid_design.specs.Models.{insts_of}
+
+-- an item of a list by its place
+pub among_at : (xs : List ℕ) (i d : ℕ) → i < length xs → Among (get_or xs i d) xs
+among_at [] i d h = absurd (omega arith)
+among_at (x ∷ xs) zero d h = inl refl
+among_at (x ∷ xs) (suc i) d h = inr (among_at xs i d (omega arith))
+
+pub all_at : {A : Type 0} (P : A → Type 0) (xs : List A) (i : ℕ) (x : A) → AllByRecursion P xs → slice_get xs i ≡ Some x → P x
+all_at P [] i x all h = absurd (let e : None ≡ Some x = h in cc)
+all_at P (y ∷ ys) zero x all h = subst P (let e : Some y ≡ Some x = h in cc) all.0
+all_at P (y ∷ ys) (suc i) x all h = all_at P ys i x all.1 h
+
+-- a model has fewer than 2^32 instances
+pub few_insts : (d : Design) → IsWellFormed d → (k : ℕ) (m : Model) → slice_get d.models k ≡ Some m → length m.insts < 2 ^ 32
+few_insts d formed k m here = all_at (λ m. length m.insts < 2 ^ 32) d.models k m formed.insts here
+
+pub insts_here : (d : Design) (k : ℕ) (m : Model) → slice_get d.models k ≡ Some m → insts_of d k ≡ m.insts
+insts_here d k m here = ap (λ (o : Option Model). option_map_or (λ m. m.insts) o []) here
+
+pub position-below : {A : Type 0} (p : A → Bool) (xs : List A) (i : ℕ) → position p xs ≡ Some i → i < length xs
+position-below p xs i found = by (prefix_len (λ x. not (p x)) xs) found
+  where
+    by : (k : ℕ) → cond (nat_lt k (length xs)) (Some k) None ≡ Some i → i < length xs
+    by k e = pick (nat_lt k (length xs)) refl e
+      where
+        pick : (b : Bool) → nat_lt k (length xs) ≡ b → cond b (Some k) None ≡ Some i → i < length xs
+        pick true h e = subst (λ (n : ℕ). n < length xs) (let f : Some k ≡ Some i = e in cc) (ltb-true k (length xs) h)
+        pick false h e = absurd (let f : None ≡ Some i = e in cc)
+
+pub there : {A : Type 0} (xs : List A) (i : ℕ) → i < length xs → (x : A) × (slice_get xs i ≡ Some x)
+there [] i h = absurd (omega arith)
+there (x ∷ xs) zero h = (x, refl)
+there (x ∷ xs) (suc i) h = there xs i (omega arith)
+
+-- what stands behind a reference that was found
+pub here_is : (found was : Option (Bor Model)) (here : Option Model) → option_map (λ (m : Bor Model). m.now) found ≡ here → found ≡ was → here ≡ option_map (λ (m : Bor Model). m.now) was
+here_is found was here is same = sym is ∙ ap (option_map (λ (m : Bor Model). m.now)) same

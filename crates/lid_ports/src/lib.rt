@@ -1,0 +1,11 @@
+//! The lists of the models of a design as sets of names, the formals that instances bind, and the
+//! nets that are driven and read in a model.
+#![tactic(auto)]
+
+mod formals;
+mod nets;
+mod ports;
+
+pub use formals::{InstRule, find_formal};
+pub use nets::{Nets, collect_nets, push_port_drivers};
+pub use ports::{Port, Ports};

@@ -1,0 +1,12 @@
+use Rattle.std.proofs.Common.{ap, sym, ◌∙◌}
+use Rattle.lid_rules.specs.declared.names.NameRule.{NameRule}
+use Rattle.lid_rules.specs.declared.names.NameRule.TheVariants.{TwoDrivers, Undriven, ClockUse}
+use Rattle.lid_rules.specs.Names.{told_by, name_at, by_names, first_by_rules}
+use Rattle.lid_rules.proofs.Telling.{told_by_rules}
+use Rattle.lid_rules.proofs.names.find_by_names.Goals as goal
+
+pub returns : goal.returns
+returns c =
+    c.first_by_rules.ensures
+    ∙ ap first_by_rules c.as_slice.ensures.value
+    ∙ told_by_rules c.args.ports.now c.args.reached.now c.in_ok-findings.findings.items c.in_ok-findings.ensures
