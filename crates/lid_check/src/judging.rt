@@ -10,8 +10,9 @@ use crate::flaws::{find_flaw, tell_flaw};
 use crate::pearls::find_inputs;
 use lid_base::{Items, Name};
 use lid_design::Design;
+use lid_judge::{check_models, count_latches};
 use lid_models::Survey;
-use lid_rules::{CheckFault, check_models, count_latches};
+use lid_rules::CheckFault;
 use std::alloc::Global;
 
 /// What is kept of an accepted design.
