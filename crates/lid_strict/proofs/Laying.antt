@@ -1,13 +1,12 @@
 -- Steps stay what they are when more reads and rows are appended.
-use Rattle.std.proofs.Common.{◌≡◌, ◌≤◌, ◌-◌, ℕ, List, [], ◌∷◌, ◌++◌, length, map, take, drop, refl, sym, ◌∙◌, ap, arith}
+use Rattle.std.proofs.Common.{◌≡◌, ◌≤◌, ◌-◌, ℕ, List, [], ◌∷◌, length, map, take, drop, refl, ◌∙◌, ap, arith}
 use Rattle.std.specs.List.{AllByRecursion}
 use Rattle.std.proofs.lemmas.List.{take-append-le, drop-append-le, length-drop, length-append}
 use Rattle.lid_cover.specs.declared.Cube.{Cube}
-use Rattle.lid_design.specs.Network.{Source, made}
 use Rattle.lid_strict.specs.declared.program.Part.{Part}
 use Rattle.lid_strict.specs.declared.program.Step.{Step}
 use Rattle.lid_strict.specs.declared.program.Step.TheVariants.{Given, Held, Made, Same}
-use Rattle.lid_strict.specs.Programs.{part_of, cover_of, IsPart, shown_step, IsThere, Extends}
+use Rattle.lid_strict.specs.Programs.{part_of, IsPart, shown_step, IsThere, Extends}
 
 part_more : {A : Type 0} (xs ys : List A) → Extends xs ys → (part : Part) → IsPart xs part → part_of ys part ≡ part_of xs part
 part_more xs ys more part there =

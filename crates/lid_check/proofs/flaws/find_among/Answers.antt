@@ -1,6 +1,5 @@
-use Rattle.std.proofs.Common.{◌≡◌, List, ℕ, Option, Some, None, map, length, sym, ◌∙◌, subst, arith}
+use Rattle.std.proofs.Common.{◌≡◌, List, ℕ, Option, map, length, sym, subst, arith}
 use Rattle.std.proofs.lemmas.List.{length-map}
-use Rattle.lid_design.specs.Walks.{read_now}
 use Rattle.lid_order.specs.Graphs.{IsGraph, HasNoLoop}
 use Rattle.lid_order.specs.Results.{IsFound, IsLeastOnLoop}
 use Rattle.lid_order.specs.declared.finding.Found.{Found}

@@ -1,10 +1,10 @@
 use Rattle.std.proofs.Common.{◌≡◌, ◌≤◌, ◌<◌, ◌↔◌, ℕ, Bool, true, List, length, map, sym, subst}
 use Rattle.std.specs.List.{AllByRecursion}
 use Rattle.lid_design.specs.Walks.{read_now}
-use Rattle.lid_order.specs.Graphs.{flag, IsReached}
+use Rattle.lid_order.specs.Graphs.{flag}
 use Rattle.lid_columns.specs.Elaborations.{shown_driver}
 use Rattle.lid_check.specs.declared.pearls.Pearl.{Pearl}
-use Rattle.lid_check.specs.Pearls.{Fits, ArePearls, AreCutOff, CutsOff, count_cut}
+use Rattle.lid_check.specs.Pearls.{Fits, ArePearls, CutsOff, count_cut}
 use Rattle.lid_check.proofs.Assembly.{cut_within, pearls_fit, all_cut_off}
 use Rattle.lid_check.proofs.outputs.find_dependence.Goals as goal
 

@@ -1,6 +1,5 @@
-use Rattle.std.proofs.Common.{◌≡◌, ◌∙◌, Bool, List, true, sym, subst}
+use Rattle.std.proofs.Common.{◌≡◌, Bool, List, true, sym, subst}
 use Rattle.std.proofs.lemmas.Result.{IfOk-weaker}
-use Rattle.lid_design.specs.Walks.{Among}
 use Rattle.lid_check.specs.Pearls.{inputs_of, is_marked, IsFirstMarked, IsFirstInput}
 use Rattle.lid_check.proofs.Leads.{some_marked, first_leads}
 use Rattle.lid_check.proofs.outputs.find_input.Goals as goal

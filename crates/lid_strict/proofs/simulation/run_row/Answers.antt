@@ -1,6 +1,5 @@
-use Rattle.std.proofs.Common.{ℕ, List, ◌≡◌, ◌<◌, length, map, sym, ◌∙◌, subst, arith}
+use Rattle.std.proofs.Common.{ℕ, List, ◌<◌, length, sym, ◌∙◌, subst, arith}
 use Rattle.std.proofs.lemmas.List.{length-map}
-use Rattle.std.specs.List.{AllByRecursion}
 use Rattle.lid_design.specs.Network.{Source}
 use Rattle.lid_design.specs.Walks.{read_now}
 use Rattle.lid_order.specs.Graphs.{Among, IsOrder}

@@ -3,9 +3,7 @@ use Rattle.std.specs.Prelude.{vec_items}
 use Rattle.std.proofs.lemmas.List.{length-map, get_or_default}
 use Rattle.lid_columns.specs.Elaborations.{shown_driver}
 use Rattle.std.specs.List.{AllByRecursion}
-use Rattle.lid_design.specs.Network.{Source}
 use Rattle.lid_strict.specs.Networks.{rows_at, IsRun, HasCover}
-use Rattle.lid_strict.specs.Programs.{IsLaidOut}
 use Rattle.lid_strict.proofs.Steps.{order_below, all_map, covers_in_order}
 use Rattle.lid_strict.proofs.Running.{runs_next, refilled, below_same}
 use Rattle.lid_strict.proofs.simulation.run_rows.Goals as goal

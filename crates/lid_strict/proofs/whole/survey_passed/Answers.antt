@@ -2,13 +2,18 @@ use Rattle.std.proofs.Common.{sym, subst}
 use Rattle.lid_design.specs.declared.Design.{Design}
 use Rattle.lid_models.specs.declared.survey.SurveyFault.{SurveyFault}
 use Rattle.lid_models.specs.Surveys.{AreKnown, IsFirstRecursive, IsSurveyFault}
-use Rattle.lid_rules.proofs.Passing.{known_early}
+use Rattle.lid_rules.specs.Acceptance.{fault_before_recursion}
+use Rattle.lid_rules.specs.Conditions.{duplicate_name, unknown_model}
+use Rattle.lid_rules.proofs.Passing.{known_by}
+use Rattle.lid_columns.proofs.Passing.{or_none}
 use Rattle.lid_strict.proofs.whole.survey_passed.Goals as goal
 
 pub survey_models-requires : goal.survey_models-requires
+unfolding fault_before_recursion
 survey_models-requires c =
     let pass = c.requires.passed in
-    subst AreKnown (sym c.in_ok-uses.ensures) (known_early c.args.design.now (record { ks = pass.ks; reached = pass.reached; before = pass.before }))
+    let early = or_none (duplicate_name c.args.design.now pass.ks) (unknown_model c.args.design.now pass.ks) pass.before in
+    subst AreKnown (sym c.in_ok-uses.ensures) (known_by c.args.design.now pass.ks pass.reached early.1)
 
 pub unreachable-requires : goal.unreachable-requires
 unreachable-requires c =
