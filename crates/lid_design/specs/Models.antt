@@ -102,7 +102,6 @@ number_named d name = position (λ m. bytes_eq m.name name) d.models
 abbrev pub insts_of : Design → ℕ → List Inst
 insts_of d k = option_map_or (λ m. m.insts) (slice_get d.models k) []
 
--- the number of the model of an instance
 -- whether a name is a clock name of a model, by the model's number
 abbrev pub is_clock_of : Design → ℕ → List ℕ → Bool
 is_clock_of d k name = option_map_or (λ m. is_clock d m name) (slice_get d.models k) false

@@ -91,7 +91,7 @@ fn settle(parents: &mut [u32], graph: &Graph)
     flatten(parents);
 }
 
-/// For each transition the least transition that a walk joins to it, in nearly linear time.
+/// For each transition the least transition that a walk joins to it.
 ///
 /// # Errors
 /// Where there is no memory.
