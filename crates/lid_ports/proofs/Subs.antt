@@ -1,5 +1,5 @@
 -- The model of an instance, by its number.
-use Rattle.std.proofs.Common.{◌≡◌, ℕ, false, not, ◌&&◌, List, [], ◌∷◌, map, filter, Option, Some, None, option_and_then, slice_get, sym, ◌∙◌, ap}
+use Rattle.std.proofs.Common.{◌≡◌, ℕ, false, not, ◌&&◌, [], ◌∷◌, map, filter, Option, Some, None, option_and_then, slice_get, sym, ◌∙◌, ap}
 use Rattle.std.specs.Option.{option_map_or}
 use Rattle.std.specs.Str.{bytes_eq}
 use Rattle.lid_design.specs.declared.Design.{Design}

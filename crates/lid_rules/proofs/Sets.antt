@@ -1,5 +1,5 @@
 -- First items of lists, and the laws of sets that the crates above cite.
-use Rattle.std.proofs.Common.{◌≡◌, Bool, true, false, cond, List, [], ◌∷◌, map, find, Option, Some, option_map, refl}
+use Rattle.std.proofs.Common.{◌≡◌, Bool, true, false, cond, List, [], ◌∷◌, map, find, Some, option_map, refl}
 pub use Rattle.lid_names.proofs.Lists.{is_among-firsts}
 pub use Rattle.lid_ports.proofs.Sets.{filter-same}
 

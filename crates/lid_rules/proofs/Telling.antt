@@ -10,7 +10,7 @@ use Rattle.lid_ports.specs.declared.formals.InstRule.{InstRule}
 use Rattle.lid_ports.specs.declared.formals.InstRule.TheVariants.{UnknownFormal, FormalTwice, Unbound}
 use Rattle.lid_rules.specs.declared.names.NameRule.{NameRule}
 use Rattle.lid_rules.specs.declared.names.NameRule.TheVariants.{TwoDrivers, Undriven, ClockUse}
-use Rattle.lid_rules.specs.Conditions.{or_fault, formal_of, formals, first_name}
+use Rattle.lid_rules.specs.Conditions.{formal_of, formals, first_name}
 use Rattle.lid_rules.specs.Rules.{inst_rule, told_formal}
 use Rattle.lid_ports.specs.Formals.{faulty_formal}
 use Rattle.lid_rules.specs.Names.{name_rule, name_at, by_names, told_by, first_by_rules, is_faulty, told_name}

@@ -3,7 +3,6 @@ use Rattle.std.specs.Prelude.{◌≡◌, ℕ, ◌==◌, List, Option, None, opti
 use Rattle.lid_design.specs.Models.{AreReached}
 use Rattle.lid_rules.specs.Acceptance.{fault_before_recursion}
 use Rattle.lid_design.specs.declared.Design.{Design}
-use Rattle.lid_design.specs.declared.Model.{Model}
 use Rattle.lid_rules.specs.declared.fault.CheckFault.{CheckFault}
 use Rattle.lid_rules.specs.Conditions.{first_told, in_insts, duplicate_in, unknown_at}
 

@@ -1,4 +1,4 @@
-use Rattle.std.proofs.Common.{find, ◌∙◌}
+use Rattle.std.proofs.Common.{◌∙◌}
 use Rattle.lid_names.specs.Names.{is_among, is_twice, texts}
 use Rattle.lid_ports.proofs.Sets.{find-same}
 use Rattle.lid_ports.proofs.formals.find_repeated.Goals as goal

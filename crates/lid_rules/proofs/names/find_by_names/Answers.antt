@@ -1,7 +1,5 @@
-use Rattle.std.proofs.Common.{ap, sym, ◌∙◌}
-use Rattle.lid_rules.specs.declared.names.NameRule.{NameRule}
-use Rattle.lid_rules.specs.declared.names.NameRule.TheVariants.{TwoDrivers, Undriven, ClockUse}
-use Rattle.lid_rules.specs.Names.{told_by, name_at, by_names, first_by_rules}
+use Rattle.std.proofs.Common.{ap, ◌∙◌}
+use Rattle.lid_rules.specs.Names.{first_by_rules}
 use Rattle.lid_rules.proofs.Telling.{told_by_rules}
 use Rattle.lid_rules.proofs.names.find_by_names.Goals as goal
 
