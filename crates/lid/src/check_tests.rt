@@ -8,7 +8,7 @@ use std::test::Fail;
 use std::thread::Threads;
 
 /// A netlist for each refusal, and its line.
-const EACH: &[(&str, &str)] = &[
+static EACH: &[(&str, &str)] = &[
     (
         ".model m\n.inputs d d\n.outputs q\n.latch d q 0\n",
         "DuplicateName m d",
@@ -81,7 +81,7 @@ fn each_refusal_has_its_line(rt: HostRuntime) -> Result<(), Fail> {
 }
 
 /// Netlists in which two places are at fault.
-const FIRST: &[(&str, &str)] = &[
+static FIRST: &[(&str, &str)] = &[
     // the model that comes first in the text, and in it the name that first occurs first
     (
         ".model m\n.subckt r\n.end\n.model r\n.inputs a b\n.outputs b a\n",
@@ -148,7 +148,7 @@ fn the_first_place_at_fault_is_told(rt: HostRuntime) -> Result<(), Fail> {
 }
 
 /// Netlists at which two conditions apply.
-const EARLIER: &[(&str, &str)] = &[
+static EARLIER: &[(&str, &str)] = &[
     (
         ".model m\n.subckt none\n.subckt r\n.end\n.model r\n.inputs a a\n",
         "DuplicateName r a",

@@ -31,7 +31,7 @@ a6=o6 a7=o7 q0=y0 q1=y1 q2=y2 q3=y3 q4=y4 q5=y5 q6=y6 q7=y7\n.end\n\
 .latch a5 q5 re clk 2\n.latch a6 q6 re clk 2\n.latch a7 q7 re clk 2\n.end\n";
 
 /// Netlists with instances, with their rows and outputs.
-const RUNS: &[(&str, &str, &str)] = &[
+static RUNS: &[(&str, &str, &str)] = &[
     // a ring of two registers alternates
     (RING, "-\n-\n-\n-\n-\n", "y\n1\n0\n1\n0\n"),
     // two ways lead from a register to an exclusive or
@@ -106,7 +106,7 @@ fn netlists_with_instances_run(rt: HostRuntime) -> Result<(), Fail> {
 }
 
 /// The files of the runs of the ring with another root.
-const FILES: &[(&str, &str)] = &[
+static FILES: &[(&str, &str)] = &[
     ("n.blif", RING),
     ("d.vec", "d\n1\n0\n1\n"),
     ("none.vec", "-\n-\n"),

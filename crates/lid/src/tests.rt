@@ -189,7 +189,7 @@ pub fn expect_refused<R: Threads + AllocGlobal + Sync + Abort>(
 }
 
 /// Netlists that run, with their rows and outputs.
-const RUNS: &[(&str, &str, &str)] = &[
+static RUNS: &[(&str, &str, &str)] = &[
     // a register delays its rows by one
     (REGISTER, "d\n1\n0\n1\n", "q\n0\n1\n0\n"),
     // latches begin as is written
@@ -220,7 +220,7 @@ fn small_netlists_run(rt: HostRuntime) -> Result<(), Fail> {
 }
 
 /// Netlists and rows that do not read, with what is told.
-const UNREAD: &[(&str, &str, &str)] = &[
+static UNREAD: &[(&str, &str, &str)] = &[
     (REGISTER, "d\n10\n", "lid: rows Width 2\n"),
     (REGISTER, "e\n1\n", "lid: rows Header\n"),
     (REGISTER, "d\nx\n", "lid: rows Char 2\n"),
@@ -267,7 +267,7 @@ fn texts_that_do_not_read_are_told(rt: HostRuntime) -> Result<(), Fail> {
 }
 
 /// The files of the runs that vary in their words.
-const FILES: &[(&str, &str)] = &[
+static FILES: &[(&str, &str)] = &[
     ("one.blif", REGISTER),
     ("one.vec", "d\n1\n0\n"),
     ("-", "d\n1\n0\n"),
@@ -287,7 +287,7 @@ fn expect_words<R: Threads + AllocGlobal + Sync + Abort>(
 }
 
 /// Words that are no job.
-const NO_JOBS: &[&[&str]] = &[
+static NO_JOBS: &[&[&str]] = &[
     &[],
     &[""],
     &["strict"],
@@ -320,7 +320,7 @@ fn other_words_are_no_job(rt: HostRuntime) -> Result<(), Fail> {
 }
 
 /// Words in which options stand before, between and after the files.
-const JOBS: &[&[&str]] = &[
+static JOBS: &[&[&str]] = &[
     &["strict", "one.blif", "one.vec"],
     &["strict", "--root", "one", "one.blif", "one.vec"],
     &["--root", "one", "strict", "one.blif", "one.vec"],
@@ -343,7 +343,7 @@ fn options_stand_before_between_and_after_files(rt: HostRuntime) -> Result<(), F
 }
 
 /// Words with a root that no model has.
-const ROOTLESS: &[&[&str]] = &[
+static ROOTLESS: &[&[&str]] = &[
     &["strict", "one.blif", "one.vec", "--root", "two"],
     &["strict", "one.blif", "one.vec", "--root="],
 ];
@@ -360,7 +360,7 @@ fn a_root_that_no_model_has_is_refused(rt: HostRuntime) -> Result<(), Fail> {
 }
 
 /// The files of the example's run.
-const EXAMPLE: &[(&str, &str)] = &[("one.blif", REGISTER), ("one.vec", "d\n1\n0\n1\n")];
+static EXAMPLE: &[(&str, &str)] = &[("one.blif", REGISTER), ("one.vec", "d\n1\n0\n1\n")];
 
 /// The calls that fail in a run of the example (fetches, writes of the output, writes of the line), and
 /// what is left: the status, the output and the line.
@@ -373,7 +373,7 @@ type Call = (
     &'static str,
 );
 
-const CALLS: &[Call] = &[
+static CALLS: &[Call] = &[
     (&[1], &[], &[], 3, "", "lid: read one.blif\n"),
     (&[2], &[], &[], 3, "", "lid: read one.blif\n"),
     (&[3], &[], &[], 3, "", "lid: read one.vec\n"),
