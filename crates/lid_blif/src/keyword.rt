@@ -1,5 +1,5 @@
 /// What the first word of a logical line says.
-#[derive(Clone, Copy, Debug, PartialEq, Eq)]
+#[derive(Clone, Copy, PartialEq, Eq)]
 pub enum Keyword {
     /// `.model`
     Model,

@@ -73,25 +73,34 @@ fn gated(rt: &impl Abort, alloc: Global, inputs: u32, row: Cube) -> Result<Desig
     })
 }
 
+/// Rows of the gate: the inputs that its cover counts, what a row looks at and wants, and whether the
+/// design is well formed.
+static ROWS: [(u32, u64, u64, bool); 4] = [
+    (2, 3, 1, true),
+    // more inputs than the cover counts
+    (1, 1, 1, false),
+    // a row that looks at a third input
+    (2, 4, 0, false),
+    // a value where the row does not look
+    (2, 1, 2, false),
+];
+
+/// Whether the gate with a row is well formed exactly where it is wanted.
+fn is_judged(
+    rt: &impl Abort,
+    alloc: Global,
+    row: (u32, u64, u64, bool),
+) -> Result<bool, AllocError> {
+    let (inputs, care, value, wanted) = row;
+    let design = gated(rt, alloc, inputs, Cube { care, value })?;
+    Ok(is_well_formed(alloc, &design)? == wanted)
+}
+
 #[test]
 fn covers_that_are_not_well_formed(rt: HostRuntime) -> Result<(), Fail> {
-    let alloc = rt.alloc();
-    let cases = [
-        (2, 3, 1, true),
-        // more inputs than the cover counts
-        (1, 1, 1, false),
-        // a row that looks at a third input
-        (2, 4, 0, false),
-        // a value where the row does not look
-        (2, 1, 2, false),
-    ];
-    for (inputs, care, value, wanted) in cases {
-        let design = gated(&rt, alloc, inputs, Cube { care, value })?;
-        assert_eq!(rt;
-            is_well_formed(alloc, &design)?,
-            wanted,
-            "{inputs} {care} {value}"
-        );
+    for row in &ROWS {
+        let judged = is_judged(&rt, rt.alloc(), *row)?;
+        assert!(rt; judged, "row {} {} {}", row.0, row.1, row.2);
     }
     Ok(())
 }

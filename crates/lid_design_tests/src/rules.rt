@@ -3,7 +3,7 @@
 ghost use Rattle.lid_design.specs.Models.{IsReached};
 ghost use Rattle.lid_rules.specs.Acceptance.{ModelsPass};
 
-use crate::told::{Told, design_of, expect_told, names, numbered};
+use crate::told::{Told, design_of, expect_told, numbered};
 use lid_judge::{check_models, count_latches};
 use lid_models::Survey;
 use std::alloc::{AllocError, Global};
@@ -14,10 +14,19 @@ use std::test::Fail;
 /// A register `p` with input a, output b and clock c.
 const REGISTER: &str = ".end\n.model p\n.inputs a c\n.outputs b\n.latch a b re c 1\n.end\n";
 
+/// A netlist, and what is told: the word of the fault, its two names, and its number.
+type Case = (&'static str, &'static str, &'static str, &'static str, u64);
+
 /// A netlist with a register `p` is refused, and this is told.
-fn expect(rt: &impl Abort, alloc: Global, net: &str, wanted: Told<'_>) -> Result<(), AllocError> {
-    let mut text = String::from_str(alloc, net)?;
+fn expect(rt: &impl Abort, alloc: Global, case: &Case) -> Result<(), AllocError> {
+    let mut text = String::from_str(alloc, case.0)?;
     text.push_str(REGISTER)?;
+    let wanted = numbered(
+        case.1.as_bytes(),
+        case.2.as_bytes(),
+        case.3.as_bytes(),
+        case.4,
+    );
     expect_whole(rt, alloc, text.as_str(), wanted);
     Ok(())
 }
@@ -86,157 +95,242 @@ fn a_pair_of_registers_is_accepted(rt: HostRuntime) -> Result<(), Fail> {
     Ok(())
 }
 
+/// Netlists that meet the conditions.
+static PASSING: [&str; 3] = [
+    // wires of a root with an instance; an output that is an input
+    ".model t\n.inputs x d c\n.outputs u w z x\n.names w\n1\n.names x z\n1 1\n.subckt p a=x b=u c=c\n\
+.end\n.model p\n.inputs a c\n.outputs b\n.latch a b re c 1\n.end\n",
+    // logic of a root without instances; a latch without a type beside one with a type
+    ".model t\n.inputs x d c\n.outputs w x\n.names x y\n0 1\n.latch y z\n.latch z w fe c 1\n.end\n",
+    // a clock that is an input, an input that is an output, and a model that is not reached
+    ".model t\n.inputs x c\n.outputs x\n.clock c\n.end\n.model q\n.inputs a\n.outputs a\n.end\n",
+];
+
 #[test]
 fn accepted_models(rt: HostRuntime) {
-    let nets = [
-        // wires of a root with an instance; an output that is an input
-        ".model t\n.inputs x d c\n.outputs u w z x\n.names w\n1\n.names x z\n1 1\n.subckt p a=x b=u c=c\n\
-.end\n.model p\n.inputs a c\n.outputs b\n.latch a b re c 1\n.end\n",
-        // logic of a root without instances; a latch without a type beside one with a type
-        ".model t\n.inputs x d c\n.outputs w x\n.names x y\n0 1\n.latch y z\n.latch z w fe c 1\n.end\n",
-        // a clock that is an input, an input that is an output, and a model that is not reached
-        ".model t\n.inputs x c\n.outputs x\n.clock c\n.end\n.model q\n.inputs a\n.outputs a\n.end\n",
-    ];
-    for net in nets {
+    for net in &PASSING {
         expect_none(&rt, rt.alloc(), net);
     }
 }
 
+/// Netlists with faulty lists and instances.
+static LISTS: [Case; 7] = [
+    (
+        ".model t\n.inputs x d c\n.outputs d x x\n.subckt q\n",
+        "DuplicateName",
+        "t",
+        "x",
+        0,
+    ),
+    (
+        ".model t\n.inputs x\n.subckt q a=x\n.end\n.model q\n.inputs a\n.outputs a\n",
+        "DuplicateName",
+        "q",
+        "a",
+        0,
+    ),
+    (
+        ".model t\n.inputs x d c\n.subckt p a=x b=u c=c\n.subckt q a=x b=u c=c\n.subckt r a=x b=u c=c\n",
+        "UnknownModel",
+        "t",
+        "q",
+        1,
+    ),
+    (
+        ".model t\n.subckt q\n.end\n.model q\n.subckt r\n.end\n.model r\n.subckt q\n",
+        "Recursive",
+        "q",
+        "",
+        0,
+    ),
+    (
+        ".model t\n.inputs x d c\n.subckt p a=x b=u c=c\n.subckt p a=x a=x z=x\n",
+        "UnknownFormal",
+        "t",
+        "z",
+        1,
+    ),
+    (
+        ".model t\n.inputs x d c\n.subckt p b=u a=x a=d\n",
+        "FormalTwice",
+        "t",
+        "a",
+        0,
+    ),
+    (
+        ".model t\n.inputs x d c\n.subckt p a=x\n.subckt p b=u\n",
+        "Unbound",
+        "t",
+        "a",
+        1,
+    ),
+];
+
 #[test]
 fn faulty_lists_and_instances_are_told(rt: HostRuntime) -> Result<(), Fail> {
-    let cases = [
-        (
-            ".model t\n.inputs x d c\n.outputs d x x\n.subckt q\n",
-            names(b"DuplicateName", b"t", b"x"),
-        ),
-        (
-            ".model t\n.inputs x\n.subckt q a=x\n.end\n.model q\n.inputs a\n.outputs a\n",
-            names(b"DuplicateName", b"q", b"a"),
-        ),
-        (
-            ".model t\n.inputs x d c\n.subckt p a=x b=u c=c\n.subckt q a=x b=u c=c\n.subckt r a=x b=u c=c\n",
-            numbered(b"UnknownModel", b"t", b"q", 1),
-        ),
-        (
-            ".model t\n.subckt q\n.end\n.model q\n.subckt r\n.end\n.model r\n.subckt q\n",
-            names(b"Recursive", b"q", b""),
-        ),
-        (
-            ".model t\n.inputs x d c\n.subckt p a=x b=u c=c\n.subckt p a=x a=x z=x\n",
-            numbered(b"UnknownFormal", b"t", b"z", 1),
-        ),
-        (
-            ".model t\n.inputs x d c\n.subckt p b=u a=x a=d\n",
-            numbered(b"FormalTwice", b"t", b"a", 0),
-        ),
-        (
-            ".model t\n.inputs x d c\n.subckt p a=x\n.subckt p b=u\n",
-            numbered(b"Unbound", b"t", b"a", 1),
-        ),
-    ];
-    for (net, wanted) in cases {
-        expect(&rt, rt.alloc(), net, wanted)?;
+    for case in &LISTS {
+        expect(&rt, rt.alloc(), case)?;
     }
     Ok(())
 }
 
+/// Netlists with faulty nets, clocks and cells.
+static NETS: [Case; 9] = [
+    (
+        ".model t\n.inputs x d c\n.outputs u\n.names x u\n1 1\n.subckt p a=x b=u c=c\n",
+        "TwoDrivers",
+        "t",
+        "u",
+        0,
+    ),
+    (
+        ".model t\n.inputs x d c\n.outputs w\n.latch d x re c 1\n",
+        "TwoDrivers",
+        "t",
+        "x",
+        0,
+    ),
+    (
+        ".model t\n.inputs x d c\n.outputs v\n.subckt p a=u b=v c=c\n",
+        "Undriven",
+        "t",
+        "u",
+        0,
+    ),
+    (
+        ".model t\n.inputs x d c\n.outputs x w\n",
+        "Undriven",
+        "t",
+        "w",
+        0,
+    ),
+    (
+        ".model t\n.inputs x d c\n.outputs u\n.names c y\n1 1\n.subckt p a=x b=u c=c\n",
+        "ClockUse",
+        "t",
+        "c",
+        0,
+    ),
+    (
+        ".model t\n.inputs x d c\n.outputs y\n.latch x y re k 1\n",
+        "ClockUse",
+        "t",
+        "k",
+        0,
+    ),
+    (
+        ".model t\n.inputs x d c\n.outputs u\n.subckt p a=x b=u c=c\n.subckt p a=x c=d\n",
+        "TwoClocks",
+        "d",
+        "c",
+        0,
+    ),
+    (
+        ".model t\n.inputs x d c\n.outputs y\n.latch x w\n.latch x y re c 1\n.latch y z fe c 1\n",
+        "MixedEdges",
+        "t",
+        "z",
+        0,
+    ),
+    (
+        ".model t\n.inputs x d c\n.outputs y\n.names x z\n1 1\n.names x y\n0 1\n.latch x w\n\
+.subckt p a=x b=u c=c\n",
+        "RootLogic",
+        "y",
+        "",
+        0,
+    ),
+];
+
 #[test]
 fn faulty_nets_clocks_and_cells_are_told(rt: HostRuntime) -> Result<(), Fail> {
-    let cases = [
-        (
-            ".model t\n.inputs x d c\n.outputs u\n.names x u\n1 1\n.subckt p a=x b=u c=c\n",
-            names(b"TwoDrivers", b"t", b"u"),
-        ),
-        (
-            ".model t\n.inputs x d c\n.outputs w\n.latch d x re c 1\n",
-            names(b"TwoDrivers", b"t", b"x"),
-        ),
-        (
-            ".model t\n.inputs x d c\n.outputs v\n.subckt p a=u b=v c=c\n",
-            names(b"Undriven", b"t", b"u"),
-        ),
-        (
-            ".model t\n.inputs x d c\n.outputs x w\n",
-            names(b"Undriven", b"t", b"w"),
-        ),
-        (
-            ".model t\n.inputs x d c\n.outputs u\n.names c y\n1 1\n.subckt p a=x b=u c=c\n",
-            names(b"ClockUse", b"t", b"c"),
-        ),
-        (
-            ".model t\n.inputs x d c\n.outputs y\n.latch x y re k 1\n",
-            names(b"ClockUse", b"t", b"k"),
-        ),
-        (
-            ".model t\n.inputs x d c\n.outputs u\n.subckt p a=x b=u c=c\n.subckt p a=x c=d\n",
-            names(b"TwoClocks", b"d", b"c"),
-        ),
-        (
-            ".model t\n.inputs x d c\n.outputs y\n.latch x w\n.latch x y re c 1\n.latch y z fe c 1\n",
-            names(b"MixedEdges", b"t", b"z"),
-        ),
-        (
-            ".model t\n.inputs x d c\n.outputs y\n.names x z\n1 1\n.names x y\n0 1\n.latch x w\n\
-.subckt p a=x b=u c=c\n",
-            names(b"RootLogic", b"y", b""),
-        ),
-    ];
-    for (net, wanted) in cases {
-        expect(&rt, rt.alloc(), net, wanted)?;
+    for case in &NETS {
+        expect(&rt, rt.alloc(), case)?;
     }
+    Ok(())
+}
+
+/// Appends the first of the nine names, so many, each behind a blank and, where it is bound, before `=`
+/// and itself once more.
+fn push_names(net: &mut String, inputs: usize, is_bound: bool) -> Result<(), Fail> {
+    for name in NINE.iter().take(inputs) {
+        write!(net, " {name}")?;
+        if is_bound {
+            write!(net, "={name}")?;
+        }
+    }
+    Ok(())
+}
+
+/// Appends so many instances of a model, whose inputs are bound to the nets of the same names.
+fn push_copies(net: &mut String, model: u32, copies: u32, inputs: usize) -> Result<(), Fail> {
+    for _ in 0..copies {
+        write!(net, ".subckt m{model}")?;
+        push_names(net, inputs, true)?;
+        net.push_str("\n")?;
+    }
+    Ok(())
+}
+
+/// Appends a model with so many inputs.
+fn push_head(net: &mut String, model: u32, inputs: usize) -> Result<(), Fail> {
+    write!(net, ".model m{model}\n.inputs")?;
+    push_names(net, inputs, false)?;
+    net.push_str("\n")?;
     Ok(())
 }
 
 /// So many models, each of which has so many instances of the next and binds its inputs to theirs.
-fn chain(alloc: Global, levels: u32, copies: u32, inputs: &[&str]) -> Result<String, Fail> {
+fn chain(alloc: Global, levels: u32, copies: u32, inputs: usize) -> Result<String, Fail> {
     let mut net = String::new(alloc);
-    for k in 0..levels {
-        write!(net, ".model m{k}\n.inputs")?;
-        for input in inputs {
-            write!(net, " {input}")?;
-        }
-        net.push_str("\n")?;
-        if k + 1 < levels {
-            push_copies(&mut net, k + 1, copies, inputs)?;
-        }
+    for k in 1..levels {
+        push_head(&mut net, k - 1, inputs)?;
+        push_copies(&mut net, k, copies, inputs)?;
     }
+    push_head(&mut net, levels.saturating_sub(1), inputs)?;
     Ok(net)
 }
 
-/// Appends so many instances of a model, whose inputs are bound to the nets of the same names.
-fn push_copies(net: &mut String, model: u32, copies: u32, inputs: &[&str]) -> Result<(), Fail> {
-    for _ in 0..copies {
-        write!(net, ".subckt m{model}")?;
-        for input in inputs {
-            write!(net, " {input}={input}")?;
-        }
-        net.push_str("\n")?;
-    }
+/// The inputs of the models of a chain, of which it takes the first ones.
+static NINE: [&str; 9] = ["a", "b", "c", "d", "e", "f", "g", "h", "i"];
+
+/// Chains at a limit: levels, instances of each, and inputs.
+static AT: [(u32, u32, usize); 4] = [(2, 4096, 0), (65, 1, 0), (18, 2, 0), (17, 2, 8)];
+
+/// Chains past a limit, with the limit and the count that are told.
+static PAST: [(u32, u32, usize, &str, u64); 4] = [
+    (2, 4097, 0, "RootInsts", 4097),
+    (66, 1, 0, "Depth", 65),
+    (19, 2, 0, "Cells", 524_286),
+    (17, 2, 9, "Nets", 1_179_639),
+];
+
+/// A chain of so many levels, instances and inputs is accepted.
+fn expect_at(rt: &impl Abort, alloc: Global, at: (u32, u32, usize)) -> Result<(), Fail> {
+    let net = chain(alloc, at.0, at.1, at.2)?;
+    expect_none(rt, alloc, net.as_str());
+    Ok(())
+}
+
+/// A chain of so many levels, instances and inputs is refused, and this limit and this count are told.
+fn expect_past(
+    rt: &impl Abort,
+    alloc: Global,
+    past: (u32, u32, usize, &str, u64),
+) -> Result<(), Fail> {
+    let net = chain(alloc, past.0, past.1, past.2)?;
+    let wanted = numbered(b"Limit", past.3.as_bytes(), b"", past.4);
+    expect_whole(rt, alloc, net.as_str(), wanted);
     Ok(())
 }
 
 #[test]
 fn limits_are_told_past_their_last_count(rt: HostRuntime) -> Result<(), Fail> {
-    let alloc = rt.alloc();
-    let nine = ["a", "b", "c", "d", "e", "f", "g", "h", "i"];
-    for (levels, copies, inputs) in [(2, 4096, 0), (65, 1, 0), (18, 2, 0), (17, 2, 8)] {
-        let net = chain(alloc, levels, copies, &nine[..inputs])?;
-        expect_none(&rt, alloc, net.as_str());
+    for at in &AT {
+        expect_at(&rt, rt.alloc(), *at)?;
     }
-    let cases: [(u32, u32, usize, &[u8], u64); 4] = [
-        (2, 4097, 0, b"RootInsts", 4097),
-        (66, 1, 0, b"Depth", 65),
-        (19, 2, 0, b"Cells", 524_286),
-        (17, 2, 9, b"Nets", 1_179_639),
-    ];
-    for (levels, copies, inputs, limit, count) in cases {
-        let net = chain(alloc, levels, copies, &nine[..inputs])?;
-        expect_whole(
-            &rt,
-            alloc,
-            net.as_str(),
-            numbered(b"Limit", limit, b"", count),
-        );
+    for past in &PAST {
+        expect_past(&rt, rt.alloc(), *past)?;
     }
     Ok(())
 }

@@ -54,50 +54,52 @@ fn expect_rows(
     Ok(())
 }
 
-#[test]
-fn runs_of_small_netlists(rt: HostRuntime) -> Result<(), Fail> {
-    let cases = [
-        // latches in a row
-        (
-            ".model t\n.inputs x c\n.outputs v\n.subckt p b=v a=x c=c\n.end\n.model p\n.inputs a c\n\
+/// Netlists, their rows and their outputs.
+static RUNS: [(&str, &str, &str); 6] = [
+    // latches in a row
+    (
+        ".model t\n.inputs x c\n.outputs v\n.subckt p b=v a=x c=c\n.end\n.model p\n.inputs a c\n\
 .outputs b\n.latch m b re c 2\n.latch a m re c 1\n.end\n",
-            "x\n1\n0\n1\n1\n",
-            "v\n0\n1\n1\n0\n",
-        ),
-        // two instances with inputs of their own
-        (
-            ".model t\n.inputs x c y\n.outputs w v\n.subckt p a=x b=v c=c\n.subckt p c=c a=y b=w\n.end\n\
+        "x\n1\n0\n1\n1\n",
+        "v\n0\n1\n1\n0\n",
+    ),
+    // two instances with inputs of their own
+    (
+        ".model t\n.inputs x c y\n.outputs w v\n.subckt p a=x b=v c=c\n.subckt p c=c a=y b=w\n.end\n\
 .model p\n.inputs a c\n.outputs b\n.latch a b re c\n.end\n",
-            "x y\n10\n01\n11\n",
-            "w v\n00\n01\n10\n",
-        ),
-        // an instance in an instance
-        (
-            ".model t\n.inputs c x\n.outputs v\n.subckt q d=x e=v k=c\n.end\n.model q\n.inputs k d\n\
+        "x y\n10\n01\n11\n",
+        "w v\n00\n01\n10\n",
+    ),
+    // an instance in an instance
+    (
+        ".model t\n.inputs c x\n.outputs v\n.subckt q d=x e=v k=c\n.end\n.model q\n.inputs k d\n\
 .outputs e\n.names d n\n0 1\n.subckt p a=n b=e c=k\n.end\n.model p\n.inputs a c\n.outputs b\n\
 .latch a b re c 1\n.end\n",
-            "x\n1\n0\n0\n1\n",
-            "v\n1\n0\n1\n1\n",
-        ),
-        // a root alone
-        (
-            ".model t\n.inputs x c\n.outputs s y\n.names s y\n0 1\n.names x s n\n10 1\n01 1\n\
+        "x\n1\n0\n0\n1\n",
+        "v\n1\n0\n1\n1\n",
+    ),
+    // a root alone
+    (
+        ".model t\n.inputs x c\n.outputs s y\n.names s y\n0 1\n.names x s n\n10 1\n01 1\n\
 .latch n s re c 1\n.end\n",
-            "x\n1\n1\n0\n1\n",
-            "s y\n10\n01\n10\n10\n",
-        ),
-        // outputs that are inputs
-        (
-            ".model t\n.inputs x c\n.outputs z x v\n.names x z\n1 1\n.subckt p a=x b=v c=c\n.end\n\
+        "x\n1\n1\n0\n1\n",
+        "s y\n10\n01\n10\n10\n",
+    ),
+    // outputs that are inputs
+    (
+        ".model t\n.inputs x c\n.outputs z x v\n.names x z\n1 1\n.subckt p a=x b=v c=c\n.end\n\
 .model p\n.inputs a c\n.outputs b\n.latch a b re c 0\n.end\n",
-            "x\n1\n0\n1\n",
-            "z x v\n110\n001\n110\n",
-        ),
-        // nothing goes in or out
-        (".model t\n.end\n", "-\n-\n-\n", "-\n-\n-\n"),
-    ];
-    for (net, given, wanted) in cases {
-        expect(&rt, rt.alloc(), net, given, wanted)?;
+        "x\n1\n0\n1\n",
+        "z x v\n110\n001\n110\n",
+    ),
+    // nothing goes in or out
+    (".model t\n.end\n", "-\n-\n-\n", "-\n-\n-\n"),
+];
+
+#[test]
+fn runs_of_small_netlists(rt: HostRuntime) -> Result<(), Fail> {
+    for run in &RUNS {
+        expect(&rt, rt.alloc(), run.0, run.1, run.2)?;
     }
     Ok(())
 }

@@ -153,12 +153,19 @@ fn told_of(fault: &CheckFault) -> Told<'_> {
     }
 }
 
+/// Whether two faults tell the same.
+fn is_same(found: Told<'_>, wanted: Told<'_>) -> bool {
+    found.fault == wanted.fault
+        && found.first == wanted.first
+        && found.second == wanted.second
+        && found.third == wanted.third
+        && found.number == wanted.number
+}
+
 /// A fault tells this.
 pub fn expect_told(rt: &impl Abort, net: &str, fault: &CheckFault, wanted: Told<'_>) {
-    let found = told_of(fault);
-    assert!(rt; found.fault == wanted.fault, "another fault: {net}");
-    assert!(rt; found.first == wanted.first, "another first name: {net}");
-    assert!(rt; found.second == wanted.second, "another second name: {net}");
-    assert!(rt; found.third == wanted.third, "another third name: {net}");
-    assert!(rt; found.number == wanted.number, "another number: {net}");
+    assert!(rt;
+        is_same(told_of(fault), wanted),
+        "something else is told: {net}"
+    );
 }

@@ -8,7 +8,7 @@ use crate::looks::{InLook, OutLook};
 use crate::stations::Stations;
 
 /// What a mover did.
-#[derive(Clone, Copy, Debug, PartialEq, Eq)]
+#[derive(Clone, Copy)]
 pub enum Carried {
     /// It carried this token on.
     Moved(u32),
