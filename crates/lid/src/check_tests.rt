@@ -315,10 +315,10 @@ fn a_loop_is_told_at_its_first_column(rt: HostRuntime) -> Result<(), Fail> {
 }
 
 /// Appends a model with four instances of the next.
-fn push_four(net: &mut String, k: u32) -> Result<(), Fail> {
-    write!(net, ".model m{k}\n")?;
+fn push_four(net: &mut String, model: u32, next: u32) -> Result<(), Fail> {
+    write!(net, ".model m{model}\n")?;
     for _ in 0..4 {
-        write!(net, ".subckt m{}\n", k + 1)?;
+        write!(net, ".subckt m{next}\n")?;
     }
     net.push_str(".end\n")?;
     Ok(())
@@ -327,8 +327,8 @@ fn push_four(net: &mut String, k: u32) -> Result<(), Fail> {
 /// Thirteen models, each with four instances of the next, and a latch in the last.
 fn immense(alloc: Global) -> Result<String, Fail> {
     let mut net = String::new(alloc);
-    for k in 0..13 {
-        push_four(&mut net, k)?;
+    for next in 1..14 {
+        push_four(&mut net, next - 1, next)?;
     }
     net.push_str(".model m13\n.latch q q 0\n.end\n")?;
     Ok(net)

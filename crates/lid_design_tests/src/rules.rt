@@ -3,7 +3,7 @@
 ghost use Rattle.lid_design.specs.Models.{IsReached};
 ghost use Rattle.lid_rules.specs.Acceptance.{ModelsPass};
 
-use crate::told::{Told, design_of, expect_told, numbered};
+use crate::told::{Told, design_of, expect_told};
 use lid_judge::{check_models, count_latches};
 use lid_models::Survey;
 use std::alloc::{AllocError, Global};
@@ -21,12 +21,7 @@ type Case = (&'static str, &'static str, &'static str, &'static str, u64);
 fn expect(rt: &impl Abort, alloc: Global, case: &Case) -> Result<(), AllocError> {
     let mut text = String::from_str(alloc, case.0)?;
     text.push_str(REGISTER)?;
-    let wanted = numbered(
-        case.1.as_bytes(),
-        case.2.as_bytes(),
-        case.3.as_bytes(),
-        case.4,
-    );
+    let wanted: Told<'_> = (case.1, case.2.as_bytes(), case.3.as_bytes(), &[], case.4);
     expect_whole(rt, alloc, text.as_str(), wanted);
     Ok(())
 }
@@ -319,7 +314,7 @@ fn expect_past(
     past: (u32, u32, usize, &str, u64),
 ) -> Result<(), Fail> {
     let net = chain(alloc, past.0, past.1, past.2)?;
-    let wanted = numbered(b"Limit", past.3.as_bytes(), b"", past.4);
+    let wanted: Told<'_> = ("Limit", past.3.as_bytes(), &[], &[], past.4);
     expect_whole(rt, alloc, net.as_str(), wanted);
     Ok(())
 }

@@ -12,30 +12,7 @@ use std::process::Abort;
 
 /// What is told: the word of the fault, its names in order, and its number: of an instance, a count, or
 /// how many instances stand around a column.
-#[derive(Clone, Copy)]
-pub struct Told<'a> {
-    pub fault: &'a [u8],
-    pub first: &'a [u8],
-    pub second: &'a [u8],
-    pub third: &'a [u8],
-    pub number: u64,
-}
-
-/// A fault and its names.
-pub fn names<'a>(fault: &'a [u8], first: &'a [u8], second: &'a [u8]) -> Told<'a> {
-    numbered(fault, first, second, 0)
-}
-
-/// A fault, its names and its number.
-pub fn numbered<'a>(fault: &'a [u8], first: &'a [u8], second: &'a [u8], number: u64) -> Told<'a> {
-    Told {
-        fault,
-        first,
-        second,
-        third: b"",
-        number,
-    }
-}
+pub type Told<'a> = (&'a str, &'a [u8], &'a [u8], &'a [u8], u64);
 
 /// The design of a text.
 pub fn design_of(rt: &impl Abort, alloc: Global, net: &str) -> Design
@@ -58,30 +35,26 @@ fn limit_word(which: Which) -> &'static [u8] {
     }
 }
 
-/// What a fault tells.
-fn told_of(fault: &CheckFault) -> Told<'_> {
+/// What a fault tells of one model: its word, and the model and the name.
+fn shown(fault: &CheckFault) -> (&str, &[u8], &[u8], u64) {
     match fault {
-        CheckFault::NoRoot => names(b"NoRoot", b"", b""),
-        CheckFault::DuplicateName { model, name } => names(
-            b"DuplicateName",
+        CheckFault::NoRoot => ("NoRoot", &[], &[], 0),
+        CheckFault::DuplicateName { model, name } => {
+            ("DuplicateName", model.as_slice(), name.as_slice(), 0)
+        }
+        CheckFault::UnknownModel { model, inst, name } => (
+            "UnknownModel",
             model.as_slice(),
             name.as_slice(),
+            u64::from(*inst),
         ),
-        CheckFault::UnknownModel { model, inst, name } => {
-            numbered(
-                b"UnknownModel",
-                model.as_slice(),
-                name.as_slice(),
-                u64::from(*inst),
-            )
-        }
-        CheckFault::Recursive { model } => names(b"Recursive", model.as_slice(), b""),
+        CheckFault::Recursive { model } => ("Recursive", model.as_slice(), &[], 0),
         CheckFault::UnknownFormal {
             model,
             inst,
             formal,
-        } => numbered(
-            b"UnknownFormal",
+        } => (
+            "UnknownFormal",
             model.as_slice(),
             formal.as_slice(),
             u64::from(*inst),
@@ -90,8 +63,8 @@ fn told_of(fault: &CheckFault) -> Told<'_> {
             model,
             inst,
             formal,
-        } => numbered(
-            b"FormalTwice",
+        } => (
+            "FormalTwice",
             model.as_slice(),
             formal.as_slice(),
             u64::from(*inst),
@@ -100,72 +73,58 @@ fn told_of(fault: &CheckFault) -> Told<'_> {
             model,
             inst,
             formal,
-        } => numbered(
-            b"Unbound",
+        } => (
+            "Unbound",
             model.as_slice(),
             formal.as_slice(),
             u64::from(*inst),
         ),
-        CheckFault::TwoDrivers { model, name } => names(
-            b"TwoDrivers",
-            model.as_slice(),
-            name.as_slice(),
-        ),
-        CheckFault::Undriven { model, name } => names(
-            b"Undriven",
-            model.as_slice(),
-            name.as_slice(),
-        ),
-        CheckFault::ClockUse { model, name } => names(
-            b"ClockUse",
-            model.as_slice(),
-            name.as_slice(),
-        ),
-        CheckFault::TwoClocks { first, second } => names(
-            b"TwoClocks",
-            first.as_slice(),
-            second.as_slice(),
-        ),
-        CheckFault::MixedEdges { model, name } => names(
-            b"MixedEdges",
-            model.as_slice(),
-            name.as_slice(),
-        ),
-        CheckFault::RootLogic { name } => names(b"RootLogic", name.as_slice(), b""),
-        CheckFault::Limit { which, count } => {
-            numbered(b"Limit", limit_word(*which), b"", *count)
+        CheckFault::TwoDrivers { model, name } => {
+            ("TwoDrivers", model.as_slice(), name.as_slice(), 0)
         }
+        CheckFault::Undriven { model, name } => {
+            ("Undriven", model.as_slice(), name.as_slice(), 0)
+        }
+        CheckFault::ClockUse { model, name } => {
+            ("ClockUse", model.as_slice(), name.as_slice(), 0)
+        }
+        CheckFault::TwoClocks { first, second } => {
+            ("TwoClocks", first.as_slice(), second.as_slice(), 0)
+        }
+        CheckFault::MixedEdges { model, name } => {
+            ("MixedEdges", model.as_slice(), name.as_slice(), 0)
+        }
+        CheckFault::RootLogic { name } => ("RootLogic", name.as_slice(), &[], 0),
+        CheckFault::Limit { which, count } => ("Limit", limit_word(*which), &[], *count),
         CheckFault::CombLoop { path, name } => {
-            numbered(b"CombLoop", name.as_slice(), b"", path.len() as u64)
+            ("CombLoop", name.as_slice(), &[], path.len() as u64)
         }
-        CheckFault::OutputFromInput {
-            model,
-            output,
-            input,
-        } => Told {
-            fault: b"OutputFromInput",
-            first: model.as_slice(),
-            second: output.as_slice(),
-            third: input.as_slice(),
-            number: 0,
-        },
-        CheckFault::Memory => names(b"Memory", b"", b""),
+        CheckFault::OutputFromInput { model, output, .. } => {
+            ("OutputFromInput", model.as_slice(), output.as_slice(), 0)
+        }
+        CheckFault::Memory => ("Memory", &[], &[], 0),
     }
 }
 
-/// Whether two faults tell the same.
-fn is_same(found: Told<'_>, wanted: Told<'_>) -> bool {
-    found.fault == wanted.fault
-        && found.first == wanted.first
-        && found.second == wanted.second
-        && found.third == wanted.third
-        && found.number == wanted.number
+/// The third name that a fault tells, where it has three.
+fn third(fault: &CheckFault) -> &[u8] {
+    match fault {
+        CheckFault::OutputFromInput { input, .. } => input.as_slice(),
+        _ => &[],
+    }
+}
+
+/// Whether a fault tells this.
+fn tells(fault: &CheckFault, wanted: Told<'_>) -> bool {
+    let found = shown(fault);
+    found.0 == wanted.0
+        && found.1 == wanted.1
+        && found.2 == wanted.2
+        && third(fault) == wanted.3
+        && found.3 == wanted.4
 }
 
 /// A fault tells this.
 pub fn expect_told(rt: &impl Abort, net: &str, fault: &CheckFault, wanted: Told<'_>) {
-    assert!(rt;
-        is_same(told_of(fault), wanted),
-        "something else is told: {net}"
-    );
+    assert!(rt; tells(fault, wanted), "something else is told: {net}");
 }
