@@ -1,8 +1,11 @@
 //! Netlists that are accepted and refused, with their roots.
 
-use crate::told::{Told, design_of, expect_told};
+ghost use Rattle.lid_design.specs.WellFormed.{IsWellFormed};
+
+use crate::told::{Told, design_of, tells};
 use lid_base::{Items, Name};
 use lid_check::{Checked, check};
+use lid_design::Design;
 use std::alloc::{AllocError, Global};
 use std::process::Abort;
 use std::test::Fail;
@@ -35,12 +38,20 @@ fn is(found: &[Name], text: &str) -> bool {
     found.len() == 1 && found[0].as_slice() == text.as_bytes()
 }
 
+/// Whether a design is refused with the root of this name, or with its own, and this is told.
+fn is_told(alloc: Global, design: Design, root: Option<&Name>, wanted: Told<'_>) -> bool
+    requires { IsWellFormed design }
+{
+    match check(alloc, design, root) {
+        Ok(_) => false,
+        Err(fault) => tells(&fault, wanted),
+    }
+}
+
 /// A netlist is refused with the root of this name, or with its own, and this is told.
 fn expect_fault(rt: &impl Abort, alloc: Global, net: &str, root: Option<&Name>, wanted: Told<'_>) {
-    match check(alloc, design_of(rt, alloc, net), root) {
-        Ok(_) => panic!(rt; "it is accepted: {net}"),
-        Err(fault) => expect_told(rt, net, &fault, wanted),
-    }
+    let told = is_told(alloc, design_of(rt, alloc, net), root, wanted);
+    assert!(rt; told, "it is accepted, or something else is told: {net}");
 }
 
 /// A netlist is accepted with the root of this name, or with its own.
@@ -76,24 +87,27 @@ fn loops_and_dependences_are_told(rt: HostRuntime) -> Result<(), Fail> {
     Ok(())
 }
 
+/// Whether a checked design has this root, and so many pearls, latches and latches left open.
+fn has_counts(checked: &Checked, root: u32, pearls: u32, latches: u64, defaulted: u64) -> bool {
+    checked.root() == root
+        && checked.pearls() == pearls
+        && checked.latches() == latches
+        && checked.defaulted() == defaulted
+}
+
 #[test]
 fn a_pair_of_registers_is_accepted(rt: HostRuntime) {
     let checked = accepted(&rt, rt.alloc(), OPEN, None);
-    assert_eq!(rt; checked.root(), 0);
-    assert_eq!(rt; checked.pearls(), 2);
-    assert_eq!(rt; checked.latches(), 2);
-    assert_eq!(rt; checked.defaulted(), 2);
-    assert!(rt; is(checked.inputs(), "x"));
-    assert!(rt; is(checked.outputs(), "v"));
+    let has = has_counts(&checked, 0, 2, 2, 2)
+        && is(checked.inputs(), "x")
+        && is(checked.outputs(), "v");
+    assert!(rt; has);
 }
 
 #[test]
 fn a_chosen_root_is_one_pearl(rt: HostRuntime) -> Result<(), Fail> {
     let chosen = name(rt.alloc(), "p")?;
     let checked = accepted(&rt, rt.alloc(), SET, Some(&chosen));
-    assert_eq!(rt; checked.root(), 1);
-    assert_eq!(rt; checked.pearls(), 1);
-    assert_eq!(rt; checked.latches(), 1);
-    assert_eq!(rt; checked.defaulted(), 0);
+    assert!(rt; has_counts(&checked, 1, 1, 1, 0));
     Ok(())
 }

@@ -1,10 +1,13 @@
 //! What drives the columns of a design, by their numbers.
 
+ghost use Rattle.lid_design.specs.WellFormed.{IsWellFormed};
+ghost use Rattle.lid_rules.specs.Acceptance.{ModelsPass};
+
 use crate::told::design_of;
 use lid_columns::{Driver, Elaboration, elaborate};
 use lid_design::Design;
 use lid_judge::check_models;
-use lid_models::is_well_formed;
+use lid_models::{Survey, is_well_formed};
 use std::alloc::{AllocError, Global};
 use std::process::Abort;
 use std::test::Fail;
@@ -51,32 +54,54 @@ fn lines(alloc: Global, elaboration: &Elaboration<'_>) -> Result<String, AllocEr
     Ok(text)
 }
 
+/// Whether the columns of a design that meets the conditions on models have these lines.
+fn has_lines(alloc: Global, survey: &Survey<'_>, wanted: &str) -> Result<bool, AllocError>
+    requires { ModelsPass survey.now }
+{
+    let elaboration = elaborate(alloc, survey)?;
+    let text = lines(alloc, &elaboration)?;
+    Ok(text.as_str() == wanted)
+}
+
+/// Whether a design is accepted by its models, and its columns have these lines.
+fn is_elaborated(alloc: Global, design: &Design, wanted: &str) -> Result<bool, AllocError>
+    requires { IsWellFormed design.now }
+{
+    match check_models(alloc, design) {
+        Ok(survey) => has_lines(alloc, &survey, wanted),
+        Err(_) => Ok(false),
+    }
+}
+
 /// Checks what a design is elaborated to.
 fn expect(rt: &impl Abort, alloc: Global, design: &Design, wanted: &str) -> Result<(), Fail> {
     if !is_well_formed(alloc, design)? {
         panic!(rt; "the design is not well formed");
     }
-    match check_models(alloc, design) {
-        Ok(survey) => {
-            let elaboration = elaborate(alloc, &survey)?;
-            assert_eq!(rt; lines(alloc, &elaboration)?.as_str(), wanted);
-            Ok(())
-        }
-        Err(_) => panic!(rt; "the design is refused"),
+    let elaborated = is_elaborated(alloc, design, wanted)?;
+    assert!(rt; elaborated, "other columns than {wanted}");
+    Ok(())
+}
+
+/// The nested netlist, with its last model as the root.
+fn nested(rt: &impl Abort, alloc: Global) -> Design {
+    Design {
+        models: design_of(rt, alloc, NESTED).models,
+        root: 2,
     }
 }
 
 #[test]
-fn instances_beside_and_in_one_another(rt: HostRuntime) -> Result<(), Fail> {
-    let alloc = rt.alloc();
-    let design = design_of(&rt, alloc, TWO);
+fn two_instances_of_a_model(rt: HostRuntime) -> Result<(), Fail> {
+    let design = design_of(&rt, rt.alloc(), TWO);
     let wanted =
         "given 0\nsame 6\nsame 4\nsame 0\nheld true 3\nsame 2\nheld true 5\nstart 3\nstart 5\n";
-    expect(&rt, alloc, &design, wanted)?;
-    let design = Design {
-        models: design_of(&rt, alloc, NESTED).models,
-        root: 2,
-    };
+    expect(&rt, rt.alloc(), &design, wanted)
+}
+
+#[test]
+fn an_instance_in_an_instance(rt: HostRuntime) -> Result<(), Fail> {
+    let design = nested(&rt, rt.alloc());
     let wanted = "given 0\nsame 3\nsame 0\nmade 4 2\nsame 6\nsame 2\nheld false 5\nstart 2\n";
-    expect(&rt, alloc, &design, wanted)
+    expect(&rt, rt.alloc(), &design, wanted)
 }

@@ -4,7 +4,7 @@ use crate::told::design_of;
 use lid_base::Items;
 use lid_cover::{Cover, Cube};
 use lid_design::{Cell, Design, Model};
-use lid_models::{find_uses, is_well_formed};
+use lid_models::{Uses, find_uses, is_well_formed};
 use std::alloc::{AllocError, Global};
 use std::process::Abort;
 use std::test::Fail;
@@ -18,17 +18,29 @@ const NESTED: &str = ".model top\n.inputs ck x\n.outputs z\n.subckt mid d=x q=y 
 /// A cover of two inputs.
 const GATE: &str = ".model m\n.inputs a b\n.outputs y\n.names a b y\n10 1\n.end\n";
 
+/// Whether these are the uses of the models of the nested netlist.
+fn are_nested(uses: &Uses<'_>) -> bool {
+    uses.reached() == [0, 2, 3].as_slice()
+        && uses.model_of(0, 1) == Some(3)
+        && uses.model_of(0, 2).is_none()
+        && uses.model_of(3, 0) == Some(2)
+        && uses.model_of(2, 0).is_none()
+}
+
+/// Whether a design is well formed, and its models use each other as in the nested netlist.
+fn is_nested(alloc: Global, design: &Design) -> Result<bool, AllocError> {
+    if !is_well_formed(alloc, design)? {
+        return Ok(false);
+    }
+    let uses = find_uses(alloc, design)?;
+    Ok(are_nested(&uses))
+}
+
 #[test]
 fn instances_name_models_and_reach_them(rt: HostRuntime) -> Result<(), Fail> {
-    let alloc = rt.alloc();
-    let design = design_of(&rt, alloc, NESTED);
-    assert!(rt; is_well_formed(alloc, &design)?);
-    let uses = find_uses(alloc, &design)?;
-    assert_eq!(rt; uses.reached(), [0, 2, 3].as_slice());
-    assert_eq!(rt; uses.model_of(0, 1), Some(3));
-    assert_eq!(rt; uses.model_of(0, 2), None);
-    assert_eq!(rt; uses.model_of(3, 0), Some(2));
-    assert_eq!(rt; uses.model_of(2, 0), None);
+    let design = design_of(&rt, rt.alloc(), NESTED);
+    let nested = is_nested(rt.alloc(), &design)?;
+    assert!(rt; nested);
     Ok(())
 }
 

@@ -1,9 +1,11 @@
 //! Models that are accepted and refused.
 
 ghost use Rattle.lid_design.specs.Models.{IsReached};
+ghost use Rattle.lid_design.specs.WellFormed.{IsWellFormed};
 ghost use Rattle.lid_rules.specs.Acceptance.{ModelsPass};
 
-use crate::told::{Told, design_of, expect_told};
+use crate::told::{Told, design_of, tells};
+use lid_design::Design;
 use lid_judge::{check_models, count_latches};
 use lid_models::Survey;
 use std::alloc::{AllocError, Global};
@@ -26,67 +28,93 @@ fn expect(rt: &impl Abort, alloc: Global, case: &Case) -> Result<(), AllocError>
     Ok(())
 }
 
+/// Whether a design is refused, and this is told.
+fn is_told(alloc: Global, design: &Design, wanted: Told<'_>) -> bool
+    requires { IsWellFormed design.now }
+{
+    match check_models(alloc, design) {
+        Ok(_) => false,
+        Err(fault) => tells(&fault, wanted),
+    }
+}
+
 /// A netlist is refused, and this is told.
 fn expect_whole(rt: &impl Abort, alloc: Global, net: &str, wanted: Told<'_>) {
     let design = design_of(rt, alloc, net);
-    match check_models(alloc, &design) {
-        Ok(_) => panic!(rt; "it is accepted: {net}"),
-        Err(fault) => expect_told(rt, net, &fault, wanted),
-    }
+    let told = is_told(alloc, &design, wanted);
+    assert!(rt; told, "it is accepted, or something else is told: {net}");
+}
+
+/// Whether a design is accepted.
+fn passes(alloc: Global, design: &Design) -> bool
+    requires { IsWellFormed design.now }
+{
+    check_models(alloc, design).is_ok()
 }
 
 /// A netlist is accepted.
 fn expect_none(rt: &impl Abort, alloc: Global, net: &str) {
     let design = design_of(rt, alloc, net);
-    assert!(rt;
-        check_models(alloc, &design).is_ok(),
-        "it is refused: {net}"
-    );
+    let passed = passes(alloc, &design);
+    assert!(rt; passed, "it is refused: {net}");
 }
 
-/// What is found of a model of a pair of registers: the root or the register.
-fn expect_model(rt: &impl Abort, survey: &Survey<'_>, k: u32)
+/// Whether these are the nets of a model of a pair of registers: of the root, or of the register.
+fn is_model(survey: &Survey<'_>, k: u32) -> bool
     requires { IsReached survey.now k }
 {
-    assert!(rt; survey.is_clock(k, b"c") && !survey.is_clock(k, b"a"));
-    assert!(rt; survey.place_of(k, b"c").is_none());
-    let is_root = k == 0;
-    assert_eq!(rt; survey.count_nets(k), if is_root { 4 } else { 2 });
-    let first: &[u8] = if is_root { b"x" } else { b"a" };
-    assert!(rt; survey.net_at(k, 0) == Some(first));
-    assert_eq!(rt;
-        survey.place_of(k, b"u"),
-        if is_root { Some(3) } else { None }
-    );
+    let (nets, first, place): (usize, &[u8], Option<usize>) = if k == 0 {
+        (4, b"x", Some(3))
+    } else {
+        (2, b"a", None)
+    };
+    survey.is_clock(k, b"c")
+        && !survey.is_clock(k, b"a")
+        && survey.place_of(k, b"c").is_none()
+        && survey.count_nets(k) == nets
+        && survey.net_at(k, 0) == Some(first)
+        && survey.place_of(k, b"u") == place
 }
 
-/// What is found of the models of a pair of registers.
-fn expect_pair(rt: &impl Abort, alloc: Global, survey: &Survey<'_>) -> Result<(), AllocError>
+/// Whether these are the models of a pair of registers.
+fn are_models(survey: &Survey<'_>) -> bool {
+    let reached = survey.reached();
+    for k in reached {
+        if !is_model(survey, *k) {
+            return false;
+        }
+    }
+    reached == [0, 1].as_slice()
+        && survey.order() == [1, 0].as_slice()
+        && survey.model_of(0, 1) == Some(1)
+        && survey.model_of(0, 2).is_none()
+}
+
+/// Whether a design is that of a pair of registers.
+fn is_pair(alloc: Global, survey: &Survey<'_>) -> Result<bool, AllocError>
     requires { ModelsPass survey.now }
 {
-    let reached = survey.reached();
-    assert_eq!(rt; reached, [0, 1].as_slice());
-    assert_eq!(rt; survey.order(), [1, 0].as_slice());
-    assert_eq!(rt; survey.model_of(0, 1), Some(1));
-    assert_eq!(rt; survey.model_of(0, 2), None);
-    for k in reached {
-        expect_model(rt, survey, *k);
-    }
     let latches = count_latches(alloc, survey)?;
-    assert!(rt; latches.all == 2 && latches.defaulted == 0);
-    Ok(())
+    Ok(are_models(survey) && latches.all == 2 && latches.defaulted == 0)
+}
+
+/// Whether a design is accepted, and is that of a pair of registers.
+fn is_accepted_pair(alloc: Global, design: &Design) -> Result<bool, AllocError>
+    requires { IsWellFormed design.now }
+{
+    match check_models(alloc, design) {
+        Ok(survey) => is_pair(alloc, &survey),
+        Err(_) => Ok(false),
+    }
 }
 
 #[test]
 fn a_pair_of_registers_is_accepted(rt: HostRuntime) -> Result<(), Fail> {
-    let alloc = rt.alloc();
     let net = ".model t\n.inputs x d c\n.outputs v\n.subckt p a=x b=u c=c\n.subckt p a=u b=v c=c\n\
 .end\n.model p\n.inputs a c\n.outputs b\n.latch a b re c 1\n.end\n";
-    let pair = design_of(&rt, alloc, net);
-    match check_models(alloc, &pair) {
-        Ok(survey) => expect_pair(&rt, alloc, &survey)?,
-        Err(_) => panic!(rt; "it is refused"),
-    }
+    let design = design_of(&rt, rt.alloc(), net);
+    let accepted = is_accepted_pair(rt.alloc(), &design)?;
+    assert!(rt; accepted);
     Ok(())
 }
 

@@ -115,16 +115,11 @@ fn third(fault: &CheckFault) -> &[u8] {
 }
 
 /// Whether a fault tells this.
-fn tells(fault: &CheckFault, wanted: Told<'_>) -> bool {
+pub fn tells(fault: &CheckFault, wanted: Told<'_>) -> bool {
     let found = shown(fault);
     found.0 == wanted.0
         && found.1 == wanted.1
         && found.2 == wanted.2
         && third(fault) == wanted.3
         && found.3 == wanted.4
-}
-
-/// A fault tells this.
-pub fn expect_told(rt: &impl Abort, net: &str, fault: &CheckFault, wanted: Told<'_>) {
-    assert!(rt; tells(fault, wanted), "something else is told: {net}");
 }
