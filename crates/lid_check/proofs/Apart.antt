@@ -5,16 +5,16 @@ use Rattle.std.specs.Str.{bytes_eq}
 use Rattle.std.proofs.lemmas.Slice.Eq.{bytes_eq-Decides}
 use Rattle.std.proofs.lemmas.Option.{slice_get_within, slice_get-get_or}
 use Rattle.std.proofs.lemmas.List.Quantifiers.{position-Some}
-use Rattle.lid_models.proofs.Fixpoints.{find-position}
+use Rattle.lid_hierarchy.proofs.Fixpoints.{find-position}
 use Rattle.lid_design.specs.declared.Design.{Design}
-use Rattle.lid_design.specs.Network.{Source}
+use Rattle.lid_design.specs.Network.{Driver}
 use Rattle.lid_design.specs.Columns.{Column, column, drivers, model_at}
 use Rattle.lid_design.specs.Walks.{Among, Feeds}
 use Rattle.lid_design.specs.Models.{number_from}
 use Rattle.lid_design.specs.Places.{model_nets, columns}
 use Rattle.lid_design.specs.Loops.{IsInside, WalkInside, IsDependent}
-use Rattle.lid_order.specs.Graphs.{flag, WalkPast, IsReached}
-use Rattle.lid_columns.specs.Elaborations.{column_at, StartsAt, IsElaborated}
+use Rattle.lid_digraph.specs.Graphs.{flag, WalkPast, IsReached}
+use Rattle.lid_elab.specs.Elaborations.{column_at, StartsAt, IsElaborated}
 use Rattle.lid_check.specs.declared.pearls.Pearl.{Pearl}
 use Rattle.lid_check.specs.Pearls.{inputs_of, number_in, IsInputOf, Fits, is_marked, LeadsTo, IsCutOff, AreReachedIn}
 use Rattle.lid_check.proofs.Lists.{get_among}
@@ -53,7 +53,7 @@ option_some : {A B : Type 0} (f : A → B) (o : Option A) (b : B) → option_map
 option_some f None b h = absurd (let e : None ≡ Some b = h in cc)
 option_some f (Some a) b h = (a, refl, let e : Some (f a) ≡ Some b = h in cc)
 
-module _ (d : Design) (sources : List (Source ℕ)) (starts : List ℕ) (is : IsElaborated d sources starts) where
+module _ (d : Design) (network : List (Driver ℕ)) (starts : List ℕ) (is : IsElaborated d network starts) where
   net_column : (path : List ℕ) (pearl : Pearl) → IsPlaced d path pearl → (net : List ℕ) (k : ℕ) → number_in d pearl net ≡ Some k → slice_get (columns d) k ≡ Some (column path net)
   net_column path pearl placed net k number =
       let at = option_some (λ (j : ℕ). pearl.start + j) (position (bytes_eq net) (model_nets d pearl.model)) k number in
@@ -90,42 +90,42 @@ module _ (d : Design) (sources : List (Source ℕ)) (starts : List ℕ) (is : Is
       let zero_more : 0 + k ≡ k = omega arith in
       ap (slice_get (columns d)) (sym zero_more) ∙ here
 
-  pub fits : (path : List ℕ) (pearl : Pearl) → IsPlaced d path pearl → Fits d (length (graph d sources starts is)) pearl
+  pub fits : (path : List ℕ) (pearl : Pearl) → IsPlaced d path pearl → Fits d (length (graph d network starts is)) pearl
   fits path pearl placed = record {
     reached = (path, placed.number);
     below = λ j below.
         (let nets = model_nets d pearl.model in
         let here = placed.starts_at pearl.model j (get_or nets j []) placed.number (slice_get-get_or nets j [] below) in
-        let h = within d sources starts is (pearl.start + j) (column path (get_or nets j [])) here in
-        let long = graph_length d sources starts is in
+        let h = within d network starts is (pearl.start + j) (column path (get_or nets j [])) here in
+        let long = graph_length d network starts is in
         omega arith);
   }
 
   module _ (cut : List Bool) (pearl_path : List ℕ) (Out : List ℕ → Type 0)
       (edge : (a c : Column) → Feeds (drivers d) a c → IsInside pearl_path c.path → IsInside pearl_path a.path ⊎ Out a.path)
-      (cut_out : (k : ℕ) → k < length sources → flag cut k ≡ false → Out (column_at d k).path → ⊥)
-      (cut_in : (k : ℕ) → k < length sources → IsInside pearl_path (column_at d k).path → flag cut k ≡ false) where
+      (cut_out : (k : ℕ) → k < length network → flag cut k ≡ false → Out (column_at d k).path → ⊥)
+      (cut_in : (k : ℕ) → k < length network → IsInside pearl_path (column_at d k).path → flag cut k ≡ false) where
     abbrev g : List (List ℕ)
-    g = graph d sources starts is
+    g = graph d network starts is
 
-    no_out : (n a b : ℕ) → WalkPast g cut n a b → b < length sources → (Out (column_at d a).path → ⊥) → Out (column_at d b).path → ⊥
+    no_out : (n a b : ℕ) → WalkPast g cut n a b → b < length network → (Out (column_at d a).path → ⊥) → Out (column_at d b).path → ⊥
     no_out zero a b w below not_out out = not_out (subst (λ (k : ℕ). Out (column_at d k).path) (sym w) out)
     no_out (suc n) a b w below not_out out = cut_out b below w.3 out
 
-    past_inside : (n a k : ℕ) → WalkPast g cut n a k → k < length sources → IsInside pearl_path (column_at d k).path → (Out (column_at d a).path → ⊥) → WalkInside d pearl_path n (column_at d a) (column_at d k)
+    past_inside : (n a k : ℕ) → WalkPast g cut n a k → k < length network → IsInside pearl_path (column_at d k).path → (Out (column_at d a).path → ⊥) → WalkInside d pearl_path n (column_at d a) (column_at d k)
     past_inside zero a k w below inside not_out = (ap (column_at d) w, inside)
     past_inside (suc n) a k w below inside not_out =
-        let down = edge_down d sources starts is k w.0 w.2 in
+        let down = edge_down d network starts is k w.0 w.2 in
         by down.1 (past_inside n a w.0 w.1 down.0) (no_out n a w.0 w.1 down.0) (edge (column_at d w.0) (column_at d k) down.1 inside)
       where
         by : Feeds (drivers d) (column_at d w.0) (column_at d k) → (IsInside pearl_path (column_at d w.0).path → (Out (column_at d a).path → ⊥) → WalkInside d pearl_path n (column_at d a) (column_at d w.0)) → ((Out (column_at d a).path → ⊥) → Out (column_at d w.0).path → ⊥) → IsInside pearl_path (column_at d w.0).path ⊎ Out (column_at d w.0).path → WalkInside d pearl_path (suc n) (column_at d a) (column_at d k)
         by feeds before none (inl there) = (column_at d w.0, before there not_out, feeds, inside)
         by feeds before none (inr out) = absurd (none not_out out)
 
-    inside_past : (n : ℕ) (a : Column) (k : ℕ) → k < length sources → WalkInside d pearl_path n a (column_at d k) → (j : ℕ) × (j < length sources) × (column_at d j ≡ a) × WalkPast g cut n j k
+    inside_past : (n : ℕ) (a : Column) (k : ℕ) → k < length network → WalkInside d pearl_path n a (column_at d k) → (j : ℕ) × (j < length network) × (column_at d j ≡ a) × WalkPast g cut n j k
     inside_past zero a k below w = (k, below, sym w.0, refl)
     inside_past (suc n) a k below w =
-        let up = edge_up d sources starts is k w.0 below w.2 in
+        let up = edge_up d network starts is k w.0 below w.2 in
         let before = inside_past n a up.0 up.1 (subst (λ (c : Column). WalkInside d pearl_path n a c) (sym up.2) w.1) in
         (before.0, before.1, before.2, (up.0, before.3, up.3, cut_in k below w.3))
 
@@ -135,10 +135,10 @@ module _ (d : Design) (sources : List (Source ℕ)) (starts : List ℕ) (is : Is
 
     module _ (pearl : Pearl) (placed : IsPlaced d pearl_path pearl) (stays : Out pearl_path → ⊥) where
       at_path : (net : List ℕ) (k : ℕ) → number_in d pearl net ≡ Some k → column_at d k ≡ column pearl_path net
-      at_path net k number = column_is d sources starts is k (column pearl_path net) (net_column pearl_path pearl placed net k number)
+      at_path net k number = column_is d network starts is k (column pearl_path net) (net_column pearl_path pearl placed net k number)
 
-      below_end : (net : List ℕ) (k : ℕ) → number_in d pearl net ≡ Some k → k < length sources
-      below_end net k number = within d sources starts is k (column pearl_path net) (net_column pearl_path pearl placed net k number)
+      below_end : (net : List ℕ) (k : ℕ) → number_in d pearl net ≡ Some k → k < length network
+      below_end net k number = within d network starts is k (column pearl_path net) (net_column pearl_path pearl placed net k number)
 
       inside_own : (net : List ℕ) (k : ℕ) → number_in d pearl net ≡ Some k → IsInside pearl_path (column_at d k).path
       inside_own net k number = ([], ap (λ (c : Column). c.path) (at_path net k number))
@@ -147,16 +147,16 @@ module _ (d : Design) (sources : List (Source ℕ)) (starts : List ℕ) (is : Is
       output_column zero input output among w =
           let number = net_number pearl_path pearl placed input (input_net d pearl.model input among) in
           (number.0, net_column pearl_path pearl placed input number.0 number.1 ∙ ap Some w.0)
-      output_column (suc n) input output among w = fed_number d sources starts is w.0 (column pearl_path output) w.2
+      output_column (suc n) input output among w = fed_number d network starts is w.0 (column pearl_path output) w.2
 
       depends_leads : (input output : List ℕ) → Among input (inputs_of d pearl.model) → IsDependent d pearl_path input output → LeadsTo d g cut pearl input output
       depends_leads input output among (n, w) =
           let to = output_column n input output among w in
           let k = to.0 in
-          let below = within d sources starts is k (column pearl_path output) to.1 in
-          let col = column_is d sources starts is k (column pearl_path output) to.1 in
+          let below = within d network starts is k (column pearl_path output) to.1 in
+          let col = column_is d network starts is k (column pearl_path output) to.1 in
           let past = inside_past n (column pearl_path input) k below (subst (λ (c : Column). WalkInside d pearl_path n (column pearl_path input) c) (sym col) w) in
-          (past.0, k, column_number pearl_path pearl placed input past.0 (column_here d sources starts is past.0 past.1 ∙ ap Some past.2), column_number pearl_path pearl placed output k to.1, (n, past.3))
+          (past.0, k, column_number pearl_path pearl placed input past.0 (column_here d network starts is past.0 past.1 ∙ ap Some past.2), column_number pearl_path pearl placed output k to.1, (n, past.3))
 
       leads_depends : (input output : List ℕ) → LeadsTo d g cut pearl input output → IsDependent d pearl_path input output
       leads_depends input output (a, k, from, to, (n, walk)) =
@@ -181,8 +181,8 @@ module _ (d : Design) (sources : List (Source ℕ)) (starts : List ℕ) (is : Is
         reached_leads output on =
             let to = marked_number reached (number_in d pearl output) on in
             let k = to.0 in
-            let below : k < length sources = below_end output k to.1 in
-            let long = graph_length d sources starts is in
+            let below : k < length network = below_end output k to.1 in
+            let long = graph_length d network starts is in
             let back = (are_reached k (omega arith)).0 to.2 in
             let a = back.0 in
             let start = (are_starts a).0 back.1 in
@@ -190,7 +190,7 @@ module _ (d : Design) (sources : List (Source ℕ)) (starts : List ℕ) (is : Is
             let where_other = alone other start.1 in
             let input = start.2.0 in
             let from = start.2.2 in
-            let col_a : column_at d a ≡ column where_other.0 input = column_is d sources starts is a (column where_other.0 input) (net_column where_other.0 other where_other.1 input a from) in
+            let col_a : column_at d a ≡ column where_other.0 input = column_is d network starts is a (column where_other.0 input) (net_column where_other.0 other where_other.1 input a from) in
             let n = back.2.0 in
             let inside = past_inside n a k back.2.1 below (inside_own output k to.1) (λ out. where_other.2 (subst (λ (c : Column). Out c.path) col_a out)) in
             let begins : IsInside pearl_path where_other.0 = subst (λ (c : Column). IsInside pearl_path c.path) col_a (inside_start n (column_at d a) (column_at d k) inside) in
@@ -202,8 +202,8 @@ module _ (d : Design) (sources : List (Source ℕ)) (starts : List ℕ) (is : Is
 
         leads_reached : (output input : List ℕ) → Among input (inputs_of d pearl.model) → LeadsTo d g cut pearl input output → is_marked d pearl reached output ≡ true
         leads_reached output input among (a, k, from, to, reaching) =
-            let below : k < length sources = below_end output k to in
-            let long = graph_length d sources starts is in
+            let below : k < length network = below_end output k to in
+            let long = graph_length d network starts is in
             let on = (are_reached k (omega arith)).1 (a, (are_starts a).1 (pearl, here, (input, among, from)), reaching) in
             ap (λ (o : Option ℕ). option_map_or (flag reached) o false) to ∙ on
 

@@ -7,18 +7,18 @@ use Rattle.std.proofs.lemmas.List.{append-nil}
 use Rattle.std.proofs.lemmas.List.FromFn.{length-map-range_with_len, get_or-map-range_with_len}
 use Rattle.std.proofs.lemmas.Option.{slice_get_within, slice_get-get_or}
 use Rattle.std.proofs.lemmas.Bool.{ltb-true, ltb-false}
-use Rattle.lid_models.proofs.Fixpoints.{find-position}
+use Rattle.lid_hierarchy.proofs.Fixpoints.{find-position}
 use Rattle.lid_design.specs.declared.Design.{Design}
 use Rattle.lid_design.specs.declared.Model.{Model}
 use Rattle.lid_design.specs.declared.Inst.{Inst}
-use Rattle.lid_design.specs.Network.{Source}
+use Rattle.lid_design.specs.Network.{Driver}
 use Rattle.lid_design.specs.Columns.{Column, column, drivers, model_named, instance_model, model_at}
 use Rattle.lid_design.specs.Walks.{Among, Feeds}
 use Rattle.lid_design.specs.Models.{insts_of, number_named, instance_number, number_from}
 use Rattle.lid_design.specs.Places.{model_nets, columns}
 use Rattle.lid_design.specs.Loops.{IsInside, pearls}
-use Rattle.lid_order.specs.Graphs.{flag, IsReached}
-use Rattle.lid_columns.specs.Elaborations.{column_at, StartsAt, IsElaborated}
+use Rattle.lid_digraph.specs.Graphs.{flag, IsReached}
+use Rattle.lid_elab.specs.Elaborations.{column_at, StartsAt, IsElaborated}
 use Rattle.lid_check.specs.declared.pearls.Pearl.{Pearl}
 use Rattle.lid_check.specs.Pearls.{IsInputOf, Fits, IsCutOff, AreReachedIn, AreCutOff, ArePearls, count_cut}
 use Rattle.lid_check.proofs.Lists.{get_among, among_get}
@@ -97,10 +97,10 @@ among_all : {A : Type 0} (P : A → Type 0) (xs : List A) → ((x : A) → Among
 among_all P [] each = tt
 among_all P (x ∷ xs) each = (each x (inl refl), among_all P xs (λ y among. each y (inr among)))
 
-module _ (d : Design) (sources : List (Source ℕ)) (starts : List ℕ) (is : IsElaborated d sources starts)
+module _ (d : Design) (network : List (Driver ℕ)) (starts : List ℕ) (is : IsElaborated d network starts)
     (ps : List Pearl) (are : ArePearls d starts ps) where
   abbrev g : List (List ℕ)
-  g = graph d sources starts is
+  g = graph d network starts is
 
   module _ (none : length (insts_of d d.root) ≡ 0) where
     abbrev root : Pearl
@@ -122,7 +122,7 @@ module _ (d : Design) (sources : List (Source ℕ)) (starts : List ℕ) (is : Is
     root_model = refl
 
     module _ (cut starting reached : List Bool)
-        (uncut : (k : ℕ) → k < length sources → flag cut k ≡ false)
+        (uncut : (k : ℕ) → k < length network → flag cut k ≡ false)
         (are_starts : (k : ℕ) → (flag starting k ≡ true) ↔ IsInputOf d ps k)
         (are_reached : (k : ℕ) → k < length g → (flag reached k ≡ true) ↔ IsReached g cut starting k) where
       abbrev None_out : List ℕ → Type 0
@@ -137,13 +137,13 @@ module _ (d : Design) (sources : List (Source ℕ)) (starts : List ℕ) (is : Is
         each = λ p path pearl there here.
             (let path_is : path ≡ [] = one_among path [] (subst (λ (xs : List (List ℕ)). Among path xs) whole_pearls (get_among (pearls d) p path there)) in
             let pearl_is : pearl ≡ root = one_among pearl root (subst (λ (xs : List Pearl). Among pearl xs) (are.whole none) (get_among ps p pearl here)) in
-            let off = cut_off d sources starts is cut [] None_out (λ a c feeds inside. inl (anywhere a.path)) (λ k below free out. out) (λ k below inside. uncut k below) root root_placed (λ out. out) root_model in
+            let off = cut_off d network starts is cut [] None_out (λ a c feeds inside. inl (anywhere a.path)) (λ k below free out. out) (λ k below inside. uncut k below) root root_placed (λ out. out) root_model in
             subst (λ (q : List ℕ). IsCutOff d g cut q pearl) (sym path_is) (subst (λ (q : Pearl). IsCutOff d g cut [] q) (sym pearl_is) off));
         marks = λ p pearl here.
             (let among = get_among ps p pearl here in
             let pearl_is : pearl ≡ root = one_among pearl root (subst (λ (xs : List Pearl). Among pearl xs) (are.whole none) among) in
             let root_among : Among root ps = subst (λ (q : Pearl). Among q ps) pearl_is among in
-            let all = reached_in d sources starts is cut [] None_out (λ a c feeds inside. inl (anywhere a.path)) (λ k below free out. out) (λ k below inside. uncut k below) root root_placed (λ out. out) ps root_among
+            let all = reached_in d network starts is cut [] None_out (λ a c feeds inside. inl (anywhere a.path)) (λ k below free out. out) (λ k below inside. uncut k below) root root_placed (λ out. out) ps root_among
             (λ other among_other. let same : other ≡ root = one_among other root (subst (λ (xs : List Pearl). Among other xs) (are.whole none) among_other) in ([], subst (λ (q : Pearl). IsPlaced d [] q) (sym same) root_placed, (λ out. out), (λ inside. same)))
             starting reached are_starts are_reached in
             subst (λ (q : Pearl). AreReachedIn d g cut reached q) (sym pearl_is) all);
@@ -175,22 +175,22 @@ module _ (d : Design) (sources : List (Source ℕ)) (starts : List ℕ) (is : Is
       abbrev Root : List ℕ → Type 0
       Root path = path ≡ []
 
-      cut_out : (k : ℕ) → k < length sources → flag cut k ≡ false → Root (column_at d k).path → ⊥
+      cut_out : (k : ℕ) → k < length network → flag cut k ≡ false → Root (column_at d k).path → ⊥
       cut_out k below free root =
           let c = column_at d k in
-          let here : slice_get (columns d) k ≡ Some (column [] c.net) = column_here d sources starts is k below ∙ ap (λ (p : List ℕ). Some (column p c.net)) root in
-          let marked : flag cut k ≡ true = (are_cut k).1 (root_below d sources starts is k c.net here) in
+          let here : slice_get (columns d) k ≡ Some (column [] c.net) = column_here d network starts is k below ∙ ap (λ (p : List ℕ). Some (column p c.net)) root in
+          let marked : flag cut k ≡ true = (are_cut k).1 (root_below d network starts is k c.net here) in
           let f : true ≡ false = sym marked ∙ free in
           cc
 
-      cut_in : (i k : ℕ) → k < length sources → IsInside (i ∷ []) (column_at d k).path → flag cut k ≡ false
+      cut_in : (i k : ℕ) → k < length network → IsInside (i ∷ []) (column_at d k).path → flag cut k ≡ false
       cut_in i k below inside = by (flag cut k) refl
         where
           by : (b : Bool) → flag cut k ≡ b → flag cut k ≡ false
           by false e = e
           by true e =
-              let root = below_root d sources starts is k ((are_cut k).0 e) in
-              let col = column_is d sources starts is k (column [] (get_or (model_nets d d.root) k [])) root in
+              let root = below_root d network starts is k ((are_cut k).0 e) in
+              let col = column_is d network starts is k (column [] (get_or (model_nets d d.root) k [])) root in
               absurd (root_outside i (column_at d k).path inside (ap (λ (c : Column). c.path) col))
 
       stays : (i : ℕ) → Root (i ∷ []) → ⊥
@@ -221,11 +221,11 @@ module _ (d : Design) (sources : List (Source ℕ)) (starts : List ℕ) (is : Is
             let paths : Some (p ∷ []) ≡ Some path = sym (inst_path p (omega arith)) ∙ there in
             let path_is : p ∷ [] ≡ path = cc in
             let entry = inst_entry p pearl here in
-            let off = cut_off d sources starts is cut (p ∷ []) Root (edge p) cut_out (cut_in p) pearl entry.1 (stays p) (instance_at d p pearl.model entry.0) in
+            let off = cut_off d network starts is cut (p ∷ []) Root (edge p) cut_out (cut_in p) pearl entry.1 (stays p) (instance_at d p pearl.model entry.0) in
             subst (λ (q : List ℕ). IsCutOff d g cut q pearl) path_is off);
         marks = λ p pearl here.
             (let entry = inst_entry p pearl here in
-            reached_in d sources starts is cut (p ∷ []) Root (edge p) cut_out (cut_in p) pearl entry.1 (stays p) ps (get_among ps p pearl here) (alone p pearl here) starting reached are_starts are_reached);
+            reached_in d network starts is cut (p ∷ []) Root (edge p) cut_out (cut_in p) pearl entry.1 (stays p) ps (get_among ps p pearl here) (alone p pearl here) starting reached are_starts are_reached);
       }
 
   -- the root has no more columns than there are
@@ -243,9 +243,9 @@ module _ (d : Design) (sources : List (Source ℕ)) (starts : List ℕ) (is : Is
       by (inl none) = let e = cut_none d none in omega arith
       by (inr some) =
           let e = cut_some d (not_zero (length (insts_of d d.root)) some) in
-          let long = graph_length d sources starts is in
+          let long = graph_length d network starts is in
           let whole = is.whole in
-          let fits_in : length (model_nets d d.root) ≤ length (columns d) = few (length (model_nets d d.root)) (length (columns d)) (λ below. let h = slice_get_within (columns d) (length (columns d)) (column [] (get_or (model_nets d d.root) (length (columns d)) [])) (below_root d sources starts is (length (columns d)) below) in omega arith) in
+          let fits_in : length (model_nets d d.root) ≤ length (columns d) = few (length (model_nets d d.root)) (length (columns d)) (λ below. let h = slice_get_within (columns d) (length (columns d)) (column [] (get_or (model_nets d d.root) (length (columns d)) [])) (below_root d network starts is (length (columns d)) below) in omega arith) in
           omega arith
 
   pub pearls_fit : AllByRecursion (Fits d (length g)) ps
@@ -254,10 +254,10 @@ module _ (d : Design) (sources : List (Source ℕ)) (starts : List ℕ) (is : Is
       by : (length (insts_of d d.root) ≡ 0) ⊎ (0 < length (insts_of d d.root)) → (pearl : Pearl) → Among pearl ps → Fits d (length g) pearl
       by (inl none) pearl among =
           let same : pearl ≡ root none = one_among none pearl (root none) (subst (λ (xs : List Pearl). Among pearl xs) (are.whole none) among) in
-          subst (λ (q : Pearl). Fits d (length g) q) (sym same) (fits d sources starts is [] (root none) (root_placed none))
+          subst (λ (q : Pearl). Fits d (length g) q) (sym same) (fits d network starts is [] (root none) (root_placed none))
       by (inr some) pearl among =
           let at = among_get ps pearl among in
-          fits d sources starts is (at.0 ∷ []) pearl (inst_entry some at.0 pearl at.1).1
+          fits d network starts is (at.0 ∷ []) pearl (inst_entry some at.0 pearl at.1).1
 
   module _ (cut starting reached : List Bool)
       (are_cut : (k : ℕ) → (flag cut k ≡ true) ↔ (k < count_cut d))
@@ -266,7 +266,7 @@ module _ (d : Design) (sources : List (Source ℕ)) (starts : List ℕ) (is : Is
     pub all_cut_off : AreCutOff d g cut reached ps
     all_cut_off = by (zero_or_more (length (insts_of d d.root)))
       where
-        uncut : count_cut d ≡ 0 → (k : ℕ) → k < length sources → flag cut k ≡ false
+        uncut : count_cut d ≡ 0 → (k : ℕ) → k < length network → flag cut k ≡ false
         uncut none k below = pick (flag cut k) refl
           where
             pick : (b : Bool) → flag cut k ≡ b → flag cut k ≡ false

@@ -9,7 +9,7 @@ use Rattle.lid_design.specs.declared.Model.{Model}
 use Rattle.lid_design.specs.declared.Cell.{Cell}
 use Rattle.lid_design.specs.declared.Cell.TheVariants.{Names, Latch}
 use Rattle.lid_design.specs.declared.Inst.{Inst}
-use Rattle.lid_design.specs.Network.{Source, given, held, made, same}
+use Rattle.lid_design.specs.Network.{Driver, from_input, from_latch, from_cover, from_connection}
 use Rattle.lid_design.specs.Columns.{Column, column, is_among, model_named, model_at, is_clock, data_inputs, first_bit, places_of, cell_at, output_at, actuals_of, port_at, drivers_in, drivers}
 use Rattle.lid_design.specs.Walks.{Among, read_now, Feeds}
 use Rattle.lid_design.specs.Models.{cell_names, actual_names, occurrences, firsts, nets, insts_of, number_named, instance_number, number_from}
@@ -127,17 +127,17 @@ module _ (d : Design) where
   abbrev pub IsNear : List ℕ → List ℕ → Type 0
   IsNear from to = (from ≡ to) ⊎ ((i : ℕ) × (from ≡ i ∷ to)) ⊎ ((i : ℕ) × (to ≡ i ∷ from))
 
-  nothing_given : (net : List ℕ) (k : ℕ) (names : List (List ℕ)) (s : Source Column) (a : Column) → Among s (places_of net k names) → Among a (read_now s) → ⊥
+  nothing_given : (net : List ℕ) (k : ℕ) (names : List (List ℕ)) (s : Driver Column) (a : Column) → Among s (places_of net k names) → Among a (read_now s) → ⊥
   nothing_given net k [] s a among read = among
   nothing_given net k (name ∷ names) s a among read = by (bytes_eq name net) among (λ later. nothing_given net (k + 1) names s a later read)
     where
-      by : (b : Bool) → Among s (cond b (given k ∷ []) [] ++ places_of net (k + 1) names) → (Among s (places_of net (k + 1) names) → ⊥) → ⊥
-      by true (inl e) next = subst (λ (t : Source Column). Among a (read_now t)) e read
+      by : (b : Bool) → Among s (cond b (from_input k ∷ []) [] ++ places_of net (k + 1) names) → (Among s (places_of net (k + 1) names) → ⊥) → ⊥
+      by true (inl e) next = subst (λ (t : Driver Column). Among a (read_now t)) e read
       by true (inr later) next = next later
       by false later next = next later
 
-  one_same : (b : Bool) (s : Source Column) (a from : Column) → Among s (cond b (same from ∷ []) []) → Among a (read_now s) → a ≡ from
-  one_same true s a from (inl e) read = by (subst (λ (t : Source Column). Among a (read_now t)) e read)
+  one_same : (b : Bool) (s : Driver Column) (a from : Column) → Among s (cond b (from_connection from ∷ []) []) → Among a (read_now s) → a ≡ from
+  one_same true s a from (inl e) read = by (subst (λ (t : Driver Column). Among a (read_now t)) e read)
     where
       by : (a ≡ from) ⊎ ⊥ → a ≡ from
       by (inl is) = is
@@ -145,27 +145,27 @@ module _ (d : Design) where
   one_same true s a from (inr none) read = absurd none
   one_same false s a from none read = absurd none
 
-  cell_near : (path net : List ℕ) (cell : Cell) (s : Source Column) (a : Column) → Among s (cell_at path net cell) → Among a (read_now s) → a.path ≡ path
+  cell_near : (path net : List ℕ) (cell : Cell) (s : Driver Column) (a : Column) → Among s (cell_at path net cell) → Among a (read_now s) → a.path ≡ path
   cell_near path net (Names inputs out cover) s a among read = by (bytes_eq out net) among
     where
-      by : (b : Bool) → Among s (cond b (made cover (map (column path) inputs) ∷ []) []) → a.path ≡ path
-      by true (inl e) = let found = map_among (column path) a inputs (subst (λ (t : Source Column). Among a (read_now t)) e read) in ap (λ (c : Column). c.path) found.2
+      by : (b : Bool) → Among s (cond b (from_cover cover (map (column path) inputs) ∷ []) []) → a.path ≡ path
+      by true (inl e) = let found = map_among (column path) a inputs (subst (λ (t : Driver Column). Among a (read_now t)) e read) in ap (λ (c : Column). c.path) found.2
       by true (inr none) = absurd none
       by false none = absurd none
   cell_near path net (Latch input out kind control init) s a among read = by (bytes_eq out net) among
     where
-      by : (b : Bool) → Among s (cond b (held (first_bit init) (column path input) ∷ []) []) → a.path ≡ path
-      by true (inl e) = absurd (subst (λ (t : Source Column). Among a (read_now t)) e read)
+      by : (b : Bool) → Among s (cond b (from_latch (first_bit init) (column path input) ∷ []) []) → a.path ≡ path
+      by true (inl e) = absurd (subst (λ (t : Driver Column). Among a (read_now t)) e read)
       by true (inr none) = absurd none
       by false none = absurd none
 
-  port_near : (m : Model) (path net : List ℕ) (s : Source Column) (a : Column) → Among s (port_at d m path net) → Among a (read_now s) → (i : ℕ) × (path ≡ i ∷ a.path)
+  port_near : (m : Model) (path net : List ℕ) (s : Driver Column) (a : Column) → Among s (port_at d m path net) → Among a (read_now s) → (i : ℕ) × (path ≡ i ∷ a.path)
   port_near m [] net s a among read = absurd (nothing_given net 0 (data_inputs d m) s a among read)
   port_near m (i ∷ up) net s a among read = by (is_among net m.inputs) among
     where
       from : (inst : Inst) → Among s (actuals_of up net inst) → (j : ℕ) × (i ∷ up ≡ j ∷ a.path)
       from inst here =
-          let found = flat_among (λ b. cond (bytes_eq b.formal net) (same (column up b.actual) ∷ []) []) s inst.binds here in
+          let found = flat_among (λ b. cond (bytes_eq b.formal net) (from_connection (column up b.actual) ∷ []) []) s inst.binds here in
           let is = one_same (bytes_eq found.0.formal net) s a (column up found.0.actual) found.2 read in
           (i, ap (λ (c : Column). i ∷ c.path) (sym is))
 
@@ -177,13 +177,13 @@ module _ (d : Design) where
       by true here = some (option_and_then (λ around. slice_get around.insts i) (model_at d up)) here
       by false none = absurd none
 
-  output_near : (path net : List ℕ) (p : ℕ × Inst) (s : Source Column) (a : Column) → Among s (output_at d path net p) → Among a (read_now s) → a.path ≡ p.0 ∷ path
+  output_near : (path net : List ℕ) (p : ℕ × Inst) (s : Driver Column) (a : Column) → Among s (output_at d path net p) → Among a (read_now s) → a.path ≡ p.0 ∷ path
   output_near path net p s a among read = by (model_named d p.1.model) among
     where
-      by : (o : Option Model) → Among s (option_map_or (λ m. flat_map (λ b. cond (bytes_eq b.actual net && is_among b.formal m.outputs) (same (column (p.0 ∷ path) b.formal) ∷ []) []) p.1.binds) o []) → a.path ≡ p.0 ∷ path
+      by : (o : Option Model) → Among s (option_map_or (λ m. flat_map (λ b. cond (bytes_eq b.actual net && is_among b.formal m.outputs) (from_connection (column (p.0 ∷ path) b.formal) ∷ []) []) p.1.binds) o []) → a.path ≡ p.0 ∷ path
       by None none = absurd none
       by (Some m) here =
-          let found = flat_among (λ b. cond (bytes_eq b.actual net && is_among b.formal m.outputs) (same (column (p.0 ∷ path) b.formal) ∷ []) []) s p.1.binds here in
+          let found = flat_among (λ b. cond (bytes_eq b.actual net && is_among b.formal m.outputs) (from_connection (column (p.0 ∷ path) b.formal) ∷ []) []) s p.1.binds here in
           let is = one_same (bytes_eq found.0.actual net && is_among found.0.formal m.outputs) s a (column (p.0 ∷ path) found.0.formal) found.2 read in
           ap (λ (c : Column). c.path) is
 

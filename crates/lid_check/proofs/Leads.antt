@@ -10,7 +10,7 @@ use Rattle.lid_design.specs.Columns.{data_inputs}
 use Rattle.lid_design.specs.Models.{IsReached}
 use Rattle.lid_design.specs.Walks.{Among}
 use Rattle.lid_design.specs.Loops.{pearls}
-use Rattle.lid_order.specs.Graphs.{flag, IsReaching}
+use Rattle.lid_digraph.specs.Graphs.{flag, IsReaching}
 use Rattle.lid_rules.specs.declared.fault.CheckFault.{CheckFault}
 use Rattle.lid_rules.specs.declared.fault.CheckFault.TheVariants.{OutputFromInput}
 use Rattle.lid_rules.specs.Acceptance.{ModelsPass}

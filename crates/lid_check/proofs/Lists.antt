@@ -2,7 +2,7 @@
 use Rattle.std.proofs.Common.{◌≡◌, ℕ, zero, suc, List, [], ◌∷◌, map, Some, None, slice_get, inl, inr, refl, sym, ap, subst}
 use Rattle.std.specs.List.{AllByRecursion}
 use Rattle.lid_design.specs.Walks.{Among}
-use Rattle.lid_order.specs.Graphs.{Among as AmongNumbers}
+use Rattle.lid_digraph.specs.Graphs.{Among as AmongNumbers}
 
 pub to_numbers : (x : ℕ) (xs : List ℕ) → Among x xs → AmongNumbers x xs
 to_numbers x [] among = among

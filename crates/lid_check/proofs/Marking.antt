@@ -7,7 +7,7 @@ use Rattle.lid_design.specs.Columns.{is_clock, data_inputs}
 use Rattle.lid_design.specs.Models.{IsReached, is_clock_of, instance_number, number_from}
 use Rattle.lid_design.specs.Walks.{Among}
 use Rattle.lid_design.proofs.Tables.{among-left, among-right}
-use Rattle.lid_order.specs.Graphs.{flag}
+use Rattle.lid_digraph.specs.Graphs.{flag}
 use Rattle.lid_check.specs.declared.pearls.Pearl.{Pearl}
 use Rattle.lid_check.specs.Pearls.{inputs_of, number_in, IsNumberOf, IsInputOf}
 

@@ -17,10 +17,10 @@ use Rattle.lid_design.specs.WellFormed.{IsWellFormed}
 use Rattle.lid_design.proofs.Tables.{among-left, among-right}
 use Rattle.lid_rules.specs.Conditions.{is_twice, is_duplicate, duplicate_in, duplicate_name, unknown_model}
 use Rattle.lid_rules.specs.Acceptance.{ModelsPass, fault_before_recursion}
-use Rattle.lid_columns.proofs.Names.{same_bytes, bytes_same, to_among, from_among, among-filter, none_found, count-cons, count-some}
-use Rattle.lid_columns.proofs.Passing.{IsSound, sound_model, or_none, none_told, map_none}
-use Rattle.lid_columns.proofs.Wired.{firsts-among}
-use Rattle.lid_columns.proofs.Judged.{no_limit, few_nets}
+use Rattle.lid_elab.proofs.Names.{same_bytes, bytes_same, to_among, from_among, among-filter, none_found, count-cons, count-some}
+use Rattle.lid_elab.proofs.Passing.{IsSound, sound_model, or_none, none_told, map_none}
+use Rattle.lid_elab.proofs.Wired.{firsts-among}
+use Rattle.lid_elab.proofs.Judged.{no_limit, few_nets}
 
 -- an output occurs, and is read
 output_occurs : (m : Model) (net : List ℕ) → Among net m.outputs → Among net (occurrences m)

@@ -9,7 +9,7 @@ use Rattle.lid_design.specs.Models.{IsReached, insts_of, instance_number}
 use Rattle.lid_design.specs.Places.{model_nets}
 use Rattle.lid_design.specs.Loops.{pearls, IsDependent}
 use Rattle.lid_design.specs.Walks.{Among}
-use Rattle.lid_order.specs.Graphs.{flag, IsReaching, IsReached as IsReachedFrom}
+use Rattle.lid_digraph.specs.Graphs.{flag, IsReaching, IsReached as IsReachedFrom}
 use Rattle.lid_check.specs.declared.pearls.Pearl.{Pearl}
 
 -- the data inputs of a model, by its number

@@ -2,7 +2,7 @@
 
 ghost use Rattle.std.specs.Prelude.{◌≡◌, ◌≤◌, Some, length, map, slice_get, IfOk};
 ghost use Rattle.lid_design.specs.Walks.{read_now};
-ghost use Rattle.lid_columns.specs.Elaborations.{shown_driver, IsElaborated};
+ghost use Rattle.lid_elab.specs.Elaborations.{shown_driver, IsElaborated};
 ghost use Rattle.lid_rules.specs.Acceptance.{ModelsPass};
 ghost use Rattle.lid_check.specs.Acceptance.{TellsLoop, TellsDependence};
 ghost use Rattle.lid_check.specs.Pearls.{inputs_of};
@@ -11,10 +11,10 @@ ghost use Rattle.lid_check.specs.Flaws.{IsFirstOnLoop, IsFirstDependence, IsFirs
 use crate::outputs::{Lead, find_dependence};
 use crate::pearls::find_inputs;
 use lid_base::{Items, Name};
-use lid_columns::{Elaboration, elaborate, find_column, find_reads};
-use lid_models::Survey;
+use lid_elab::{Elaboration, elaborate, find_column, find_reads};
+use lid_hierarchy::Survey;
 use lid_names::copy_name;
-use lid_order::{Found, find_order};
+use lid_digraph::{Found, find_order};
 use lid_rules::CheckFault;
 use std::alloc::{AllocError, Global};
 

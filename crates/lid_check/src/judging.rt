@@ -11,7 +11,7 @@ use crate::pearls::find_inputs;
 use lid_base::{Items, Name};
 use lid_design::Design;
 use lid_judge::{check_models, count_latches};
-use lid_models::Survey;
+use lid_hierarchy::Survey;
 use lid_rules::CheckFault;
 use std::alloc::Global;
 

@@ -4,8 +4,8 @@ ghost use Rattle.std.specs.Prelude.{◌≡◌, ◌≤◌, ℕ, true, List, lengt
 ghost use Rattle.std.specs.List.{AllByRecursion};
 ghost use Rattle.std.specs.Option.{MatchOption};
 ghost use Rattle.lid_design.specs.Walks.{Among, read_now};
-ghost use Rattle.lid_order.specs.Graphs.{IsGraph, IsOrder};
-ghost use Rattle.lid_columns.specs.Elaborations.{shown_driver, IsElaborated};
+ghost use Rattle.lid_digraph.specs.Graphs.{IsGraph, IsOrder};
+ghost use Rattle.lid_elab.specs.Elaborations.{shown_driver, IsElaborated};
 ghost use Rattle.lid_check.specs.Pearls.{inputs_of, is_marked, Fits, IsFirstMarked, AreUnmarked, LeadsTo, AreReachedIn, AreCutOff, AreLed, CutsOff, count_cut, IsFirstInput};
 ghost use Rattle.lid_check.specs.Flaws.{FindsLead, FindsDependence};
 
@@ -13,9 +13,9 @@ use crate::pearls::{
     Pearl, find_inputs, find_starts, is_marked, list_pearls, mark_first, number_of,
 };
 use lid_base::{Items, Name};
-use lid_columns::Elaboration;
-use lid_models::Survey;
-use lid_order::{find_reached, find_reaching};
+use lid_elab::Elaboration;
+use lid_hierarchy::Survey;
+use lid_digraph::{find_reached, find_reaching};
 use std::alloc::{AllocError, Global};
 
 /// An output of a pearl that depends on a data input of it, by their places and the number of the

@@ -3,11 +3,11 @@
 ghost use Rattle.std.specs.Prelude.{◌≡◌, ◌⊎◌, ◌↔◌, ◌+◌, ◌<◌, ◌≤◌, ℕ, true, false, not, length, filter, IfOk, OnOk};
 ghost use Rattle.std.specs.List.{AllByRecursion};
 ghost use Rattle.lid_design.specs.Models.{IsReached, insts_of, is_clock_of};
-ghost use Rattle.lid_order.specs.Graphs.{flag};
+ghost use Rattle.lid_digraph.specs.Graphs.{flag};
 ghost use Rattle.lid_check.specs.Pearls.{inputs_of, number_in, IsNumberOf, IsInputOf, Fits, is_marked, ArePearls};
 
 use lid_base::{Items, Name};
-use lid_models::Survey;
+use lid_hierarchy::Survey;
 use lid_names::copy_name;
 use std::alloc::{AllocError, Global};
 

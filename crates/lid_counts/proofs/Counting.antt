@@ -10,7 +10,7 @@ use Rattle.lid_design.specs.declared.Inst.{Inst}
 use Rattle.lid_design.specs.WellFormed.{IsWellFormed}
 use Rattle.lid_design.specs.Walks.{Among}
 use Rattle.lid_design.specs.Models.{number_named, insts_of, instance_number, number_from, IsReached}
-use Rattle.lid_models.specs.Surveys.{StandsAfterItsModels, IsModelOrder}
+use Rattle.lid_hierarchy.specs.Surveys.{StandsAfterItsModels, IsModelOrder}
 use Rattle.lid_counts.specs.declared.counts.Measure.{Measure}
 use Rattle.lid_counts.specs.declared.counts.Measure.TheVariants.{Depth, Cells, Nets, Latches, Defaulted}
 use Rattle.lid_counts.specs.Counts.{own, joined, with_inst, with_insts, count_by_subs, count_within, count_of}

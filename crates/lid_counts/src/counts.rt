@@ -4,7 +4,7 @@ ghost use Rattle.lid_design.specs.Places.{is_latch, is_defaulted, is_open};
 ghost use Rattle.lid_counts.specs.Counts.{own, joined, with_inst, count_by_subs, count_of, count_at_root};
 
 use lid_design::{Cell, Init, Inst, Model};
-use lid_models::Survey;
+use lid_hierarchy::Survey;
 use lid_names::model_at;
 use std::alloc::{AllocError, Global};
 

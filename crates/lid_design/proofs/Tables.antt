@@ -3,7 +3,7 @@
 use Rattle.std.proofs.Common.{◌≡◌, ℕ, zero, suc, ◌<◌, ◌≤◌, inl, inr, Bool, false, List, [], ◌∷◌, ◌++◌, length, map, get_or, refl, sym, ◌∙◌, ap, subst, arith}
 use Rattle.std.specs.List.{AllByRecursion}
 use Rattle.lid_cover.specs.Cover.{cover_value}
-use Rattle.lid_design.specs.Network.{Source, given, held, made, same, Table, latch_bit, bit_of, IsStrict}
+use Rattle.lid_design.specs.Network.{Driver, from_input, from_latch, from_cover, from_connection, Table, latch_bit, bit_of, IsStrict}
 use Rattle.lid_design.specs.Walks.{Among, read_now, read_before, Feeds, Walk, HasNoWalk, WalksEnd, IsDriven, IsDrivenOnce, AreReadsDriven, HasTable, HasOneTable}
 
 -- a list is mapped alike by functions that agree on it
@@ -14,15 +14,15 @@ map-agree f g (x ∷ xs) agree =
     let tail : map f xs ≡ map g xs = map-agree f g xs (λ a i. agree a (inr i)) in
     cc
 
--- what a source gives, from the input row, the latch bits and the bits of the same row
-abbrev pub bit_by : {C : Type 0} → List Bool → (Bool → C → Bool) → (C → Bool) → Source C → Bool
-bit_by row latch now (given j) = get_or row j false
-bit_by row latch now (held first input) = latch first input
-bit_by row latch now (made cover inputs) = cover_value cover (map now inputs)
-bit_by row latch now (same c) = now c
+-- what a driver gives, from the input row, the latch bits and the bits of the same row
+abbrev pub bit_by : {C : Type 0} → List Bool → (Bool → C → Bool) → (C → Bool) → Driver C → Bool
+bit_by row latch now (from_input j) = get_or row j false
+bit_by row latch now (from_latch first input) = latch first input
+bit_by row latch now (from_cover cover inputs) = cover_value cover (map now inputs)
+bit_by row latch now (from_connection c) = now c
 
 -- what the first driver gives
-abbrev pub first_by : {C : Type 0} → (Source C → Bool) → List (Source C) → Bool
+abbrev pub first_by : {C : Type 0} → (Driver C → Bool) → List (Driver C) → Bool
 first_by bit [] = false
 first_by bit (s ∷ ss) = bit s
 
@@ -31,28 +31,28 @@ abbrev pub latch_by : {C : Type 0} → Table C → ℕ → Bool → C → Bool
 latch_by b zero first input = first
 latch_by b (suc t) first input = b t input
 
-bit_by-agree : {C : Type 0} (row : List Bool) (latch : Bool → C → Bool) (f g : C → Bool) (s : Source C) → ((a : C) → Among a (read_now s) → f a ≡ g a) → bit_by row latch f s ≡ bit_by row latch g s
-bit_by-agree row latch f g (given j) agree = refl
-bit_by-agree row latch f g (held first input) agree = refl
-bit_by-agree row latch f g (made cover inputs) agree = ap (cover_value cover) (map-agree f g inputs agree)
-bit_by-agree row latch f g (same c) agree = agree c (inl refl)
+bit_by-agree : {C : Type 0} (row : List Bool) (latch : Bool → C → Bool) (f g : C → Bool) (s : Driver C) → ((a : C) → Among a (read_now s) → f a ≡ g a) → bit_by row latch f s ≡ bit_by row latch g s
+bit_by-agree row latch f g (from_input j) agree = refl
+bit_by-agree row latch f g (from_latch first input) agree = refl
+bit_by-agree row latch f g (from_cover cover inputs) agree = ap (cover_value cover) (map-agree f g inputs agree)
+bit_by-agree row latch f g (from_connection c) agree = agree c (inl refl)
 
-first_by-agree : {C : Type 0} (f g : Source C → Bool) (ss : List (Source C)) → ((s : Source C) → Among s ss → f s ≡ g s) → first_by f ss ≡ first_by g ss
+first_by-agree : {C : Type 0} (f g : Driver C → Bool) (ss : List (Driver C)) → ((s : Driver C) → Among s ss → f s ≡ g s) → first_by f ss ≡ first_by g ss
 first_by-agree f g [] agree = refl
 first_by-agree f g (s ∷ ss) agree = agree s (inl refl)
 
 -- a bit that the first of at most one driver gives is that of each
-all_from_first : {C : Type 0} (v : Bool) (bit : Source C → Bool) (ss : List (Source C)) → length ss ≤ 1 → v ≡ first_by bit ss → AllByRecursion (λ s. v ≡ bit s) ss
+all_from_first : {C : Type 0} (v : Bool) (bit : Driver C → Bool) (ss : List (Driver C)) → length ss ≤ 1 → v ≡ first_by bit ss → AllByRecursion (λ s. v ≡ bit s) ss
 all_from_first v bit [] once e = tt
 all_from_first v bit (s ∷ []) once e = (e, tt)
 all_from_first v bit (s ∷ r ∷ ss) once e = absurd (omega arith)
 
--- two tables give a source's bit alike where they agree on what it reads
-bit_of-agree : {C : Type 0} (rows : List (List Bool)) (b b' : Table C) (t : ℕ) (s : Source C) → ((a : C) → Among a (read_now s) → b t a ≡ b' t a) → ((first : Bool) (a : C) → Among a (read_before s) → latch_bit b first a t ≡ latch_bit b' first a t) → bit_of rows b t s ≡ bit_of rows b' t s
-bit_of-agree rows b b' t (given j) now before = refl
-bit_of-agree rows b b' t (held first input) now before = before first input (inl refl)
-bit_of-agree rows b b' t (made cover inputs) now before = ap (cover_value cover) (map-agree (b t) (b' t) inputs now)
-bit_of-agree rows b b' t (same c) now before = now c (inl refl)
+-- two tables give a driver's bit alike where they agree on what it reads
+bit_of-agree : {C : Type 0} (rows : List (List Bool)) (b b' : Table C) (t : ℕ) (s : Driver C) → ((a : C) → Among a (read_now s) → b t a ≡ b' t a) → ((first : Bool) (a : C) → Among a (read_before s) → latch_bit b first a t ≡ latch_bit b' first a t) → bit_of rows b t s ≡ bit_of rows b' t s
+bit_of-agree rows b b' t (from_input j) now before = refl
+bit_of-agree rows b b' t (from_latch first input) now before = before first input (inl refl)
+bit_of-agree rows b b' t (from_cover cover inputs) now before = ap (cover_value cover) (map-agree (b t) (b' t) inputs now)
+bit_of-agree rows b b' t (from_connection c) now before = now c (inl refl)
 
 -- of a list with an item, one item
 some_item : {A : Type 0} (xs : List A) → 0 < length xs → (x : A) × Among x xs
@@ -74,7 +74,7 @@ pub among-right : {A : Type 0} (x : A) (xs ys : List A) → Among x ys → Among
 among-right x [] ys i = i
 among-right x (z ∷ zs) ys i = inr (among-right x zs ys i)
 
-module _ {C : Type 0} (drivers : C → List (Source C)) where
+module _ {C : Type 0} (drivers : C → List (Driver C)) where
   -- a row after so many steps
   abbrev pub settled : List Bool → (Bool → C → Bool) → ℕ → C → Bool
   settled row latch zero c = false
@@ -95,12 +95,12 @@ module _ {C : Type 0} (drivers : C → List (Source C)) where
       (drivers c)
       (λ s i. bit_by-agree row latch (settled row latch k) (settled row latch (suc k)) s (λ a j. settled-stays row latch k a (λ z w. none z (a, w, (s, i, j)))))
 
-  bit_of-table : (n : ℕ) (rows : List (List Bool)) (t : ℕ) (s : Source C) → bit_by (get_or rows t []) (latch_by (table_of n rows) t) (table_of n rows t) s ≡ bit_of rows (table_of n rows) t s
-  bit_of-table n rows t (given j) = refl
-  bit_of-table n rows zero (held first input) = refl
-  bit_of-table n rows (suc t) (held first input) = refl
-  bit_of-table n rows t (made cover inputs) = refl
-  bit_of-table n rows t (same c) = refl
+  bit_of-table : (n : ℕ) (rows : List (List Bool)) (t : ℕ) (s : Driver C) → bit_by (get_or rows t []) (latch_by (table_of n rows) t) (table_of n rows t) s ≡ bit_of rows (table_of n rows) t s
+  bit_of-table n rows t (from_input j) = refl
+  bit_of-table n rows zero (from_latch first input) = refl
+  bit_of-table n rows (suc t) (from_latch first input) = refl
+  bit_of-table n rows t (from_cover cover inputs) = refl
+  bit_of-table n rows t (from_connection c) = refl
 
   table_of-settled : (n : ℕ) (rows : List (List Bool)) (t : ℕ) (c : C) → table_of n rows t c ≡ settled (get_or rows t []) (latch_by (table_of n rows) t) n c
   table_of-settled n rows zero c = refl

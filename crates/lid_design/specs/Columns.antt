@@ -10,7 +10,7 @@ use Rattle.lid_design.specs.declared.Cell.TheVariants.{Names, Latch}
 use Rattle.lid_design.specs.declared.Init.{Init}
 use Rattle.lid_design.specs.declared.Init.TheVariants.{Zero, One, DontCare, Unknown}
 use Rattle.lid_design.specs.declared.Inst.{Inst}
-use Rattle.lid_design.specs.Network.{Source, given, held, made, same, Table, IsStrict, from_each}
+use Rattle.lid_design.specs.Network.{Driver, from_input, from_latch, from_cover, from_connection, Table, IsStrict, from_each}
 
 -- a net of an instance. The path has the instance numbers from the innermost to the root's, so the
 -- path of the instance around it is the tail
@@ -73,32 +73,32 @@ first_bit DontCare = false
 first_bit Unknown = false
 
 -- the places of a name among names, as inputs of the root
-abbrev pub places_of : List ℕ → ℕ → List (List ℕ) → List (Source Column)
+abbrev pub places_of : List ℕ → ℕ → List (List ℕ) → List (Driver Column)
 places_of net k [] = []
-places_of net k (name ∷ names) = (if bytes_eq name net then given k ∷ [] else []) ++ places_of net (k + 1) names
+places_of net k (name ∷ names) = (if bytes_eq name net then from_input k ∷ [] else []) ++ places_of net (k + 1) names
 
 -- what a cell drives a net with
-abbrev pub cell_at : List ℕ → List ℕ → Cell → List (Source Column)
-cell_at path net (Names inputs out cover) = if bytes_eq out net then made cover (map (column path) inputs) ∷ [] else []
+abbrev pub cell_at : List ℕ → List ℕ → Cell → List (Driver Column)
+cell_at path net (Names inputs out cover) = if bytes_eq out net then from_cover cover (map (column path) inputs) ∷ [] else []
 cell_at path net (Latch input out kind control init) =
-    if bytes_eq out net then held (first_bit init) (column path input) ∷ [] else []
+    if bytes_eq out net then from_latch (first_bit init) (column path input) ∷ [] else []
 
 -- the bindings of a net to an output formal drive it with that formal
-abbrev pub output_at : Design → List ℕ → List ℕ → ℕ × Inst → List (Source Column)
+abbrev pub output_at : Design → List ℕ → List ℕ → ℕ × Inst → List (Driver Column)
 output_at d path net p =
     option_map_or
     (λ m. flat_map
-    (λ b. if bytes_eq b.actual net && is_among b.formal m.outputs then same (column (p.0 ∷ path) b.formal) ∷ [] else [])
+    (λ b. if bytes_eq b.actual net && is_among b.formal m.outputs then from_connection (column (p.0 ∷ path) b.formal) ∷ [] else [])
     p.1.binds)
     (model_named d p.1.model)
     []
 
 -- the bindings of a formal, each with its actual around the instance
-abbrev pub actuals_of : List ℕ → List ℕ → Inst → List (Source Column)
-actuals_of up net inst = flat_map (λ b. if bytes_eq b.formal net then same (column up b.actual) ∷ [] else []) inst.binds
+abbrev pub actuals_of : List ℕ → List ℕ → Inst → List (Driver Column)
+actuals_of up net inst = flat_map (λ b. if bytes_eq b.formal net then from_connection (column up b.actual) ∷ [] else []) inst.binds
 
 -- what drives an input: at the root the row, elsewhere the actual that it is bound to
-abbrev pub port_at : Design → Model → List ℕ → List ℕ → List (Source Column)
+abbrev pub port_at : Design → Model → List ℕ → List ℕ → List (Driver Column)
 port_at d m [] net = places_of net 0 (data_inputs d m)
 port_at d m (i ∷ up) net =
     if is_among net m.inputs
@@ -106,7 +106,7 @@ port_at d m (i ∷ up) net =
     else []
 
 -- what drives a net of the model at a path; a clock name has no column
-abbrev pub drivers_in : Design → List ℕ → List ℕ → Model → List (Source Column)
+abbrev pub drivers_in : Design → List ℕ → List ℕ → Model → List (Driver Column)
 drivers_in d path net m =
     if is_clock d m net
     then []
@@ -115,7 +115,7 @@ drivers_in d path net m =
     ++ flat_map (output_at d path net) (enumerate_from 0 m.insts)
 
 -- what drives a column
-unfoldable pub drivers : Design → Column → List (Source Column)
+unfoldable pub drivers : Design → Column → List (Driver Column)
 drivers d c = option_map_or (drivers_in d c.path c.net) (model_at d c.path) []
 
 -- the names that the root gives out, in order

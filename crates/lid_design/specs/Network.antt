@@ -5,11 +5,11 @@ use Rattle.lid_cover.specs.declared.Cover.{Cover}
 use Rattle.lid_cover.specs.Cover.{cover_value}
 
 -- what gives a column its bit
-pub data Source (C : Type 0) : Type 0 where
-  given : ℕ → Source C  -- an input of the root, by its place
-  held : Bool → C → Source C  -- a latch: the bit that it begins with, and its input
-  made : Cover → List C → Source C  -- a cover, and its inputs in order
-  same : C → Source C  -- the other side of a binding
+pub data Driver (C : Type 0) : Type 0 where
+  from_input : ℕ → Driver C  -- an input of the root, by its place
+  from_latch : Bool → C → Driver C  -- a latch: the bit that it begins with, and its input
+  from_cover : Cover → List C → Driver C  -- a cover, and its inputs in order
+  from_connection : C → Driver C  -- the other side of a binding
 
 -- a bit for each row and each column
 abbrev pub Table : Type 0 → Type 0
@@ -20,16 +20,16 @@ abbrev pub latch_bit : {C : Type 0} → Table C → Bool → C → ℕ → Bool
 latch_bit b first input zero = first
 latch_bit b first input (suc t) = b t input
 
--- the bit that a source gives in a row
-abbrev pub bit_of : {C : Type 0} → List (List Bool) → Table C → ℕ → Source C → Bool
-bit_of rows b t (given j) = slice_index_or (slice_index_or rows t []) j false
-bit_of rows b t (held first input) = latch_bit b first input t
-bit_of rows b t (made cover inputs) = cover_value cover (map (b t) inputs)
-bit_of rows b t (same c) = b t c
+-- the bit that a driver gives in a row
+abbrev pub bit_of : {C : Type 0} → List (List Bool) → Table C → ℕ → Driver C → Bool
+bit_of rows b t (from_input j) = slice_index_or (slice_index_or rows t []) j false
+bit_of rows b t (from_latch first input) = latch_bit b first input t
+bit_of rows b t (from_cover cover inputs) = cover_value cover (map (b t) inputs)
+bit_of rows b t (from_connection c) = b t c
 
 -- a table is strict for the input rows when, in each row, each column has the bit that each of its
 -- drivers gives; nothing is said of other rows
-abbrev pub IsStrict : {C : Type 0} → (C → List (Source C)) → List (List Bool) → Table C → Type 0
+abbrev pub IsStrict : {C : Type 0} → (C → List (Driver C)) → List (List Bool) → Table C → Type 0
 IsStrict {C} drivers rows b =
     (t : ℕ) (c : C) → t < length rows → AllByRecursion (λ s. b t c ≡ bit_of rows b t s) (drivers c)
 

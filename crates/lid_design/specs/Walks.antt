@@ -1,61 +1,61 @@
 -- Walks along what columns read, and what is wanted of a network so that it has one strict table.
 use Rattle.std.specs.Prelude.{◌≡◌, ℕ, zero, suc, ◌<◌, ◌≤◌, ◌⊎◌, Bool, List, [], ◌∷◌, ◌++◌, length}
-use Rattle.lid_design.specs.Network.{Source, given, held, made, same, Table, IsStrict}
+use Rattle.lid_design.specs.Network.{Driver, from_input, from_latch, from_cover, from_connection, Table, IsStrict}
 
 -- x is one of the list
 abbrev pub Among : {A : Type 0} → A → List A → Type 0
 Among x [] = ⊥
 Among x (y ∷ ys) = (x ≡ y) ⊎ Among x ys
 
--- the columns whose bits of the same row a source reads
-abbrev pub read_now : {C : Type 0} → Source C → List C
-read_now (given j) = []
-read_now (held first input) = []
-read_now (made cover inputs) = inputs
-read_now (same c) = c ∷ []
+-- the columns whose bits of the same row a driver reads
+abbrev pub read_now : {C : Type 0} → Driver C → List C
+read_now (from_input j) = []
+read_now (from_latch first input) = []
+read_now (from_cover cover inputs) = inputs
+read_now (from_connection c) = c ∷ []
 
--- the columns whose bits of the row before a source reads
-abbrev pub read_before : {C : Type 0} → Source C → List C
-read_before (given j) = []
-read_before (held first input) = input ∷ []
-read_before (made cover inputs) = []
-read_before (same c) = []
+-- the columns whose bits of the row before a driver reads
+abbrev pub read_before : {C : Type 0} → Driver C → List C
+read_before (from_input j) = []
+read_before (from_latch first input) = input ∷ []
+read_before (from_cover cover inputs) = []
+read_before (from_connection c) = []
 
 -- a driver of c reads a in the same row
-abbrev pub Feeds : {C : Type 0} → (C → List (Source C)) → C → C → Type 0
-Feeds {C} drivers a c = (s : Source C) × Among s (drivers c) × Among a (read_now s)
+abbrev pub Feeds : {C : Type 0} → (C → List (Driver C)) → C → C → Type 0
+Feeds {C} drivers a c = (s : Driver C) × Among s (drivers c) × Among a (read_now s)
 
 -- so many edges lead from a to c
-abbrev pub Walk : {C : Type 0} → (C → List (Source C)) → ℕ → C → C → Type 0
+abbrev pub Walk : {C : Type 0} → (C → List (Driver C)) → ℕ → C → C → Type 0
 Walk drivers zero a c = a ≡ c
 Walk {C} drivers (suc n) a c = (b : C) × Walk drivers n a b × Feeds drivers b c
 
 -- no walk of n edges ends at c
-abbrev pub HasNoWalk : {C : Type 0} → (C → List (Source C)) → ℕ → C → Type 0
+abbrev pub HasNoWalk : {C : Type 0} → (C → List (Driver C)) → ℕ → C → Type 0
 HasNoWalk {C} drivers n c = (a : C) → Walk drivers n a c → ⊥
 
 -- no walk has n edges
-abbrev pub WalksEnd : {C : Type 0} → (C → List (Source C)) → ℕ → Type 0
+abbrev pub WalksEnd : {C : Type 0} → (C → List (Driver C)) → ℕ → Type 0
 WalksEnd {C} drivers n = (c : C) → HasNoWalk drivers n c
 
-abbrev pub IsDriven : {C : Type 0} → (C → List (Source C)) → C → Type 0
+abbrev pub IsDriven : {C : Type 0} → (C → List (Driver C)) → C → Type 0
 IsDriven drivers c = 0 < length (drivers c)
 
 -- no column is driven twice
-abbrev pub IsDrivenOnce : {C : Type 0} → (C → List (Source C)) → Type 0
+abbrev pub IsDrivenOnce : {C : Type 0} → (C → List (Driver C)) → Type 0
 IsDrivenOnce {C} drivers = (c : C) → length (drivers c) ≤ 1
 
 -- what a driver reads is driven
-abbrev pub AreReadsDriven : {C : Type 0} → (C → List (Source C)) → Type 0
+abbrev pub AreReadsDriven : {C : Type 0} → (C → List (Driver C)) → Type 0
 AreReadsDriven {C} drivers =
-    (c : C) (s : Source C) (a : C) → Among s (drivers c) → Among a (read_now s ++ read_before s) → IsDriven drivers a
+    (c : C) (s : Driver C) (a : C) → Among s (drivers c) → Among a (read_now s ++ read_before s) → IsDriven drivers a
 
 -- there is a strict table for any rows
-abbrev pub HasTable : {C : Type 0} → (C → List (Source C)) → Type 0
+abbrev pub HasTable : {C : Type 0} → (C → List (Driver C)) → Type 0
 HasTable {C} drivers = (rows : List (List Bool)) → (b : Table C) × IsStrict drivers rows b
 
 -- two strict tables agree at all driven columns
-abbrev pub HasOneTable : {C : Type 0} → (C → List (Source C)) → Type 0
+abbrev pub HasOneTable : {C : Type 0} → (C → List (Driver C)) → Type 0
 HasOneTable {C} drivers =
     (rows : List (List Bool)) (b b' : Table C)
     → IsStrict drivers rows b

@@ -3,7 +3,7 @@
 #![tactic(auto)]
 
 ghost use Rattle.std.specs.Prelude.{ℕ, List};
-ghost use Rattle.lid_design.specs.Network.{Source};
+ghost use Rattle.lid_design.specs.Network.{Driver};
 ghost use Rattle.lid_design.specs.Walks.{WalksEnd, IsDrivenOnce, AreReadsDriven, HasTable, HasOneTable};
 ghost use Rattle.lid_design.specs.Columns.{Column};
 
@@ -89,6 +89,6 @@ pub struct Bind {
 /// twice, and two strict tables agree on the driven columns where all that is read is driven. This does
 /// nothing; its contract is the law, for whatever drives the columns.
 pub fn networks_have_one_table()
-    ensures some { (drivers : Column → List (Source Column)) (n : ℕ) → WalksEnd drivers n → IsDrivenOnce drivers → HasTable drivers }
-    ensures one { (drivers : Column → List (Source Column)) (n : ℕ) → WalksEnd drivers n → AreReadsDriven drivers → HasOneTable drivers }
+    ensures some { (drivers : Column → List (Driver Column)) (n : ℕ) → WalksEnd drivers n → IsDrivenOnce drivers → HasTable drivers }
+    ensures one { (drivers : Column → List (Driver Column)) (n : ℕ) → WalksEnd drivers n → AreReadsDriven drivers → HasOneTable drivers }
 {}

@@ -4,10 +4,10 @@ ghost use Rattle.lid_design.specs.WellFormed.{IsWellFormed};
 ghost use Rattle.lid_rules.specs.Acceptance.{ModelsPass};
 
 use crate::told::design_of;
-use lid_columns::{Driver, Elaboration, elaborate};
+use lid_elab::{Driver, Elaboration, elaborate};
 use lid_design::Design;
 use lid_judge::check_models;
-use lid_models::{Survey, is_well_formed};
+use lid_hierarchy::{Survey, is_well_formed};
 use std::alloc::{AllocError, Global};
 use std::process::Abort;
 use std::test::Fail;

@@ -4,7 +4,7 @@ use crate::told::design_of;
 use lid_base::Items;
 use lid_cover::{Cover, Cube};
 use lid_design::{Cell, Design, Model};
-use lid_models::{Uses, find_uses, is_well_formed};
+use lid_hierarchy::{Uses, find_uses, is_well_formed};
 use std::alloc::{AllocError, Global};
 use std::process::Abort;
 use std::test::Fail;

@@ -3,7 +3,7 @@
 
 use crate::designs::are;
 use lid_base::Items;
-use lid_order::{Found, find_order, find_reached, find_reaching, is_graph};
+use lid_digraph::{Found, find_order, find_reached, find_reaching, is_graph};
 use std::alloc::{AllocError, Global};
 
 /// The row of a number: of so many numbers the first each read the next, and then come these rows.

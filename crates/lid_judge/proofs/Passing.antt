@@ -2,7 +2,7 @@
 use Rattle.std.proofs.Common.{◌≡◌, ◌⊎◌, ℕ, List, [], ◌∷◌, Option, Some, None, inl, inr, refl, sym, ◌∙◌, ap, subst}
 use Rattle.lid_design.specs.declared.Design.{Design}
 use Rattle.lid_design.specs.Models.{AreReached, HasNoRecursion}
-use Rattle.lid_models.specs.Surveys.{AreKnown}
+use Rattle.lid_hierarchy.specs.Surveys.{AreKnown}
 use Rattle.lid_rules.specs.declared.fault.CheckFault.{CheckFault}
 use Rattle.lid_rules.specs.declared.fault.CheckFault.TheVariants.{Memory}
 use Rattle.lid_ports.specs.declared.formals.InstRule.{InstRule}

@@ -9,7 +9,7 @@ ghost use Rattle.lid_rules.specs.Told.{shown_of};
 
 use lid_base::Which;
 use lid_counts::{Measure, count_all};
-use lid_models::Survey;
+use lid_hierarchy::Survey;
 use lid_names::model_at;
 use lid_rules::Told;
 use std::alloc::{AllocError, Global};

@@ -1,7 +1,7 @@
 ghost use Rattle.std.specs.Prelude.{◌≡◌, ◌⊎◌, IfOk, OnOk, IfErr};
 ghost use Rattle.lid_design.specs.WellFormed.{IsWellFormed};
 ghost use Rattle.lid_design.specs.Models.{HasNoRecursion};
-ghost use Rattle.lid_models.specs.Surveys.{IsFirstRecursive};
+ghost use Rattle.lid_hierarchy.specs.Surveys.{IsFirstRecursive};
 ghost use Rattle.lid_rules.specs.declared.fault.CheckFault.TheVariants.{Memory};
 ghost use Rattle.lid_rules.specs.Acceptance.{ModelsPass, IsModelFault};
 ghost use Rattle.lid_rules.specs.Early.{TellsEarly, PassesEarly};
@@ -10,7 +10,7 @@ ghost use Rattle.lid_rules.specs.Told.{shown_of, IsToldOf, IsToldRecursive};
 use crate::copies::copy_fault;
 use crate::late::find_late;
 use lid_design::Design;
-use lid_models::{Survey, SurveyFault, Uses, find_uses, survey_models};
+use lid_hierarchy::{Survey, SurveyFault, Uses, find_uses, survey_models};
 use lid_names::model_at;
 use lid_ports::Ports;
 use lid_rules::{CheckFault, Told, find_duplicate, find_unknown_model};

@@ -7,8 +7,8 @@ use Rattle.lid_design.specs.declared.Model.{Model}
 use Rattle.lid_design.specs.declared.Inst.{Inst}
 use Rattle.lid_design.specs.Columns.{is_among, model_named, is_clock, data_inputs}
 use Rattle.lid_design.specs.Models.{number_named, insts_of, instance_number, number_from, IsReached, actual_of}
-use Rattle.lid_models.proofs.Fixpoints.{find-position}
-use Rattle.lid_models.proofs.Orders.{reached-through}
+use Rattle.lid_hierarchy.proofs.Fixpoints.{find-position}
+use Rattle.lid_hierarchy.proofs.Orders.{reached-through}
 use Rattle.lid_names.proofs.Numbers.{position-below, there}
 use Rattle.lid_ports.specs.declared.nets.Side.{Side}
 use Rattle.lid_ports.specs.declared.nets.Side.TheVariants.{Driven, Read}

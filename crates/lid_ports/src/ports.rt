@@ -6,7 +6,7 @@ ghost use Rattle.lid_design.specs.Models.{HasNoRecursion};
 ghost use Rattle.lid_ports.specs.Ports.{names_in, sets_in, is_in, ArePorts};
 
 use lid_base::{Items, Name};
-use lid_models::Survey;
+use lid_hierarchy::Survey;
 use lid_names::{NameSet, set_of};
 use std::alloc::{AllocError, Global};
 use std::marker::Model;

@@ -7,7 +7,7 @@ use Rattle.lid_design.specs.declared.Model.{Model}
 use Rattle.lid_design.specs.declared.Inst.{Inst}
 use Rattle.lid_design.specs.Walks.{Among}
 use Rattle.lid_design.specs.Models.{number_named, Ascend, AreReached}
-use Rattle.lid_models.specs.Surveys.{AreKnown}
+use Rattle.lid_hierarchy.specs.Surveys.{AreKnown}
 use Rattle.lid_rules.specs.declared.fault.CheckFault.{CheckFault}
 use Rattle.lid_rules.specs.declared.fault.CheckFault.TheVariants.{UnknownModel}
 use Rattle.lid_rules.specs.Conditions.{first_told, in_insts, unknown_at, unknown_model}

@@ -6,7 +6,7 @@ ghost use Rattle.lid_rules.specs.Told.{shown_of};
 
 use crate::told::Told;
 use lid_design::{Inst, Model};
-use lid_models::Uses;
+use lid_hierarchy::Uses;
 use lid_names::model_at;
 
 /// Tells of the first instance of a reached model that names no model.

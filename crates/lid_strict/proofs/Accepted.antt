@@ -5,31 +5,31 @@ use Rattle.std.proofs.lemmas.Option.{slice_get-get_or}
 use Rattle.lid_design.specs.declared.Design.{Design}
 use Rattle.lid_design.specs.declared.Model.{Model}
 use Rattle.lid_design.specs.WellFormed.{IsWellFormed}
-use Rattle.lid_design.specs.Network.{Source, given, held, made, same, from_each}
+use Rattle.lid_design.specs.Network.{Driver, from_input, from_latch, from_cover, from_connection, from_each}
 use Rattle.lid_design.specs.Columns.{Column, column, drivers}
 use Rattle.lid_design.specs.Walks.{Among, read_now, read_before, IsDriven, IsDrivenOnce, AreReadsDriven, WalksEnd, HasTable, HasOneTable}
 use Rattle.lid_design.specs.Models.{nets, insts_of, number_named, instance_number, number_from}
 use Rattle.lid_design.specs.Places.{columns, model_nets}
 use Rattle.lid_design.specs.Loops.{HasNoLoop}
 use Rattle.lid_design.proofs.Tables.{all-among, has_table, has_one_table}
-use Rattle.lid_models.specs.Surveys.{AreKnown}
+use Rattle.lid_hierarchy.specs.Surveys.{AreKnown}
 use Rattle.lid_rules.specs.Conditions.{duplicate_name, unknown_model}
 use Rattle.lid_rules.specs.Acceptance.{ModelsPass, fault_before_recursion}
 use Rattle.lid_rules.proofs.Passing.{known_by}
-use Rattle.lid_columns.specs.Elaborations.{map_source, column_at}
-use Rattle.lid_columns.specs.Numbers.{offset_of, start_of}
-use Rattle.lid_columns.specs.Locals.{actual_for}
-use Rattle.lid_columns.specs.Templates.{place_in, numbered, placed}
-use Rattle.lid_columns.specs.Writing.{IsJudged, IsRight, model_inputs, IsOuter}
-use Rattle.lid_columns.proofs.Names.{get-among, among-get, map-among}
-use Rattle.lid_columns.proofs.Passing.{or_none}
-use Rattle.lid_columns.proofs.Numbering.{then_some}
-use Rattle.lid_columns.proofs.Located.{Located, located}
-use Rattle.lid_columns.proofs.Judged.{shallow_of}
-use Rattle.lid_columns.proofs.Outer.{fits}
-use Rattle.lid_columns.proofs.Single.{exactly_one}
-use Rattle.lid_columns.proofs.Placing.{net_right}
-use Rattle.lid_columns.proofs.Every.{driven_column}
+use Rattle.lid_elab.specs.Elaborations.{map_driver, column_at}
+use Rattle.lid_elab.specs.Numbers.{offset_of, start_of}
+use Rattle.lid_elab.specs.Locals.{actual_for}
+use Rattle.lid_elab.specs.Templates.{place_in, numbered, placed}
+use Rattle.lid_elab.specs.Writing.{IsJudged, IsRight, model_inputs, IsOuter}
+use Rattle.lid_elab.proofs.Names.{get-among, among-get, map-among}
+use Rattle.lid_elab.proofs.Passing.{or_none}
+use Rattle.lid_elab.proofs.Numbering.{then_some}
+use Rattle.lid_elab.proofs.Located.{Located, located}
+use Rattle.lid_elab.proofs.Judged.{shallow_of}
+use Rattle.lid_elab.proofs.Outer.{fits}
+use Rattle.lid_elab.proofs.Single.{exactly_one}
+use Rattle.lid_elab.proofs.Placing.{net_right}
+use Rattle.lid_elab.proofs.Every.{driven_column}
 use Rattle.lid_strict.proofs.Descent.{walks_end}
 use Rattle.lid_strict.proofs.Levels.{model_order}
 use Rattle.lid_strict.proofs.Outputs.{from_each-long}
@@ -47,21 +47,21 @@ from_each-at : (f : ℕ → ℕ) (k n i o : ℕ) → slice_get (from_each f k n)
 from_each-at f k zero i o here = absurd (let e : None ≡ Some o = here in cc)
 from_each-at f k (suc n) zero o here =
     let first : f k ≡ o = (let e : Some (f k) ≡ Some o = here in cc) in
-    let same : k ≡ k + 0 = omega arith in
-    sym first ∙ ap f same
+    let alike : k ≡ k + 0 = omega arith in
+    sym first ∙ ap f alike
 from_each-at f k (suc n) (suc i) o here =
     let next : (k + 1) + i ≡ k + suc i = omega arith in
     from_each-at f (k + 1) n i o here ∙ ap f next
 
-reads_mapped : {A B : Type 0} (f : A → B) (s : Source A) → read_now (map_source f s) ++ read_before (map_source f s) ≡ map f (read_now s ++ read_before s)
-reads_mapped f (given j) = refl
-reads_mapped f (held first input) = refl
-reads_mapped {A} {B} f (made cover inputs) = whole inputs
+reads_mapped : {A B : Type 0} (f : A → B) (s : Driver A) → read_now (map_driver f s) ++ read_before (map_driver f s) ≡ map f (read_now s ++ read_before s)
+reads_mapped f (from_input j) = refl
+reads_mapped f (from_latch first input) = refl
+reads_mapped {A} {B} f (from_cover cover inputs) = whole inputs
   where
     whole : (xs : List A) → map f xs ++ [] ≡ map f (xs ++ [])
     whole [] = refl
     whole (x ∷ xs) = ap (λ (ys : List B). f x ∷ ys) (whole xs)
-reads_mapped f (same a) = refl
+reads_mapped f (from_connection a) = refl
 
 module _ (d : Design) (judged : IsJudged d) where
   -- what stands around a path
@@ -73,11 +73,11 @@ module _ (d : Design) (judged : IsJudged d) where
       let inst = then_some (slice_get (insts_of d body.0) i) (λ inst. number_named d inst.model) k body.2 in
       (Some (start_of d up, map (λ formal. place_in d body.0 (actual_for inst.0 formal)) (model_inputs d k)), (up, i, body.0, inst.0, refl, body.1, inst.1, refl, refl))
 
-  -- each column has one source
-  right_at : (n : ℕ) (c : Column) → slice_get (columns d) n ≡ Some c → (s : Source ℕ) × IsRight d c s
+  -- each column has one driver
+  right_at : (n : ℕ) (c : Column) → slice_get (columns d) n ≡ Some c → (s : Driver ℕ) × IsRight d c s
   right_at n c here = by (located d (shallow_of d judged) n c here)
     where
-      in_model : (at : Located d n c) (o : Option Model) → slice_get d.models at.model ≡ o → (s : Source ℕ) × IsRight d c s
+      in_model : (at : Located d n c) (o : Option Model) → slice_get d.models at.model ≡ o → (s : Driver ℕ) × IsRight d c s
       in_model at None e = absurd (let none : None ≡ Some c.net = ap (λ (o : Option Model). slice_get (option_map_or (nets d) o []) at.net) (sym e) ∙ at.here in cc)
       in_model at (Some m) e =
           let names : model_nets d at.model ≡ nets d m = ap (λ (o : Option Model). option_map_or (nets d) o []) e in
@@ -92,16 +92,16 @@ module _ (d : Design) (judged : IsJudged d) where
                 around.0 (fits d c.path at.model around.0 judged around.1) c.net among one.0 one.1,
           )
 
-      by : Located d n c → (s : Source ℕ) × IsRight d c s
+      by : Located d n c → (s : Driver ℕ) × IsRight d c s
       by at = in_model at (slice_get d.models at.model) refl
 
-  right_of : (c : Column) → Among c (columns d) → (s : Source ℕ) × IsRight d c s
+  right_of : (c : Column) → Among c (columns d) → (s : Driver ℕ) × IsRight d c s
   right_of c among = let at = among-get (columns d) c among in right_at at.0 c at.1
 
   pub driven_of : (c : Column) → Among c (columns d) → IsDriven (drivers d) c
   driven_of c among =
       let right = right_of c among in
-      subst (λ (ss : List (Source Column)). 0 < length ss) (sym right.1.only) (omega arith)
+      subst (λ (ss : List (Driver Column)). 0 < length ss) (sym right.1.only) (omega arith)
 
   pub column_of : (c : Column) → IsDriven (drivers d) c → Among c (columns d)
   column_of = driven_column d judged.formed judged.order judged.ordered judged.known judged.pass (shallow_of d judged)
@@ -109,10 +109,10 @@ module _ (d : Design) (judged : IsJudged d) where
   driven_once : IsDrivenOnce (drivers d)
   driven_once c = by (drivers d c) refl
     where
-      by : (ss : List (Source Column)) → drivers d c ≡ ss → length ss ≤ 1
+      by : (ss : List (Driver Column)) → drivers d c ≡ ss → length ss ≤ 1
       by [] e = omega arith
       by (s ∷ ss) e =
-          let some : IsDriven (drivers d) c = subst (λ (rs : List (Source Column)). 0 < length rs) (sym e) (omega arith) in
+          let some : IsDriven (drivers d) c = subst (λ (rs : List (Driver Column)). 0 < length rs) (sym e) (omega arith) in
           let right = right_of c (column_of c some) in
           let long = ap length (sym e ∙ right.1.only) in
           omega arith
@@ -120,18 +120,18 @@ module _ (d : Design) (judged : IsJudged d) where
   reads_driven : AreReadsDriven (drivers d)
   reads_driven c s a among read =
       let right = right_of c (column_of c (some_item s (drivers d c) among)) in
-      let source : s ≡ map_source (column_at d) right.0 = one_item s (map_source (column_at d) right.0) (subst (λ (ss : List (Source Column)). Among s ss) right.1.only among) in
-      let reads = ap (λ (r : Source Column). read_now r ++ read_before r) source ∙ reads_mapped (column_at d) right.0 in
+      let driver : s ≡ map_driver (column_at d) right.0 = one_item s (map_driver (column_at d) right.0) (subst (λ (ss : List (Driver Column)). Among s ss) right.1.only among) in
+      let reads = ap (λ (r : Driver Column). read_now r ++ read_before r) driver ∙ reads_mapped (column_at d) right.0 in
       let found = map-among (column_at d) a (read_now right.0 ++ read_before right.0) (subst (λ (cs : List Column). Among a cs) reads read) in
       let below = all-among (λ (k : ℕ). k < length (columns d)) (read_now right.0 ++ read_before right.0) found.0 right.1.below found.1 in
       let here = slice_get-get_or (columns d) found.0 (column [] []) below in
       driven_of a (get-among (columns d) found.0 a (here ∙ ap Some (sym found.2)))
     where
-      some_item : (t : Source Column) (ss : List (Source Column)) → Among t ss → 0 < length ss
+      some_item : (t : Driver Column) (ss : List (Driver Column)) → Among t ss → 0 < length ss
       some_item t [] none = absurd none
       some_item t (r ∷ ss) is = omega arith
 
-      one_item : (t r : Source Column) → Among t (r ∷ []) → t ≡ r
+      one_item : (t r : Driver Column) → Among t (r ∷ []) → t ≡ r
       one_item t r (inl e) = e
       one_item t r (inr none) = absurd none
 

@@ -11,17 +11,17 @@ use Rattle.lid_design.specs.declared.Cell.{Cell}
 use Rattle.lid_design.specs.declared.Cell.TheVariants.{Names, Latch}
 use Rattle.lid_design.specs.declared.Inst.{Inst}
 use Rattle.lid_design.specs.declared.Bind.{Bind}
-use Rattle.lid_design.specs.Network.{Source, given, held, made, same}
+use Rattle.lid_design.specs.Network.{Driver, from_input, from_latch, from_cover, from_connection}
 use Rattle.lid_design.specs.Columns.{Column, column, is_among, model_named, instance_model, model_at, is_clock, places_of, cell_at, output_at, actuals_of, port_at, drivers_in, drivers, data_inputs, first_bit}
 use Rattle.lid_design.specs.WellFormed.{IsWellFormed, IsWellFormedCell}
 use Rattle.lid_design.specs.Walks.{Among}
 
--- a cover that a source evaluates meets the rules of covers, with as many inputs as it reads
-abbrev pub IsCovered : {C : Type 0} → Source C → Type 0
-IsCovered (given j) = Unit {0}
-IsCovered (held first input) = Unit {0}
-IsCovered (made cover inputs) = IsCover cover × (cover.inputs ≡ length inputs)
-IsCovered (same c) = Unit {0}
+-- a cover that a driver evaluates meets the rules of covers, with as many inputs as it reads
+abbrev pub IsCovered : {C : Type 0} → Driver C → Type 0
+IsCovered (from_input j) = Unit {0}
+IsCovered (from_latch first input) = Unit {0}
+IsCovered (from_cover cover inputs) = IsCover cover × (cover.inputs ≡ length inputs)
+IsCovered (from_connection c) = Unit {0}
 
 all_append : {A : Type 0} (P : A → Type 0) (xs ys : List A) → AllByRecursion P xs → AllByRecursion P ys → AllByRecursion P (xs ++ ys)
 all_append P [] ys left right = right
@@ -67,40 +67,40 @@ module _ (d : Design) (path net : List ℕ) where
   of_places k [] = tt
   of_places k (name ∷ names) = by (bytes_eq name net) (of_places (k + 1) names)
     where
-      by : (b : Bool) → AllByRecursion IsCovered (places_of net (k + 1) names) → AllByRecursion IsCovered (cond b (given k ∷ []) [] ++ places_of net (k + 1) names)
+      by : (b : Bool) → AllByRecursion IsCovered (places_of net (k + 1) names) → AllByRecursion IsCovered (cond b (from_input k ∷ []) [] ++ places_of net (k + 1) names)
       by true rest = (tt, rest)
       by false rest = rest
 
   of_cell : (cell : Cell) → IsWellFormedCell cell → AllByRecursion IsCovered (cell_at path net cell)
   of_cell (Names inputs out cover) formed = by (bytes_eq out net)
     where
-      by : (b : Bool) → AllByRecursion IsCovered (cond b (made cover (map (column path) inputs) ∷ []) [])
+      by : (b : Bool) → AllByRecursion IsCovered (cond b (from_cover cover (map (column path) inputs) ∷ []) [])
       by true = ((formed.0, formed.1 ∙ sym (length-map inputs (column path))), tt)
       by false = tt
   of_cell (Latch input out kind control init) formed = by (bytes_eq out net)
     where
-      by : (b : Bool) → AllByRecursion IsCovered (cond b (held (first_bit init) (column path input) ∷ []) [])
+      by : (b : Bool) → AllByRecursion IsCovered (cond b (from_latch (first_bit init) (column path input) ∷ []) [])
       by true = (tt, tt)
       by false = tt
 
   of_output : (p : ℕ × Inst) → AllByRecursion IsCovered (output_at d path net p)
   of_output p = by (model_named d p.1.model)
     where
-      of_bind : (m : Model) (b : Bind) → AllByRecursion IsCovered (cond (bytes_eq b.actual net && is_among b.formal m.outputs) (same (column (p.0 ∷ path) b.formal) ∷ []) [])
+      of_bind : (m : Model) (b : Bind) → AllByRecursion IsCovered (cond (bytes_eq b.actual net && is_among b.formal m.outputs) (from_connection (column (p.0 ∷ path) b.formal) ∷ []) [])
       of_bind m b = chosen (bytes_eq b.actual net && is_among b.formal m.outputs)
         where
-          chosen : (v : Bool) → AllByRecursion IsCovered (cond v (same (column (p.0 ∷ path) b.formal) ∷ []) [])
+          chosen : (v : Bool) → AllByRecursion IsCovered (cond v (from_connection (column (p.0 ∷ path) b.formal) ∷ []) [])
           chosen true = (tt, tt)
           chosen false = tt
 
-      by : (o : Option Model) → AllByRecursion IsCovered (option_map_or (λ m. flat_map (λ b. cond (bytes_eq b.actual net && is_among b.formal m.outputs) (same (column (p.0 ∷ path) b.formal) ∷ []) []) p.1.binds) o [])
+      by : (o : Option Model) → AllByRecursion IsCovered (option_map_or (λ m. flat_map (λ b. cond (bytes_eq b.actual net && is_among b.formal m.outputs) (from_connection (column (p.0 ∷ path) b.formal) ∷ []) []) p.1.binds) o [])
       by None = tt
       by (Some m) = all_flat IsCovered _ p.1.binds (λ b i. of_bind m b)
 
   of_actuals : (up : List ℕ) (inst : Inst) → AllByRecursion IsCovered (actuals_of up net inst)
   of_actuals up inst = all_flat IsCovered _ inst.binds (λ b i. by b (bytes_eq b.formal net))
     where
-      by : (b : Bind) (v : Bool) → AllByRecursion IsCovered (cond v (same (column up b.actual) ∷ []) [])
+      by : (b : Bind) (v : Bool) → AllByRecursion IsCovered (cond v (from_connection (column up b.actual) ∷ []) [])
       by b true = (tt, tt)
       by b false = tt
 

@@ -1,6 +1,6 @@
 -- What never leads back to itself among finitely many ends.
 use Rattle.std.proofs.Common.{◌≡◌, ◌⊎◌, ℕ, zero, suc, ◌<◌, ◌≤◌, List, [], ◌∷◌, length, inl, inr, refl, sym, ◌∙◌, ap, subst, arith}
-use Rattle.lid_design.specs.Network.{Source}
+use Rattle.lid_design.specs.Network.{Driver}
 use Rattle.lid_design.specs.Walks.{Among, Feeds, Walk, WalksEnd, IsDriven}
 
 -- a list without one of its items
@@ -29,7 +29,7 @@ without {A} x (y ∷ ys) (inl same) = record { rest = ys; long = refl; others = 
     by z (inr later) = inr later
 without x (y ∷ ys) (inr later) = with_first x y ys (without x ys later)
 
-module _ {C : Type 0} (drivers : C → List (Source C)) where
+module _ {C : Type 0} (drivers : C → List (Driver C)) where
   -- one or more edges lead from a to c
   abbrev pub Leads : C → C → Type 0
   Leads a c = (n : ℕ) × Walk drivers (suc n) a c
@@ -45,7 +45,7 @@ module _ {C : Type 0} (drivers : C → List (Source C)) where
   one_edge : (b c x : C) → Feeds drivers b c → x ≡ c → Leads b x
   one_edge b c x edge same = (zero, (b, refl, subst (λ (y : C). Feeds drivers b y) (sym same) edge))
 
-  some_driver : (s : Source C) (ss : List (Source C)) → Among s ss → 0 < length ss
+  some_driver : (s : Driver C) (ss : List (Driver C)) → Among s ss → 0 < length ss
   some_driver s [] among = absurd among
   some_driver s (t ∷ ss) among = omega arith
 

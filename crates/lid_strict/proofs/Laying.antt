@@ -5,7 +5,7 @@ use Rattle.std.proofs.lemmas.List.{take-append-le, drop-append-le, length-drop, 
 use Rattle.lid_cover.specs.declared.Cube.{Cube}
 use Rattle.lid_strict.specs.declared.program.Part.{Part}
 use Rattle.lid_strict.specs.declared.program.Step.{Step}
-use Rattle.lid_strict.specs.declared.program.Step.TheVariants.{Given, Held, Made, Same}
+use Rattle.lid_strict.specs.declared.program.Step.TheVariants.{Input, Latch, Cover as OfCover, Connection}
 use Rattle.lid_strict.specs.Programs.{part_of, IsPart, shown_step, IsThere, Extends}
 
 part_more : {A : Type 0} (xs ys : List A) → Extends xs ys → (part : Part) → IsPart xs part → part_of ys part ≡ part_of xs part
@@ -26,19 +26,19 @@ is_part_more xs ys more part there =
 
 module _ (reads more_reads : List ℕ) (cubes more_cubes : List Cube) (r : Extends reads more_reads) (c : Extends cubes more_cubes) where
   step_more : (step : Step) → IsThere reads cubes step → shown_step more_reads more_cubes step ≡ shown_step reads cubes step
-  step_more (Given place) there = refl
-  step_more (Held first input) there = refl
-  step_more (Made on read rows) there =
+  step_more (Input place) there = refl
+  step_more (Latch first input) there = refl
+  step_more (OfCover on read rows) there =
       let one = part_more reads more_reads r read there.0 in
       let two = part_more cubes more_cubes c rows there.1 in
       cc
-  step_more (Same other) there = refl
+  step_more (Connection other) there = refl
 
   there_more : (step : Step) → IsThere reads cubes step → IsThere more_reads more_cubes step
-  there_more (Given place) there = tt
-  there_more (Held first input) there = tt
-  there_more (Made on read rows) there = (is_part_more reads more_reads r read there.0, is_part_more cubes more_cubes c rows there.1)
-  there_more (Same other) there = tt
+  there_more (Input place) there = tt
+  there_more (Latch first input) there = tt
+  there_more (OfCover on read rows) there = (is_part_more reads more_reads r read there.0, is_part_more cubes more_cubes c rows there.1)
+  there_more (Connection other) there = tt
 
   pub shown_more : (steps : List Step) → AllByRecursion (IsThere reads cubes) steps → map (shown_step more_reads more_cubes) steps ≡ map (shown_step reads cubes) steps
   shown_more [] all = refl

@@ -8,10 +8,10 @@ use Rattle.lid_design.specs.WellFormed.{IsWellFormed}
 use Rattle.lid_design.specs.Walks.{Among}
 use Rattle.lid_design.specs.Models.{Ascend, AreReached, HasNoRecursion, IsReached, insts_of, number_named, instance_number, number_from}
 use Rattle.lid_design.proofs.Tables.{among-left, among-right}
-use Rattle.lid_models.specs.Surveys.{StandsAfterItsModels, IsModelOrder}
-use Rattle.lid_models.proofs.Walks.{reached_below}
-use Rattle.lid_columns.proofs.Names.{among-append, among-filter, filter-among}
-use Rattle.lid_columns.proofs.Shallow.{IsShallow}
+use Rattle.lid_hierarchy.specs.Surveys.{StandsAfterItsModels, IsModelOrder}
+use Rattle.lid_hierarchy.proofs.Walks.{reached_below}
+use Rattle.lid_elab.proofs.Names.{among-append, among-filter, filter-among}
+use Rattle.lid_elab.proofs.Shallow.{IsShallow}
 use Rattle.lid_strict.proofs.Descent.{without}
 
 module _ (d : Design) where

@@ -4,13 +4,13 @@ use Rattle.std.specs.List.{AllByRecursion}
 use Rattle.std.proofs.lemmas.List.{length-map}
 use Rattle.std.proofs.lemmas.Option.{slice_get_within, slice_get-map}
 use Rattle.lid_design.specs.declared.Design.{Design}
-use Rattle.lid_design.specs.Network.{Source, given, held, made, same, Table, IsStrict, from_each}
+use Rattle.lid_design.specs.Network.{Driver, from_input, from_latch, from_cover, from_connection, Table, IsStrict, from_each}
 use Rattle.lid_design.specs.Columns.{Column, column, root_outputs, output_row, IsStrictOutput}
 use Rattle.lid_design.specs.WellFormed.{IsWellFormed}
 use Rattle.lid_design.specs.Walks.{read_now, read_before}
-use Rattle.lid_order.specs.Graphs.{IsOrder}
-use Rattle.lid_columns.specs.declared.driver.Driver.{Driver}
-use Rattle.lid_columns.specs.Elaborations.{shown_driver, map_source, column_at, IsElaborated}
+use Rattle.lid_digraph.specs.Graphs.{IsOrder}
+use Rattle.lid_elab.specs.declared.driver.ColumnDriver.{ColumnDriver}
+use Rattle.lid_elab.specs.Elaborations.{shown_driver, map_driver, column_at, IsElaborated}
 use Rattle.lid_check.proofs.Numbered.{column_here}
 use Rattle.lid_strict.specs.Networks.{driver_of, reads_of, HasCover, AreHeldBelow, AreNumbersOf, rows_at}
 use Rattle.lid_strict.proofs.Covered.{IsCovered, all_covered}
@@ -44,34 +44,34 @@ map-names : (f : Column → Bool) (names : List (List ℕ)) → map f (map (colu
 map-names f [] = refl
 map-names f (n ∷ names) = ap (λ (bs : List Bool). f (column [] n) ∷ bs) (map-names f names)
 
-module _ (d : Design) (list : List Driver) (starts : List ℕ) (is : IsElaborated d (map shown_driver list) starts) where
-  uncovered : (s : Source ℕ) → IsCovered (map_source (column_at d) s) → HasCover s
-  uncovered (given j) h = tt
-  uncovered (held first input) h = tt
-  uncovered (made cover inputs) h = (h.0, h.1 ∙ length-map inputs (column_at d))
-  uncovered (same other) h = tt
+module _ (d : Design) (list : List ColumnDriver) (starts : List ℕ) (is : IsElaborated d (map shown_driver list) starts) where
+  uncovered : (s : Driver ℕ) → IsCovered (map_driver (column_at d) s) → HasCover s
+  uncovered (from_input j) h = tt
+  uncovered (from_latch first input) h = tt
+  uncovered (from_cover cover inputs) h = (h.0, h.1 ∙ length-map inputs (column_at d))
+  uncovered (from_connection other) h = tt
 
   pub covers : IsWellFormed d → AllByRecursion (λ driver. HasCover (shown_driver driver)) list
-  covers formed = all_from_at (λ (driver : Driver). HasCover (shown_driver driver)) list each
+  covers formed = all_from_at (λ (driver : ColumnDriver). HasCover (shown_driver driver)) list each
     where
-      each : (k : ℕ) (driver : Driver) → slice_get list k ≡ Some driver → HasCover (shown_driver driver)
+      each : (k : ℕ) (driver : ColumnDriver) → slice_get list k ≡ Some driver → HasCover (shown_driver driver)
       each k driver here =
           let shown : slice_get (map shown_driver list) k ≡ Some (shown_driver driver) = slice_get-map shown_driver list k ∙ ap (option_map shown_driver) here in
           let driven = is.each k (column_at d k) (column_here d (map shown_driver list) starts is k (slice_get_within (map shown_driver list) k (shown_driver driver) shown)) in
-          let e : Some (shown_driver driver) ≡ Some driven.source = sym shown ∙ driven.here in
-          let same_source : driven.source ≡ shown_driver driver = cc in
-          let all = subst (λ (ss : List (Source Column)). AllByRecursion IsCovered ss) driven.only (all_covered d formed (column_at d k)) in
-          subst HasCover same_source (uncovered driven.source all.0)
+          let e : Some (shown_driver driver) ≡ Some driven.driver = sym shown ∙ driven.here in
+          let same_driver : driven.driver ≡ shown_driver driver = cc in
+          let all = subst (λ (ss : List (Driver Column)). AllByRecursion IsCovered ss) driven.only (all_covered d formed (column_at d k)) in
+          subst HasCover same_driver (uncovered driven.driver all.0)
 
   pub held_below : AreHeldBelow (map shown_driver list)
-  held_below = all_from_at (λ (s : Source ℕ). AllByRecursion (λ a. a < length (map shown_driver list)) (read_before s)) (map shown_driver list) each
+  held_below = all_from_at (λ (s : Driver ℕ). AllByRecursion (λ a. a < length (map shown_driver list)) (read_before s)) (map shown_driver list) each
     where
-      each : (k : ℕ) (s : Source ℕ) → slice_get (map shown_driver list) k ≡ Some s → AllByRecursion (λ a. a < length (map shown_driver list)) (read_before s)
+      each : (k : ℕ) (s : Driver ℕ) → slice_get (map shown_driver list) k ≡ Some s → AllByRecursion (λ a. a < length (map shown_driver list)) (read_before s)
       each k s here =
           let driven = is.each k (column_at d k) (column_here d (map shown_driver list) starts is k (slice_get_within (map shown_driver list) k s here)) in
-          let e : Some s ≡ Some driven.source = sym here ∙ driven.here in
-          let same_source : driven.source ≡ s = cc in
-          subst (λ (r : Source ℕ). AllByRecursion (λ a. a < length (map shown_driver list)) (read_before r)) same_source (all_right (λ (a : ℕ). a < length (map shown_driver list)) (read_now driven.source) (read_before driven.source) driven.below)
+          let e : Some s ≡ Some driven.driver = sym here ∙ driven.here in
+          let same_driver : driven.driver ≡ s = cc in
+          subst (λ (r : Driver ℕ). AllByRecursion (λ a. a < length (map shown_driver list)) (read_before r)) same_driver (all_right (λ (a : ℕ). a < length (map shown_driver list)) (read_now driven.driver) (read_before driven.driver) driven.below)
 
   pub strict_output : (order outs : List ℕ) → IsOrder (reads_of (map shown_driver list)) order → AreNumbersOf d (length list) outs → (rows out : List (List Bool)) → ((b : Table ℕ) → IsStrict (driver_of (map shown_driver list)) rows b → out ≡ rows_at outs b (length rows)) → IsStrictOutput d rows out
   strict_output order outs ordered numbers rows out every = record {

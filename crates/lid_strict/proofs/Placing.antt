@@ -10,17 +10,17 @@ use Rattle.std.proofs.lemmas.Option.{slice_get-get_or, slice_get_within, slice_g
 use Rattle.std.proofs.lemmas.Slice.Eq.{bytes_eq-Decides}
 use Rattle.lid_design.specs.declared.Design.{Design}
 use Rattle.lid_design.specs.declared.Model.{Model}
-use Rattle.lid_design.specs.Network.{Source}
+use Rattle.lid_design.specs.Network.{Driver}
 use Rattle.lid_design.specs.Columns.{Column, column, root_outputs}
 use Rattle.lid_design.specs.Walks.{Among}
 use Rattle.lid_design.specs.WellFormed.{IsWellFormed}
 use Rattle.lid_design.specs.Models.{nets, number_from, IsReached}
 use Rattle.lid_design.specs.Places.{columns, model_nets}
-use Rattle.lid_models.specs.Surveys.{IsModelOrder, AreKnown}
+use Rattle.lid_hierarchy.specs.Surveys.{IsModelOrder, AreKnown}
 use Rattle.lid_rules.specs.Acceptance.{ModelsPass}
-use Rattle.lid_columns.specs.Elaborations.{column_at, IsElaborated}
-use Rattle.lid_columns.proofs.Placing.{position_get}
-use Rattle.lid_columns.proofs.Wired.{output_read, read_is_net}
+use Rattle.lid_elab.specs.Elaborations.{column_at, IsElaborated}
+use Rattle.lid_elab.proofs.Placing.{position_get}
+use Rattle.lid_elab.proofs.Wired.{output_read, read_is_net}
 use Rattle.lid_check.proofs.Numbered.{column_is, within}
 use Rattle.lid_strict.proofs.Covered.{got_among}
 
@@ -28,7 +28,7 @@ pub root_reached : (d : Design) → IsReached d d.root
 unfolding number_from
 root_reached d = ([], refl)
 
-module _ (d : Design) (sources : List (Source ℕ)) (starts : List ℕ) (is : IsElaborated d sources starts) where
+module _ (d : Design) (network : List (Driver ℕ)) (starts : List ℕ) (is : IsElaborated d network starts) where
   at_root : (name : List ℕ) (place : ℕ) → position (bytes_eq name) (model_nets d d.root) ≡ Some place → slice_get (columns d) place ≡ Some (column [] name)
   unfolding number_from
   at_root name place h =
@@ -37,11 +37,11 @@ module _ (d : Design) (sources : List (Source ℕ)) (starts : List ℕ) (is : Is
       let here : slice_get (model_nets d d.root) place ≡ Some name = slice_get-get_or (model_nets d d.root) place [] found.0 ∙ ap Some (sym equal) in
       ap (slice_get (columns d)) (sym (zero-add place)) ∙ is.root d.root place name refl here
 
-  pub place_below : (name : List ℕ) (place : ℕ) → position (bytes_eq name) (model_nets d d.root) ≡ Some place → place < length sources
-  place_below name place h = within d sources starts is place (column [] name) (at_root name place h)
+  pub place_below : (name : List ℕ) (place : ℕ) → position (bytes_eq name) (model_nets d d.root) ≡ Some place → place < length network
+  place_below name place h = within d network starts is place (column [] name) (at_root name place h)
 
   pub place_column : (name : List ℕ) (place : ℕ) → position (bytes_eq name) (model_nets d d.root) ≡ Some place → column_at d place ≡ column [] name
-  place_column name place h = column_is d sources starts is place (column [] name) (at_root name place h)
+  place_column name place h = column_is d network starts is place (column [] name) (at_root name place h)
 
 all_push : {A : Type 0} (P : A → Type 0) (xs : List A) (x : A) → AllByRecursion P xs → P x → AllByRecursion P (xs ++ x ∷ [])
 all_push P [] x all p = (p, tt)

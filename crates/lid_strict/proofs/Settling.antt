@@ -4,9 +4,9 @@ use Rattle.std.proofs.lemmas.List.{take_more, get_or-set_same, get_or-set_other}
 use Rattle.std.specs.List.{AllByRecursion}
 use Rattle.std.proofs.lemmas.Bool.Decides.{eqb_tells}
 use Rattle.lid_cover.specs.Cover.{cover_value}
-use Rattle.lid_design.specs.Network.{Source, given, held, made, same}
+use Rattle.lid_design.specs.Network.{Driver, from_input, from_latch, from_cover, from_connection}
 use Rattle.lid_design.specs.Walks.{read_now}
-use Rattle.lid_order.specs.Graphs.{Among, reads_at, IsOrder}
+use Rattle.lid_digraph.specs.Graphs.{Among, reads_at, IsOrder}
 use Rattle.lid_strict.specs.Networks.{bit_at, reads_of, bit_from, FitsRow, AgreesAt}
 
 map-agree : (f g : ℕ → Bool) (xs : List ℕ) → ((a : ℕ) → Among a xs → f a ≡ g a) → map f xs ≡ map g xs
@@ -16,18 +16,18 @@ map-agree f g (x ∷ xs) agree =
     let tail = map-agree f g xs (λ a i. agree a (inr i)) in
     cc
 
--- a source gives the same from bits that agree at what it reads
-bit_from-agree : (row : List Bool) (is_first : Bool) (before : List Bool) (f g : ℕ → Bool) (s : Source ℕ) → ((a : ℕ) → Among a (read_now s) → f a ≡ g a) → bit_from row is_first before f s ≡ bit_from row is_first before g s
-bit_from-agree row is_first before f g (given j) agree = refl
-bit_from-agree row true before f g (held first input) agree = refl
-bit_from-agree row false before f g (held first input) agree = refl
-bit_from-agree row is_first before f g (made cover inputs) agree = ap (cover_value cover) (map-agree f g inputs agree)
-bit_from-agree row is_first before f g (same other) agree = agree other (inl refl)
+-- a driver gives the same from bits that agree at what it reads
+bit_from-agree : (row : List Bool) (is_first : Bool) (before : List Bool) (f g : ℕ → Bool) (s : Driver ℕ) → ((a : ℕ) → Among a (read_now s) → f a ≡ g a) → bit_from row is_first before f s ≡ bit_from row is_first before g s
+bit_from-agree row is_first before f g (from_input j) agree = refl
+bit_from-agree row true before f g (from_latch first input) agree = refl
+bit_from-agree row false before f g (from_latch first input) agree = refl
+bit_from-agree row is_first before f g (from_cover cover inputs) agree = ap (cover_value cover) (map-agree f g inputs agree)
+bit_from-agree row is_first before f g (from_connection other) agree = agree other (inl refl)
 
-reads-at : (sources : List (Source ℕ)) (k : ℕ) (s : Source ℕ) → slice_get sources k ≡ Some s → reads_at (reads_of sources) k ≡ read_now s
+reads-at : (network : List (Driver ℕ)) (k : ℕ) (s : Driver ℕ) → slice_get network k ≡ Some s → reads_at (reads_of network) k ≡ read_now s
 reads-at [] k s h = absurd (let e : None ≡ Some s = h in cc)
-reads-at (r ∷ sources) zero s h = let e : Some r ≡ Some s = h in let f : r ≡ s = cc in ap read_now f
-reads-at (r ∷ sources) (suc k) s h = reads-at sources k s h
+reads-at (r ∷ network) zero s h = let e : Some r ≡ Some s = h in let f : r ≡ s = cc in ap read_now f
+reads-at (r ∷ network) (suc k) s h = reads-at network k s h
 
 last_case : {P : Type 0} (x : ℕ) (xs : List ℕ) (k : ℕ) → Among x (xs ++ k ∷ []) → (Among x xs → P) → (x ≡ k → P) → P
 last_case x [] k (inl e) here last = last e
@@ -35,12 +35,12 @@ last_case x [] k (inr none) here last = absurd none
 last_case x (y ∷ ys) k (inl e) here last = here (inl e)
 last_case x (y ∷ ys) k (inr among) here last = last_case x ys k among (λ later. here (inr later)) last
 
-module _ (sources : List (Source ℕ)) (order : List ℕ) (is : IsOrder (reads_of sources) order) (row : List Bool) (is_first : Bool) (before : List Bool) (now : List Bool) (i : ℕ) (h : i < length order) (s : Source ℕ) (here : slice_get sources (slice_index order i) ≡ Some s) (room : slice_index order i < length now) (v : Bool) (value : v ≡ bit_from row is_first before (bit_at now) s) where
-  module _ (f : ℕ → Bool) (fits : FitsRow sources row is_first before f) (agree : AgreesAt f (take i order) now) where
+module _ (network : List (Driver ℕ)) (order : List ℕ) (is : IsOrder (reads_of network) order) (row : List Bool) (is_first : Bool) (before : List Bool) (now : List Bool) (i : ℕ) (h : i < length order) (s : Driver ℕ) (here : slice_get network (slice_index order i) ≡ Some s) (room : slice_index order i < length now) (v : Bool) (value : v ≡ bit_from row is_first before (bit_at now) s) where
+  module _ (f : ℕ → Bool) (fits : FitsRow network row is_first before f) (agree : AgreesAt f (take i order) now) where
     right : v ≡ f (slice_index order i)
     right =
         value
-        ∙ bit_from-agree row is_first before (bit_at now) f s (λ a read. agree a (is.earlier i a h (subst (Among a) (sym (reads-at sources (slice_index order i) s here)) read)))
+        ∙ bit_from-agree row is_first before (bit_at now) f s (λ a read. agree a (is.earlier i a h (subst (Among a) (sym (reads-at network (slice_index order i) s here)) read)))
         ∙ sym (fits (slice_index order i) s here)
 
     at_next : bit_at (set now (slice_index order i) v) (slice_index order i) ≡ f (slice_index order i)

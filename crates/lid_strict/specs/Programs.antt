@@ -3,12 +3,12 @@ use Rattle.std.specs.Prelude.{◌≡◌, ◌≤◌, ◌-◌, ℕ, Bool, List, �
 use Rattle.std.specs.List.{AllByRecursion}
 use Rattle.lid_cover.specs.declared.Cover.{Cover}
 use Rattle.lid_cover.specs.declared.Cube.{Cube}
-use Rattle.lid_design.specs.Network.{Source, given, held, made, same}
-use Rattle.lid_order.specs.Graphs.{IsOrder}
+use Rattle.lid_design.specs.Network.{Driver, from_input, from_latch, from_cover, from_connection}
+use Rattle.lid_digraph.specs.Graphs.{IsOrder}
 use Rattle.lid_strict.specs.Networks.{reads_of}
 use Rattle.lid_strict.specs.declared.program.Part.{Part}
 use Rattle.lid_strict.specs.declared.program.Step.{Step}
-use Rattle.lid_strict.specs.declared.program.Step.TheVariants.{Given, Held, Made, Same}
+use Rattle.lid_strict.specs.declared.program.Step.TheVariants.{Input, Latch, Cover as OfCover, Connection}
 use Rattle.lid_strict.specs.declared.program.Program.{Program}
 
 -- the items of a part
@@ -24,37 +24,37 @@ abbrev pub cover_of : ℕ → Bool → List Cube → Cover
 cover_of inputs on cubes = record { inputs = inputs; on = on; cubes = cubes }
 
 -- what a step gives, with the numbers that covers read and the rows of covers
-abbrev pub shown_step : List ℕ → List Cube → Step → Source ℕ
-shown_step reads cubes (Given place) = given place
-shown_step reads cubes (Held first input) = held first input
-shown_step reads cubes (Made on read rows) = made (cover_of (length (part_of reads read)) on (part_of cubes rows)) (part_of reads read)
-shown_step reads cubes (Same other) = same other
+abbrev pub shown_step : List ℕ → List Cube → Step → Driver ℕ
+shown_step reads cubes (Input place) = from_input place
+shown_step reads cubes (Latch first input) = from_latch first input
+shown_step reads cubes (OfCover on read rows) = from_cover (cover_of (length (part_of reads read)) on (part_of cubes rows)) (part_of reads read)
+shown_step reads cubes (Connection other) = from_connection other
 
 -- the parts of a step are there
 abbrev pub IsThere : List ℕ → List Cube → Step → Type 0
-IsThere reads cubes (Given place) = ⊤
-IsThere reads cubes (Held first input) = ⊤
-IsThere reads cubes (Made on read rows) = IsPart reads read × IsPart cubes rows
-IsThere reads cubes (Same other) = ⊤
+IsThere reads cubes (Input place) = ⊤
+IsThere reads cubes (Latch first input) = ⊤
+IsThere reads cubes (OfCover on read rows) = IsPart reads read × IsPart cubes rows
+IsThere reads cubes (Connection other) = ⊤
 
 -- what the steps of a program give
-abbrev pub shown_program : Program → List (Source ℕ)
+abbrev pub shown_program : Program → List (Driver ℕ)
 shown_program p = map (shown_step p.reads.items p.cubes.items) p.steps.items
 
 -- the parts of all steps are there
 abbrev pub IsWhole : Program → Type 0
 IsWhole p = AllByRecursion (IsThere p.reads.items p.cubes.items) p.steps.items
 
--- some of the sources, in an order
-abbrev pub in_order : List (Source ℕ) → List ℕ → List (Source ℕ)
-in_order sources order = map (λ k. slice_index_or sources k (given 0)) order
+-- some of the network, in an order
+abbrev pub in_order : List (Driver ℕ) → List ℕ → List (Driver ℕ)
+in_order network order = map (λ k. slice_index_or network k (from_input 0)) order
 
 -- a list with items appended
 abbrev pub Extends : {A : Type 0} → List A → List A → Type 0
 Extends {A} xs ys = (more : List A) × (ys ≡ xs ++ more)
 
--- a program gives what some sources give, in an order in which each number stands after all that it
+-- a program gives what some network give, in an order in which each number stands after all that it
 -- reads
-pub record IsLaidOut (sources : List (Source ℕ)) (order : List ℕ) (p : Program) : Type 0 where
-  pub ordered : IsOrder (reads_of sources) order
-  pub steps : shown_program p ≡ in_order sources order
+pub record IsLaidOut (network : List (Driver ℕ)) (order : List ℕ) (p : Program) : Type 0 where
+  pub ordered : IsOrder (reads_of network) order
+  pub steps : shown_program p ≡ in_order network order

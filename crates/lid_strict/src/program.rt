@@ -3,11 +3,11 @@
 
 ghost use Rattle.std.specs.Prelude.{◌≡◌, ◌<◌, ◌++◌, ◌∷◌, [], length, map, IfOk, OnOk};
 ghost use Rattle.std.specs.List.{AllByRecursion};
-ghost use Rattle.lid_columns.specs.Elaborations.{shown_driver};
+ghost use Rattle.lid_elab.specs.Elaborations.{shown_driver};
 ghost use Rattle.lid_strict.specs.Networks.{HasCover};
 ghost use Rattle.lid_strict.specs.Programs.{shown_step, shown_program, in_order, Extends, IsThere, IsWhole};
 
-use lid_columns::Driver;
+use lid_elab::ColumnDriver;
 use lid_cover::Cube;
 use std::alloc::{AllocError, Global};
 
@@ -24,13 +24,13 @@ pub struct Part {
 #[derive(Clone, Copy)]
 pub enum Step {
     /// A data input of the root, by its place among them.
-    Given(u32),
+    Input(u32),
     /// A latch, that begins with the bit `first`.
-    Held { first: bool, input: u32 },
+    Latch { first: bool, input: u32 },
     /// A cover, with its inputs and its rows among those of the program.
-    Made { on: bool, reads: Part, cubes: Part },
+    Cover { on: bool, reads: Part, cubes: Part },
     /// The other side of a binding.
-    Same(u32),
+    Connection(u32),
 }
 
 /// What gives each number of an order its bit, step by step.
@@ -44,7 +44,7 @@ pub struct Program {
 }
 
 /// Lays out the drivers of some numbers, in their order.
-pub fn lay_out(alloc: Global, drivers: &[Driver<'_>], order: &[u32]) -> Result<Program, AllocError>
+pub fn lay_out(alloc: Global, drivers: &[ColumnDriver<'_>], order: &[u32]) -> Result<Program, AllocError>
     requires covers { AllByRecursion (λ driver. HasCover (shown_driver driver)) drivers.now }
     requires below { AllByRecursion (λ k. k < length drivers.now) order.now }
     ensures whole { IfOk result IsWhole }
@@ -62,7 +62,7 @@ pub fn lay_out(alloc: Global, drivers: &[Driver<'_>], order: &[u32]) -> Result<P
 }
 
 /// Adds the step of a driver.
-fn push_step(program: &mut Program, driver: &Driver<'_>) -> Result<(), AllocError>
+fn push_step(program: &mut Program, driver: &ColumnDriver<'_>) -> Result<(), AllocError>
     requires cover { HasCover (shown_driver driver.now) }
     requires whole { IsWhole program.now }
     ensures whole { OnOk result (IsWhole program.new) }
@@ -77,7 +77,7 @@ fn push_step(program: &mut Program, driver: &Driver<'_>) -> Result<(), AllocErro
 fn step_of(
     reads: &mut Vec<u32>,
     cubes: &mut Vec<Cube>,
-    driver: &Driver<'_>,
+    driver: &ColumnDriver<'_>,
 ) -> Result<Step, AllocError>
     requires { HasCover (shown_driver driver.now) }
     ensures reads { OnOk result (Extends reads.old.items reads.new.items) }
@@ -86,17 +86,17 @@ fn step_of(
     ensures shown { IfOk result (λ step. shown_step reads.new.items cubes.new.items step ≡ shown_driver driver.now) }
 {
     Ok(match driver {
-        Driver::Given(place) => Step::Given(*place),
-        Driver::Held { first, input } => Step::Held {
+        ColumnDriver::Input(place) => Step::Input(*place),
+        ColumnDriver::Latch { first, input } => Step::Latch {
             first: *first,
             input: *input,
         },
-        Driver::Made { cover, inputs } => Step::Made {
+        ColumnDriver::Cover { cover, inputs } => Step::Cover {
             on: cover.on,
             reads: append(reads, inputs.as_slice())?,
             cubes: append(cubes, cover.cubes.as_slice())?,
         },
-        Driver::Same(other) => Step::Same(*other),
+        ColumnDriver::Connection(other) => Step::Connection(*other),
     })
 }
 

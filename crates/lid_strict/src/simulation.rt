@@ -4,15 +4,15 @@ ghost use Rattle.std.specs.Prelude.{◌≡◌, ◌<◌, ◌≤◌, ◌++◌, if�
 ghost use Rattle.std.specs.List.{AllByRecursion, list_any};
 ghost use Rattle.lid_cover.specs.Cover.{cover_value, IsCover};
 ghost use Rattle.lid_cover.specs.Masks.{packed, is_met};
-ghost use Rattle.lid_design.specs.Network.{Source, Table, IsStrict};
-ghost use Rattle.lid_order.specs.Graphs.{Among, IsOrder};
-ghost use Rattle.lid_columns.specs.Elaborations.{shown_driver};
+ghost use Rattle.lid_design.specs.Network.{Driver, Table, IsStrict};
+ghost use Rattle.lid_digraph.specs.Graphs.{Among, IsOrder};
+ghost use Rattle.lid_elab.specs.Elaborations.{shown_driver};
 ghost use Rattle.lid_strict.specs.Networks.{driver_of, bit_at, reads_of, AreHeldBelow, HasCover, bit_from, FitsRow, AgreesAt, rows_at};
 ghost use Rattle.lid_strict.specs.Programs.{cover_of, shown_step, shown_program, IsThere, IsWhole, IsLaidOut};
 
 use crate::program::{Program, Step, lay_out};
 use lid_base::Items;
-use lid_columns::Driver;
+use lid_elab::ColumnDriver;
 use lid_cover::Cube;
 use std::alloc::{AllocError, Global};
 use std::mem::swap;
@@ -80,21 +80,21 @@ fn step_bit(
     ensures { result ≡ bit_from row.now is_first before.now (bit_at now.now) (shown_step program.now.reads.items program.now.cubes.items step) }
 {
     match step {
-        Step::Given(place) => bit_of(row, place),
-        Step::Held { first, input } => {
+        Step::Input(place) => bit_of(row, place),
+        Step::Latch { first, input } => {
             if is_first {
                 first
             } else {
                 bit_of(before, input)
             }
         }
-        Step::Made { on, reads, cubes } => cover_bit(
+        Step::Cover { on, reads, cubes } => cover_bit(
             on,
             &program.cubes.as_slice()[cubes.start..cubes.end],
             &program.reads.as_slice()[reads.start..reads.end],
             now,
         ),
-        Step::Same(other) => bit_of(now, other),
+        Step::Connection(other) => bit_of(now, other),
     }
 }
 
@@ -112,7 +112,7 @@ fn settle(
     requires long { length order.now ≡ length program.now.steps.items }
     requires below { AllByRecursion (λ k. k < length now.old) order.now }
     ensures size { length now.new ≡ length now.old }
-    ensures bits { (sources : List (Source ℕ)) → IsLaidOut sources order.now program.now → (f : ℕ → Bool) → FitsRow sources row.now is_first before.now f → AgreesAt f order.now now.new }
+    ensures bits { (network : List (Driver ℕ)) → IsLaidOut network order.now program.now → (f : ℕ → Bool) → FitsRow network row.now is_first before.now f → AgreesAt f order.now now.new }
 {
     for i in 0..order.len() {
         now[order[i] as usize] = step_bit(program, program.steps[i], row, is_first, before, now);
@@ -149,8 +149,8 @@ fn run_row(
     requires below { AllByRecursion (λ k. k < length now.old) order.now }
     requires outs { AllByRecursion (λ k. k < length now.old) outs.now }
     ensures size { length now.new ≡ length now.old }
-    ensures bits { (sources : List (Source ℕ)) → IsLaidOut sources order.now program.now → (f : ℕ → Bool) → FitsRow sources row.now is_first before.now f → (k : ℕ) → k < length sources → bit_at now.new k ≡ f k }
-    ensures out { IfOk result (λ out. (sources : List (Source ℕ)) → IsLaidOut sources order.now program.now → length sources ≡ length now.old → (f : ℕ → Bool) → FitsRow sources row.now is_first before.now f → out ≡ map f outs.now) }
+    ensures bits { (network : List (Driver ℕ)) → IsLaidOut network order.now program.now → (f : ℕ → Bool) → FitsRow network row.now is_first before.now f → (k : ℕ) → k < length network → bit_at now.new k ≡ f k }
+    ensures out { IfOk result (λ out. (network : List (Driver ℕ)) → IsLaidOut network order.now program.now → length network ≡ length now.old → (f : ℕ → Bool) → FitsRow network row.now is_first before.now f → out ≡ map f outs.now) }
 {
     settle(program, order, row, is_first, before, now);
     gather(alloc, now, outs)
@@ -160,7 +160,7 @@ fn run_row(
 /// answers the bits of some numbers in each row.
 pub fn simulate(
     alloc: Global,
-    drivers: &[Driver<'_>],
+    drivers: &[ColumnDriver<'_>],
     order: &[u32],
     outs: &[u32],
     rows: &[Items<bool>],
@@ -181,7 +181,7 @@ pub fn simulate(
 /// there are none yet.
 fn run_rows(
     alloc: Global,
-    drivers: &[Driver<'_>],
+    drivers: &[ColumnDriver<'_>],
     program: &Program,
     order: &[u32],
     outs: &[u32],

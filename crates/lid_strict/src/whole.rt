@@ -5,7 +5,7 @@ ghost use Rattle.lid_design.specs.Columns.{column, root_outputs, IsStrictOutput}
 ghost use Rattle.lid_design.specs.Places.{model_nets};
 ghost use Rattle.lid_design.specs.Walks.{Among};
 ghost use Rattle.lid_design.specs.WellFormed.{IsWellFormed};
-ghost use Rattle.lid_columns.specs.Elaborations.{shown_driver, column_at, IsElaborated};
+ghost use Rattle.lid_elab.specs.Elaborations.{shown_driver, column_at, IsElaborated};
 ghost use Rattle.lid_rules.specs.Acceptance.{ModelsPass};
 ghost use Rattle.lid_check.specs.Acceptance.{IsAccepted};
 ghost use Rattle.lid_strict.specs.Networks.{AreNumbersOf};
@@ -13,10 +13,10 @@ ghost use Rattle.lid_strict.specs.Networks.{AreNumbersOf};
 use crate::simulation::simulate;
 use lid_base::{Items, Name};
 use lid_check::Checked;
-use lid_columns::{Elaboration, elaborate, find_reads};
+use lid_elab::{Elaboration, elaborate, find_reads};
 use lid_design::Design;
-use lid_models::{Survey, SurveyFault, find_uses, survey_models};
-use lid_order::{Found, find_order};
+use lid_hierarchy::{Survey, SurveyFault, find_uses, survey_models};
+use lid_digraph::{Found, find_order};
 use lid_texts::{Rows, copy_names};
 use std::alloc::{AllocError, Global};
 

@@ -11,8 +11,8 @@ use Rattle.lid_check.specs.Acceptance.{with_root, IsAccepted, IsRefused}
 use Rattle.lid_texts.specs.declared.rows.Rows.{Rows}
 use Rattle.lid_texts.specs.declared.rows.VecFault.{VecFault}
 use Rattle.lid_texts.specs.Rows.{rows_reading}
-use Rattle.lid_words.specs.declared.job.Job.{Job}
-use Rattle.lid_words.specs.declared.job.Job.TheVariants.{Strict}
+use Rattle.lid_cli.specs.declared.job.Job.{Job}
+use Rattle.lid_cli.specs.declared.job.Job.TheVariants.{Strict}
 use Rattle.lid_top.specs.Faults.{blif_line, rows_line, check_line}
 use Rattle.lid_top.specs.Outputs.{Output, strict_output}
 

@@ -16,7 +16,7 @@ use lid_design::Design;
 use lid_io::{FetchFault, fetch_all};
 use lid_strict::strict;
 use lid_texts::{Rows, print_rows, read_rows};
-use lid_words::Job;
+use lid_cli::Job;
 use std::alloc::Global;
 use std::convert::AsStr;
 

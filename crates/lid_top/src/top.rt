@@ -3,7 +3,7 @@
 ghost use Rattle.std.specs.Prelude.{◌≡◌, ◌≢◌, ◌≤◌, ◌⊎◌, None, IfSome, IsSomeAnd};
 ghost use Rattle.lid_base.specs.Outside.{Rose, Appended, AppendedPrefix};
 ghost use Rattle.lid_top.specs.Faults.{write_line};
-ghost use Rattle.lid_words.specs.Jobs.{job_of};
+ghost use Rattle.lid_cli.specs.Jobs.{job_of};
 ghost use Rattle.lid_top.specs.Scripts.{script_of};
 ghost use Rattle.lid_top.specs.Statuses.{Says, Writes, WritesPrefix, SaysRefusal, SaysRead, SaysPlain, ReadsAll, IsStatusOf};
 
@@ -11,7 +11,7 @@ use crate::fault::{say_memory, say_stop, say_usage, say_write};
 use crate::run::text_of;
 use lid_base::{Gate, Shelf, Sink, Text};
 use lid_io::write_all;
-use lid_words::{Job, read_words};
+use lid_cli::{Job, read_words};
 use std::alloc::Global;
 use std::thread::Threads;
 

@@ -1,6 +1,6 @@
 use Rattle.std.proofs.Common.{◌≡◌, ◌<◌, ◌↔◌, ℕ, Bool, true, List, length, subst}
 use Rattle.std.proofs.lemmas.Result.{IfOk-weaker}
-use Rattle.lid_order.specs.Graphs.{flag, IsReached}
+use Rattle.lid_digraph.specs.Graphs.{flag, IsReached}
 use Rattle.lid_check.specs.Pearls.{AreLed}
 use Rattle.lid_check.proofs.outputs.mark_led.Goals as goal
 

@@ -1,5 +1,5 @@
 use Rattle.std.proofs.Common.{◌≡◌, ◌↔◌, ◌<◌, ℕ, true, length}
-use Rattle.lid_order.specs.Graphs.{flag}
+use Rattle.lid_digraph.specs.Graphs.{flag}
 use Rattle.lid_check.proofs.pearls.mark_first.Given as goal
 
 abbrev pub invariant-loop-k : goal.invariant-loop-k

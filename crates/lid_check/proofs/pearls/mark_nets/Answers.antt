@@ -1,6 +1,6 @@
 use Rattle.std.proofs.Common.{◌≡◌, ◌⊎◌, ◌↔◌, ℕ, true, List, take, get_or, [], Some, sym, subst, ◌∙◌, arith}
 use Rattle.std.proofs.lemmas.List.{take_more, get_or_default}
-use Rattle.lid_order.specs.Graphs.{flag}
+use Rattle.lid_digraph.specs.Graphs.{flag}
 use Rattle.lid_check.specs.Pearls.{number_in, IsNumberOf}
 use Rattle.lid_check.proofs.Marking.{nets_more}
 use Rattle.lid_check.proofs.pearls.mark_nets.Goals as goal

@@ -1,5 +1,5 @@
 use Rattle.std.proofs.Common.{◌≡◌, ◌⊎◌, ◌↔◌, ℕ, true, take}
-use Rattle.lid_order.specs.Graphs.{flag}
+use Rattle.lid_digraph.specs.Graphs.{flag}
 use Rattle.lid_check.specs.Pearls.{IsNumberOf}
 use Rattle.lid_check.proofs.pearls.mark_nets.Given as goal
 

@@ -1,6 +1,6 @@
 use Rattle.std.proofs.Common.{◌∙◌, ap}
 use Rattle.lid_design.specs.declared.Design.{Design}
-use Rattle.lid_models.proofs.Steps.{if_ok}
+use Rattle.lid_hierarchy.proofs.Steps.{if_ok}
 use Rattle.lid_rules.specs.Conditions.{other_edge, mixed_edges}
 use Rattle.lid_rules.specs.Edges.{typed_of, typed_in}
 use Rattle.lid_judge.specs.Late.{after_clocks, after_edges}

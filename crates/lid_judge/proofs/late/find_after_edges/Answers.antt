@@ -1,5 +1,5 @@
 use Rattle.std.proofs.Common.{◌∙◌, ap}
-use Rattle.lid_models.proofs.Steps.{if_ok}
+use Rattle.lid_hierarchy.proofs.Steps.{if_ok}
 use Rattle.lid_rules.specs.Conditions.{root_logic, limits}
 use Rattle.lid_judge.specs.Late.{after_edges}
 use Rattle.lid_rules.proofs.Faults.{told_first, told_later}

@@ -1,5 +1,5 @@
 use Rattle.std.proofs.Common.{◌∙◌}
-use Rattle.lid_models.proofs.Steps.{if_ok}
+use Rattle.lid_hierarchy.proofs.Steps.{if_ok}
 use Rattle.lid_judge.specs.Late.{after_names}
 use Rattle.lid_rules.proofs.Faults.{told_first, told_later}
 use Rattle.lid_judge.proofs.late.find_after_names.Goals as goal

@@ -1,7 +1,7 @@
 use Rattle.std.proofs.Common.{◌∙◌, ap, subst}
 use Rattle.lid_design.specs.declared.Design.{Design}
 use Rattle.lid_design.specs.Models.{AreReached}
-use Rattle.lid_models.proofs.Steps.{if_ok}
+use Rattle.lid_hierarchy.proofs.Steps.{if_ok}
 use Rattle.lid_rules.specs.Acceptance.{fault_after_recursion}
 use Rattle.lid_rules.proofs.Passing.{one_list}
 use Rattle.lid_judge.proofs.late.find_late.Goals as goal

@@ -1,5 +1,5 @@
 use Rattle.std.proofs.Common.{option_and_then, sym, ◌∙◌, ap}
-use Rattle.lid_models.proofs.Steps.{if_ok}
+use Rattle.lid_hierarchy.proofs.Steps.{if_ok}
 use Rattle.lid_names.proofs.Numbers.{here_is}
 use Rattle.lid_rules.specs.Conditions.{in_insts}
 use Rattle.lid_rules.specs.Rules.{inst_rule, inst_at}

@@ -2,7 +2,7 @@ use Rattle.std.proofs.Common.{[], Some, filter, option_and_then, slice_get, sym,
 use Rattle.lid_design.specs.declared.Design.{Design}
 use Rattle.lid_design.specs.Columns.{is_clock}
 use Rattle.lid_design.specs.Models.{port_drivers, number_from}
-use Rattle.lid_models.proofs.Steps.{if_ok}
+use Rattle.lid_hierarchy.proofs.Steps.{if_ok}
 use Rattle.lid_rules.specs.Conditions.{first_two, two_clocks}
 use Rattle.lid_names.proofs.Numbers.{here_is}
 use Rattle.lid_rules.proofs.root.find_two_clocks.Goals as goal

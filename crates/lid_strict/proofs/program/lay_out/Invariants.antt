@@ -1,5 +1,5 @@
 use Rattle.std.proofs.Common.{◌≡◌, ◌++◌, map, drop}
-use Rattle.lid_columns.specs.Elaborations.{shown_driver}
+use Rattle.lid_elab.specs.Elaborations.{shown_driver}
 use Rattle.lid_strict.specs.Programs.{shown_program, in_order, IsWhole}
 use Rattle.lid_strict.proofs.program.lay_out.Given as goal
 

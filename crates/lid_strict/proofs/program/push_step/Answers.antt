@@ -1,6 +1,6 @@
 use Rattle.std.proofs.Common.{ℕ, List, [], ◌∷◌, ◌++◌, map, ◌∙◌, ap}
 use Rattle.std.proofs.lemmas.List.{map-append}
-use Rattle.lid_design.specs.Network.{Source}
+use Rattle.lid_design.specs.Network.{Driver}
 use Rattle.lid_strict.specs.Programs.{shown_step}
 use Rattle.lid_strict.proofs.Laying.{shown_more}
 use Rattle.lid_strict.proofs.program.push_step.Goals as goal
@@ -14,5 +14,5 @@ returns-clause-shown c =
     let last = c.in_ok-step.ensures.shown in
     ap (map (shown_step reads cubes)) c.in_ok-push.ensures.items
     ∙ map-append (shown_step reads cubes) old.steps.items (c.in_ok-step.step ∷ [])
-    ∙ ap (λ (xs : List (Source ℕ)). xs ++ shown_step reads cubes c.in_ok-step.step ∷ []) before
-    ∙ ap (λ (s : Source ℕ). map (shown_step old.reads.items old.cubes.items) old.steps.items ++ s ∷ []) last
+    ∙ ap (λ (xs : List (Driver ℕ)). xs ++ shown_step reads cubes c.in_ok-step.step ∷ []) before
+    ∙ ap (λ (s : Driver ℕ). map (shown_step old.reads.items old.cubes.items) old.steps.items ++ s ∷ []) last

@@ -1,5 +1,5 @@
 use Rattle.std.proofs.Common.{◌≡◌, length, map}
-use Rattle.lid_columns.specs.Elaborations.{shown_driver}
+use Rattle.lid_elab.specs.Elaborations.{shown_driver}
 use Rattle.lid_strict.specs.Networks.{IsRun}
 use Rattle.lid_strict.proofs.simulation.run_rows.Given as goal
 

@@ -1,10 +1,10 @@
 use Rattle.std.proofs.Common.{◌≡◌, ◌<◌, ◌≤◌, ℕ, length, slice_index, slice_get, Some, refl, sym, ◌∙◌, subst, arith}
 use Rattle.std.proofs.lemmas.List.{take_all, length-set}
 use Rattle.std.proofs.lemmas.Option.{slice_get_read, slice_get-get_or}
-use Rattle.lid_order.specs.Graphs.{Among}
+use Rattle.lid_digraph.specs.Graphs.{Among}
 use Rattle.lid_strict.specs.Programs.{shown_step}
 use Rattle.lid_strict.proofs.Settling.{agrees_next, all-at}
-use Rattle.lid_strict.proofs.Steps.{step_source, step_cover}
+use Rattle.lid_strict.proofs.Steps.{step_driver, step_cover}
 use Rattle.lid_strict.proofs.simulation.settle.Goals as goal
 
 pub step_bit-requires-clause-cover : goal.step_bit-requires-clause-cover
@@ -29,11 +29,11 @@ loop-i-preserved c =
     let room = all-at (λ (n : ℕ). n < length c.args.now.now) order i k c.requires.below (slice_get-get_or order i 0 h) in
     let room_now : k < length c.loop-i.now = omega arith in (
       length-set c.loop-i.now k c.step_bit.result ∙ kept,
-      (λ sources laid f fits.
-          agrees_next sources order laid.ordered c.args.row.now c.args.is_first c.args.before.now c.loop-i.now i h (shown_step p.reads.items p.cubes.items step) (step_source sources order p laid i h step here) room_now c.step_bit.result c.step_bit.ensures f fits (c.loop-i.invariant.1 sources laid f fits)),
+      (λ network laid f fits.
+          agrees_next network order laid.ordered c.args.row.now c.args.is_first c.args.before.now c.loop-i.now i h (shown_step p.reads.items p.cubes.items step) (step_driver network order p laid i h step here) room_now c.step_bit.result c.step_bit.ensures f fits (c.loop-i.invariant.1 network laid f fits)),
     )
 
 pub returns-clause-bits : goal.returns-clause-bits
-returns-clause-bits c sources laid f fits k among =
+returns-clause-bits c network laid f fits k among =
     let done : length c.args.order.now ≤ c.loop-i.i = omega arith in
-    c.loop-i.invariant.1 sources laid f fits k (subst (Among k) (sym (take_all c.loop-i.i c.args.order.now done)) among)
+    c.loop-i.invariant.1 network laid f fits k (subst (Among k) (sym (take_all c.loop-i.i c.args.order.now done)) among)

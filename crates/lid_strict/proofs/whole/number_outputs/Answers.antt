@@ -3,7 +3,7 @@ use Rattle.std.specs.List.{AllByRecursion}
 use Rattle.std.proofs.lemmas.List.{length-map, take_all}
 use Rattle.lid_design.specs.Columns.{column}
 use Rattle.lid_design.specs.Walks.{Among}
-use Rattle.lid_columns.specs.Elaborations.{shown_driver, column_at}
+use Rattle.lid_elab.specs.Elaborations.{shown_driver, column_at}
 use Rattle.lid_strict.proofs.Placing.{outputs_are, item_among, place_below, place_column, numbers_more}
 use Rattle.lid_strict.proofs.whole.number_outputs.Goals as goal
 
@@ -29,12 +29,12 @@ loop-name-preserved c =
     let name = c.name-item.result in
     let names = c.as_slice-name-items.result.now in
     let place = c.place_of.result in
-    let sources = map shown_driver c.args.columns.now.drivers in
+    let network = map shown_driver c.args.columns.now.drivers in
     let starts = c.args.columns.now.starts in
     let long = length-map c.args.columns.now.drivers shown_driver in
-    let room = subst (λ (n : ℕ). place < n) long (place_below d sources starts c.requires.elaborated name place c.place_of.ensures) in
+    let room = subst (λ (n : ℕ). place < n) long (place_below d network starts c.requires.elaborated name place c.place_of.ensures) in
     numbers_more d (length c.args.columns.now.drivers) names c.loop-name.name-index name c.loop-name.numbers.items c.push.new.self.items place c.loop-name-test.true c.name-item.is c.loop-name.invariant.0 c.loop-name.invariant.1 c.in_ok-push.ensures.items room
-    (place_column d sources starts c.requires.elaborated name place c.place_of.ensures)
+    (place_column d network starts c.requires.elaborated name place c.place_of.ensures)
 
 pub returns : goal.returns
 returns c =

@@ -1,0 +1,30 @@
+-- Some words, and the jobs that they are by the definitions alone.
+use Rattle.std.proofs.Common.{◌≡◌, refl, [], ◌∷◌, Some, None, codes}
+use Rattle.clap.proofs.OnLiterals.{clap_on_literals}
+use Rattle.lid_cli.specs.declared.job.Job.TheVariants.{Strict}
+use Rattle.lid_cli.specs.Reading.{lid_app, given_in}
+use Rattle.lid_cli.specs.Jobs.{is_given, is_tallied, files_in, file_at, is_allowed, has_only, has_each, has_form, strict_job, job_made, job_formed, form_in, job_given, job_of}
+
+unfoldable words_on_literals : Unit {0}
+unfolding clap_on_literals lid_app given_in is_given is_tallied files_in file_at is_allowed has_only has_each has_form strict_job job_made job_formed form_in job_given job_of
+words_on_literals = tt
+
+-- `strict a b --root=m`
+strict_with_root : job_of (codes "strict" ∷ codes "a" ∷ codes "b" ∷ codes "--root=m" ∷ []) ≡ Some (Strict (codes "a") (codes "b") (Some (codes "m")))
+unfolding words_on_literals
+strict_with_root = refl
+
+-- `strict a` has one file
+strict_with_one_file : job_of (codes "strict" ∷ codes "a" ∷ []) ≡ None
+unfolding words_on_literals
+strict_with_one_file = refl
+
+-- `strict a b --workers 2` has an option of another command
+strict_with_workers : job_of (codes "strict" ∷ codes "a" ∷ codes "b" ∷ codes "--workers" ∷ codes "2" ∷ []) ≡ None
+unfolding words_on_literals
+strict_with_workers = refl
+
+-- `strict a b --tally` has the flag
+strict_with_tally : job_of (codes "strict" ∷ codes "a" ∷ codes "b" ∷ codes "--tally" ∷ []) ≡ None
+unfolding words_on_literals
+strict_with_tally = refl

@@ -1,0 +1,155 @@
+//! What stands in the words, as `clap` found it.
+
+ghost use Rattle.std.specs.Prelude.{◌≡◌, IfOk, map, option_map, length, slice_index_or, []};
+ghost use Rattle.std.specs.List.{list_all, list_any};
+ghost use Rattle.std.specs.Str.{bytes_eq};
+ghost use Rattle.clap.specs.Words.{all_of, first_of};
+ghost use Rattle.lid_cli.specs.Reading.{rows_in};
+ghost use Rattle.lid_cli.specs.Jobs.{is_given, is_tallied, is_allowed, files_in, file_at, has_only, has_each};
+
+use crate::table::{FILES, OPTIONS, TALLY};
+use clap::ArgMatches;
+use lid_base::{Name, Text};
+use std::alloc::{AllocError, Global};
+
+/// The value of an option or of the command's place.
+pub fn value_of<'a>(given: &ArgMatches<'a>, name: &str) -> Option<&'a str>
+    ensures { option_map (λ s. s.now) result ≡ first_of name.now (rows_in given.now) }
+{
+    given.get_str(name)
+}
+
+/// Whether an option stands in the words.
+#[tactic(auto, unfolding(crate::specs::Jobs::is_given))]
+pub fn is_given(given: &ArgMatches<'_>, name: &str) -> bool
+    ensures { result ≡ is_given (rows_in given.now) name.now }
+{
+    value_of(given, name).is_some()
+}
+
+/// Whether the flag stands in the words.
+#[tactic(auto, unfolding(crate::specs::Jobs::is_tallied))]
+pub fn is_tallied(given: &ArgMatches<'_>) -> bool
+    ensures { result ≡ is_tallied (rows_in given.now) }
+{
+    match value_of(given, TALLY) {
+        Some(text) => text == "true",
+        None => false,
+    }
+}
+
+/// The files in their order, where there are some.
+fn files<'m, 'a>(given: &'m ArgMatches<'a>) -> Option<&'m [&'a str]>
+    ensures { option_map (λ s. map (λ f. f.now) s.now) result ≡ all_of FILES.now (rows_in given.now) }
+{
+    given.get_strs(FILES)
+}
+
+/// How many files there are.
+#[tactic(auto, unfolding(crate::specs::Jobs::files_in))]
+pub fn file_count(given: &ArgMatches<'_>) -> usize
+    ensures { result ≡ length (files_in (rows_in given.now)) }
+{
+    match files(given) {
+        Some(names) => names.len(),
+        None => 0,
+    }
+}
+
+/// The name of a file by its place; no text where there is none.
+#[tactic(auto, unfolding(crate::specs::Jobs::files_in, crate::specs::Jobs::file_at))]
+fn file_at<'a>(given: &ArgMatches<'a>, at: usize) -> &'a str
+    ensures { result.now ≡ file_at at (rows_in given.now) }
+{
+    match files(given) {
+        Some(names) => name_at(names, at),
+        None => "",
+    }
+}
+
+/// The name at a place; no text where there is none.
+fn name_at<'a>(names: &[&'a str], at: usize) -> &'a str
+    ensures { result.now ≡ slice_index_or (map (λ n. n.now) names.now) at [] }
+{
+    match names.get(at) {
+        Some(name) => name,
+        None => "",
+    }
+}
+
+/// The text of the name of a file by its place.
+pub fn file_text(alloc: Global, given: &ArgMatches<'_>, at: usize) -> Result<Text, AllocError>
+    ensures { IfOk result (λ text. text ≡ file_at at (rows_in given.now)) }
+{
+    Ok(Text::new(String::from_str(alloc, file_at(given, at))?))
+}
+
+/// The value of an option, where it stands in the words.
+pub fn name_of(
+    alloc: Global,
+    given: &ArgMatches<'_>,
+    option: &str,
+) -> Result<Option<Name>, AllocError>
+    ensures { IfOk result (λ name. name ≡ first_of option.now (rows_in given.now)) }
+{
+    match value_of(given, option) {
+        Some(value) => {
+            let bytes = Vec::from_slice(alloc, value.as_bytes())?;
+            Ok(Some(Name::from_vec(bytes)))
+        }
+        None => Ok(None),
+    }
+}
+
+/// Whether a name is one of these.
+fn is_one_of(name: &str, names: &[&str]) -> bool
+    ensures { result ≡ list_any (λ n. bytes_eq n name.now) (map (λ n. n.now) names.now) }
+{
+    for known in names {
+        if *known == name {
+            return true;
+        }
+    }
+    false
+}
+
+/// Whether an option stands only where it may.
+#[tactic(auto, unfolding(crate::specs::Jobs::is_allowed))]
+fn is_allowed(given: &ArgMatches<'_>, options: &[&str], name: &str) -> bool
+    ensures { result ≡ is_allowed (map (λ o. o.now) options.now) (rows_in given.now) name.now }
+{
+    !is_given(given, name) || is_one_of(name, options)
+}
+
+/// Whether each of these names is that of an option that stands only where it may.
+fn are_allowed(given: &ArgMatches<'_>, options: &[&str], names: &[&str]) -> bool
+    ensures { result ≡ list_all (is_allowed (map (λ o. o.now) options.now) (rows_in given.now)) (map (λ n. n.now) names.now) }
+{
+    for name in names {
+        if !is_allowed(given, options, name) {
+            return false;
+        }
+    }
+    true
+}
+
+/// Whether only these options stand in the words.
+#[tactic(auto, unfolding(crate::specs::Jobs::has_only))]
+pub fn has_only(given: &ArgMatches<'_>, options: &[&str]) -> bool
+    ensures { result ≡ has_only (map (λ o. o.now) options.now) (rows_in given.now) }
+{
+    are_allowed(given, options, &OPTIONS)
+}
+
+/// Whether these options stand in the words.
+#[tactic(auto, unfolding(crate::specs::Jobs::has_each))]
+pub fn has_each(given: &ArgMatches<'_>, options: &[&str]) -> bool
+    ensures { result ≡ has_each (map (λ o. o.now) options.now) (rows_in given.now) }
+{
+    for option in options {
+        if !is_given(given, option) {
+            return false;
+        }
+    }
+    true
+}

@@ -1,0 +1,81 @@
+//! The job that the words of a command line ask for.
+
+ghost use Rattle.std.specs.Prelude.{◌≡◌, IfOk};
+ghost use Rattle.lid_cli.specs.Reading.{rows_in};
+ghost use Rattle.lid_cli.specs.Jobs.{form_shown, job_made, job_formed, job_given, job_of};
+
+use crate::form::{form_of, has_form};
+use crate::reading::parse;
+use crate::strict::strict_job;
+use crate::table::{Command, Form};
+use clap::ArgMatches;
+use lid_base::{Name, Text};
+use std::alloc::{AllocError, Global};
+
+/// What the words ask for.
+#[derive(Drop)]
+pub enum Job {
+    /// `strict NET VEC`: the strict outputs of a netlist for rows of input bits.
+    Strict {
+        /// The name of the file with the netlist.
+        net: Text,
+        /// The name of the file with the rows.
+        vec: Text,
+        /// The name of the model that is to be the root; none stands for the first model. With
+        /// `--root=` it is the empty name.
+        root: Option<Name>,
+    },
+}
+
+/// The job of a command whose form the words have.
+#[tactic(auto, unfolding(crate::specs::Jobs::job_made))]
+fn make_job(
+    alloc: Global,
+    command: Command,
+    given: &ArgMatches<'_>,
+) -> Result<Option<Job>, AllocError>
+    ensures { IfOk result (λ job. job ≡ job_made command (rows_in given.now)) }
+{
+    match command {
+        Command::Strict => strict_job(alloc, given),
+    }
+}
+
+/// The job of a form, where the words have it.
+#[tactic(auto, unfolding(crate::specs::Jobs::job_formed))]
+fn formed_job(alloc: Global, form: Form, given: &ArgMatches<'_>) -> Result<Option<Job>, AllocError>
+    ensures { IfOk result (λ job. job ≡ job_formed (rows_in given.now) (form_shown form.entry)) }
+{
+    let (command, ..) = form;
+    if has_form(form, given) {
+        make_job(alloc, command, given)
+    } else {
+        Ok(None)
+    }
+}
+
+/// The job that stands in what `clap` found.
+#[tactic(auto, unfolding(crate::specs::Jobs::job_given))]
+fn given_job(alloc: Global, given: &ArgMatches<'_>) -> Result<Option<Job>, AllocError>
+    ensures { IfOk result (λ job. job ≡ job_given (rows_in given.now)) }
+{
+    match form_of(given) {
+        Some(form) => formed_job(alloc, form, given),
+        None => Ok(None),
+    }
+}
+
+/// The job that the words after the program's name ask for; `None` where they are no job.
+///
+/// # Errors
+///
+/// Where there is no memory.
+#[tactic(auto, unfolding(crate::specs::Jobs::job_of))]
+pub fn read_words(alloc: Global, words: &[Text]) -> Result<Option<Job>, AllocError>
+    ensures { IfOk result (λ job. job ≡ job_of words.now) }
+{
+    match parse(alloc, words)? {
+        Some(given) => given_job(alloc, &given),
+        None => Ok(None),
+    }
+}

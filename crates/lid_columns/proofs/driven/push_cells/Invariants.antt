@@ -1,7 +1,0 @@
-use Rattle.std.proofs.Common.{drop, map}
-use Rattle.lid_columns.specs.Locals.{local_of}
-use Rattle.lid_columns.proofs.Driving.{Left}
-use Rattle.lid_columns.proofs.driven.push_cells.Given as goal
-
-abbrev pub invariant-loop-cell : goal.invariant-loop-cell
-invariant-loop-cell l = Left l.survey l.model l.into (map local_of (drop l.cell-index l.cells)) l.fn.into (map local_of l.cells)

@@ -1,7 +1,0 @@
-use Rattle.std.proofs.Common.{List, sym, subst}
-use Rattle.lid_columns.specs.declared.template.Template.{Template}
-use Rattle.lid_columns.specs.Writing.{AreTemplates}
-use Rattle.lid_columns.proofs.template.find_templates.Goals as goal
-
-pub returns : goal.returns
-returns c = subst (λ (ts : List Template). AreTemplates c.args.survey.now ts) (sym c.from_vec.ensures) c.in_ok-push_templates.ensures

@@ -1,0 +1,149 @@
+-- Sizes of models and offsets of their instances.
+use Rattle.std.proofs.Common.{◌≡◌, ◌≢◌, ◌⊎◌, ℕ, zero, suc, ◌+◌, ◌<◌, ◌≤◌, true, false, List, [], ◌∷◌, ◌++◌, length, take, set, replicate, get_or, eqb, Option, Some, None, option_and_then, slice_get, inl, inr, refl, sym, ◌∙◌, ap, subst, arith, add-zero}
+use Rattle.std.specs.Option.{option_map_or}
+use Rattle.std.proofs.lemmas.List.{take_all, take_more, get_or-set_same, get_or-set_other, length-set, length-replicate}
+use Rattle.std.proofs.lemmas.Option.{slice_get_read, get_or_from_slice_get}
+use Rattle.std.proofs.lemmas.Bool.Decides.{eqb_tells}
+use Rattle.lid_design.specs.declared.Design.{Design}
+use Rattle.lid_design.specs.declared.Inst.{Inst}
+use Rattle.lid_design.specs.Models.{insts_of, instance_number, number_named, IsReached}
+use Rattle.lid_design.specs.Places.{model_nets}
+use Rattle.lid_design.specs.Walks.{Among}
+use Rattle.lid_design.proofs.Tables.{among-left, among-right}
+use Rattle.lid_hierarchy.specs.Surveys.{StandsAfterItsModels, IsModelOrder}
+use Rattle.lid_hierarchy.proofs.Walks.{reached_below}
+use Rattle.lid_elab.specs.Numbers.{over_insts, size_of, offset_of}
+use Rattle.lid_elab.specs.Parts.{AreSizes, HasSizes}
+use Rattle.lid_elab.specs.Writing.{IsJudged}
+use Rattle.lid_elab.proofs.Judged.{shallow_of, few_columns, within}
+use Rattle.lid_elab.proofs.Stacking.{size_sum}
+
+-- one more instance of a list
+over-step : (d : Design) (f : ℕ → ℕ) (insts : List Inst) (i : ℕ) → over_insts d f (take (suc i) insts) ≡ over_insts d f (take i insts) + option_map_or f (option_and_then (λ inst. number_named d inst.model) (slice_get insts i)) 0
+over-step d f [] zero = refl
+over-step d f [] (suc i) = refl
+over-step d f (x ∷ insts) zero = omega arith
+over-step d f (x ∷ insts) (suc i) = let e = over-step d f insts i in omega arith
+
+over-some : (d : Design) (f : ℕ → ℕ) (insts : List Inst) (i : ℕ) → over_insts d f (take i insts) ≤ over_insts d f insts
+over-some d f insts zero = omega arith
+over-some d f [] (suc i) = omega arith
+over-some d f (x ∷ insts) (suc i) = let e = over-some d f insts i in omega arith
+
+-- the offset of the next instance
+pub offset_next : (d : Design) (k i : ℕ) → offset_of d k (i + 1) ≡ offset_of d k i + option_map_or (size_of d) (instance_number d i k) 0
+offset_next d k i =
+    let next : i + 1 ≡ suc i = omega arith in
+    let step = over-step d (size_of d) (insts_of d k) i in
+    ap (λ (n : ℕ). length (model_nets d k) + over_insts d (size_of d) (take n (insts_of d k))) next ∙ omega arith
+
+module _ (d : Design) (judged : IsJudged d) (k : ℕ) (reached : IsReached d k) where
+  pub size_is : size_of d k ≡ length (model_nets d k) + over_insts d (size_of d) (insts_of d k)
+  size_is = size_sum d k (shallow_of d judged k reached)
+
+  pub size_small : size_of d k ≤ 1048576
+  size_small = let w = within d judged reached.0 k reached.1 in let f = few_columns d judged in omega arith
+
+  pub nets_small : length (model_nets d k) ≤ 1048576
+  nets_small = let a = size_is in let b = size_small in omega arith
+
+  pub offset_small : (i : ℕ) → offset_of d k i ≤ 1048576
+  offset_small i = let a = size_is in let b = size_small in let e = over-some d (size_of d) (insts_of d k) i in omega arith
+
+  -- the offset past the last instance is the size
+  pub offset_end : (i : ℕ) → length (insts_of d k) ≤ i → offset_of d k i ≡ size_of d k
+  offset_end i past = ap (λ (is : List Inst). length (model_nets d k) + over_insts d (size_of d) is) (take_all i (insts_of d k) past) ∙ sym size_is
+
+  pub model_below : k < length d.models
+  model_below = reached_below d judged.formed k reached
+
+  pub first_offset : offset_of d k 0 ≡ length (model_nets d k)
+  first_offset = add-zero (length (model_nets d k))
+
+-- a size that is there is that of an item of the list
+pub get_within : (xs : List (Option ℕ)) (k n : ℕ) → get_or xs k None ≡ Some n → k < length xs
+get_within [] k n h = absurd (let e : None ≡ Some n = h in cc)
+get_within (x ∷ xs) zero n h = omega arith
+get_within (x ∷ xs) (suc k) n h = let e = get_within xs k n h in omega arith
+
+-- what is read at a place
+pub get_read : (xs : List (Option ℕ)) (k : ℕ) (x : Option ℕ) → k < length xs → x ≡ get_or xs k x → get_or xs k None ≡ x
+get_read xs k x below is = get_or_from_slice_get xs k x None (slice_get_read xs (length xs) k x refl below is)
+
+abbrev no_size : Option ℕ
+no_size = None
+
+none_there : (n k m : ℕ) → get_or (replicate n no_size) k None ≡ Some m → ⊥
+none_there zero k m h = absurd (let e : None ≡ Some m = h in cc)
+none_there (suc n) zero m h = absurd (let e : None ≡ Some m = h in cc)
+none_there (suc n) (suc k) m h = none_there n k m h
+
+-- the model of an instance stands before the model that has it
+earlier : (d : Design) (found order : List ℕ) (i : ℕ) → i < length order → StandsAfterItsModels d found order → (inst j : ℕ) → instance_number d inst (get_or order i 0) ≡ Some j → Among j found ⊎ Among j (take i order)
+earlier d found [] i h after inst j names = absurd (omega arith)
+earlier d found (x ∷ order) zero h after inst j names = inl (after.0 inst j names)
+earlier d found (x ∷ order) (suc i) h after inst j names = by (earlier d (x ∷ found) order i (omega arith) after.1 inst j names)
+  where
+    by : Among j (x ∷ found) ⊎ Among j (take i order) → Among j found ⊎ Among j (take (suc i) (x ∷ order))
+    by (inl (inl same)) = inr (inl same)
+    by (inl (inr among)) = inl among
+    by (inr among) = inr (inr among)
+
+last_case : {P : Type 0} (x : ℕ) (xs : List ℕ) (k : ℕ) → Among x (xs ++ k ∷ []) → (Among x xs → P) → (x ≡ k → P) → P
+last_case x [] k (inl same) here last = last same
+last_case x [] k (inr none) here last = absurd none
+last_case x (y ∷ ys) k (inl same) here last = here (inl same)
+last_case x (y ∷ ys) k (inr among) here last = last_case x ys k among (λ later. here (inr later)) last
+
+module _ (d : Design) where
+  pub sizes_start : (sizes : List (Option ℕ)) (order : List ℕ) → sizes ≡ replicate (length d.models) None → AreSizes d (λ k. Among k (take 0 order)) sizes
+  sizes_start sizes order is = record {
+    long = ap length is ∙ length-replicate (length d.models) None;
+    each = λ k none. absurd none;
+    only = λ k n there. absurd (none_there (length d.models) k n (ap (λ (xs : List (Option ℕ)). get_or xs k None) (sym is) ∙ there));
+  }
+
+  module _ (order : List ℕ) (ordered : IsModelOrder d order) (i : ℕ) (h : i < length order) (sizes : List (Option ℕ)) (have : AreSizes d (λ k. Among k (take i order)) sizes) where
+    -- the models of the next model's instances have their sizes
+    pub sizes_known : HasSizes d (get_or order i 0) sizes
+    sizes_known inst j names = by (earlier d [] order i h ordered.after inst j names)
+      where
+        by : ⊥ ⊎ Among j (take i order) → get_or sizes j None ≡ Some (size_of d j)
+        by (inl none) = absurd none
+        by (inr among) = have.each j among
+
+    -- the next model has its size too
+    pub sizes_next : (new : List (Option ℕ)) → get_or order i 0 < length d.models → new ≡ set sizes (get_or order i 0) (Some (size_of d (get_or order i 0))) → AreSizes d (λ k. Among k (take (i + 1) order)) new
+    sizes_next new below is = record {
+      long = ap length is ∙ length-set sizes at (Some (size_of d at)) ∙ have.long;
+      each = λ k among. last_case k (take i order) at (subst (Among k) (take_more order i 0 h) among) (λ before. older k before (eqb_tells k at)) (here k);
+      only = λ k n there. subst (Among k) (sym (take_more order i 0 h)) (known k n there (eqb_tells k at));
+    }
+      where
+        at : ℕ
+        at = get_or order i 0
+
+        new_here : get_or new at None ≡ Some (size_of d at)
+        new_here = ap (λ (xs : List (Option ℕ)). get_or xs at None) is ∙ get_or-set_same sizes at (Some (size_of d at)) None (let l = have.long in omega arith)
+
+        new_other : (k : ℕ) → k ≢ at → get_or new k None ≡ get_or sizes k None
+        new_other k other = ap (λ (xs : List (Option ℕ)). get_or xs k None) is ∙ get_or-set_other sizes at k (Some (size_of d at)) None other
+
+        here : (k : ℕ) → k ≡ at → get_or new k None ≡ Some (size_of d k)
+        here k same = subst (λ (n : ℕ). get_or new n None ≡ Some (size_of d n)) (sym same) new_here
+
+        older : (k : ℕ) → Among k (take i order) → ((eqb k at ≡ true) × (k ≡ at)) ⊎ ((eqb k at ≡ false) × (k ≢ at)) → get_or new k None ≡ Some (size_of d k)
+        older k before (inl same) = here k same.1
+        older k before (inr other) = new_other k other.1 ∙ have.each k before
+
+        known : (k n : ℕ) → get_or new k None ≡ Some n → ((eqb k at ≡ true) × (k ≡ at)) ⊎ ((eqb k at ≡ false) × (k ≢ at)) → Among k (take i order ++ at ∷ [])
+        known k n there (inl same) = among-right k (take i order) (at ∷ []) (inl same.1)
+        known k n there (inr other) = among-left k (take i order) (at ∷ []) (have.only k n (sym (new_other k other.1) ∙ there))
+
+  -- all models of the order have theirs
+  pub sizes_end : (order : List ℕ) → IsModelOrder d order → (n : ℕ) → length order ≤ n → (sizes : List (Option ℕ)) → AreSizes d (λ k. Among k (take n order)) sizes → AreSizes d (IsReached d) sizes
+  sizes_end order ordered n past sizes have = record {
+    long = have.long;
+    each = λ k reached. have.each k (subst (Among k) (sym (take_all n order past)) (ordered.each k reached));
+    only = λ k m there. ordered.only k (subst (Among k) (take_all n order past) (have.only k m there));
+  }

@@ -1,0 +1,83 @@
+-- What follows for the places of a design that is judged.
+use Rattle.std.proofs.Common.{◌≡◌, ℕ, ◌+◌, ◌≤◌, nat_lt, min, cond, Bool, true, false, List, [], ◌∷◌, ◌++◌, length, Some, None, refl, ◌∙◌, ap, arith, length-append}
+use Rattle.std.specs.List.{sum_by}
+use Rattle.std.proofs.lemmas.Bool.{ltb-false}
+use Rattle.std.proofs.lemmas.List.Concat.{length-flat_map}
+use Rattle.lid_design.specs.declared.Design.{Design}
+use Rattle.lid_design.specs.Columns.{column}
+use Rattle.lid_design.specs.Models.{insts_of, number_from, IsReached}
+use Rattle.lid_design.specs.Places.{Place as PlaceOf, places, model_nets, columns_at, columns, count_nets, count_cells, depth}
+use Rattle.lid_base.specs.declared.which.Which.{Which}
+use Rattle.lid_base.specs.declared.which.Which.TheVariants.{RootInsts, Depth, Cells, Nets}
+use Rattle.lid_rules.specs.declared.fault.CheckFault.TheVariants.{Limit}
+use Rattle.std.proofs.lemmas.List.Sums.{sum_by-cons}
+use Rattle.lid_rules.specs.Conditions.{limits, unknown_formal, formal_twice, unbound, two_drivers, undriven, clock_use, two_clocks, mixed_edges, root_logic, over}
+use Rattle.lid_rules.specs.Acceptance.{fault_after_recursion}
+use Rattle.lid_elab.specs.Numbers.{size_of, start_of, columns_in}
+use Rattle.lid_elab.specs.Writing.{IsJudged}
+use Rattle.lid_elab.proofs.Passing.{or_none}
+use Rattle.lid_elab.proofs.Shallow.{IsShallow, reached_shallow}
+use Rattle.lid_elab.proofs.Numbering.{numbering, columns-length}
+use Rattle.std.proofs.lemmas.List.{length-map}
+
+pub no_limit : (d : Design) (ks : List ℕ) → fault_after_recursion d ks ≡ None → limits d ≡ None
+unfolding fault_after_recursion
+no_limit d ks none =
+    let a = or_none (unknown_formal d ks) _ none in
+    let b = or_none (formal_twice d ks) _ a.1 in
+    let e = or_none (unbound d ks) _ b.1 in
+    let f = or_none (two_drivers d ks) _ e.1 in
+    let g = or_none (undriven d ks) _ f.1 in
+    let h = or_none (clock_use d ks) _ g.1 in
+    let i = or_none (two_clocks d) _ h.1 in
+    let j = or_none (mixed_edges d ks) _ i.1 in
+    (or_none (root_logic d) (limits d) j.1).1
+
+not_over : (greatest count : ℕ) (which : Which) → over greatest which count ≡ None → count ≤ greatest
+not_over greatest count which none = by (nat_lt greatest count) refl none
+  where
+    by : (b : Bool) → nat_lt greatest count ≡ b → cond b (Some (Limit which (min count 4294967295))) None ≡ None → count ≤ greatest
+    by true e some = absurd (let f : Some (Limit which (min count 4294967295)) ≡ None = some in cc)
+    by false e is = ltb-false greatest count e
+
+pub few_nets : (d : Design) → limits d ≡ None → count_nets d ≤ 1048576
+unfolding limits
+few_nets d none =
+    let a = or_none (over 4096 RootInsts (length (insts_of d d.root))) _ none in
+    let b = or_none (over 64 Depth (depth d)) _ a.1 in
+    let e = or_none (over 262144 Cells (count_cells d)) _ b.1 in
+    not_over 1048576 (count_nets d) Nets e.1
+
+sum_same : {A : Type 0} (f g : A → ℕ) (xs : List A) → ((x : A) → f x ≡ g x) → sum_by f xs ≡ sum_by g xs
+sum_same f g [] same = refl
+sum_same f g (x ∷ xs) same =
+    let a = sum_by-cons f x xs in
+    let b = sum_by-cons g x xs in
+    let h = same x in
+    let t = sum_same f g xs same in
+    omega arith
+
+nets_counted : (d : Design) → length (columns d) ≡ count_nets d
+unfolding columns count_nets
+nets_counted d =
+    length-flat_map (columns_at d) (places d)
+    ∙ sum_same (λ p. length (columns_at d p)) (λ (p : PlaceOf). length (model_nets d p.model)) (places d) (λ p. length-map (model_nets d p.model) (column p.path))
+
+module _ (d : Design) (judged : IsJudged d) where
+  pub shallow_of : (k : ℕ) → IsReached d k → IsShallow d (length d.models) k
+  shallow_of k reached = reached_shallow d judged.order judged.ordered k reached
+
+  pub few_columns : length (columns d) ≤ 1048576
+  few_columns = let few = few_nets d (no_limit d judged.pass.ks judged.pass.after) in let same = nets_counted d in omega arith
+
+  -- the columns of a place and of the places in it are among all
+  pub within : (path : List ℕ) (k : ℕ) → number_from d d.root path ≡ Some k → start_of d path + size_of d k ≤ length (columns d)
+  unfolding size_of
+  within path k leads =
+      let stands = numbering d shallow_of path k leads in
+      let part = columns_in (length d.models) d path k in
+      let size = columns-length d (length d.models) path k in
+      let whole : length (columns d) ≡ length stands.before + (length part + length stands.after) =
+      ap length stands.parts ∙ length-append stands.before (part ++ stands.after) ∙ ap (λ (n : ℕ). length stands.before + n) (length-append part stands.after) in
+      let first = stands.long in
+      omega arith

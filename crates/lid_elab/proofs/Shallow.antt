@@ -1,0 +1,38 @@
+-- Chains of instances from the models of an order have fewer steps than there are models.
+use Rattle.std.proofs.Common.{◌≡◌, ℕ, zero, suc, ◌+◌, ◌≤◌, List, [], ◌∷◌, length, Some, inl, inr, sym, subst, arith}
+use Rattle.lid_design.specs.declared.Design.{Design}
+use Rattle.lid_design.specs.Walks.{Among}
+use Rattle.lid_design.specs.Models.{instance_number, IsReached}
+use Rattle.lid_hierarchy.specs.Surveys.{StandsAfterItsModels, IsModelOrder}
+
+-- each chain of instances from a model has fewer than so many steps
+abbrev pub IsShallow : Design → ℕ → ℕ → Type 0
+IsShallow d zero k = ⊥
+IsShallow d (suc n) k = (i j : ℕ) → instance_number d i k ≡ Some j → IsShallow d n j
+
+module _ (d : Design) where
+  pub shallow-next : (n k : ℕ) → IsShallow d n k → IsShallow d (suc n) k
+  shallow-next zero k none = absurd none
+  shallow-next (suc n) k subs = λ i j names. shallow-next n j (subs i j names)
+
+  pub shallow-le : (n m k : ℕ) → n ≤ m → IsShallow d n k → IsShallow d m k
+  shallow-le zero m k le none = absurd none
+  shallow-le (suc n) zero k le subs = absurd (omega arith)
+  shallow-le (suc n) (suc m) k le subs = λ i j names. shallow-le n m j (omega arith) (subs i j names)
+
+  order-shallow : (found order : List ℕ) (total : ℕ) → length found + length order ≤ total → ((x : ℕ) → Among x found → IsShallow d (length found) x) → StandsAfterItsModels d found order → (k : ℕ) → Among k order → IsShallow d total k
+  order-shallow found [] total le shallow after k among = absurd among
+  order-shallow found (x ∷ order) total le shallow after k (inl same) =
+      let here : IsShallow d (suc (length found)) x = λ i j names. shallow j (after.0 i j names) in
+      shallow-le (suc (length found)) total k (omega arith) (subst (IsShallow d (suc (length found))) (sym same) here)
+  order-shallow found (x ∷ order) total le shallow after k (inr among) =
+      order-shallow (x ∷ found) order total (omega arith) (λ y here. by y here) after.1 k among
+    where
+      by : (y : ℕ) → Among y (x ∷ found) → IsShallow d (suc (length found)) y
+      by y (inl same) = subst (IsShallow d (suc (length found))) (sym same) (λ i j names. shallow j (after.0 i j names))
+      by y (inr here) = shallow-next (length found) y (shallow y here)
+
+  -- no chain of instances from a reached model has as many steps as there are models
+  pub reached_shallow : (order : List ℕ) → IsModelOrder d order → (k : ℕ) → IsReached d k → IsShallow d (length d.models) k
+  reached_shallow order ordered k reached =
+      order-shallow [] order (length d.models) (let short = ordered.short in omega arith) (λ x none. absurd none) ordered.after k (ordered.each k reached)

@@ -1,0 +1,7 @@
+use Rattle.std.proofs.Common.{drop, map}
+use Rattle.lid_elab.specs.Locals.{local_of}
+use Rattle.lid_elab.proofs.Driving.{Left}
+use Rattle.lid_elab.proofs.driven.push_cells.Given as goal
+
+abbrev pub invariant-loop-cell : goal.invariant-loop-cell
+invariant-loop-cell l = Left l.survey l.model l.into (map local_of (drop l.cell-index l.cells)) l.fn.into (map local_of l.cells)

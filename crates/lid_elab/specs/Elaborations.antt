@@ -1,0 +1,55 @@
+-- The columns of a design by their numbers, and what drives each of them.
+use Rattle.std.specs.Prelude.{◌≡◌, ℕ, ◌+◌, ◌<◌, List, [], ◌∷◌, ◌++◌, length, map, Some, slice_get, slice_index_or}
+use Rattle.std.specs.List.{AllByRecursion}
+use Rattle.lid_design.specs.declared.Design.{Design}
+use Rattle.lid_design.specs.Network.{Driver, from_input, from_latch, from_cover, from_connection}
+use Rattle.lid_design.specs.Columns.{Column, column, drivers}
+use Rattle.lid_design.specs.Walks.{Among, read_now, read_before, IsDriven}
+use Rattle.lid_design.specs.Models.{insts_of, number_from}
+use Rattle.lid_design.specs.Places.{columns, model_nets}
+use Rattle.lid_elab.specs.declared.driver.ColumnDriver.{ColumnDriver}
+use Rattle.lid_elab.specs.declared.driver.ColumnDriver.TheVariants.{Input, Latch, Cover as OfCover, Connection}
+
+-- a driver reads the columns of some numbers
+abbrev pub shown_driver : ColumnDriver → Driver ℕ
+shown_driver (Input place) = from_input place
+shown_driver (Latch first input) = from_latch first input
+shown_driver (OfCover cover inputs) = from_cover cover.now inputs
+shown_driver (Connection other) = from_connection other
+
+-- what gives a bit, with the columns that it reads named otherwise
+abbrev pub map_driver : {A B : Type 0} → (A → B) → Driver A → Driver B
+map_driver f (from_input j) = from_input j
+map_driver f (from_latch first input) = from_latch first (f input)
+map_driver f (from_cover cover inputs) = from_cover cover (map f inputs)
+map_driver f (from_connection a) = from_connection (f a)
+
+-- the column of a number
+abbrev pub column_at : Design → ℕ → Column
+column_at d k = slice_index_or (columns d) k (column [] [])
+
+-- column k has one driver, driver k, that reads columns by their numbers
+pub record IsDrivenBy (d : Design) (network : List (Driver ℕ)) (k : ℕ) (c : Column) : Type 0 where
+  pub driver : Driver ℕ
+  pub here : slice_get network k ≡ Some driver
+  pub only : drivers d c ≡ map_driver (column_at d) driver ∷ []
+  pub below : AllByRecursion (λ a. a < length network) (read_now driver ++ read_before driver)
+
+-- the columns of the model at a path stand one after the other from number `start` on
+abbrev pub StartsAt : Design → List ℕ → ℕ → Type 0
+StartsAt d path start =
+    (k j : ℕ) (net : List ℕ)
+    → number_from d d.root path ≡ Some k
+    → slice_get (model_nets d k) j ≡ Some net
+    → slice_get (columns d) (start + j) ≡ Some (column path net)
+
+-- the network are those of the columns, in order; each driven column has one number; and the
+-- columns of each instance of the root start at the number that is listed for it
+pub record IsElaborated (d : Design) (network : List (Driver ℕ)) (starts : List ℕ) : Type 0 where
+  pub whole : length network ≡ length (columns d)
+  pub each : (k : ℕ) (c : Column) → slice_get (columns d) k ≡ Some c → IsDrivenBy d network k c
+  pub every : (c : Column) → IsDriven (drivers d) c → Among c (columns d)
+  pub once : (j k : ℕ) (c : Column) → slice_get (columns d) j ≡ Some c → slice_get (columns d) k ≡ Some c → j ≡ k
+  pub root : StartsAt d [] 0
+  pub insts : length starts ≡ length (insts_of d d.root)
+  pub start : (i start : ℕ) → slice_get starts i ≡ Some start → StartsAt d (i ∷ []) start

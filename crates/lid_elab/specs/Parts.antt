@@ -1,0 +1,66 @@
+-- What a template is made of, part by part.
+use Rattle.std.specs.Prelude.{◌≡◌, ℕ, not, List, [], ◌++◌, length, map, filter, Option, Some, None, slice_index_or}
+use Rattle.std.specs.Option.{option_map_or}
+use Rattle.std.specs.List.{position_or_len}
+use Rattle.std.specs.Str.{bytes_eq}
+use Rattle.lid_design.specs.declared.Design.{Design}
+use Rattle.lid_design.specs.declared.Model.{Model}
+use Rattle.lid_design.specs.declared.Inst.{Inst}
+use Rattle.lid_design.specs.declared.Bind.{Bind}
+use Rattle.lid_design.specs.Models.{firsts, number_named, instance_number, is_clock_of}
+use Rattle.lid_design.specs.Places.{model_nets}
+use Rattle.lid_names.specs.Names.{texts}
+use Rattle.lid_elab.specs.Numbers.{size_of}
+use Rattle.lid_elab.specs.Locals.{Local, NetLocal, actual_for}
+use Rattle.lid_elab.specs.Templates.{shown_local, place_in, numbered}
+use Rattle.lid_elab.specs.Writing.{model_inputs}
+use Rattle.lid_elab.specs.declared.driven.Driven.{Driven}
+
+-- for each model of some, how many columns it and its instances have; nothing for the others
+pub record AreSizes (d : Design) (some : ℕ → Type 0) (sizes : List (Option ℕ)) : Type 0 where
+  pub long : length sizes ≡ length d.models
+  pub each : (k : ℕ) → some k → slice_index_or sizes k None ≡ Some (size_of d k)
+  pub only : (k n : ℕ) → slice_index_or sizes k None ≡ Some n → some k
+
+-- the sizes of the models of a model's instances are there
+abbrev pub HasSizes : Design → ℕ → List (Option ℕ) → Type 0
+HasSizes d k sizes = (i j : ℕ) → instance_number d i k ≡ Some j → slice_index_or sizes j None ≡ Some (size_of d j)
+
+-- the net that is driven, and what drives it
+abbrev pub net_of : NetLocal → List ℕ
+net_of p = p.0
+
+abbrev pub numbered_local : Design → ℕ → NetLocal → Local ℕ
+numbered_local d k p = numbered d k p.1
+
+-- some drivers of nets of model k were pushed
+pub record Grows (d : Design) (k : ℕ) (ps : List NetLocal) (old new : Driven) : Type 0 where
+  pub nets : texts new.nets.items ≡ texts old.nets.items ++ map net_of ps
+  pub locals : map shown_local new.locals.items ≡ map shown_local old.locals.items ++ map (numbered_local d k) ps
+
+-- these are drivers of nets of model k
+pub record Shows (d : Design) (k : ℕ) (ps : List NetLocal) (driven : Driven) : Type 0 where
+  pub nets : texts driven.nets.items ≡ map net_of ps
+  pub locals : map shown_local driven.locals.items ≡ map (numbered_local d k) ps
+
+-- the inputs of a list that are no clock names of the model of a number
+abbrev pub data_of : Design → ℕ → List (List ℕ) → List (List ℕ)
+data_of d k names = filter (λ net. not (is_clock_of d k net)) names
+
+abbrev pub formal_of : Bind → List ℕ
+formal_of b = b.formal
+
+-- the set of the outputs of each model
+abbrev pub output_sets : List Model → List (List (List ℕ))
+output_sets ms = map (λ m. firsts m.outputs) ms
+
+-- for each net of model k, its place among some nets
+abbrev pub picks_among : Design → ℕ → List (List ℕ) → List ℕ
+picks_among d k nets = map (λ net. position_or_len (bytes_eq net) nets) (model_nets d k)
+
+-- the nets of model k that the data inputs of an instance are bound to, where its model has number j
+abbrev pub places_bound : Design → ℕ → ℕ → Inst → List ℕ
+places_bound d k j inst = map (λ formal. place_in d k (actual_for inst formal)) (model_inputs d j)
+
+abbrev pub places_in_inst : Design → ℕ → Inst → List ℕ
+places_in_inst d k inst = option_map_or (λ j. places_bound d k j inst) (number_named d inst.model) []

@@ -1,0 +1,54 @@
+-- What drives the nets of a model, by the places of nets, and what that is at a place of the
+-- elaboration.
+use denote.Ref.{Bor}
+use Rattle.std.specs.Prelude.{ℕ, ◌+◌, ◌<◌, ◌≤◌, ⊤, List, length, map, Option, Some, None, slice_index}
+use Rattle.std.specs.Option.{option_map_or}
+use Rattle.std.specs.List.{All, position_or_len}
+use Rattle.std.specs.Str.{bytes_eq}
+use Rattle.lid_design.specs.declared.Design.{Design}
+use Rattle.lid_design.specs.Network.{Driver, from_input, from_latch, from_cover, from_connection}
+use Rattle.lid_design.specs.Models.{instance_number}
+use Rattle.lid_design.specs.Places.{model_nets}
+use Rattle.lid_elab.specs.Locals.{Local, local_input, local_latch, local_cover, local_connection}
+use Rattle.lid_elab.specs.declared.template.LocalDriver.{LocalDriver}
+use Rattle.lid_elab.specs.declared.template.LocalDriver.TheVariants.{Input, Latch, Cover as OfCover, Connection}
+
+-- what a driver in a model stands for
+abbrev pub shown_local : LocalDriver → Local ℕ
+shown_local (Input place) = local_input place
+shown_local (Latch first input) = local_latch first input
+shown_local (OfCover cover inputs) = local_cover cover.now inputs
+shown_local (Connection inst net) = local_connection inst net
+
+-- the place of a net among those of a model
+abbrev pub place_in : Design → ℕ → List ℕ → ℕ
+place_in d k name = position_or_len (bytes_eq name) (model_nets d k)
+
+-- names of nets, by their places
+abbrev pub numbered : Design → ℕ → Local (List ℕ) → Local ℕ
+numbered d k (local_input j) = local_input j
+numbered d k (local_latch first input) = local_latch first (place_in d k input)
+numbered d k (local_cover cover inputs) = local_cover cover (map (place_in d k) inputs)
+numbered d k (local_connection i formal) = local_connection i (option_map_or (λ j. place_in d j formal) (instance_number d i k) 0)
+
+-- what it is at a place whose columns start at a number. The offsets are those of the instances of its
+-- model. In an instance, the place around starts at a number and binds inputs to its nets
+abbrev pub placed : ℕ → List ℕ → Option (ℕ × List ℕ) → Local ℕ → Driver ℕ
+placed start offsets None (local_input j) = from_input j
+placed start offsets (Some around) (local_input j) = from_connection (around.0 + slice_index around.1 j)
+placed start offsets around (local_latch first input) = from_latch first (start + input)
+placed start offsets around (local_cover cover inputs) = from_cover cover (map (λ net. start + net) inputs)
+placed start offsets around (local_connection i net) = from_connection (start + (slice_index offsets i + net))
+
+-- the place around, behind a reference
+abbrev pub seen_around : Option (ℕ × Bor (List ℕ)) → Option (ℕ × List ℕ)
+seen_around None = None
+seen_around (Some around) = Some (around.0, around.1.now)
+
+-- all numbers are there, and small
+abbrev pub IsSmall : List ℕ → Option (ℕ × List ℕ) → Local ℕ → Type 0
+IsSmall offsets None (local_input j) = ⊤
+IsSmall offsets (Some around) (local_input j) = (around.0 ≤ 1048576) × (j < length around.1) × (slice_index around.1 j ≤ 1048576)
+IsSmall offsets around (local_latch first input) = input ≤ 1048576
+IsSmall offsets around (local_cover cover inputs) = All (λ net. net ≤ 1048576) inputs
+IsSmall offsets around (local_connection i net) = (i < length offsets) × (slice_index offsets i ≤ 1048576) × (net ≤ 1048576)

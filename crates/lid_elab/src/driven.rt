@@ -1,0 +1,263 @@
+ghost use Rattle.std.specs.Prelude.{◌≡◌, ◌+◌, ◌++◌, ◌∷◌, [], Some, length, map, flat_map, slice_get, IfOk, OnOk};
+ghost use Rattle.lid_design.specs.Columns.{first_bit};
+ghost use Rattle.lid_design.specs.Models.{insts_of, instance_number, IsReached};
+ghost use Rattle.std.specs.List.{enumerate_from};
+ghost use Rattle.lid_names.specs.Names.{texts};
+ghost use Rattle.lid_elab.specs.Locals.{inputs_from, local_of, output_of, outputs_of};
+ghost use Rattle.lid_elab.specs.Templates.{shown_local};
+ghost use Rattle.lid_elab.specs.Parts.{Grows, Shows, data_of, output_sets};
+ghost use Rattle.lid_elab.specs.Writing.{IsJudged, model_locals};
+
+use crate::places::{model_at, narrow, place_in, places_of};
+use crate::template::LocalDriver;
+use lid_base::Name;
+use lid_design::{Bind, Cell, Init, Inst, Model};
+use lid_hierarchy::Survey;
+use lid_names::{NameSet, set_of};
+use std::alloc::{AllocError, Global};
+
+/// What drives nets of a model, and the names of these nets, in the same order.
+#[derive(Drop)]
+pub struct Driven<'d> {
+    pub nets: Vec<&'d [u8]>,
+    pub locals: Vec<LocalDriver<'d>>,
+}
+
+/// The outputs of each of some models.
+pub fn collect_outputs<'d>(
+    alloc: Global,
+    models: &'d [Model],
+) -> Result<Vec<NameSet<'d>>, AllocError>
+    ensures { IfOk result (λ sets. sets.items ≡ output_sets models.now) }
+{
+    let mut sets = Vec::with_capacity(alloc, models.len())?;
+    for model in models {
+        sets.push(set_of(alloc, model.outputs.as_slice())?)?;
+    }
+    Ok(sets)
+}
+
+/// All that drives nets of a model: its data inputs, its cells, and the outputs of its instances.
+pub fn driven_of<'d>(
+    alloc: Global,
+    survey: &Survey<'d>,
+    outputs: &[NameSet<'d>],
+    model: u32,
+) -> Result<Driven<'d>, AllocError>
+    requires judged { IsJudged survey.now }
+    requires reached { IsReached survey.now model }
+    requires outputs { outputs.now ≡ output_sets survey.now.models }
+    ensures { IfOk result (Shows survey.now model (model_locals survey.now model)) }
+{
+    let body = model_at(survey, model);
+    let mut driven = Driven {
+        nets: Vec::new(alloc),
+        locals: Vec::new(alloc),
+    };
+    push_inputs(&mut driven, survey, model, body.inputs.as_slice())?;
+    push_cells(alloc, &mut driven, survey, model, body.cells.as_slice())?;
+    push_insts(&mut driven, survey, outputs, model, body.insts.as_slice())?;
+    Ok(driven)
+}
+
+/// Pushes a net, and what drives it.
+fn push_net<'d>(
+    into: &mut Driven<'d>,
+    net: &'d [u8],
+    local: LocalDriver<'d>,
+) -> Result<(), AllocError>
+    ensures nets { OnOk result (texts into.new.nets.items ≡ texts into.old.nets.items ++ net.now ∷ []) }
+    ensures locals { OnOk result (map shown_local into.new.locals.items ≡ map shown_local into.old.locals.items ++ shown_local local.entry ∷ []) }
+{
+    into.locals.push(local)?;
+    into.nets.push(net)?;
+    Ok(())
+}
+
+/// Pushes the data inputs of a model.
+fn push_inputs<'d>(
+    into: &mut Driven<'d>,
+    survey: &Survey<'d>,
+    model: u32,
+    inputs: &'d [Name],
+) -> Result<(), AllocError>
+    requires { IsReached survey.now model }
+    ensures { OnOk result (Grows survey.now model (inputs_from 0 (data_of survey.now model inputs.now)) into.old into.new) }
+{
+    let mut count = 0;
+    for input in inputs {
+        count = push_input(into, survey, model, count, input)?;
+    }
+    Ok(())
+}
+
+/// Pushes an input of a model where it is no clock name, and answers how many data inputs there are
+/// then.
+fn push_input<'d>(
+    into: &mut Driven<'d>,
+    survey: &Survey<'d>,
+    model: u32,
+    count: usize,
+    input: &'d Name,
+) -> Result<usize, AllocError>
+    requires { IsReached survey.now model }
+    ensures pushed { OnOk result (Grows survey.now model (inputs_from count (data_of survey.now model (input.now ∷ []))) into.old into.new) }
+    ensures next { IfOk result (λ next. next ≡ count + length (data_of survey.now model (input.now ∷ []))) }
+{
+    if survey.is_clock(model, input.as_slice()) {
+        return Ok(count);
+    }
+    let place = narrow(count)?;
+    push_net(into, input.as_slice(), LocalDriver::Input(place))?;
+    Ok(count + 1)
+}
+
+/// Pushes the cells of a model.
+fn push_cells<'d>(
+    alloc: Global,
+    into: &mut Driven<'d>,
+    survey: &Survey<'d>,
+    model: u32,
+    cells: &'d [Cell],
+) -> Result<(), AllocError>
+    requires judged { IsJudged survey.now }
+    requires reached { IsReached survey.now model }
+    ensures { OnOk result (Grows survey.now model (map local_of cells.now) into.old into.new) }
+{
+    for cell in cells {
+        push_cell(alloc, into, survey, model, cell)?;
+    }
+    Ok(())
+}
+
+/// Pushes a cell of a model.
+fn push_cell<'d>(
+    alloc: Global,
+    into: &mut Driven<'d>,
+    survey: &Survey<'d>,
+    model: u32,
+    cell: &'d Cell,
+) -> Result<(), AllocError>
+    requires judged { IsJudged survey.now }
+    requires reached { IsReached survey.now model }
+    ensures { OnOk result (Grows survey.now model (local_of cell.now ∷ []) into.old into.new) }
+{
+    match cell {
+        Cell::Names { inputs, out, cover } => {
+            let inputs = places_of(alloc, survey, model, inputs.as_slice())?;
+            push_net(into, out.as_slice(), LocalDriver::Cover { cover, inputs })
+        }
+        Cell::Latch {
+            input,
+            out,
+            init,
+            ..
+        } => {
+            let first = first_bit(*init);
+            let input = place_in(survey, model, input.as_slice());
+            push_net(into, out.as_slice(), LocalDriver::Latch { first, input })
+        }
+    }
+}
+
+/// The bit that a latch begins with.
+fn first_bit(init: Init) -> bool
+    ensures { result ≡ first_bit init }
+{
+    match init {
+        Init::One => true,
+        Init::Zero | Init::DontCare | Init::Unknown => false,
+    }
+}
+
+/// Pushes the outputs of the instances of a model.
+fn push_insts<'d>(
+    into: &mut Driven<'d>,
+    survey: &Survey<'d>,
+    outputs: &[NameSet<'d>],
+    model: u32,
+    insts: &'d [Inst],
+) -> Result<(), AllocError>
+    requires judged { IsJudged survey.now }
+    requires reached { IsReached survey.now model }
+    requires outputs { outputs.now ≡ output_sets survey.now.models }
+    requires insts { insts.now ≡ insts_of survey.now model }
+    ensures { OnOk result (Grows survey.now model (flat_map (outputs_of survey.now) (enumerate_from 0 insts.now)) into.old into.new) }
+{
+    for i in 0..insts.len() as u32 {
+        push_inst(into, survey, outputs, model, i, &insts[i as usize])?;
+    }
+    Ok(())
+}
+
+/// Pushes the outputs of an instance of a model.
+fn push_inst<'d>(
+    into: &mut Driven<'d>,
+    survey: &Survey<'d>,
+    outputs: &[NameSet<'d>],
+    model: u32,
+    i: u32,
+    inst: &'d Inst,
+) -> Result<(), AllocError>
+    requires judged { IsJudged survey.now }
+    requires reached { IsReached survey.now model }
+    requires outputs { outputs.now ≡ output_sets survey.now.models }
+    requires inst { slice_get (insts_of survey.now model) i ≡ Some inst.now }
+    ensures { OnOk result (Grows survey.now model (outputs_of survey.now (i, inst.now)) into.old into.new) }
+{
+    match survey.model_of(model, i) {
+        Some(sub) => {
+            let formals = &outputs[sub as usize];
+            push_binds(into, survey, formals, model, i, sub, inst.binds.as_slice())
+        }
+        None => Ok(()),
+    }
+}
+
+/// Pushes the outputs of an instance of a model, by its bindings and the outputs of its model.
+fn push_binds<'d>(
+    into: &mut Driven<'d>,
+    survey: &Survey<'d>,
+    formals: &NameSet<'d>,
+    model: u32,
+    i: u32,
+    sub: u32,
+    binds: &'d [Bind],
+) -> Result<(), AllocError>
+    requires judged { IsJudged survey.now }
+    requires reached { IsReached survey.now sub }
+    requires sub { instance_number survey.now i model ≡ Some sub }
+    ensures { OnOk result (Grows survey.now model (flat_map (output_of formals.now i) binds.now) into.old into.new) }
+{
+    for bind in binds {
+        push_bind(into, survey, formals, model, i, sub, bind)?;
+    }
+    Ok(())
+}
+
+/// Pushes what a binding of an instance drives, where it binds an output.
+fn push_bind<'d>(
+    into: &mut Driven<'d>,
+    survey: &Survey<'d>,
+    formals: &NameSet<'d>,
+    model: u32,
+    i: u32,
+    sub: u32,
+    bind: &'d Bind,
+) -> Result<(), AllocError>
+    requires judged { IsJudged survey.now }
+    requires reached { IsReached survey.now sub }
+    requires sub { instance_number survey.now i model ≡ Some sub }
+    ensures { OnOk result (Grows survey.now model (output_of formals.now i bind.now) into.old into.new) }
+{
+    if formals.has(bind.formal.as_slice()) {
+        let net = place_in(survey, sub, bind.formal.as_slice());
+        push_net(
+            into,
+            bind.actual.as_slice(),
+            LocalDriver::Connection { inst: i, net },
+        )
+    } else {
+        Ok(())
+    }
+}

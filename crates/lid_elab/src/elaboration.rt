@@ -1,0 +1,65 @@
+ghost use Rattle.std.specs.Prelude.{◌≡◌, ◌≤◌, length, map, IfOk};
+ghost use Rattle.lid_rules.specs.Acceptance.{ModelsPass};
+ghost use Rattle.lid_elab.specs.Elaborations.{shown_driver, IsElaborated};
+ghost use Rattle.lid_elab.specs.Writing.{IsJudged, AreTemplates};
+
+use crate::driver::ColumnDriver;
+use crate::template::{Template, find_templates};
+use crate::writing::write_all;
+use lid_base::Items;
+use lid_hierarchy::Survey;
+use std::alloc::{AllocError, Global};
+
+/// The columns of a design in order: by the paths of their models, a path before its extensions and
+/// instances in order, and at a path by the first appearance of their names.
+#[derive(Drop)]
+pub struct Elaboration<'d> {
+    /// What drives each column.
+    pub drivers: Items<ColumnDriver<'d>>,
+    /// For each instance of the root, the number of its first column.
+    pub starts: Items<u32>,
+}
+
+/// Numbers the columns of a design that meets the conditions on models.
+pub fn elaborate<'d>(alloc: Global, survey: &Survey<'d>) -> Result<Elaboration<'d>, AllocError>
+    requires { ModelsPass survey.now }
+    ensures whole { IfOk result (λ e. IsElaborated survey.now (map shown_driver e.drivers) e.starts) }
+    ensures few { IfOk result (λ e. length e.drivers ≤ 1048576) }
+{
+    judge(survey);
+    let templates = find_templates(alloc, survey)?;
+    elaborate_by(alloc, survey, templates.as_slice())
+}
+
+/// Numbers the columns of a design, by what is known of its models.
+fn elaborate_by<'d>(
+    alloc: Global,
+    survey: &Survey<'d>,
+    templates: &[Template<'d>],
+) -> Result<Elaboration<'d>, AllocError>
+    requires judged { IsJudged survey.now }
+    requires templates { AreTemplates survey.now templates.now }
+    ensures whole { IfOk result (λ e. IsElaborated survey.now (map shown_driver e.drivers) e.starts) }
+    ensures few { IfOk result (λ e. length e.drivers ≤ 1048576) }
+{
+    let root = &templates[survey.design().root as usize];
+    let starts = copy_all(alloc, root.offsets.as_slice())?;
+    let drivers = write_all(alloc, survey, templates)?;
+    Ok(Elaboration { drivers, starts })
+}
+
+/// What a survey tells of a design that meets the conditions on models.
+pub fn judge(survey: &Survey<'_>)
+    requires { ModelsPass survey.now }
+    ensures { IsJudged survey.now }
+{
+    let _ = survey.design();
+    let _ = survey.order();
+}
+
+/// Some numbers once more.
+fn copy_all(alloc: Global, numbers: &[u32]) -> Result<Items<u32>, AllocError>
+    ensures { IfOk result (λ copied. copied ≡ numbers.now) }
+{
+    Ok(Items::from_vec(numbers.to_vec(alloc)?))
+}

@@ -1,0 +1,139 @@
+//! The column of a number.
+
+ghost use Rattle.std.specs.Prelude.{◌≡◌, ◌≤◌, ◌<◌, ◌+◌, [], Some, length, reverse, slice_get, slice_index, IfOk};
+ghost use Rattle.lid_design.specs.Columns.{column};
+ghost use Rattle.lid_design.specs.Models.{IsReached, instance_number};
+ghost use Rattle.lid_design.specs.Places.{columns, model_nets};
+ghost use Rattle.lid_rules.specs.Acceptance.{ModelsPass};
+ghost use Rattle.lid_elab.specs.Numbers.{size_of, offset_of, IsSpot};
+ghost use Rattle.lid_elab.specs.Writing.{IsJudged, AreTemplates};
+
+use crate::elaboration::judge;
+use crate::template::{Template, find_templates};
+use lid_base::{Items, Name};
+use lid_hierarchy::Survey;
+use lid_names::copy_name;
+use std::alloc::{AllocError, Global};
+
+/// A column of a model or of the instances in it, by its number from the first column of the model
+/// on.
+#[derive(Clone, Copy)]
+struct Spot {
+    model: u32,
+    number: u32,
+}
+
+/// The path and the name of a column, by its number. The path has the instance numbers from the
+/// root's on.
+///
+/// # Errors
+/// Where there is no memory.
+pub fn find_column(
+    alloc: Global,
+    survey: &Survey<'_>,
+    number: u32,
+) -> Result<(Items<u32>, Name), AllocError>
+    requires passed { ModelsPass survey.now }
+    requires exists { number < length (columns survey.now) }
+    ensures { IfOk result (λ found. slice_get (columns survey.now) number ≡ Some (column (reverse found.0) found.1)) }
+{
+    judge(survey);
+    let templates = find_templates(alloc, survey)?;
+    find_by(alloc, survey, templates.as_slice(), number)
+}
+
+/// The path and the name of a column, by what is known of the models.
+fn find_by(
+    alloc: Global,
+    survey: &Survey<'_>,
+    templates: &[Template<'_>],
+    number: u32,
+) -> Result<(Items<u32>, Name), AllocError>
+    requires judged { IsJudged survey.now }
+    requires templates { AreTemplates survey.now templates.now }
+    requires exists { number < length (columns survey.now) }
+    ensures { IfOk result (λ found. slice_get (columns survey.now) number ≡ Some (column (reverse found.0) found.1)) }
+{
+    let mut path = Vec::new(alloc);
+    let spot = enter_all(survey, templates, number, &mut path)?;
+    let name = copy_name(alloc, net_of(survey, spot))?;
+    Ok((Items::from_vec(path), name))
+}
+
+/// Pushes the instances that a column stands in, from the root's on, and answers where it stands in
+/// the last one.
+fn enter_all(
+    survey: &Survey<'_>,
+    templates: &[Template<'_>],
+    number: u32,
+    path: &mut Vec<u32>,
+) -> Result<Spot, AllocError>
+    requires judged { IsJudged survey.now }
+    requires templates { AreTemplates survey.now templates.now }
+    requires exists { number < length (columns survey.now) }
+    requires none { path.old.items ≡ [] }
+    ensures spot { IfOk result (λ spot. IsSpot survey.now (reverse path.new.items) spot.model spot.number number) }
+    ensures net { IfOk result (λ spot. spot.number < length (model_nets survey.now spot.model)) }
+{
+    let mut spot = Spot {
+        model: survey.design().root,
+        number,
+    };
+    while survey.count_nets(spot.model) <= spot.number as usize {
+        let (inst, inner) = enter(survey, templates, spot);
+        path.push(inst)?;
+        spot = inner;
+    }
+    Ok(spot)
+}
+
+/// The instance that a column past the nets of a model stands in, and the column in there.
+fn enter(survey: &Survey<'_>, templates: &[Template<'_>], spot: Spot) -> (u32, Spot)
+    requires judged { IsJudged survey.now }
+    requires templates { AreTemplates survey.now templates.now }
+    requires reached { IsReached survey.now spot.model }
+    requires past { length (model_nets survey.now spot.model) ≤ spot.number }
+    requires within { spot.number < size_of survey.now spot.model }
+    ensures model { instance_number survey.now result.0 spot.model ≡ Some result.1.model }
+    ensures number { spot.number ≡ offset_of survey.now spot.model result.0 + result.1.number }
+    ensures within { result.1.number < size_of survey.now result.1.model }
+{
+    let offsets = templates[spot.model as usize].offsets.as_slice();
+    let place = last_up_to(offsets, spot.number);
+    let inst = place as u32;
+    match survey.model_of(spot.model, inst) {
+        Some(model) => {
+            let number = spot.number - offsets[place];
+            (inst, Spot { model, number })
+        }
+        None => unreachable!(),
+    }
+}
+
+/// The place of a number that is not above `most`, where the next one is; the first is not above it.
+fn last_up_to(numbers: &[u32], most: u32) -> usize
+    requires some { 0 < length numbers.now }
+    requires first { slice_index numbers.now 0 ≤ most }
+    ensures inside { result < length numbers.now }
+    ensures below { slice_index numbers.now result ≤ most }
+    ensures above { result + 1 < length numbers.now → most < slice_index numbers.now (result + 1) }
+{
+    for i in 1..numbers.len() {
+        if numbers[i] > most {
+            return i - 1;
+        }
+    }
+    numbers.len() - 1
+}
+
+/// The name of a net of a model.
+fn net_of<'d>(survey: &Survey<'d>, spot: Spot) -> &'d [u8]
+    requires reached { IsReached survey.now spot.model }
+    requires exists { spot.number < length (model_nets survey.now spot.model) }
+    ensures { slice_get (model_nets survey.now spot.model) spot.number ≡ Some result.now }
+{
+    match survey.net_at(spot.model, spot.number as usize) {
+        Some(net) => net,
+        None => unreachable!(),
+    }
+}

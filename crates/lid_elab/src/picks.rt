@@ -1,0 +1,65 @@
+ghost use Rattle.std.specs.Prelude.{◌≡◌, [], slice_index_or, IfOk};
+ghost use Rattle.std.specs.List.{position_or_len};
+ghost use Rattle.std.specs.Str.{bytes_eq};
+ghost use Rattle.lid_design.specs.Models.{firsts, IsReached};
+ghost use Rattle.lid_design.specs.Places.{model_nets};
+ghost use Rattle.lid_names.specs.Names.{texts};
+ghost use Rattle.lid_elab.specs.Parts.{picks_among};
+
+use crate::places::narrow;
+use lid_base::Items;
+use lid_hierarchy::Survey;
+use lid_names::NameSet;
+use std::alloc::{AllocError, Global};
+
+/// For each net of a model, its first place among some driven nets.
+pub fn picks_of<'d>(
+    alloc: Global,
+    survey: &Survey<'d>,
+    driven: &[&'d [u8]],
+    model: u32,
+) -> Result<Items<u32>, AllocError>
+    requires { IsReached survey.now model }
+    ensures { IfOk result (λ picks. picks ≡ picks_among survey.now model (firsts (texts driven.now))) }
+{
+    let set = NameSet::collect(alloc, driven)?;
+    picks_in(alloc, survey, &set, model)
+}
+
+/// For each net of a model, its place in a set.
+fn picks_in(
+    alloc: Global,
+    survey: &Survey<'_>,
+    set: &NameSet<'_>,
+    model: u32,
+) -> Result<Items<u32>, AllocError>
+    requires { IsReached survey.now model }
+    ensures { IfOk result (λ picks. picks ≡ picks_among survey.now model set.now) }
+{
+    let mut picks = Vec::new(alloc);
+    for place in 0..survey.count_nets(model) {
+        picks.push(pick_in(set, net_at(survey, model, place))?)?;
+    }
+    Ok(Items::from_vec(picks))
+}
+
+/// The name of a net of a model, by its place; the empty name past the last.
+fn net_at<'d>(survey: &Survey<'d>, model: u32, place: usize) -> &'d [u8]
+    requires { IsReached survey.now model }
+    ensures { result.now ≡ slice_index_or (model_nets survey.now model) place [] }
+{
+    match survey.net_at(model, place) {
+        Some(net) => net,
+        None => &[],
+    }
+}
+
+/// The place of a name in a set; the number of its names where it is none of them.
+fn pick_in(set: &NameSet<'_>, name: &[u8]) -> Result<u32, AllocError>
+    ensures { IfOk result (λ pick. pick ≡ position_or_len (bytes_eq name.now) set.now) }
+{
+    match set.place_of(name) {
+        Some(place) => narrow(place),
+        None => narrow(set.len()),
+    }
+}

@@ -1,0 +1,250 @@
+ghost use Rattle.std.specs.Prelude.{◌≡◌, ◌≤◌, ◌<◌, ◌+◌, ℕ, [], Some, length, map, slice_get, IfOk, OnOk};
+ghost use Rattle.std.specs.List.{All};
+ghost use Rattle.lid_design.specs.Models.{insts_of, IsReached};
+ghost use Rattle.lid_elab.specs.Elaborations.{shown_driver};
+ghost use Rattle.lid_elab.specs.Numbers.{offset_of};
+ghost use Rattle.lid_elab.specs.Parts.{AreSizes, output_sets, places_in_inst};
+ghost use Rattle.lid_elab.specs.Templates.{shown_local, placed, seen_around, IsSmall};
+ghost use Rattle.lid_elab.specs.Writing.{IsJudged, ArePicked, IsTemplate, AreTemplates};
+
+use crate::bound::actuals_of;
+use crate::driven::{collect_outputs, driven_of};
+use crate::driver::ColumnDriver;
+use crate::picks::picks_of;
+use crate::sizes::{find_sizes, offsets_of};
+use lid_base::Items;
+use lid_cover::Cover;
+use lid_hierarchy::Survey;
+use lid_names::NameSet;
+use std::alloc::{AllocError, Global};
+
+/// What drives a net inside its model. Nets are told by their places among the nets of a model.
+#[derive(Drop)]
+pub enum LocalDriver<'d> {
+    /// A data input of the model, by its place among them.
+    Input(u32),
+    /// A latch, that begins with the bit `first`.
+    Latch {
+        first: bool,
+        input: u32,
+    },
+    /// A cover, with its inputs in order.
+    Cover {
+        cover: &'d Cover,
+        inputs: Items<u32>,
+    },
+    /// A net of the model of an instance, that is bound to this one.
+    Connection {
+        inst: u32,
+        net: u32,
+    },
+}
+
+/// What is known of a model before it is placed.
+#[derive(Drop)]
+pub struct Template<'d> {
+    /// All that drives nets of the model.
+    pub locals: Items<LocalDriver<'d>>,
+    /// For each net, the place of what drives it among `locals`.
+    pub picks: Items<u32>,
+    /// For each instance, how many columns of the model and of earlier instances stand before it.
+    pub offsets: Items<u32>,
+    /// For each instance, the nets that its data inputs are bound to.
+    pub actuals: Items<Items<u32>>,
+}
+
+/// What gives a column its bit, from what drives its net in its model. The columns of the place
+/// begin at `start`, those of its instances at `offsets` behind it. In an instance, `around` has the
+/// first column of the place around, and the nets there that the inputs are bound to.
+pub fn place_driver<'d>(
+    alloc: Global,
+    start: u32,
+    offsets: &[u32],
+    around: Option<(u32, &[u32])>,
+    local: &LocalDriver<'d>,
+) -> Result<ColumnDriver<'d>, AllocError>
+    requires start { start ≤ 1048576 }
+    requires small { IsSmall offsets.now (seen_around around) (shown_local local.now) }
+    ensures { IfOk result (λ driver. shown_driver driver ≡ placed start offsets.now (seen_around around.entry) (shown_local local.now)) }
+{
+    Ok(match local {
+        LocalDriver::Input(place) => match around {
+            None => ColumnDriver::Input(*place),
+            Some((first, actuals)) => ColumnDriver::Connection(first + actuals[*place as usize]),
+        },
+        LocalDriver::Latch { first, input } => ColumnDriver::Latch {
+            first: *first,
+            input: start + *input,
+        },
+        LocalDriver::Cover { cover, inputs } => ColumnDriver::Cover {
+            cover: *cover,
+            inputs: shift_all(alloc, start, inputs.as_slice())?,
+        },
+        LocalDriver::Connection { inst, net } => {
+            ColumnDriver::Connection(start + (offsets[*inst as usize] + *net))
+        }
+    })
+}
+
+/// Some numbers, each greater by `start`.
+fn shift_all(alloc: Global, start: u32, numbers: &[u32]) -> Result<Items<u32>, AllocError>
+    requires start { start ≤ 1048576 }
+    requires small { All (λ n. n ≤ 1048576) numbers.now }
+    ensures { IfOk result (λ shifted. shifted ≡ map (λ n. start + n) numbers.now) }
+{
+    let mut shifted = Vec::with_capacity(alloc, numbers.len())?;
+    for number in numbers {
+        shifted.push(start + *number)?;
+    }
+    Ok(Items::from_vec(shifted))
+}
+
+/// What is known of each reached model before it is placed, by the model's number.
+pub fn find_templates<'d>(
+    alloc: Global,
+    survey: &Survey<'d>,
+) -> Result<Items<Template<'d>>, AllocError>
+    requires { IsJudged survey.now }
+    ensures { IfOk result (AreTemplates survey.now) }
+{
+    let sizes = find_sizes(alloc, survey)?;
+    let outputs = collect_outputs(alloc, survey.design().models.as_slice())?;
+    let mut templates = Vec::new(alloc);
+    push_templates(
+        alloc,
+        survey,
+        sizes.as_slice(),
+        outputs.as_slice(),
+        &mut templates,
+    )?;
+    Ok(Items::from_vec(templates))
+}
+
+/// Pushes what is known of each model before it is placed, where there is nothing yet.
+fn push_templates<'d>(
+    alloc: Global,
+    survey: &Survey<'d>,
+    sizes: &[Option<u32>],
+    outputs: &[NameSet<'d>],
+    templates: &mut Vec<Template<'d>>,
+) -> Result<(), AllocError>
+    requires judged { IsJudged survey.now }
+    requires sizes { AreSizes survey.now (IsReached survey.now) sizes.now }
+    requires outputs { outputs.now ≡ output_sets survey.now.models }
+    requires none { templates.old.items ≡ [] }
+    ensures { OnOk result (AreTemplates survey.now templates.new.items) }
+{
+    for model in 0..sizes.len() as u32 {
+        let template = template_of(alloc, survey, sizes, outputs, model)?;
+        templates.push(template)?;
+    }
+    Ok(())
+}
+
+/// What is known of a model before it is placed; nothing where it is not reached.
+fn template_of<'d>(
+    alloc: Global,
+    survey: &Survey<'d>,
+    sizes: &[Option<u32>],
+    outputs: &[NameSet<'d>],
+    model: u32,
+) -> Result<Template<'d>, AllocError>
+    requires judged { IsJudged survey.now }
+    requires sizes { AreSizes survey.now (IsReached survey.now) sizes.now }
+    requires outputs { outputs.now ≡ output_sets survey.now.models }
+    requires below { model < length sizes.now }
+    ensures { IfOk result (λ t. IsReached survey.now model → IsTemplate survey.now model t) }
+{
+    match sizes[model as usize] {
+        Some(_) => describe(alloc, survey, sizes, outputs, model),
+        None => Ok(no_template(alloc)),
+    }
+}
+
+/// What is known of a reached model before it is placed.
+fn describe<'d>(
+    alloc: Global,
+    survey: &Survey<'d>,
+    sizes: &[Option<u32>],
+    outputs: &[NameSet<'d>],
+    model: u32,
+) -> Result<Template<'d>, AllocError>
+    requires judged { IsJudged survey.now }
+    requires reached { IsReached survey.now model }
+    requires sizes { AreSizes survey.now (IsReached survey.now) sizes.now }
+    requires outputs { outputs.now ≡ output_sets survey.now.models }
+    ensures { IfOk result (IsTemplate survey.now model) }
+{
+    let nets = describe_nets(alloc, survey, outputs, model)?;
+    let insts = describe_insts(alloc, survey, sizes, model)?;
+    Ok(Template {
+        locals: nets.locals,
+        picks: nets.picks,
+        offsets: insts.offsets,
+        actuals: insts.actuals,
+    })
+}
+
+/// What is known of the nets of a model.
+#[derive(Drop)]
+struct Nets<'d> {
+    locals: Items<LocalDriver<'d>>,
+    picks: Items<u32>,
+}
+
+/// What drives the nets of a reached model, and which of it drives each.
+fn describe_nets<'d>(
+    alloc: Global,
+    survey: &Survey<'d>,
+    outputs: &[NameSet<'d>],
+    model: u32,
+) -> Result<Nets<'d>, AllocError>
+    requires judged { IsJudged survey.now }
+    requires reached { IsReached survey.now model }
+    requires outputs { outputs.now ≡ output_sets survey.now.models }
+    ensures { IfOk result (λ nets. ArePicked survey.now model nets.locals nets.picks) }
+{
+    let driven = driven_of(alloc, survey, outputs, model)?;
+    let picks = picks_of(alloc, survey, driven.nets.as_slice(), model)?;
+    Ok(Nets {
+        locals: Items::from_vec(driven.locals),
+        picks,
+    })
+}
+
+/// What is known of the instances of a model.
+#[derive(Drop)]
+struct Insts {
+    offsets: Items<u32>,
+    actuals: Items<Items<u32>>,
+}
+
+/// Where the columns of the instances of a reached model begin, and the nets that their data inputs
+/// are bound to.
+fn describe_insts(
+    alloc: Global,
+    survey: &Survey<'_>,
+    sizes: &[Option<u32>],
+    model: u32,
+) -> Result<Insts, AllocError>
+    requires judged { IsJudged survey.now }
+    requires reached { IsReached survey.now model }
+    requires sizes { AreSizes survey.now (IsReached survey.now) sizes.now }
+    ensures few { IfOk result (λ insts. length insts.offsets ≡ length (insts_of survey.now model)) }
+    ensures each { IfOk result (λ insts. (i o : ℕ) → slice_get insts.offsets i ≡ Some o → o ≡ offset_of survey.now model i) }
+    ensures actuals { IfOk result (λ insts. insts.actuals ≡ map (places_in_inst survey.now model) (insts_of survey.now model)) }
+{
+    let offsets = offsets_of(alloc, survey, sizes, model)?;
+    let actuals = actuals_of(alloc, survey, model)?;
+    Ok(Insts { offsets, actuals })
+}
+
+/// A template of nothing.
+fn no_template<'d>(alloc: Global) -> Template<'d> {
+    Template {
+        locals: Items::from_vec(Vec::new(alloc)),
+        picks: Items::from_vec(Vec::new(alloc)),
+        offsets: Items::from_vec(Vec::new(alloc)),
+        actuals: Items::from_vec(Vec::new(alloc)),
+    }
+}
