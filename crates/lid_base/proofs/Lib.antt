@@ -1,2 +1,2 @@
-pub mod CutLemmas
-pub mod JoinLemmas
+pub mod Cutting
+pub mod Joining

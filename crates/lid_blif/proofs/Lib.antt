@@ -1,6 +1,6 @@
 pub mod Places
 pub mod Numbers
-pub mod NamesLemmas
-pub mod FaultLemmas
-pub mod CellLemmas
-pub mod TextLemmas
+pub mod Naming
+pub mod Faults
+pub mod Cubes
+pub mod Texts

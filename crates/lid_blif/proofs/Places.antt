@@ -22,35 +22,35 @@ next_place Names l p = record { inside = p.inside; covered = true; inputs = inpu
 next_place Row l p = record { inside = p.inside; covered = p.covered; inputs = p.inputs; zeros = ends_in_zero l || p.zeros; ones = ends_in_one l || p.ones; rows = p.rows + 1; models = p.models }
 next_place _ l p = uncovered p.inside p
 
-pub place_of-cons : (k : Keyword) (l : Line) (before : List Line) → k ≡ keyword_of l.words → place_of (l ∷ before) ≡ next_place k l (place_of before)
+pub place_of_cons : (k : Keyword) (l : Line) (before : List Line) → k ≡ keyword_of l.words → place_of (l ∷ before) ≡ next_place k l (place_of before)
 unfolding place_of
-place_of-cons Model l before e = rw (← e, length_push)
-place_of-cons Inputs l before e = rw (← e)
-place_of-cons Outputs l before e = rw (← e)
-place_of-cons Clock l before e = rw (← e)
-place_of-cons Names l before e = rw (← e)
-place_of-cons Latch l before e = rw (← e)
-place_of-cons Subckt l before e = rw (← e)
-place_of-cons End l before e = rw (← e)
-place_of-cons Unknown l before e = rw (← e)
-place_of-cons Row l before e = rw (← e)
+place_of_cons Model l before e = rw (← e, length_push)
+place_of_cons Inputs l before e = rw (← e)
+place_of_cons Outputs l before e = rw (← e)
+place_of_cons Clock l before e = rw (← e)
+place_of_cons Names l before e = rw (← e)
+place_of_cons Latch l before e = rw (← e)
+place_of_cons Subckt l before e = rw (← e)
+place_of_cons End l before e = rw (← e)
+place_of_cons Unknown l before e = rw (← e)
+place_of_cons Row l before e = rw (← e)
 
 -- the place after a line, from the place before it
 pub place_after : (k : Keyword) (l : Line) (before : List Line) (p q : Place) → k ≡ keyword_of l.words → q ≡ next_place k l p → p ≡ place_of before → q ≡ place_of (l ∷ before)
-place_after k l before p q e is h = is ∙ ap (next_place k l) h ∙ sym (place_of-cons k l before e)
+place_after k l before p q e is h = is ∙ ap (next_place k l) h ∙ sym (place_of_cons k l before e)
 
 -- a line that neither opens nor closes a model, nor belongs to a cover
-pub next_place-other : (k : Keyword) (l : Line) (p : Place) → k ≢ Model → k ≢ Names → k ≢ End → k ≢ Row → next_place k l p ≡ uncovered p.inside p
-next_place-other Model l p m n e r = absurd (m refl)
-next_place-other Names l p m n e r = absurd (n refl)
-next_place-other End l p m n e r = absurd (e refl)
-next_place-other Row l p m n e r = absurd (r refl)
-next_place-other Inputs l p m n e r = refl
-next_place-other Outputs l p m n e r = refl
-next_place-other Clock l p m n e r = refl
-next_place-other Latch l p m n e r = refl
-next_place-other Subckt l p m n e r = refl
-next_place-other Unknown l p m n e r = refl
+pub next_place_other : (k : Keyword) (l : Line) (p : Place) → k ≢ Model → k ≢ Names → k ≢ End → k ≢ Row → next_place k l p ≡ uncovered p.inside p
+next_place_other Model l p m n e r = absurd (m refl)
+next_place_other Names l p m n e r = absurd (n refl)
+next_place_other End l p m n e r = absurd (e refl)
+next_place_other Row l p m n e r = absurd (r refl)
+next_place_other Inputs l p m n e r = refl
+next_place_other Outputs l p m n e r = refl
+next_place_other Clock l p m n e r = refl
+next_place_other Latch l p m n e r = refl
+next_place_other Subckt l p m n e r = refl
+next_place_other Unknown l p m n e r = refl
 
 -- the lines before the next line
 pub before_more : {X : Type 0} (xs : List X) (i : ℕ) (x : X) → i < length xs → x ≡ get_or xs i x → reverse (take (i + 1) xs) ≡ x ∷ reverse (take i xs)
@@ -65,31 +65,31 @@ pub first_left : {X Y : Type 0} (F : List X → Y) (xs : List X) (i : ℕ) (x : 
 first_left F xs i x lt is = at_drop_more F xs i x lt ∙ ap (λ y. F (y ∷ drop (i + 1) xs)) (sym is)
 
 -- a line without fault passes the fault on to the later lines
-pub first_fault-pass : (before : List Line) (l : Line) (ls : List Line) → line_fault (place_of before) (model_names before) l ≡ None → first_fault before (l ∷ ls) ≡ first_fault (l ∷ before) ls
-first_fault-pass before l ls e = rw e
+pub first_fault_pass : (before : List Line) (l : Line) (ls : List Line) → line_fault (place_of before) (model_names before) l ≡ None → first_fault before (l ∷ ls) ≡ first_fault (l ∷ before) ls
+first_fault_pass before l ls e = rw e
 
-pub first_fault-here : (before : List Line) (l : Line) (ls : List Line) (fault : BlifFault) → line_fault (place_of before) (model_names before) l ≡ Some fault → first_fault before (l ∷ ls) ≡ Some fault
-first_fault-here before l ls fault e = rw e
+pub first_fault_here : (before : List Line) (l : Line) (ls : List Line) (fault : BlifFault) → line_fault (place_of before) (model_names before) l ≡ Some fault → first_fault before (l ∷ ls) ≡ Some fault
+first_fault_here before l ls fault e = rw e
 
-pub rows-none : (p : Place) → p ≡ place_of [] → p.rows ≤ 0
+pub rows_none : (p : Place) → p ≡ place_of [] → p.rows ≤ 0
 unfolding place_of
-rows-none p e = let zero : p.rows ≡ 0 = ap (λ (q : Place). q.rows) e in omega arith
+rows_none p e = let zero : p.rows ≡ 0 = ap (λ (q : Place). q.rows) e in omega arith
 
 -- a line is at most one row more
-pub rows-cons : (l : Line) (before : List Line) → (place_of (l ∷ before)).rows ≤ (place_of before).rows + 1
+pub rows_cons : (l : Line) (before : List Line) → (place_of (l ∷ before)).rows ≤ (place_of before).rows + 1
 unfolding place_of
-rows-cons l before =
+rows_cons l before =
     let n = row_count before in
     elim (is_line Row l) as (λ b. cond b (n + 1) n ≤ n + 1) [ true ↦ omega arith | false ↦ omega arith ]
 
-pub models-none : (p : Place) → p ≡ place_of [] → p.models ≤ 0
+pub models_none : (p : Place) → p ≡ place_of [] → p.models ≤ 0
 unfolding place_of
-models-none p e = let zero : p.models ≡ 0 = ap (λ (q : Place). q.models) e in omega arith
+models_none p e = let zero : p.models ≡ 0 = ap (λ (q : Place). q.models) e in omega arith
 
 -- a line is at most one model more
-pub models-cons : (l : Line) (before : List Line) → (place_of (l ∷ before)).models ≤ (place_of before).models + 1
+pub models_cons : (l : Line) (before : List Line) → (place_of (l ∷ before)).models ≤ (place_of before).models + 1
 unfolding place_of
-models-cons l before =
+models_cons l before =
     let ns = model_names before in
     elim (is_line Model l) as (λ b. length (cond b (ns ++ word_at l.words 1 ∷ []) ns) ≤ length ns + 1) [
       | true ↦ rw length_push (omega arith)

@@ -42,18 +42,18 @@ with_line Latch words later m = made m.name m.inputs m.outputs m.clocks (latch_c
 with_line Subckt words later m = made m.name m.inputs m.outputs m.clocks m.cells (inst_of (line_at 0 words) ∷ m.insts)
 with_line _ words later m = m
 
-model_of-cons : (k : Keyword) (l : Line) (later : List Line) (name : List ℕ) → k ≡ keyword_of l.words → model_of name (l ∷ later) ≡ with_line k l.words later (model_of name later)
+model_of_cons : (k : Keyword) (l : Line) (later : List Line) (name : List ℕ) → k ≡ keyword_of l.words → model_of name (l ∷ later) ≡ with_line k l.words later (model_of name later)
 unfolding model_of
-model_of-cons Model l later name e = rw (← e)
-model_of-cons Inputs l later name e = rw (← e)
-model_of-cons Outputs l later name e = rw (← e)
-model_of-cons Clock l later name e = rw (← e)
-model_of-cons Names l later name e = rw (← e)
-model_of-cons Latch l later name e = rw (← e)
-model_of-cons Subckt l later name e = rw (← e)
-model_of-cons End l later name e = rw (← e)
-model_of-cons Unknown l later name e = rw (← e)
-model_of-cons Row l later name e = rw (← e)
+model_of_cons Model l later name e = rw (← e)
+model_of_cons Inputs l later name e = rw (← e)
+model_of_cons Outputs l later name e = rw (← e)
+model_of_cons Clock l later name e = rw (← e)
+model_of_cons Names l later name e = rw (← e)
+model_of_cons Latch l later name e = rw (← e)
+model_of_cons Subckt l later name e = rw (← e)
+model_of_cons End l later name e = rw (← e)
+model_of_cons Unknown l later name e = rw (← e)
+model_of_cons Row l later name e = rw (← e)
 
 -- what a model's lines stand for, whatever their numbers
 abbrev Means : ModelOf → List Words → Type 0
@@ -64,7 +64,7 @@ module _ (name : List ℕ) (lines : List Words) where
   unfolding named_keyword
   means_inputs [] outputs clocks cells insts h = h
   means_inputs (x ∷ xs) outputs clocks cells insts h = λ n.
-      model_of-cons Inputs (line_at n (codes ".inputs" ∷ x ∷ xs)) (numbered (n + 1) lines) name refl
+      model_of_cons Inputs (line_at n (codes ".inputs" ∷ x ∷ xs)) (numbered (n + 1) lines) name refl
       ∙ ap (with_line Inputs (codes ".inputs" ∷ x ∷ xs) (numbered (n + 1) lines)) (h (n + 1))
       ∙ ap (λ (ns : Words). made name ns outputs clocks cells insts) (append-nil (x ∷ xs))
 
@@ -72,7 +72,7 @@ module _ (name : List ℕ) (lines : List Words) where
   unfolding named_keyword
   means_outputs [] clocks cells insts h = h
   means_outputs (x ∷ xs) clocks cells insts h = λ n.
-      model_of-cons Outputs (line_at n (codes ".outputs" ∷ x ∷ xs)) (numbered (n + 1) lines) name refl
+      model_of_cons Outputs (line_at n (codes ".outputs" ∷ x ∷ xs)) (numbered (n + 1) lines) name refl
       ∙ ap (with_line Outputs (codes ".outputs" ∷ x ∷ xs) (numbered (n + 1) lines)) (h (n + 1))
       ∙ ap (λ (ns : Words). made name [] ns clocks cells insts) (append-nil (x ∷ xs))
 
@@ -80,7 +80,7 @@ module _ (name : List ℕ) (lines : List Words) where
   unfolding named_keyword
   means_clocks [] cells insts h = h
   means_clocks (x ∷ xs) cells insts h = λ n.
-      model_of-cons Clock (line_at n (codes ".clock" ∷ x ∷ xs)) (numbered (n + 1) lines) name refl
+      model_of_cons Clock (line_at n (codes ".clock" ∷ x ∷ xs)) (numbered (n + 1) lines) name refl
       ∙ ap (with_line Clock (codes ".clock" ∷ x ∷ xs) (numbered (n + 1) lines)) (h (n + 1))
       ∙ ap (λ (ns : Words). made name [] [] ns cells insts) (append-nil (x ∷ xs))
 
@@ -100,7 +100,7 @@ means_insts : (name : List ℕ) (lines : List Words) (insts : List Inst) → All
 unfolding named_keyword
 means_insts name lines [] w h = h
 means_insts name lines (inst ∷ insts) w h = λ n.
-    model_of-cons Subckt (line_at n (inst_line inst)) (numbered (n + 1) (map inst_line insts ++ lines)) name refl
+    model_of_cons Subckt (line_at n (inst_line inst)) (numbered (n + 1) (map inst_line insts ++ lines)) name refl
     ∙ ap (with_line Subckt (inst_line inst) (numbered (n + 1) (map inst_line insts ++ lines))) (means_insts name lines insts w.1 h (n + 1))
     ∙ ap (λ (i : Inst). made name [] [] [] [] (i ∷ insts)) (inst_back inst w.0)
 
@@ -189,7 +189,7 @@ means_rows : (m : ModelOf) (inputs : ℕ) (on : Bool) (cubes : List Cube) (lines
 means_rows m inputs on [] lines h = h
 means_rows m inputs on (cube ∷ cubes) lines h = λ n.
     let row = is_row_line inputs on cube in
-    model_of-cons Row (line_at n (cube_line inputs on cube)) (numbered (n + 1) (map (cube_line inputs on) cubes ++ lines)) m.name (sym row.keyword)
+    model_of_cons Row (line_at n (cube_line inputs on cube)) (numbered (n + 1) (map (cube_line inputs on) cubes ++ lines)) m.name (sym row.keyword)
     ∙ means_rows m inputs on cubes lines h (n + 1)
 
 means_cell : (name : List ℕ) (cell : Cell) (cells : List Cell) (insts : List Inst) (lines : List Words) → IsWritableCell cell → NoRow lines → Means (made name [] [] [] cells insts) lines → Means (made name [] [] [] (cell ∷ cells) insts) (cell_lines cell ++ lines)
@@ -197,13 +197,13 @@ unfolding named_keyword
 means_cell name (NamesCell inputs out cover) cells insts lines w none h = λ n.
     let words = codes ".names" ∷ (inputs ++ out ∷ []) in
     let later = numbered (n + 1) (map (cube_line cover.inputs cover.on) cover.cubes ++ lines) in
-    model_of-cons Names (line_at n words) later name refl
+    model_of_cons Names (line_at n words) later name refl
     ∙ ap (with_line Names words later) (means_rows (made name [] [] [] cells insts) cover.inputs cover.on cover.cubes lines h (n + 1))
     ∙ ap (λ (ls : List Line). made name [] [] [] (names_cell words ls ∷ cells) insts) (leading_rows cover.inputs cover.on cover.cubes lines (n + 1) none)
     ∙ ap (λ (c : Cell). made name [] [] [] (c ∷ cells) insts) (cover_back inputs out cover (n + 1) w)
 means_cell name (LatchCell input out kind control init) cells insts lines w none h = λ n.
     let words = codes ".latch" ∷ input ∷ out ∷ kind_words kind control ++ init_word init ∷ [] in
-    model_of-cons Latch (line_at n words) (numbered (n + 1) lines) name refl
+    model_of_cons Latch (line_at n words) (numbered (n + 1) lines) name refl
     ∙ ap (with_line Latch words (numbered (n + 1) lines)) (h (n + 1))
     ∙ ap (λ (c : Cell). made name [] [] [] (c ∷ cells) insts) (latch_back input out kind control init w)
 

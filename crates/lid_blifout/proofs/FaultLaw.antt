@@ -24,8 +24,8 @@ use Rattle.lid_blif.specs.declared.place.Place.{Place}
 use Rattle.lid_blif.specs.Words.{last_word, named_keyword, keyword_of, inputs_of, is_zero, is_one, is_row_of}
 use Rattle.lid_blif.specs.Faults.{place_of, model_names, ends_in_zero, ends_in_one, Case, told, cases_of, is_mixed, line_fault, first_fault}
 use Rattle.lid_blif.specs.WellFormed.{model_name}
-use Rattle.lid_blif.proofs.Places.{place_of-cons, first_fault-pass}
-use Rattle.lid_blif.proofs.FaultLemmas.{place_models}
+use Rattle.lid_blif.proofs.Places.{place_of_cons, first_fault_pass}
+use Rattle.lid_blif.proofs.Faults.{place_models}
 use Rattle.lid_blifout.specs.Canonical.{Words, listed, output_word, cube_line, control_word, init_word, cell_lines, inst_line, body_lines, models_lines}
 use Rattle.lid_blifout.specs.Writable.{IsWritableCover, IsWritableCell, IsWritableInst, IsWritableModel, cell_rows, cells_rows, model_rows}
 use Rattle.lid_blifout.proofs.TextLaw.{numbered}
@@ -52,14 +52,14 @@ next_inside _ inside = inside
 at_after : (k : Keyword) (l : Line) (inside : Bool) (names : Words) (rows : ℕ) (before : List Line) → k ≡ keyword_of l.words → (k ≡ Model → ⊥) → (k ≡ Row → ⊥) → At inside names rows before → At (next_inside k inside) names rows (l ∷ before)
 at_after Model l inside names rows before e m r at = absurd (m refl)
 at_after Row l inside names rows before e m r at = absurd (r refl)
-at_after Inputs l inside names rows before e m r at = let p = place_of-cons Inputs l before e in record { inside_is = ap (λ (q : Place). q.inside) p ∙ at.inside_is; names_are = rw (← e) at.names_are; rows_are = ap (λ (q : Place). q.rows) p ∙ at.rows_are }
-at_after Outputs l inside names rows before e m r at = let p = place_of-cons Outputs l before e in record { inside_is = ap (λ (q : Place). q.inside) p ∙ at.inside_is; names_are = rw (← e) at.names_are; rows_are = ap (λ (q : Place). q.rows) p ∙ at.rows_are }
-at_after Clock l inside names rows before e m r at = let p = place_of-cons Clock l before e in record { inside_is = ap (λ (q : Place). q.inside) p ∙ at.inside_is; names_are = rw (← e) at.names_are; rows_are = ap (λ (q : Place). q.rows) p ∙ at.rows_are }
-at_after Names l inside names rows before e m r at = let p = place_of-cons Names l before e in record { inside_is = ap (λ (q : Place). q.inside) p ∙ at.inside_is; names_are = rw (← e) at.names_are; rows_are = ap (λ (q : Place). q.rows) p ∙ at.rows_are }
-at_after Latch l inside names rows before e m r at = let p = place_of-cons Latch l before e in record { inside_is = ap (λ (q : Place). q.inside) p ∙ at.inside_is; names_are = rw (← e) at.names_are; rows_are = ap (λ (q : Place). q.rows) p ∙ at.rows_are }
-at_after Subckt l inside names rows before e m r at = let p = place_of-cons Subckt l before e in record { inside_is = ap (λ (q : Place). q.inside) p ∙ at.inside_is; names_are = rw (← e) at.names_are; rows_are = ap (λ (q : Place). q.rows) p ∙ at.rows_are }
-at_after Unknown l inside names rows before e m r at = let p = place_of-cons Unknown l before e in record { inside_is = ap (λ (q : Place). q.inside) p ∙ at.inside_is; names_are = rw (← e) at.names_are; rows_are = ap (λ (q : Place). q.rows) p ∙ at.rows_are }
-at_after End l inside names rows before e m r at = let p = place_of-cons End l before e in record { inside_is = ap (λ (q : Place). q.inside) p; names_are = rw (← e) at.names_are; rows_are = ap (λ (q : Place). q.rows) p ∙ at.rows_are }
+at_after Inputs l inside names rows before e m r at = let p = place_of_cons Inputs l before e in record { inside_is = ap (λ (q : Place). q.inside) p ∙ at.inside_is; names_are = rw (← e) at.names_are; rows_are = ap (λ (q : Place). q.rows) p ∙ at.rows_are }
+at_after Outputs l inside names rows before e m r at = let p = place_of_cons Outputs l before e in record { inside_is = ap (λ (q : Place). q.inside) p ∙ at.inside_is; names_are = rw (← e) at.names_are; rows_are = ap (λ (q : Place). q.rows) p ∙ at.rows_are }
+at_after Clock l inside names rows before e m r at = let p = place_of_cons Clock l before e in record { inside_is = ap (λ (q : Place). q.inside) p ∙ at.inside_is; names_are = rw (← e) at.names_are; rows_are = ap (λ (q : Place). q.rows) p ∙ at.rows_are }
+at_after Names l inside names rows before e m r at = let p = place_of_cons Names l before e in record { inside_is = ap (λ (q : Place). q.inside) p ∙ at.inside_is; names_are = rw (← e) at.names_are; rows_are = ap (λ (q : Place). q.rows) p ∙ at.rows_are }
+at_after Latch l inside names rows before e m r at = let p = place_of_cons Latch l before e in record { inside_is = ap (λ (q : Place). q.inside) p ∙ at.inside_is; names_are = rw (← e) at.names_are; rows_are = ap (λ (q : Place). q.rows) p ∙ at.rows_are }
+at_after Subckt l inside names rows before e m r at = let p = place_of_cons Subckt l before e in record { inside_is = ap (λ (q : Place). q.inside) p ∙ at.inside_is; names_are = rw (← e) at.names_are; rows_are = ap (λ (q : Place). q.rows) p ∙ at.rows_are }
+at_after Unknown l inside names rows before e m r at = let p = place_of_cons Unknown l before e in record { inside_is = ap (λ (q : Place). q.inside) p ∙ at.inside_is; names_are = rw (← e) at.names_are; rows_are = ap (λ (q : Place). q.rows) p ∙ at.rows_are }
+at_after End l inside names rows before e m r at = let p = place_of_cons End l before e in record { inside_is = ap (λ (q : Place). q.inside) p; names_are = rw (← e) at.names_are; rows_are = ap (λ (q : Place). q.rows) p ∙ at.rows_are }
 
 -- a line without fault, and no fault after it
 clear_line : (k : Keyword) (words : Words) (lines : List Words) (inside : Bool) (names : Words) (rows : ℕ) → k ≡ keyword_of words → (k ≡ Model → ⊥) → (k ≡ Row → ⊥)
@@ -70,7 +70,7 @@ clear_line k words lines inside names rows e m r ok later n before at =
     let l = line_at n words in
     let same : line_fault (place_of before) (model_names before) l ≡ told (cases_of k (place_of before) names l) =
     ap (λ (ns : Words). line_fault (place_of before) ns l) at.names_are ∙ ap (λ (q : Keyword). told (cases_of q (place_of before) names l)) (sym e) in
-    first_fault-pass before l (numbered (n + 1) lines) (same ∙ ok (place_of before) n at.inside_is)
+    first_fault_pass before l (numbered (n + 1) lines) (same ∙ ok (place_of before) n at.inside_is)
     ∙ later (n + 1) (l ∷ before) (at_after k l inside names rows before e m r at)
 
 clear_inputs : (ns : Words) (lines : List Words) (names : Words) (rows : ℕ) → Clear true names rows lines → Clear true names rows (listed (codes ".inputs") ns ++ lines)
@@ -143,7 +143,7 @@ row_ok inputs on cube words n before names rows row at cover few =
 
 at_row : (l : Line) (names : Words) (rows : ℕ) (before : List Line) → Row ≡ keyword_of l.words → At true names rows before → At true names (rows + 1) (l ∷ before)
 at_row l names rows before e at =
-    let p = place_of-cons Row l before e in
+    let p = place_of_cons Row l before e in
     record {
       inside_is = ap (λ (q : Place). q.inside) p ∙ at.inside_is;
       names_are = rw (← e) at.names_are;
@@ -156,7 +156,7 @@ still_unmixed false l place e h = or_from (ends_in_one l) place.ones (ap is_one 
 
 cover_row : (inputs : ℕ) (on : Bool) (l : Line) (before : List Line) → Row ≡ keyword_of l.words → last_word l.words ≡ output_word on → InCover inputs on before → InCover inputs on (l ∷ before)
 cover_row inputs on l before e out cover =
-    let p = place_of-cons Row l before e in
+    let p = place_of_cons Row l before e in
     record {
       covered = ap (λ (q : Place). q.covered) p ∙ cover.covered;
       inputs_are = ap (λ (q : Place). q.inputs) p ∙ cover.inputs_are;
@@ -177,7 +177,7 @@ clear_rows (cube ∷ cubes) inputs on lines names rows few h n before at cover =
     let l = line_at n words in
     let more : rows + suc (length cubes) ≡ (rows + 1) + length cubes = omega arith in
     let left : Clear true names ((rows + 1) + length cubes) lines = subst (λ (k : ℕ). Clear true names k lines) more h in
-    first_fault-pass before l (numbered (n + 1) (map (cube_line inputs on) cubes ++ lines)) (row_ok inputs on cube words n before names rows row at cover (omega arith))
+    first_fault_pass before l (numbered (n + 1) (map (cube_line inputs on) cubes ++ lines)) (row_ok inputs on cube words n before names rows row at cover (omega arith))
     ∙ clear_rows cubes inputs on lines names (rows + 1) (omega arith) left (n + 1) (l ∷ before) (at_row l names rows before (sym row.keyword) at) (cover_row inputs on l before (sym row.keyword) row.output cover)
 
 clear_cover : (inputs : Words) (out : List ℕ) (cover : Cover) (lines : List Words) (names : Words) (rows : ℕ) → IsWritableCover inputs out cover → rows + length cover.cubes ≤ 1048576 → Clear true names (rows + length cover.cubes) lines
@@ -197,14 +197,14 @@ clear_cover inputs out cover lines names rows w few h n before at =
     let clean : line_fault place (model_names before) l ≡ None =
     told_pass (not place.inside) (NoModel n) short_cases (not_from_true place.inside at.inside_is) (told_pass (nat_lt (length words) 2) (Arity n) wide_case enough narrow) in
     let e : Names ≡ keyword_of words = refl in
-    let p = place_of-cons Names l before e in
+    let p = place_of_cons Names l before e in
     let inside = at_after Names l true names rows before e (λ q. cc) (λ q. cc) at in
     let begun : InCover cover.inputs cover.on (l ∷ before) = record {
       covered = ap (λ (q : Place). q.covered) p;
       inputs_are = ap (λ (q : Place). q.inputs) p ∙ same;
       unmixed = ap (λ (q : Place). cond cover.on q.zeros q.ones) p ∙ same_false cover.on;
     } in
-    first_fault-pass before l (numbered (n + 1) (map (cube_line cover.inputs cover.on) cover.cubes ++ lines)) clean
+    first_fault_pass before l (numbered (n + 1) (map (cube_line cover.inputs cover.on) cover.cubes ++ lines)) clean
     ∙ clear_rows cover.cubes cover.inputs cover.on lines names rows few h (n + 1) (l ∷ before) inside begun
   where
     same_false : (b : Bool) → cond b false false ≡ false
@@ -271,13 +271,13 @@ clear_title name lines inside names rows fresh few h n before at =
     let clean : line_fault place (model_names before) l ≡ None =
     told_pass (list_any (λ other. bytes_eq other name) (model_names before)) (DuplicateModel n) limit_case new few_models in
     let e : Model ≡ keyword_of words = refl in
-    let p = place_of-cons Model l before e in
+    let p = place_of_cons Model l before e in
     let opened : At true (names ++ name ∷ []) rows (l ∷ before) = record {
       inside_is = ap (λ (q : Place). q.inside) p;
       names_are = ap (λ (ns : Words). ns ++ name ∷ []) at.names_are;
       rows_are = ap (λ (q : Place). q.rows) p ∙ at.rows_are;
     } in
-    first_fault-pass before l (numbered (n + 1) lines) clean ∙ h (n + 1) (l ∷ before) opened
+    first_fault_pass before l (numbered (n + 1) lines) clean ∙ h (n + 1) (l ∷ before) opened
 
 clear_models : (ms : List ModelOf) (inside : Bool) (names : Words) (rows : ℕ) → AllByRecursion IsWritableModel ms → IsDistinct bytes_eq (names ++ map model_name ms) → length names + length ms ≤ 4096 → rows + sum_by model_rows ms ≤ 1048576 → Clear inside names rows (models_lines ms)
 clear_models [] inside names rows w d few_models few_rows = λ n before at. refl

@@ -9,13 +9,13 @@ use Rattle.lid_blifout.specs.Canonical.{Words, line_text, lines_text, bind_word,
 use Rattle.lid_blifout.specs.Pieces.{spaced, spaced_binds, asked_text}
 
 -- the words after the first, each after a blank
-pub join-spaced : (word : List ℕ) (words : Words) → join_with_byte 32 (word ∷ words) ≡ word ++ spaced words
-join-spaced word [] = sym (append-nil word)
-join-spaced word (next ∷ words) = ap (λ (bytes : List ℕ). word ++ 32 ∷ bytes) (join-spaced next words)
+pub join_spaced : (word : List ℕ) (words : Words) → join_with_byte 32 (word ∷ words) ≡ word ++ spaced words
+join_spaced word [] = sym (append-nil word)
+join_spaced word (next ∷ words) = ap (λ (bytes : List ℕ). word ++ 32 ∷ bytes) (join_spaced next words)
 
 pub line_text_cons : (word : List ℕ) (words : Words) → line_text (word ∷ words) ≡ word ++ (spaced words ++ 10 ∷ [])
 unfolding line_text
-line_text_cons word words = ap (λ (bytes : List ℕ). bytes ++ 10 ∷ []) (join-spaced word words) ∙ append_assoc word (spaced words) (10 ∷ [])
+line_text_cons word words = ap (λ (bytes : List ℕ). bytes ++ 10 ∷ []) (join_spaced word words) ∙ append_assoc word (spaced words) (10 ∷ [])
 
 pub spaced_append : (xs bs : Words) → spaced (xs ++ bs) ≡ spaced xs ++ spaced bs
 spaced_append [] bs = refl

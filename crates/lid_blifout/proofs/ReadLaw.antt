@@ -22,7 +22,7 @@ use Rattle.lid_blif.specs.Words.{word_at, last_word, keyword_of, same_keyword, i
 use Rattle.lid_blif.specs.Faults.{place_of, model_names, row_count, ends_in_zero, Case, outside, is_mixed, line_fault, first_fault}
 use Rattle.lid_blif.specs.Designs.{cube_of, width_of, names_of, kind_named, control_named, kind_of, control_of, bind_of, inst_of, latch_cell, names_cell, cell_before, cells_of, insts_of, model_of, models_of}
 use Rattle.lid_blif.specs.WellFormed.{IsWellFormedCell}
-use Rattle.lid_blif.proofs.FaultLemmas.{told-none, first_fault-none}
+use Rattle.lid_blif.proofs.Faults.{told-none, first_fault_none}
 use Rattle.lid_blifout.specs.Canonical.{Words, bind_word}
 use Rattle.lid_blifout.specs.Writable.{IsSpelled, IsControl, IsWritableLatch, IsWritableBind, IsWritableInst, IsWritableCell, IsWritableModel, cell_rows, cells_rows, model_rows}
 use Rattle.lid_blifout.proofs.Spelled.{AreSpelled, all_append}
@@ -82,7 +82,7 @@ inst_shape place names l h e =
 lines_shaped : (before ls : List Line) → first_fault before ls ≡ None → AllByRecursion IsShaped ls
 lines_shaped before [] h = tt
 lines_shaped before (l ∷ ls) h =
-    let parts = first_fault-none before l ls h in
+    let parts = first_fault_none before l ls h in
     let place = place_of before in
     let names = model_names before in (
       record {
@@ -338,7 +338,7 @@ place_rows before = refl
 rows_limit : (before ls : List Line) → first_fault before ls ≡ None → row_count before ≤ 1048576 → row_count before + row_count ls ≤ 1048576
 rows_limit before [] h few = omega arith
 rows_limit before (l ∷ ls) h few =
-    let parts = first_fault-none before l ls h in
+    let parts = first_fault_none before l ls h in
     let grown = count_cons l before in
     let whole = count_cons l ls in
     let at = place_rows before in

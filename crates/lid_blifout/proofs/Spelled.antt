@@ -7,12 +7,12 @@ use Rattle.std.proofs.lemmas.List.{take_all, length-append}
 use Rattle.std.proofs.lemmas.List.Elements.{All-from_recursion}
 use Rattle.std.proofs.lemmas.List.Splits.{slice_split_none, slice_split_at}
 use Rattle.lid_base.specs.Lines.{is_newline, is_hash, is_separator, is_allowed, ends_in_mark, content_of, trimmed, goes_on, without_mark, is_word, words_in, words_of, has_bad_byte, has_long_word}
-use Rattle.lid_base.proofs.CutLemmas.{before_none, ends_in_mark-last, trimmed-at}
+use Rattle.lid_base.proofs.Cutting.{before_none, ends_in_mark_last, trimmed_at}
 use Rattle.lid_design.specs.declared.Bind.{Bind}
 use Rattle.lid_blifout.specs.Canonical.{Words, bind_word}
 use Rattle.lid_blifout.specs.Writable.{is_word_byte, IsSpelled, IsWritableBind}
 use Rattle.lid_blifout.specs.Pieces.{spaced}
-use Rattle.lid_blifout.proofs.Lines.{join-spaced}
+use Rattle.lid_blifout.proofs.Lines.{join_spaced}
 
 pub all_append : {X : Type 0} (P : X → Type 0) (xs ys : List X) → AllByRecursion P xs → AllByRecursion P ys → AllByRecursion P (xs ++ ys)
 all_append P [] ys h k = k
@@ -98,7 +98,7 @@ word_last word s =
     let some : 0 < length word = s.some in
     record {
       separator = no_separator word s (length word - 1) 0 (omega arith);
-      mark = ends_in_mark-last word some ∙ s.unmarked;
+      mark = ends_in_mark_last word some ∙ s.unmarked;
     }
 
 line_last : (word : List ℕ) (words : Words) → IsSpelled word → AllByRecursion IsSpelled words → EndsWell (last_byte (word ++ spaced words))
@@ -129,10 +129,10 @@ module _ (words : Words) (bytes : List ℕ) (all : AllByRecursion IsInLine bytes
   trims : trimmed bytes ≡ bytes
   trims =
       let whole : take (length bytes) bytes ≡ bytes = take_all (length bytes) bytes (omega arith) in
-      sym (trimmed-at bytes (length bytes) (omega arith) (ap (λ (xs : List ℕ). length bytes + suffix_len is_separator xs) (sym whole)) (λ h. last.separator)) ∙ whole
+      sym (trimmed_at bytes (length bytes) (omega arith) (ap (λ (xs : List ℕ). length bytes + suffix_len is_separator xs) (sym whole)) (λ h. last.separator)) ∙ whole
 
   unmarked : ends_in_mark bytes ≡ false
-  unmarked = sym (ends_in_mark-last bytes some) ∙ last.mark
+  unmarked = sym (ends_in_mark_last bytes some) ∙ last.mark
 
   pub of_line : words_of bytes ≡ words
   unfolding words_of words_in
@@ -160,7 +160,7 @@ pub line_of_words : (words : Words) → AreSpelled words → IsLineOf words (joi
 line_of_words [] s = absurd (let h : 0 < 0 = s.some in omega arith)
 line_of_words (word ∷ words) s =
     let some : 0 < length (word ++ spaced words) = omega (arith, length-append word (spaced words), s.all.0.some) in
-    subst (IsLineOf (word ∷ words)) (sym (join-spaced word words)) (is_line_of (word ∷ words) (word ++ spaced words) (line_bytes word words s.all.0 s.all.1) (line_last word words s.all.0 s.all.1) some (line_split word words s.all.0 s.all.1) s.all)
+    subst (IsLineOf (word ∷ words)) (sym (join_spaced word words)) (is_line_of (word ∷ words) (word ++ spaced words) (line_bytes word words s.all.0 s.all.1) (line_last word words s.all.0 s.all.1) some (line_split word words s.all.0 s.all.1) s.all)
 
 -- a binding is one word
 pub spelled_bind : (bind : Bind) → IsWritableBind bind → IsSpelled (bind_word bind)

@@ -9,7 +9,7 @@ use Rattle.lid_blif.specs.declared.fault.BlifFault.{BlifFault}
 use Rattle.lid_blif.specs.declared.fault.BlifFault.TheVariants.{NoModel, Text, Limit}
 use Rattle.lid_blif.specs.Faults.{first_fault, lines_fault, after_text, blif_fault}
 use Rattle.lid_blif.specs.Designs.{models_of, design_of}
-use Rattle.lid_blif.proofs.TextLemmas.{text_formed}
+use Rattle.lid_blif.proofs.Texts.{text_formed}
 use Rattle.lid_blifout.specs.Canonical.{canonical_text}
 use Rattle.lid_blifout.specs.Writable.{IsWritable, HasPlainFormals}
 use Rattle.lid_blifout.proofs.ReadWords.{text_words}

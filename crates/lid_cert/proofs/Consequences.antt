@@ -10,13 +10,13 @@ use Rattle.lid_graph.specs.declared.graph.Graph.{Graph}
 use Rattle.lid_graph.specs.Walks.{edge_at, IsPaired, IsWalk, IsClosedWalk, IsJoined, walk_start, walk_tokens}
 use Rattle.lid_graph.specs.Firings.{Counts, no_hold, firings, least_into, AreFitCaps}
 use Rattle.lid_graph.specs.Ratios.{IsRatio}
-use Rattle.lid_graph.proofs.Counting.{Allowing, least_into-cases, firings-cap, firings-edge, firings-walk, firings-cycles}
-use Rattle.lid_graph.proofs.Journeys.{joined-step, joined-back}
+use Rattle.lid_graph.proofs.Counting.{Allowing, least_into_cases, firings_cap, firings_edge, firings_walk, firings_cycles}
+use Rattle.lid_graph.proofs.Journeys.{joined_step, joined_back}
 use Rattle.lid_cert.specs.declared.cert.Part.{Part}
 use Rattle.lid_cert.specs.declared.cert.Cert.{Cert}
 use Rattle.lid_cert.specs.Certificates.{has_node, lag_of, lead_of, depth_of, via_of, IsPart, IsVia, parts_with}
 use Rattle.lid_cert.specs.Laws.{Shows, EachIsShown, WalksHaveTokens, RatioIsShown, LagsAreShown, LeadsBoundFirings, LagsBoundFirings, CapsAreReached, quotient_up}
-use Rattle.lid_cert.proofs.Parts.{node-within, node_met, edge_met, stays-forth, stays-back, lag_along}
+use Rattle.lid_cert.proofs.Parts.{node_within, node_met, edge_met, stays_forth, stays_back, lag_along}
 
 part_of : (g : Graph) (cert : Cert) (part : Part) (v : ℕ) → Shows g cert part v → IsPart g part
 part_of g cert part v shows = All-contains (IsPart g) cert.parts part shows.certifies.parts shows.stands
@@ -39,29 +39,29 @@ turn_lead p q a k f lead within few enough = by_order (cases_lt p q)
 
 module _ (g : Graph) (paired : IsPaired g) (part : Part) (meets : IsPart g part) (cap : Counts) where
   -- where the walk starts, by turns of the walk
-  lead-start_turns : (turns k : ℕ) → k < length part.cycle → part.q * firings g cap no_hold (k + turns * length part.cycle) (walk_start g part.cycle) ≤ part.p * (k + turns * length part.cycle) + lead_of part (walk_start g part.cycle)
-  lead-start_turns zero k h =
-      let few : firings g cap no_hold k (walk_start g part.cycle) ≤ k = firings-cycles g cap paired k (walk_start g part.cycle) (node-within g part meets (walk_start g part.cycle) meets.start.inside) in
+  lead_start_turns : (turns k : ℕ) → k < length part.cycle → part.q * firings g cap no_hold (k + turns * length part.cycle) (walk_start g part.cycle) ≤ part.p * (k + turns * length part.cycle) + lead_of part (walk_start g part.cycle)
+  lead_start_turns zero k h =
+      let few : firings g cap no_hold k (walk_start g part.cycle) ≤ k = firings_cycles g cap paired k (walk_start g part.cycle) (node_within g part meets (walk_start g part.cycle) meets.start.inside) in
       let same : k + 0 * length part.cycle ≡ k = omega arith in
       subst (λ (n : ℕ). part.q * firings g cap no_hold n (walk_start g part.cycle) ≤ part.p * n + lead_of part (walk_start g part.cycle)) (sym same)
       (turn_lead part.p part.q (length part.cycle - 1) k (firings g cap no_hold k (walk_start g part.cycle)) (lead_of part (walk_start g part.cycle)) (omega arith) few meets.start.lead)
-  lead-start_turns (suc turns) k h =
-      let before = lead-start_turns turns k h in
+  lead_start_turns (suc turns) k h =
+      let before = lead_start_turns turns k h in
       let turn : firings g cap no_hold ((k + turns * length part.cycle) + length part.cycle) (walk_start g part.cycle) ≤ firings g cap no_hold (k + turns * length part.cycle) (walk_start g part.cycle) + walk_tokens g part.cycle
-      = firings-walk g cap part.cycle (k + turns * length part.cycle) (walk_start g part.cycle) (walk_start g part.cycle) meets.walk.closed in
+      = firings_walk g cap part.cycle (k + turns * length part.cycle) (walk_start g part.cycle) (walk_start g part.cycle) meets.walk.closed in
       let scaled = mul-le-mul_left part.q turn in
       let tokens : walk_tokens g part.cycle * part.q ≡ part.p * length part.cycle = meets.ratio in
       let same : (k + turns * length part.cycle) + length part.cycle ≡ k + suc turns * length part.cycle = omega arith in
       subst (λ (n : ℕ). part.q * firings g cap no_hold n (walk_start g part.cycle) ≤ part.p * n + lead_of part (walk_start g part.cycle)) same
       (omega arith)
 
-  lead-start : (k : ℕ) → part.q * firings g cap no_hold k (walk_start g part.cycle) ≤ part.p * k + lead_of part (walk_start g part.cycle)
-  lead-start k =
+  lead_start : (k : ℕ) → part.q * firings g cap no_hold k (walk_start g part.cycle) ≤ part.p * k + lead_of part (walk_start g part.cycle)
+  lead_start k =
       let some : 0 < length part.cycle = meets.walk.some in
       let below : k % length part.cycle < length part.cycle = omega arith in
       let same : k % length part.cycle + (k / length part.cycle) * length part.cycle ≡ k = omega (arith, div-add-mod k (length part.cycle)) in
       subst (λ (n : ℕ). part.q * firings g cap no_hold n (walk_start g part.cycle) ≤ part.p * n + lead_of part (walk_start g part.cycle)) same
-      (lead-start_turns (k / length part.cycle) (k % length part.cycle) below)
+      (lead_start_turns (k / length part.cycle) (k % length part.cycle) below)
 
   -- the bound for all transitions of less depth
   abbrev LeadsBelow : ℕ → Type 0
@@ -78,7 +78,7 @@ module _ (g : Graph) (paired : IsPaired g) (part : Part) (meets : IsPart g part)
       along earlier i via (suc k) =
           let deep : depth_of part (edge_at g i).from < d = omega (arith, via.depth) in
           let before : part.q * firings g cap no_hold k (edge_at g i).from ≤ part.p * k + lead_of part (edge_at g i).from = earlier k (edge_at g i).from deep via.begins in
-          let edge : firings g cap no_hold (suc k) (edge_at g i).to ≤ firings g cap no_hold k (edge_at g i).from + (edge_at g i).tokens = firings-edge g cap k i via.within in
+          let edge : firings g cap no_hold (suc k) (edge_at g i).to ≤ firings g cap no_hold k (edge_at g i).from + (edge_at g i).tokens = firings_edge g cap k i via.within in
           let scaled = mul-le-mul_left part.q edge in
           let lead = via.lead in
           subst (λ (n : ℕ). part.q * firings g cap no_hold (suc k) n ≤ part.p * suc k + lead_of part v) via.ends (omega arith)
@@ -88,7 +88,7 @@ module _ (g : Graph) (paired : IsPaired g) (part : Part) (meets : IsPart g part)
       by_via earlier (Some i) via = along earlier i via k
 
       by_start : LeadsBelow d → (v ≡ walk_start g part.cycle) ⊎ (v ≡ walk_start g part.cycle → ⊥) → part.q * firings g cap no_hold k v ≤ part.p * k + lead_of part v
-      by_start earlier (inl is) = subst (λ (n : ℕ). part.q * firings g cap no_hold k n ≤ part.p * k + lead_of part n) (sym is) (lead-start k)
+      by_start earlier (inl is) = subst (λ (n : ℕ). part.q * firings g cap no_hold k n ≤ part.p * k + lead_of part n) (sym is) (lead_start k)
       by_start earlier (inr other) = by_via earlier (via_of part v) (node_met g part meets v (walk_start g part.cycle) refl inside other)
 
   pub lead_bounds : (k v : ℕ) → has_node part v ≡ true → part.q * firings g cap no_hold k v ≤ part.p * k + lead_of part v
@@ -98,7 +98,7 @@ module _ (g : Graph) (paired : IsPaired g) (part : Part) (meets : IsPart g part)
   pub lag_bounds : AreFitCaps g cap → (k v : ℕ) → has_node part v ≡ true → firings g cap no_hold k v < cap v → part.p * k ≤ part.q * firings g cap no_hold k v + lag_of part v
   unfolding firings
   lag_bounds fit zero v inside below = omega arith
-  lag_bounds fit (suc k) v inside below = by_least (λ u inside below. lag_bounds fit k u inside below) (least_into-cases g.edges (firings g cap no_hold k) v (cap v)) below
+  lag_bounds fit (suc k) v inside below = by_least (λ u inside below. lag_bounds fit k u inside below) (least_into_cases g.edges (firings g cap no_hold k) v (cap v)) below
     where
       by_least : ((u : ℕ) → has_node part u ≡ true → firings g cap no_hold k u < cap u → part.p * k ≤ part.q * firings g cap no_hold k u + lag_of part u) → (least_into g.edges (firings g cap no_hold k) v (cap v) ≡ cap v) ⊎ Allowing g.edges (firings g cap no_hold k) v (least_into g.edges (firings g cap no_hold k) v (cap v)) → firings g cap no_hold (suc k) v < cap v → part.p * suc k ≤ part.q * firings g cap no_hold (suc k) v + lag_of part v
       by_least earlier (inl is) h = absurd (omega arith)
@@ -129,7 +129,7 @@ module _ (g : Graph) (paired : IsPaired g) (part : Part) (meets : IsPart g part)
       by_via earlier (Some i) via =
           let deep : depth_of part (edge_at g i).from < d = omega (arith, via.depth) in
           let edge : IsWalk g (edge_at g i).from (i ∷ []) v = (via.within, refl, via.ends) in
-          joined-step g (walk_start g part.cycle) (edge_at g i).from v (earlier (edge_at g i).from deep via.begins) (i ∷ [], edge)
+          joined_step g (walk_start g part.cycle) (edge_at g i).from v (earlier (edge_at g i).from deep via.begins) (i ∷ [], edge)
 
       by_start : JoinsBelow d → (v ≡ walk_start g part.cycle) ⊎ (v ≡ walk_start g part.cycle → ⊥) → IsJoined g (walk_start g part.cycle) v
       by_start earlier (inl is) = ([], sym is)
@@ -148,8 +148,8 @@ module _ (g : Graph) (paired : IsPaired g) (part : Part) (meets : IsPart g part)
       record {
         positive = meets.positive;
         lowest = meets.lowest;
-        all = λ ks near. walk_has_tokens ks near.0 (stays-forth g part meets near.1.0 v (walk_start g ks) near.1.1 inside);
-        some = (part.cycle, (meets.walk, joined-back g paired there.0 (walk_start g part.cycle) v there.1), omega arith);
+        all = λ ks near. walk_has_tokens ks near.0 (stays_forth g part meets near.1.0 v (walk_start g ks) near.1.1 inside);
+        some = (part.cycle, (meets.walk, joined_back g paired there.0 (walk_start g part.cycle) v there.1), omega arith);
       }
 
   -- after so many cycles the cap is reached
@@ -162,7 +162,7 @@ module _ (g : Graph) (paired : IsPaired g) (part : Part) (meets : IsPart g part)
           let more : part.q * suc (firings g cap no_hold k v) ≤ part.q * cap v = mul-le-mul_left part.q below in
           let positive = meets.positive in
           absurd (omega arith)
-      by_order (inr reached) = let most = firings-cap g cap no_hold k v in omega arith
+      by_order (inr reached) = let most = firings_cap g cap no_hold k v in omega arith
 
 -- the least number at which f comes to c
 record First (f : ℕ → ℕ) (c below : ℕ) : Type 0 where
@@ -195,8 +195,8 @@ least_at f c n is = by_search (first_below f c (suc n))
     by_search (inl found) = found
     by_search (inr none) = absurd (none n (omega arith) is)
 
-quotient_up-enough : (n d : ℕ) → 0 < d → n ≤ d * quotient_up n d
-quotient_up-enough n d some = omega arith
+quotient_up_enough : (n d : ℕ) → 0 < d → n ≤ d * quotient_up n d
+quotient_up_enough n d some = omega arith
 
 -- of a list in which one passes, one that passes
 some_passes : (p : Part → Bool) (xs : List Part) → 0 < length (filter p xs) → (x : Part) × Contains xs x × (p x ≡ true)
@@ -228,7 +228,7 @@ ratio_is_shown g cert part v shows = shown_ratio g shows.paired part (part_of g 
 pub lags_are_shown : LagsAreShown
 lags_are_shown g cert part v u ks shows walk =
     let meets = part_of g cert part v shows in
-    let along = lag_along g part meets ks u v walk (stays-back g part meets ks u v walk shows.inside) in
+    let along = lag_along g part meets ks u v walk (stays_back g part meets ks u v walk shows.inside) in
     omega arith
 
 pub leads_bound_firings : LeadsBoundFirings
@@ -239,7 +239,7 @@ lags_bound_firings g cert part v cap k shows fit below = lag_bounds g shows.pair
 
 pub caps_are_reached : CapsAreReached
 caps_are_reached g cert part v cap shows fit some =
-    let enough = quotient_up-enough (part.q * cap v + lag_of part v) part.p some in
+    let enough = quotient_up_enough (part.q * cap v + lag_of part v) part.p some in
     let reached = cap_reached g shows.paired part (part_of g cert part v shows) cap fit some (quotient_up (part.q * cap v + lag_of part v) part.p) v shows.inside enough in
     let least = least_at (λ k. firings g cap no_hold k v) (cap v) (quotient_up (part.q * cap v + lag_of part v) part.p) reached in
     (least.at, record { reached = least.is; first = least.first }, omega (arith, least.within))

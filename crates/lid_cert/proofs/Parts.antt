@@ -27,8 +27,8 @@ pub placed : (part : Part) (v : ℕ) → has_node part v ≡ true → Placed par
 placed part v inside = placed_from part v (place_in part v) refl inside
 
 module _ (g : Graph) (part : Part) (meets : IsPart g part) where
-  pub node-within : (v : ℕ) → has_node part v ≡ true → v < g.nodes
-  node-within v inside =
+  pub node_within : (v : ℕ) → has_node part v ≡ true → v < g.nodes
+  node_within v inside =
       let at : Placed part v = placed part v inside in
       subst (λ (n : ℕ). n < g.nodes) (at.node 0) (meets.within at.place 0 at.within)
 
@@ -41,16 +41,16 @@ module _ (g : Graph) (part : Part) (meets : IsPart g part) where
   edge_met k h = meets.edges k no_edge h
 
   -- a walk stays in the part
-  pub stays-forth : (ks : List ℕ) (u v : ℕ) → IsWalk g u ks v → has_node part u ≡ true → has_node part v ≡ true
-  stays-forth [] u v walk inside = subst (λ (n : ℕ). has_node part n ≡ true) walk inside
-  stays-forth (k ∷ ks) u v walk inside =
+  pub stays_forth : (ks : List ℕ) (u v : ℕ) → IsWalk g u ks v → has_node part u ≡ true → has_node part v ≡ true
+  stays_forth [] u v walk inside = subst (λ (n : ℕ). has_node part n ≡ true) walk inside
+  stays_forth (k ∷ ks) u v walk inside =
       let from : has_node part (edge_at g k).from ≡ true = ap (has_node part) walk.1 ∙ inside in
-      stays-forth ks (edge_at g k).to v walk.2 (sym (edge_met k walk.0).stays ∙ from)
+      stays_forth ks (edge_at g k).to v walk.2 (sym (edge_met k walk.0).stays ∙ from)
 
-  pub stays-back : (ks : List ℕ) (u v : ℕ) → IsWalk g u ks v → has_node part v ≡ true → has_node part u ≡ true
-  stays-back [] u v walk inside = subst (λ (n : ℕ). has_node part n ≡ true) (sym walk) inside
-  stays-back (k ∷ ks) u v walk inside =
-      let to : has_node part (edge_at g k).to ≡ true = stays-back ks (edge_at g k).to v walk.2 inside in
+  pub stays_back : (ks : List ℕ) (u v : ℕ) → IsWalk g u ks v → has_node part v ≡ true → has_node part u ≡ true
+  stays_back [] u v walk inside = subst (λ (n : ℕ). has_node part n ≡ true) (sym walk) inside
+  stays_back (k ∷ ks) u v walk inside =
+      let to : has_node part (edge_at g k).to ≡ true = stays_back ks (edge_at g k).to v walk.2 inside in
       ap (has_node part) (sym walk.1) ∙ ((edge_met k walk.0).stays ∙ to)
 
   -- along a walk of the part the lag grows by at least p for each edge, less q for each token

@@ -7,7 +7,7 @@ use Rattle.std.proofs.lemmas.List.{take_all, length-append}
 use Rattle.std.proofs.lemmas.List.Elements.{All-from_recursion}
 use Rattle.std.proofs.lemmas.List.Splits.{slice_split_none, slice_split_at}
 use Rattle.lid_base.specs.Lines.{is_newline, is_hash, is_separator, is_allowed, ends_in_mark, content_of, trimmed, goes_on, without_mark, is_word, words_in, words_of, has_bad_byte, has_long_word}
-use Rattle.lid_base.proofs.CutLemmas.{before_none, ends_in_mark-last, trimmed-at}
+use Rattle.lid_base.proofs.Cutting.{before_none, ends_in_mark_last, trimmed_at}
 
 abbrev pub Words : Type 0
 Words = List (List ℕ)
@@ -134,7 +134,7 @@ line_last word (next ∷ words) s h =
     subst EndsWell (sym e) (line_last next words h.0 h.1)
 
 unmarked : (bytes : List ℕ) → 0 < length bytes → EndsWell (last_byte bytes) → ends_in_mark bytes ≡ false
-unmarked bytes some last = sym (ends_in_mark-last bytes some) ∙ last.mark
+unmarked bytes some last = sym (ends_in_mark_last bytes some) ∙ last.mark
 
 -- what the reader finds in a line
 pub record IsLineOf (said : Words) (bytes : List ℕ) : Type 0 where
@@ -156,7 +156,7 @@ module _ (words : Words) (bytes : List ℕ) (all : AllByRecursion IsInLine bytes
   trims : trimmed bytes ≡ bytes
   trims =
       let whole : take (length bytes) bytes ≡ bytes = take_all (length bytes) bytes (omega arith) in
-      sym (trimmed-at bytes (length bytes) (omega arith) (ap (λ (xs : List ℕ). length bytes + suffix_len is_separator xs) (sym whole)) (λ h. last.separator)) ∙ whole
+      sym (trimmed_at bytes (length bytes) (omega arith) (ap (λ (xs : List ℕ). length bytes + suffix_len is_separator xs) (sym whole)) (λ h. last.separator)) ∙ whole
 
   pub of_line : words_of bytes ≡ words
   unfolding words_of words_in

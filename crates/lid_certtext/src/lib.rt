@@ -4,13 +4,13 @@
 mod building;
 mod fault;
 mod laws;
-mod printing;
+mod writer;
 mod ranges;
-mod reading;
+mod reader;
 mod stage;
 mod words;
 
 pub use fault::CertFault;
 pub use laws::{printed_is_read_back, printed_is_short};
-pub use printing::print_cert;
-pub use reading::read_cert;
+pub use writer::print_cert;
+pub use reader::read_cert;

@@ -5,7 +5,7 @@ use Rattle.std.specs.Str.{bytes_eq}
 use Rattle.std.proofs.lemmas.Slice.Eq.{bytes_eq-Decides}
 use Rattle.std.proofs.lemmas.Option.{slice_get_within, slice_get-get_or}
 use Rattle.std.proofs.lemmas.List.Quantifiers.{position-Some}
-use Rattle.lid_hierarchy.proofs.Fixpoints.{find-position}
+use Rattle.lid_hierarchy.proofs.Fixpoints.{find_position}
 use Rattle.lid_design.specs.declared.Design.{Design}
 use Rattle.lid_design.specs.Network.{Driver}
 use Rattle.lid_design.specs.Columns.{Column, column, drivers, model_at}
@@ -46,7 +46,7 @@ among_position : (net : List ℕ) (names : List (List ℕ)) → Among net names 
 among_position net names among = by (position (bytes_eq net) names) refl
   where
     by : (o : Option ℕ) → position (bytes_eq net) names ≡ o → (j : ℕ) × (position (bytes_eq net) names ≡ Some j)
-    by None e = absurd (not_lost (bytes_eq net) net names among ((bytes_eq-Decides net net).1 refl) (find-position (bytes_eq net) names ∙ ap (option_and_then (slice_get names)) e))
+    by None e = absurd (not_lost (bytes_eq net) net names among ((bytes_eq-Decides net net).1 refl) (find_position (bytes_eq net) names ∙ ap (option_and_then (slice_get names)) e))
     by (Some j) e = (j, e)
 
 option_some : {A B : Type 0} (f : A → B) (o : Option A) (b : B) → option_map f o ≡ Some b → (a : A) × (o ≡ Some a) × (b ≡ f a)

@@ -7,7 +7,7 @@ use Rattle.std.proofs.lemmas.List.{append-nil}
 use Rattle.std.proofs.lemmas.List.FromFn.{length-map-range_with_len, get_or-map-range_with_len}
 use Rattle.std.proofs.lemmas.Option.{slice_get_within, slice_get-get_or}
 use Rattle.std.proofs.lemmas.Bool.{ltb-true, ltb-false}
-use Rattle.lid_hierarchy.proofs.Fixpoints.{find-position}
+use Rattle.lid_hierarchy.proofs.Fixpoints.{find_position}
 use Rattle.lid_design.specs.declared.Design.{Design}
 use Rattle.lid_design.specs.declared.Model.{Model}
 use Rattle.lid_design.specs.declared.Inst.{Inst}
@@ -33,7 +33,7 @@ instance_at d i k number = by (slice_get d.models d.root) number
   where
     inst_at : (o : Option Inst) → option_and_then (λ inst. number_named d inst.model) o ≡ Some k → option_and_then (λ inst. model_named d inst.model) o ≡ slice_get d.models k
     inst_at None h = absurd (let e : None ≡ Some k = h in cc)
-    inst_at (Some inst) h = find-position (λ m. bytes_eq m.name inst.model) d.models ∙ ap (option_and_then (slice_get d.models)) h
+    inst_at (Some inst) h = find_position (λ m. bytes_eq m.name inst.model) d.models ∙ ap (option_and_then (slice_get d.models)) h
 
     by : (o : Option Model) → option_and_then (λ inst. number_named d inst.model) (slice_get (option_map_or (λ (m : Model). m.insts) o []) i) ≡ Some k → option_and_then (instance_model d i) o ≡ slice_get d.models k
     by None h = absurd (let e : None ≡ Some k = h in cc)

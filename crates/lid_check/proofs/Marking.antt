@@ -6,7 +6,7 @@ use Rattle.lid_design.specs.declared.Model.{Model}
 use Rattle.lid_design.specs.Columns.{is_clock, data_inputs}
 use Rattle.lid_design.specs.Models.{IsReached, is_clock_of, instance_number, number_from}
 use Rattle.lid_design.specs.Walks.{Among}
-use Rattle.lid_design.proofs.Tables.{among-left, among-right}
+use Rattle.lid_design.proofs.Tables.{among-left, among_right}
 use Rattle.lid_digraph.specs.Graphs.{flag}
 use Rattle.lid_check.specs.declared.pearls.Pearl.{Pearl}
 use Rattle.lid_check.specs.Pearls.{inputs_of, number_in, IsNumberOf, IsInputOf}
@@ -18,7 +18,7 @@ among_push x y (z ∷ xs) (inl same) = inl (inl same)
 among_push x y (z ∷ xs) (inr later) = elim (among_push x y xs later) [ inl here ↦ inl (inr here) | inr same ↦ inr same ]
 
 pub among_last : {A : Type 0} (x : A) (xs : List A) → Among x (xs ++ x ∷ [])
-among_last x xs = among-right x xs (x ∷ []) (inl refl)
+among_last x xs = among_right x xs (x ∷ []) (inl refl)
 
 -- one net more is marked
 pub nets_more : (d : Design) (pearl : Pearl) (names : List (List ℕ)) (net : List ℕ) (old mid new : List Bool) → ((k : ℕ) → (flag mid k ≡ true) ↔ ((flag old k ≡ true) ⊎ IsNumberOf d pearl names k)) → ((k : ℕ) → (flag new k ≡ true) ↔ ((flag mid k ≡ true) ⊎ (number_in d pearl net ≡ Some k))) → (k : ℕ) → (flag new k ≡ true) ↔ ((flag old k ≡ true) ⊎ IsNumberOf d pearl (names ++ net ∷ []) k)

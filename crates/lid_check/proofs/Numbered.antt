@@ -17,11 +17,11 @@ use Rattle.lid_check.specs.Acceptance.{TellsLoop}
 use Rattle.lid_check.specs.Flaws.{IsFirstOnLoop}
 use Rattle.lid_check.proofs.Lists.{to_numbers, from_numbers, among_map, map_among, among_get, all_among}
 
-read_now-map : {A B : Type 0} (f : A → B) (s : Driver A) → read_now (map_driver f s) ≡ map f (read_now s)
-read_now-map f (from_input j) = refl
-read_now-map f (from_latch first input) = refl
-read_now-map f (from_cover cover inputs) = refl
-read_now-map f (from_connection a) = refl
+read_now_map : {A B : Type 0} (f : A → B) (s : Driver A) → read_now (map_driver f s) ≡ map f (read_now s)
+read_now_map f (from_input j) = refl
+read_now_map f (from_latch first input) = refl
+read_now_map f (from_cover cover inputs) = refl
+read_now_map f (from_connection a) = refl
 
 module _ (d : Design) (network : List (Driver ℕ)) (starts : List ℕ) (is : IsElaborated d network starts) where
   abbrev pub graph : List (List ℕ)
@@ -61,7 +61,7 @@ module _ (d : Design) (network : List (Driver ℕ)) (starts : List ℕ) (is : Is
       let driven = is.each k (column_at d k) (column_here k (reader_within k b among)) in
       let here : Among b (read_now driven.driver) = from_numbers b (read_now driven.driver) (subst (λ (xs : List ℕ). AmongNumbers b xs) (reads_are k driven.driver driven.here) among) in
       let below = all_among (λ (a : ℕ). a < length network) (read_now driven.driver ++ read_before driven.driver) b driven.below (among-left b (read_now driven.driver) (read_before driven.driver) here) in
-      let mapped : Among (column_at d b) (read_now (map_driver (column_at d) driven.driver)) = subst (λ (xs : List Column). Among (column_at d b) xs) (sym (read_now-map (column_at d) driven.driver)) (among_map (column_at d) b (read_now driven.driver) here) in
+      let mapped : Among (column_at d b) (read_now (map_driver (column_at d) driven.driver)) = subst (λ (xs : List Column). Among (column_at d b) xs) (sym (read_now_map (column_at d) driven.driver)) (among_map (column_at d) b (read_now driven.driver) here) in
       (below, (map_driver (column_at d) driven.driver, subst (λ (ss : List (Driver Column)). Among (map_driver (column_at d) driven.driver) ss) (sym driven.only) (inl refl), mapped))
 
   one_driver : (s t : Driver Column) → Among s (t ∷ []) → s ≡ t
@@ -74,7 +74,7 @@ module _ (d : Design) (network : List (Driver ℕ)) (starts : List ℕ) (is : Is
       let driven = is.each k (column_at d k) (column_here k h) in
       let driver = one_driver feeds.0 (map_driver (column_at d) driven.driver) (subst (λ (ss : List (Driver Column)). Among feeds.0 ss) driven.only feeds.1) in
       let read : Among a (read_now (map_driver (column_at d) driven.driver)) = subst (λ (s : Driver Column). Among a (read_now s)) driver feeds.2 in
-      let found = map_among (column_at d) a (read_now driven.driver) (subst (λ (xs : List Column). Among a xs) (read_now-map (column_at d) driven.driver) read) in
+      let found = map_among (column_at d) a (read_now driven.driver) (subst (λ (xs : List Column). Among a xs) (read_now_map (column_at d) driven.driver) read) in
       let below = all_among (λ (x : ℕ). x < length network) (read_now driven.driver ++ read_before driven.driver) found.0 driven.below (among-left found.0 (read_now driven.driver) (read_before driven.driver) found.1) in
       (found.0, below, sym found.2, subst (λ (xs : List ℕ). AmongNumbers found.0 xs) (sym (reads_are k driven.driver driven.here)) (to_numbers found.0 (read_now driven.driver) found.1))
 

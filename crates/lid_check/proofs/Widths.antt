@@ -14,22 +14,22 @@ use Rattle.lid_design.specs.Walks.{Among}
 use Rattle.lid_design.specs.Models.{occurrences, firsts, nets, read_names, inner_drivers, insts_of, number_named, number_from, IsReached}
 use Rattle.lid_design.specs.Places.{Place, place, places, places_in, model_nets, count_nets}
 use Rattle.lid_design.specs.WellFormed.{IsWellFormed}
-use Rattle.lid_design.proofs.Tables.{among-left, among-right}
+use Rattle.lid_design.proofs.Tables.{among-left, among_right}
 use Rattle.lid_rules.specs.Conditions.{is_twice, is_duplicate, duplicate_in, duplicate_name, unknown_model}
 use Rattle.lid_rules.specs.Acceptance.{ModelsPass, fault_before_recursion}
-use Rattle.lid_elab.proofs.Names.{same_bytes, bytes_same, to_among, from_among, among-filter, none_found, count-cons, count-some}
+use Rattle.lid_elab.proofs.Names.{same_bytes, bytes_same, to_among, from_among, among-filter, none_found, count-cons, count_some}
 use Rattle.lid_elab.proofs.Passing.{IsSound, sound_model, or_none, none_told, map_none}
-use Rattle.lid_elab.proofs.Wired.{firsts-among}
+use Rattle.lid_elab.proofs.Wired.{firsts_among}
 use Rattle.lid_elab.proofs.Judged.{no_limit, few_nets}
 
 -- an output occurs, and is read
 output_occurs : (m : Model) (net : List ℕ) → Among net m.outputs → Among net (occurrences m)
 unfolding occurrences
-output_occurs m net out = among-left net _ _ (among-left net _ _ (among-left net _ _ (among-right net m.inputs m.outputs out)))
+output_occurs m net out = among-left net _ _ (among-left net _ _ (among-left net _ _ (among_right net m.inputs m.outputs out)))
 
 output_read : (d : Design) (m : Model) (net : List ℕ) → Among net m.outputs → is_among net (read_names d m) ≡ true
 unfolding read_names
-output_read d m net out = from_among net (read_names d m) (among-right net _ m.outputs out)
+output_read d m net out = from_among net (read_names d m) (among_right net _ m.outputs out)
 
 unless_read : (clock unlisted read driven : Bool) → clock && (unlisted || (read || driven)) ≡ false → read ≡ true → clock ≡ false
 unless_read false unlisted read driven h r = refl
@@ -43,7 +43,7 @@ unfolding nets
 output_net d m sound net out =
     let occurs = output_occurs m net out in
     let clock = unless_read (is_clock d m net) (not (is_among net m.inputs || is_among net m.clocks)) (is_among net (read_names d m)) (is_among net (inner_drivers d m)) (sound.clocks net occurs) (output_read d m net out) in
-    among-filter (λ n. not (is_clock d m n)) net (firsts (occurrences m)) (firsts-among net (occurrences m) occurs) (ap not clock)
+    among-filter (λ n. not (is_clock d m n)) net (firsts (occurrences m)) (firsts_among net (occurrences m) occurs) (ap not clock)
 
 -- a name that does not stand twice in a list, stands in it once
 no_more : (x : List ℕ) (xs : List (List ℕ)) → is_twice (x ∷ xs) x ≡ false → is_among x xs ≡ false
@@ -52,7 +52,7 @@ no_more x xs h = by (is_among x xs) refl
     by : (b : Bool) → is_among x xs ≡ b → is_among x xs ≡ false
     by false e = e
     by true e =
-        let some = count-some x xs e in
+        let some = count_some x xs e in
         let counted : count_by (bytes_eq x) (x ∷ xs) ≡ 1 + count_by (bytes_eq x) xs =
         count-cons x x xs ∙ ap (λ (b : Bool). cond b 1 0 + count_by (bytes_eq x) xs) (bytes_same x x refl) in
         let few = ltb-false 1 _ h in

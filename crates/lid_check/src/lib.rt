@@ -4,10 +4,10 @@
 mod checked;
 mod flaws;
 mod judging;
-mod law;
+mod laws;
 mod outputs;
 mod pearls;
 
 pub use checked::{Checked, check};
-pub use law::acceptance_is_one;
+pub use laws::acceptance_is_one;
 pub use lid_rules::CheckFault;

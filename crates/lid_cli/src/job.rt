@@ -5,7 +5,7 @@ ghost use Rattle.lid_cli.specs.Reading.{rows_in};
 ghost use Rattle.lid_cli.specs.Jobs.{form_shown, job_made, job_formed, job_given, job_of};
 
 use crate::form::{form_of, has_form};
-use crate::reading::parse;
+use crate::reader::parse;
 use crate::strict::strict_job;
 use crate::table::{Command, Form};
 use clap::ArgMatches;

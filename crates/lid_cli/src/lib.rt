@@ -4,7 +4,7 @@
 mod form;
 mod given;
 mod job;
-mod reading;
+mod reader;
 mod strict;
 mod table;
 

@@ -14,7 +14,7 @@ use Rattle.lid_hierarchy.specs.Surveys.{StandsAfterItsModels, IsModelOrder}
 use Rattle.lid_counts.specs.declared.counts.Measure.{Measure}
 use Rattle.lid_counts.specs.declared.counts.Measure.TheVariants.{Depth, Cells, Nets, Latches, Defaulted}
 use Rattle.lid_counts.specs.Counts.{own, joined, with_inst, with_insts, count_by_subs, count_within, count_of}
-use Rattle.lid_names.proofs.Numbers.{position-below, among_at, there}
+use Rattle.lid_names.proofs.Numbers.{position_below, among_at, there}
 
 abbrev pub cut : ℕ → ℕ
 cut n = min n 4294967295
@@ -66,9 +66,9 @@ module _ (what : Measure) (d : Design) where
   abbrev pub StableFrom : ℕ → ℕ → Type 0
   StableFrom least x = (n : ℕ) → least ≤ n → count_within n what d x ≡ count_within (suc n) what d x
 
-  stable-next : (found : List ℕ) (k : ℕ) → ((i j : ℕ) → instance_number d i k ≡ Some j → Among j found) → ((x : ℕ) → Among x found → StableFrom (length found) x) → StableFrom (suc (length found)) k
-  stable-next found k after stable zero le = absurd (omega arith)
-  stable-next found k after stable (suc n) le = subs_agree what d whole (keeps_whole what) (count_within n what d) (count_within (suc n) what d) k (λ i j names. stable j (after i j names) n (omega arith))
+  stable_next : (found : List ℕ) (k : ℕ) → ((i j : ℕ) → instance_number d i k ≡ Some j → Among j found) → ((x : ℕ) → Among x found → StableFrom (length found) x) → StableFrom (suc (length found)) k
+  stable_next found k after stable zero le = absurd (omega arith)
+  stable_next found k after stable (suc n) le = subs_agree what d whole (keeps_whole what) (count_within n what d) (count_within (suc n) what d) k (λ i j names. stable j (after i j names) n (omega arith))
 
   abbrev pub SubsStable : ℕ → ℕ → Type 0
   SubsStable total k = (i j n : ℕ) → instance_number d i k ≡ Some j → total ≤ suc n → count_within n what d j ≡ count_within (suc n) what d j
@@ -80,7 +80,7 @@ module _ (what : Measure) (d : Design) where
       subs_stable (x ∷ found) order total (omega arith) after.1 (λ y here. by y here) k among
     where
       by : (y : ℕ) → Among y (x ∷ found) → StableFrom (suc (length found)) y
-      by y (inl same) = subst (StableFrom (suc (length found))) (sym same) (stable-next found x after.0 stable)
+      by y (inl same) = subst (StableFrom (suc (length found))) (sym same) (stable_next found x after.0 stable)
       by y (inr here) = λ n more. stable y here n (omega arith)
 
   -- the count of a reached model is that by those of the models of its instances
@@ -129,7 +129,7 @@ reached_below d formed k (i ∷ path, leads) = by (number_from d d.root path) le
       where
         at : (o : Option Inst) → option_and_then (λ inst. number_named d inst.model) o ≡ Some k → k < length d.models
         at None e = absurd (let f : None ≡ Some k = e in cc)
-        at (Some inst) e = position-below (λ m. bytes_eq m.name inst.model) d.models k e
+        at (Some inst) e = position_below (λ m. bytes_eq m.name inst.model) d.models k e
 
 -- the counts of the models that were worked through, cut
 abbrev pub Counted : Measure → Design → List ℕ → List ℕ → Type 0

@@ -58,9 +58,9 @@ module _ (what : Measure) (d : Design) where
   unfolding places count_at_root count_of
   sum_is sums = sum_places sums (length d.models) [] d.root
 
-greatest-append : (xs ys : List ℕ) → greatest (xs ++ ys) ≡ max (greatest xs) (greatest ys)
-greatest-append [] ys = omega arith
-greatest-append (x ∷ xs) ys = let e = greatest-append xs ys in omega arith
+greatest_append : (xs ys : List ℕ) → greatest (xs ++ ys) ≡ max (greatest xs) (greatest ys)
+greatest_append [] ys = omega arith
+greatest_append (x ∷ xs) ys = let e = greatest_append xs ys in omega arith
 
 module _ (d : Design) where
   abbrev pub DepthOver : ℕ → Type 0
@@ -82,7 +82,7 @@ module _ (d : Design) where
       by : (o : Option ℕ) → ((acc : ℕ) → max (length path + acc) (greatest (map f rest)) ≡ length path + with_insts Depth d counts acc insts) → max (length path + acc) (greatest (map f (option_map_or (places_in n d (i ∷ path)) o [] ++ rest))) ≡ length path + with_insts Depth d counts (option_map_or (λ j. max acc (counts j + 1)) o acc) insts
       by None next = next acc
       by (Some j) next =
-          let split : greatest (map f (places_in n d (i ∷ path) j ++ rest)) ≡ max (greatest (map f (places_in n d (i ∷ path) j))) (greatest (map f rest)) = ap greatest (map-append f (places_in n d (i ∷ path) j) rest) ∙ greatest-append (map f (places_in n d (i ∷ path) j)) (map f rest) in
+          let split : greatest (map f (places_in n d (i ∷ path) j ++ rest)) ≡ max (greatest (map f (places_in n d (i ∷ path) j))) (greatest (map f rest)) = ap greatest (map-append f (places_in n d (i ∷ path) j) rest) ∙ greatest_append (map f (places_in n d (i ∷ path) j)) (map f rest) in
           let sub : greatest (map f (places_in n d (i ∷ path) j)) ≡ suc (length path) + counts j = later (i ∷ path) j in
           let deep : max (length path + acc) (greatest (map f (places_in n d (i ∷ path) j ++ rest))) ≡ max (length path + max acc (counts j + 1)) (greatest (map f rest)) = omega arith in
           deep ∙ next (max acc (counts j + 1))

@@ -57,11 +57,11 @@ lowest_met false (suc zero) (suc zero) v c = refl
 lowest_met bit (suc (suc value)) care v c = absurd (omega arith)
 lowest_met bit value (suc (suc care)) v c = absurd (omega arith)
 
-pub met-fits : (inputs : List Bool) (care value : ℕ) → care < 2 ^ length inputs → (bit_and (bit_xor (packed inputs) value) care == 0) ≡ fits care value inputs
-met-fits [] care value h =
+pub met_fits : (inputs : List Bool) (care value : ℕ) → care < 2 ^ length inputs → (bit_and (bit_xor (packed inputs) value) care == 0) ≡ fits care value inputs
+met_fits [] care value h =
     let none : care ≡ 0 = omega arith in
     ap (λ (c : ℕ). bit_and (bit_xor 0 value) c == 0) none ∙ ap (λ (x : ℕ). x == 0) (and_zero_r (bit_xor 0 value))
-met-fits (bit ∷ bits) care value h =
+met_fits (bit ∷ bits) care value h =
     let p : ℕ = packed (bit ∷ bits) in
     let x : ℕ = bit_xor p value in
     let rest : x / 2 ≡ bit_xor (packed bits) (value / 2) = xor_shr p value 1 ∙ ap (λ (n : ℕ). bit_xor n (value / 2)) (half_packed bit (packed bits)) in
@@ -73,7 +73,7 @@ met-fits (bit ∷ bits) care value h =
     let low : x % 2 ≡ (one bit + value % 2) % 2 = cc in
     let within : care / 2 < 2 ^ length bits = (let e = pow-suc 2 (length bits) in omega arith) in
     let first : (min (x % 2) (care % 2) == 0) ≡ (not (lowest_bit care) || same_bit (lowest_bit value) bit) = ap (λ (n : ℕ). min n (care % 2) == 0) low ∙ lowest_met bit (value % 2) (care % 2) (omega arith) (omega arith) in
-    let later : (bit_and (x / 2) (care / 2) == 0) ≡ fits (care / 2) (value / 2) bits = ap (λ (n : ℕ). bit_and n (care / 2) == 0) rest ∙ met-fits bits (care / 2) (value / 2) within in
+    let later : (bit_and (x / 2) (care / 2) == 0) ≡ fits (care / 2) (value / 2) bits = ap (λ (n : ℕ). bit_and n (care / 2) == 0) rest ∙ met_fits bits (care / 2) (value / 2) within in
     ap (λ (n : ℕ). n == 0) (and_step x care)
     ∙ zero_parts (bit_and (x / 2) (care / 2)) (min (x % 2) (care % 2))
     ∙ ap (λ (b : Bool). b && (bit_and (x / 2) (care / 2) == 0)) first
@@ -82,19 +82,19 @@ met-fits (bit ∷ bits) care value h =
 any_fits : (inputs : List Bool) (cubes : List Cube) → AllByRecursion (IsCube (length inputs)) cubes → list_any (is_met (packed inputs)) cubes ≡ list_any (agrees inputs) cubes
 any_fits inputs [] rows = refl
 any_fits inputs (cube ∷ cubes) rows =
-    let head = met-fits inputs cube.care cube.value rows.0.in_range in
+    let head = met_fits inputs cube.care cube.value rows.0.in_range in
     let tail = any_fits inputs cubes rows.1 in
     ap (λ (b : Bool). b || list_any (is_met (packed inputs)) cubes) head ∙ ap (λ (b : Bool). agrees inputs cube || b) tail
 
-beq-same_bit : (on found : Bool) → beq found on ≡ same_bit on found
-beq-same_bit true true = refl
-beq-same_bit true false = refl
-beq-same_bit false true = refl
-beq-same_bit false false = refl
+beq_same_bit : (on found : Bool) → beq found on ≡ same_bit on found
+beq_same_bit true true = refl
+beq_same_bit true false = refl
+beq_same_bit false true = refl
+beq_same_bit false false = refl
 
 -- what the masks say is the value of the cover
-pub met-value : (cover : Cover) → IsCover cover → (inputs : List Bool) → length inputs ≡ cover.inputs → (found : Bool) → found ≡ list_any (is_met (packed inputs)) cover.cubes → beq found cover.on ≡ cover_value cover inputs
+pub met_value : (cover : Cover) → IsCover cover → (inputs : List Bool) → length inputs ≡ cover.inputs → (found : Bool) → found ≡ list_any (is_met (packed inputs)) cover.cubes → beq found cover.on ≡ cover_value cover inputs
 unfolding cover_value
-met-value cover rules inputs long found e =
+met_value cover rules inputs long found e =
     let R : ℕ → Type 0 = λ n. AllByRecursion (IsCube n) cover.cubes in
-    beq-same_bit cover.on found ∙ ap (same_bit cover.on) (e ∙ any_fits inputs cover.cubes (subst R (sym long) rules.rows))
+    beq_same_bit cover.on found ∙ ap (same_bit cover.on) (e ∙ any_fits inputs cover.cubes (subst R (sym long) rules.rows))

@@ -7,11 +7,11 @@ use Rattle.lid_design.specs.Network.{Driver, from_input, from_latch, from_cover,
 use Rattle.lid_design.specs.Walks.{Among, read_now, read_before, Feeds, Walk, HasNoWalk, WalksEnd, IsDriven, IsDrivenOnce, AreReadsDriven, HasTable, HasOneTable}
 
 -- a list is mapped alike by functions that agree on it
-pub map-agree : {A : Type 0} (f g : A → Bool) (xs : List A) → ((a : A) → Among a xs → f a ≡ g a) → map f xs ≡ map g xs
-map-agree f g [] agree = refl
-map-agree f g (x ∷ xs) agree =
+pub map_agree : {A : Type 0} (f g : A → Bool) (xs : List A) → ((a : A) → Among a xs → f a ≡ g a) → map f xs ≡ map g xs
+map_agree f g [] agree = refl
+map_agree f g (x ∷ xs) agree =
     let head : f x ≡ g x = agree x (inl refl) in
-    let tail : map f xs ≡ map g xs = map-agree f g xs (λ a i. agree a (inr i)) in
+    let tail : map f xs ≡ map g xs = map_agree f g xs (λ a i. agree a (inr i)) in
     cc
 
 -- what a driver gives, from the input row, the latch bits and the bits of the same row
@@ -31,15 +31,15 @@ abbrev pub latch_by : {C : Type 0} → Table C → ℕ → Bool → C → Bool
 latch_by b zero first input = first
 latch_by b (suc t) first input = b t input
 
-bit_by-agree : {C : Type 0} (row : List Bool) (latch : Bool → C → Bool) (f g : C → Bool) (s : Driver C) → ((a : C) → Among a (read_now s) → f a ≡ g a) → bit_by row latch f s ≡ bit_by row latch g s
-bit_by-agree row latch f g (from_input j) agree = refl
-bit_by-agree row latch f g (from_latch first input) agree = refl
-bit_by-agree row latch f g (from_cover cover inputs) agree = ap (cover_value cover) (map-agree f g inputs agree)
-bit_by-agree row latch f g (from_connection c) agree = agree c (inl refl)
+bit_by_agree : {C : Type 0} (row : List Bool) (latch : Bool → C → Bool) (f g : C → Bool) (s : Driver C) → ((a : C) → Among a (read_now s) → f a ≡ g a) → bit_by row latch f s ≡ bit_by row latch g s
+bit_by_agree row latch f g (from_input j) agree = refl
+bit_by_agree row latch f g (from_latch first input) agree = refl
+bit_by_agree row latch f g (from_cover cover inputs) agree = ap (cover_value cover) (map_agree f g inputs agree)
+bit_by_agree row latch f g (from_connection c) agree = agree c (inl refl)
 
-first_by-agree : {C : Type 0} (f g : Driver C → Bool) (ss : List (Driver C)) → ((s : Driver C) → Among s ss → f s ≡ g s) → first_by f ss ≡ first_by g ss
-first_by-agree f g [] agree = refl
-first_by-agree f g (s ∷ ss) agree = agree s (inl refl)
+first_by_agree : {C : Type 0} (f g : Driver C → Bool) (ss : List (Driver C)) → ((s : Driver C) → Among s ss → f s ≡ g s) → first_by f ss ≡ first_by g ss
+first_by_agree f g [] agree = refl
+first_by_agree f g (s ∷ ss) agree = agree s (inl refl)
 
 -- a bit that the first of at most one driver gives is that of each
 all_from_first : {C : Type 0} (v : Bool) (bit : Driver C → Bool) (ss : List (Driver C)) → length ss ≤ 1 → v ≡ first_by bit ss → AllByRecursion (λ s. v ≡ bit s) ss
@@ -48,11 +48,11 @@ all_from_first v bit (s ∷ []) once e = (e, tt)
 all_from_first v bit (s ∷ r ∷ ss) once e = absurd (omega arith)
 
 -- two tables give a driver's bit alike where they agree on what it reads
-bit_of-agree : {C : Type 0} (rows : List (List Bool)) (b b' : Table C) (t : ℕ) (s : Driver C) → ((a : C) → Among a (read_now s) → b t a ≡ b' t a) → ((first : Bool) (a : C) → Among a (read_before s) → latch_bit b first a t ≡ latch_bit b' first a t) → bit_of rows b t s ≡ bit_of rows b' t s
-bit_of-agree rows b b' t (from_input j) now before = refl
-bit_of-agree rows b b' t (from_latch first input) now before = before first input (inl refl)
-bit_of-agree rows b b' t (from_cover cover inputs) now before = ap (cover_value cover) (map-agree (b t) (b' t) inputs now)
-bit_of-agree rows b b' t (from_connection c) now before = now c (inl refl)
+bit_of_agree : {C : Type 0} (rows : List (List Bool)) (b b' : Table C) (t : ℕ) (s : Driver C) → ((a : C) → Among a (read_now s) → b t a ≡ b' t a) → ((first : Bool) (a : C) → Among a (read_before s) → latch_bit b first a t ≡ latch_bit b' first a t) → bit_of rows b t s ≡ bit_of rows b' t s
+bit_of_agree rows b b' t (from_input j) now before = refl
+bit_of_agree rows b b' t (from_latch first input) now before = before first input (inl refl)
+bit_of_agree rows b b' t (from_cover cover inputs) now before = ap (cover_value cover) (map_agree (b t) (b' t) inputs now)
+bit_of_agree rows b b' t (from_connection c) now before = now c (inl refl)
 
 -- of a list with an item, one item
 some_item : {A : Type 0} (xs : List A) → 0 < length xs → (x : A) × Among x xs
@@ -70,9 +70,9 @@ among-left x [] ys i = absurd i
 among-left x (z ∷ zs) ys (inl e) = inl e
 among-left x (z ∷ zs) ys (inr i) = inr (among-left x zs ys i)
 
-pub among-right : {A : Type 0} (x : A) (xs ys : List A) → Among x ys → Among x (xs ++ ys)
-among-right x [] ys i = i
-among-right x (z ∷ zs) ys i = inr (among-right x zs ys i)
+pub among_right : {A : Type 0} (x : A) (xs ys : List A) → Among x ys → Among x (xs ++ ys)
+among_right x [] ys i = i
+among_right x (z ∷ zs) ys i = inr (among_right x zs ys i)
 
 module _ {C : Type 0} (drivers : C → List (Driver C)) where
   -- a row after so many steps
@@ -86,25 +86,25 @@ module _ {C : Type 0} (drivers : C → List (Driver C)) where
   table_of n rows (suc t) c = settled (get_or rows (suc t) []) (λ first input. table_of n rows t input) n c
 
   -- where no walk of k edges ends, the bit is settled after k steps
-  settled-stays : (row : List Bool) (latch : Bool → C → Bool) (k : ℕ) (c : C) → HasNoWalk drivers k c → settled row latch k c ≡ settled row latch (suc k) c
-  settled-stays row latch zero c none = absurd (none c refl)
-  settled-stays row latch (suc k) c none =
-      first_by-agree
+  settled_stays : (row : List Bool) (latch : Bool → C → Bool) (k : ℕ) (c : C) → HasNoWalk drivers k c → settled row latch k c ≡ settled row latch (suc k) c
+  settled_stays row latch zero c none = absurd (none c refl)
+  settled_stays row latch (suc k) c none =
+      first_by_agree
       (bit_by row latch (settled row latch k))
       (bit_by row latch (settled row latch (suc k)))
       (drivers c)
-      (λ s i. bit_by-agree row latch (settled row latch k) (settled row latch (suc k)) s (λ a j. settled-stays row latch k a (λ z w. none z (a, w, (s, i, j)))))
+      (λ s i. bit_by_agree row latch (settled row latch k) (settled row latch (suc k)) s (λ a j. settled_stays row latch k a (λ z w. none z (a, w, (s, i, j)))))
 
-  bit_of-table : (n : ℕ) (rows : List (List Bool)) (t : ℕ) (s : Driver C) → bit_by (get_or rows t []) (latch_by (table_of n rows) t) (table_of n rows t) s ≡ bit_of rows (table_of n rows) t s
-  bit_of-table n rows t (from_input j) = refl
-  bit_of-table n rows zero (from_latch first input) = refl
-  bit_of-table n rows (suc t) (from_latch first input) = refl
-  bit_of-table n rows t (from_cover cover inputs) = refl
-  bit_of-table n rows t (from_connection c) = refl
+  bit_of_table : (n : ℕ) (rows : List (List Bool)) (t : ℕ) (s : Driver C) → bit_by (get_or rows t []) (latch_by (table_of n rows) t) (table_of n rows t) s ≡ bit_of rows (table_of n rows) t s
+  bit_of_table n rows t (from_input j) = refl
+  bit_of_table n rows zero (from_latch first input) = refl
+  bit_of_table n rows (suc t) (from_latch first input) = refl
+  bit_of_table n rows t (from_cover cover inputs) = refl
+  bit_of_table n rows t (from_connection c) = refl
 
-  table_of-settled : (n : ℕ) (rows : List (List Bool)) (t : ℕ) (c : C) → table_of n rows t c ≡ settled (get_or rows t []) (latch_by (table_of n rows) t) n c
-  table_of-settled n rows zero c = refl
-  table_of-settled n rows (suc t) c = refl
+  table_of_settled : (n : ℕ) (rows : List (List Bool)) (t : ℕ) (c : C) → table_of n rows t c ≡ settled (get_or rows t []) (latch_by (table_of n rows) t) n c
+  table_of_settled n rows zero c = refl
+  table_of_settled n rows (suc t) c = refl
 
   -- a network that drives no column twice has a strict table
   pub has_table : (n : ℕ) → WalksEnd drivers n → IsDrivenOnce drivers → HasTable drivers
@@ -112,25 +112,25 @@ module _ {C : Type 0} (drivers : C → List (Driver C)) where
     where
       gives : (t : ℕ) (c : C) → table_of n rows t c ≡ first_by (bit_of rows (table_of n rows) t) (drivers c)
       gives t c =
-          table_of-settled n rows t c
-          ∙ settled-stays (get_or rows t []) (latch_by (table_of n rows) t) n c (ends c)
-          ∙ first_by-agree
+          table_of_settled n rows t c
+          ∙ settled_stays (get_or rows t []) (latch_by (table_of n rows) t) n c (ends c)
+          ∙ first_by_agree
           (bit_by (get_or rows t []) (latch_by (table_of n rows) t) (settled (get_or rows t []) (latch_by (table_of n rows) t) n))
           (bit_of rows (table_of n rows) t)
           (drivers c)
-          (λ s i. bit_by-agree (get_or rows t []) (latch_by (table_of n rows) t) (settled (get_or rows t []) (latch_by (table_of n rows) t) n) (table_of n rows t) s (λ a j. sym (table_of-settled n rows t a)) ∙ bit_of-table n rows t s)
+          (λ s i. bit_by_agree (get_or rows t []) (latch_by (table_of n rows) t) (settled (get_or rows t []) (latch_by (table_of n rows) t) n) (table_of n rows t) s (λ a j. sym (table_of_settled n rows t a)) ∙ bit_of_table n rows t s)
 
   -- where two strict tables agree on what latches read, they agree in the row
-  row-agrees : (rows : List (List Bool)) (b b' : Table C) → IsStrict drivers rows b → IsStrict drivers rows b' → AreReadsDriven drivers → (t : ℕ) → t < length rows → ((first : Bool) (a : C) → IsDriven drivers a → latch_bit b first a t ≡ latch_bit b' first a t) → (k : ℕ) (c : C) → HasNoWalk drivers k c → IsDriven drivers c → b t c ≡ b' t c
-  row-agrees rows b b' strict strict' driven t h before zero c none is_driven = absurd (none c refl)
-  row-agrees rows b b' strict strict' driven t h before (suc k) c none is_driven =
+  row_agrees : (rows : List (List Bool)) (b b' : Table C) → IsStrict drivers rows b → IsStrict drivers rows b' → AreReadsDriven drivers → (t : ℕ) → t < length rows → ((first : Bool) (a : C) → IsDriven drivers a → latch_bit b first a t ≡ latch_bit b' first a t) → (k : ℕ) (c : C) → HasNoWalk drivers k c → IsDriven drivers c → b t c ≡ b' t c
+  row_agrees rows b b' strict strict' driven t h before zero c none is_driven = absurd (none c refl)
+  row_agrees rows b b' strict strict' driven t h before (suc k) c none is_driven =
       let one = some_item (drivers c) is_driven in
       let left = all-among (λ s. b t c ≡ bit_of rows b t s) (drivers c) one.0 (strict t c h) one.1 in
       let right = all-among (λ s. b' t c ≡ bit_of rows b' t s) (drivers c) one.0 (strict' t c h) one.1 in
       left
-      ∙ bit_of-agree rows b b' t one.0
-      (λ a j. row-agrees rows b b' strict strict' driven t h before k a (λ z w. none z (a, w, (one.0, one.1, j))) (driven c one.0 a one.1 (among-left a (read_now one.0) (read_before one.0) j)))
-      (λ first a j. before first a (driven c one.0 a one.1 (among-right a (read_now one.0) (read_before one.0) j)))
+      ∙ bit_of_agree rows b b' t one.0
+      (λ a j. row_agrees rows b b' strict strict' driven t h before k a (λ z w. none z (a, w, (one.0, one.1, j))) (driven c one.0 a one.1 (among-left a (read_now one.0) (read_before one.0) j)))
+      (λ first a j. before first a (driven c one.0 a one.1 (among_right a (read_now one.0) (read_before one.0) j)))
       ∙ sym right
 
   -- a network whose reads are driven has at most one strict table on its driven columns
@@ -138,8 +138,8 @@ module _ {C : Type 0} (drivers : C → List (Driver C)) where
   has_one_table n ends driven rows b b' strict strict' = agree
     where
       agree : (t : ℕ) (c : C) → t < length rows → IsDriven drivers c → b t c ≡ b' t c
-      agree zero c h = row-agrees rows b b' strict strict' driven zero h (λ first a d. refl) n c (ends c)
-      agree (suc t) c h = row-agrees rows b b' strict strict' driven (suc t) h (λ first a d. agree t a (omega arith) d) n c (ends c)
+      agree zero c h = row_agrees rows b b' strict strict' driven zero h (λ first a d. refl) n c (ends c)
+      agree (suc t) c h = row_agrees rows b b' strict strict' driven (suc t) h (λ first a d. agree t a (omega arith) d) n c (ends c)
 
   -- a rank that rises along each edge
   abbrev pub IsRank : (C → ℕ) → Type 0

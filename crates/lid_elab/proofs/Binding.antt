@@ -7,7 +7,7 @@ use Rattle.std.proofs.lemmas.Bool.{ltb-false}
 use Rattle.std.proofs.lemmas.Bool.Decides.{eqb_tells}
 use Rattle.std.proofs.lemmas.List.{length-map}
 use Rattle.std.proofs.lemmas.Option.{slice_get-map, slice_get_read}
-use Rattle.lid_rules.proofs.Subs.{position-below}
+use Rattle.lid_rules.proofs.Subs.{position_below}
 use Rattle.lid_design.specs.declared.Design.{Design}
 use Rattle.lid_design.specs.declared.Model.{Model}
 use Rattle.lid_design.specs.declared.Inst.{Inst}
@@ -15,8 +15,8 @@ use Rattle.lid_design.specs.declared.Bind.{Bind}
 use Rattle.lid_design.specs.Models.{firsts, insts_of, number_named, number_from, instance_number, IsReached}
 use Rattle.lid_design.specs.Places.{model_nets}
 use Rattle.lid_names.specs.Names.{texts}
-use Rattle.lid_hierarchy.proofs.Fixpoints.{find-position}
-use Rattle.lid_hierarchy.proofs.Numbers.{bytes_eq-comm}
+use Rattle.lid_hierarchy.proofs.Fixpoints.{find_position}
+use Rattle.lid_hierarchy.proofs.Numbers.{bytes_eq_comm}
 use Rattle.lid_elab.specs.Numbers.{offset_of}
 use Rattle.lid_elab.specs.Locals.{of_net, first_name_of, actual_for}
 use Rattle.lid_elab.specs.Templates.{place_in}
@@ -30,16 +30,16 @@ use Rattle.lid_elab.proofs.Passing.{IsSoundInst}
 use Rattle.lid_elab.proofs.Wired.{Sub, sub_of, sound}
 use Rattle.lid_elab.proofs.Picking.{once_firsts, picked_by}
 
-prefix-map : {A B : Type 0} (f : A → B) (p : B → Bool) (xs : List A) → prefix_len p (map f xs) ≡ prefix_len (λ x. p (f x)) xs
-prefix-map f p [] = refl
-prefix-map f p (x ∷ xs) = ap (λ (n : ℕ). cond (p (f x)) (1 + n) 0) (prefix-map f p xs)
+prefix_map : {A B : Type 0} (f : A → B) (p : B → Bool) (xs : List A) → prefix_len p (map f xs) ≡ prefix_len (λ x. p (f x)) xs
+prefix_map f p [] = refl
+prefix_map f p (x ∷ xs) = ap (λ (n : ℕ). cond (p (f x)) (1 + n) 0) (prefix_map f p xs)
 
 abbrev within : ℕ → ℕ → Option ℕ
 within k len = cond (nat_lt k len) (Some k) None
 
-position-map : {A B : Type 0} (f : A → B) (p : B → Bool) (xs : List A) → position p (map f xs) ≡ position (λ x. p (f x)) xs
-position-map f p xs =
-    ap (λ (k : ℕ). within k (length (map f xs))) (prefix-map f (λ x. not (p x)) xs)
+position_map : {A B : Type 0} (f : A → B) (p : B → Bool) (xs : List A) → position p (map f xs) ≡ position (λ x. p (f x)) xs
+position_map f p xs =
+    ap (λ (k : ℕ). within k (length (map f xs))) (prefix_map f (λ x. not (p x)) xs)
     ∙ ap (within (prefix_len (λ x. not (p (f x))) xs)) (length-map xs f)
 
 -- the actual of the first binding of a formal
@@ -49,7 +49,7 @@ actual_in o = option_map_or (λ b. b.actual) o []
 first_bound : (formal : List ℕ) (binds : List Bind) → first_name_of (of_net formal (map (λ (b : Bind). (b.formal, b.actual)) binds)) ≡ actual_in (find (λ b. bytes_eq formal b.formal) binds)
 first_bound formal [] = refl
 first_bound formal (b ∷ binds) =
-    ap (λ (c : Bool). first_name_of (cond c (b.actual ∷ []) [] ++ rest)) (bytes_eq-comm b.formal formal)
+    ap (λ (c : Bool). first_name_of (cond c (b.actual ∷ []) [] ++ rest)) (bytes_eq_comm b.formal formal)
     ∙ by (bytes_eq formal b.formal) (first_bound formal binds)
   where
     rest : List (List ℕ)
@@ -63,20 +63,20 @@ first_bound formal (b ∷ binds) =
 pub actual_by : (inst : Inst) (formal : List ℕ) (o : Option ℕ) → position (bytes_eq formal) (map formal_of inst.binds) ≡ o → actual_for inst formal ≡ actual_in (option_and_then (slice_get inst.binds) o)
 actual_by inst formal o place =
     first_bound formal inst.binds
-    ∙ ap actual_in (find-position (λ b. bytes_eq formal b.formal) inst.binds)
-    ∙ ap (λ (p : Option ℕ). actual_in (option_and_then (slice_get inst.binds) p)) (sym (position-map formal_of (bytes_eq formal) inst.binds) ∙ place)
+    ∙ ap actual_in (find_position (λ b. bytes_eq formal b.formal) inst.binds)
+    ∙ ap (λ (p : Option ℕ). actual_in (option_and_then (slice_get inst.binds) p)) (sym (position_map formal_of (bytes_eq formal) inst.binds) ∙ place)
 
 pub actual_some : (inst : Inst) (formal : List ℕ) (place : ℕ) (b : Bind) → position (bytes_eq formal) (map formal_of inst.binds) ≡ Some place → b ≡ get_or inst.binds place b → b.actual ≡ actual_for inst formal
 actual_some inst formal place b at is =
     let long : length (map formal_of inst.binds) ≡ length inst.binds = length-map inst.binds formal_of in
-    let below : place < length inst.binds = (let e = position-below (bytes_eq formal) (map formal_of inst.binds) place at in omega arith) in
+    let below : place < length inst.binds = (let e = position_below (bytes_eq formal) (map formal_of inst.binds) place at in omega arith) in
     let there : slice_get inst.binds place ≡ Some b = slice_get_read inst.binds (length inst.binds) place b refl below is in
     sym (actual_by inst formal (Some place) at ∙ ap actual_in there)
 
 -- a name that is at no place
-prefix-short : {A : Type 0} (p : A → Bool) (xs : List A) → prefix_len p xs ≤ length xs
-prefix-short p [] = omega arith
-prefix-short p (x ∷ xs) = by (p x) (prefix-short p xs)
+prefix_short : {A : Type 0} (p : A → Bool) (xs : List A) → prefix_len p xs ≤ length xs
+prefix_short p [] = omega arith
+prefix_short p (x ∷ xs) = by (p x) (prefix_short p xs)
   where
     by : (b : Bool) → prefix_len p xs ≤ length xs → cond b (1 + prefix_len p xs) 0 ≤ length (x ∷ xs)
     by true le = omega arith
@@ -86,7 +86,7 @@ pub position_past : (p : List ℕ → Bool) (xs : List (List ℕ)) → position 
 position_past p xs none = by (nat_lt (position_or_len p xs) (length xs)) refl none
   where
     short : position_or_len p xs ≤ length xs
-    short = prefix-short (λ x. not (p x)) xs
+    short = prefix_short (λ x. not (p x)) xs
 
     by : (b : Bool) → nat_lt (position_or_len p xs) (length xs) ≡ b → cond b (Some (position_or_len p xs)) None ≡ None → length xs ≡ position_or_len p xs
     by true e some = absurd (let f : Some (position_or_len p xs) ≡ None = some in cc)
@@ -150,14 +150,14 @@ template_whole d k t picked few offset actuals = record {
         ∙ ap (option_map (places_in_inst d k)) at
         ∙ ap Some (bound_in d k i j inst at number)
 
-get-last : {A : Type 0} (xs : List A) (x : A) → slice_get (xs ++ x ∷ []) (length xs) ≡ Some x
-get-last [] x = refl
-get-last (y ∷ xs) x = get-last xs x
+get_last : {A : Type 0} (xs : List A) (x : A) → slice_get (xs ++ x ∷ []) (length xs) ≡ Some x
+get_last [] x = refl
+get_last (y ∷ xs) x = get_last xs x
 
-get-older : {A : Type 0} (xs : List A) (y : A) (i : ℕ) (x : A) → slice_get xs i ≡ Some x → slice_get (xs ++ y ∷ []) i ≡ Some x
-get-older [] y i x here = absurd (let e : None ≡ Some x = here in cc)
-get-older (z ∷ xs) y zero x here = here
-get-older (z ∷ xs) y (suc i) x here = get-older xs y i x here
+get_older : {A : Type 0} (xs : List A) (y : A) (i : ℕ) (x : A) → slice_get xs i ≡ Some x → slice_get (xs ++ y ∷ []) i ≡ Some x
+get_older [] y i x here = absurd (let e : None ≡ Some x = here in cc)
+get_older (z ∷ xs) y zero x here = here
+get_older (z ∷ xs) y (suc i) x here = get_older xs y i x here
 
 -- the template of a model is there
 abbrev pub HasTemplate : Design → List Template → ℕ → Type 0
@@ -168,11 +168,11 @@ pub templates_next : (d : Design) (ts new : List Template) (t : Template) (n : �
 templates_next d ts new t n long grown here older k below reached = by (eqb_tells k n)
   where
     last : slice_get new n ≡ Some t
-    last = ap (λ (xs : List Template). slice_get xs n) grown ∙ ap (λ (m : ℕ). slice_get (ts ++ t ∷ []) m) (sym long) ∙ get-last ts t
+    last = ap (λ (xs : List Template). slice_get xs n) grown ∙ ap (λ (m : ℕ). slice_get (ts ++ t ∷ []) m) (sym long) ∙ get_last ts t
 
     by : ((eqb k n ≡ true) × (k ≡ n)) ⊎ ((eqb k n ≡ false) × (k ≢ n)) → HasTemplate d new k
     by (inl same) = subst (HasTemplate d new) (sym same.1) (t, last, here (subst (IsReached d) same.1 reached))
     by (inr other) =
         let apart = other.1 in
         let found = older k (omega arith) reached in
-        (found.0, ap (λ (xs : List Template). slice_get xs k) grown ∙ get-older ts t k found.0 found.1, found.2)
+        (found.0, ap (λ (xs : List Template). slice_get xs k) grown ∙ get_older ts t k found.0 found.1, found.2)

@@ -14,7 +14,7 @@ use Rattle.lid_design.specs.Walks.{Among}
 use Rattle.lid_design.specs.Models.{number_named, instance_number, number_from, is_clock_of, IsReached}
 use Rattle.lid_hierarchy.specs.Surveys.{IsModelOrder}
 use Rattle.lid_hierarchy.specs.Clocks.{binds_to, inst_binds, is_clock_in}
-use Rattle.lid_hierarchy.proofs.Fixpoints.{find-position, clock_fixpoint}
+use Rattle.lid_hierarchy.proofs.Fixpoints.{find_position, clock_fixpoint}
 use Rattle.lid_elab.proofs.Names.{bytes_same, get-among}
 
 pub or_left : (a b : Bool) → a ≡ true → (a || b) ≡ true
@@ -45,7 +45,7 @@ own_clock d m net own = by (length d.models)
 
 -- the model that an instance names is the one of its number
 pub named_model : (d : Design) (inst : Inst) (j : ℕ) → number_named d inst.model ≡ Some j → model_named d inst.model ≡ slice_get d.models j
-named_model d inst j names = find-position (λ m. bytes_eq m.name inst.model) d.models ∙ ap (option_and_then (slice_get d.models)) names
+named_model d inst j names = find_position (λ m. bytes_eq m.name inst.model) d.models ∙ ap (option_and_then (slice_get d.models)) names
 
 -- a net that an instance binds to a clock name of its model is one
 pub bound_clock : (d : Design) → IsWellFormed d → (order : List ℕ) → IsModelOrder d order → (k : ℕ) → IsReached d k → (m : Model) → slice_get d.models k ≡ Some m → (i : ℕ) (inst : Inst) → slice_get m.insts i ≡ Some inst → (j : ℕ) (sub : Model) → number_named d inst.model ≡ Some j → slice_get d.models j ≡ Some sub → (b : Bind) → Among b inst.binds → is_clock d sub b.formal ≡ true → is_clock d m b.actual ≡ true
@@ -62,10 +62,10 @@ bound_clock d formed order ordered k reached m here i inst at j sub names there 
     of_inst = ap (λ (o : Option ℕ). option_map_or (λ j. binds_to (is_clock_of d j) b.actual inst.binds) o false) names ∙ any_true (λ c. bytes_eq c.actual b.actual && is_clock_of d j c.formal) inst.binds b bound (and_both (bytes_eq b.actual b.actual) (is_clock_of d j b.formal) (bytes_same b.actual b.actual refl) formal_clock)
 
 -- the model at a path is the one of its number
-pub model_at-number : (d : Design) (path : List ℕ) → model_at d path ≡ option_and_then (slice_get d.models) (number_from d d.root path)
+pub model_at_number : (d : Design) (path : List ℕ) → model_at d path ≡ option_and_then (slice_get d.models) (number_from d d.root path)
 unfolding model_at number_from
-model_at-number d [] = refl
-model_at-number d (i ∷ path) = ap (option_and_then (instance_model d i)) (model_at-number d path) ∙ by (number_from d d.root path)
+model_at_number d [] = refl
+model_at_number d (i ∷ path) = ap (option_and_then (instance_model d i)) (model_at_number d path) ∙ by (number_from d d.root path)
   where
     of_model : (k : ℕ) (o : Option Model) → slice_get d.models k ≡ o → option_and_then (instance_model d i) o ≡ option_and_then (slice_get d.models) (option_and_then (λ inst. number_named d inst.model) (slice_get (option_map_or (λ m. m.insts) o []) i))
     of_model k None here = refl
@@ -73,7 +73,7 @@ model_at-number d (i ∷ path) = ap (option_and_then (instance_model d i)) (mode
       where
         of_inst : (o : Option Inst) → option_and_then (λ inst. model_named d inst.model) o ≡ option_and_then (slice_get d.models) (option_and_then (λ inst. number_named d inst.model) o)
         of_inst None = refl
-        of_inst (Some inst) = find-position (λ m. bytes_eq m.name inst.model) d.models
+        of_inst (Some inst) = find_position (λ m. bytes_eq m.name inst.model) d.models
 
     by : (o : Option ℕ) → option_and_then (instance_model d i) (option_and_then (slice_get d.models) o) ≡ option_and_then (slice_get d.models) (option_and_then (instance_number d i) o)
     by None = refl

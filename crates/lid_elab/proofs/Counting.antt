@@ -9,7 +9,7 @@ use Rattle.lid_design.specs.declared.Inst.{Inst}
 use Rattle.lid_design.specs.Models.{insts_of, instance_number, number_named, IsReached}
 use Rattle.lid_design.specs.Places.{model_nets}
 use Rattle.lid_design.specs.Walks.{Among}
-use Rattle.lid_design.proofs.Tables.{among-left, among-right}
+use Rattle.lid_design.proofs.Tables.{among-left, among_right}
 use Rattle.lid_hierarchy.specs.Surveys.{StandsAfterItsModels, IsModelOrder}
 use Rattle.lid_hierarchy.proofs.Walks.{reached_below}
 use Rattle.lid_elab.specs.Numbers.{over_insts, size_of, offset_of}
@@ -19,22 +19,22 @@ use Rattle.lid_elab.proofs.Judged.{shallow_of, few_columns, within}
 use Rattle.lid_elab.proofs.Stacking.{size_sum}
 
 -- one more instance of a list
-over-step : (d : Design) (f : ℕ → ℕ) (insts : List Inst) (i : ℕ) → over_insts d f (take (suc i) insts) ≡ over_insts d f (take i insts) + option_map_or f (option_and_then (λ inst. number_named d inst.model) (slice_get insts i)) 0
-over-step d f [] zero = refl
-over-step d f [] (suc i) = refl
-over-step d f (x ∷ insts) zero = omega arith
-over-step d f (x ∷ insts) (suc i) = let e = over-step d f insts i in omega arith
+over_step : (d : Design) (f : ℕ → ℕ) (insts : List Inst) (i : ℕ) → over_insts d f (take (suc i) insts) ≡ over_insts d f (take i insts) + option_map_or f (option_and_then (λ inst. number_named d inst.model) (slice_get insts i)) 0
+over_step d f [] zero = refl
+over_step d f [] (suc i) = refl
+over_step d f (x ∷ insts) zero = omega arith
+over_step d f (x ∷ insts) (suc i) = let e = over_step d f insts i in omega arith
 
-over-some : (d : Design) (f : ℕ → ℕ) (insts : List Inst) (i : ℕ) → over_insts d f (take i insts) ≤ over_insts d f insts
-over-some d f insts zero = omega arith
-over-some d f [] (suc i) = omega arith
-over-some d f (x ∷ insts) (suc i) = let e = over-some d f insts i in omega arith
+over_some : (d : Design) (f : ℕ → ℕ) (insts : List Inst) (i : ℕ) → over_insts d f (take i insts) ≤ over_insts d f insts
+over_some d f insts zero = omega arith
+over_some d f [] (suc i) = omega arith
+over_some d f (x ∷ insts) (suc i) = let e = over_some d f insts i in omega arith
 
 -- the offset of the next instance
 pub offset_next : (d : Design) (k i : ℕ) → offset_of d k (i + 1) ≡ offset_of d k i + option_map_or (size_of d) (instance_number d i k) 0
 offset_next d k i =
     let next : i + 1 ≡ suc i = omega arith in
-    let step = over-step d (size_of d) (insts_of d k) i in
+    let step = over_step d (size_of d) (insts_of d k) i in
     ap (λ (n : ℕ). length (model_nets d k) + over_insts d (size_of d) (take n (insts_of d k))) next ∙ omega arith
 
 module _ (d : Design) (judged : IsJudged d) (k : ℕ) (reached : IsReached d k) where
@@ -48,7 +48,7 @@ module _ (d : Design) (judged : IsJudged d) (k : ℕ) (reached : IsReached d k) 
   nets_small = let a = size_is in let b = size_small in omega arith
 
   pub offset_small : (i : ℕ) → offset_of d k i ≤ 1048576
-  offset_small i = let a = size_is in let b = size_small in let e = over-some d (size_of d) (insts_of d k) i in omega arith
+  offset_small i = let a = size_is in let b = size_small in let e = over_some d (size_of d) (insts_of d k) i in omega arith
 
   -- the offset past the last instance is the size
   pub offset_end : (i : ℕ) → length (insts_of d k) ≤ i → offset_of d k i ≡ size_of d k
@@ -137,7 +137,7 @@ module _ (d : Design) where
         older k before (inr other) = new_other k other.1 ∙ have.each k before
 
         known : (k n : ℕ) → get_or new k None ≡ Some n → ((eqb k at ≡ true) × (k ≡ at)) ⊎ ((eqb k at ≡ false) × (k ≢ at)) → Among k (take i order ++ at ∷ [])
-        known k n there (inl same) = among-right k (take i order) (at ∷ []) (inl same.1)
+        known k n there (inl same) = among_right k (take i order) (at ∷ []) (inl same.1)
         known k n there (inr other) = among-left k (take i order) (at ∷ []) (have.only k n (sym (new_other k other.1) ∙ there))
 
   -- all models of the order have theirs

@@ -5,7 +5,7 @@ use Rattle.std.specs.List.{flat_map, enumerate_from}
 use Rattle.std.proofs.lemmas.List.{map-append, append-nil, length-map}
 use Rattle.std.proofs.lemmas.Option.{slice_get-map, slice_get_read, slice_get_within}
 use Rattle.lid_names.specs.Names.{texts}
-use Rattle.lid_rules.proofs.Sets.{filter-same, is_among-firsts}
+use Rattle.lid_rules.proofs.Sets.{filter_same, is_among_firsts}
 use Rattle.lid_design.specs.declared.Design.{Design}
 use Rattle.lid_design.specs.declared.Model.{Model}
 use Rattle.lid_design.specs.declared.Inst.{Inst}
@@ -70,7 +70,7 @@ appended_get {A} (z ∷ xs) x (suc i) y here = by (appended_get xs x i y here)
 outputs_by : (ns : List (List ℕ)) (i : ℕ) (binds : List Bind) → flat_map (output_of (firsts ns) i) binds ≡ flat_map (output_of ns i) binds
 outputs_by ns i [] = refl
 outputs_by ns i (b ∷ binds) =
-    ap (λ (c : Bool). cond c ((b.actual, local_connection i b.formal) ∷ []) [] ++ flat_map (output_of (firsts ns) i) binds) (is_among-firsts b.formal ns)
+    ap (λ (c : Bool). cond c ((b.actual, local_connection i b.formal) ∷ []) [] ++ flat_map (output_of (firsts ns) i) binds) (is_among_firsts b.formal ns)
     ∙ ap (λ (ps : List NetLocal). output_of ns i b ++ ps) (outputs_by ns i binds)
 
 pub inst_outputs : (d : Design) (k i j : ℕ) (inst : Inst) → slice_get (insts_of d k) i ≡ Some inst → instance_number d i k ≡ Some j → j < length d.models → (sets : List (List (List ℕ))) → sets ≡ output_sets d.models → (formals : List (List ℕ)) → formals ≡ get_or sets j formals → flat_map (output_of formals i) inst.binds ≡ outputs_of d (i, inst)
@@ -186,7 +186,7 @@ module _ (d : Design) (k : ℕ) where
   module _ (m : Model) (here : slice_get d.models k ≡ Some m) where
     pub data_is : data_of d k m.inputs ≡ data_inputs d m
     unfolding data_inputs
-    data_is = filter-same (λ net. not (is_clock_of d k net)) (λ net. not (is_clock d m net)) m.inputs (λ net. ap (λ (o : Option Model). not (option_map_or (λ m. is_clock d m net) o false)) here)
+    data_is = filter_same (λ net. not (is_clock_of d k net)) (λ net. not (is_clock d m net)) m.inputs (λ net. ap (λ (o : Option Model). not (option_map_or (λ m. is_clock d m net) o false)) here)
 
     pub inputs_are : data_of d k m.inputs ≡ model_inputs d k
     inputs_are = data_is ∙ sym (ap (λ (o : Option Model). option_map_or (data_inputs d) o []) here)

@@ -13,7 +13,7 @@ use Rattle.lid_elab.specs.Numbers.{over_insts, size_of, offset_of, start_of, wei
 use Rattle.lid_elab.specs.Writing.{IsJudged, AreTemplates}
 use Rattle.lid_elab.specs.declared.template.Template.{Template}
 use Rattle.lid_elab.proofs.Shallow.{IsShallow}
-use Rattle.lid_elab.proofs.Numbering.{columns-length, starts_at}
+use Rattle.lid_elab.proofs.Numbering.{columns_length, starts_at}
 use Rattle.lid_elab.proofs.Stacking.{size_sum, weight_sum, over_more}
 use Rattle.lid_elab.proofs.Judged.{shallow_of}
 
@@ -23,7 +23,7 @@ module _ (d : Design) where
   root_spot number below = record {
     leads = refl;
     sum = zero-add number;
-    within = let long = columns-length d (length d.models) [] d.root in omega arith;
+    within = let long = columns_length d (length d.models) [] d.root in omega arith;
   }
 
   over_take : (f : ℕ → ℕ) (n : ℕ) (insts : List Inst) → over_insts d f (take n insts) ≤ over_insts d f insts

@@ -15,17 +15,17 @@ use Rattle.lid_design.specs.Columns.{Column, column, is_among, model_named, mode
 use Rattle.lid_design.specs.Walks.{Among, IsDriven}
 use Rattle.lid_design.specs.Models.{nets, inner_drivers, driven_by, actuals_bound_to, cell_out, control_names, number_from, IsReached}
 use Rattle.lid_design.specs.Places.{model_nets, columns}
-use Rattle.lid_design.proofs.Tables.{among-right}
+use Rattle.lid_design.proofs.Tables.{among_right}
 use Rattle.lid_rules.specs.Acceptance.{ModelsPass}
 use Rattle.lid_hierarchy.specs.Surveys.{IsModelOrder, AreKnown}
 use Rattle.lid_elab.specs.Numbers.{start_of}
 use Rattle.lid_elab.specs.Locals.{inputs_from, inner_locals, of_net, driver_at}
-use Rattle.lid_elab.proofs.Names.{to_among, among-append, map-among, flat-among, get-among, among-get, count-none}
-use Rattle.lid_elab.proofs.Clocking.{model_at-number}
-use Rattle.lid_elab.proofs.Locals.{of_net-count, inner_named, inputs_named, inputs_seen}
+use Rattle.lid_elab.proofs.Names.{to_among, among-append, map-among, flat-among, get-among, among-get, count_none}
+use Rattle.lid_elab.proofs.Clocking.{model_at_number}
+use Rattle.lid_elab.proofs.Locals.{of_net_count, inner_named, inputs_named, inputs_seen}
 use Rattle.lid_elab.proofs.Shallow.{IsShallow}
-use Rattle.lid_elab.proofs.Wired.{Spot, spot_input, spot_cell, spot_bind, among-bound, net_from}
-use Rattle.lid_elab.proofs.Single.{drivers-at, inputs_fewer}
+use Rattle.lid_elab.proofs.Wired.{Spot, spot_input, spot_cell, spot_bind, among_bound, net_from}
+use Rattle.lid_elab.proofs.Single.{drivers_at, inputs_fewer}
 use Rattle.lid_elab.proofs.Numbering.{then_some, starts_at}
 
 -- what cells and instances drive has a place
@@ -33,12 +33,12 @@ inner_spot : (d : Design) (m : Model) (net : List ℕ) → Among net (inner_driv
 inner_spot d m net among = by (among-append net (map cell_out m.cells) (flat_map (driven_by d) m.insts) among)
   where
     of_cell : (cell : Cell) → Among cell m.cells → net ≡ cell_out cell → Spot m net
-    of_cell (Names inputs out cover) is eq = spot_cell (Names inputs out cover) is (among-right net inputs (out ∷ []) (inl eq))
-    of_cell (Latch input out kind control init) is eq = spot_cell (Latch input out kind control init) is (inr (among-right net (control_names control) (out ∷ []) (inl eq)))
+    of_cell (Names inputs out cover) is eq = spot_cell (Names inputs out cover) is (among_right net inputs (out ∷ []) (inl eq))
+    of_cell (Latch input out kind control init) is eq = spot_cell (Latch input out kind control init) is (inr (among_right net (control_names control) (out ∷ []) (inl eq)))
 
     of_inst : (inst : Inst) → Among inst m.insts → (o : Option Model) → Among net (option_map_or (λ m. actuals_bound_to m.outputs inst.binds) o []) → Spot m net
     of_inst inst is None none = absurd none
-    of_inst inst is (Some sub) bound = let found = among-bound sub.outputs inst.binds net bound in spot_bind inst found.0 is found.1 found.3
+    of_inst inst is (Some sub) bound = let found = among_bound sub.outputs inst.binds net bound in spot_bind inst found.0 is found.1 found.3
 
     by : Among net (map cell_out m.cells) ⊎ Among net (flat_map (driven_by d) m.insts) → Spot m net
     by (inl cells) = let found = map-among cell_out net m.cells cells in of_cell found.0 found.1 found.2
@@ -49,7 +49,7 @@ counted net names some = by (is_among net names) refl
   where
     by : (b : Bool) → is_among net names ≡ b → b ≡ true
     by true e = refl
-    by false e = absurd (let none = count-none net names e in omega arith)
+    by false e = absurd (let none = count_none net names e in omega arith)
 
 module _ (d : Design) (formed : IsWellFormed d) (order : List ℕ) (ordered : IsModelOrder d order) (known : AreKnown d) (pass : ModelsPass d) where
   module _ (k : ℕ) (reached : IsReached d k) (m : Model) (here : slice_get d.models k ≡ Some m) where
@@ -58,9 +58,9 @@ module _ (d : Design) (formed : IsWellFormed d) (order : List ℕ) (ordered : Is
     port_none [] net none =
         let inputs = inputs_from 0 (data_inputs d m) in
         let whole : length (port_at d m [] net) ≡ count_by (bytes_eq net) (data_inputs d m) =
-        ap length (inputs_seen net 0 (data_inputs d m)) ∙ length-map (of_net net inputs) (driver_at []) ∙ of_net-count net inputs ∙ ap (count_by (bytes_eq net)) (inputs_named 0 (data_inputs d m)) in
+        ap length (inputs_seen net 0 (data_inputs d m)) ∙ length-map (of_net net inputs) (driver_at []) ∙ of_net_count net inputs ∙ ap (count_by (bytes_eq net)) (inputs_named 0 (data_inputs d m)) in
         let fewer = inputs_fewer d m net in
-        let empty = count-none net m.inputs none in
+        let empty = count_none net m.inputs none in
         omega arith
     port_none (i ∷ path) net none = ap (λ (b : Bool). length (cond b (option_map_or (actuals_of path net) (option_and_then (λ (m : Model). slice_get m.insts i) (model_at d path)) []) [])) none
 
@@ -73,7 +73,7 @@ module _ (d : Design) (formed : IsWellFormed d) (order : List ℕ) (ordered : Is
             let port = port_none path net e in
             let both = length-append (port_at d m path net) (map (driver_at path) (of_net net (inner_locals d m))) in
             let inner : length (map (driver_at path) (of_net net (inner_locals d m))) ≡ count_by (bytes_eq net) (inner_drivers d m) =
-            length-map (of_net net (inner_locals d m)) (driver_at path) ∙ of_net-count net (inner_locals d m) ∙ ap (count_by (bytes_eq net)) (inner_named d m) in
+            length-map (of_net net (inner_locals d m)) (driver_at path) ∙ of_net_count net (inner_locals d m) ∙ ap (count_by (bytes_eq net)) (inner_named d m) in
             let least : 0 < count_by (bytes_eq net) (inner_drivers d m) = omega arith in
             inner_spot d m net (to_among net (inner_drivers d m) (counted net (inner_drivers d m) least))
 
@@ -92,12 +92,12 @@ module _ (d : Design) (formed : IsWellFormed d) (order : List ℕ) (ordered : Is
       at_model (Some m) e = by (is_clock d m c.net) refl
         where
           found : (k : ℕ) × (number_from d d.root c.path ≡ Some k) × (slice_get d.models k ≡ Some m)
-          found = then_some (number_from d d.root c.path) (slice_get d.models) m (sym (model_at-number d c.path) ∙ e)
+          found = then_some (number_from d d.root c.path) (slice_get d.models) m (sym (model_at_number d c.path) ∙ e)
 
           by : (b : Bool) → is_clock d m c.net ≡ b → Among c (columns d)
           by true clock = absurd (let none : length (option_map_or (drivers_in d c.path c.net) (model_at d c.path) []) ≡ 0 = ap (λ (o : Option Model). length (option_map_or (drivers_in d c.path c.net) o [])) e ∙ ap (λ (b : Bool). length (cond b [] ((port_at d m c.path c.net ++ flat_map (cell_at c.path c.net) m.cells) ++ flat_map (output_at d c.path c.net) (enumerate_from 0 m.insts)))) clock in omega arith)
           by false free =
-              let whole = drivers-at d formed order ordered known pass found.0 (c.path, found.1) m found.2 c.path found.1 c.net free in
+              let whole = drivers_at d formed order ordered known pass found.0 (c.path, found.1) m found.2 c.path found.1 c.net free in
               let least : 0 < length (port_at d m c.path c.net ++ map (driver_at c.path) (of_net c.net (inner_locals d m))) = subst (λ (ss : List (Driver Column)). 0 < length ss) whole some in
               let spot = driven_spot found.0 (c.path, found.1) m found.2 c.path c.net least in
               column_of found.0 (c.path, found.1) m found.2 shallow c.path found.1 c.net (net_from d formed order ordered known pass found.0 (c.path, found.1) m found.2 c.net spot free)

@@ -17,7 +17,7 @@ use Rattle.lid_elab.specs.Numbers.{size_of, start_of, columns_in}
 use Rattle.lid_elab.specs.Writing.{IsJudged}
 use Rattle.lid_elab.proofs.Passing.{or_none}
 use Rattle.lid_elab.proofs.Shallow.{IsShallow, reached_shallow}
-use Rattle.lid_elab.proofs.Numbering.{numbering, columns-length}
+use Rattle.lid_elab.proofs.Numbering.{numbering, columns_length}
 use Rattle.std.proofs.lemmas.List.{length-map}
 
 pub no_limit : (d : Design) (ks : List ℕ) → fault_after_recursion d ks ≡ None → limits d ≡ None
@@ -76,7 +76,7 @@ module _ (d : Design) (judged : IsJudged d) where
   within path k leads =
       let stands = numbering d shallow_of path k leads in
       let part = columns_in (length d.models) d path k in
-      let size = columns-length d (length d.models) path k in
+      let size = columns_length d (length d.models) path k in
       let whole : length (columns d) ≡ length stands.before + (length part + length stands.after) =
       ap length stands.parts ∙ length-append stands.before (part ++ stands.after) ∙ ap (λ (n : ℕ). length stands.before + n) (length-append part stands.after) in
       let first = stands.long in

@@ -14,7 +14,7 @@ use Rattle.lid_design.specs.declared.Bind.{Bind}
 use Rattle.lid_design.specs.Network.{Driver, from_input, from_latch, from_cover, from_connection}
 use Rattle.lid_design.specs.Columns.{Column, column, is_among, model_named, data_inputs, first_bit, places_of, cell_at, output_at}
 use Rattle.lid_design.specs.Models.{cell_out, inner_drivers, driven_by, actuals_bound_to, actual_of}
-use Rattle.lid_hierarchy.proofs.Numbers.{bytes_eq-comm}
+use Rattle.lid_hierarchy.proofs.Numbers.{bytes_eq_comm}
 use Rattle.lid_elab.specs.Locals.{Local, local_input, local_latch, local_cover, local_connection, inputs_from, local_of, output_of, outputs_of, inner_locals, locals, of_net, driver_at}
 use Rattle.lid_elab.proofs.Names.{count-cons}
 
@@ -22,27 +22,27 @@ abbrev pub net_of : {V : Type 0} → List ℕ × V → List ℕ
 net_of p = p.0
 
 -- seen at a path, with more behind
-seen-cond : (path : List ℕ) (b : Bool) (l : Local (List ℕ)) (rest : List (Local (List ℕ))) → cond b (driver_at path l ∷ []) [] ++ map (driver_at path) rest ≡ map (driver_at path) (cond b (l ∷ []) [] ++ rest)
-seen-cond path true l rest = refl
-seen-cond path false l rest = refl
+seen_cond : (path : List ℕ) (b : Bool) (l : Local (List ℕ)) (rest : List (Local (List ℕ))) → cond b (driver_at path l ∷ []) [] ++ map (driver_at path) rest ≡ map (driver_at path) (cond b (l ∷ []) [] ++ rest)
+seen_cond path true l rest = refl
+seen_cond path false l rest = refl
 
 pub cells_seen : (path net : List ℕ) (cells : List Cell) → flat_map (cell_at path net) cells ≡ map (driver_at path) (of_net net (map local_of cells))
 cells_seen path net [] = refl
 cells_seen path net (Names inputs out cover ∷ cells) =
     ap (λ (ss : List (Driver Column)). cond (bytes_eq out net) (from_cover cover (map (column path) inputs) ∷ []) [] ++ ss) (cells_seen path net cells)
-    ∙ seen-cond path (bytes_eq out net) (local_cover cover inputs) (of_net net (map local_of cells))
+    ∙ seen_cond path (bytes_eq out net) (local_cover cover inputs) (of_net net (map local_of cells))
 cells_seen path net (Latch input out kind control init ∷ cells) =
     ap (λ (ss : List (Driver Column)). cond (bytes_eq out net) (from_latch (first_bit init) (column path input) ∷ []) [] ++ ss) (cells_seen path net cells)
-    ∙ seen-cond path (bytes_eq out net) (local_latch (first_bit init) input) (of_net net (map local_of cells))
+    ∙ seen_cond path (bytes_eq out net) (local_latch (first_bit init) input) (of_net net (map local_of cells))
 
 pub inputs_seen : (net : List ℕ) (k : ℕ) (names : List (List ℕ)) → places_of net k names ≡ map (driver_at []) (of_net net (inputs_from k names))
 inputs_seen net k [] = refl
 inputs_seen net k (name ∷ names) =
     ap (λ (ss : List (Driver Column)). cond (bytes_eq name net) (from_input k ∷ []) [] ++ ss) (inputs_seen net (k + 1) names)
-    ∙ seen-cond [] (bytes_eq name net) (local_input k) (of_net net (inputs_from (k + 1) names))
+    ∙ seen_cond [] (bytes_eq name net) (local_input k) (of_net net (inputs_from (k + 1) names))
 
-pub of_net-append : {V : Type 0} (net : List ℕ) (ps qs : List (List ℕ × V)) → of_net net (ps ++ qs) ≡ of_net net ps ++ of_net net qs
-of_net-append net ps qs = flat_map-append (λ p. cond (bytes_eq p.0 net) (p.1 ∷ []) []) ps qs
+pub of_net_append : {V : Type 0} (net : List ℕ) (ps qs : List (List ℕ × V)) → of_net net (ps ++ qs) ≡ of_net net ps ++ of_net net qs
+of_net_append net ps qs = flat_map-append (λ p. cond (bytes_eq p.0 net) (p.1 ∷ []) []) ps qs
 
 binds_seen : (path net : List ℕ) (i : ℕ) (outputs : List (List ℕ)) (binds : List Bind) → flat_map (λ b. cond (bytes_eq b.actual net && is_among b.formal outputs) (from_connection (column (i ∷ path) b.formal) ∷ []) []) binds ≡ map (driver_at path) (of_net net (flat_map (output_of outputs i) binds))
 binds_seen path net i outputs [] = refl
@@ -66,7 +66,7 @@ outputs_seen d path net (p ∷ ps) =
     ap (λ (ss : List (Driver Column)). output_at d path net p ++ ss) (outputs_seen d path net ps)
     ∙ ap (λ (ss : List (Driver Column)). ss ++ map (driver_at path) (of_net net later)) (one (model_named d p.1.model))
     ∙ sym (map-append (driver_at path) (of_net net (outputs_of d p)) (of_net net later))
-    ∙ ap (map (driver_at path)) (sym (of_net-append net (outputs_of d p) later))
+    ∙ ap (map (driver_at path)) (sym (of_net_append net (outputs_of d p) later))
   where
     one : (o : Option Model) → option_map_or (λ m. flat_map (λ b. cond (bytes_eq b.actual net && is_among b.formal m.outputs) (from_connection (column (p.0 ∷ path) b.formal) ∷ []) []) p.1.binds) o [] ≡ map (driver_at path) (of_net net (option_map_or (λ m. flat_map (output_of m.outputs p.0) p.1.binds) o []))
     one None = refl
@@ -80,7 +80,7 @@ inner_seen d path net m =
     ap (λ (ss : List (Driver Column)). ss ++ flat_map (output_at d path net) (enumerate_from 0 m.insts)) (cells_seen path net m.cells)
     ∙ ap (λ (ss : List (Driver Column)). map (driver_at path) (of_net net cells) ++ ss) (outputs_seen d path net (enumerate_from 0 m.insts))
     ∙ sym (map-append (driver_at path) (of_net net cells) (of_net net outs))
-    ∙ ap (map (driver_at path)) (sym (of_net-append net cells outs))
+    ∙ ap (map (driver_at path)) (sym (of_net_append net cells outs))
 
 -- the nets that are driven
 pub inputs_named : (k : ℕ) (names : List (List ℕ)) → map net_of (inputs_from k names) ≡ names
@@ -127,12 +127,12 @@ locals_named d m =
     ∙ ap (λ (ns : List (List ℕ)). data_inputs d m ++ ns) (inner_named d m)
 
 -- a net is driven as often as it stands among the nets that are driven
-pub of_net-count : {V : Type 0} (net : List ℕ) (ps : List (List ℕ × V)) → length (of_net net ps) ≡ count_by (bytes_eq net) (map net_of ps)
-of_net-count net [] = refl
-of_net-count {V} net (p ∷ ps) =
+pub of_net_count : {V : Type 0} (net : List ℕ) (ps : List (List ℕ × V)) → length (of_net net ps) ≡ count_by (bytes_eq net) (map net_of ps)
+of_net_count net [] = refl
+of_net_count {V} net (p ∷ ps) =
     length-append (cond (bytes_eq p.0 net) (p.1 ∷ []) []) (of_net net ps)
-    ∙ ap (λ (n : ℕ). n + length (of_net net ps)) (one (bytes_eq p.0 net) ∙ ap (λ (b : Bool). cond b 1 0) (bytes_eq-comm p.0 net))
-    ∙ ap (λ (n : ℕ). cond (bytes_eq net p.0) 1 0 + n) (of_net-count net ps)
+    ∙ ap (λ (n : ℕ). n + length (of_net net ps)) (one (bytes_eq p.0 net) ∙ ap (λ (b : Bool). cond b 1 0) (bytes_eq_comm p.0 net))
+    ∙ ap (λ (n : ℕ). cond (bytes_eq net p.0) 1 0 + n) (of_net_count net ps)
     ∙ sym (count-cons net p.0 (map net_of ps))
   where
     one : (b : Bool) → length (cond b (p.1 ∷ []) []) ≡ cond b 1 0

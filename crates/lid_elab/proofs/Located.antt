@@ -12,23 +12,23 @@ use Rattle.lid_design.specs.Walks.{Among}
 use Rattle.lid_design.specs.Models.{occurrences, firsts, nets, insts_of, number_named, instance_number, number_from, IsReached}
 use Rattle.lid_design.specs.Places.{place, places, model_nets, columns_at, columns}
 use Rattle.lid_elab.specs.Numbers.{over_insts, size_within, size_of, offset_of, start_of, columns_in}
-use Rattle.lid_elab.proofs.Shallow.{IsShallow, shallow-le}
+use Rattle.lid_elab.proofs.Shallow.{IsShallow, shallow_le}
 use Rattle.lid_elab.proofs.Names.{filter-among, get-among, bytes_same}
-use Rattle.lid_elab.proofs.Numbering.{block, columns-step, columns-length, size-same, over-same, take-get, at-length}
+use Rattle.lid_elab.proofs.Numbering.{block, columns_step, columns_length, size_same, over_same, take_get, at_length}
 
 -- where an item of two joined lists stands
-pub get-split : {A : Type 0} (xs ys : List A) (m : ℕ) (x : A) → slice_get (xs ++ ys) m ≡ Some x → (slice_get xs m ≡ Some x) ⊎ ((n : ℕ) × (m ≡ length xs + n) × (slice_get ys n ≡ Some x))
-get-split [] ys m x here = inr (m, sym (zero-add m), here)
-get-split (y ∷ xs) ys zero x here = inl here
-get-split {A} (y ∷ xs) ys (suc m) x here = by (get-split xs ys m x here)
+pub get_split : {A : Type 0} (xs ys : List A) (m : ℕ) (x : A) → slice_get (xs ++ ys) m ≡ Some x → (slice_get xs m ≡ Some x) ⊎ ((n : ℕ) × (m ≡ length xs + n) × (slice_get ys n ≡ Some x))
+get_split [] ys m x here = inr (m, sym (zero-add m), here)
+get_split (y ∷ xs) ys zero x here = inl here
+get_split {A} (y ∷ xs) ys (suc m) x here = by (get_split xs ys m x here)
   where
     by : (slice_get xs m ≡ Some x) ⊎ ((n : ℕ) × (m ≡ length xs + n) × (slice_get ys n ≡ Some x)) → (slice_get (y ∷ xs) (suc m) ≡ Some x) ⊎ ((n : ℕ) × (suc m ≡ length (y ∷ xs) + n) × (slice_get ys n ≡ Some x))
     by (inl first) = inl first
     by (inr (n, sum, later)) = inr (n, (let e = sum in let goal : suc m ≡ suc (length xs) + n = omega arith in goal), later)
 
 -- names each once, by their places
-gets-differ : (x : List ℕ) (xs : List (List ℕ)) (i : ℕ) → slice_get (filter (λ other. not (bytes_eq other x)) xs) i ≡ Some x → ⊥
-gets-differ x xs i here =
+gets_differ : (x : List ℕ) (xs : List (List ℕ)) (i : ℕ) → slice_get (filter (λ other. not (bytes_eq other x)) xs) i ≡ Some x → ⊥
+gets_differ x xs i here =
     let kept = filter-among (λ other. not (bytes_eq other x)) x xs (get-among (filter (λ other. not (bytes_eq other x)) xs) i x here) in
     absurd (let e : not true ≡ true = ap not (sym (bytes_same x x refl)) ∙ kept.1 in let f : false ≡ true = e in cc)
 
@@ -36,45 +36,45 @@ abbrev AreOnce : List (List ℕ) → Type 0
 AreOnce xs = (i j : ℕ) (x : List ℕ) → slice_get xs i ≡ Some x → slice_get xs j ≡ Some x → i ≡ j
 
 -- the place before a filter
-filter-place : (p : List ℕ → Bool) (xs : List (List ℕ)) (i : ℕ) (x : List ℕ) → slice_get (filter p xs) i ≡ Some x → (n : ℕ) × (slice_get xs n ≡ Some x)
-filter-place p xs i x here = by xs (filter-among p x xs (get-among (filter p xs) i x here)).0
+filter_place : (p : List ℕ → Bool) (xs : List (List ℕ)) (i : ℕ) (x : List ℕ) → slice_get (filter p xs) i ≡ Some x → (n : ℕ) × (slice_get xs n ≡ Some x)
+filter_place p xs i x here = by xs (filter-among p x xs (get-among (filter p xs) i x here)).0
   where
     by : (ys : List (List ℕ)) → Among x ys → (n : ℕ) × (slice_get ys n ≡ Some x)
     by [] none = absurd none
     by (y ∷ ys) (inl same) = (zero, ap Some (sym same))
     by (y ∷ ys) (inr later) = let found = by ys later in (suc found.0, found.1)
 
-cons-once : (y : List ℕ) (ys : List (List ℕ)) → ((i : ℕ) → slice_get ys i ≡ Some y → ⊥) → AreOnce ys → AreOnce (y ∷ ys)
-cons-once y ys none once zero zero x a b = refl
-cons-once y ys none once zero (suc j) x a b = absurd (none j (b ∙ sym a))
-cons-once y ys none once (suc i) zero x a b = absurd (none i (a ∙ sym b))
-cons-once y ys none once (suc i) (suc j) x a b = ap suc (once i j x a b)
+cons_once : (y : List ℕ) (ys : List (List ℕ)) → ((i : ℕ) → slice_get ys i ≡ Some y → ⊥) → AreOnce ys → AreOnce (y ∷ ys)
+cons_once y ys none once zero zero x a b = refl
+cons_once y ys none once zero (suc j) x a b = absurd (none j (b ∙ sym a))
+cons_once y ys none once (suc i) zero x a b = absurd (none i (a ∙ sym b))
+cons_once y ys none once (suc i) (suc j) x a b = ap suc (once i j x a b)
 
-filter-once : (p : List ℕ → Bool) (xs : List (List ℕ)) → AreOnce xs → AreOnce (filter p xs)
-filter-once p [] once = once
-filter-once p (y ∷ ys) once = by (p y) (filter-once p ys tail)
+filter_once : (p : List ℕ → Bool) (xs : List (List ℕ)) → AreOnce xs → AreOnce (filter p xs)
+filter_once p [] once = once
+filter_once p (y ∷ ys) once = by (p y) (filter_once p ys tail)
   where
     tail : AreOnce ys
     tail i j x a b = let e = once (suc i) (suc j) x a b in omega arith
 
     by : (b : Bool) → AreOnce (filter p ys) → AreOnce (cond b (y ∷ filter p ys) (filter p ys))
-    by true later = cons-once y (filter p ys) (λ i here. let found = filter-place p ys i y here in let e = once zero (suc found.0) y refl found.1 in absurd (omega arith)) later
+    by true later = cons_once y (filter p ys) (λ i here. let found = filter_place p ys i y here in let e = once zero (suc found.0) y refl found.1 in absurd (omega arith)) later
     by false later = later
 
-firsts-once : (xs : List (List ℕ)) → AreOnce (firsts xs)
-firsts-once [] = λ i j x a b. absurd (let e : None ≡ Some x = a in cc)
-firsts-once (x ∷ xs) = cons-once x _ (gets-differ x (firsts xs)) (filter-once (λ other. not (bytes_eq other x)) (firsts xs) (firsts-once xs))
+firsts_once : (xs : List (List ℕ)) → AreOnce (firsts xs)
+firsts_once [] = λ i j x a b. absurd (let e : None ≡ Some x = a in cc)
+firsts_once (x ∷ xs) = cons_once x _ (gets_differ x (firsts xs)) (filter_once (λ other. not (bytes_eq other x)) (firsts xs) (firsts_once xs))
 
-nets-once : (d : Design) (m : Model) → AreOnce (nets d m)
+nets_once : (d : Design) (m : Model) → AreOnce (nets d m)
 unfolding nets
-nets-once d m = filter-once (λ net. not (is_clock d m net)) (firsts (occurrences m)) (firsts-once (occurrences m))
+nets_once d m = filter_once (λ net. not (is_clock d m net)) (firsts (occurrences m)) (firsts_once (occurrences m))
 
-pub model_nets-once : (d : Design) (k : ℕ) → AreOnce (model_nets d k)
-model_nets-once d k = by (slice_get d.models k)
+pub model_nets_once : (d : Design) (k : ℕ) → AreOnce (model_nets d k)
+model_nets_once d k = by (slice_get d.models k)
   where
     by : (o : Option Model) → AreOnce (option_map_or (nets d) o [])
     by None = λ i j x a b. absurd (let e : None ≡ Some x = a in cc)
-    by (Some m) = nets-once d m
+    by (Some m) = nets_once d m
 
 -- a column of a number, by its path and its net
 pub record Located (d : Design) (n : ℕ) (c : Column) : Type 0 where
@@ -98,11 +98,11 @@ module _ (d : Design) where
 
   in_block : (n : ℕ) (path : List ℕ) (first : ℕ) (insts : List Inst) (m : ℕ) (c : Column) → slice_get (flat_map (block d n path) (enumerate_from first insts)) m ≡ Some c → InBlock n path first insts m c
   in_block n path first [] m c here = absurd (let e : None ≡ Some c = here in cc)
-  in_block n path first (x ∷ insts) m c here = by (get-split (block d n path (first, x)) (flat_map (block d n path) (enumerate_from (first + 1) insts)) m c here) (λ m later. in_block n path (first + 1) insts m c later)
+  in_block n path first (x ∷ insts) m c here = by (get_split (block d n path (first, x)) (flat_map (block d n path) (enumerate_from (first + 1) insts)) m c here) (λ m later. in_block n path (first + 1) insts m c later)
     where
       sized : (o : Option ℕ) → length (option_map_or (columns_in n d (first ∷ path)) o []) ≡ option_map_or (size_within n d) o 0
       sized None = refl
-      sized (Some k) = columns-length d n (first ∷ path) k
+      sized (Some k) = columns_length d n (first ∷ path) k
 
       at_first : (o : Option ℕ) → number_named d x.model ≡ o → slice_get (option_map_or (columns_in n d (first ∷ path)) o []) m ≡ Some c → InBlock n path first (x ∷ insts) m c
       at_first None e none = absurd (let f : None ≡ Some c = none in cc)
@@ -137,20 +137,20 @@ module _ (d : Design) where
           }
 
   -- enough steps give the size
-  size-le : (n m k : ℕ) → n ≤ m → IsShallow d n k → size_within n d k ≡ size_within m d k
-  size-le n m k le deep = by (m - n) (n + (m - n)) refl ∙ ap (λ (x : ℕ). size_within x d k) (let e : n + (m - n) ≡ m = omega arith in e)
+  size_le : (n m k : ℕ) → n ≤ m → IsShallow d n k → size_within n d k ≡ size_within m d k
+  size_le n m k le deep = by (m - n) (n + (m - n)) refl ∙ ap (λ (x : ℕ). size_within x d k) (let e : n + (m - n) ≡ m = omega arith in e)
     where
       by : (more total : ℕ) → n + more ≡ total → size_within n d k ≡ size_within total d k
       by zero total sum = ap (λ (x : ℕ). size_within x d k) (sym (add-zero n) ∙ sum)
       by (suc more) total sum =
           let last : suc (n + more) ≡ total = omega arith in
-          by more (n + more) refl ∙ size-same d (n + more) k (shallow-le d n (n + more) k (omega arith) deep) ∙ ap (λ (x : ℕ). size_within x d k) last
+          by more (n + more) refl ∙ size_same d (n + more) k (shallow_le d n (n + more) k (omega arith) deep) ∙ ap (λ (x : ℕ). size_within x d k) last
 
   module _ (shallow : (k : ℕ) → IsReached d k → IsShallow d (length d.models) k) where
-    located-in : (n : ℕ) (path : List ℕ) (k : ℕ) → n ≤ length d.models → number_from d d.root path ≡ Some k → IsShallow d n k → (m : ℕ) (c : Column) → slice_get (columns_in n d path k) m ≡ Some c → Located d (start_of d path + m) c
+    located_in : (n : ℕ) (path : List ℕ) (k : ℕ) → n ≤ length d.models → number_from d d.root path ≡ Some k → IsShallow d n k → (m : ℕ) (c : Column) → slice_get (columns_in n d path k) m ≡ Some c → Located d (start_of d path + m) c
     unfolding number_from start_of size_of
-    located-in zero path k le leads none m c here = absurd none
-    located-in (suc n) path k le leads deep m c here = by (get-split (columns_at d (place path k)) (flat_map (block d n path) (enumerate_from 0 (insts_of d k))) m c (ap (λ (cs : List Column). slice_get cs m) (sym (columns-step d n path k)) ∙ here)) (λ i j m c inner leads sub. located-in n (i ∷ path) j (omega arith) leads sub m c inner)
+    located_in zero path k le leads none m c here = absurd none
+    located_in (suc n) path k le leads deep m c here = by (get_split (columns_at d (place path k)) (flat_map (block d n path) (enumerate_from 0 (insts_of d k))) m c (ap (λ (cs : List Column). slice_get cs m) (sym (columns_step d n path k)) ∙ here)) (λ i j m c inner leads sub. located_in n (i ∷ path) j (omega arith) leads sub m c inner)
       where
         own : (o : Option (List ℕ)) → slice_get (model_nets d k) m ≡ o → option_map (column path) o ≡ Some c → Located d (start_of d path + m) c
         own None e none = absurd (let f : None ≡ Some c = none in cc)
@@ -167,16 +167,16 @@ module _ (d : Design) where
             let inner = subst (λ (f : ℕ). slice_get (columns_in n d (f ∷ path) found.j) found.rest ≡ Some c) (zero-add found.i) found.inner in
             let there = next found.i found.j found.rest c inner inner_leads (deep found.i found.j names) in
             let sizes : over_insts d (size_within n d) (take found.i (insts_of d k)) ≡ over_insts d (size_within (length d.models) d) (take found.i (insts_of d k)) =
-            over-same d (size_within n d) (size_within (length d.models) d) (take found.i (insts_of d k)) (λ i b named. size-le n (length d.models) b (omega arith) (deep i b (take-get d found.i i b (insts_of d k) named))) in
+            over_same d (size_within n d) (size_within (length d.models) d) (take found.i (insts_of d k)) (λ i b named. size_le n (length d.models) b (omega arith) (deep i b (take_get d found.i i b (insts_of d k) named))) in
             let first : start_of d (found.i ∷ path) ≡ start_of d path + offset_of d k found.i = ap (λ (o : Option ℕ). start_of d path + option_map_or (λ k. offset_of d k found.i) o 0) leads in
-            let long = at-length d path k in
+            let long = at_length d path k in
             let split = found.split in
             let whole : start_of d (found.i ∷ path) + found.rest ≡ start_of d path + m = omega arith in
             subst (λ (x : ℕ). Located d x c) whole there
 
     pub located : (n : ℕ) (c : Column) → slice_get (columns d) n ≡ Some c → Located d n c
     unfolding columns places start_of number_from
-    located n c here = subst (λ (x : ℕ). Located d x c) (zero-add n) (located-in (length d.models) [] d.root (omega arith) refl (shallow d.root ([], refl)) n c here)
+    located n c here = subst (λ (x : ℕ). Located d x c) (zero-add n) (located_in (length d.models) [] d.root (omega arith) refl (shallow d.root ([], refl)) n c here)
 
     -- each column has one number
     pub columns_once : (i j : ℕ) (c : Column) → slice_get (columns d) i ≡ Some c → slice_get (columns d) j ≡ Some c → i ≡ j
@@ -184,7 +184,7 @@ module _ (d : Design) where
         let first = located i c a in
         let second = located j c b in
         let model : first.model ≡ second.model = (let e : Some first.model ≡ Some second.model = sym first.leads ∙ second.leads in cc) in
-        let net = model_nets-once d second.model first.net second.net c.net (subst (λ (k : ℕ). slice_get (model_nets d k) first.net ≡ Some c.net) model first.here) second.here in
+        let net = model_nets_once d second.model first.net second.net c.net (subst (λ (k : ℕ). slice_get (model_nets d k) first.net ≡ Some c.net) model first.here) second.here in
         let one = first.sum in
         let two = second.sum in
         omega arith

@@ -6,7 +6,7 @@ use Rattle.std.proofs.lemmas.Slice.Eq.{bytes_eq-Decides}
 use Rattle.std.proofs.lemmas.List.Sums.{sum_by-cons}
 use Rattle.lid_design.specs.Columns.{is_among}
 use Rattle.lid_design.specs.Walks.{Among}
-use Rattle.lid_design.proofs.Tables.{among-left, among-right}
+use Rattle.lid_design.proofs.Tables.{among-left, among_right}
 
 pub same_bytes : (xs ys : List ℕ) → bytes_eq xs ys ≡ true → xs ≡ ys
 same_bytes xs ys h = (bytes_eq-Decides xs ys).0 h
@@ -73,10 +73,10 @@ map-among f y [] among = absurd among
 map-among f y (x ∷ xs) (inl same) = (x, inl refl, same)
 map-among f y (x ∷ xs) (inr later) = let found = map-among f y xs later in (found.0, inr found.1, found.2)
 
-pub among-flat : {A B : Type 0} (f : A → List B) (x : A) (y : B) (xs : List A) → Among x xs → Among y (f x) → Among y (flat_map f xs)
-among-flat f x y [] among h = absurd among
-among-flat {A} {B} f x y (z ∷ zs) (inl same) h = among-left y (f z) (flat_map f zs) (subst (λ (w : A). Among y (f w)) same h)
-among-flat f x y (z ∷ zs) (inr later) h = among-right y (f z) (flat_map f zs) (among-flat f x y zs later h)
+pub among_flat : {A B : Type 0} (f : A → List B) (x : A) (y : B) (xs : List A) → Among x xs → Among y (f x) → Among y (flat_map f xs)
+among_flat f x y [] among h = absurd among
+among_flat {A} {B} f x y (z ∷ zs) (inl same) h = among-left y (f z) (flat_map f zs) (subst (λ (w : A). Among y (f w)) same h)
+among_flat f x y (z ∷ zs) (inr later) h = among_right y (f z) (flat_map f zs) (among_flat f x y zs later h)
 
 pub flat-among : {A B : Type 0} (f : A → List B) (y : B) (xs : List A) → Among y (flat_map f xs) → (x : A) × Among x xs × Among y (f x)
 flat-among f y [] among = absurd among
@@ -96,15 +96,15 @@ among-get [] x among = absurd among
 among-get (y ∷ xs) x (inl same) = (zero, ap Some (sym same))
 among-get (y ∷ xs) x (inr later) = let found = among-get xs x later in (suc found.0, found.1)
 
-pub among-enumerate : {A : Type 0} (first i : ℕ) (xs : List A) (x : A) → slice_get xs i ≡ Some x → Among (first + i, x) (enumerate_from first xs)
-among-enumerate first i [] x here = absurd (let e : None ≡ Some x = here in cc)
-among-enumerate {A} first zero (y ∷ xs) x here =
+pub among_enumerate : {A : Type 0} (first i : ℕ) (xs : List A) (x : A) → slice_get xs i ≡ Some x → Among (first + i, x) (enumerate_from first xs)
+among_enumerate first i [] x here = absurd (let e : None ≡ Some x = here in cc)
+among_enumerate {A} first zero (y ∷ xs) x here =
     let same : x ≡ y = (let e : Some y ≡ Some x = here in cc) in
     let number : first + 0 ≡ first = omega arith in
     inl (let e = same in let n = number in cc)
-among-enumerate {A} first (suc i) (y ∷ xs) x here =
+among_enumerate {A} first (suc i) (y ∷ xs) x here =
     let number : (first + 1) + i ≡ first + suc i = omega arith in
-    inr (subst (λ (n : ℕ). Among (n, x) (enumerate_from (first + 1) xs)) number (among-enumerate (first + 1) i xs x here))
+    inr (subst (λ (n : ℕ). Among (n, x) (enumerate_from (first + 1) xs)) number (among_enumerate (first + 1) i xs x here))
 
 pub enumerate-among : {A : Type 0} (first : ℕ) (xs : List A) (p : ℕ × A) → Among p (enumerate_from first xs) → (i : ℕ) × (p.0 ≡ first + i) × (slice_get xs i ≡ Some p.1)
 enumerate-among first [] p among = absurd among
@@ -130,17 +130,17 @@ none_found {A} p (y ∷ ys) none x among = by (p y) refl none among (λ rest lat
 pub count-cons : (x y : List ℕ) (ys : List (List ℕ)) → count_by (bytes_eq x) (y ∷ ys) ≡ cond (bytes_eq x y) 1 0 + count_by (bytes_eq x) ys
 count-cons x y ys = sum_by-cons (λ z. cond (bytes_eq x z) 1 0) y ys
 
-pub count-none : (x : List ℕ) (xs : List (List ℕ)) → is_among x xs ≡ false → count_by (bytes_eq x) xs ≡ 0
-count-none x [] none = refl
-count-none x (y ∷ ys) none = count-cons x y ys ∙ by (bytes_eq x y) none (count-none x ys)
+pub count_none : (x : List ℕ) (xs : List (List ℕ)) → is_among x xs ≡ false → count_by (bytes_eq x) xs ≡ 0
+count_none x [] none = refl
+count_none x (y ∷ ys) none = count-cons x y ys ∙ by (bytes_eq x y) none (count_none x ys)
   where
     by : (b : Bool) → (b || is_among x ys) ≡ false → (is_among x ys ≡ false → count_by (bytes_eq x) ys ≡ 0) → cond b 1 0 + count_by (bytes_eq x) ys ≡ 0
     by true h next = absurd (let e : true ≡ false = h in cc)
     by false h next = let e = next h in omega arith
 
-pub count-some : (x : List ℕ) (xs : List (List ℕ)) → is_among x xs ≡ true → 1 ≤ count_by (bytes_eq x) xs
-count-some x [] some = absurd (let e : false ≡ true = some in cc)
-count-some x (y ∷ ys) some = subst (λ (n : ℕ). 1 ≤ n) (sym (count-cons x y ys)) (by (bytes_eq x y) some (count-some x ys))
+pub count_some : (x : List ℕ) (xs : List (List ℕ)) → is_among x xs ≡ true → 1 ≤ count_by (bytes_eq x) xs
+count_some x [] some = absurd (let e : false ≡ true = some in cc)
+count_some x (y ∷ ys) some = subst (λ (n : ℕ). 1 ≤ n) (sym (count-cons x y ys)) (by (bytes_eq x y) some (count_some x ys))
   where
     by : (b : Bool) → (b || is_among x ys) ≡ true → (is_among x ys ≡ true → 1 ≤ count_by (bytes_eq x) ys) → 1 ≤ cond b 1 0 + count_by (bytes_eq x) ys
     by true h next = omega arith

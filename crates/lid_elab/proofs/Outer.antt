@@ -22,7 +22,7 @@ use Rattle.lid_elab.specs.declared.writing.Place.{Place}
 use Rattle.lid_elab.specs.declared.writing.Around.{Around}
 use Rattle.lid_elab.proofs.Names.{get-among}
 use Rattle.lid_elab.proofs.Numbering.{then_some, starts_at}
-use Rattle.lid_elab.proofs.Located.{get-split}
+use Rattle.lid_elab.proofs.Located.{get_split}
 use Rattle.lid_elab.proofs.Judged.{shallow_of, few_columns}
 use Rattle.lid_elab.proofs.Placing.{FitsAround, at_root, in_inst, net_right, net_small}
 
@@ -122,7 +122,7 @@ module _ (d : Design) (judged : IsJudged d) (path : List ℕ) (k : ℕ) (leads :
 
   -- what is written goes on with the columns of the place
   pub written_more : (old new : List (Driver ℕ)) → start_of d path ≡ length old → AreWritten d old → new ≡ old ++ map (picked (start_of d path) t.offsets around t.locals) t.picks → AreWritten d new
-  written_more old new start before whole n c s at here = by (get-split old (map (picked (start_of d path) t.offsets around t.locals) t.picks) n s (ap (λ (ss : List (Driver ℕ)). slice_get ss n) (sym whole) ∙ here))
+  written_more old new start before whole n c s at here = by (get_split old (map (picked (start_of d path) t.offsets around t.locals) t.picks) n s (ap (λ (ss : List (Driver ℕ)). slice_get ss n) (sym whole) ∙ here))
     where
       driver : ℕ → Driver ℕ
       driver pick = picked (start_of d path) t.offsets around t.locals pick

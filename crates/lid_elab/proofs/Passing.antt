@@ -11,7 +11,7 @@ use Rattle.lid_design.specs.Models.{occurrences, is_port, driver_names, IsReache
 use Rattle.lid_rules.specs.declared.fault.CheckFault.{CheckFault}
 use Rattle.lid_rules.specs.Conditions.{or_fault, first_told, in_models, in_insts, in_known, is_twice, formals, is_undriven, is_misused, unknown_formal, unknown_formal_at, formal_twice, formal_twice_at, unbound, unbound_at, two_drivers, two_drivers_in, undriven, undriven_in, clock_use, clock_use_in}
 use Rattle.lid_rules.specs.Acceptance.{ModelsPass, fault_after_recursion}
-use Rattle.lid_elab.proofs.Names.{among-enumerate, none_found}
+use Rattle.lid_elab.proofs.Names.{among_enumerate, none_found}
 
 -- what the conditions say of an instance of a model
 pub record IsSoundInst (d : Design) (sub : Model) (inst : Inst) : Type 0 where
@@ -46,7 +46,7 @@ model_none d ks told none k m among here = ap (option_and_then told) (sym here) 
 -- at an instance
 inst_none : (told : ℕ → Inst → Option CheckFault) (m : Model) → in_insts told m ≡ None → (i : ℕ) (inst : Inst) → slice_get m.insts i ≡ Some inst → told i inst ≡ None
 inst_none told m none i inst here =
-    none_told (λ p. told p.0 p.1) (enumerate_from 0 m.insts) none (i, inst) (subst (λ (n : ℕ). Among (n, inst) (enumerate_from 0 m.insts)) (zero-add i) (among-enumerate 0 i m.insts inst here))
+    none_told (λ p. told p.0 p.1) (enumerate_from 0 m.insts) none (i, inst) (subst (λ (n : ℕ). Among (n, inst) (enumerate_from 0 m.insts)) (zero-add i) (among_enumerate 0 i m.insts inst here))
 
 known_none : (d : Design) (told : Model → Option CheckFault) (inst : Inst) (sub : Model) → in_known d told inst ≡ None → model_named d inst.model ≡ Some sub → told sub ≡ None
 known_none d told inst sub none named = ap (option_and_then told) (sym named) ∙ none

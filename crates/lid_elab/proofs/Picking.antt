@@ -14,9 +14,9 @@ use Rattle.lid_design.specs.Columns.{is_among, is_clock, data_inputs, model_name
 use Rattle.lid_design.specs.Models.{firsts, nets, cell_out, control_names, driven_by, actuals_bound_to, inner_drivers, port_drivers, driver_names, IsReached}
 use Rattle.lid_design.specs.Places.{model_nets}
 use Rattle.lid_design.specs.Walks.{Among}
-use Rattle.lid_design.proofs.Tables.{among-right}
+use Rattle.lid_design.proofs.Tables.{among_right}
 use Rattle.lid_names.specs.Names.{texts}
-use Rattle.lid_names.proofs.Lists.{count-append}
+use Rattle.lid_names.proofs.Lists.{count_append}
 use Rattle.lid_hierarchy.proofs.Numbers.{firsts_distinct}
 use Rattle.lid_elab.specs.Locals.{Local, NetLocal, locals, of_net}
 use Rattle.lid_elab.specs.Templates.{shown_local, numbered}
@@ -24,10 +24,10 @@ use Rattle.lid_elab.specs.Parts.{net_of, numbered_local, Shows}
 use Rattle.lid_elab.specs.Writing.{IsJudged, IsPicked, model_locals}
 use Rattle.lid_elab.specs.declared.driven.Driven.{Driven}
 use Rattle.lid_elab.specs.declared.template.LocalDriver.{LocalDriver}
-use Rattle.lid_elab.proofs.Names.{bytes_same, among-append, filter-among, among-map, map-among, among-flat, flat-among, get-among, count-cons}
+use Rattle.lid_elab.proofs.Names.{bytes_same, among-append, filter-among, among-map, map-among, among_flat, flat-among, get-among, count-cons}
 use Rattle.lid_elab.proofs.Locals.{locals_named}
-use Rattle.lid_elab.proofs.Wired.{Spot, spot_input, spot_cell, spot_bind, occurs, among-bound, sound}
-use Rattle.lid_elab.proofs.Single.{inputs_fewer, exactly_one, of_net-among}
+use Rattle.lid_elab.proofs.Wired.{Spot, spot_input, spot_cell, spot_bind, occurs, among_bound, sound}
+use Rattle.lid_elab.proofs.Single.{inputs_fewer, exactly_one, of_net_among}
 use Rattle.lid_elab.proofs.Placing.{position_get}
 
 apart : (x : List ℕ) (xs : List (List ℕ)) → count_by (bytes_eq x) xs ≤ 0 → AllByRecursion (λ y. bytes_eq x y ≡ false) xs
@@ -63,7 +63,7 @@ map_some f (Some a) b h = (a, refl, (let e : Some (f a) ≡ Some b = h in cc))
 
 among_of_net : {V : Type 0} (net : List ℕ) (ps : List (List ℕ × V)) (p : List ℕ × V) → Among p ps → p.0 ≡ net → Among p.1 (of_net net ps)
 among_of_net {V} net ps p is same =
-    among-flat (λ q. cond (bytes_eq q.0 net) (q.1 ∷ []) []) p p.1 ps is (subst (λ (b : Bool). Among p.1 (cond b (p.1 ∷ []) [])) (sym (bytes_same p.0 net same)) (inl refl))
+    among_flat (λ q. cond (bytes_eq q.0 net) (q.1 ∷ []) []) p p.1 ps is (subst (λ (b : Bool). Among p.1 (cond b (p.1 ∷ []) [])) (sym (bytes_same p.0 net same)) (inl refl))
 
 module _ (d : Design) (judged : IsJudged d) (k : ℕ) (reached : IsReached d k) (m : Model) (here : slice_get d.models k ≡ Some m) where
   input_spot : (net : List ℕ) → Among net (data_inputs d m) → Spot m net
@@ -71,12 +71,12 @@ module _ (d : Design) (judged : IsJudged d) (k : ℕ) (reached : IsReached d k) 
   input_spot net is = spot_input (filter-among (λ net. not (is_clock d m net)) net m.inputs is).0
 
   cell_spot : (net : List ℕ) (cell : Cell) → Among cell m.cells → net ≡ cell_out cell → Spot m net
-  cell_spot net (Names inputs out cover) is same = spot_cell (Names inputs out cover) is (among-right net inputs (out ∷ []) (inl same))
-  cell_spot net (Latch input out kind control init) is same = spot_cell (Latch input out kind control init) is (inr (among-right net (control_names control) (out ∷ []) (inl same)))
+  cell_spot net (Names inputs out cover) is same = spot_cell (Names inputs out cover) is (among_right net inputs (out ∷ []) (inl same))
+  cell_spot net (Latch input out kind control init) is same = spot_cell (Latch input out kind control init) is (inr (among_right net (control_names control) (out ∷ []) (inl same)))
 
   inst_spot : (net : List ℕ) (inst : Inst) → Among inst m.insts → (o : Option Model) → Among net (option_map_or (λ sub. actuals_bound_to sub.outputs inst.binds) o []) → Spot m net
   inst_spot net inst is None none = absurd none
-  inst_spot net inst is (Some sub) drives = let found = among-bound sub.outputs inst.binds net drives in spot_bind inst found.0 is found.1 found.3
+  inst_spot net inst is (Some sub) drives = let found = among_bound sub.outputs inst.binds net drives in spot_bind inst found.0 is found.1 found.3
 
   -- a driven net is named in the model
   driven_spot : (net : List ℕ) → Among net (data_inputs d m ++ inner_drivers d m) → Spot m net
@@ -97,9 +97,9 @@ module _ (d : Design) (judged : IsJudged d) (k : ℕ) (reached : IsReached d k) 
       let names = locals_named d m in
       let spot = occurs m net (driven_spot net (subst (Among net) names is)) in
       let once = ltb-false 1 (count_by (bytes_eq net) (port_drivers m ++ inner_drivers d m)) ((sound d judged.formed judged.order judged.ordered judged.known judged.pass k reached m here).once net spot) in
-      let total : count_by (bytes_eq net) (map net_of (locals d m)) ≡ count_by (bytes_eq net) (data_inputs d m) + count_by (bytes_eq net) (inner_drivers d m) = ap (count_by (bytes_eq net)) names ∙ count-append net (data_inputs d m) (inner_drivers d m) in
-      let a = count-append net (port_drivers m) (inner_drivers d m) in
-      let b = count-append net m.inputs (filter (λ net. not (is_among net m.inputs)) m.clocks) in
+      let total : count_by (bytes_eq net) (map net_of (locals d m)) ≡ count_by (bytes_eq net) (data_inputs d m) + count_by (bytes_eq net) (inner_drivers d m) = ap (count_by (bytes_eq net)) names ∙ count_append net (data_inputs d m) (inner_drivers d m) in
+      let a = count_append net (port_drivers m) (inner_drivers d m) in
+      let b = count_append net m.inputs (filter (λ net. not (is_among net m.inputs)) m.clocks) in
       let e = inputs_fewer d m net in
       omega arith
 
@@ -123,7 +123,7 @@ module _ (d : Design) (judged : IsJudged d) (k : ℕ) (reached : IsReached d k) 
       place = position_or_len (bytes_eq net) (map net_of (locals d m))
 
       there : Among {A = NetLocal} (net, one.0) (locals d m)
-      there = of_net-among net (locals d m) one.0 (subst (λ (ls : List (Local (List ℕ))). Among one.0 ls) (sym one.1) (inl refl))
+      there = of_net_among net (locals d m) one.0 (subst (λ (ls : List (Local (List ℕ))). Among one.0 ls) (sym one.1) (inl refl))
 
       name_at : option_map net_of (slice_get (locals d m) place) ≡ Some net
       name_at = sym (slice_get-map net_of (locals d m) place) ∙ position_get net (map net_of (locals d m)) (among-map net_of (net, one.0) (locals d m) there)

@@ -27,7 +27,7 @@ use Rattle.lid_elab.proofs.Clocking.{named_model}
 use Rattle.lid_elab.proofs.Shallow.{IsShallow}
 use Rattle.lid_elab.proofs.Numbering.{starts_at}
 use Rattle.lid_elab.proofs.Wired.{Sub}
-use Rattle.lid_elab.proofs.Single.{IsWiredLocal, wired_input, wired_latch, wired_cover, wired_output, wired_local, of_net-among, root_driven, inst_driven, actual_net}
+use Rattle.lid_elab.proofs.Single.{IsWiredLocal, wired_input, wired_latch, wired_cover, wired_output, wired_local, of_net_among, root_driven, inst_driven, actual_net}
 
 -- a name stands at its place
 pub position_get : (net : List ℕ) (names : List (List ℕ)) → Among net names → slice_get names (position_or_len (bytes_eq net) names) ≡ Some net
@@ -192,7 +192,7 @@ module _ (d : Design) (formed : IsWellFormed d) (order : List ℕ) (ordered : Is
 
     pub net_right : (around : Option (ℕ × List ℕ)) → FitsAround k path around → (net : List ℕ) → Among net (nets d m) → (l : Local (List ℕ)) → of_net net (locals d m) ≡ l ∷ [] → IsRight d (column path net) (placed (start_of d path) offsets around (numbered d k l))
     net_right around fits net among l one =
-        wired_right around fits net among l one (wired_local d formed order ordered known pass k reached m here net l (of_net-among net (locals d m) l (subst (λ (ls : List (Local (List ℕ))). Among l ls) (sym one) (inl refl))))
+        wired_right around fits net among l one (wired_local d formed order ordered known pass k reached m here net l (of_net_among net (locals d m) l (subst (λ (ls : List (Local (List ℕ))). Among l ls) (sym one) (inl refl))))
 
     -- all numbers are small
     module _ (most : length (columns d) ≤ 1048576) where
@@ -244,4 +244,4 @@ module _ (d : Design) (formed : IsWellFormed d) (order : List ℕ) (ordered : Is
           small_output around i (option_map_or (λ j. place_in d j formal) (instance_number d i k) 0) below (omega arith) (omega arith)
 
       pub net_small : (around : Option (ℕ × List ℕ)) → FitsAround k path around → (net : List ℕ) (l : Local (List ℕ)) → of_net net (locals d m) ≡ l ∷ [] → IsSmall offsets around (numbered d k l)
-      net_small around fits net l one = small_wired around fits net l (wired_local d formed order ordered known pass k reached m here net l (of_net-among net (locals d m) l (subst (λ (ls : List (Local (List ℕ))). Among l ls) (sym one) (inl refl))))
+      net_small around fits net l one = small_wired around fits net l (wired_local d formed order ordered known pass k reached m here net l (of_net_among net (locals d m) l (subst (λ (ls : List (Local (List ℕ))). Among l ls) (sym one) (inl refl))))

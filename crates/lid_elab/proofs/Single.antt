@@ -21,14 +21,14 @@ use Rattle.lid_design.specs.Walks.{Among}
 use Rattle.lid_design.specs.Models.{occurrences, nets, port_drivers, inner_drivers, driver_names, read_by, read_names, actuals_bound_to, number_from, IsReached}
 use Rattle.lid_rules.specs.Conditions.{formals, formal_of}
 use Rattle.lid_rules.specs.Acceptance.{ModelsPass}
-use Rattle.lid_names.proofs.Lists.{is_among-append, count-append}
+use Rattle.lid_names.proofs.Lists.{is_among_append, count_append}
 use Rattle.lid_hierarchy.specs.Surveys.{IsModelOrder, AreKnown}
 use Rattle.lid_elab.specs.Locals.{Local, local_input, local_latch, local_cover, local_connection, NetLocal, inputs_from, local_of, output_of, outputs_of, inner_locals, locals, of_net, driver_at, driver_in, bound_pairs, first_name_of, actual_for}
-use Rattle.lid_elab.proofs.Names.{same_bytes, to_among, from_among, among-append, filter-among, map-among, flat-among, get-among, enumerate-among, count-cons, count-some}
+use Rattle.lid_elab.proofs.Names.{same_bytes, to_among, from_among, among-append, filter-among, map-among, flat-among, get-among, enumerate-among, count-cons, count_some}
 use Rattle.lid_elab.proofs.Passing.{IsSoundInst}
-use Rattle.lid_elab.proofs.Clocking.{or_left, own_clock, model_at-number}
-use Rattle.lid_elab.proofs.Locals.{net_of, of_net-append, of_net-count, locals_named, inputs_named, inputs_seen, inner_seen}
-use Rattle.lid_elab.proofs.Wired.{true_not_false, or_cases, bound-among, data_input, Sub, sub_of, sound, cell_read, inst_read, output_read, read_is_net, net_free, driven_net}
+use Rattle.lid_elab.proofs.Clocking.{or_left, own_clock, model_at_number}
+use Rattle.lid_elab.proofs.Locals.{net_of, of_net_append, of_net_count, locals_named, inputs_named, inputs_seen, inner_seen}
+use Rattle.lid_elab.proofs.Wired.{true_not_false, or_cases, bound_among, data_input, Sub, sub_of, sound, cell_read, inst_read, output_read, read_is_net, net_free, driven_net}
 
 single : {A : Type 0} (xs : List A) → length xs ≡ 1 → (x : A) × (xs ≡ x ∷ [])
 single [] h = absurd (omega arith)
@@ -49,9 +49,9 @@ one_of_two {A} (y ∷ []) ys x h = by ys h
     by (z ∷ zs) h = absurd (let n : length (y ∷ z ∷ zs) ≡ length (x ∷ []) = ap length h in omega arith)
 one_of_two (y ∷ z ∷ xs) ys x h = absurd (let n : length (y ∷ z ∷ xs ++ ys) ≡ length (x ∷ []) = ap length h in omega arith)
 
-count-filter : (p : List ℕ → Bool) (x : List ℕ) (xs : List (List ℕ)) → count_by (bytes_eq x) (filter p xs) ≤ count_by (bytes_eq x) xs
-count-filter p x [] = omega arith
-count-filter p x (y ∷ ys) = by (p y) (count-filter p x ys)
+count_filter : (p : List ℕ → Bool) (x : List ℕ) (xs : List (List ℕ)) → count_by (bytes_eq x) (filter p xs) ≤ count_by (bytes_eq x) xs
+count_filter p x [] = omega arith
+count_filter p x (y ∷ ys) = by (p y) (count_filter p x ys)
   where
     by : (b : Bool) → count_by (bytes_eq x) (filter p ys) ≤ count_by (bytes_eq x) ys → count_by (bytes_eq x) (cond b (y ∷ filter p ys) (filter p ys)) ≤ count_by (bytes_eq x) (y ∷ ys)
     by true le = let a = count-cons x y ys in let b = count-cons x y (filter p ys) in omega arith
@@ -59,11 +59,11 @@ count-filter p x (y ∷ ys) = by (p y) (count-filter p x ys)
 
 pub inputs_fewer : (d : Design) (m : Model) (net : List ℕ) → count_by (bytes_eq net) (data_inputs d m) ≤ count_by (bytes_eq net) m.inputs
 unfolding data_inputs
-inputs_fewer d m net = count-filter (λ net. not (is_clock d m net)) net m.inputs
+inputs_fewer d m net = count_filter (λ net. not (is_clock d m net)) net m.inputs
 
 -- what stands beside a name is one of a list
-pub of_net-among : {V : Type 0} (net : List ℕ) (ps : List (List ℕ × V)) (v : V) → Among v (of_net net ps) → Among (net, v) ps
-of_net-among {V} net ps v among = by found.0 (bytes_eq found.0.0 net) refl found.1 found.2
+pub of_net_among : {V : Type 0} (net : List ℕ) (ps : List (List ℕ × V)) (v : V) → Among v (of_net net ps) → Among (net, v) ps
+of_net_among {V} net ps v among = by found.0 (bytes_eq found.0.0 net) refl found.1 found.2
   where
     found : (p : List ℕ × V) × Among p ps × Among v (cond (bytes_eq p.0 net) (p.1 ∷ []) [])
     found = flat-among (λ p. cond (bytes_eq p.0 net) (p.1 ∷ []) []) v ps among
@@ -75,12 +75,12 @@ of_net-among {V} net ps v among = by found.0 (bytes_eq found.0.0 net) refl found
     by p true e is (inr none) = absurd none
     by p false e is none = absurd none
 
-inputs_from-among : (k : ℕ) (names : List (List ℕ)) (net : List ℕ) (l : Local (List ℕ)) → Among (net, l) (inputs_from k names) → (j : ℕ) × (l ≡ local_input (k + j)) × (slice_get names j ≡ Some net)
-inputs_from-among k [] net l none = absurd none
-inputs_from-among k (name ∷ names) net l (inl eq) =
+inputs_from_among : (k : ℕ) (names : List (List ℕ)) (net : List ℕ) (l : Local (List ℕ)) → Among (net, l) (inputs_from k names) → (j : ℕ) × (l ≡ local_input (k + j)) × (slice_get names j ≡ Some net)
+inputs_from_among k [] net l none = absurd none
+inputs_from_among k (name ∷ names) net l (inl eq) =
     (zero, ap (λ (p : NetLocal). p.1) eq ∙ ap local_input (sym (add-zero k)), ap (λ (p : NetLocal). Some p.0) (sym eq))
-inputs_from-among k (name ∷ names) net l (inr later) =
-    let found = inputs_from-among (k + 1) names net l later in
+inputs_from_among k (name ∷ names) net l (inr later) =
+    let found = inputs_from_among (k + 1) names net l later in
     let number : (k + 1) + found.0 ≡ k + suc found.0 = omega arith in
     (suc found.0, found.1 ∙ ap local_input number, found.2)
 
@@ -146,7 +146,7 @@ module _ (d : Design) (formed : IsWellFormed d) (order : List ℕ) (ordered : Is
   module _ (k : ℕ) (reached : IsReached d k) (m : Model) (here : slice_get d.models k ≡ Some m) where
     pub exactly_one : (net : List ℕ) → Among net (nets d m) → (l : Local (List ℕ)) × (of_net net (locals d m) ≡ l ∷ [])
     unfolding driver_names
-    exactly_one net among = single (of_net net (locals d m)) (by (or_cases (is_among net (port_drivers m)) (is_among net (inner_drivers d m)) (sym (is_among-append net (port_drivers m) (inner_drivers d m)) ∙ driven_net d formed order ordered known pass k reached m here net free.0 free.1)))
+    exactly_one net among = single (of_net net (locals d m)) (by (or_cases (is_among net (port_drivers m)) (is_among net (inner_drivers d m)) (sym (is_among_append net (port_drivers m) (inner_drivers d m)) ∙ driven_net d formed order ordered known pass k reached m here net free.0 free.1)))
       where
         free : Among net (occurrences m) × (is_clock d m net ≡ false)
         free = net_free d formed order ordered known pass k reached m here net among
@@ -158,7 +158,7 @@ module _ (d : Design) (formed : IsWellFormed d) (order : List ℕ) (ordered : Is
         count ns = count_by (bytes_eq net) ns
 
         total : length (of_net net (locals d m)) ≡ count (data_inputs d m) + count (inner_drivers d m)
-        total = of_net-count net (locals d m) ∙ ap (count_by (bytes_eq net)) (locals_named d m) ∙ count-append net (data_inputs d m) (inner_drivers d m)
+        total = of_net_count net (locals d m) ∙ ap (count_by (bytes_eq net)) (locals_named d m) ∙ count_append net (data_inputs d m) (inner_drivers d m)
 
         least : count (data_inputs d m) ≤ count m.inputs
         least = inputs_fewer d m net
@@ -166,8 +166,8 @@ module _ (d : Design) (formed : IsWellFormed d) (order : List ℕ) (ordered : Is
         most : (count m.inputs + count clocks) + count (inner_drivers d m) ≤ 1
         most =
             let once = ltb-false 1 (count (port_drivers m ++ inner_drivers d m)) ((sound d formed order ordered known pass k reached m here).once net free.0) in
-            let a = count-append net (port_drivers m) (inner_drivers d m) in
-            let b = count-append net m.inputs clocks in
+            let a = count_append net (port_drivers m) (inner_drivers d m) in
+            let b = count_append net m.inputs clocks in
             omega arith
 
         at_least : 1 ≤ count (data_inputs d m) ⊎ 1 ≤ count (inner_drivers d m) → length (of_net net (locals d m)) ≡ 1
@@ -175,14 +175,14 @@ module _ (d : Design) (formed : IsWellFormed d) (order : List ℕ) (ordered : Is
         at_least (inr some) = let a = total in let b = least in let c = most in omega arith
 
         from_port : (is_among net m.inputs ≡ true) ⊎ (is_among net clocks ≡ true) → length (of_net net (locals d m)) ≡ 1
-        from_port (inl is) = at_least (inl (count-some net (data_inputs d m) (from_among net (data_inputs d m) (data_input d m net free.1 (to_among net m.inputs is)))))
+        from_port (inl is) = at_least (inl (count_some net (data_inputs d m) (from_among net (data_inputs d m) (data_input d m net free.1 (to_among net m.inputs is)))))
         from_port (inr is) =
             let clock = filter-among (λ net. not (is_among net m.inputs)) net m.clocks (to_among net clocks is) in
             true_not_false (is_clock d m net) (own_clock d m net (or_left (is_among net m.clocks) _ (from_among net m.clocks clock.0))) free.1
 
         by : (is_among net (port_drivers m) ≡ true) ⊎ (is_among net (inner_drivers d m) ≡ true) → length (of_net net (locals d m)) ≡ 1
-        by (inl port) = from_port (or_cases (is_among net m.inputs) (is_among net clocks) (sym (is_among-append net m.inputs clocks) ∙ port))
-        by (inr inner) = at_least (inr (count-some net (inner_drivers d m) inner))
+        by (inl port) = from_port (or_cases (is_among net m.inputs) (is_among net clocks) (sym (is_among_append net m.inputs clocks) ∙ port))
+        by (inr inner) = at_least (inr (count_some net (inner_drivers d m) inner))
 
     -- what a driver reads are nets
     pub wired_local : (net : List ℕ) (l : Local (List ℕ)) → Among {A = NetLocal} (net, l) (locals d m) → IsWiredLocal m net l
@@ -221,15 +221,15 @@ module _ (d : Design) (formed : IsWellFormed d) (order : List ℕ) (ordered : Is
 
         by : Among {A = NetLocal} (net, l) (inputs_from 0 (data_inputs d m)) ⊎ Among {A = NetLocal} (net, l) (inner_locals d m) → IsWiredLocal m net l
         by (inl input) =
-            let found = inputs_from-among 0 (data_inputs d m) net l input in
+            let found = inputs_from_among 0 (data_inputs d m) net l input in
             subst (IsWiredLocal m net) (sym (found.1 ∙ ap local_input (zero-add found.0))) (wired_input found.0 found.2)
         by (inr inner) = of_inner (among-append (net, l) (map local_of m.cells) (flat_map (outputs_of d) (enumerate_from 0 m.insts)) inner)
 
     -- what drives a column
-    pub drivers-at : (path : List ℕ) → number_from d d.root path ≡ Some k → (net : List ℕ) → is_clock d m net ≡ false → drivers d (column path net) ≡ port_at d m path net ++ map (driver_at path) (of_net net (inner_locals d m))
+    pub drivers_at : (path : List ℕ) → number_from d d.root path ≡ Some k → (net : List ℕ) → is_clock d m net ≡ false → drivers d (column path net) ≡ port_at d m path net ++ map (driver_at path) (of_net net (inner_locals d m))
     unfolding drivers
-    drivers-at path leads net free =
-        ap (λ (o : Option Model). option_map_or (drivers_in d path net) o []) (model_at-number d path ∙ ap (option_and_then (slice_get d.models)) leads ∙ here)
+    drivers_at path leads net free =
+        ap (λ (o : Option Model). option_map_or (drivers_in d path net) o []) (model_at_number d path ∙ ap (option_and_then (slice_get d.models)) leads ∙ here)
         ∙ ap (λ (b : Bool). cond b [] ((port_at d m path net ++ flat_map (cell_at path net) m.cells) ++ flat_map (output_at d path net) (enumerate_from 0 m.insts))) free
         ∙ append_assoc (port_at d m path net) (flat_map (cell_at path net) m.cells) (flat_map (output_at d path net) (enumerate_from 0 m.insts))
         ∙ ap (λ (ss : List (Driver Column)). port_at d m path net ++ ss) (inner_seen d path net m)
@@ -241,10 +241,10 @@ module _ (d : Design) (formed : IsWellFormed d) (order : List ℕ) (ordered : Is
         let free = net_free d formed order ordered known pass k reached m here net among in
         let inputs = of_net net (inputs_from 0 (data_inputs d m)) in
         let inner = of_net net (inner_locals d m) in
-        drivers-at [] leads net free.1
+        drivers_at [] leads net free.1
         ∙ ap (λ (ss : List (Driver Column)). ss ++ map (driver_at []) inner) (inputs_seen net 0 (data_inputs d m))
         ∙ sym (map-append (driver_at []) inputs inner)
-        ∙ ap (map (driver_at [])) (sym (of_net-append net (inputs_from 0 (data_inputs d m)) (inner_locals d m)) ∙ one)
+        ∙ ap (map (driver_at [])) (sym (of_net_append net (inputs_from 0 (data_inputs d m)) (inner_locals d m)) ∙ one)
 
   -- the net that a data input of an instance is bound to
   module _ (k : ℕ) (reached : IsReached d k) (m : Model) (here : slice_get d.models k ≡ Some m) (i : ℕ) (inst : Inst) (at : slice_get m.insts i ≡ Some inst) (sub : Sub d inst) where
@@ -262,8 +262,8 @@ module _ (d : Design) (formed : IsWellFormed d) (order : List ℕ) (ordered : Is
 
         total : length (of_net formal (bound_pairs inst)) ≡ 1
         total =
-            let whole : length (of_net formal (bound_pairs inst)) ≡ count = of_net-count formal (bound_pairs inst) ∙ ap (count_by (bytes_eq formal)) (pairs_named inst.binds) in
-            let least : 1 ≤ count = count-some formal (formals inst) bound in
+            let whole : length (of_net formal (bound_pairs inst)) ≡ count = of_net_count formal (bound_pairs inst) ∙ ap (count_by (bytes_eq formal)) (pairs_named inst.binds) in
+            let least : 1 ≤ count = count_some formal (formals inst) bound in
             let most : count ≤ 1 = ltb-false 1 count (judged.once formal (to_among formal (formals inst) bound)) in
             omega arith
 
@@ -275,7 +275,7 @@ module _ (d : Design) (formed : IsWellFormed d) (order : List ℕ) (ordered : Is
     actual_net formal input = read_is_net d formed order ordered known pass k reached m here (actual_for inst formal) (inst_read d formed order ordered known pass k reached m here (actual_for inst formal) inst (get-among m.insts i inst at) read)
       where
         pair_in : Among {A = List ℕ × List ℕ} (formal, actual_for inst formal) (bound_pairs inst)
-        pair_in = of_net-among formal (bound_pairs inst) (actual_for inst formal) (subst (λ (ns : List (List ℕ)). Among (actual_for inst formal) ns) (sym (bound_once formal input)) (inl refl))
+        pair_in = of_net_among formal (bound_pairs inst) (actual_for inst formal) (subst (λ (ns : List (List ℕ)). Among (actual_for inst formal) ns) (sym (bound_once formal input)) (inl refl))
 
         found : (b : Bind) × Among b inst.binds × (◌≡◌ {A = List ℕ × List ℕ} (formal, actual_for inst formal) (b.formal, b.actual))
         found = map-among (λ (b : Bind). (b.formal, b.actual)) (formal, actual_for inst formal) inst.binds pair_in
@@ -284,7 +284,7 @@ module _ (d : Design) (formed : IsWellFormed d) (order : List ℕ) (ordered : Is
         in_inputs = from_among found.0.formal (data_inputs d sub.model) (subst (λ (n : List ℕ). Among n (data_inputs d sub.model)) (ap (λ (p : List ℕ × List ℕ). p.0) found.2) input)
 
         drawn : Among (actual_for inst formal) (actuals_bound_to (data_inputs d sub.model) inst.binds)
-        drawn = subst (λ (n : List ℕ). Among n (actuals_bound_to (data_inputs d sub.model) inst.binds)) (sym (ap (λ (p : List ℕ × List ℕ). p.1) found.2)) (bound-among (data_inputs d sub.model) inst.binds found.0 found.1 in_inputs)
+        drawn = subst (λ (n : List ℕ). Among n (actuals_bound_to (data_inputs d sub.model) inst.binds)) (sym (ap (λ (p : List ℕ × List ℕ). p.1) found.2)) (bound_among (data_inputs d sub.model) inst.binds found.0 found.1 in_inputs)
 
         read : Among (actual_for inst formal) (read_by d inst)
         read = subst (λ (o : Option Model). Among (actual_for inst formal) (option_map_or (λ m. actuals_bound_to (data_inputs d m) inst.binds) o [])) (sym sub.named) drawn
@@ -292,7 +292,7 @@ module _ (d : Design) (formed : IsWellFormed d) (order : List ℕ) (ordered : Is
     -- in an instance
     pub inst_driven : (path : List ℕ) → number_from d d.root path ≡ Some k → number_from d d.root (i ∷ path) ≡ Some sub.number → (net : List ℕ) → Among net (nets d sub.model) → (l : Local (List ℕ)) → of_net net (locals d sub.model) ≡ l ∷ [] → drivers d (column (i ∷ path) net) ≡ driver_in path i inst (data_inputs d sub.model) l ∷ []
     unfolding locals
-    inst_driven path leads inner_leads net among l one = by (one_of_two inputs inner l (sym (of_net-append net (inputs_from 0 (data_inputs d sub.model)) (inner_locals d sub.model)) ∙ one))
+    inst_driven path leads inner_leads net among l one = by (one_of_two inputs inner l (sym (of_net_append net (inputs_from 0 (data_inputs d sub.model)) (inner_locals d sub.model)) ∙ one))
       where
         inputs : List (Local (List ℕ))
         inputs = of_net net (inputs_from 0 (data_inputs d sub.model))
@@ -304,17 +304,17 @@ module _ (d : Design) (formed : IsWellFormed d) (order : List ℕ) (ordered : Is
         free = (net_free d formed order ordered known pass sub.number sub.reached sub.model sub.there net among).1
 
         start : drivers d (column (i ∷ path) net) ≡ port_at d sub.model (i ∷ path) net ++ map (driver_at (i ∷ path)) inner
-        start = drivers-at sub.number sub.reached sub.model sub.there (i ∷ path) inner_leads net free
+        start = drivers_at sub.number sub.reached sub.model sub.there (i ∷ path) inner_leads net free
 
         around : option_and_then (λ (m : Model). slice_get m.insts i) (model_at d path) ≡ Some inst
-        around = ap (option_and_then (λ (m : Model). slice_get m.insts i)) (model_at-number d path ∙ ap (option_and_then (slice_get d.models)) leads ∙ here) ∙ at
+        around = ap (option_and_then (λ (m : Model). slice_get m.insts i)) (model_at_number d path ∙ ap (option_and_then (slice_get d.models)) leads ∙ here) ∙ at
 
         port_of : (b : Bool) → is_among net sub.model.inputs ≡ b → port_at d sub.model (i ∷ path) net ≡ cond b (actuals_of path net inst) []
         port_of b e = ap (λ (c : Bool). cond c (option_map_or (actuals_of path net) (option_and_then (λ (m : Model). slice_get m.insts i) (model_at d path)) []) []) e ∙ ap (λ (o : Option Inst). cond b (option_map_or (actuals_of path net) o []) []) around
 
         in_first : (inputs ≡ l ∷ []) × (inner ≡ []) → drivers d (column (i ∷ path) net) ≡ driver_in path i inst (data_inputs d sub.model) l ∷ []
         in_first (mine, none) =
-            let found = inputs_from-among 0 (data_inputs d sub.model) net l (of_net-among net (inputs_from 0 (data_inputs d sub.model)) l (subst (λ (ls : List (Local (List ℕ))). Among l ls) (sym mine) (inl refl))) in
+            let found = inputs_from_among 0 (data_inputs d sub.model) net l (of_net_among net (inputs_from 0 (data_inputs d sub.model)) l (subst (λ (ls : List (Local (List ℕ))). Among l ls) (sym mine) (inl refl))) in
             let input : Among net (data_inputs d sub.model) = get-among (data_inputs d sub.model) found.0 net found.2 in
             let is_input : l ≡ local_input found.0 = found.1 ∙ ap local_input (zero-add found.0) in
             let name : slice_index_or (data_inputs d sub.model) found.0 [] ≡ net = get_or_from_slice_get (data_inputs d sub.model) found.0 net [] found.2 in
@@ -331,8 +331,8 @@ module _ (d : Design) (formed : IsWellFormed d) (order : List ℕ) (ordered : Is
         not_input false e none = e
         not_input true e none =
             let input = data_input d sub.model net free (to_among net sub.model.inputs e) in
-            let some = count-some net (data_inputs d sub.model) (from_among net (data_inputs d sub.model) input) in
-            let counted : length inputs ≡ count_by (bytes_eq net) (data_inputs d sub.model) = of_net-count net (inputs_from 0 (data_inputs d sub.model)) ∙ ap (count_by (bytes_eq net)) (inputs_named 0 (data_inputs d sub.model)) in
+            let some = count_some net (data_inputs d sub.model) (from_among net (data_inputs d sub.model) input) in
+            let counted : length inputs ≡ count_by (bytes_eq net) (data_inputs d sub.model) = of_net_count net (inputs_from 0 (data_inputs d sub.model)) ∙ ap (count_by (bytes_eq net)) (inputs_named 0 (data_inputs d sub.model)) in
             let empty : length inputs ≡ 0 = ap length none in
             absurd (omega arith)
 
@@ -347,7 +347,7 @@ module _ (d : Design) (formed : IsWellFormed d) (order : List ℕ) (ordered : Is
             start
             ∙ ap (λ (ss : List (Driver Column)). ss ++ map (driver_at (i ∷ path)) inner) (port_of false (not_input (is_among net sub.model.inputs) refl none))
             ∙ ap (map (driver_at (i ∷ path))) mine
-            ∙ ap (λ (s : Driver Column). s ∷ []) (as_driver l (of_net-among net (inner_locals d sub.model) l (subst (λ (ls : List (Local (List ℕ))). Among l ls) (sym mine) (inl refl))))
+            ∙ ap (λ (s : Driver Column). s ∷ []) (as_driver l (of_net_among net (inner_locals d sub.model) l (subst (λ (ls : List (Local (List ℕ))). Among l ls) (sym mine) (inl refl))))
 
         by : ((inputs ≡ l ∷ []) × (inner ≡ [])) ⊎ ((inputs ≡ []) × (inner ≡ l ∷ [])) → drivers d (column (i ∷ path) net) ≡ driver_in path i inst (data_inputs d sub.model) l ∷ []
         by (inl first) = in_first first

@@ -14,12 +14,12 @@ use Rattle.lid_elab.specs.Writing.{IsAt, AreNext, weights}
 use Rattle.lid_elab.specs.declared.writing.Place.{Place}
 use Rattle.lid_elab.proofs.Names.{get-among}
 use Rattle.lid_elab.proofs.Shallow.{IsShallow}
-use Rattle.lid_elab.proofs.Numbering.{over-same, size-same, columns-length}
+use Rattle.lid_elab.proofs.Numbering.{over_same, size_same, columns_length}
 
 module _ (d : Design) where
-  weight-same : (n k : ℕ) → IsShallow d n k → weight_within n d k ≡ weight_within (suc n) d k
-  weight-same zero k none = absurd none
-  weight-same (suc n) k deep = ap (λ (w : ℕ). 1 + w) (over-same d (weight_within n d) (weight_within (suc n) d) (insts_of d k) (λ i j names. weight-same n j (deep i j names)))
+  weight_same : (n k : ℕ) → IsShallow d n k → weight_within n d k ≡ weight_within (suc n) d k
+  weight_same zero k none = absurd none
+  weight_same (suc n) k deep = ap (λ (w : ℕ). 1 + w) (over_same d (weight_within n d) (weight_within (suc n) d) (insts_of d k) (λ i j names. weight_same n j (deep i j names)))
 
   -- the sums of a model by those of its instances
   pub size_sum : (k : ℕ) → IsShallow d (length d.models) k → size_of d k ≡ length (model_nets d k) + over_insts d (size_of d) (insts_of d k)
@@ -31,7 +31,7 @@ module _ (d : Design) where
       by (suc n) e =
           let subs : IsShallow d (suc n) k = subst (λ (n : ℕ). IsShallow d n k) e deep in
           ap (λ (m : ℕ). size_within m d k) e
-          ∙ ap (λ (s : ℕ). length (model_nets d k) + s) (over-same d (size_within n d) (size_within (length d.models) d) (insts_of d k) (λ i j names. size-same d n j (subs i j names) ∙ ap (λ (m : ℕ). size_within m d j) (sym e)))
+          ∙ ap (λ (s : ℕ). length (model_nets d k) + s) (over_same d (size_within n d) (size_within (length d.models) d) (insts_of d k) (λ i j names. size_same d n j (subs i j names) ∙ ap (λ (m : ℕ). size_within m d j) (sym e)))
 
   pub weight_sum : (k : ℕ) → IsShallow d (length d.models) k → weight_of d k ≡ 1 + over_insts d (weight_of d) (insts_of d k)
   unfolding weight_of
@@ -42,19 +42,19 @@ module _ (d : Design) where
       by (suc n) e =
           let subs : IsShallow d (suc n) k = subst (λ (n : ℕ). IsShallow d n k) e deep in
           ap (λ (m : ℕ). weight_within m d k) e
-          ∙ ap (λ (s : ℕ). 1 + s) (over-same d (weight_within n d) (weight_within (length d.models) d) (insts_of d k) (λ i j names. weight-same n j (subs i j names) ∙ ap (λ (m : ℕ). weight_within m d j) (sym e)))
+          ∙ ap (λ (s : ℕ). 1 + s) (over_same d (weight_within n d) (weight_within (length d.models) d) (insts_of d k) (λ i j names. weight_same n j (subs i j names) ∙ ap (λ (m : ℕ). weight_within m d j) (sym e)))
 
-  over-next : (f : ℕ → ℕ) (insts : List Inst) (i j : ℕ) → option_and_then (λ inst. number_named d inst.model) (slice_get insts i) ≡ Some j → over_insts d f (take (suc i) insts) ≡ over_insts d f (take i insts) + f j
-  over-next f [] i j names = absurd (let e : None ≡ Some j = names in cc)
-  over-next f (x ∷ insts) zero j names =
+  over_next : (f : ℕ → ℕ) (insts : List Inst) (i j : ℕ) → option_and_then (λ inst. number_named d inst.model) (slice_get insts i) ≡ Some j → over_insts d f (take (suc i) insts) ≡ over_insts d f (take i insts) + f j
+  over_next f [] i j names = absurd (let e : None ≡ Some j = names in cc)
+  over_next f (x ∷ insts) zero j names =
       let e : option_map_or f (number_named d x.model) 0 ≡ f j = ap (λ (o : Option ℕ). option_map_or f o 0) names in
       omega arith
-  over-next f (x ∷ insts) (suc i) j names = let e = over-next f insts i j names in omega arith
+  over_next f (x ∷ insts) (suc i) j names = let e = over_next f insts i j names in omega arith
 
   pub over_more : (f : ℕ → ℕ) (k i j : ℕ) → instance_number d i k ≡ Some j → over_insts d f (take (i + 1) (insts_of d k)) ≡ over_insts d f (take i (insts_of d k)) + f j
   over_more f k i j names =
       let next : i + 1 ≡ suc i = omega arith in
-      ap (λ (n : ℕ). over_insts d f (take n (insts_of d k))) next ∙ over-next f (insts_of d k) i j names
+      ap (λ (n : ℕ). over_insts d f (take n (insts_of d k))) next ∙ over_next f (insts_of d k) i j names
 
   -- the place of an instance
   pub inst_at : (path : List ℕ) (p : Place) → IsAt d path p → (i j o : ℕ) → instance_number d i p.model ≡ Some j → o ≡ offset_of d p.model i → IsAt d (i ∷ path) (record { model = j; start = p.start + o; around = Some (record { model = p.model; start = p.start; inst = i }) })
@@ -88,4 +88,4 @@ module _ (d : Design) where
   -- the root comes first
   pub root_first : AreNext d 0 (record { model = d.root; start = 0; around = None } ∷ [])
   unfolding size_of columns places start_of number_from
-  root_first = (([], record { leads = refl; start = refl; outer = refl }), refl, zero-add (size_within (length d.models) d d.root) ∙ sym (columns-length d (length d.models) [] d.root))
+  root_first = (([], record { leads = refl; start = refl; outer = refl }), refl, zero-add (size_within (length d.models) d d.root) ∙ sym (columns_length d (length d.models) [] d.root))

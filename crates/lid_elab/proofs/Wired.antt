@@ -14,11 +14,11 @@ use Rattle.lid_design.specs.WellFormed.{IsWellFormed}
 use Rattle.lid_design.specs.Columns.{is_among, model_named, is_clocked_by, is_own_clock, is_clock, data_inputs}
 use Rattle.lid_design.specs.Walks.{Among}
 use Rattle.lid_design.specs.Models.{occurrences, firsts, nets, is_port, port_drivers, inner_drivers, driver_names, driven_by, read_by, read_names, cell_out, cell_reads, cell_names, control_names, actual_of, actual_names, actuals_bound_to, number_named, insts_of, instance_number, number_from, IsReached}
-use Rattle.lid_design.proofs.Tables.{among-left, among-right}
+use Rattle.lid_design.proofs.Tables.{among-left, among_right}
 use Rattle.lid_rules.specs.Conditions.{formals}
 use Rattle.lid_rules.specs.Acceptance.{ModelsPass}
 use Rattle.lid_hierarchy.specs.Surveys.{IsModelOrder, AreKnown}
-use Rattle.lid_elab.proofs.Names.{same_bytes, bytes_same, to_among, from_among, among-append, among-filter, filter-among, among-map, map-among, among-flat, flat-among, get-among}
+use Rattle.lid_elab.proofs.Names.{same_bytes, bytes_same, to_among, from_among, among-append, among-filter, filter-among, among-map, map-among, among_flat, flat-among, get-among}
 use Rattle.lid_elab.proofs.Passing.{IsSound, sound_model}
 use Rattle.lid_elab.proofs.Clocking.{or_left, or_right, any_true, own_clock, named_model, bound_clock, number_within}
 
@@ -41,10 +41,10 @@ pub or_cases : (a b : Bool) → (a || b) ≡ true → (a ≡ true) ⊎ (b ≡ tr
 or_cases true b h = inl refl
 or_cases false b h = inr h
 
-pub firsts-among : (x : List ℕ) (xs : List (List ℕ)) → Among x xs → Among x (firsts xs)
-firsts-among x [] among = absurd among
-firsts-among x (y ∷ ys) (inl same) = inl same
-firsts-among x (y ∷ ys) (inr later) = by (bytes_eq x y) refl (firsts-among x ys later)
+pub firsts_among : (x : List ℕ) (xs : List (List ℕ)) → Among x xs → Among x (firsts xs)
+firsts_among x [] among = absurd among
+firsts_among x (y ∷ ys) (inl same) = inl same
+firsts_among x (y ∷ ys) (inr later) = by (bytes_eq x y) refl (firsts_among x ys later)
   where
     by : (b : Bool) → bytes_eq x y ≡ b → Among x (firsts ys) → Among x (firsts (y ∷ ys))
     by true e next = inl (same_bytes x y e)
@@ -111,18 +111,18 @@ occurs m net spot = by spot
 
     by : Spot m net → Among net (past_cells m ++ flat_map actual_names m.insts)
     by (spot_input here) = from_ports (among-left net (ports m) m.clocks (among-left net m.inputs m.outputs here))
-    by (spot_output here) = from_ports (among-left net (ports m) m.clocks (among-right net m.inputs m.outputs here))
-    by (spot_clock here) = from_ports (among-right net (ports m) m.clocks here)
-    by (spot_cell cell among named) = from_cells (among-right net (all_ports m) (flat_map cell_names m.cells) (among-flat cell_names cell net m.cells among named))
+    by (spot_output here) = from_ports (among-left net (ports m) m.clocks (among_right net m.inputs m.outputs here))
+    by (spot_clock here) = from_ports (among_right net (ports m) m.clocks here)
+    by (spot_cell cell among named) = from_cells (among_right net (all_ports m) (flat_map cell_names m.cells) (among_flat cell_names cell net m.cells among named))
     by (spot_bind inst b among bound same) =
         let here : Among net (actual_names inst) = subst (λ (n : List ℕ). Among n (actual_names inst)) (sym same) (among-map actual_of b inst.binds bound) in
-        among-right net (past_cells m) (flat_map actual_names m.insts) (among-flat actual_names inst net m.insts among here)
+        among_right net (past_cells m) (flat_map actual_names m.insts) (among_flat actual_names inst net m.insts among here)
 
-pub bound-among : (formals : List (List ℕ)) (binds : List Bind) (b : Bind) → Among b binds → is_among b.formal formals ≡ true → Among b.actual (actuals_bound_to formals binds)
-bound-among formals binds b bound formal = among-map actual_of b (filter (λ b. is_among b.formal formals) binds) (among-filter (λ b. is_among b.formal formals) b binds bound formal)
+pub bound_among : (formals : List (List ℕ)) (binds : List Bind) (b : Bind) → Among b binds → is_among b.formal formals ≡ true → Among b.actual (actuals_bound_to formals binds)
+bound_among formals binds b bound formal = among-map actual_of b (filter (λ b. is_among b.formal formals) binds) (among-filter (λ b. is_among b.formal formals) b binds bound formal)
 
-pub among-bound : (formals : List (List ℕ)) (binds : List Bind) (net : List ℕ) → Among net (actuals_bound_to formals binds) → (b : Bind) × Among b binds × (is_among b.formal formals ≡ true) × (net ≡ b.actual)
-among-bound formals binds net among =
+pub among_bound : (formals : List (List ℕ)) (binds : List Bind) (net : List ℕ) → Among net (actuals_bound_to formals binds) → (b : Bind) × Among b binds × (is_among b.formal formals ≡ true) × (net ≡ b.actual)
+among_bound formals binds net among =
     let found = map-among actual_of net (filter (λ b. is_among b.formal formals) binds) among in
     let kept = filter-among (λ b. is_among b.formal formals) found.0 binds found.1 in
     (found.0, kept.0, kept.1, found.2)
@@ -187,7 +187,7 @@ module _ (d : Design) (formed : IsWellFormed d) (order : List ℕ) (ordered : Is
 
         of_sub : (inst : Inst) → Among inst m.insts → (o : Option Model) → Among net (option_map_or (λ m. actuals_bound_to (data_inputs d m) inst.binds) o []) → Spot m net
         of_sub inst is None none = absurd none
-        of_sub inst is (Some sub) read = let found = among-bound (data_inputs d sub) inst.binds net read in spot_bind inst found.0 is found.1 found.3
+        of_sub inst is (Some sub) read = let found = among_bound (data_inputs d sub) inst.binds net read in spot_bind inst found.0 is found.1 found.3
 
         by2 : Among net (flat_map cell_reads m.cells) ⊎ Among net (flat_map (read_by d) m.insts) → Spot m net
         by2 (inl cells) = let found = flat-among cell_reads net m.cells cells in of_cell found.0 found.1 found.2
@@ -199,15 +199,15 @@ module _ (d : Design) (formed : IsWellFormed d) (order : List ℕ) (ordered : Is
 
     pub cell_read : (net : List ℕ) (cell : Cell) → Among cell m.cells → Among net (cell_reads cell) → Among net (read_names d m)
     unfolding read_names
-    cell_read net cell is read = among-left net (flat_map cell_reads m.cells ++ flat_map (read_by d) m.insts) m.outputs (among-left net (flat_map cell_reads m.cells) (flat_map (read_by d) m.insts) (among-flat cell_reads cell net m.cells is read))
+    cell_read net cell is read = among-left net (flat_map cell_reads m.cells ++ flat_map (read_by d) m.insts) m.outputs (among-left net (flat_map cell_reads m.cells) (flat_map (read_by d) m.insts) (among_flat cell_reads cell net m.cells is read))
 
     pub inst_read : (net : List ℕ) (inst : Inst) → Among inst m.insts → Among net (read_by d inst) → Among net (read_names d m)
     unfolding read_names
-    inst_read net inst is read = among-left net (flat_map cell_reads m.cells ++ flat_map (read_by d) m.insts) m.outputs (among-right net (flat_map cell_reads m.cells) (flat_map (read_by d) m.insts) (among-flat (read_by d) inst net m.insts is read))
+    inst_read net inst is read = among-left net (flat_map cell_reads m.cells ++ flat_map (read_by d) m.insts) m.outputs (among_right net (flat_map cell_reads m.cells) (flat_map (read_by d) m.insts) (among_flat (read_by d) inst net m.insts is read))
 
     pub output_read : (net : List ℕ) → Among net m.outputs → Among net (read_names d m)
     unfolding read_names
-    output_read net is = among-right net (flat_map cell_reads m.cells ++ flat_map (read_by d) m.insts) m.outputs is
+    output_read net is = among_right net (flat_map cell_reads m.cells ++ flat_map (read_by d) m.insts) m.outputs is
 
     -- what is read is a net
     pub read_is_net : (net : List ℕ) → Among net (read_names d m) → Among net (nets d m)
@@ -215,7 +215,7 @@ module _ (d : Design) (formed : IsWellFormed d) (order : List ℕ) (ordered : Is
     read_is_net net read =
         let spot = occurs m net (read_spot net read) in
         let free = misused_not (is_clock d m net) _ (is_among net (read_names d m)) (is_among net (inner_drivers d m)) (sound.clocks net spot) (from_among net (read_names d m) read) in
-        among-filter (λ net. not (is_clock d m net)) net (firsts (occurrences m)) (firsts-among net (occurrences m) spot) (ap not free)
+        among-filter (λ net. not (is_clock d m net)) net (firsts (occurrences m)) (firsts_among net (occurrences m) spot) (ap not free)
 
     pub net_free : (net : List ℕ) → Among net (nets d m) → Among net (occurrences m) × (is_clock d m net ≡ false)
     unfolding nets
@@ -229,7 +229,7 @@ module _ (d : Design) (formed : IsWellFormed d) (order : List ℕ) (ordered : Is
 
     pub net_from : (net : List ℕ) → Spot m net → is_clock d m net ≡ false → Among net (nets d m)
     unfolding nets
-    net_from net spot free = among-filter (λ net. not (is_clock d m net)) net (firsts (occurrences m)) (firsts-among net (occurrences m) (occurs m net spot)) (ap not free)
+    net_from net spot free = among-filter (λ net. not (is_clock d m net)) net (firsts (occurrences m)) (firsts_among net (occurrences m) (occurs m net spot)) (ap not free)
 
     -- a net is driven
     pub driven_net : (net : List ℕ) → Among net (occurrences m) → is_clock d m net ≡ false → is_among net (driver_names d m) ≡ true
@@ -243,7 +243,7 @@ module _ (d : Design) (formed : IsWellFormed d) (order : List ℕ) (ordered : Is
         from_read read = and_not (is_among net (read_names d m)) (is_among net (driver_names d m)) (sound.driven net among) (from_among net (read_names d m) read)
 
         inner : Among net (inner_drivers d m) → is_among net (driver_names d m) ≡ true
-        inner is = from_among net (driver_names d m) (among-right net (port_drivers m) (inner_drivers d m) is)
+        inner is = from_among net (driver_names d m) (among_right net (port_drivers m) (inner_drivers d m) is)
 
         from_cell : (cell : Cell) → Among cell m.cells → Among net (cell_names cell) → is_among net (driver_names d m) ≡ true
         from_cell (Names inputs out cover) is named = by_part (among-append net inputs (out ∷ []) named)
@@ -285,13 +285,13 @@ module _ (d : Design) (formed : IsWellFormed d) (order : List ℕ) (ordered : Is
             as_input true clock in_inputs = formal_clock clock
             as_input false clock in_inputs =
                 let as_data : Among b.formal (data_inputs d sub.model) = data_input d sub.model b.formal clock (to_among b.formal sub.model.inputs in_inputs) in
-                let read : Among b.actual (read_by d inst) = subst (λ (o : Option Model). Among b.actual (option_map_or (λ m. actuals_bound_to (data_inputs d m) inst.binds) o [])) (sym sub.named) (bound-among (data_inputs d sub.model) inst.binds b bound (from_among b.formal (data_inputs d sub.model) as_data)) in
+                let read : Among b.actual (read_by d inst) = subst (λ (o : Option Model). Among b.actual (option_map_or (λ m. actuals_bound_to (data_inputs d m) inst.binds) o [])) (sym sub.named) (bound_among (data_inputs d sub.model) inst.binds b bound (from_among b.formal (data_inputs d sub.model) as_data)) in
                 from_read (inst_read net inst is (subst (λ (n : List ℕ). Among n (read_by d inst)) (sym same) read))
 
             as_output : is_among b.formal sub.model.outputs ≡ true → is_among net (driver_names d m) ≡ true
             as_output out =
-                let drives : Among b.actual (driven_by d inst) = subst (λ (o : Option Model). Among b.actual (option_map_or (λ m. actuals_bound_to m.outputs inst.binds) o [])) (sym sub.named) (bound-among sub.model.outputs inst.binds b bound out) in
-                inner (among-right net (map cell_out m.cells) (flat_map (driven_by d) m.insts) (among-flat (driven_by d) inst net m.insts is (subst (λ (n : List ℕ). Among n (driven_by d inst)) (sym same) drives)))
+                let drives : Among b.actual (driven_by d inst) = subst (λ (o : Option Model). Among b.actual (option_map_or (λ m. actuals_bound_to m.outputs inst.binds) o [])) (sym sub.named) (bound_among sub.model.outputs inst.binds b bound out) in
+                inner (among_right net (map cell_out m.cells) (flat_map (driven_by d) m.insts) (among_flat (driven_by d) inst net m.insts is (subst (λ (n : List ℕ). Among n (driven_by d inst)) (sym same) drives)))
 
             by_rest : (is_among b.formal sub.model.outputs ≡ true) ⊎ (is_among b.formal sub.model.clocks ≡ true) → is_among net (driver_names d m) ≡ true
             by_rest (inl out) = as_output out

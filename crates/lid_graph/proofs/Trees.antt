@@ -5,7 +5,7 @@ use Rattle.std.proofs.lemmas.Bool.{cases_eq, cases_lt, eq-eqb, ne_eqb}
 use Rattle.lid_graph.specs.declared.graph.Graph.{Graph}
 use Rattle.lid_graph.specs.Walks.{edge_at, IsPaired, IsWalk, IsJoined, IsLeastJoined}
 use Rattle.lid_graph.specs.Forests.{IsForest, IsLabelled, relabel, merged, IsLinked}
-use Rattle.lid_graph.proofs.Journeys.{joined-step, joined-back}
+use Rattle.lid_graph.proofs.Journeys.{joined_step, joined_back}
 
 -- an entry of a list after a write: the new one at its place, the old ones elsewhere
 at_write : (p : List ℕ) (i x w : ℕ) (P : ℕ → Type 0) → i < length p → (w ≡ i → P x) → (w ≢ i → P (get_or p w 0)) → P (get_or (set p i x) w 0)
@@ -54,30 +54,30 @@ module _ (p : List ℕ) (label : ℕ → ℕ) (forest : IsForest p) (labelled : 
   pub label_own : (v : ℕ) → v < length p → label (label v) ≡ label v
   label_own v within = (label_below (suc v) v (omega arith) within).1
 
-relabel-same : (high low x : ℕ) → x ≡ high → relabel high low x ≡ low
-relabel-same high low x is = rw (eq-eqb x high is) refl
+relabel_same : (high low x : ℕ) → x ≡ high → relabel high low x ≡ low
+relabel_same high low x is = rw (eq-eqb x high is) refl
 
-relabel-other : (high low x : ℕ) → (x ≡ high → ⊥) → relabel high low x ≡ x
-relabel-other high low x other = rw (ne_eqb x high other) refl
+relabel_other : (high low x : ℕ) → (x ≡ high → ⊥) → relabel high low x ≡ x
+relabel_other high low x other = rw (ne_eqb x high other) refl
 
-relabel-low : (high low : ℕ) → relabel high low low ≡ low
-relabel-low high low = by_case (cases_eq low high)
+relabel_low : (high low : ℕ) → relabel high low low ≡ low
+relabel_low high low = by_case (cases_eq low high)
   where
     by_case : (low ≡ high) ⊎ (low ≡ high → ⊥) → relabel high low low ≡ low
-    by_case (inl is) = relabel-same high low low is
-    by_case (inr other) = relabel-other high low low other
+    by_case (inl is) = relabel_same high low low is
+    by_case (inr other) = relabel_other high low low other
 
 -- a root under a lesser one
 pub label_put : (p : List ℕ) (label : ℕ → ℕ) (high low : ℕ) → IsLabelled p label → high < length p → label high ≡ high → label low ≡ low → IsLabelled (set p high low) (λ w. relabel high low (label w))
 label_put p label high low labelled h own_high own_low = record {
   parent = λ w within. at_write p high low w (λ (y : ℕ). relabel high low (label y) ≡ relabel high low (label w)) h
-      (λ is. ap (relabel high low) own_low ∙ (relabel-low high low ∙ sym (relabel-same high low (label w) (ap label is ∙ own_high))))
+      (λ is. ap (relabel high low) own_low ∙ (relabel_low high low ∙ sym (relabel_same high low (label w) (ap label is ∙ own_high))))
       (λ other. ap (relabel high low) (labelled.parent w (omega (arith, length-set {A = ℕ}))));
   root = λ w within. at_write p high low w (λ (y : ℕ). y ≡ w → relabel high low (label w) ≡ w) h
-      (λ is e. relabel-same high low (label w) (ap label is ∙ own_high) ∙ e)
+      (λ is e. relabel_same high low (label w) (ap label is ∙ own_high) ∙ e)
       (λ other e.
       let own : label w ≡ w = labelled.root w (omega (arith, length-set {A = ℕ})) e in
-      relabel-other high low (label w) (λ same. other (sym own ∙ same)) ∙ own);
+      relabel_other high low (label w) (λ same. other (sym own ∙ same)) ∙ own);
 }
 
 -- the trees of u and v made one, by a write at the greater root
@@ -123,13 +123,13 @@ module _ (g : Graph) (paired : IsPaired g) (label : ℕ → ℕ) (i : ℕ) (with
   there = (i ∷ [], (within, refl, refl))
 
   back_from : (a b : ℕ) → IsJoined g a b → IsJoined g b a
-  back_from a b j = joined-back g paired j.0 a b j.1
+  back_from a b j = joined_back g paired j.0 a b j.1
 
   -- the roots of the two ends are joined
   across : ((w : ℕ) → w < g.nodes → IsJoined g w (label w)) → IsJoined g (label u) (label v)
   across joined =
-      joined-step g (label u) u (label v) (back_from u (label u) (joined u ((paired.ends i within).from)))
-      (joined-step g u v (label v) there (joined v ((paired.ends i within).to)))
+      joined_step g (label u) u (label v) (back_from u (label u) (joined u ((paired.ends i within).from)))
+      (joined_step g u v (label v) there (joined v ((paired.ends i within).to)))
 
   to_low : ((w : ℕ) → w < g.nodes → IsJoined g w (label w)) → (label u ≤ label v) ⊎ (label v ≤ label u) → IsJoined g (max (label u) (label v)) (min (label u) (label v))
   to_low joined (inl le) =
@@ -145,11 +145,11 @@ module _ (g : Graph) (paired : IsPaired g) (label : ℕ → ℕ) (i : ℕ) (with
   one_label (inl le) =
       let high : label v ≡ max (label u) (label v) = omega arith in
       let low : label u ≡ min (label u) (label v) = omega arith in
-      ap (relabel (max (label u) (label v)) (min (label u) (label v))) low ∙ (relabel-low (max (label u) (label v)) (min (label u) (label v)) ∙ sym (relabel-same (max (label u) (label v)) (min (label u) (label v)) (label v) high))
+      ap (relabel (max (label u) (label v)) (min (label u) (label v))) low ∙ (relabel_low (max (label u) (label v)) (min (label u) (label v)) ∙ sym (relabel_same (max (label u) (label v)) (min (label u) (label v)) (label v) high))
   one_label (inr le) =
       let high : label u ≡ max (label u) (label v) = omega arith in
       let low : label v ≡ min (label u) (label v) = omega arith in
-      relabel-same (max (label u) (label v)) (min (label u) (label v)) (label u) high ∙ (sym (relabel-low (max (label u) (label v)) (min (label u) (label v))) ∙ sym (ap (relabel (max (label u) (label v)) (min (label u) (label v))) low))
+      relabel_same (max (label u) (label v)) (min (label u) (label v)) (label u) high ∙ (sym (relabel_low (max (label u) (label v)) (min (label u) (label v))) ∙ sym (ap (relabel (max (label u) (label v)) (min (label u) (label v))) low))
 
   either : (label u ≤ label v) ⊎ (label v ≤ label u)
   either = by_order (cases_lt (label u) (label v))
@@ -167,10 +167,10 @@ module _ (g : Graph) (paired : IsPaired g) (label : ℕ → ℕ) (i : ℕ) (with
     where
       joined_label : (w : ℕ) → w < g.nodes → (label w ≡ max (label u) (label v)) ⊎ (label w ≡ max (label u) (label v) → ⊥) → IsJoined g w (merged label u v w)
       joined_label w h (inl is) =
-          subst (λ (x : ℕ). IsJoined g w x) (sym (relabel-same (max (label u) (label v)) (min (label u) (label v)) (label w) is))
-          (joined-step g w (max (label u) (label v)) (min (label u) (label v)) (subst (λ (x : ℕ). IsJoined g w x) is (linked.joined w h)) (to_low linked.joined either))
+          subst (λ (x : ℕ). IsJoined g w x) (sym (relabel_same (max (label u) (label v)) (min (label u) (label v)) (label w) is))
+          (joined_step g w (max (label u) (label v)) (min (label u) (label v)) (subst (λ (x : ℕ). IsJoined g w x) is (linked.joined w h)) (to_low linked.joined either))
       joined_label w h (inr other) =
-          subst (λ (x : ℕ). IsJoined g w x) (sym (relabel-other (max (label u) (label v)) (min (label u) (label v)) (label w) other)) (linked.joined w h)
+          subst (λ (x : ℕ). IsJoined g w x) (sym (relabel_other (max (label u) (label v)) (min (label u) (label v)) (label w) other)) (linked.joined w h)
 
       same_label : (k : ℕ) → (k < i) ⊎ (i ≤ k) → k < i + 1 → merged label u v (edge_at g k).from ≡ merged label u v (edge_at g k).to
       same_label k (inl l) h = ap (relabel (max (label u) (label v)) (min (label u) (label v))) (linked.same k l)

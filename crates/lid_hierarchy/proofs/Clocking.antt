@@ -9,7 +9,7 @@ use Rattle.lid_design.specs.Walks.{Among}
 use Rattle.lid_design.specs.Models.{instance_number, is_clock_of}
 use Rattle.lid_hierarchy.specs.Surveys.{StandsAfterItsModels, IsModelOrder}
 use Rattle.lid_hierarchy.specs.Clocks.{in_sets, HasClocks, HaveClocks}
-use Rattle.lid_hierarchy.proofs.Fixpoints.{clock_by-same, clock_fixpoint}
+use Rattle.lid_hierarchy.proofs.Fixpoints.{clock_by_same, clock_fixpoint}
 
 pub among-at : (xs : List ℕ) (i d : ℕ) → i < length xs → Among (get_or xs i d) xs
 among-at [] i d h = absurd (omega arith)
@@ -39,7 +39,7 @@ module _ (d : Design) (formed : IsWellFormed d) (order : List ℕ) (ordered : Is
   at_next net =
       ap (is_among net) here
       ∙ has net
-      ∙ clock_by-same d (in_sets old) (is_clock_of d) (get_or order i 0) (λ inst j formal names. subs inst j formal (earlier d [] order i 0 h ordered.after inst j names)) net
+      ∙ clock_by_same d (in_sets old) (is_clock_of d) (get_or order i 0) (λ inst j formal names. subs inst j formal (earlier d [] order i 0 h ordered.after inst j names)) net
       ∙ sym (clock_fixpoint d formed order ordered (get_or order i 0) (among-at order i 0 h) net)
     where
       subs : (inst j : ℕ) (formal : List ℕ) → ⊥ ⊎ Among j (take i order) → in_sets old j formal ≡ is_clock_of d j formal

@@ -4,7 +4,7 @@ use Rattle.std.specs.List.{AllByRecursion, IsDistinct}
 use Rattle.std.specs.Str.{bytes_eq}
 use Rattle.std.proofs.lemmas.Bool.{eqb-true, eq-eqb}
 use Rattle.lid_names.specs.Names.{firsts}
-use Rattle.lid_hierarchy.proofs.Numbers.{bytes_eq-comm, firsts_distinct}
+use Rattle.lid_hierarchy.proofs.Numbers.{bytes_eq_comm, firsts_distinct}
 use Rattle.lid_hierarchy.proofs.Listing.{differs}
 
 filter-short : (p : List ℕ → Bool) (xs : List (List ℕ)) → length (filter p xs) ≤ length xs
@@ -15,11 +15,11 @@ filter-short p (x ∷ xs) = by (p x) (filter-short p xs)
     by true h = omega arith
     by false h = omega arith
 
-firsts-short : (xs : List (List ℕ)) → length (firsts xs) ≤ length xs
-firsts-short [] = omega arith
-firsts-short (x ∷ xs) =
+firsts_short : (xs : List (List ℕ)) → length (firsts xs) ≤ length xs
+firsts_short [] = omega arith
+firsts_short (x ∷ xs) =
     let a = filter-short (differs x) (firsts xs) in
-    let b = firsts-short xs in
+    let b = firsts_short xs in
     omega arith
 
 all_kept : (p : List ℕ → Bool) (xs : List (List ℕ)) → length (filter p xs) ≡ length xs → AllByRecursion (λ y. p y ≡ true) xs
@@ -32,7 +32,7 @@ all_kept p (x ∷ xs) same = by (p x) refl same (filter-short p xs) (all_kept p 
 
 all_differ : (x : List ℕ) (xs : List (List ℕ)) → AllByRecursion (λ y. differs x y ≡ true) xs → AllByRecursion (λ y. bytes_eq x y ≡ false) xs
 all_differ x [] all = tt
-all_differ x (y ∷ ys) all = (bytes_eq-comm x y ∙ flipped (bytes_eq y x) all.0, all_differ x ys all.1)
+all_differ x (y ∷ ys) all = (bytes_eq_comm x y ∙ flipped (bytes_eq y x) all.0, all_differ x ys all.1)
   where
     flipped : (b : Bool) → not b ≡ true → b ≡ false
     flipped true e = cc
@@ -43,7 +43,7 @@ unfolding IsDistinct
 distinct_from_length [] same = tt
 distinct_from_length (x ∷ xs) same =
     let short = filter-short (differs x) (firsts xs) in
-    let fewer = firsts-short xs in
+    let fewer = firsts_short xs in
     let rest : IsDistinct bytes_eq xs = distinct_from_length xs (omega arith) in
     let whole : firsts xs ≡ xs = firsts_distinct xs rest in
     let kept : length (filter (differs x) xs) ≡ length xs = ap (λ (ys : List (List ℕ)). length (filter (differs x) ys)) (sym whole) ∙ let e = same in omega arith in

@@ -24,9 +24,9 @@ lt_suc k n = by (nat_lt k n) refl
     by false e = let h : n ≤ k = ltb-false k n e in le-ltb (suc k) (suc n) (omega arith)
 
 -- what is found is what stands at the first place
-pub find-position : {A : Type 0} (p : A → Bool) (xs : List A) → find p xs ≡ option_and_then (slice_get xs) (position p xs)
-find-position p [] = refl
-find-position {A} p (x ∷ xs) = by (p x) (find-position p xs)
+pub find_position : {A : Type 0} (p : A → Bool) (xs : List A) → find p xs ≡ option_and_then (slice_get xs) (position p xs)
+find_position p [] = refl
+find_position {A} p (x ∷ xs) = by (p x) (find_position p xs)
   where
     inner : (k : ℕ) → option_and_then (slice_get xs) (cond (nat_lt k (length xs)) (Some k) None) ≡ option_and_then (slice_get (x ∷ xs)) (cond (nat_lt (1 + k) (suc (length xs))) (Some (1 + k)) None)
     inner k = ap (λ (b : Bool). option_and_then (slice_get xs) (cond b (Some k) None)) (sym (lt_suc k (length xs))) ∙ pick (nat_lt (suc k) (suc (length xs))) ∙ ap (λ (n : ℕ). option_and_then (slice_get (x ∷ xs)) (cond (nat_lt n (suc (length xs))) (Some n) None)) (sym (one-add k))
@@ -47,34 +47,34 @@ and_false false = refl
 abbrev pub within : Design → ℕ → ℕ → List ℕ → Bool
 within d n k net = option_map_or (λ m. is_clock_within n d m net) (slice_get d.models k) false
 
-any-same : {A : Type 0} (p q : A → Bool) (xs : List A) → ((i : ℕ) (x : A) → slice_get xs i ≡ Some x → p x ≡ q x) → list_any p xs ≡ list_any q xs
-any-same p q [] same = refl
-any-same p q (x ∷ xs) same =
+any_same : {A : Type 0} (p q : A → Bool) (xs : List A) → ((i : ℕ) (x : A) → slice_get xs i ≡ Some x → p x ≡ q x) → list_any p xs ≡ list_any q xs
+any_same p q [] same = refl
+any_same p q (x ∷ xs) same =
     let head = same zero x refl in
-    let tail = any-same p q xs (λ i y e. same (suc i) y e) in
+    let tail = any_same p q xs (λ i y e. same (suc i) y e) in
     cc
 
-binds_to-same : (p q : List ℕ → Bool) (net : List ℕ) (binds : List Bind) → ((formal : List ℕ) → p formal ≡ q formal) → binds_to p net binds ≡ binds_to q net binds
-binds_to-same p q net binds same = any-same _ _ binds (λ i b e. ap (λ (v : Bool). bytes_eq b.actual net && v) (same b.formal))
+binds_to_same : (p q : List ℕ → Bool) (net : List ℕ) (binds : List Bind) → ((formal : List ℕ) → p formal ≡ q formal) → binds_to p net binds ≡ binds_to q net binds
+binds_to_same p q net binds same = any_same _ _ binds (λ i b e. ap (λ (v : Bool). bytes_eq b.actual net && v) (same b.formal))
 
 module _ (d : Design) where
   -- tests that agree on the models of the instances
-  pub clock_by-same : (p q : ℕ → List ℕ → Bool) (k : ℕ) → ((i j : ℕ) (formal : List ℕ) → instance_number d i k ≡ Some j → p j formal ≡ q j formal) → (net : List ℕ) → is_clock_by d p k net ≡ is_clock_by d q k net
-  clock_by-same p q k same net = by (slice_get d.models k) refl
+  pub clock_by_same : (p q : ℕ → List ℕ → Bool) (k : ℕ) → ((i j : ℕ) (formal : List ℕ) → instance_number d i k ≡ Some j → p j formal ≡ q j formal) → (net : List ℕ) → is_clock_by d p k net ≡ is_clock_by d q k net
+  clock_by_same p q k same net = by (slice_get d.models k) refl
     where
       of_inst : (m : Model) → slice_get d.models k ≡ Some m → (i : ℕ) (inst : Inst) → slice_get m.insts i ≡ Some inst → (o : Option ℕ) → number_named d inst.model ≡ o → option_map_or (λ j. binds_to (p j) net inst.binds) o false ≡ option_map_or (λ j. binds_to (q j) net inst.binds) o false
       of_inst m here i inst at None names = refl
       of_inst m here i inst at (Some j) names =
           let number : instance_number d i k ≡ Some j = ap (λ (o : Option Model). option_and_then (λ inst. number_named d inst.model) (slice_get (option_map_or (λ m. m.insts) o []) i)) here ∙ ap (option_and_then (λ inst. number_named d inst.model)) at ∙ names in
-          binds_to-same (p j) (q j) net inst.binds (λ formal. same i j formal number)
+          binds_to_same (p j) (q j) net inst.binds (λ formal. same i j formal number)
 
       by : (o : Option Model) → slice_get d.models k ≡ o → option_map_or (is_clock_in d p net) o false ≡ option_map_or (is_clock_in d q net) o false
       by None here = refl
-      by (Some m) here = ap (λ (b : Bool). is_own_clock m net || b) (any-same _ _ m.insts (λ i inst at. of_inst m here i inst at (number_named d inst.model) refl))
+      by (Some m) here = ap (λ (b : Bool). is_own_clock m net || b) (any_same _ _ m.insts (λ i inst at. of_inst m here i inst at (number_named d inst.model) refl))
 
   -- one step into instances
-  within-step : (n k : ℕ) (net : List ℕ) → within d (suc n) k net ≡ is_clock_by d (within d n) k net
-  within-step n k net = by (slice_get d.models k)
+  within_step : (n k : ℕ) (net : List ℕ) → within d (suc n) k net ≡ is_clock_by d (within d n) k net
+  within_step n k net = by (slice_get d.models k)
     where
       of_number : (inst : Inst) (o : Option ℕ) → option_map_or (λ m. list_any (λ b. bytes_eq b.actual net && is_clock_within n d m b.formal) inst.binds) (option_and_then (slice_get d.models) o) false ≡ option_map_or (λ j. binds_to (within d n j) net inst.binds) o false
       of_number inst None = refl
@@ -89,11 +89,11 @@ module _ (d : Design) where
           of_model (Some m) = refl
 
       of_inst : (inst : Inst) → binds_clock d (is_clock_within n d) net inst ≡ inst_binds d (within d n) net inst
-      of_inst inst = ap (λ (o : Option Model). option_map_or (λ m. list_any (λ b. bytes_eq b.actual net && is_clock_within n d m b.formal) inst.binds) o false) (find-position (λ m. bytes_eq m.name inst.model) d.models) ∙ of_number inst (number_named d inst.model)
+      of_inst inst = ap (λ (o : Option Model). option_map_or (λ m. list_any (λ b. bytes_eq b.actual net && is_clock_within n d m b.formal) inst.binds) o false) (find_position (λ m. bytes_eq m.name inst.model) d.models) ∙ of_number inst (number_named d inst.model)
 
       by : (o : Option Model) → option_map_or (λ m. is_clock_within (suc n) d m net) o false ≡ option_map_or (is_clock_in d (within d n) net) o false
       by None = refl
-      by (Some m) = ap (λ (b : Bool). is_own_clock m net || b) (any-same _ _ m.insts (λ i inst at. of_inst inst))
+      by (Some m) = ap (λ (b : Bool). is_own_clock m net || b) (any_same _ _ m.insts (λ i inst at. of_inst inst))
 
   abbrev pub StableFrom : ℕ → ℕ → Type 0
   StableFrom least x = (n : ℕ) → least ≤ n → (net : List ℕ) → within d n x net ≡ within d (suc n) x net
@@ -102,12 +102,12 @@ module _ (d : Design) where
   abbrev pub SubsStable : ℕ → ℕ → Type 0
   SubsStable total k = (i j n : ℕ) → instance_number d i k ≡ Some j → total ≤ suc n → (net : List ℕ) → within d n j net ≡ within d (suc n) j net
 
-  stable-next : (found : List ℕ) (k : ℕ) → ((i j : ℕ) → instance_number d i k ≡ Some j → Among j found) → ((x : ℕ) → Among x found → StableFrom (length found) x) → StableFrom (suc (length found)) k
-  stable-next found k after stable zero le net = absurd (omega arith)
-  stable-next found k after stable (suc n) le net =
-      within-step n k net
-      ∙ clock_by-same (within d n) (within d (suc n)) k (λ i j formal names. stable j (after i j names) n (omega arith) formal) net
-      ∙ sym (within-step (suc n) k net)
+  stable_next : (found : List ℕ) (k : ℕ) → ((i j : ℕ) → instance_number d i k ≡ Some j → Among j found) → ((x : ℕ) → Among x found → StableFrom (length found) x) → StableFrom (suc (length found)) k
+  stable_next found k after stable zero le net = absurd (omega arith)
+  stable_next found k after stable (suc n) le net =
+      within_step n k net
+      ∙ clock_by_same (within d n) (within d (suc n)) k (λ i j formal names. stable j (after i j names) n (omega arith) formal) net
+      ∙ sym (within_step (suc n) k net)
 
   subs_stable : (found order : List ℕ) (total : ℕ) → length found + length order ≤ total → StandsAfterItsModels d found order → ((x : ℕ) → Among x found → StableFrom (length found) x) → (k : ℕ) → Among k order → SubsStable total k
   subs_stable found [] total le after stable k among = absurd among
@@ -118,7 +118,7 @@ module _ (d : Design) where
       k among
     where
       by : (y : ℕ) → Among y (x ∷ found) → StableFrom (suc (length found)) y
-      by y (inl same) = subst (StableFrom (suc (length found))) (sym same) (stable-next found x after.0 stable)
+      by y (inl same) = subst (StableFrom (suc (length found))) (sym same) (stable_next found x after.0 stable)
       by y (inr here) = λ n more net. stable y here n (omega arith) net
 
   -- the clock names of a reached model
@@ -131,4 +131,4 @@ module _ (d : Design) where
       by (suc n) e =
           let stable = subs_stable [] order (suc n) (let h = ordered.short in omega arith) ordered.after (λ x none. absurd none) k among in
           subst (λ (m : ℕ). within d m k net ≡ is_clock_by d (within d m) k net) (sym e)
-          (within-step n k net ∙ clock_by-same (within d n) (within d (suc n)) k (λ i j formal names. stable i j n names (omega arith) formal) net)
+          (within_step n k net ∙ clock_by_same (within d n) (within d (suc n)) k (λ i j formal names. stable i j n names (omega arith) formal) net)

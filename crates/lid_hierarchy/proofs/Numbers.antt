@@ -14,8 +14,8 @@ use Rattle.lid_design.specs.Models.{number_named, IsReached, Ascend, AreReached}
 use Rattle.lid_hierarchy.specs.Surveys.{instance_numbers}
 use Rattle.lid_hierarchy.specs.Graphs.{name_of, number_by, row_by, places_of_true}
 
-pub bytes_eq-comm : (xs ys : List ℕ) → bytes_eq xs ys ≡ bytes_eq ys xs
-bytes_eq-comm xs ys = by (bytes_eq xs ys) refl (bytes_eq ys xs) refl
+pub bytes_eq_comm : (xs ys : List ℕ) → bytes_eq xs ys ≡ bytes_eq ys xs
+bytes_eq_comm xs ys = by (bytes_eq xs ys) refl (bytes_eq ys xs) refl
   where
     by : (a : Bool) → bytes_eq xs ys ≡ a → (b : Bool) → bytes_eq ys xs ≡ b → a ≡ b
     by true e true f = refl
@@ -26,7 +26,7 @@ bytes_eq-comm xs ys = by (bytes_eq xs ys) refl (bytes_eq ys xs) refl
 none_same : (x : List ℕ) (xs : List (List ℕ)) → AllByRecursion (λ y. bytes_eq x y ≡ false) xs → filter (λ other. not (bytes_eq other x)) xs ≡ xs
 none_same x [] all = refl
 none_same x (y ∷ ys) all =
-    let differs : bytes_eq y x ≡ false = bytes_eq-comm y x ∙ all.0 in
+    let differs : bytes_eq y x ≡ false = bytes_eq_comm y x ∙ all.0 in
     let later = none_same x ys all.1 in
     let here : filter (λ other. not (bytes_eq other x)) (y ∷ ys) ≡ y ∷ filter (λ other. not (bytes_eq other x)) ys = ap (λ (b : Bool). cond (not b) (y ∷ filter (λ other. not (bytes_eq other x)) ys) (filter (λ other. not (bytes_eq other x)) ys)) differs in
     here ∙ ap (λ (zs : List (List ℕ)). y ∷ zs) later
@@ -39,26 +39,26 @@ firsts_distinct (x ∷ xs) distinct =
     ap (λ (ys : List (List ℕ)). x ∷ filter (λ other. not (bytes_eq other x)) ys) (firsts_distinct xs distinct.1)
     ∙ ap (λ (ys : List (List ℕ)). x ∷ ys) (none_same x xs distinct.0)
 
-prefix-names : (n : List ℕ) (ms : List Model) → prefix_len (λ (m : List ℕ). not (bytes_eq n m)) (map name_of ms) ≡ prefix_len (λ (m : Model). not (bytes_eq m.name n)) ms
-prefix-names n [] = refl
-prefix-names n (m ∷ ms) =
-    ap (λ (k : ℕ). cond (not (bytes_eq n m.name)) (1 + k) 0) (prefix-names n ms)
-    ∙ ap (λ (b : Bool). cond (not b) (1 + prefix_len (λ (m : Model). not (bytes_eq m.name n)) ms) 0) (bytes_eq-comm n m.name)
+prefix_names : (n : List ℕ) (ms : List Model) → prefix_len (λ (m : List ℕ). not (bytes_eq n m)) (map name_of ms) ≡ prefix_len (λ (m : Model). not (bytes_eq m.name n)) ms
+prefix_names n [] = refl
+prefix_names n (m ∷ ms) =
+    ap (λ (k : ℕ). cond (not (bytes_eq n m.name)) (1 + k) 0) (prefix_names n ms)
+    ∙ ap (λ (b : Bool). cond (not b) (1 + prefix_len (λ (m : Model). not (bytes_eq m.name n)) ms) 0) (bytes_eq_comm n m.name)
 
 abbrev pub within : ℕ → ℕ → Option ℕ
 within k len = cond (nat_lt k len) (Some k) None
 
-position-names : (n : List ℕ) (ms : List Model) → position (bytes_eq n) (map name_of ms) ≡ position (λ m. bytes_eq m.name n) ms
-position-names n ms =
+position_names : (n : List ℕ) (ms : List Model) → position (bytes_eq n) (map name_of ms) ≡ position (λ m. bytes_eq m.name n) ms
+position_names n ms =
     let long : length (map name_of ms) ≡ length ms = length-map ms name_of in
-    ap (λ (k : ℕ). within k (length (map name_of ms))) (prefix-names n ms)
+    ap (λ (k : ℕ). within k (length (map name_of ms))) (prefix_names n ms)
     ∙ ap (within (prefix_len (λ (m : Model). not (bytes_eq m.name n)) ms)) long
 
-map-same : {A B : Type 0} (f g : A → B) (xs : List A) → ((x : A) → f x ≡ g x) → map f xs ≡ map g xs
-map-same f g [] same = refl
-map-same f g (x ∷ xs) same =
+map_same : {A B : Type 0} (f g : A → B) (xs : List A) → ((x : A) → f x ≡ g x) → map f xs ≡ map g xs
+map_same f g [] same = refl
+map_same f g (x ∷ xs) same =
     let head = same x in
-    let tail = map-same f g xs same in
+    let tail = map_same f g xs same in
     cc
 
 -- the set of the names of the models, and the numbers by it
@@ -73,42 +73,42 @@ module _ (d : Design) (formed : IsWellFormed d) (names : List (List ℕ)) (whole
       omega (arith, ap length all_names)
 
   pub rows_are : map (row_by names) d.models ≡ instance_numbers d
-  rows_are = map-same (row_by names) (λ m. map (λ inst. number_named d inst.model) m.insts) d.models (λ m. map-same (number_by names) (λ inst. number_named d inst.model) m.insts (λ inst. ap (position (bytes_eq inst.model)) all_names ∙ position-names inst.model d.models))
+  rows_are = map_same (row_by names) (λ m. map (λ inst. number_named d inst.model) m.insts) d.models (λ m. map_same (number_by names) (λ inst. number_named d inst.model) m.insts (λ inst. ap (position (bytes_eq inst.model)) all_names ∙ position_names inst.model d.models))
 
 -- the numbers of the marks that are set
-places-ascend : (least k : ℕ) (flags : List Bool) → least ≤ k → Ascend least (places_of_true k flags)
-places-ascend least k [] le = tt
-places-ascend least k (true ∷ flags) le = (le, places-ascend (k + 1) (k + 1) flags (omega arith))
-places-ascend least k (false ∷ flags) le = places-ascend least (k + 1) flags (omega arith)
+places_ascend : (least k : ℕ) (flags : List Bool) → least ≤ k → Ascend least (places_of_true k flags)
+places_ascend least k [] le = tt
+places_ascend least k (true ∷ flags) le = (le, places_ascend (k + 1) (k + 1) flags (omega arith))
+places_ascend least k (false ∷ flags) le = places_ascend least (k + 1) flags (omega arith)
 
-place-marked : (k j : ℕ) (flags : List Bool) → Among j (places_of_true k flags) → (i : ℕ) × (j ≡ k + i) × (flag flags i ≡ true)
-place-marked k j [] among = absurd among
-place-marked k j (true ∷ flags) (inl same) = (zero, same ∙ sym (add-zero k), refl)
-place-marked k j (true ∷ flags) (inr among) =
-    let found = place-marked (k + 1) j flags among in
+place_marked : (k j : ℕ) (flags : List Bool) → Among j (places_of_true k flags) → (i : ℕ) × (j ≡ k + i) × (flag flags i ≡ true)
+place_marked k j [] among = absurd among
+place_marked k j (true ∷ flags) (inl same) = (zero, same ∙ sym (add-zero k), refl)
+place_marked k j (true ∷ flags) (inr among) =
+    let found = place_marked (k + 1) j flags among in
     let next : j ≡ k + suc found.0 = let e = found.1 in omega arith in
     (suc found.0, next, found.2)
-place-marked k j (false ∷ flags) among =
-    let found = place-marked (k + 1) j flags among in
+place_marked k j (false ∷ flags) among =
+    let found = place_marked (k + 1) j flags among in
     let next : j ≡ k + suc found.0 = let e = found.1 in omega arith in
     (suc found.0, next, found.2)
 
-marked-place : (k i : ℕ) (flags : List Bool) → flag flags i ≡ true → Among (k + i) (places_of_true k flags)
-marked-place k i [] marked = absurd (let e : false ≡ true = marked in cc)
-marked-place k zero (true ∷ flags) marked = inl (add-zero k)
-marked-place k zero (false ∷ flags) marked = absurd (let e : false ≡ true = marked in cc)
-marked-place k (suc i) (true ∷ flags) marked =
+marked_place : (k i : ℕ) (flags : List Bool) → flag flags i ≡ true → Among (k + i) (places_of_true k flags)
+marked_place k i [] marked = absurd (let e : false ≡ true = marked in cc)
+marked_place k zero (true ∷ flags) marked = inl (add-zero k)
+marked_place k zero (false ∷ flags) marked = absurd (let e : false ≡ true = marked in cc)
+marked_place k (suc i) (true ∷ flags) marked =
     let next : (k + 1) + i ≡ k + suc i = omega arith in
-    inr (subst (λ (n : ℕ). Among n (places_of_true (k + 1) flags)) next (marked-place (k + 1) i flags marked))
-marked-place k (suc i) (false ∷ flags) marked =
+    inr (subst (λ (n : ℕ). Among n (places_of_true (k + 1) flags)) next (marked_place (k + 1) i flags marked))
+marked_place k (suc i) (false ∷ flags) marked =
     let next : (k + 1) + i ≡ k + suc i = omega arith in
-    subst (λ (n : ℕ). Among n (places_of_true (k + 1) flags)) next (marked-place (k + 1) i flags marked)
+    subst (λ (n : ℕ). Among n (places_of_true (k + 1) flags)) next (marked_place (k + 1) i flags marked)
 
 pub list_reached : (d : Design) (flags : List Bool) → ((k : ℕ) → (flag flags k ≡ true) ↔ IsReached d k) → AreReached d (places_of_true 0 flags)
 list_reached d flags same = record {
-  ascend = places-ascend 0 0 flags (omega arith);
+  ascend = places_ascend 0 0 flags (omega arith);
   each = λ k. (
-    (λ among. let found = place-marked 0 k flags among in (same k).0 (subst (λ (n : ℕ). flag flags n ≡ true) (sym (found.1 ∙ zero-add found.0)) found.2)),
-    (λ reached. subst (λ (n : ℕ). Among n (places_of_true 0 flags)) (zero-add k) (marked-place 0 k flags ((same k).1 reached))),
+    (λ among. let found = place_marked 0 k flags among in (same k).0 (subst (λ (n : ℕ). flag flags n ≡ true) (sym (found.1 ∙ zero-add found.0)) found.2)),
+    (λ reached. subst (λ (n : ℕ). Among n (places_of_true 0 flags)) (zero-add k) (marked_place 0 k flags ((same k).1 reached))),
   );
 }

@@ -8,19 +8,19 @@ use Rattle.lid_design.specs.Models.{instance_number, number_from, IsReached, Rea
 use Rattle.lid_hierarchy.specs.Surveys.{AreMarked, instance_numbers, IsFirstRecursive, StandsAfterItsModels, IsModelOrder}
 use Rattle.std.proofs.lemmas.List.{length-map}
 use Rattle.lid_hierarchy.specs.Graphs.{IsUsedGraph, kept, kept_row, some_of, graph_of}
-use Rattle.lid_hierarchy.proofs.Walks.{number_from-outer, then_some, instance-reads, reads-instance}
+use Rattle.lid_hierarchy.proofs.Walks.{number_from_outer, then_some, instance_reads, reads_instance}
 
-index-after : (before : List ℕ) (k : ℕ) (later : List ℕ) → slice_index (before ++ k ∷ later) (length before) ≡ k
-index-after [] k later = refl
-index-after (x ∷ before) k later = index-after before k later
+index_after : (before : List ℕ) (k : ℕ) (later : List ℕ) → slice_index (before ++ k ∷ later) (length before) ≡ k
+index_after [] k later = refl
+index_after (x ∷ before) k later = index_after before k later
 
-length-within : (before : List ℕ) (k : ℕ) (later : List ℕ) → length before < length (before ++ k ∷ later)
-length-within [] k later = omega arith
-length-within (x ∷ before) k later = let h = length-within before k later in omega arith
+length_within : (before : List ℕ) (k : ℕ) (later : List ℕ) → length before < length (before ++ k ∷ later)
+length_within [] k later = omega arith
+length_within (x ∷ before) k later = let h = length_within before k later in omega arith
 
-take-before : (before later : List ℕ) → take (length before) (before ++ later) ≡ before
-take-before [] later = refl
-take-before (x ∷ before) later = ap (λ (ks : List ℕ). x ∷ ks) (take-before before later)
+take_before : (before later : List ℕ) → take (length before) (before ++ later) ≡ before
+take_before [] later = refl
+take_before (x ∷ before) later = ap (λ (ks : List ℕ). x ∷ ks) (take_before before later)
 
 append-assoc : (xs ys zs : List ℕ) → (xs ++ ys) ++ zs ≡ xs ++ (ys ++ zs)
 append-assoc [] ys zs = refl
@@ -39,23 +39,23 @@ flag-within (m ∷ marks) zero mark = omega arith
 flag-within (m ∷ marks) (suc k) mark = let h = flag-within marks k mark in omega arith
 
 -- a path that goes on from the end of another
-pub number_from-append : (d : Design) (k : ℕ) (inner outer : List ℕ) → number_from d k (inner ++ outer) ≡ option_and_then (λ b. number_from d b inner) (number_from d k outer)
+pub number_from_append : (d : Design) (k : ℕ) (inner outer : List ℕ) → number_from d k (inner ++ outer) ≡ option_and_then (λ b. number_from d b inner) (number_from d k outer)
 unfolding number_from
-number_from-append d k [] outer = by (number_from d k outer)
+number_from_append d k [] outer = by (number_from d k outer)
   where
     by : (o : Option ℕ) → o ≡ option_and_then (λ (b : ℕ). Some b) o
     by None = refl
     by (Some b) = refl
-number_from-append d k (i ∷ inner) outer = ap (option_and_then (instance_number d i)) (number_from-append d k inner outer) ∙ by (number_from d k outer)
+number_from_append d k (i ∷ inner) outer = ap (option_and_then (instance_number d i)) (number_from_append d k inner outer) ∙ by (number_from d k outer)
   where
     by : (o : Option ℕ) → option_and_then (instance_number d i) (option_and_then (λ b. number_from d b inner) o) ≡ option_and_then (λ b. option_and_then (instance_number d i) (number_from d b inner)) o
     by None = refl
     by (Some b) = refl
 
 -- what a path leads to from a reached model is reached
-pub reached-through : (d : Design) (k j : ℕ) (path : List ℕ) → IsReached d k → number_from d k path ≡ Some j → IsReached d j
-reached-through d k j path reached leads =
-    (path ++ reached.0, number_from-append d d.root path reached.0 ∙ ap (option_and_then (λ b. number_from d b path)) reached.1 ∙ leads)
+pub reached_through : (d : Design) (k j : ℕ) (path : List ℕ) → IsReached d k → number_from d k path ≡ Some j → IsReached d j
+reached_through d k j path reached leads =
+    (path ++ reached.0, number_from_append d d.root path reached.0 ∙ ap (option_and_then (λ b. number_from d b path)) reached.1 ∙ leads)
 
 module _ (d : Design) (g : List (List ℕ)) (used : IsUsedGraph d g) where
   path_of : (n a c : ℕ) → Walk g n a c → (path : List ℕ) × (number_from d c path ≡ Some a)
@@ -64,7 +64,7 @@ module _ (d : Design) (g : List (List ℕ)) (used : IsUsedGraph d g) where
   path_of (suc n) a c w =
       let inner = path_of n a w.0 w.1 in
       let inst = (used.only c w.0 w.2).1 in
-      let whole : number_from d c (inner.0 ++ inst.0 ∷ []) ≡ number_from d w.0 inner.0 = number_from-outer d c inst.0 inner.0 ∙ ap (option_and_then (λ b. number_from d b inner.0)) inst.1 in
+      let whole : number_from d c (inner.0 ++ inst.0 ∷ []) ≡ number_from d w.0 inner.0 = number_from_outer d c inst.0 inner.0 ∙ ap (option_and_then (λ b. number_from d b inner.0)) inst.1 in
       (inner.0 ++ inst.0 ∷ [], whole ∙ inner.1)
 
   -- a path with an instance at its outer end has one at its inner end
@@ -76,7 +76,7 @@ module _ (d : Design) (g : List (List ℕ)) (used : IsUsedGraph d g) where
   loop_recursive k (n, w) =
       let inner = path_of n k w.0 w.1 in
       let read = used.only k w.0 w.2 in
-      let whole : number_from d k (inner.0 ++ read.1.0 ∷ []) ≡ number_from d w.0 inner.0 = number_from-outer d k read.1.0 inner.0 ∙ ap (option_and_then (λ b. number_from d b inner.0)) read.1.1 in
+      let whole : number_from d k (inner.0 ++ read.1.0 ∷ []) ≡ number_from d w.0 inner.0 = number_from_outer d k read.1.0 inner.0 ∙ ap (option_and_then (λ b. number_from d b inner.0)) read.1.1 in
       (read.0, inner_end k read.1.0 inner.0 (whole ∙ inner.1))
 
   front : (a j : ℕ) → Among a (reads_at g j) → (m c : ℕ) → Walk g m j c → Walk g (suc m) a c
@@ -88,7 +88,7 @@ module _ (d : Design) (g : List (List ℕ)) (used : IsUsedGraph d g) where
   walk_of c reached [] a same = sym (let e : Some c ≡ Some a = same in cc)
   walk_of c reached (i ∷ path) a leads =
       let parts = then_some (number_from d c path) (instance_number d i) a leads in
-      let through = reached-through d c parts.0 path reached parts.1 in
+      let through = reached_through d c parts.0 path reached parts.1 in
       front a parts.0 (used.each parts.0 a i through parts.2) (length path) c (walk_of c reached path parts.0 parts.1)
 
   pub recursive_loop : (k : ℕ) → IsReached d k → ReachesItself d k → IsOnLoop g k
@@ -108,9 +108,9 @@ module _ (d : Design) (g : List (List ℕ)) (used : IsUsedGraph d g) where
   to_any x (y ∷ ys) (inr later) = inr (to_any x ys later)
 
   module _ (order : List ℕ) (is : IsOrder g order) (marks : List Bool) (marked : AreMarked d marks) where
-    kept-among : (x : ℕ) (ks : List ℕ) → Among x ks → flag marks x ≡ true → AmongAny x (filter (flag marks) ks)
-    kept-among x [] among mark = among
-    kept-among x (k ∷ ks) among mark = by (flag marks k) refl among (λ later. kept-among x ks later mark)
+    kept_among : (x : ℕ) (ks : List ℕ) → Among x ks → flag marks x ≡ true → AmongAny x (filter (flag marks) ks)
+    kept_among x [] among mark = among
+    kept_among x (k ∷ ks) among mark = by (flag marks k) refl among (λ later. kept_among x ks later mark)
       where
         by : (b : Bool) → flag marks k ≡ b → (x ≡ k) ⊎ Among x ks → (Among x ks → AmongAny x (filter (flag marks) ks)) → AmongAny x (cond b (k ∷ filter (flag marks) ks) (filter (flag marks) ks))
         by true e (inl same) later = inl same
@@ -118,18 +118,18 @@ module _ (d : Design) (g : List (List ℕ)) (used : IsUsedGraph d g) where
         by false e (inl same) later = absurd (let f : flag marks k ≡ true = subst (λ (n : ℕ). flag marks n ≡ true) same mark in cc)
         by false e (inr among) later = later among
 
-    kept-only : (x : ℕ) (ks : List ℕ) → AmongAny x (filter (flag marks) ks) → flag marks x ≡ true
-    kept-only x [] among = absurd among
-    kept-only x (k ∷ ks) among = by (flag marks k) refl among (kept-only x ks)
+    kept_only : (x : ℕ) (ks : List ℕ) → AmongAny x (filter (flag marks) ks) → flag marks x ≡ true
+    kept_only x [] among = absurd among
+    kept_only x (k ∷ ks) among = by (flag marks k) refl among (kept_only x ks)
       where
         by : (b : Bool) → flag marks k ≡ b → AmongAny x (cond b (k ∷ filter (flag marks) ks) (filter (flag marks) ks)) → (AmongAny x (filter (flag marks) ks) → flag marks x ≡ true) → flag marks x ≡ true
         by true e (inl same) rest = subst (λ (n : ℕ). flag marks n ≡ true) (sym same) e
         by true e (inr later) rest = rest later
         by false e later rest = rest later
 
-    kept-short : (ks : List ℕ) → length (filter (flag marks) ks) ≤ length ks
-    kept-short [] = omega arith
-    kept-short (k ∷ ks) = by (flag marks k) (kept-short ks)
+    kept_short : (ks : List ℕ) → length (filter (flag marks) ks) ≤ length ks
+    kept_short [] = omega arith
+    kept_short (k ∷ ks) = by (flag marks k) (kept_short ks)
       where
         by : (b : Bool) → length (filter (flag marks) ks) ≤ length ks → length (cond b (k ∷ filter (flag marks) ks) (filter (flag marks) ks)) ≤ suc (length ks)
         by true h = omega arith
@@ -139,11 +139,11 @@ module _ (d : Design) (g : List (List ℕ)) (used : IsUsedGraph d g) where
     earlier : (before later : List ℕ) (k : ℕ) → before ++ k ∷ later ≡ order → IsReached d k → (i j : ℕ) → instance_number d i k ≡ Some j → Among j before × IsReached d j
     unfolding number_from
     earlier before later k whole reached i j names =
-        let here : slice_index order (length before) ≡ k = ap (λ (ks : List ℕ). slice_index ks (length before)) (sym whole) ∙ index-after before k later in
-        let within : length before < length order = subst (λ (ks : List ℕ). length before < length ks) whole (length-within before k later) in
+        let here : slice_index order (length before) ≡ k = ap (λ (ks : List ℕ). slice_index ks (length before)) (sym whole) ∙ index_after before k later in
+        let within : length before < length order = subst (λ (ks : List ℕ). length before < length ks) whole (length_within before k later) in
         let read = subst (λ (x : ℕ). Among j (reads_at g x)) (sym here) (used.each k j i reached names) in
-        let taken : take (length before) order ≡ before = ap (take (length before)) (sym whole) ∙ take-before before (k ∷ later) in
-        (subst (Among j) taken (is.earlier (length before) j within read), reached-through d k j (i ∷ []) reached names)
+        let taken : take (length before) order ≡ before = ap (take (length before)) (sym whole) ∙ take_before before (k ∷ later) in
+        (subst (Among j) taken (is.earlier (length before) j within read), reached_through d k j (i ∷ []) reached names)
 
     abbrev pub Stood : List ℕ → List ℕ → List ℕ → Type 0
     Stood before later found = before ++ later ≡ order → ((x : ℕ) → Among x before → IsReached d x → AmongAny x found) → StandsAfterItsModels d found (filter (flag marks) later)
@@ -171,36 +171,36 @@ module _ (d : Design) (g : List (List ℕ)) (used : IsUsedGraph d g) where
           let within = flag-within marks k mark in
           let a = marked.size in
           let b = used.size in
-          kept-among k order (is.all k (omega arith)) mark;
-      only = λ k among. (marked.exact k).0 (kept-only k order among);
-      short = let a = kept-short order in let b = is.long in let c = used.size in omega arith;
+          kept_among k order (is.all k (omega arith)) mark;
+      only = λ k among. (marked.exact k).0 (kept_only k order among);
+      short = let a = kept_short order in let b = is.long in let c = used.size in omega arith;
       after = stands [] order [] refl (λ x among reached. absurd among);
     }
 
 -- the rows that are kept, one by one
-kept-at : (marks : List Bool) (rows : List (List (Option ℕ))) → length marks ≡ length rows → (k : ℕ) → reads_at (kept marks rows) k ≡ kept_row (flag marks k) (get_or rows k [])
-kept-at [] rows same k = refl
-kept-at (m ∷ marks) [] same k = absurd (omega arith)
-kept-at (m ∷ marks) (row ∷ rows) same zero = refl
-kept-at (m ∷ marks) (row ∷ rows) same (suc k) = kept-at marks rows (omega arith) k
+kept_at : (marks : List Bool) (rows : List (List (Option ℕ))) → length marks ≡ length rows → (k : ℕ) → reads_at (kept marks rows) k ≡ kept_row (flag marks k) (get_or rows k [])
+kept_at [] rows same k = refl
+kept_at (m ∷ marks) [] same k = absurd (omega arith)
+kept_at (m ∷ marks) (row ∷ rows) same zero = refl
+kept_at (m ∷ marks) (row ∷ rows) same (suc k) = kept_at marks rows (omega arith) k
 
-kept-long : (marks : List Bool) (rows : List (List (Option ℕ))) → length marks ≡ length rows → length (kept marks rows) ≡ length rows
-kept-long [] rows same = omega arith
-kept-long (m ∷ marks) [] same = absurd (omega arith)
-kept-long (m ∷ marks) (row ∷ rows) same = let h = kept-long marks rows (omega arith) in omega arith
+kept_long : (marks : List Bool) (rows : List (List (Option ℕ))) → length marks ≡ length rows → length (kept marks rows) ≡ length rows
+kept_long [] rows same = omega arith
+kept_long (m ∷ marks) [] same = absurd (omega arith)
+kept_long (m ∷ marks) (row ∷ rows) same = let h = kept_long marks rows (omega arith) in omega arith
 
-some-at : (rows : List (List (Option ℕ))) (k : ℕ) → reads_at (map some_of rows) k ≡ some_of (get_or rows k [])
-some-at [] k = refl
-some-at (row ∷ rows) zero = refl
-some-at (row ∷ rows) (suc k) = some-at rows k
+some_at : (rows : List (List (Option ℕ))) (k : ℕ) → reads_at (map some_of rows) k ≡ some_of (get_or rows k [])
+some_at [] k = refl
+some_at (row ∷ rows) zero = refl
+some_at (row ∷ rows) (suc k) = some_at rows k
 
 -- the rows that are kept are the graph of the reached models
 pub kept_used : (d : Design) (marks : List Bool) (numbers : List (List (Option ℕ))) → AreMarked d marks → numbers ≡ instance_numbers d → IsUsedGraph d (kept marks numbers)
 unfolding graph_of
 kept_used d marks numbers marked whole = record {
-  size = kept-long marks numbers same ∙ long;
-  only = λ k b among. by_mark k b (flag marks k) refl (subst (Among b) (kept-at marks numbers same k) among);
-  each = λ k b i reached names. subst (Among b) (sym (kept-at marks numbers same k ∙ ap (λ (m : Bool). kept_row m (get_or numbers k [])) ((marked.exact k).1 reached) ∙ row k)) (instance-reads d k b i names);
+  size = kept_long marks numbers same ∙ long;
+  only = λ k b among. by_mark k b (flag marks k) refl (subst (Among b) (kept_at marks numbers same k) among);
+  each = λ k b i reached names. subst (Among b) (sym (kept_at marks numbers same k ∙ ap (λ (m : Bool). kept_row m (get_or numbers k [])) ((marked.exact k).1 reached) ∙ row k)) (instance_reads d k b i names);
 }
   where
     long : length numbers ≡ length d.models
@@ -210,8 +210,8 @@ kept_used d marks numbers marked whole = record {
     same = marked.size ∙ sym long
 
     row : (k : ℕ) → some_of (get_or numbers k []) ≡ reads_at (graph_of d) k
-    row k = ap (λ (rows : List (List (Option ℕ))). some_of (get_or rows k [])) whole ∙ sym (some-at (instance_numbers d) k)
+    row k = ap (λ (rows : List (List (Option ℕ))). some_of (get_or rows k [])) whole ∙ sym (some_at (instance_numbers d) k)
 
     by_mark : (k b : ℕ) (m : Bool) → flag marks k ≡ m → Among b (kept_row m (get_or numbers k [])) → IsReached d k × ((i : ℕ) × (instance_number d i k ≡ Some b))
-    by_mark k b true e among = ((marked.exact k).0 e, reads-instance d k b (subst (Among b) (row k) among))
+    by_mark k b true e among = ((marked.exact k).0 e, reads_instance d k b (subst (Among b) (row k) among))
     by_mark k b false e among = absurd among

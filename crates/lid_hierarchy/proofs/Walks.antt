@@ -32,14 +32,14 @@ then_some None f b h = absurd (let e : None ≡ Some b = h in cc)
 then_some (Some a) f b h = (a, refl, h)
 
 -- one more instance at the outer end of a path
-pub number_from-outer : (d : Design) (k i : ℕ) (path : List ℕ) → number_from d k (path ++ i ∷ []) ≡ option_and_then (λ b. number_from d b path) (instance_number d i k)
+pub number_from_outer : (d : Design) (k i : ℕ) (path : List ℕ) → number_from d k (path ++ i ∷ []) ≡ option_and_then (λ b. number_from d b path) (instance_number d i k)
 unfolding number_from
-number_from-outer d k i [] = by (instance_number d i k)
+number_from_outer d k i [] = by (instance_number d i k)
   where
     by : (o : Option ℕ) → o ≡ option_and_then (λ (b : ℕ). Some b) o
     by None = refl
     by (Some b) = refl
-number_from-outer d k i (j ∷ path) = ap (option_and_then (instance_number d j)) (number_from-outer d k i path) ∙ by (instance_number d i k)
+number_from_outer d k i (j ∷ path) = ap (option_and_then (instance_number d j)) (number_from_outer d k i path) ∙ by (instance_number d i k)
   where
     by : (o : Option ℕ) → option_and_then (instance_number d j) (option_and_then (λ b. number_from d b path) o) ≡ option_and_then (λ b. option_and_then (instance_number d j) (number_from d b path)) o
     by None = refl
@@ -66,30 +66,30 @@ reads_of d k =
     ∙ row_at (λ m. some_of (map (named d) m.insts)) d.models k
     ∙ of_insts d (slice_get d.models k)
 
-some-instance : (d : Design) (insts : List Inst) (b : ℕ) → Among b (some_of (map (named d) insts)) → (i : ℕ) × (option_and_then (named d) (slice_get insts i) ≡ Some b)
-some-instance d [] b among = absurd among
-some-instance d (inst ∷ insts) b among = by (named d inst) refl among (some-instance d insts b)
+some_instance : (d : Design) (insts : List Inst) (b : ℕ) → Among b (some_of (map (named d) insts)) → (i : ℕ) × (option_and_then (named d) (slice_get insts i) ≡ Some b)
+some_instance d [] b among = absurd among
+some_instance d (inst ∷ insts) b among = by (named d inst) refl among (some_instance d insts b)
   where
     by : (o : Option ℕ) → named d inst ≡ o → Among b (cons_option o (some_of (map (named d) insts))) → (Among b (some_of (map (named d) insts)) → (i : ℕ) × (option_and_then (named d) (slice_get insts i) ≡ Some b)) → (i : ℕ) × (option_and_then (named d) (slice_get (inst ∷ insts) i) ≡ Some b)
     by None e here later = let found = later here in (suc found.0, found.1)
     by (Some n) e (inl same) later = (zero, e ∙ ap Some (sym same))
     by (Some n) e (inr here) later = let found = later here in (suc found.0, found.1)
 
-instance-some : (d : Design) (insts : List Inst) (b i : ℕ) → option_and_then (named d) (slice_get insts i) ≡ Some b → Among b (some_of (map (named d) insts))
-instance-some d [] b i h = absurd (let e : None ≡ Some b = h in cc)
-instance-some d (inst ∷ insts) b zero h = subst (λ (o : Option ℕ). Among b (cons_option o (some_of (map (named d) insts)))) (sym h) (inl refl)
-instance-some d (inst ∷ insts) b (suc i) h = by (named d inst) (instance-some d insts b i h)
+instance_some : (d : Design) (insts : List Inst) (b i : ℕ) → option_and_then (named d) (slice_get insts i) ≡ Some b → Among b (some_of (map (named d) insts))
+instance_some d [] b i h = absurd (let e : None ≡ Some b = h in cc)
+instance_some d (inst ∷ insts) b zero h = subst (λ (o : Option ℕ). Among b (cons_option o (some_of (map (named d) insts)))) (sym h) (inl refl)
+instance_some d (inst ∷ insts) b (suc i) h = by (named d inst) (instance_some d insts b i h)
   where
     by : (o : Option ℕ) → Among b (some_of (map (named d) insts)) → Among b (cons_option o (some_of (map (named d) insts)))
     by None here = here
     by (Some n) here = inr here
 
 -- what a model reads is the model of one of its instances, and each is read
-pub reads-instance : (d : Design) (k b : ℕ) → Among b (reads_at (graph_of d) k) → (i : ℕ) × (instance_number d i k ≡ Some b)
-reads-instance d k b read = some-instance d (insts_of d k) b (subst (Among b) (reads_of d k) read)
+pub reads_instance : (d : Design) (k b : ℕ) → Among b (reads_at (graph_of d) k) → (i : ℕ) × (instance_number d i k ≡ Some b)
+reads_instance d k b read = some_instance d (insts_of d k) b (subst (Among b) (reads_of d k) read)
 
-pub instance-reads : (d : Design) (k b i : ℕ) → instance_number d i k ≡ Some b → Among b (reads_at (graph_of d) k)
-instance-reads d k b i names = subst (Among b) (sym (reads_of d k)) (instance-some d (insts_of d k) b i names)
+pub instance_reads : (d : Design) (k b i : ℕ) → instance_number d i k ≡ Some b → Among b (reads_at (graph_of d) k)
+instance_reads d k b i names = subst (Among b) (sym (reads_of d k)) (instance_some d (insts_of d k) b i names)
 
 module _ (d : Design) (cut : List Bool) (none : (c : ℕ) → flag cut c ≡ false) where
   pub path_of_walk : (n a c : ℕ) → WalkPast (graph_of d) cut n a c → (path : List ℕ) × (number_from d c path ≡ Some a)
@@ -97,8 +97,8 @@ module _ (d : Design) (cut : List Bool) (none : (c : ℕ) → flag cut c ≡ fal
   path_of_walk zero a c same = ([], ap Some (sym same))
   path_of_walk (suc n) a c w =
       let inner = path_of_walk n a w.0 w.1 in
-      let inst = reads-instance d c w.0 w.2 in
-      let whole : number_from d c (inner.0 ++ inst.0 ∷ []) ≡ number_from d w.0 inner.0 = number_from-outer d c inst.0 inner.0 ∙ ap (option_and_then (λ b. number_from d b inner.0)) inst.1 in
+      let inst = reads_instance d c w.0 w.2 in
+      let whole : number_from d c (inner.0 ++ inst.0 ∷ []) ≡ number_from d w.0 inner.0 = number_from_outer d c inst.0 inner.0 ∙ ap (option_and_then (λ b. number_from d b inner.0)) inst.1 in
       (inner.0 ++ inst.0 ∷ [], whole ∙ inner.1)
 
   front : (a j : ℕ) → Among a (reads_at (graph_of d) j) → (m c : ℕ) → WalkPast (graph_of d) cut m j c → WalkPast (graph_of d) cut (suc m) a c
@@ -111,7 +111,7 @@ module _ (d : Design) (cut : List Bool) (none : (c : ℕ) → flag cut c ≡ fal
   walk_of_path c (i ∷ path) a leads =
       let parts = then_some (number_from d c path) (instance_number d i) a leads in
       let inner = walk_of_path c path parts.0 parts.1 in
-      (suc inner.0, front a parts.0 (instance-reads d parts.0 a i parts.2) inner.0 c inner.1)
+      (suc inner.0, front a parts.0 (instance_reads d parts.0 a i parts.2) inner.0 c inner.1)
 
 pub long_graph : (d : Design) → length (graph_of d) ≡ length d.models
 unfolding graph_of
@@ -130,7 +130,7 @@ below_from d formed (i ∷ path) k leads =
 pub models_are_graph : (d : Design) → IsWellFormed d → IsGraph (graph_of d)
 models_are_graph d formed = record {
   few = let few = formed.few in let long = long_graph d in omega arith;
-  within = λ c b read. subst (λ (n : ℕ). b < n) (sym (long_graph d)) (below c b (reads-instance d c b read));
+  within = λ c b read. subst (λ (n : ℕ). b < n) (sym (long_graph d)) (below c b (reads_instance d c b read));
 }
   where
     below : (c b : ℕ) → (i : ℕ) × (instance_number d i c ≡ Some b) → b < length d.models
@@ -146,8 +146,8 @@ marks_reached d cut none flags exact k = (
 )
 
 -- no mark is set
-pub flag-none : (n : ℕ) (marks : List Bool) → marks ≡ replicate n false → (c : ℕ) → flag marks c ≡ false
-flag-none n marks e c = ap (λ (bs : List Bool). flag bs c) e ∙ by n c
+pub flag_none : (n : ℕ) (marks : List Bool) → marks ≡ replicate n false → (c : ℕ) → flag marks c ≡ false
+flag_none n marks e c = ap (λ (bs : List Bool). flag bs c) e ∙ by n c
   where
     by : (n c : ℕ) → flag (replicate n false) c ≡ false
     by zero c = refl

@@ -28,8 +28,8 @@ few_insts d formed k m here = all_at (λ m. length m.insts < 2 ^ 32) d.models k 
 pub insts_here : (d : Design) (k : ℕ) (m : Model) → slice_get d.models k ≡ Some m → insts_of d k ≡ m.insts
 insts_here d k m here = ap (λ (o : Option Model). option_map_or (λ m. m.insts) o []) here
 
-pub position-below : {A : Type 0} (p : A → Bool) (xs : List A) (i : ℕ) → position p xs ≡ Some i → i < length xs
-position-below p xs i found = by (prefix_len (λ x. not (p x)) xs) found
+pub position_below : {A : Type 0} (p : A → Bool) (xs : List A) (i : ℕ) → position p xs ≡ Some i → i < length xs
+position_below p xs i found = by (prefix_len (λ x. not (p x)) xs) found
   where
     by : (k : ℕ) → cond (nat_lt k (length xs)) (Some k) None ≡ Some i → i < length xs
     by k e = pick (nat_lt k (length xs)) refl e

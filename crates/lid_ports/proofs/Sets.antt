@@ -5,37 +5,37 @@ use Rattle.std.specs.Str.{bytes_eq}
 use Rattle.lid_design.specs.declared.Design.{Design}
 use Rattle.lid_design.specs.declared.Model.{Model}
 use Rattle.lid_names.specs.Names.{is_among}
-use Rattle.lid_names.proofs.Lists.{same_bytes, is_among-firsts}
+use Rattle.lid_names.proofs.Lists.{same_bytes, is_among_firsts}
 use Rattle.lid_ports.specs.declared.ports.Port.{Port}
 use Rattle.lid_ports.specs.Ports.{names_in, sets_in, is_in}
 
 -- what the set of a number has
 has_set : (port : Port) (ms : List Model) (k : ℕ) (n : List ℕ) → is_among n (slice_index_or (sets_in port ms) k []) ≡ option_map_or (λ m. is_among n (names_in port m)) (slice_get ms k) false
 has_set port [] k n = refl
-has_set port (m ∷ ms) zero n = is_among-firsts n (names_in port m)
+has_set port (m ∷ ms) zero n = is_among_firsts n (names_in port m)
 has_set port (m ∷ ms) (suc k) n = has_set port ms k n
 
 pub has_port : (d : Design) (port : Port) (sets held : List (List (List ℕ))) → held ≡ sets → sets ≡ sets_in port d.models → (k : ℕ) (n : List ℕ) → is_among n (slice_index_or held k []) ≡ is_in d port k n
 has_port d port sets held same whole k n = ap (λ (s : List (List (List ℕ))). is_among n (slice_index_or s k [])) (same ∙ whole) ∙ has_set port d.models k n
 
-pub find-same : {A : Type 0} (p q : A → Bool) (xs : List A) → ((x : A) → p x ≡ q x) → find p xs ≡ find q xs
-find-same p q [] same = refl
-find-same {A} p q (x ∷ xs) same =
-    ap (λ (b : Bool). cond b (Some x) (find p xs)) (same x) ∙ ap (λ (o : Option A). cond (q x) (Some x) o) (find-same p q xs same)
+pub find_same : {A : Type 0} (p q : A → Bool) (xs : List A) → ((x : A) → p x ≡ q x) → find p xs ≡ find q xs
+find_same p q [] same = refl
+find_same {A} p q (x ∷ xs) same =
+    ap (λ (b : Bool). cond b (Some x) (find p xs)) (same x) ∙ ap (λ (o : Option A). cond (q x) (Some x) o) (find_same p q xs same)
 
-pub filter-same : {A : Type 0} (p q : A → Bool) (xs : List A) → ((x : A) → p x ≡ q x) → filter p xs ≡ filter q xs
-filter-same p q [] same = refl
-filter-same {A} p q (x ∷ xs) same =
-    ap (λ (b : Bool). cond b (x ∷ filter p xs) (filter p xs)) (same x) ∙ ap (λ (ys : List A). cond (q x) (x ∷ ys) ys) (filter-same p q xs same)
+pub filter_same : {A : Type 0} (p q : A → Bool) (xs : List A) → ((x : A) → p x ≡ q x) → filter p xs ≡ filter q xs
+filter_same p q [] same = refl
+filter_same {A} p q (x ∷ xs) same =
+    ap (λ (b : Bool). cond b (x ∷ filter p xs) (filter p xs)) (same x) ∙ ap (λ (ys : List A). cond (q x) (x ∷ ys) ys) (filter_same p q xs same)
 
 and_false : (a : Bool) → (a && false) ≡ false
 and_false true = refl
 and_false false = refl
 
 -- a name stands among those that a test takes exactly where it stands in the list and the test takes it
-pub is_among-filter : (p : List ℕ → Bool) (n : List ℕ) (names : List (List ℕ)) → is_among n (filter p names) ≡ (is_among n names && p n)
-is_among-filter p n [] = refl
-is_among-filter p n (x ∷ xs) = by (p x) refl (bytes_eq n x) refl (is_among-filter p n xs)
+pub is_among_filter : (p : List ℕ → Bool) (n : List ℕ) (names : List (List ℕ)) → is_among n (filter p names) ≡ (is_among n names && p n)
+is_among_filter p n [] = refl
+is_among_filter p n (x ∷ xs) = by (p x) refl (bytes_eq n x) refl (is_among_filter p n xs)
   where
     by : (b : Bool) → p x ≡ b → (a : Bool) → bytes_eq n x ≡ a → is_among n (filter p xs) ≡ (is_among n xs && p n) → is_among n (cond b (x ∷ filter p xs) (filter p xs)) ≡ ((bytes_eq n x || is_among n xs) && p n)
     by true e true h later =

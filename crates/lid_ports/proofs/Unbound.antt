@@ -8,8 +8,8 @@ use Rattle.lid_design.specs.Columns.{is_among, model_named, is_clock, data_input
 use Rattle.lid_design.specs.Models.{insts_of, instance_number, is_clock_of, is_port, firsts}
 use Rattle.lid_ports.proofs.Subs.{named_by, sub_there}
 use Rattle.lid_ports.specs.Formals.{is_port_of, first_unbound_of}
-use Rattle.lid_names.proofs.Lists.{is_among-firsts}
-use Rattle.lid_ports.proofs.Sets.{find-same}
+use Rattle.lid_names.proofs.Lists.{is_among_firsts}
+use Rattle.lid_ports.proofs.Sets.{find_same}
 
 -- instance i of model k, whose model has the number j
 module _ (d : Design) (k i : ℕ) (inst : Inst) (here : slice_get (insts_of d k) i ≡ Some inst) where
@@ -25,7 +25,7 @@ module _ (d : Design) (k i : ℕ) (inst : Inst) (here : slice_get (insts_of d k)
   unbound_by bound names whole j is =
       let m = sub_there d k i inst here j is in
       ap (option_and_then (λ m. find (λ n. not (is_among n bound)) (data_inputs d m))) m.1
-      ∙ find-same (λ n. not (is_among n bound)) (λ n. not (is_among n names)) (data_inputs d m.0) (λ n. ap not (ap (is_among n) whole ∙ is_among-firsts n names))
+      ∙ find_same (λ n. not (is_among n bound)) (λ n. not (is_among n names)) (data_inputs d m.0) (λ n. ap not (ap (is_among n) whole ∙ is_among_firsts n names))
       ∙ sym (ap (option_and_then (λ m. find (λ n. not (is_among n names)) (data_inputs d m))) (named_by d k i inst here (Some j) is ∙ m.1))
 
 -- the first data input of a model that is not in a set

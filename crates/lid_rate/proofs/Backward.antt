@@ -5,7 +5,7 @@ use Rattle.std.proofs.lemmas.List.{length-reverse, get_or-reverse, get_or_defaul
 use Rattle.std.proofs.lemmas.Grind.{reverse_onto}
 use Rattle.lid_graph.specs.declared.graph.Graph.{Graph}
 use Rattle.lid_graph.specs.Walks.{edge_at, walk_tokens, IsWalk}
-use Rattle.lid_graph.proofs.Journeys.{walk-append}
+use Rattle.lid_graph.proofs.Journeys.{walk_append}
 use Rattle.lid_rate.specs.Chains.{IsChain}
 use Rattle.lid_rate.specs.Raising.{AreEdges}
 use Rattle.lid_rate.proofs.Settles.{contains_within}
@@ -27,7 +27,7 @@ chain_walk g es edges [] v u chain = sym chain
 chain_walk g es edges (k ∷ ks) v u chain =
     let rest : IsWalk g u (reverse ks) (edge_at g k).from = chain_walk g es edges ks (edge_at g k).from u chain.2 in
     let last : IsWalk g (edge_at g k).from (k ∷ []) v = (contains_within g es k edges chain.0, refl, chain.1) in
-    subst (λ (l : List ℕ). IsWalk g u l v) (sym (reverse_onto ks k [])) (walk-append g (reverse ks) (k ∷ []) u (edge_at g k).from v rest last)
+    subst (λ (l : List ℕ). IsWalk g u l v) (sym (reverse_onto ks k [])) (walk_append g (reverse ks) (k ∷ []) u (edge_at g k).from v rest last)
 
 chain_at : (g : Graph) (es ks : List ℕ) (v u i : ℕ) → IsChain g es v ks u → i < length ks → Contains es (get_or ks i 0)
 chain_at g es [] v u i chain h = absurd (omega arith)

@@ -9,10 +9,10 @@ use Rattle.std.proofs.lemmas.List.{length-reverse, length-map, get_or-map, get_o
 use Rattle.lid_graph.specs.declared.graph.Graph.{Graph}
 use Rattle.lid_graph.specs.Walks.{no_edge, edge_at, walk_start, walk_tokens, IsWalk, IsClosedWalk, IsJoined}
 use Rattle.lid_graph.specs.Ratios.{IsLag}
-use Rattle.lid_graph.proofs.Journeys.{joined-step, joined-back}
+use Rattle.lid_graph.proofs.Journeys.{joined_step, joined_back}
 use Rattle.lid_cert.specs.declared.cert.Part.{Part}
 use Rattle.lid_cert.specs.Certificates.{has_node, lag_of, lead_of, depth_of, via_of, AreLists, IsEdgeMet, IsStartMet, IsVia, IsNodeMet, IsPart, ascends}
-use Rattle.lid_cert.proofs.Parts.{lag_along, stays-back}
+use Rattle.lid_cert.proofs.Parts.{lag_along, stays_back}
 use Rattle.lid_rate.specs.Chains.{IsChain, MeetsOnce}
 use Rattle.lid_rate.specs.Raising.{AreEdges}
 use Rattle.lid_rate.specs.Rating.{IsRate}
@@ -39,9 +39,9 @@ module _ (g : Graph) (ok : IsRateable g) (least : List ℕ) (labels : AreLabels 
   same_label u v hu hv joined =
       let at_u = labels.labels u hu in
       let at_v = labels.labels v hv in
-      let back = joined-back g ok.paired joined.0 u v joined.1 in
-      let a : get_or least u 0 ≤ get_or least v 0 = at_u.least (get_or least v 0) (joined-step g u v (get_or least v 0) joined at_v.joined) in
-      let b : get_or least v 0 ≤ get_or least u 0 = at_v.least (get_or least u 0) (joined-step g v u (get_or least u 0) back at_u.joined) in
+      let back = joined_back g ok.paired joined.0 u v joined.1 in
+      let a : get_or least u 0 ≤ get_or least v 0 = at_u.least (get_or least v 0) (joined_step g u v (get_or least v 0) joined at_v.joined) in
+      let b : get_or least v 0 ≤ get_or least u 0 = at_v.least (get_or least u 0) (joined_step g v u (get_or least u 0) back at_u.joined) in
       omega arith
 
   pub edge_label : (k : ℕ) → k < length g.edges → get_or least (edge_at g k).from 0 ≡ get_or least (edge_at g k).to 0
@@ -52,8 +52,8 @@ module _ (g : Graph) (ok : IsRateable g) (least : List ℕ) (labels : AreLabels 
   joined_by u v hu hv same =
       let to_label : IsJoined g u (get_or least u 0) = (labels.labels u hu).joined in
       let from_v : IsJoined g v (get_or least v 0) = (labels.labels v hv).joined in
-      let back : IsJoined g (get_or least v 0) v = joined-back g ok.paired from_v.0 v (get_or least v 0) from_v.1 in
-      joined-step g u (get_or least u 0) v to_label (subst (λ (n : ℕ). IsJoined g n v) (sym same) back)
+      let back : IsJoined g (get_or least v 0) v = joined_back g ok.paired from_v.0 v (get_or least v 0) from_v.1 in
+      joined_step g u (get_or least u 0) v to_label (subst (λ (n : ℕ). IsJoined g n v) (sym same) back)
 
   module _ (r : ℕ) (own : get_or least r 0 ≡ r) (r_within : r < g.nodes) where
     abbrev es : List ℕ
@@ -295,7 +295,7 @@ module _ (g : Graph) (ok : IsRateable g) (least : List ℕ) (labels : AreLabels 
             let a : part.p * length (reverse way.1) ≡ p * length (reverse way.1) = ap (λ (n : ℕ). n * length (reverse way.1)) p_is in
             let b : part.q * walk_tokens g (reverse way.1) ≡ q * walk_tokens g (reverse way.1) = ap (λ (n : ℕ). n * walk_tokens g (reverse way.1)) q_is in
             record {
-              all = λ u ks walk_is. (let along = lag_along g part is_part ks u v walk_is (stays-back g part is_part ks u v walk_is e) in omega arith);
+              all = λ u ks walk_is. (let along = lag_along g part is_part ks u v walk_is (stays_back g part is_part ks u v walk_is e) in omega arith);
               some = (way.0, reverse way.1, walk_v, omega arith);
             }
 

@@ -9,7 +9,7 @@ use Rattle.lid_graph.specs.declared.graph.Graph.{Graph}
 use Rattle.lid_cert.specs.declared.cert.Part.{Part}
 use Rattle.lid_cert.specs.declared.cert.Cert.{Cert}
 use Rattle.lid_cert.specs.Certificates.{has_node, least_node, parts_with, ascends, Certifies, IsInRange}
-use Rattle.lid_cert.proofs.Ascending.{rises-pair}
+use Rattle.lid_cert.proofs.Ascending.{rises_pair}
 use Rattle.lid_cert.proofs.Consequences.{ratio_is_shown}
 use Rattle.lid_rate.specs.Rates.{IsRateable, those, AreLabels, is_labelled, IsPartOf, IsExact, is_own, AreParts}
 use Rattle.lid_rate.proofs.Those.{Stands, those_only, those_all, those_ascends, those_has}
@@ -58,7 +58,7 @@ module _ (g : Graph) (ok : IsRateable g) (least : List ℕ) (labels : AreLabels 
       by_place : (j : ℕ) → j < length (those (is_labelled least r) (length least)) → get_or (those (is_labelled least r) (length least)) j 0 ≡ r → get_or (those (is_labelled least r) (length least)) 0 0 ≡ r
       by_place zero l is = is
       by_place (suc j) l is =
-          let less : get_or (those (is_labelled least r) (length least)) 0 0 < get_or (those (is_labelled least r) (length least)) (suc j) 0 = rises-pair (those (is_labelled least r) (length least)) 0 0 (suc j) (those_ascends (is_labelled least r) (length least)) (omega arith) l in
+          let less : get_or (those (is_labelled least r) (length least)) 0 0 < get_or (those (is_labelled least r) (length least)) (suc j) 0 = rises_pair (those (is_labelled least r) (length least)) 0 0 (suc j) (those_ascends (is_labelled least r) (length least)) (omega arith) l in
           let only = those_only (is_labelled least r) (length least) 0 (omega arith) in
           let count = labels.count in
           let label : get_or least (get_or (those (is_labelled least r) (length least)) 0 0) 0 ≡ r = eqb-true (get_or least (get_or (those (is_labelled least r) (length least)) 0 0) 0) r only.1 in

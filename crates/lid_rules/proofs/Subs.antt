@@ -1,2 +1,2 @@
 -- The law of numbers of models that the crates above cite.
-pub use Rattle.lid_names.proofs.Numbers.{position-below}
+pub use Rattle.lid_names.proofs.Numbers.{position_below}

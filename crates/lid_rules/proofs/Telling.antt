@@ -16,22 +16,22 @@ use Rattle.lid_ports.specs.Formals.{faulty_formal}
 use Rattle.lid_rules.specs.Names.{name_rule, name_at, by_names, told_by, first_by_rules, is_faulty, told_name}
 use Rattle.lid_rules.specs.declared.names.Findings.{Findings}
 use Rattle.lid_rules.proofs.Faults.{same_told}
-use Rattle.lid_rules.proofs.Sets.{find-map}
+use Rattle.lid_rules.proofs.Sets.{find_map}
 
-map-then : {A B C : Type 0} (f : B → C) (g : A → Option B) (o : Option A) → option_and_then (λ a. option_map f (g a)) o ≡ option_map f (option_and_then g o)
-map-then f g None = refl
-map-then f g (Some a) = refl
+map_then : {A B C : Type 0} (f : B → C) (g : A → Option B) (o : Option A) → option_and_then (λ a. option_map f (g a)) o ≡ option_map f (option_and_then g o)
+map_then f g None = refl
+map_then f g (Some a) = refl
 
-then-same : {A B : Type 0} (f g : A → Option B) (o : Option A) → ((a : A) → f a ≡ g a) → option_and_then f o ≡ option_and_then g o
-then-same f g None same = refl
-then-same f g (Some a) same = same a
+then_same : {A B : Type 0} (f g : A → Option B) (o : Option A) → ((a : A) → f a ≡ g a) → option_and_then f o ≡ option_and_then g o
+then_same f g None same = refl
+then_same f g (Some a) same = same a
 
 pub rule_by_formal : (rule : InstRule) (d : Design) (m : Model) (i : ℕ) (inst : Inst) → inst_rule rule d m i inst ≡ option_map (told_formal rule m.name i) (faulty_formal rule d inst)
 rule_by_formal UnknownFormal d m i inst =
-    then-same _ _ (model_named d inst.model) (λ sub. find-map (fault.UnknownFormal m.name i) (λ n. not (is_port sub n)) formal_of inst.binds)
-    ∙ map-then (fault.UnknownFormal m.name i) (λ sub. find (λ n. not (is_port sub n)) (formals inst)) (model_named d inst.model)
+    then_same _ _ (model_named d inst.model) (λ sub. find_map (fault.UnknownFormal m.name i) (λ n. not (is_port sub n)) formal_of inst.binds)
+    ∙ map_then (fault.UnknownFormal m.name i) (λ sub. find (λ n. not (is_port sub n)) (formals inst)) (model_named d inst.model)
 rule_by_formal FormalTwice d m i inst = refl
-rule_by_formal Unbound d m i inst = map-then (fault.Unbound m.name i) (λ sub. find (λ n. not (is_among n (formals inst))) (data_inputs d sub)) (model_named d inst.model)
+rule_by_formal Unbound d m i inst = map_then (fault.Unbound m.name i) (λ sub. find (λ n. not (is_among n (formals inst))) (data_inputs d sub)) (model_named d inst.model)
 
 pub rule_by_name : (rule : NameRule) (d : Design) (m : Model) → name_rule rule d m ≡ option_map (told_name rule m.name) (first_name (is_faulty rule d m) m)
 rule_by_name TwoDrivers d m = refl

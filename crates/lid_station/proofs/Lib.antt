@@ -1,5 +1,5 @@
-pub mod BoardLemmas
-pub mod PlainLemmas
-pub mod PrefixLemmas
-pub mod StartLemmas
-pub mod WordLemmas
+pub mod Boards
+pub mod PlainStations
+pub mod Prefixes
+pub mod Starts
+pub mod Words

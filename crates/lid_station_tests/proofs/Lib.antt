@@ -1,1 +1,1 @@
-pub mod StillLemmas
+pub mod Still

@@ -32,7 +32,7 @@ use Rattle.lid_elab.proofs.Placing.{net_right}
 use Rattle.lid_elab.proofs.Every.{driven_column}
 use Rattle.lid_strict.proofs.Descent.{walks_end}
 use Rattle.lid_strict.proofs.Levels.{model_order}
-use Rattle.lid_strict.proofs.Outputs.{from_each-long}
+use Rattle.lid_strict.proofs.Outputs.{from_each_long}
 
 known_of : (d : Design) → ModelsPass d → AreKnown d
 unfolding fault_before_recursion
@@ -43,15 +43,15 @@ judged_of d formed pass =
     let order = model_order d formed pass.flat pass.ks pass.reached in
     record { formed = formed; order = order.0; ordered = order.1; known = known_of d pass; pass = pass }
 
-from_each-at : (f : ℕ → ℕ) (k n i o : ℕ) → slice_get (from_each f k n) i ≡ Some o → o ≡ f (k + i)
-from_each-at f k zero i o here = absurd (let e : None ≡ Some o = here in cc)
-from_each-at f k (suc n) zero o here =
+from_each_at : (f : ℕ → ℕ) (k n i o : ℕ) → slice_get (from_each f k n) i ≡ Some o → o ≡ f (k + i)
+from_each_at f k zero i o here = absurd (let e : None ≡ Some o = here in cc)
+from_each_at f k (suc n) zero o here =
     let first : f k ≡ o = (let e : Some (f k) ≡ Some o = here in cc) in
     let alike : k ≡ k + 0 = omega arith in
     sym first ∙ ap f alike
-from_each-at f k (suc n) (suc i) o here =
+from_each_at f k (suc n) (suc i) o here =
     let next : (k + 1) + i ≡ k + suc i = omega arith in
-    from_each-at f (k + 1) n i o here ∙ ap f next
+    from_each_at f (k + 1) n i o here ∙ ap f next
 
 reads_mapped : {A B : Type 0} (f : A → B) (s : Driver A) → read_now (map_driver f s) ++ read_before (map_driver f s) ≡ map f (read_now s ++ read_before s)
 reads_mapped f (from_input j) = refl
@@ -87,8 +87,8 @@ module _ (d : Design) (judged : IsJudged d) where
           let count = length m.insts in (
             placed (start_of d c.path) (from_each (offset_of d at.model) 0 count) around.0 (numbered d at.model one.0),
             net_right d judged.formed judged.order judged.ordered judged.known judged.pass (shallow_of d judged) c.path at.model m at.leads e (from_each (offset_of d at.model) 0 count)
-                (λ i o is. from_each-at (offset_of d at.model) 0 count i o is ∙ ap (offset_of d at.model) (zero-add i))
-                (from_each-long (offset_of d at.model) 0 count)
+                (λ i o is. from_each_at (offset_of d at.model) 0 count i o is ∙ ap (offset_of d at.model) (zero-add i))
+                (from_each_long (offset_of d at.model) 0 count)
                 around.0 (fits d c.path at.model around.0 judged around.1) c.net among one.0 one.1,
           )
 

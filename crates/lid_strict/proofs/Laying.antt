@@ -12,12 +12,12 @@ part_more : {A : Type 0} (xs ys : List A) → Extends xs ys → (part : Part) �
 part_more xs ys more part there =
     let long = length-drop part.start xs in
     let fits : part.end - part.start ≤ length (drop part.start xs) = omega arith in
-    ap (part_of-list part) more.1
+    ap (part_of_list part) more.1
     ∙ ap (take (part.end - part.start)) (drop-append-le part.start xs more.0 (omega arith))
     ∙ take-append-le (part.end - part.start) (drop part.start xs) more.0 fits
   where
-    part_of-list : {A : Type 0} → Part → List A → List A
-    part_of-list part zs = part_of zs part
+    part_of_list : {A : Type 0} → Part → List A → List A
+    part_of_list part zs = part_of zs part
 
 is_part_more : {A : Type 0} (xs ys : List A) → Extends xs ys → (part : Part) → IsPart xs part → IsPart ys part
 is_part_more xs ys more part there =

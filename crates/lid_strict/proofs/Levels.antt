@@ -7,7 +7,7 @@ use Rattle.lid_design.specs.declared.Inst.{Inst}
 use Rattle.lid_design.specs.WellFormed.{IsWellFormed}
 use Rattle.lid_design.specs.Walks.{Among}
 use Rattle.lid_design.specs.Models.{Ascend, AreReached, HasNoRecursion, IsReached, insts_of, number_named, instance_number, number_from}
-use Rattle.lid_design.proofs.Tables.{among-left, among-right}
+use Rattle.lid_design.proofs.Tables.{among-left, among_right}
 use Rattle.lid_hierarchy.specs.Surveys.{StandsAfterItsModels, IsModelOrder}
 use Rattle.lid_hierarchy.proofs.Walks.{reached_below}
 use Rattle.lid_elab.proofs.Names.{among-append, among-filter, filter-among}
@@ -112,7 +112,7 @@ module _ (d : Design) where
       by true e next = among-left k (levels n ks) (level n ks) (next e)
       by false e next =
           let new : (is_low (suc n) k && not (is_low n k)) ≡ true = ap (λ (b : Bool). b && not (is_low n k)) low ∙ ap not e in
-          among-right k (levels n ks) (level n ks) (among-filter (λ k. is_low (suc n) k && not (is_low n k)) k ks among new)
+          among_right k (levels n ks) (level n ks) (among-filter (λ k. is_low (suc n) k && not (is_low n k)) k ks among new)
 
   levels_only : (n : ℕ) (ks : List ℕ) (k : ℕ) → Among k (levels n ks) → Among k ks
   levels_only zero ks k none = absurd none

@@ -14,7 +14,7 @@ use Rattle.lid_elab.specs.Elaborations.{shown_driver, map_driver, column_at, IsE
 use Rattle.lid_check.proofs.Numbered.{column_here}
 use Rattle.lid_strict.specs.Networks.{driver_of, reads_of, HasCover, AreHeldBelow, AreNumbersOf, rows_at}
 use Rattle.lid_strict.proofs.Covered.{IsCovered, all_covered}
-use Rattle.lid_strict.proofs.Tables.{map-map, numbered, table}
+use Rattle.lid_strict.proofs.Tables.{map_map, numbered, table}
 
 -- what holds of the item at each place holds of all
 all_from_at : {A : Type 0} (P : A → Type 0) (xs : List A) → ((k : ℕ) (x : A) → slice_get xs k ≡ Some x → P x) → AllByRecursion P xs
@@ -25,24 +25,24 @@ all_right : {A : Type 0} (P : A → Type 0) (xs ys : List A) → AllByRecursion 
 all_right P [] ys all = all
 all_right P (x ∷ xs) ys all = all_right P xs ys all.1
 
-from_each-same : {A : Type 0} (f g : ℕ → A) (k n : ℕ) → ((t : ℕ) → f t ≡ g t) → from_each f k n ≡ from_each g k n
-from_each-same f g k zero equal = refl
-from_each-same f g k (suc n) equal =
+from_each_same : {A : Type 0} (f g : ℕ → A) (k n : ℕ) → ((t : ℕ) → f t ≡ g t) → from_each f k n ≡ from_each g k n
+from_each_same f g k zero equal = refl
+from_each_same f g k (suc n) equal =
     let head = equal k in
-    let tail = from_each-same f g (k + 1) n equal in
+    let tail = from_each_same f g (k + 1) n equal in
     cc
 
-pub from_each-long : {A : Type 0} (f : ℕ → A) (k n : ℕ) → length (from_each f k n) ≡ n
-from_each-long f k zero = refl
-from_each-long f k (suc n) = let h = from_each-long f (k + 1) n in omega arith
+pub from_each_long : {A : Type 0} (f : ℕ → A) (k n : ℕ) → length (from_each f k n) ≡ n
+from_each_long f k zero = refl
+from_each_long f k (suc n) = let h = from_each_long f (k + 1) n in omega arith
 
-from_each-all : {A : Type 0} (P : A → Type 0) (f : ℕ → A) (k n : ℕ) → ((t : ℕ) → P (f t)) → AllByRecursion P (from_each f k n)
-from_each-all P f k zero each = tt
-from_each-all P f k (suc n) each = (each k, from_each-all P f (k + 1) n each)
+from_each_all : {A : Type 0} (P : A → Type 0) (f : ℕ → A) (k n : ℕ) → ((t : ℕ) → P (f t)) → AllByRecursion P (from_each f k n)
+from_each_all P f k zero each = tt
+from_each_all P f k (suc n) each = (each k, from_each_all P f (k + 1) n each)
 
-map-names : (f : Column → Bool) (names : List (List ℕ)) → map f (map (column []) names) ≡ map (λ net. f (column [] net)) names
-map-names f [] = refl
-map-names f (n ∷ names) = ap (λ (bs : List Bool). f (column [] n) ∷ bs) (map-names f names)
+map_names : (f : Column → Bool) (names : List (List ℕ)) → map f (map (column []) names) ≡ map (λ net. f (column [] net)) names
+map_names f [] = refl
+map_names f (n ∷ names) = ap (λ (bs : List Bool). f (column [] n) ∷ bs) (map_names f names)
 
 module _ (d : Design) (list : List ColumnDriver) (starts : List ℕ) (is : IsElaborated d (map shown_driver list) starts) where
   uncovered : (s : Driver ℕ) → IsCovered (map_driver (column_at d) s) → HasCover s
@@ -78,15 +78,15 @@ module _ (d : Design) (list : List ColumnDriver) (starts : List ℕ) (is : IsEla
     some = table d (map shown_driver list) starts is order ordered rows;
     each = λ b strict.
         every (λ t k. b t (column_at d k)) (numbered d (map shown_driver list) starts is rows b strict)
-        ∙ from_each-same (λ t. map (λ k. b t (column_at d k)) outs) (output_row d b) 0 (length rows)
-        (λ t. sym (map-map (b t) (column_at d) outs) ∙ ap (map (b t)) numbers.outputs ∙ map-names (b t) (root_outputs d));
+        ∙ from_each_same (λ t. map (λ k. b t (column_at d k)) outs) (output_row d b) 0 (length rows)
+        (λ t. sym (map_map (b t) (column_at d) outs) ∙ ap (map (b t)) numbers.outputs ∙ map_names (b t) (root_outputs d));
   }
 
 -- as many rows as the inputs have, each as wide as the outputs
 pub output_height : (d : Design) (rows out : List (List Bool)) → IsStrictOutput d rows out → length out ≡ length rows
-output_height d rows out is = ap length (is.each is.some.0 is.some.1) ∙ from_each-long (output_row d is.some.0) 0 (length rows)
+output_height d rows out is = ap length (is.each is.some.0 is.some.1) ∙ from_each_long (output_row d is.some.0) 0 (length rows)
 
 pub output_width : (d : Design) (rows out : List (List Bool)) → IsStrictOutput d rows out → AllByRecursion (λ row. length row ≡ length (root_outputs d)) out
 output_width d rows out is =
     subst (AllByRecursion (λ (row : List Bool). length row ≡ length (root_outputs d))) (sym (is.each is.some.0 is.some.1))
-    (from_each-all (λ (row : List Bool). length row ≡ length (root_outputs d)) (output_row d is.some.0) 0 (length rows) (λ t. length-map (root_outputs d) _))
+    (from_each_all (λ (row : List Bool). length row ≡ length (root_outputs d)) (output_row d is.some.0) 0 (length rows) (λ t. length-map (root_outputs d) _))

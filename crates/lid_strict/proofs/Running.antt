@@ -7,23 +7,23 @@ use Rattle.lid_design.specs.Walks.{read_before}
 use Rattle.lid_strict.specs.Networks.{driver_of, bit_at, AreHeldBelow, bit_from, FitsRow, rows_at, IsRun}
 use Rattle.lid_strict.proofs.Settling.{all-at}
 
-from_each-suc : {A : Type 0} (f : ℕ → A) (k n : ℕ) → from_each f k (suc n) ≡ from_each f k n ++ f (k + n) ∷ []
-from_each-suc f k zero = ap (λ (m : ℕ). f m ∷ []) (sym (add-zero k))
-from_each-suc f k (suc n) =
+from_each_suc : {A : Type 0} (f : ℕ → A) (k n : ℕ) → from_each f k (suc n) ≡ from_each f k n ++ f (k + n) ∷ []
+from_each_suc f k zero = ap (λ (m : ℕ). f m ∷ []) (sym (add-zero k))
+from_each_suc f k (suc n) =
     let next : (k + 1) + n ≡ k + suc n = omega arith in
-    ap (λ xs. f k ∷ xs) (from_each-suc f (k + 1) n ∙ ap (λ (m : ℕ). from_each f (k + 1) n ++ f m ∷ []) next)
+    ap (λ xs. f k ∷ xs) (from_each_suc f (k + 1) n ∙ ap (λ (m : ℕ). from_each f (k + 1) n ++ f m ∷ []) next)
 
 -- one row more
-pub from_each-more : {A : Type 0} (f : ℕ → A) (n : ℕ) → from_each f 0 (n + 1) ≡ from_each f 0 n ++ f n ∷ []
-from_each-more f n =
+pub from_each_more : {A : Type 0} (f : ℕ → A) (n : ℕ) → from_each f 0 (n + 1) ≡ from_each f 0 n ++ f n ∷ []
+from_each_more f n =
     let next : n + 1 ≡ suc n = omega arith in
-    ap (from_each f 0) next ∙ from_each-suc f 0 n ∙ ap (λ (m : ℕ). from_each f 0 n ++ f m ∷ []) (zero-add n)
+    ap (from_each f 0) next ∙ from_each_suc f 0 n ∙ ap (λ (m : ℕ). from_each f 0 n ++ f m ∷ []) (zero-add n)
 
-pub map-agree : (f g : ℕ → Bool) (n : ℕ) (xs : List ℕ) → AllByRecursion (λ a. a < n) xs → ((a : ℕ) → a < n → f a ≡ g a) → map f xs ≡ map g xs
-map-agree f g n [] below agree = refl
-map-agree f g n (x ∷ xs) below agree =
+pub map_agree : (f g : ℕ → Bool) (n : ℕ) (xs : List ℕ) → AllByRecursion (λ a. a < n) xs → ((a : ℕ) → a < n → f a ≡ g a) → map f xs ≡ map g xs
+map_agree f g n [] below agree = refl
+map_agree f g n (x ∷ xs) below agree =
     let head = agree x below.0 in
-    let tail = map-agree f g n xs below.1 agree in
+    let tail = map_agree f g n xs below.1 agree in
     cc
 
 module _ (network : List (Driver ℕ)) (rows : List (List Bool)) (below : AreHeldBelow network) (b : Table ℕ) (strict : IsStrict (driver_of network) rows b) where
@@ -56,7 +56,7 @@ runs_next network outs rows below t before now out row bits run h same_row size 
       let fit = fits network rows below b strict row t before same_row h (run.last_row b strict) in
       ap (λ (rs : List (List Bool)). rs ++ bits ∷ []) (run.rows_so_far b strict)
       ∙ ap (λ (r : List Bool). rows_at outs b t ++ r ∷ []) (given_bits (b t) fit)
-      ∙ sym (from_each-more (λ u. map (b u) outs) t);
+      ∙ sym (from_each_more (λ u. map (b u) outs) t);
   last_row = λ b strict u k e in_range.
       let fit = fits network rows below b strict row t before same_row h (run.last_row b strict) in
       let same_t : t ≡ u = omega arith in

@@ -9,20 +9,20 @@ use Rattle.lid_design.specs.Walks.{read_now}
 use Rattle.lid_digraph.specs.Graphs.{Among, reads_at, IsOrder}
 use Rattle.lid_strict.specs.Networks.{bit_at, reads_of, bit_from, FitsRow, AgreesAt}
 
-map-agree : (f g : ℕ → Bool) (xs : List ℕ) → ((a : ℕ) → Among a xs → f a ≡ g a) → map f xs ≡ map g xs
-map-agree f g [] agree = refl
-map-agree f g (x ∷ xs) agree =
+map_agree : (f g : ℕ → Bool) (xs : List ℕ) → ((a : ℕ) → Among a xs → f a ≡ g a) → map f xs ≡ map g xs
+map_agree f g [] agree = refl
+map_agree f g (x ∷ xs) agree =
     let head = agree x (inl refl) in
-    let tail = map-agree f g xs (λ a i. agree a (inr i)) in
+    let tail = map_agree f g xs (λ a i. agree a (inr i)) in
     cc
 
 -- a driver gives the same from bits that agree at what it reads
-bit_from-agree : (row : List Bool) (is_first : Bool) (before : List Bool) (f g : ℕ → Bool) (s : Driver ℕ) → ((a : ℕ) → Among a (read_now s) → f a ≡ g a) → bit_from row is_first before f s ≡ bit_from row is_first before g s
-bit_from-agree row is_first before f g (from_input j) agree = refl
-bit_from-agree row true before f g (from_latch first input) agree = refl
-bit_from-agree row false before f g (from_latch first input) agree = refl
-bit_from-agree row is_first before f g (from_cover cover inputs) agree = ap (cover_value cover) (map-agree f g inputs agree)
-bit_from-agree row is_first before f g (from_connection other) agree = agree other (inl refl)
+bit_from_agree : (row : List Bool) (is_first : Bool) (before : List Bool) (f g : ℕ → Bool) (s : Driver ℕ) → ((a : ℕ) → Among a (read_now s) → f a ≡ g a) → bit_from row is_first before f s ≡ bit_from row is_first before g s
+bit_from_agree row is_first before f g (from_input j) agree = refl
+bit_from_agree row true before f g (from_latch first input) agree = refl
+bit_from_agree row false before f g (from_latch first input) agree = refl
+bit_from_agree row is_first before f g (from_cover cover inputs) agree = ap (cover_value cover) (map_agree f g inputs agree)
+bit_from_agree row is_first before f g (from_connection other) agree = agree other (inl refl)
 
 reads-at : (network : List (Driver ℕ)) (k : ℕ) (s : Driver ℕ) → slice_get network k ≡ Some s → reads_at (reads_of network) k ≡ read_now s
 reads-at [] k s h = absurd (let e : None ≡ Some s = h in cc)
@@ -40,7 +40,7 @@ module _ (network : List (Driver ℕ)) (order : List ℕ) (is : IsOrder (reads_o
     right : v ≡ f (slice_index order i)
     right =
         value
-        ∙ bit_from-agree row is_first before (bit_at now) f s (λ a read. agree a (is.earlier i a h (subst (Among a) (sym (reads-at network (slice_index order i) s here)) read)))
+        ∙ bit_from_agree row is_first before (bit_at now) f s (λ a read. agree a (is.earlier i a h (subst (Among a) (sym (reads-at network (slice_index order i) s here)) read)))
         ∙ sym (fits (slice_index order i) s here)
 
     at_next : bit_at (set now (slice_index order i) v) (slice_index order i) ≡ f (slice_index order i)

@@ -16,16 +16,16 @@ use Rattle.lid_check.proofs.Lists.{among_get}
 use Rattle.lid_check.proofs.Numbered.{graph, graph_length, column_here, within, fed_number, walk_up, column_is}
 use Rattle.lid_strict.specs.Networks.{driver_of}
 
-pub map-map : (f : Column → Bool) (g : ℕ → Column) (xs : List ℕ) → map f (map g xs) ≡ map (λ k. f (g k)) xs
-map-map f g [] = refl
-map-map f g (x ∷ xs) = ap (λ (bs : List Bool). f (g x) ∷ bs) (map-map f g xs)
+pub map_map : (f : Column → Bool) (g : ℕ → Column) (xs : List ℕ) → map f (map g xs) ≡ map (λ k. f (g k)) xs
+map_map f g [] = refl
+map_map f g (x ∷ xs) = ap (λ (bs : List Bool). f (g x) ∷ bs) (map_map f g xs)
 
 -- what a driver gives, by numbers
 numbered_bit : (rows : List (List Bool)) (b : Table Column) (col : ℕ → Column) (t : ℕ) (s : Driver ℕ) → bit_of rows b t (map_driver col s) ≡ bit_of rows (λ u k. b u (col k)) t s
 numbered_bit rows b col t (from_input j) = refl
 numbered_bit rows b col zero (from_latch first input) = refl
 numbered_bit rows b col (suc t) (from_latch first input) = refl
-numbered_bit rows b col t (from_cover cover inputs) = ap (cover_value cover) (map-map (b t) col inputs)
+numbered_bit rows b col t (from_cover cover inputs) = ap (cover_value cover) (map_map (b t) col inputs)
 numbered_bit rows b col t (from_connection other) = refl
 
 module _ (d : Design) (network : List (Driver ℕ)) (starts : List ℕ) (is : IsElaborated d network starts) where

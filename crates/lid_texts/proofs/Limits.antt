@@ -9,7 +9,7 @@ use Rattle.lid_base.specs.Lines.{joins_of, physical_lines}
 use Rattle.lid_texts.specs.declared.rows.VecFault.{VecFault}
 use Rattle.lid_texts.specs.Rows.{RowsLine, has_words, rows_line, has_long_word, row_width, header_fault, row_fault, row_bits, bits_reading, rows_lines}
 use Rattle.lid_texts.specs.RowsWalk.{bits_after, or_refuse}
-use Rattle.lid_texts.proofs.WalkLemmas.{bits_after-first, not_zero}
+use Rattle.lid_texts.proofs.Walking.{bits_after_first, not_zero}
 
 -- what holds of the bits of rows
 pub record IsWithin (columns : List (List ℕ)) (outs : ℕ) (bits : List (List Bool)) : Type 0 where
@@ -23,47 +23,47 @@ record IsSound (columns : List (List ℕ)) (outs k : ℕ) (line : RowsLine) : Ty
   few_out_bits : k * outs ≤ 67108864
   wide : length (row_bits columns line) ≡ length columns
 
-if-None : (b : Bool) {A : Type 0} (a : A) (more : Option A) → (if b then Some a else more) ≡ None → (b ≡ false) × (more ≡ None)
-if-None true a more h = cc
-if-None false a more h = (refl, h)
+if_None : (b : Bool) {A : Type 0} (a : A) (more : Option A) → (if b then Some a else more) ≡ None → (b ≡ false) × (more ≡ None)
+if_None true a more h = cc
+if_None false a more h = (refl, h)
 
-or-false-both : (a b : Bool) → (a || not b) ≡ false → b ≡ true
-or-false-both true b h = cc
-or-false-both false true h = refl
-or-false-both false false h = cc
+or_false_both : (a b : Bool) → (a || not b) ≡ false → b ≡ true
+or_false_both true b h = cc
+or_false_both false true h = refl
+or_false_both false false h = cc
 
-row_bits-width : (columns : List (List ℕ)) (line : RowsLine) → length (concat line.words) ≡ row_width columns → length (row_bits columns line) ≡ length columns
+row_bits_width : (columns : List (List ℕ)) (line : RowsLine) → length (concat line.words) ≡ row_width columns → length (row_bits columns line) ≡ length columns
 unfolding row_bits
-row_bits-width [] line h = refl
-row_bits-width (column ∷ columns) line h = simp length-map h
+row_bits_width [] line h = refl
+row_bits_width (column ∷ columns) line h = simp length-map h
 
-row_fault-None : (columns : List (List ℕ)) (outs k : ℕ) (line : RowsLine) → row_fault columns outs k line ≡ None → IsSound columns outs k line
+row_fault_None : (columns : List (List ℕ)) (outs k : ℕ) (line : RowsLine) → row_fault columns outs k line ≡ None → IsSound columns outs k line
 unfolding row_fault
-row_fault-None columns outs k line h =
-    let good = if-None line.bad _ _ h in
-    let few = if-None (nat_lt 1000000 k) _ _ good.1 in
-    let few_out_bits = if-None (nat_lt 67108864 (k * outs)) _ _ few.1 in
-    let wide = if-None (has_long_word line.words || not (length (concat line.words) == row_width columns)) _ _ few_out_bits.1 in
+row_fault_None columns outs k line h =
+    let good = if_None line.bad _ _ h in
+    let few = if_None (nat_lt 1000000 k) _ _ good.1 in
+    let few_out_bits = if_None (nat_lt 67108864 (k * outs)) _ _ few.1 in
+    let wide = if_None (has_long_word line.words || not (length (concat line.words) == row_width columns)) _ _ few_out_bits.1 in
     record {
       few = ltb-false 1000000 k few.0;
       few_out_bits = ltb-false 67108864 (k * outs) few_out_bits.0;
-      wide = row_bits-width columns line (eqb-true (length (concat line.words)) (row_width columns) (or-false-both _ _ wide.0));
+      wide = row_bits_width columns line (eqb-true (length (concat line.words)) (row_width columns) (or_false_both _ _ wide.0));
     }
 
 accepted : {A : Type 0} (fault : Option VecFault) (later : Result A VecFault) (a : A) → or_refuse fault later ≡ Ok a → (fault ≡ None) × (later ≡ Ok a)
 accepted None later a h = (refl, h)
 accepted (Some fault) later a h = cc
 
-Ok-inj : {A : Type 0} (a b : A) → ◌≡◌ {A = Result A VecFault} (Ok a) (Ok b) → a ≡ b
-Ok-inj a b h = cc
+Ok_inj : {A : Type 0} (a b : A) → ◌≡◌ {A = Result A VecFault} (Ok a) (Ok b) → a ≡ b
+Ok_inj a b h = cc
 
 module _ (columns : List (List ℕ)) (outs : ℕ) where
   none-within : IsWithin columns outs []
   none-within = record { wide = λ k d h. absurd (omega arith); few = omega arith; few_out_bits = omega arith }
 
-  push-within : (k : ℕ) (done : List (List Bool)) (line : RowsLine) → length done ≤ k → IsWithin columns outs done →
+  push_within : (k : ℕ) (done : List (List Bool)) (line : RowsLine) → length done ≤ k → IsWithin columns outs done →
       IsSound columns outs (suc k) line → IsWithin columns outs (done ++ row_bits columns line ∷ [])
-  push-within k done line d w s =
+  push_within k done line d w s =
       let fits : length (done ++ row_bits columns line ∷ []) ≤ suc k = simp length-append (omega arith) in
       record {
         wide = All-push (λ row. length row ≡ length columns) done (row_bits columns line) w.wide s.wide;
@@ -71,11 +71,11 @@ module _ (columns : List (List ℕ)) (outs : ℕ) where
         few_out_bits = omega (arith, mul-le-mul_right outs fits, s.few_out_bits);
       }
 
-  rows-within : (k : ℕ) (done : List (List Bool)) (lines : List RowsLine) (bits : List (List Bool)) →
+  rows_within : (k : ℕ) (done : List (List Bool)) (lines : List RowsLine) (bits : List (List Bool)) →
       length done ≤ k → IsWithin columns outs done → bits_after columns outs (suc k) done lines ≡ Ok bits → IsWithin columns outs bits
-  rows-within k done [] bits d w h =
-      subst (λ b. IsWithin columns outs b) (Ok-inj done bits (rw (not_zero (suc k) (omega arith)) at h)) w
-  rows-within k done (line ∷ lines) bits d w h =
+  rows_within k done [] bits d w h =
+      subst (λ b. IsWithin columns outs b) (Ok_inj done bits (rw (not_zero (suc k) (omega arith)) at h)) w
+  rows_within k done (line ∷ lines) bits d w h =
       let row = row_bits columns line in
       let later = bits_after columns outs (suc k + 1) (done ++ row ∷ []) lines in
       elim (has_words line) as (λ b.
@@ -83,25 +83,25 @@ module _ (columns : List (List ℕ)) (outs : ℕ) where
       → IsWithin columns outs bits) [
         | true ↦ λ t.
             let a = accepted (row_fault columns outs (suc k) line) later bits t in
-            rows-within (suc k) (done ++ row ∷ []) lines bits (simp length-append (omega arith))
-            (push-within k done line d w (row_fault-None columns outs (suc k) line a.0)) (rw (add-one (suc k)) at a.1)
-        | false ↦ rows-within k done lines bits d w
+            rows_within (suc k) (done ++ row ∷ []) lines bits (simp length-append (omega arith))
+            (push_within k done line d w (row_fault_None columns outs (suc k) line a.0)) (rw (add-one (suc k)) at a.1)
+        | false ↦ rows_within k done lines bits d w
       ]
       h
 
-  lines-within : (lines : List RowsLine) (bits : List (List Bool)) → bits_after columns outs 0 [] lines ≡ Ok bits → IsWithin columns outs bits
-  lines-within [] bits h = cc
-  lines-within (line ∷ lines) bits h =
+  lines_within : (lines : List RowsLine) (bits : List (List Bool)) → bits_after columns outs 0 [] lines ≡ Ok bits → IsWithin columns outs bits
+  lines_within [] bits h = cc
+  lines_within (line ∷ lines) bits h =
       elim (has_words line) as (λ b.
       (if b then or_refuse (header_fault columns line) (bits_after columns outs 1 [] lines) else bits_after columns outs 0 [] lines) ≡ Ok bits
       → IsWithin columns outs bits) [
-        | true ↦ λ t. rows-within 0 [] lines bits (omega arith) none-within (accepted (header_fault columns line) _ bits t).1
-        | false ↦ lines-within lines bits
+        | true ↦ λ t. rows_within 0 [] lines bits (omega arith) none-within (accepted (header_fault columns line) _ bits t).1
+        | false ↦ lines_within lines bits
       ]
       h
 
-  pub reading-within : (bytes : List ℕ) (bits : List (List Bool)) → bits_reading columns outs (rows_lines bytes) ≡ Ok bits → IsWithin columns outs bits
+  pub reading_within : (bytes : List ℕ) (bits : List (List Bool)) → bits_reading columns outs (rows_lines bytes) ≡ Ok bits → IsWithin columns outs bits
   unfolding rows_lines
-  reading-within bytes bits h =
+  reading_within bytes bits h =
       let lines = map rows_line (joins_of (physical_lines bytes)) in
-      lines-within lines bits (bits_after-first columns outs lines ∙ h)
+      lines_within lines bits (bits_after_first columns outs lines ∙ h)

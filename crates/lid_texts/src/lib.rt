@@ -2,11 +2,11 @@
 #![tactic(auto)]
 
 mod line;
-mod print;
-mod read;
+mod writer;
+mod reader;
 mod rows;
 mod walk;
 
-pub use print::print_rows;
-pub use read::{copy_names, read_rows};
+pub use writer::print_rows;
+pub use reader::{copy_names, read_rows};
 pub use rows::{Rows, VecFault};

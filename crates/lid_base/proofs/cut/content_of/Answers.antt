@@ -1,5 +1,5 @@
 use Rattle.lid_base.specs.Lines.{is_hash, content_of}
-use Rattle.lid_base.proofs.CutLemmas.{position_some, position_none, before_found, before_none}
+use Rattle.lid_base.proofs.Cutting.{position_some, position_none, before_found, before_none}
 use Rattle.lid_base.proofs.cut.content_of.Goals as goal
 
 pub returns-in-None : goal.returns-in-None

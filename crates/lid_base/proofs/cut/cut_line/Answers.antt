@@ -1,6 +1,6 @@
 use Rattle.lid_base.specs.Lines.{is_newline}
 use Rattle.std.proofs.lemmas.List.Splits.{slice_split_none}
-use Rattle.lid_base.proofs.CutLemmas.{position_some, position_none, split_found}
+use Rattle.lid_base.proofs.Cutting.{position_some, position_none, split_found}
 use Rattle.lid_base.proofs.cut.cut_line.Goals as goal
 
 pub returns-in-None-clause-line : goal.returns-in-None-clause-line

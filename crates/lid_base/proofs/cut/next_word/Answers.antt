@@ -1,7 +1,7 @@
 use Rattle.std.proofs.Common.{ℕ, ◌-◌, not, length, take, drop}
 use Rattle.std.proofs.lemmas.List.{take_rest}
 use Rattle.lid_base.specs.Lines.{is_separator}
-use Rattle.lid_base.proofs.CutLemmas.{position_some, position_none, words_in_none, next_none, next_some}
+use Rattle.lid_base.proofs.Cutting.{position_some, position_none, words_in_none, next_none, next_some}
 use Rattle.lid_base.proofs.cut.next_word.Goals as goal
 
 pub returns-in-None-clause-words : goal.returns-in-None-clause-words

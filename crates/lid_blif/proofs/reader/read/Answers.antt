@@ -1,6 +1,6 @@
 use Rattle.std.proofs.Common.{◌≡◌, ◌<◌, ◌^◌, length, ap, ◌∙◌, arith}
 use Rattle.lid_base.specs.Lines.{logical_lines}
-use Rattle.lid_blif.proofs.TextLemmas.{logical_lines_le, made_formed}
+use Rattle.lid_blif.proofs.Texts.{logical_lines_le, made_formed}
 use Rattle.lid_blif.proofs.reader.read.Goals as goal
 
 pub returns-in-Ok-clause-formed : goal.returns-in-Ok-clause-formed

@@ -5,7 +5,7 @@ use Rattle.std.specs.Borrow.{Bor}
 use Rattle.lid_blif.specs.declared.keyword.Keyword.TheVariants.{Model}
 use Rattle.lid_blif.specs.Words.{is_line, word_at}
 use Rattle.lid_blif.specs.Faults.{model_names}
-use Rattle.lid_blif.proofs.NamesLemmas.{list_any-push}
+use Rattle.lid_blif.proofs.Naming.{list_any_push}
 use Rattle.lid_blif.proofs.scan.remember.Goals as goal
 
 pub returns-in_ok-insert : goal.returns-in_ok-insert
@@ -18,5 +18,5 @@ returns-in_ok-insert c =
     rw inner
     (step
     ∙ ap (cond (bytes_eq c.word.result.now name) true) (h name)
-    ∙ list_any-push (λ other. bytes_eq other name) (model_names before) c.word.result.now
+    ∙ list_any_push (λ other. bytes_eq other name) (model_names before) c.word.result.now
     ∙ ap (λ word. list_any (λ other. bytes_eq other name) (model_names before ++ word ∷ [])) known)

@@ -1,7 +1,7 @@
 use Rattle.std.proofs.Common.{sym, ◌∙◌, arith}
 use Rattle.std.specs.Str.{bytes_eq}
 use Rattle.lid_design.specs.Places.{model_nets}
-use Rattle.lid_rules.proofs.Subs.{position-below}
+use Rattle.lid_rules.proofs.Subs.{position_below}
 use Rattle.lid_elab.proofs.Counting.{nets_small}
 use Rattle.lid_elab.proofs.Binding.{position_past}
 use Rattle.lid_elab.proofs.places.place_in.Goals as goal
@@ -9,7 +9,7 @@ use Rattle.lid_elab.proofs.places.place_in.Goals as goal
 pub overflow_cast-result : goal.overflow_cast-result
 overflow_cast-result c =
     let few = nets_small c.args.survey.now c.requires.judged c.args.model c.requires.reached in
-    let below = position-below (bytes_eq c.args.net.now) (model_nets c.args.survey.now c.args.model) c.in-Some.place (sym c.place_of.ensures ∙ c.in-Some.is) in
+    let below = position_below (bytes_eq c.args.net.now) (model_nets c.args.survey.now c.args.model) c.in-Some.place (sym c.place_of.ensures ∙ c.in-Some.is) in
     omega arith
 
 pub returns-in-None : goal.returns-in-None

@@ -2,7 +2,7 @@ use Rattle.std.proofs.Common.{◌≡◌, ◌↔◌, IsTrue, ℕ, Bool, List, len
 use Rattle.lid_digraph.specs.Graphs.{IsGraph, IsReaching, flag}
 use Rattle.lid_hierarchy.specs.Surveys.{AreMarked}
 use Rattle.lid_hierarchy.specs.Graphs.{some_of, graph_of}
-use Rattle.lid_hierarchy.proofs.Walks.{models_are_graph, marks_reached, flag-none, reached_from, long_graph}
+use Rattle.lid_hierarchy.proofs.Walks.{models_are_graph, marks_reached, flag_none, reached_from, long_graph}
 use Rattle.lid_hierarchy.proofs.Steps.{if_both_ok}
 use Rattle.lid_hierarchy.proofs.uses.mark_used.Goals as goal
 
@@ -23,6 +23,6 @@ returns c =
     (AreMarked c.args.design.now)
     (λ marks size exact. record {
       size = size ∙ ap length whole ∙ long_graph c.args.design.now;
-      exact = marks_reached c.args.design.now c.as_slice-2.result.now (flag-none _ _ cut) marks (reached_from c.args.design.now _ whole c.as_slice-2.result.now marks exact);
+      exact = marks_reached c.args.design.now c.as_slice-2.result.now (flag_none _ _ cut) marks (reached_from c.args.design.now _ whole c.as_slice-2.result.now marks exact);
     })
     c.find_reaching.result c.find_reaching.ensures.count c.find_reaching.ensures.exact

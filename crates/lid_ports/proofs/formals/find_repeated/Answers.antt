@@ -1,7 +1,7 @@
 use Rattle.std.proofs.Common.{◌∙◌}
 use Rattle.lid_names.specs.Names.{is_among, is_twice, texts}
-use Rattle.lid_ports.proofs.Sets.{find-same}
+use Rattle.lid_ports.proofs.Sets.{find_same}
 use Rattle.lid_ports.proofs.formals.find_repeated.Goals as goal
 
 pub returns : goal.returns
-returns c = c.first_in.ensures ∙ find-same (λ n. is_among n c.in_ok-twice.twice) (is_twice (texts c.args.names.now)) (texts c.args.names.now) c.in_ok-twice.ensures
+returns c = c.first_in.ensures ∙ find_same (λ n. is_among n c.in_ok-twice.twice) (is_twice (texts c.args.names.now)) (texts c.args.names.now) c.in_ok-twice.ensures

@@ -1,7 +1,7 @@
 use Rattle.std.proofs.Common.{◌∙◌, ap}
 use Rattle.lid_design.specs.Models.{inner_drivers, read_names}
 use Rattle.lid_names.specs.Names.{is_among}
-use Rattle.lid_names.proofs.Lists.{is_among-firsts}
+use Rattle.lid_names.proofs.Lists.{is_among_firsts}
 use Rattle.lid_ports.proofs.nets.collect_nets.Goals as goal
 
 pub returns : goal.returns
@@ -9,6 +9,6 @@ returns c =
     record {
       driven = c.in_ok-drivers.ensures.each;
       again = c.in_ok-drivers.ensures.again;
-      within = λ n. ap (is_among n) c.in_ok-inner.ensures ∙ is_among-firsts n (inner_drivers c.args.ports.now c.args.model.now);
-      read = λ n. ap (is_among n) c.in_ok-reads.ensures ∙ is_among-firsts n (read_names c.args.ports.now c.args.model.now);
+      within = λ n. ap (is_among n) c.in_ok-inner.ensures ∙ is_among_firsts n (inner_drivers c.args.ports.now c.args.model.now);
+      read = λ n. ap (is_among n) c.in_ok-reads.ensures ∙ is_among_firsts n (read_names c.args.ports.now c.args.model.now);
     }

@@ -2,13 +2,13 @@ use Rattle.std.proofs.Common.{ℕ, length, map, ◌∙◌, ap}
 use Rattle.std.specs.List.{list_any}
 use Rattle.std.proofs.lemmas.List.{length-map}
 use Rattle.lid_cover.specs.Masks.{is_met}
-use Rattle.lid_cover.proofs.Masking.{met-value}
+use Rattle.lid_cover.proofs.Masking.{met_value}
 use Rattle.lid_strict.specs.Networks.{bit_at}
 use Rattle.lid_strict.specs.Programs.{cover_of}
 use Rattle.lid_strict.proofs.simulation.cover_bit.Goals as goal
 
 pub returns : goal.returns
 returns c =
-    met-value (cover_of (length c.args.numbers.now) c.args.on c.args.cubes.now) c.requires (map (bit_at c.args.bits.now) c.args.numbers.now)
+    met_value (cover_of (length c.args.numbers.now) c.args.on c.args.cubes.now) c.requires (map (bit_at c.args.bits.now) c.args.numbers.now)
     (length-map c.args.numbers.now (bit_at c.args.bits.now)) c.any_met.result
     (c.any_met.ensures ∙ ap (λ (n : ℕ). list_any (is_met n) c.args.cubes.now) c.pack.ensures)

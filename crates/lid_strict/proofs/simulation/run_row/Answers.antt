@@ -4,7 +4,7 @@ use Rattle.lid_design.specs.Network.{Driver}
 use Rattle.lid_design.specs.Walks.{read_now}
 use Rattle.lid_digraph.specs.Graphs.{Among, IsOrder}
 use Rattle.lid_strict.specs.Networks.{bit_at, reads_of}
-use Rattle.lid_strict.proofs.Running.{map-agree, if_ok}
+use Rattle.lid_strict.proofs.Running.{map_agree, if_ok}
 use Rattle.lid_strict.proofs.simulation.run_row.Goals as goal
 
 among_order : (network : List (Driver ℕ)) (order : List ℕ) → IsOrder (reads_of network) order → (k : ℕ) → k < length network → Among k order
@@ -18,5 +18,5 @@ returns-clause-bits c network laid f fits k h = c.settle.ensures.bits network la
 pub returns-clause-out : goal.returns-clause-out
 returns-clause-out c =
     if_ok _ _
-    (λ out e network laid same f fits. e ∙ map-agree (bit_at c.settle.new.now) f (length c.args.now.now) c.args.outs.now c.requires.outs (λ k h. c.settle.ensures.bits network laid f fits k (among_order network c.args.order.now laid.ordered k (subst (λ (n : ℕ). k < n) (sym same) h))))
+    (λ out e network laid same f fits. e ∙ map_agree (bit_at c.settle.new.now) f (length c.args.now.now) c.args.outs.now c.requires.outs (λ k h. c.settle.ensures.bits network laid f fits k (among_order network c.args.order.now laid.ordered k (subst (λ (n : ℕ). k < n) (sym same) h))))
     c.gather.result c.gather.ensures

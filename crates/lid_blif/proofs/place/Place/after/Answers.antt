@@ -1,6 +1,6 @@
 use Rattle.std.proofs.Common.{sym, ◌∙◌}
 use Rattle.lid_blif.specs.declared.keyword.Keyword.TheVariants.{Model, Names, End, Row}
-use Rattle.lid_blif.proofs.Places.{place_after, next_place-other}
+use Rattle.lid_blif.proofs.Places.{place_after, next_place_other}
 use Rattle.lid_blif.proofs.place.Place.after.Goals as goal
 
 pub returns-in-Model : goal.returns-in-Model
@@ -20,5 +20,5 @@ returns-in_default c =
     λ before h.
     place_after c.keyword.result c.args.line.now before c.args.self _ c.keyword.ensures
     (c.without_cover-in_default.ensures
-    ∙ sym (next_place-other c.keyword.result c.args.line.now c.args.self c.in_default.not-Model c.in_default.not-Names c.in_default.not-End c.in_default.not-Row))
+    ∙ sym (next_place_other c.keyword.result c.args.line.now c.args.self c.in_default.not-Model c.in_default.not-Names c.in_default.not-End c.in_default.not-Row))
     h

@@ -3,15 +3,15 @@ use Rattle.std.specs.Prelude.{Option}
 use Rattle.lid_board.specs.Parting.{or_else}
 use Rattle.lid_board.specs.Ties.{IsTied}
 use Rattle.lid_board.specs.Views.{Ends, at}
-use Rattle.lid_board.proofs.NumberLemmas.{written, tied-merged}
-use Rattle.lid_board.proofs.PartLemmas.{at-merged}
+use Rattle.lid_board.proofs.Numbers.{written, tied_merged}
+use Rattle.lid_board.proofs.Parting.{at_merged}
 use Rattle.lid_board.proofs.board.Board.join.Goals as goal
 
 pub invariant_of-hand : goal.invariant_of-hand
 invariant_of-hand c = record {
   tied =
       subst (IsTied _) (sym c.join_both.ensures.both)
-      (tied-merged c.args.hand.now.ends.items c.args.other.ends.items _ c.args.hand.now.seat.me.0.ends c.args.other.seat.me.0.ends c.args.hand.now.tied c.args.other.tied
+      (tied_merged c.args.hand.now.ends.items c.args.other.ends.items _ c.args.hand.now.seat.me.0.ends c.args.other.seat.me.0.ends c.args.hand.now.tied c.args.other.tied
       (λ k.
       ap (λ (xs : List (Option ℕ)). get_or xs k None) (written c.merge_numbers.new.into c.args.hand.now.ends.items c.args.hand.now.ends.len (search rules) (search rules))
       ∙ c.merge_numbers.ensures k
@@ -22,4 +22,4 @@ invariant_of-hand c = record {
 }
 
 pub returns-clause-joined : goal.returns-clause-joined
-returns-clause-joined c end = ap (λ (e : Ends). at e end) c.join_both.ensures.both ∙ at-merged c.args.hand.now.seat.me.0.ends c.args.other.seat.me.0.ends end
+returns-clause-joined c end = ap (λ (e : Ends). at e end) c.join_both.ensures.both ∙ at_merged c.args.hand.now.seat.me.0.ends c.args.other.seat.me.0.ends end

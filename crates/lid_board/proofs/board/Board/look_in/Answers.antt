@@ -1,9 +1,9 @@
 use Rattle.std.proofs.Common.{◌∙◌, sym, arith}
 use Rattle.lid_station.specs.Boards.{drain}
 use Rattle.lid_board.specs.Views.{held}
-use Rattle.lid_station.proofs.WordLemmas.{word-nothing}
-use Rattle.lid_board.proofs.CallLemmas.{tied-in}
-use Rattle.lid_board.proofs.StepLemmas.{looks_in_at}
+use Rattle.lid_station.proofs.Words.{word_nothing}
+use Rattle.lid_board.proofs.Calling.{tied_in}
+use Rattle.lid_board.proofs.Stepping.{looks_in_at}
 use Rattle.lid_board.proofs.board.Board.look_in.Goals as goal
 
 pub load_as-found-requires-clause-rule : goal.load_as-found-requires-clause-rule
@@ -13,11 +13,11 @@ load_as-found-requires-clause-rule c =
 
 pub invariant_of-hand : goal.invariant_of-hand
 invariant_of-hand c = record {
-  tied = tied-in c.args.self.now.table.shared.key.me.0.ends c.args.hand.now.seat.me.0.ends c.load_as-found.new.seat.me.0.ends c.args.station c.spot-spot.result.place c.load_as-found.result c.args.hand.now.ends.items c.args.hand.now.tied c.requires.owned c.load_as-found.ensures.told;
+  tied = tied_in c.args.self.now.table.shared.key.me.0.ends c.args.hand.now.seat.me.0.ends c.load_as-found.new.seat.me.0.ends c.args.station c.spot-spot.result.place c.load_as-found.result c.args.hand.now.ends.items c.args.hand.now.tied c.requires.owned c.load_as-found.ensures.told;
   early = c.load_as-found.ensures.told.right.early;
   no_slot = c.load_as-found.ensures.seat.2 ∙ c.args.hand.now.no_slot;
 }
 
 pub returns-then-half-eq0-clause-found : goal.returns-then-half-eq0-clause-found
 returns-then-half-eq0-clause-found c =
-    (c.load_as-found.ensures.told.void (sym c.half_at-half.ensures ∙ c.if-half-eq0.true)).nothing ∙ sym (word-nothing _ _ _ _ (omega arith))
+    (c.load_as-found.ensures.told.void (sym c.half_at-half.ensures ∙ c.if-half-eq0.true)).nothing ∙ sym (word_nothing _ _ _ _ (omega arith))

@@ -1,6 +1,6 @@
 use Rattle.lid_station.specs.Boards.{fill}
 use Rattle.lid_board.specs.Views.{held}
-use Rattle.lid_board.proofs.StepLemmas.{puts_at}
+use Rattle.lid_board.proofs.Stepping.{puts_at}
 use Rattle.lid_board.proofs.board.Board.put.Goals as goal
 
 pub or_as-requires-clause-rule : goal.or_as-requires-clause-rule

@@ -3,15 +3,15 @@ use Rattle.std.specs.Prelude.{Option}
 use Rattle.lid_board.specs.Parting.{is_chosen}
 use Rattle.lid_board.specs.Ties.{IsTied}
 use Rattle.lid_board.specs.Views.{Ends, at}
-use Rattle.lid_board.proofs.NumberLemmas.{written, tied-left, tied-right}
-use Rattle.lid_board.proofs.PartLemmas.{at-left, at-right}
+use Rattle.lid_board.proofs.Numbers.{written, tied_left, tied_right}
+use Rattle.lid_board.proofs.Parting.{at_left, at_right}
 use Rattle.lid_board.proofs.board.Board.split.Goals as goal
 
 pub invariant_of-hand : goal.invariant_of-hand
 invariant_of-hand c = record {
   tied =
       subst (IsTied _) (sym c.split_as-seat.ensures.left)
-      (tied-left c.args.hand.now.ends.items _ c.args.hand.now.seat.me.0.ends (is_chosen c.args.ends.now) c.args.hand.now.tied
+      (tied_left c.args.hand.now.ends.items _ c.args.hand.now.seat.me.0.ends (is_chosen c.args.ends.now) c.args.hand.now.tied
       (λ k.
       ap (λ (xs : List (Option ℕ)). get_or xs k None) (written c.move_numbers.new.from c.args.hand.now.ends.items c.args.hand.now.ends.len (search rules) (search rules))
       ∙ c.move_numbers.ensures.from k
@@ -24,7 +24,7 @@ pub invariant_of-result : goal.invariant_of-result
 invariant_of-result c = record {
   tied =
       subst (IsTied _) (sym c.split_as-seat.ensures.right)
-      (tied-right c.args.hand.now.ends.items _ c.args.hand.now.seat.me.0.ends (is_chosen c.args.ends.now) c.args.hand.now.tied
+      (tied_right c.args.hand.now.ends.items _ c.args.hand.now.seat.me.0.ends (is_chosen c.args.ends.now) c.args.hand.now.tied
       (λ k.
       ap (λ (xs : List (Option ℕ)). get_or xs k None) (written c.move_numbers.new.into c.in_ok-numbers.numbers.items c.in_ok-numbers.numbers.len (search rules) (search rules))
       ∙ c.move_numbers.ensures.into k
@@ -34,7 +34,7 @@ invariant_of-result c = record {
 }
 
 pub returns-clause-kept : goal.returns-clause-kept
-returns-clause-kept c end = ap (λ (e : Ends). at e end) c.split_as-seat.ensures.left ∙ at-left (is_chosen c.args.ends.now) c.args.hand.now.seat.me.0.ends end
+returns-clause-kept c end = ap (λ (e : Ends). at e end) c.split_as-seat.ensures.left ∙ at_left (is_chosen c.args.ends.now) c.args.hand.now.seat.me.0.ends end
 
 pub returns-clause-given : goal.returns-clause-given
-returns-clause-given c end = ap (λ (e : Ends). at e end) c.split_as-seat.ensures.right ∙ at-right (is_chosen c.args.ends.now) c.args.hand.now.seat.me.0.ends end
+returns-clause-given c end = ap (λ (e : Ends). at e end) c.split_as-seat.ensures.right ∙ at_right (is_chosen c.args.ends.now) c.args.hand.now.seat.me.0.ends end

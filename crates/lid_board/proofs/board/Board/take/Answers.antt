@@ -1,6 +1,6 @@
 use Rattle.lid_station.specs.Boards.{drain}
 use Rattle.lid_board.specs.Views.{held}
-use Rattle.lid_board.proofs.StepLemmas.{takes_at}
+use Rattle.lid_board.proofs.Stepping.{takes_at}
 use Rattle.lid_board.proofs.board.Board.take.Goals as goal
 
 pub and_as-found-requires-clause-rule : goal.and_as-found-requires-clause-rule

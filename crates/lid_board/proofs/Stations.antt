@@ -1,0 +1,225 @@
+-- One station through each kind of step.
+use Rattle.std.proofs.Common.{◌≡◌, ℕ, ◌+◌, ◌/◌, ◌%◌, ◌<◌, ◌≤◌, false, List, length, get_or, take, set, sym, ◌∙◌, ap, arith, get_or-set_same, get_or-set_other}
+use Rattle.std.specs.Prelude.{bit_and, bit_or}
+use Rattle.lid_station.specs.Words.{word}
+use Rattle.lid_board.specs.Halves.{others, filling}
+use Rattle.lid_board.specs.Relation.{Kept, words_of}
+use Rattle.lid_board.specs.Views.{seen, missing, passing}
+use Rattle.lid_board.specs.declared.view.Held.{Held}
+use Rattle.lid_board.proofs.Halving.{taken_here, taken_else, put_here, put_else}
+use mathlib.Core.Logic.{dite}
+use native.Mathlib.Decide.{ℕ_discrete}
+
+pub kept_token : (words : List ℕ) (first : ℕ) (f d : Held) → Kept words first f d → d.passed < f.passed → Kept words first f (seen d)
+kept_token words first f d k some = record {
+  stream = k.stream;
+  cap = k.cap;
+  start = k.start;
+  two = k.two;
+  few = k.few;
+  small = k.small;
+  short = k.short;
+  within = k.within;
+  ordered = k.ordered;
+  room = k.room;
+  started = k.started;
+  shows = k.shows;
+  token_seen = λ _. some;
+  room_seen = k.room_seen;
+  token_early = k.token_early;
+  room_early = k.room_early;
+}
+
+pub kept_void : (words : List ℕ) (first : ℕ) (f d : Held) → Kept words first f d → f.passed ≤ d.passed → Kept words first f (missing d)
+kept_void words first f d k none = record {
+  stream = k.stream;
+  cap = k.cap;
+  start = k.start;
+  two = k.two;
+  few = k.few;
+  small = k.small;
+  short = k.short;
+  within = k.within;
+  ordered = k.ordered;
+  room = k.room;
+  started = k.started;
+  shows = k.shows;
+  token_seen = k.token_seen;
+  room_seen = k.room_seen;
+  token_early = λ early. (let more = k.started in let same = k.start in absurd (omega arith));
+  room_early = k.room_early;
+}
+
+pub kept_room : (words : List ℕ) (first : ℕ) (f d : Held) → Kept words first f d → f.passed < d.passed + f.cap → Kept words first (seen f) d
+kept_room words first f d k some = record {
+  stream = k.stream;
+  cap = k.cap;
+  start = k.start;
+  two = k.two;
+  few = k.few;
+  small = k.small;
+  short = k.short;
+  within = k.within;
+  ordered = k.ordered;
+  room = k.room;
+  started = k.started;
+  shows = k.shows;
+  token_seen = k.token_seen;
+  room_seen = λ _. some;
+  token_early = k.token_early;
+  room_early = k.room_early;
+}
+
+pub kept_stop : (words : List ℕ) (first : ℕ) (f d : Held) → Kept words first f d → d.passed + f.cap ≤ f.passed → Kept words first (missing f) d
+kept_stop words first f d k full = record {
+  stream = k.stream;
+  cap = k.cap;
+  start = k.start;
+  two = k.two;
+  few = k.few;
+  small = k.small;
+  short = k.short;
+  within = k.within;
+  ordered = k.ordered;
+  room = k.room;
+  started = k.started;
+  shows = k.shows;
+  token_seen = k.token_seen;
+  room_seen = k.room_seen;
+  token_early = k.token_early;
+  room_early = λ early. absurd (omega arith);
+}
+
+-- a hand lets go of what it has seen
+pub kept_unseen_in : (words : List ℕ) (first : ℕ) (f d : Held) → Kept words first f d → Kept words first f (record d { mark = false })
+kept_unseen_in words first f d k = record {
+  stream = k.stream;
+  cap = k.cap;
+  start = k.start;
+  two = k.two;
+  few = k.few;
+  small = k.small;
+  short = k.short;
+  within = k.within;
+  ordered = k.ordered;
+  room = k.room;
+  started = k.started;
+  shows = k.shows;
+  token_seen = λ e. absurd (cc);
+  room_seen = k.room_seen;
+  token_early = k.token_early;
+  room_early = k.room_early;
+}
+
+pub kept_unseen_out : (words : List ℕ) (first : ℕ) (f d : Held) → Kept words first f d → Kept words first (record f { mark = false }) d
+kept_unseen_out words first f d k = record {
+  stream = k.stream;
+  cap = k.cap;
+  start = k.start;
+  two = k.two;
+  few = k.few;
+  small = k.small;
+  short = k.short;
+  within = k.within;
+  ordered = k.ordered;
+  room = k.room;
+  started = k.started;
+  shows = k.shows;
+  token_seen = k.token_seen;
+  room_seen = λ e. absurd (cc);
+  token_early = k.token_early;
+  room_early = k.room_early;
+}
+
+-- a place's word is one of the station's
+pub place_within : (cap passed : ℕ) → 2 ≤ cap → passed % cap / 2 < words_of cap
+place_within cap passed two = let below : passed % cap < cap = omega arith in omega arith
+
+pub kept_taken : (words : List ℕ) (first : ℕ) (f d : Held) → Kept words first f d → d.passed < f.passed → first + d.passed % f.cap / 2 < length words
+    → Kept (set words (first + d.passed % f.cap / 2) (bit_and (get_or words (first + d.passed % f.cap / 2) 0) (others (d.passed % f.cap)))) first f (passing d)
+kept_taken words first f d k some inside = record {
+  stream = k.stream;
+  cap = k.cap;
+  start = k.start;
+  two = k.two;
+  few = k.few;
+  small = k.small;
+  short = k.short;
+  within = k.within;
+  ordered = (let o = k.ordered in omega arith);
+  room = (let o = k.room in omega arith);
+  started = k.started;
+  shows = λ number below.
+      let spot = first + d.passed % f.cap / 2 in
+      let put = bit_and (get_or words spot 0) (others (d.passed % f.cap)) in
+      dite (ℕ_discrete number (d.passed % f.cap / 2))
+      (λ same.
+      ap (λ (n : ℕ). get_or (set words spot put) (first + n) 0) same
+      ∙ get_or-set_same words spot put 0 inside
+      ∙ ap (λ (n : ℕ). bit_and n (others (d.passed % f.cap))) (k.shows (d.passed % f.cap / 2) (place_within f.cap d.passed k.two))
+      ∙ taken_here f.cap f.stream f.passed d.passed some k.within k.room k.small
+      ∙ ap (λ (n : ℕ). word f.cap (take f.passed f.stream) (take (d.passed + 1) f.stream) n) (sym same))
+      (λ other.
+      get_or-set_other words spot (first + number) put 0 (λ e. other (omega arith))
+      ∙ k.shows number below
+      ∙ sym (taken_else f.cap f.stream f.passed d.passed number some k.within other));
+  token_seen = λ e. absurd (cc);
+  room_seen = λ e. (let r = k.room_seen e in omega arith);
+  token_early = λ early. k.token_early (omega arith);
+  room_early = k.room_early;
+}
+
+pub kept_put : (words : List ℕ) (first : ℕ) (f d : Held) → Kept words first f d → f.passed < d.passed + f.cap → f.passed < length f.stream → first + f.passed % f.cap / 2 < length words
+    → Kept (set words (first + f.passed % f.cap / 2) (bit_or (get_or words (first + f.passed % f.cap / 2) 0) (filling (f.passed % f.cap) (get_or f.stream f.passed 0)))) first (passing f) d
+kept_put words first f d k some more inside = record {
+  stream = k.stream;
+  cap = k.cap;
+  start = k.start;
+  two = k.two;
+  few = k.few;
+  small = k.small;
+  short = k.short;
+  within = (omega arith);
+  ordered = (let o = k.ordered in omega arith);
+  room = (let o = k.room in omega arith);
+  started = (let o = k.started in omega arith);
+  shows = λ number below.
+      let spot = first + f.passed % f.cap / 2 in
+      let put = bit_or (get_or words spot 0) (filling (f.passed % f.cap) (get_or f.stream f.passed 0)) in
+      dite (ℕ_discrete number (f.passed % f.cap / 2))
+      (λ same.
+      ap (λ (n : ℕ). get_or (set words spot put) (first + n) 0) same
+      ∙ get_or-set_same words spot put 0 inside
+      ∙ ap (λ (n : ℕ). bit_or n (filling (f.passed % f.cap) (get_or f.stream f.passed 0))) (k.shows (f.passed % f.cap / 2) (place_within f.cap f.passed k.two))
+      ∙ put_here f.cap f.stream f.passed d.passed k.ordered more some k.small
+      ∙ ap (λ (n : ℕ). word f.cap (take (f.passed + 1) f.stream) (take d.passed f.stream) n) (sym same))
+      (λ other.
+      get_or-set_other words spot (first + number) put 0 (λ e. other (omega arith))
+      ∙ k.shows number below
+      ∙ sym (put_else f.cap f.stream f.passed d.passed number k.ordered more other));
+  token_seen = λ e. (let t = k.token_seen e in omega arith);
+  room_seen = λ e. absurd (cc);
+  token_early = k.token_early;
+  room_early = λ early. k.room_early (omega arith);
+}
+
+-- a station whose words did not change
+pub kept_frame : (words others : List ℕ) (first : ℕ) (f d : Held) → Kept words first f d → ((number : ℕ) → number < words_of f.cap → get_or others (first + number) 0 ≡ get_or words (first + number) 0) → Kept others first f d
+kept_frame words others first f d k same = record {
+  stream = k.stream;
+  cap = k.cap;
+  start = k.start;
+  two = k.two;
+  few = k.few;
+  small = k.small;
+  short = k.short;
+  within = k.within;
+  ordered = k.ordered;
+  room = k.room;
+  started = k.started;
+  shows = λ number below. same number below ∙ k.shows number below;
+  token_seen = k.token_seen;
+  room_seen = k.room_seen;
+  token_early = k.token_early;
+  room_early = k.room_early;
+}

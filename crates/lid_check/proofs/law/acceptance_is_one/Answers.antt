@@ -1,5 +1,0 @@
-use Rattle.lid_check.proofs.Exclusive.{refusal_apart, refusal_one}
-use Rattle.lid_check.proofs.law.acceptance_is_one.Goals as goal
-
-pub returns : goal.returns
-returns c = record { apart = refusal_apart; one = refusal_one }
