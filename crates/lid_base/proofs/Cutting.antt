@@ -7,10 +7,7 @@ use Rattle.std.proofs.lemmas.List.Elements.{All-head, All-tail}
 use Rattle.std.proofs.lemmas.List.Splits.{slice_split_none, slice_split_first, slice_split-cons_yes}
 use Rattle.std.proofs.lemmas.List.Sums.{fails_before_first, passes_at_first, position_or_len_is, suffix_len-take_no}
 use Rattle.lid_base.specs.Lines.{is_separator, ends_in_mark, is_word, words_in, trimmed}
-
-not_false : (b : Bool) → not b ≡ false → b ≡ true
-not_false true e = refl
-not_false false e = cc
+use Rattle.lid_base.proofs.Lists.{not_false}
 
 not_true : (b : Bool) → not b ≡ true → b ≡ false
 not_true true e = cc

@@ -1,5 +1,6 @@
 pub mod Cuts
 pub mod Joins
 pub mod Lines
+pub mod Lists
 pub mod Memory
 pub mod Outside

@@ -4,6 +4,7 @@ use Rattle.std.specs.Prelude.{IfSome, Option, Some, None, map, not, codes, bytes
 use Rattle.std.specs.List.{AllByRecursion, list_any, flat_map}
 use Rattle.std.proofs.lemmas.Bool.{or_left, or_from, cond-true, cond-false, not_from_false, not_from_true}
 use Rattle.lid_base.specs.declared.line.Line.{Line}
+use Rattle.lid_base.proofs.Lists.{all_append}
 use Rattle.lid_cover.specs.Cover.{IsCube}
 use Rattle.lid_cover.specs.declared.Cube.{Cube}
 use Rattle.lid_cover.specs.declared.Cover.{Cover}
@@ -25,7 +26,6 @@ use Rattle.lid_blifout.specs.Canonical.{Words, listed, cube_line, control_word, 
 use Rattle.lid_blifout.specs.Writable.{IsControl, IsWritableCover, IsWritableLatch, IsWritableCell, IsWritableBind, IsWritableInst, IsWritableModel}
 use Rattle.lid_blifout.proofs.TextLaw.{numbered}
 use Rattle.lid_blifout.proofs.LineWords.{is_row_line, last_word_after, formal_back, actual_back}
-use Rattle.lid_blifout.proofs.Spelled.{all_append}
 use Rattle.lid_blifout.proofs.CubeBack.{cared_back, value_back}
 use Rattle.lid_blifout.proofs.FaultLaw.{line_at}
 

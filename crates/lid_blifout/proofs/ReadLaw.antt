@@ -8,6 +8,7 @@ use Rattle.std.proofs.lemmas.List.{length-map}
 use Rattle.lid_base.specs.declared.line.Line.{Line}
 use Rattle.lid_base.specs.declared.which.Which.TheVariants.{Models, CoverRows}
 use Rattle.lid_base.specs.Lines.{ends_in_mark}
+use Rattle.lid_base.proofs.Lists.{all_append}
 use Rattle.lid_design.specs.declared.Model.{Model as ModelOf}
 use Rattle.lid_design.specs.declared.Cell.{Cell}
 use Rattle.lid_design.specs.declared.Cell.TheVariants.{Names as NamesCell, Latch as LatchCell}
@@ -22,10 +23,10 @@ use Rattle.lid_blif.specs.Words.{word_at, last_word, keyword_of, same_keyword, i
 use Rattle.lid_blif.specs.Faults.{place_of, model_names, row_count, ends_in_zero, Case, outside, is_mixed, line_fault, first_fault}
 use Rattle.lid_blif.specs.Designs.{cube_of, width_of, names_of, kind_named, control_named, kind_of, control_of, bind_of, inst_of, latch_cell, names_cell, cell_before, cells_of, insts_of, model_of, models_of}
 use Rattle.lid_blif.specs.WellFormed.{IsWellFormedCell}
-use Rattle.lid_blif.proofs.Faults.{told-none, first_fault_none}
+use Rattle.lid_blif.proofs.Faults.{told-none, first_fault_none, same_model}
 use Rattle.lid_blifout.specs.Canonical.{Words, bind_word}
 use Rattle.lid_blifout.specs.Writable.{IsSpelled, IsControl, IsWritableLatch, IsWritableBind, IsWritableInst, IsWritableCell, IsWritableModel, cell_rows, cells_rows, model_rows}
-use Rattle.lid_blifout.proofs.Spelled.{AreSpelled, all_append}
+use Rattle.lid_blifout.proofs.Spelled.{AreSpelled}
 use Rattle.lid_blifout.proofs.ReadWords.{all_both, all_take, all_drop, before_fails}
 
 -- what holds of the words of a line without fault
@@ -364,18 +365,6 @@ leading_read (l ∷ ls) h =
 
 abbrev pub EndsWellModel : ModelOf → Type 0
 EndsWellModel m = AllByRecursion EndsWellInst m.insts
-
-same_model : (k : Keyword) → same_keyword Model k ≡ true → Model ≡ k
-same_model Model h = refl
-same_model Row h = absurd (cc)
-same_model Inputs h = absurd (cc)
-same_model Outputs h = absurd (cc)
-same_model Clock h = absurd (cc)
-same_model Names h = absurd (cc)
-same_model Latch h = absurd (cc)
-same_model Subckt h = absurd (cc)
-same_model End h = absurd (cc)
-same_model Unknown h = absurd (cc)
 
 writable_cell : (cell : Cell) → IsWellFormedCell cell → IsReadCell cell → IsWritableCell cell
 writable_cell (NamesCell inputs out cover) f r = let names = r.0 in record { names = names.0; driven = names.1; rules = f.0; count = f.1; constant = r.1 }

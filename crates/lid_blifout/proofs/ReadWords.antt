@@ -8,8 +8,9 @@ use Rattle.std.proofs.lemmas.List.Sums.{fails_before_first}
 use Rattle.lid_base.specs.declared.line.TextFault.{TextFault}
 use Rattle.lid_base.specs.declared.line.TextFault.TheVariants.{BadByte, NameTooLong}
 use Rattle.lid_base.specs.Lines.{is_hash, is_separator, is_allowed, ends_in_mark, content_of, trimmed, goes_on, without_mark, is_word, words_in, words_of, has_bad_byte, has_long_word, has_words, onto_first_join, joins_of, line_of, physical_lines, logical_lines, line_fault, first_fault, text_fault}
+use Rattle.lid_base.proofs.Lists.{all_append}
 use Rattle.lid_blifout.specs.Writable.{is_word_byte, IsSpelled}
-use Rattle.lid_blifout.proofs.Spelled.{all_append, all_map, AreSpelled}
+use Rattle.lid_blifout.proofs.Spelled.{all_map, AreSpelled}
 
 none_all : {X : Type 0} (p : X → Bool) (xs : List X) → list_any p xs ≡ false → AllByRecursion (λ x. p x ≡ false) xs
 none_all p [] h = tt

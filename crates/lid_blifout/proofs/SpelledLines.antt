@@ -4,6 +4,7 @@ use Rattle.std.specs.Prelude.{IfSome, Option, Some, None, map, nat_lt, nat_le, c
 use Rattle.std.specs.List.{AllByRecursion, list_all, flat_map}
 use Rattle.std.proofs.lemmas.Bool.{and_parts, ltb-true, leb-true, eqb-false, cond-true, cond-false, cases_Bool}
 use Rattle.lid_base.specs.Lines.{ends_in_mark}
+use Rattle.lid_base.proofs.Lists.{all_append}
 use Rattle.lid_cover.specs.declared.Cube.{Cube}
 use Rattle.lid_design.specs.declared.Model.{Model}
 use Rattle.lid_design.specs.declared.Cell.{Cell}
@@ -16,7 +17,7 @@ use Rattle.lid_design.specs.declared.Inst.{Inst}
 use Rattle.lid_design.specs.declared.Bind.{Bind}
 use Rattle.lid_blifout.specs.Canonical.{Words, listed, characters, output_word, cube_line, control_word, kind_words, init_word, cell_lines, bind_word, inst_line, body_lines, models_lines}
 use Rattle.lid_blifout.specs.Writable.{is_word_byte, IsSpelled, IsControl, IsWritableCell, IsWritableBind, IsWritableInst, IsWritableModel}
-use Rattle.lid_blifout.proofs.Spelled.{all_append, AreSpelled, spelled_bind}
+use Rattle.lid_blifout.proofs.Spelled.{AreSpelled, spelled_bind}
 use Rattle.lid_blifout.proofs.LineWords.{length_characters, of_characters}
 
 all_passed : (p : ℕ → Bool) (xs : List ℕ) → list_all p xs ≡ true → AllByRecursion (λ b. p b ≡ true) xs

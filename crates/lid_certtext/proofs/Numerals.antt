@@ -5,9 +5,10 @@ use Rattle.std.specs.Fmt.{decimal}
 use Rattle.std.specs.List.{AllByRecursion, list_all}
 use Rattle.std.proofs.lemmas.Bool.{le-leb, ne_eqb, eq-eqb, or_right, and_from, cond-true, cases_lt, not_from_false}
 use Rattle.std.proofs.lemmas.Fmt.{decimal_by_steps, decimal_nonempty, first_decimal, length-decimal-le}
+use Rattle.lid_base.proofs.Lists.{all_append}
 use Rattle.lid_certtext.specs.Texts.{is_digit, number_on, begins_number, number_below, is_below, value_below, is_via_word, via_value, via_word}
 use Rattle.lid_certtext.specs.Printed.{IsSmall}
-use Rattle.lid_certtext.proofs.PlainWords.{IsPlain, IsPlainWord, plain_byte, plain_name, all_append}
+use Rattle.lid_certtext.proofs.PlainWords.{IsPlain, IsPlainWord, plain_byte, plain_name}
 
 digit : (d : ℕ) → d < 10 → is_digit (48 + d) ≡ true
 digit d h = let low : 48 ≤ 48 + d = omega arith in let high : 48 + d ≤ 57 = omega arith in and_from (nat_le 48 (48 + d)) (nat_le (48 + d) 57) (le-leb 48 (48 + d) low) (le-leb (48 + d) 57 high)

@@ -8,6 +8,7 @@ use Rattle.std.proofs.lemmas.List.Elements.{All-from_recursion}
 use Rattle.std.proofs.lemmas.List.Splits.{slice_split_none, slice_split_at}
 use Rattle.lid_base.specs.Lines.{is_newline, is_hash, is_separator, is_allowed, ends_in_mark, content_of, trimmed, goes_on, without_mark, is_word, words_in, words_of, has_bad_byte, has_long_word}
 use Rattle.lid_base.proofs.Cutting.{before_none, ends_in_mark_last, trimmed_at}
+use Rattle.lid_base.proofs.Lists.{all_append, none_passes}
 
 abbrev pub Words : Type 0
 Words = List (List ℕ)
@@ -20,10 +21,6 @@ spaced_words words = flat_map (λ w. 32 ∷ w) words
 abbrev pub line_bytes : Words → List ℕ
 line_bytes [] = []
 line_bytes (word ∷ words) = word ++ spaced_words words
-
-pub all_append : {X : Type 0} (P : X → Type 0) (xs ys : List X) → AllByRecursion P xs → AllByRecursion P ys → AllByRecursion P (xs ++ ys)
-all_append P [] ys h k = k
-all_append P (x ∷ xs) ys h k = (h.0, all_append P xs ys h.1 k)
 
 pub all_weaker : {X : Type 0} (P Q : X → Type 0) → ((x : X) → P x → Q x) → (xs : List X) → AllByRecursion P xs → AllByRecursion Q xs
 all_weaker P Q f [] h = tt
@@ -143,10 +140,6 @@ pub record IsLineOf (said : Words) (bytes : List ℕ) : Type 0 where
   pub words : words_of bytes ≡ said
   pub good : has_bad_byte bytes ≡ false
   pub short : has_long_word 1024 bytes ≡ false
-
-none_passes : {X : Type 0} (p : X → Bool) (xs : List X) → AllByRecursion (λ x. p x ≡ false) xs → list_any p xs ≡ false
-none_passes p [] h = refl
-none_passes p (x ∷ xs) h = or_from (p x) (list_any p xs) h.0 (none_passes p xs h.1)
 
 module _ (words : Words) (bytes : List ℕ) (all : AllByRecursion IsInLine bytes) (last : EndsWell (last_byte bytes)) (some : 0 < length bytes) (split : slice_split is_separator bytes ≡ words) (plain : AllByRecursion IsPlainWord words) where
   content : content_of bytes ≡ bytes

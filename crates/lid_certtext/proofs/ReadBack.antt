@@ -10,6 +10,7 @@ use Rattle.std.proofs.Math.Seq.{take-suc}
 use Rattle.lid_base.specs.declared.line.Line.{Line}
 use Rattle.lid_base.specs.declared.which.Which.TheVariants.{FileBytes}
 use Rattle.lid_base.specs.Lines.{logical_lines, text_fault}
+use Rattle.lid_base.proofs.Lists.{all_append}
 use Rattle.lid_cert.specs.declared.cert.Part.{Part}
 use Rattle.lid_cert.specs.declared.cert.Cert.{Cert}
 use Rattle.lid_certtext.specs.declared.fault.CertFault.TheVariants.{Limit}
@@ -18,7 +19,7 @@ use Rattle.lid_certtext.specs.declared.stage.Stage.TheVariants.{Header, Between,
 use Rattle.lid_certtext.specs.Texts.{word_at, begins_with, is_below, value_below, via_value, is_part_line, is_ratio_line, is_cycle_line, is_node_line, line_at_fault, at_line, fault_in, cert_fault, column, node_lines, part_of, parts_of, cert_of, part_text, cert_text}
 use Rattle.lid_certtext.specs.Printed.{IsSmall, IsPartPrintable, PrintedIsReadBack}
 use Rattle.lid_certtext.proofs.Numerals.{value_back, is_number, plain_number, via_back, is_via, plain_via, values_back, are_numbers, plain_numbers}
-use Rattle.lid_certtext.proofs.PlainWords.{Words, IsPlainWord, IsPlainLine, plain_name, all_append, all_weaker}
+use Rattle.lid_certtext.proofs.PlainWords.{Words, IsPlainWord, IsPlainLine, plain_name, all_weaker}
 use Rattle.lid_certtext.proofs.PlainTexts.{numbered, text_law, text_clean}
 use Rattle.lid_certtext.proofs.PrintedLines.{built, node_words, node_rows, count_words, ratio_words, cycle_words, part_lines, header_words, parts_lines, cert_lines, cert_lines_text, nodes_fit}
 

@@ -5,11 +5,13 @@ use Rattle.std.specs.Str.{bytes_eq}
 use Rattle.std.proofs.lemmas.Slice.Eq.{bytes_eq-Decides}
 use Rattle.std.proofs.lemmas.Option.{slice_get_within, slice_get-get_or}
 use Rattle.std.proofs.lemmas.List.Quantifiers.{position-Some}
+use Rattle.lid_base.specs.Lists.{Among}
+use Rattle.lid_base.proofs.Lists.{get_among}
 use Rattle.lid_hierarchy.proofs.Fixpoints.{find_position}
 use Rattle.lid_design.specs.declared.Design.{Design}
 use Rattle.lid_design.specs.Network.{Driver}
 use Rattle.lid_design.specs.Columns.{Column, column, drivers, model_at}
-use Rattle.lid_design.specs.Walks.{Among, Feeds}
+use Rattle.lid_design.specs.Walks.{Feeds}
 use Rattle.lid_design.specs.Models.{number_from}
 use Rattle.lid_design.specs.Places.{model_nets, columns}
 use Rattle.lid_design.specs.Loops.{IsInside, WalkInside, IsDependent}
@@ -17,7 +19,6 @@ use Rattle.lid_digraph.specs.Graphs.{flag, WalkPast, IsReached}
 use Rattle.lid_elab.specs.Elaborations.{column_at, StartsAt, IsElaborated}
 use Rattle.lid_check.specs.declared.pearls.Pearl.{Pearl}
 use Rattle.lid_check.specs.Pearls.{inputs_of, number_in, IsInputOf, Fits, is_marked, LeadsTo, IsCutOff, AreReachedIn}
-use Rattle.lid_check.proofs.Lists.{get_among}
 use Rattle.lid_check.proofs.Numbered.{graph, graph_length, column_here, column_is, within, edge_down, edge_up, fed_number}
 use Rattle.lid_check.proofs.Geometry.{input_net, column_net}
 use Rattle.lid_check.proofs.Leads.{marked_number}

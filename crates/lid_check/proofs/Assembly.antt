@@ -7,13 +7,15 @@ use Rattle.std.proofs.lemmas.List.{append-nil}
 use Rattle.std.proofs.lemmas.List.FromFn.{length-map-range_with_len, get_or-map-range_with_len}
 use Rattle.std.proofs.lemmas.Option.{slice_get_within, slice_get-get_or}
 use Rattle.std.proofs.lemmas.Bool.{ltb-true, ltb-false}
+use Rattle.lid_base.specs.Lists.{Among}
+use Rattle.lid_base.proofs.Lists.{get_among, among_get}
 use Rattle.lid_hierarchy.proofs.Fixpoints.{find_position}
 use Rattle.lid_design.specs.declared.Design.{Design}
 use Rattle.lid_design.specs.declared.Model.{Model}
 use Rattle.lid_design.specs.declared.Inst.{Inst}
 use Rattle.lid_design.specs.Network.{Driver}
 use Rattle.lid_design.specs.Columns.{Column, column, drivers, model_named, instance_model, model_at}
-use Rattle.lid_design.specs.Walks.{Among, Feeds}
+use Rattle.lid_design.specs.Walks.{Feeds}
 use Rattle.lid_design.specs.Models.{insts_of, number_named, instance_number, number_from}
 use Rattle.lid_design.specs.Places.{model_nets, columns}
 use Rattle.lid_design.specs.Loops.{IsInside, pearls}
@@ -21,7 +23,6 @@ use Rattle.lid_digraph.specs.Graphs.{flag, IsReached}
 use Rattle.lid_elab.specs.Elaborations.{column_at, StartsAt, IsElaborated}
 use Rattle.lid_check.specs.declared.pearls.Pearl.{Pearl}
 use Rattle.lid_check.specs.Pearls.{IsInputOf, Fits, IsCutOff, AreReachedIn, AreCutOff, ArePearls, count_cut}
-use Rattle.lid_check.proofs.Lists.{get_among, among_get}
 use Rattle.lid_check.proofs.Numbered.{graph, graph_length, column_here, column_is}
 use Rattle.lid_check.proofs.Geometry.{edge_near}
 use Rattle.lid_check.proofs.Apart.{IsPlaced, root_below, below_root, fits, cut_off, reached_in}

@@ -4,6 +4,8 @@ use Rattle.std.specs.Option.{option_map_or}
 use Rattle.std.specs.List.{flat_map, enumerate_from}
 use Rattle.std.specs.Str.{bytes_eq}
 use Rattle.std.proofs.lemmas.Slice.Eq.{bytes_eq-Decides}
+use Rattle.lid_base.specs.Lists.{Among}
+use Rattle.lid_base.proofs.Lists.{among_left, among_append, among_filter, filter_among, map_among, flat_among, enumerate_among}
 use Rattle.lid_design.specs.declared.Design.{Design}
 use Rattle.lid_design.specs.declared.Model.{Model}
 use Rattle.lid_design.specs.declared.Cell.{Cell}
@@ -11,57 +13,10 @@ use Rattle.lid_design.specs.declared.Cell.TheVariants.{Names, Latch}
 use Rattle.lid_design.specs.declared.Inst.{Inst}
 use Rattle.lid_design.specs.Network.{Driver, from_input, from_latch, from_cover, from_connection}
 use Rattle.lid_design.specs.Columns.{Column, column, is_among, model_named, model_at, is_clock, data_inputs, first_bit, places_of, cell_at, output_at, actuals_of, port_at, drivers_in, drivers}
-use Rattle.lid_design.specs.Walks.{Among, read_now, Feeds}
+use Rattle.lid_design.specs.Walks.{read_now, Feeds}
 use Rattle.lid_design.specs.Models.{cell_names, actual_names, occurrences, firsts, nets, insts_of, number_named, instance_number, number_from}
 use Rattle.lid_design.specs.Places.{Place, places_in, places, model_nets, columns_at, columns}
-use Rattle.lid_design.proofs.Tables.{among-left}
 use Rattle.lid_check.specs.Pearls.{inputs_of}
-use Rattle.lid_check.proofs.Lists.{map_among}
-
-among_append : {A : Type 0} (x : A) (xs ys : List A) → Among x (xs ++ ys) → Among x xs ⊎ Among x ys
-among_append x [] ys among = inr among
-among_append x (y ∷ xs) ys (inl e) = inl (inl e)
-among_append x (y ∷ xs) ys (inr later) = elim (among_append x xs ys later) [ inl here ↦ inl (inr here) | inr there ↦ inr there ]
-
-flat_among : {A B : Type 0} (f : A → List B) (y : B) (xs : List A) → Among y (flat_map f xs) → (x : A) × Among x xs × Among y (f x)
-flat_among f y [] among = absurd among
-flat_among {A} {B} f y (x ∷ xs) among = by (among_append y (f x) (flat_map f xs) among) (flat_among f y xs)
-  where
-    by : Among y (f x) ⊎ Among y (flat_map f xs) → (Among y (flat_map f xs) → (z : A) × Among z xs × Among y (f z)) → (z : A) × Among z (x ∷ xs) × Among y (f z)
-    by (inl here) next = (x, inl refl, here)
-    by (inr later) next = let found = next later in (found.0, inr found.1, found.2)
-
-enumerate_among : {A : Type 0} (first : ℕ) (xs : List A) (p : ℕ × A) → Among p (enumerate_from first xs) → (i : ℕ) × (p.0 ≡ first + i) × (slice_get xs i ≡ Some p.1)
-enumerate_among first [] p among = absurd among
-enumerate_among {A} first (x ∷ xs) p (inl e) =
-    let number : p.0 ≡ first + 0 = (let f : p.0 ≡ first = ap (λ (q : ℕ × A). q.0) e in omega arith) in
-    (zero, number, ap (λ (q : ℕ × A). Some q.1) (sym e))
-enumerate_among {A} first (x ∷ xs) p (inr later) =
-    let found = enumerate_among (first + 1) xs p later in
-    let number : p.0 ≡ first + suc found.0 = (let e = found.1 in omega arith) in
-    (suc found.0, number, found.2)
-
-among_filter : {A : Type 0} (p : A → Bool) (x : A) (xs : List A) → Among x xs → p x ≡ true → Among x (filter p xs)
-among_filter p x [] among h = absurd among
-among_filter {A} p x (y ∷ ys) among h = by (p y) refl among (λ later. among_filter p x ys later h)
-  where
-    by : (b : Bool) → p y ≡ b → (x ≡ y) ⊎ Among x ys → (Among x ys → Among x (filter p ys)) → Among x (cond b (y ∷ filter p ys) (filter p ys))
-    by true e (inl is) next = inl is
-    by true e (inr later) next = inr (next later)
-    by false e (inl is) next = absurd (let f : p y ≡ true = ap p (sym is) ∙ h in cc)
-    by false e (inr later) next = next later
-
-filter_among : {A : Type 0} (p : A → Bool) (x : A) (xs : List A) → Among x (filter p xs) → Among x xs × (p x ≡ true)
-filter_among p x [] among = absurd among
-filter_among {A} p x (y ∷ ys) among = by (p y) refl among (filter_among p x ys)
-  where
-    later_on : Among x ys × (p x ≡ true) → Among x (y ∷ ys) × (p x ≡ true)
-    later_on found = (inr found.0, found.1)
-
-    by : (b : Bool) → p y ≡ b → Among x (cond b (y ∷ filter p ys) (filter p ys)) → (Among x (filter p ys) → Among x ys × (p x ≡ true)) → Among x (y ∷ ys) × (p x ≡ true)
-    by true e (inl is) next = (inl is, ap p is ∙ e)
-    by true e (inr later) next = later_on (next later)
-    by false e later next = later_on (next later)
 
 -- a name that occurs is one of the first occurrences
 among_firsts : (x : List ℕ) (xs : List (List ℕ)) → Among x xs → Among x (firsts xs)
@@ -80,10 +35,10 @@ input_net d k input among = by (slice_get d.models k) among
   where
     occurs : (m : Model) → Among input m.inputs → Among input (occurrences m)
     occurs m here =
-        among-left input (m.inputs ++ m.outputs ++ m.clocks ++ flat_map cell_names m.cells) (flat_map actual_names m.insts)
-        (among-left input (m.inputs ++ m.outputs ++ m.clocks) (flat_map cell_names m.cells)
-        (among-left input (m.inputs ++ m.outputs) m.clocks
-        (among-left input m.inputs m.outputs here)))
+        among_left input (m.inputs ++ m.outputs ++ m.clocks ++ flat_map cell_names m.cells) (flat_map actual_names m.insts)
+        (among_left input (m.inputs ++ m.outputs ++ m.clocks) (flat_map cell_names m.cells)
+        (among_left input (m.inputs ++ m.outputs) m.clocks
+        (among_left input m.inputs m.outputs here)))
 
     by : (o : Option Model) → Among input (option_map_or (data_inputs d) o []) → Among input (option_map_or (nets d) o [])
     by None none = absurd none

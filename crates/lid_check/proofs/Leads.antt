@@ -4,11 +4,12 @@ use Rattle.std.specs.Option.{option_map_or}
 use Rattle.std.proofs.lemmas.Option.{slice_get_within, slice_get-get_or, slice_get_read}
 use Rattle.std.proofs.Common.{get_or}
 use Rattle.std.proofs.lemmas.Bool.{ltb-true, ltb-false}
+use Rattle.lid_base.specs.Lists.{Among}
+use Rattle.lid_base.proofs.Lists.{get_among, among_get}
 use Rattle.lid_design.specs.declared.Design.{Design}
 use Rattle.lid_design.specs.declared.Model.{Model}
 use Rattle.lid_design.specs.Columns.{data_inputs}
 use Rattle.lid_design.specs.Models.{IsReached}
-use Rattle.lid_design.specs.Walks.{Among}
 use Rattle.lid_design.specs.Loops.{pearls}
 use Rattle.lid_digraph.specs.Graphs.{flag, IsReaching}
 use Rattle.lid_rules.specs.declared.fault.CheckFault.{CheckFault}
@@ -19,7 +20,6 @@ use Rattle.lid_check.specs.declared.pearls.Pearl.{Pearl}
 use Rattle.lid_check.specs.Acceptance.{DependsOn, HasNoDependence, StandsBefore, TellsDependence, IsRefusal}
 use Rattle.lid_check.specs.Pearls.{inputs_of, number_in, is_marked, Fits, IsFirstMarked, AreUnmarked, LeadsTo, AreReachedIn, AreCutOff, NoneLeads, IsFirstInput}
 use Rattle.lid_check.specs.Flaws.{IsFirstLead, IsFirstDependence, TellsFlaw}
-use Rattle.lid_check.proofs.Lists.{get_among, among_get}
 
 pub marked_number : (marks : List Bool) (o : Option ℕ) → option_map_or (flag marks) o false ≡ true → (a : ℕ) × (o ≡ Some a) × (flag marks a ≡ true)
 marked_number marks None on = absurd (let e : false ≡ true = on in cc)

@@ -1,24 +1,15 @@
 -- Marks of the columns of nets, one after the other.
 use Rattle.std.proofs.Common.{◌≡◌, ◌⊎◌, ◌↔◌, ℕ, zero, suc, Bool, true, false, List, [], ◌∷◌, ◌++◌, length, not, filter, Option, Some, None, IsSome, slice_get, inl, inr, refl, sym, ◌∙◌, ap, subst}
 use Rattle.std.specs.Option.{option_map_or}
+use Rattle.lid_base.specs.Lists.{Among}
+use Rattle.lid_base.proofs.Lists.{among_left, among_right, among_last, among_push}
 use Rattle.lid_design.specs.declared.Design.{Design}
 use Rattle.lid_design.specs.declared.Model.{Model}
 use Rattle.lid_design.specs.Columns.{is_clock, data_inputs}
 use Rattle.lid_design.specs.Models.{IsReached, is_clock_of, instance_number, number_from}
-use Rattle.lid_design.specs.Walks.{Among}
-use Rattle.lid_design.proofs.Tables.{among-left, among_right}
 use Rattle.lid_digraph.specs.Graphs.{flag}
 use Rattle.lid_check.specs.declared.pearls.Pearl.{Pearl}
 use Rattle.lid_check.specs.Pearls.{inputs_of, number_in, IsNumberOf, IsInputOf}
-
-pub among_push : {A : Type 0} (x y : A) (xs : List A) → Among x (xs ++ y ∷ []) → Among x xs ⊎ (x ≡ y)
-among_push x y [] (inl same) = inr same
-among_push x y [] (inr none) = absurd none
-among_push x y (z ∷ xs) (inl same) = inl (inl same)
-among_push x y (z ∷ xs) (inr later) = elim (among_push x y xs later) [ inl here ↦ inl (inr here) | inr same ↦ inr same ]
-
-pub among_last : {A : Type 0} (x : A) (xs : List A) → Among x (xs ++ x ∷ [])
-among_last x xs = among_right x xs (x ∷ []) (inl refl)
 
 -- one net more is marked
 pub nets_more : (d : Design) (pearl : Pearl) (names : List (List ℕ)) (net : List ℕ) (old mid new : List Bool) → ((k : ℕ) → (flag mid k ≡ true) ↔ ((flag old k ≡ true) ⊎ IsNumberOf d pearl names k)) → ((k : ℕ) → (flag new k ≡ true) ↔ ((flag mid k ≡ true) ⊎ (number_in d pearl net ≡ Some k))) → (k : ℕ) → (flag new k ≡ true) ↔ ((flag old k ≡ true) ⊎ IsNumberOf d pearl (names ++ net ∷ []) k)
@@ -26,7 +17,7 @@ nets_more d pearl names net old mid new before step k = (to, from)
   where
     first : (flag old k ≡ true) ⊎ IsNumberOf d pearl names k → (flag old k ≡ true) ⊎ IsNumberOf d pearl (names ++ net ∷ []) k
     first (inl on) = inl on
-    first (inr here) = inr (here.0, among-left here.0 names (net ∷ []) here.1, here.2)
+    first (inr here) = inr (here.0, among_left here.0 names (net ∷ []) here.1, here.2)
 
     next : (flag mid k ≡ true) ⊎ (number_in d pearl net ≡ Some k) → (flag old k ≡ true) ⊎ IsNumberOf d pearl (names ++ net ∷ []) k
     next (inl on) = first ((before k).0 on)
@@ -49,7 +40,7 @@ inputs_more d ps pearl old mid new before step k = (to, from)
   where
     first : (flag old k ≡ true) ⊎ IsInputOf d ps k → (flag old k ≡ true) ⊎ IsInputOf d (ps ++ pearl ∷ []) k
     first (inl on) = inl on
-    first (inr here) = inr (here.0, among-left here.0 ps (pearl ∷ []) here.1, here.2)
+    first (inr here) = inr (here.0, among_left here.0 ps (pearl ∷ []) here.1, here.2)
 
     next : (flag mid k ≡ true) ⊎ IsNumberOf d pearl (inputs_of d pearl.model) k → (flag old k ≡ true) ⊎ IsInputOf d (ps ++ pearl ∷ []) k
     next (inl on) = first ((before k).0 on)
@@ -82,11 +73,6 @@ inputs_some d k m here =
 
 pub inputs_none : (d : Design) (k : ℕ) → slice_get d.models k ≡ None → inputs_of d k ≡ []
 inputs_none d k none = ap (λ (o : Option Model). option_map_or (data_inputs d) o []) none
-
--- the root is reached
-pub root_reached : (d : Design) → IsReached d d.root
-unfolding number_from
-root_reached d = ([], refl)
 
 -- a list of pearls for instances, and one more
 pub pearls_more : (d : Design) (starts : List ℕ) (ps : List Pearl) (i start : ℕ) (pearl : Pearl) → length ps ≡ i → slice_get starts i ≡ Some start → instance_number d i d.root ≡ Some pearl.model → pearl.start ≡ start → ((j s : ℕ) (p : Pearl) → slice_get starts j ≡ Some s → slice_get ps j ≡ Some p → (instance_number d j d.root ≡ Some p.model) × (p.start ≡ s)) → (j s : ℕ) (p : Pearl) → slice_get starts j ≡ Some s → slice_get (ps ++ pearl ∷ []) j ≡ Some p → (instance_number d j d.root ≡ Some p.model) × (p.start ≡ s)

@@ -2,20 +2,21 @@
 use Rattle.std.proofs.Common.{◌≡◌, ℕ, zero, suc, ◌<◌, ◌≤◌, List, [], ◌∷◌, ◌++◌, length, map, get_or, reverse, Some, option_map, slice_get, inl, inr, refl, sym, ◌∙◌, ap, subst, arith}
 use Rattle.std.proofs.lemmas.List.{length-map, reverse-reverse}
 use Rattle.std.proofs.lemmas.Option.{slice_get_within, slice_get-get_or, slice_get-map, get_or_from_slice_get}
+use Rattle.lid_base.specs.Lists.{Among}
+use Rattle.lid_base.proofs.Lists.{among_left, among_map, map_among, among_get, all_among}
 use Rattle.lid_design.specs.declared.Design.{Design}
 use Rattle.lid_design.specs.Network.{Driver, from_input, from_latch, from_cover, from_connection}
 use Rattle.lid_design.specs.Columns.{Column, column, drivers}
-use Rattle.lid_design.specs.Walks.{Among, read_now, read_before, Feeds, Walk as WalkOf}
+use Rattle.lid_design.specs.Walks.{read_now, read_before, Feeds, Walk as WalkOf}
 use Rattle.lid_design.specs.Places.{columns}
 use Rattle.lid_design.specs.Loops.{IsOnLoop as IsColumnOnLoop, HasNoLoop as HasNoColumnLoop}
-use Rattle.lid_design.proofs.Tables.{among-left}
-use Rattle.lid_digraph.specs.Graphs.{Among as AmongNumbers, reads_at, IsGraph, Walk, IsOnLoop, HasNoLoop}
+use Rattle.lid_digraph.specs.Graphs.{reads_at, IsGraph, Walk, IsOnLoop, HasNoLoop}
 use Rattle.lid_digraph.specs.Results.{IsLeastOnLoop}
 use Rattle.lid_elab.specs.Elaborations.{map_driver, column_at, IsElaborated}
 use Rattle.lid_rules.specs.declared.fault.CheckFault.TheVariants.{CombLoop}
 use Rattle.lid_check.specs.Acceptance.{TellsLoop}
 use Rattle.lid_check.specs.Flaws.{IsFirstOnLoop}
-use Rattle.lid_check.proofs.Lists.{to_numbers, from_numbers, among_map, map_among, among_get, all_among}
+use Rattle.lid_check.proofs.Lists.{to_numbers, from_numbers}
 
 read_now_map : {A B : Type 0} (f : A → B) (s : Driver A) → read_now (map_driver f s) ≡ map f (read_now s)
 read_now_map f (from_input j) = refl
@@ -47,20 +48,20 @@ module _ (d : Design) (network : List (Driver ℕ)) (starts : List ℕ) (is : Is
   reads_are : (k : ℕ) (driver : Driver ℕ) → slice_get network k ≡ Some driver → reads_at graph k ≡ read_now driver
   reads_are k driver here = get_or_from_slice_get graph k (read_now driver) [] (slice_get-map read_now network k ∙ ap (option_map read_now) here)
 
-  none_past : (gs : List (List ℕ)) (k b : ℕ) → AmongNumbers b (get_or gs k []) → k < length gs
+  none_past : (gs : List (List ℕ)) (k b : ℕ) → Among b (get_or gs k []) → k < length gs
   none_past [] k b among = absurd among
   none_past (g ∷ gs) zero b among = omega arith
   none_past (g ∷ gs) (suc k) b among = let h = none_past gs k b among in omega arith
 
-  pub reader_within : (k b : ℕ) → AmongNumbers b (reads_at graph k) → k < length network
+  pub reader_within : (k b : ℕ) → Among b (reads_at graph k) → k < length network
   reader_within k b among = let h = none_past graph k b among in let long = graph_length in omega arith
 
   -- an edge of numbers is one of columns
-  pub edge_down : (k b : ℕ) → AmongNumbers b (reads_at graph k) → (b < length network) × Feeds (drivers d) (column_at d b) (column_at d k)
+  pub edge_down : (k b : ℕ) → Among b (reads_at graph k) → (b < length network) × Feeds (drivers d) (column_at d b) (column_at d k)
   edge_down k b among =
       let driven = is.each k (column_at d k) (column_here k (reader_within k b among)) in
-      let here : Among b (read_now driven.driver) = from_numbers b (read_now driven.driver) (subst (λ (xs : List ℕ). AmongNumbers b xs) (reads_are k driven.driver driven.here) among) in
-      let below = all_among (λ (a : ℕ). a < length network) (read_now driven.driver ++ read_before driven.driver) b driven.below (among-left b (read_now driven.driver) (read_before driven.driver) here) in
+      let here : Among b (read_now driven.driver) = from_numbers b (read_now driven.driver) (subst (λ (xs : List ℕ). Among b xs) (reads_are k driven.driver driven.here) among) in
+      let below = all_among (λ (a : ℕ). a < length network) (read_now driven.driver ++ read_before driven.driver) b driven.below (among_left b (read_now driven.driver) (read_before driven.driver) here) in
       let mapped : Among (column_at d b) (read_now (map_driver (column_at d) driven.driver)) = subst (λ (xs : List Column). Among (column_at d b) xs) (sym (read_now_map (column_at d) driven.driver)) (among_map (column_at d) b (read_now driven.driver) here) in
       (below, (map_driver (column_at d) driven.driver, subst (λ (ss : List (Driver Column)). Among (map_driver (column_at d) driven.driver) ss) (sym driven.only) (inl refl), mapped))
 
@@ -69,14 +70,14 @@ module _ (d : Design) (network : List (Driver ℕ)) (starts : List ℕ) (is : Is
   one_driver s t (inr none) = absurd none
 
   -- an edge of columns to one with a number is one of numbers
-  pub edge_up : (k : ℕ) (a : Column) → k < length network → Feeds (drivers d) a (column_at d k) → (b : ℕ) × (b < length network) × (column_at d b ≡ a) × AmongNumbers b (reads_at graph k)
+  pub edge_up : (k : ℕ) (a : Column) → k < length network → Feeds (drivers d) a (column_at d k) → (b : ℕ) × (b < length network) × (column_at d b ≡ a) × Among b (reads_at graph k)
   edge_up k a h feeds =
       let driven = is.each k (column_at d k) (column_here k h) in
       let driver = one_driver feeds.0 (map_driver (column_at d) driven.driver) (subst (λ (ss : List (Driver Column)). Among feeds.0 ss) driven.only feeds.1) in
       let read : Among a (read_now (map_driver (column_at d) driven.driver)) = subst (λ (s : Driver Column). Among a (read_now s)) driver feeds.2 in
       let found = map_among (column_at d) a (read_now driven.driver) (subst (λ (xs : List Column). Among a xs) (read_now_map (column_at d) driven.driver) read) in
-      let below = all_among (λ (x : ℕ). x < length network) (read_now driven.driver ++ read_before driven.driver) found.0 driven.below (among-left found.0 (read_now driven.driver) (read_before driven.driver) found.1) in
-      (found.0, below, sym found.2, subst (λ (xs : List ℕ). AmongNumbers found.0 xs) (sym (reads_are k driven.driver driven.here)) (to_numbers found.0 (read_now driven.driver) found.1))
+      let below = all_among (λ (x : ℕ). x < length network) (read_now driven.driver ++ read_before driven.driver) found.0 driven.below (among_left found.0 (read_now driven.driver) (read_before driven.driver) found.1) in
+      (found.0, below, sym found.2, subst (λ (xs : List ℕ). Among found.0 xs) (sym (reads_are k driven.driver driven.here)) (to_numbers found.0 (read_now driven.driver) found.1))
 
   pub walk_down : (n a k : ℕ) → Walk graph n a k → WalkOf (drivers d) n (column_at d a) (column_at d k)
   walk_down zero a k w = ap (column_at d) w

@@ -7,17 +7,17 @@ use Rattle.std.specs.Cmp.{IsEquivalence}
 use Rattle.std.proofs.lemmas.Bool.{ltb-false, ltb-true}
 use Rattle.std.proofs.lemmas.List.Sums.{sum_by-cons}
 use Rattle.std.proofs.lemmas.Map.Made.{length-le_from_is_member}
+use Rattle.lid_base.specs.Lists.{Among}
+use Rattle.lid_base.proofs.Lists.{among_left, among_right, among_filter, same_bytes, bytes_same}
 use Rattle.lid_design.specs.declared.Design.{Design}
 use Rattle.lid_design.specs.declared.Model.{Model}
 use Rattle.lid_design.specs.Columns.{is_among, is_clock, root_outputs}
-use Rattle.lid_design.specs.Walks.{Among}
 use Rattle.lid_design.specs.Models.{occurrences, firsts, nets, read_names, inner_drivers, insts_of, number_named, number_from, IsReached}
 use Rattle.lid_design.specs.Places.{Place, place, places, places_in, model_nets, count_nets}
 use Rattle.lid_design.specs.WellFormed.{IsWellFormed}
-use Rattle.lid_design.proofs.Tables.{among-left, among_right}
 use Rattle.lid_rules.specs.Conditions.{is_twice, is_duplicate, duplicate_in, duplicate_name, unknown_model}
 use Rattle.lid_rules.specs.Acceptance.{ModelsPass, fault_before_recursion}
-use Rattle.lid_elab.proofs.Names.{same_bytes, bytes_same, to_among, from_among, among-filter, none_found, count-cons, count_some}
+use Rattle.lid_elab.proofs.Names.{to_among, from_among, none_found, count-cons, count_some}
 use Rattle.lid_elab.proofs.Passing.{IsSound, sound_model, or_none, none_told, map_none}
 use Rattle.lid_elab.proofs.Wired.{firsts_among}
 use Rattle.lid_elab.proofs.Judged.{no_limit, few_nets}
@@ -25,7 +25,7 @@ use Rattle.lid_elab.proofs.Judged.{no_limit, few_nets}
 -- an output occurs, and is read
 output_occurs : (m : Model) (net : List ℕ) → Among net m.outputs → Among net (occurrences m)
 unfolding occurrences
-output_occurs m net out = among-left net _ _ (among-left net _ _ (among-left net _ _ (among_right net m.inputs m.outputs out)))
+output_occurs m net out = among_left net _ _ (among_left net _ _ (among_left net _ _ (among_right net m.inputs m.outputs out)))
 
 output_read : (d : Design) (m : Model) (net : List ℕ) → Among net m.outputs → is_among net (read_names d m) ≡ true
 unfolding read_names
@@ -43,7 +43,7 @@ unfolding nets
 output_net d m sound net out =
     let occurs = output_occurs m net out in
     let clock = unless_read (is_clock d m net) (not (is_among net m.inputs || is_among net m.clocks)) (is_among net (read_names d m)) (is_among net (inner_drivers d m)) (sound.clocks net occurs) (output_read d m net out) in
-    among-filter (λ n. not (is_clock d m n)) net (firsts (occurrences m)) (firsts_among net (occurrences m) occurs) (ap not clock)
+    among_filter (λ n. not (is_clock d m n)) net (firsts (occurrences m)) (firsts_among net (occurrences m) occurs) (ap not clock)
 
 -- a name that does not stand twice in a list, stands in it once
 no_more : (x : List ℕ) (xs : List (List ℕ)) → is_twice (x ∷ xs) x ≡ false → is_among x xs ≡ false

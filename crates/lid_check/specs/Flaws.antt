@@ -1,11 +1,11 @@
 -- Why the columns of a design are refused, by numbers.
 use Rattle.std.specs.Prelude.{◌≡◌, ℕ, ◌<◌, ◌⊎◌, Bool, List, Option, Some, None, slice_get}
+use Rattle.lid_base.specs.Lists.{Among}
 use Rattle.lid_design.specs.declared.Design.{Design}
 use Rattle.lid_design.specs.declared.Model.{Model}
 use Rattle.lid_design.specs.Columns.{Column}
 use Rattle.lid_design.specs.Models.{IsReached}
 use Rattle.lid_design.specs.Places.{columns}
-use Rattle.lid_design.specs.Walks.{Among}
 use Rattle.lid_design.specs.Loops.{IsOnLoop, HasNoLoop}
 use Rattle.lid_rules.specs.declared.fault.CheckFault.{CheckFault}
 use Rattle.lid_check.specs.Acceptance.{TellsLoop, DependsOn, HasNoDependence, StandsBefore, TellsDependence}

@@ -2,13 +2,13 @@
 use Rattle.std.specs.Prelude.{◌≡◌, ◌↔◌, ℕ, ◌+◌, ◌<◌, ◌==◌, Bool, true, false, if◌then◌else◌, List, [], ◌∷◌, length, position, Option, Some, option_map, slice_get}
 use Rattle.std.specs.Option.{option_map_or}
 use Rattle.std.specs.Str.{bytes_eq}
+use Rattle.lid_base.specs.Lists.{Among}
 use Rattle.lid_design.specs.declared.Design.{Design}
 use Rattle.lid_design.specs.declared.Model.{Model}
 use Rattle.lid_design.specs.Columns.{data_inputs, model_at}
 use Rattle.lid_design.specs.Models.{IsReached, insts_of, instance_number}
 use Rattle.lid_design.specs.Places.{model_nets}
 use Rattle.lid_design.specs.Loops.{pearls, IsDependent}
-use Rattle.lid_design.specs.Walks.{Among}
 use Rattle.lid_digraph.specs.Graphs.{flag, IsReaching, IsReached as IsReachedFrom}
 use Rattle.lid_check.specs.declared.pearls.Pearl.{Pearl}
 

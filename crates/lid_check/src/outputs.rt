@@ -3,7 +3,8 @@
 ghost use Rattle.std.specs.Prelude.{◌≡◌, ◌≤◌, ℕ, true, List, length, map, IfOk};
 ghost use Rattle.std.specs.List.{AllByRecursion};
 ghost use Rattle.std.specs.Option.{MatchOption};
-ghost use Rattle.lid_design.specs.Walks.{Among, read_now};
+ghost use Rattle.lid_base.specs.Lists.{Among};
+ghost use Rattle.lid_design.specs.Walks.{read_now};
 ghost use Rattle.lid_digraph.specs.Graphs.{IsGraph, IsOrder};
 ghost use Rattle.lid_elab.specs.Elaborations.{shown_driver, IsElaborated};
 ghost use Rattle.lid_check.specs.Pearls.{inputs_of, is_marked, Fits, IsFirstMarked, AreUnmarked, LeadsTo, AreReachedIn, AreCutOff, AreLed, CutsOff, count_cut, IsFirstInput};

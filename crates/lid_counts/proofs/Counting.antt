@@ -5,16 +5,18 @@ use Rattle.std.proofs.lemmas.List.{get_or-set_other}
 use Rattle.std.proofs.lemmas.Grind.{get_or-set_at}
 use Rattle.std.specs.Option.{option_map_or}
 use Rattle.std.specs.Str.{bytes_eq}
+use Rattle.lid_base.specs.Lists.{Among}
+use Rattle.lid_base.proofs.Lists.{among_at}
 use Rattle.lid_design.specs.declared.Design.{Design}
 use Rattle.lid_design.specs.declared.Inst.{Inst}
 use Rattle.lid_design.specs.WellFormed.{IsWellFormed}
-use Rattle.lid_design.specs.Walks.{Among}
 use Rattle.lid_design.specs.Models.{number_named, insts_of, instance_number, number_from, IsReached}
 use Rattle.lid_hierarchy.specs.Surveys.{StandsAfterItsModels, IsModelOrder}
 use Rattle.lid_counts.specs.declared.counts.Measure.{Measure}
 use Rattle.lid_counts.specs.declared.counts.Measure.TheVariants.{Depth, Cells, Nets, Latches, Defaulted}
 use Rattle.lid_counts.specs.Counts.{own, joined, with_inst, with_insts, count_by_subs, count_within, count_of}
-use Rattle.lid_names.proofs.Numbers.{position_below, among_at, there}
+use Rattle.lid_names.proofs.Numbers.{position_below, there}
+use Rattle.lid_hierarchy.proofs.Walks.{reached_below}
 
 abbrev pub cut : ℕ → ℕ
 cut n = min n 4294967295
@@ -116,20 +118,6 @@ taken_more x (k ∷ ks) (suc i) h (inr among) = by (taken_more x ks i (omega ari
     by : Among x (take i ks) ⊎ (x ≡ get_or ks i 0) → Among x (k ∷ take i ks) ⊎ (x ≡ get_or ks i 0)
     by (inl here) = inl (inr here)
     by (inr same) = inr same
-
--- a reached model has a number below their count
-pub reached_below : (d : Design) → IsWellFormed d → (k : ℕ) → IsReached d k → k < length d.models
-unfolding number_from
-reached_below d formed k ([], leads) = subst (λ (n : ℕ). n < length d.models) (let e : Some d.root ≡ Some k = leads in cc) formed.rooted
-reached_below d formed k (i ∷ path, leads) = by (number_from d d.root path) leads
-  where
-    by : (o : Option ℕ) → option_and_then (instance_number d i) o ≡ Some k → k < length d.models
-    by None e = absurd (let f : None ≡ Some k = e in cc)
-    by (Some a) e = at (slice_get (insts_of d a) i) e
-      where
-        at : (o : Option Inst) → option_and_then (λ inst. number_named d inst.model) o ≡ Some k → k < length d.models
-        at None e = absurd (let f : None ≡ Some k = e in cc)
-        at (Some inst) e = position_below (λ m. bytes_eq m.name inst.model) d.models k e
 
 -- the counts of the models that were worked through, cut
 abbrev pub Counted : Measure → Design → List ℕ → List ℕ → Type 0

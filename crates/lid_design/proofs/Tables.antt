@@ -2,9 +2,11 @@
 -- strict table, and one whose reads are driven has at most one.
 use Rattle.std.proofs.Common.{◌≡◌, ℕ, zero, suc, ◌<◌, ◌≤◌, inl, inr, Bool, false, List, [], ◌∷◌, ◌++◌, length, map, get_or, refl, sym, ◌∙◌, ap, subst, arith}
 use Rattle.std.specs.List.{AllByRecursion}
+use Rattle.lid_base.specs.Lists.{Among}
+use Rattle.lid_base.proofs.Lists.{among_left, among_right, all_among}
 use Rattle.lid_cover.specs.Cover.{cover_value}
 use Rattle.lid_design.specs.Network.{Driver, from_input, from_latch, from_cover, from_connection, Table, latch_bit, bit_of, IsStrict}
-use Rattle.lid_design.specs.Walks.{Among, read_now, read_before, Feeds, Walk, HasNoWalk, WalksEnd, IsDriven, IsDrivenOnce, AreReadsDriven, HasTable, HasOneTable}
+use Rattle.lid_design.specs.Walks.{read_now, read_before, Feeds, Walk, HasNoWalk, WalksEnd, IsDriven, IsDrivenOnce, AreReadsDriven, HasTable, HasOneTable}
 
 -- a list is mapped alike by functions that agree on it
 pub map_agree : {A : Type 0} (f g : A → Bool) (xs : List A) → ((a : A) → Among a xs → f a ≡ g a) → map f xs ≡ map g xs
@@ -59,21 +61,6 @@ some_item : {A : Type 0} (xs : List A) → 0 < length xs → (x : A) × Among x 
 some_item [] h = absurd (omega arith)
 some_item (x ∷ xs) h = (x, inl refl)
 
--- what holds of all items holds of one
-pub all-among : {A : Type 0} (P : A → Type 0) (xs : List A) (x : A) → AllByRecursion P xs → Among x xs → P x
-all-among P [] x all i = absurd i
-all-among P (y ∷ ys) x all (inl e) = subst P (sym e) all.0
-all-among P (y ∷ ys) x all (inr i) = all-among P ys x all.1 i
-
-pub among-left : {A : Type 0} (x : A) (xs ys : List A) → Among x xs → Among x (xs ++ ys)
-among-left x [] ys i = absurd i
-among-left x (z ∷ zs) ys (inl e) = inl e
-among-left x (z ∷ zs) ys (inr i) = inr (among-left x zs ys i)
-
-pub among_right : {A : Type 0} (x : A) (xs ys : List A) → Among x ys → Among x (xs ++ ys)
-among_right x [] ys i = i
-among_right x (z ∷ zs) ys i = inr (among_right x zs ys i)
-
 module _ {C : Type 0} (drivers : C → List (Driver C)) where
   -- a row after so many steps
   abbrev pub settled : List Bool → (Bool → C → Bool) → ℕ → C → Bool
@@ -125,11 +112,11 @@ module _ {C : Type 0} (drivers : C → List (Driver C)) where
   row_agrees rows b b' strict strict' driven t h before zero c none is_driven = absurd (none c refl)
   row_agrees rows b b' strict strict' driven t h before (suc k) c none is_driven =
       let one = some_item (drivers c) is_driven in
-      let left = all-among (λ s. b t c ≡ bit_of rows b t s) (drivers c) one.0 (strict t c h) one.1 in
-      let right = all-among (λ s. b' t c ≡ bit_of rows b' t s) (drivers c) one.0 (strict' t c h) one.1 in
+      let left = all_among (λ s. b t c ≡ bit_of rows b t s) (drivers c) one.0 (strict t c h) one.1 in
+      let right = all_among (λ s. b' t c ≡ bit_of rows b' t s) (drivers c) one.0 (strict' t c h) one.1 in
       left
       ∙ bit_of_agree rows b b' t one.0
-      (λ a j. row_agrees rows b b' strict strict' driven t h before k a (λ z w. none z (a, w, (one.0, one.1, j))) (driven c one.0 a one.1 (among-left a (read_now one.0) (read_before one.0) j)))
+      (λ a j. row_agrees rows b b' strict strict' driven t h before k a (λ z w. none z (a, w, (one.0, one.1, j))) (driven c one.0 a one.1 (among_left a (read_now one.0) (read_before one.0) j)))
       (λ first a j. before first a (driven c one.0 a one.1 (among_right a (read_now one.0) (read_before one.0) j)))
       ∙ sym right
 

@@ -3,6 +3,7 @@
 use Rattle.std.specs.Prelude.{◌≡◌, ◌↔◌, ◌≤◌, ⊤, ℕ, ◌+◌, ◌==◌, Bool, true, false, not, ◌&&◌, ◌||◌, List, [], ◌∷◌, ◌++◌, length, map, filter, flat_map, position, Option, Some, None, option_and_then, slice_get}
 use Rattle.std.specs.Option.{option_map_or}
 use Rattle.std.specs.Str.{bytes_eq}
+use Rattle.lid_base.specs.Lists.{Among}
 use Rattle.lid_cover.specs.Cover.{cover_value}
 use Rattle.lid_design.specs.declared.Design.{Design}
 use Rattle.lid_design.specs.declared.Model.{Model}
@@ -11,7 +12,6 @@ use Rattle.lid_design.specs.declared.Cell.TheVariants.{Names, Latch}
 use Rattle.lid_design.specs.declared.Inst.{Inst}
 use Rattle.lid_design.specs.declared.Bind.{Bind}
 use Rattle.lid_design.specs.Columns.{is_among, model_named, is_clock, data_inputs}
-use Rattle.lid_design.specs.Walks.{Among}
 
 -- the control of a latch, where it has one
 abbrev pub control_names : Option (List ℕ) → List (List ℕ)

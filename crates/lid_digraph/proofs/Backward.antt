@@ -3,10 +3,12 @@ use Rattle.std.proofs.Common.{◌≡◌, ℕ, zero, suc, ◌+◌, ◌<◌, ◌�
 use Rattle.std.proofs.lemmas.Bool.{cases_eq}
 use Rattle.std.proofs.lemmas.List.{length-set, length-append, length-replicate}
 use Rattle.std.proofs.lemmas.List.Sums.{sum_by-set}
-use Rattle.lid_digraph.specs.Graphs.{Among, reads_at, flag, WalkPast, IsReaching}
+use Rattle.lid_base.specs.Lists.{Among}
+use Rattle.lid_base.proofs.Lists.{among_left, among_last, among_push}
+use Rattle.lid_digraph.specs.Graphs.{reads_at, flag, WalkPast, IsReaching}
 use Rattle.lid_digraph.specs.Parts.{unmarked, count_false}
 use Rattle.lid_digraph.specs.Searches.{IsFeeding, AreMarked, Marks, IsSearch}
-use Rattle.lid_digraph.proofs.Lists.{among_left, among_last, among_push, flag_here, flag_there}
+use Rattle.lid_digraph.proofs.Lists.{flag_here, flag_there}
 use Rattle.lid_digraph.proofs.Walking.{past_first}
 
 pub unmarked_less : (flags : List Bool) (k : ℕ) → k < length flags → flag flags k ≡ false → unmarked (set flags k true) + 1 ≡ unmarked flags

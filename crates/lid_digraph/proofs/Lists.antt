@@ -3,7 +3,8 @@ use Rattle.std.proofs.Common.{◌≡◌, ℕ, zero, suc, ◌+◌, ◌<◌, ◌�
 use Rattle.std.proofs.lemmas.List.{get_or-set_same, get_or-set_other, get_or_default}
 use Rattle.std.proofs.lemmas.List.Sums.{sum_by-cons}
 use Rattle.std.proofs.lemmas.Grind.{common_steps}
-use Rattle.lid_digraph.specs.Graphs.{Among, reads_at, IsGraph, flag}
+use Rattle.lid_base.specs.Lists.{Among}
+use Rattle.lid_digraph.specs.Graphs.{reads_at, IsGraph, flag}
 use Rattle.lid_digraph.specs.Parts.{AreBelow, marked, count_true}
 
 pub among_at : (xs : List ℕ) (i : ℕ) → i < length xs → Among (get_or xs i 0) xs
@@ -27,21 +28,6 @@ index_take b zero xs h = absurd h
 index_take b (suc j) [] h = absurd h
 index_take b (suc j) (x ∷ xs) (inl e) = (0, omega arith, omega arith, sym e)
 index_take b (suc j) (x ∷ xs) (inr h) = let at = index_take b j xs h in (suc at.0, omega arith, omega arith, at.3)
-
-pub among_left : (b : ℕ) (xs ys : List ℕ) → Among b xs → Among b (xs ++ ys)
-among_left b [] ys h = absurd h
-among_left b (x ∷ xs) ys (inl e) = inl e
-among_left b (x ∷ xs) ys (inr h) = inr (among_left b xs ys h)
-
-pub among_last : (b : ℕ) (xs : List ℕ) → Among b (xs ++ b ∷ [])
-among_last b [] = inl refl
-among_last b (x ∷ xs) = inr (among_last b xs)
-
-pub among_push : (b y : ℕ) (xs : List ℕ) → Among b (xs ++ y ∷ []) → Among b xs ⊎ (b ≡ y)
-among_push b y [] (inl e) = inr e
-among_push b y [] (inr h) = absurd h
-among_push b y (x ∷ xs) (inl e) = inl (inl e)
-among_push b y (x ∷ xs) (inr h) = elim (among_push b y xs h) [ inl k ↦ inl (inr k) | inr e ↦ inr e ]
 
 pub below_among : (n b : ℕ) (xs : List ℕ) → AreBelow n xs → Among b xs → b < n
 below_among n b xs all h = let at = index_among b xs h in subst (λ (m : ℕ). m < n) at.2 (all at.0 0 at.1)

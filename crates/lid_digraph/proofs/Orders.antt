@@ -1,7 +1,8 @@
 -- An order, or a part of one, has no closed walk, and walks in it end.
 use Rattle.std.proofs.Common.{◌≡◌, ℕ, zero, suc, ◌+◌, ◌<◌, ◌≤◌, ◌⊎◌, inl, inr, List, [], ◌∷◌, length, get_or, take, refl, sym, ◌∙◌, subst, arith}
 use Rattle.std.proofs.lemmas.Bool.{cases_lt}
-use Rattle.lid_digraph.specs.Graphs.{Among, reads_at, Walk, IsOnLoop, HasNoLoop, IsOrder}
+use Rattle.lid_base.specs.Lists.{Among}
+use Rattle.lid_digraph.specs.Graphs.{reads_at, Walk, IsOnLoop, HasNoLoop, IsOrder}
 use Rattle.lid_digraph.proofs.Lists.{index_among, index_take, among_take}
 
 module _ (g : List (List ℕ)) (order : List ℕ) (earlier : (i b : ℕ) → i < length order → Among b (reads_at g (get_or order i 0)) → Among b (take i order)) where

@@ -7,9 +7,11 @@ use Rattle.std.proofs.lemmas.List.Folds.{sum_by-replicate}
 use Rattle.std.proofs.Math.Seq.{get_or-append_seam, take-append_seam}
 use Rattle.std.specs.Bool.{MatchBool}
 use Rattle.std.specs.Option.{MatchOption}
-use Rattle.lid_digraph.specs.Graphs.{Among, reads_at, IsGraph, IsOrder, flag}
+use Rattle.lid_base.specs.Lists.{Among}
+use Rattle.lid_base.proofs.Lists.{among_left, among_last, among_push}
+use Rattle.lid_digraph.specs.Graphs.{reads_at, IsGraph, IsOrder, flag}
 use Rattle.lid_digraph.specs.Parts.{IsPart, marked, count_true, HoldsLoops}
-use Rattle.lid_digraph.proofs.Lists.{among_left, among_last, among_push, flag_here, flag_there, flag_within, none_marked}
+use Rattle.lid_digraph.proofs.Lists.{flag_here, flag_there, flag_within, none_marked}
 use Rattle.lid_digraph.proofs.Orders.{no_loop_among, loop_within}
 
 -- a round that took something leaves less, and one that did not is the last

@@ -2,7 +2,8 @@
 use Rattle.std.proofs.Common.{◌≡◌, ℕ, zero, suc, ◌+◌, ◌<◌, ◌≢◌, ◌⊎◌, inl, inr, ◌↔◌, Bool, true, false, List, length, get_or, set, take, refl, sym, ◌∙◌, ap, subst, arith}
 use Rattle.std.specs.Bool.{MatchBool}
 use Rattle.std.proofs.lemmas.Bool.{cases_eq}
-use Rattle.lid_digraph.specs.Graphs.{Among, reads_at, flag, WalkPast, IsReached}
+use Rattle.lid_base.specs.Lists.{Among}
+use Rattle.lid_digraph.specs.Graphs.{reads_at, flag, WalkPast, IsReached}
 use Rattle.lid_digraph.proofs.Lists.{index_take, among_take, flag_here}
 
 module _ (g : List (List ℕ)) (cut starts : List Bool) where

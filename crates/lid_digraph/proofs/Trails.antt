@@ -3,7 +3,8 @@ use Rattle.std.proofs.Common.{◌≡◌, ℕ, zero, suc, ◌+◌, ◌≤◌, ◌
 use Rattle.std.specs.List.{IsDistinct, AllByRecursion, list_any}
 use Rattle.std.proofs.lemmas.Bool.{eqb-true}
 use Rattle.std.proofs.lemmas.Map.Steps.{length-le_from_distinct_below}
-use Rattle.lid_digraph.specs.Graphs.{Among, reads_at, Walk, IsOnLoop, flag}
+use Rattle.lid_base.specs.Lists.{Among}
+use Rattle.lid_digraph.specs.Graphs.{reads_at, Walk, IsOnLoop, flag}
 use Rattle.lid_digraph.specs.Parts.{IsStuck}
 use Rattle.lid_digraph.proofs.Lists.{flag_within}
 use Rattle.lid_digraph.proofs.Walking.{walk_first}

@@ -1,6 +1,7 @@
 -- Ranks never fall along reads, so a number whose readers have greater ranks lies on no closed walk.
 use Rattle.std.proofs.Common.{◌≡◌, ℕ, zero, suc, ◌<◌, Bool, true, false, List, length, get_or, replicate, refl, sym, ◌∙◌, ap, subst, arith}
-use Rattle.lid_digraph.specs.Graphs.{Among, reads_at, Walk, flag}
+use Rattle.lid_base.specs.Lists.{Among}
+use Rattle.lid_digraph.specs.Graphs.{reads_at, Walk, flag}
 use Rattle.lid_digraph.specs.Parts.{HoldsLoops, IsUphill}
 use Rattle.lid_digraph.proofs.Orders.{reader_within, loop_within}
 

@@ -1,6 +1,7 @@
 -- Walks joined, begun by an edge, and past a cut.
 use Rattle.std.proofs.Common.{◌≡◌, ℕ, zero, suc, ◌↔◌, Bool, true, false, List, set, refl, ◌∙◌, subst}
-use Rattle.lid_digraph.specs.Graphs.{Among, reads_at, Walk, IsOnLoop, flag, WalkPast}
+use Rattle.lid_base.specs.Lists.{Among}
+use Rattle.lid_digraph.specs.Graphs.{reads_at, Walk, IsOnLoop, flag, WalkPast}
 use Rattle.lid_digraph.specs.Parts.{SparesLoops}
 use Rattle.lid_digraph.specs.Searches.{IsFeeding}
 use Rattle.lid_digraph.proofs.Lists.{flag_there}

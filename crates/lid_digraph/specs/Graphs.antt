@@ -1,10 +1,6 @@
 -- Graphs of numbers: what each number reads, walks, loops and orders.
-use Rattle.std.specs.Prelude.{◌≡◌, ℕ, zero, suc, ◌<◌, ◌^◌, ◌⊎◌, Bool, true, false, List, [], ◌∷◌, take, length, slice_index, slice_index_or}
-
--- x is one of the list
-abbrev pub Among : ℕ → List ℕ → Type 0
-Among x [] = ⊥
-Among x (y ∷ ys) = (x ≡ y) ⊎ Among x ys
+use Rattle.std.specs.Prelude.{◌≡◌, ℕ, zero, suc, ◌<◌, ◌^◌, Bool, true, false, List, [], ◌∷◌, take, length, slice_index, slice_index_or}
+use Rattle.lid_base.specs.Lists.{Among}
 
 -- the numbers that k reads; none where there is no k
 abbrev pub reads_at : List (List ℕ) → ℕ → List ℕ

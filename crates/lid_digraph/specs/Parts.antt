@@ -1,8 +1,9 @@
 -- A part of an order, and the numbers that are left out of it.
 use Rattle.std.specs.Prelude.{◌≡◌, ℕ, ◌+◌, ◌<◌, ◌≤◌, Bool, true, false, List, take, length, slice_index}
 use Rattle.std.specs.List.{All, sum_by}
+use Rattle.lid_base.specs.Lists.{Among}
 use Rattle.lid_digraph.specs.declared.visiting.Visit.{Visit}
-use Rattle.lid_digraph.specs.Graphs.{Among, reads_at, IsOnLoop, flag}
+use Rattle.lid_digraph.specs.Graphs.{reads_at, IsOnLoop, flag}
 
 abbrev pub count_true : Bool → ℕ
 count_true true = 1

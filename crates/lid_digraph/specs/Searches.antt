@@ -1,6 +1,7 @@
 -- The search back from a number.
 use Rattle.std.specs.Prelude.{◌≡◌, ℕ, suc, ◌+◌, ◌*◌, ◌≤◌, ◌⊎◌, Bool, true, false, List, length}
-use Rattle.lid_digraph.specs.Graphs.{Among, reads_at, flag, WalkPast}
+use Rattle.lid_base.specs.Lists.{Among}
+use Rattle.lid_digraph.specs.Graphs.{reads_at, flag, WalkPast}
 use Rattle.lid_digraph.specs.Parts.{unmarked}
 
 -- a walk past the cut with at least one edge leads from a to c

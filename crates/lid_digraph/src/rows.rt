@@ -2,7 +2,8 @@
 
 ghost use Rattle.std.specs.Prelude.{◌≡◌, ◌<◌, ◌↔◌, ℕ, true, false, length, slice_index, IsTrue};
 ghost use Rattle.std.specs.Bool.{MatchBool};
-ghost use Rattle.lid_digraph.specs.Graphs.{IsGraph, Among, reads_at, flag};
+ghost use Rattle.lid_base.specs.Lists.{Among};
+ghost use Rattle.lid_digraph.specs.Graphs.{IsGraph, reads_at, flag};
 ghost use Rattle.lid_digraph.specs.Parts.{AreBelow};
 
 use lid_base::Items;

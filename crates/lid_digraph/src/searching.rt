@@ -1,7 +1,8 @@
 //! What reaches a number, and what is reached from some.
 
 ghost use Rattle.std.specs.Prelude.{◌≡◌, ◌+◌, ◌*◌, ◌<◌, ◌≤◌, ◌↔◌, ℕ, true, false, [], ◌∷◌, ◌++◌, length, replicate, IsTrue, IfOk, OnOk};
-ghost use Rattle.lid_digraph.specs.Graphs.{IsGraph, IsOnLoop, IsOrder, Among, reads_at, flag, IsReaching, IsReached};
+ghost use Rattle.lid_base.specs.Lists.{Among};
+ghost use Rattle.lid_digraph.specs.Graphs.{IsGraph, IsOnLoop, IsOrder, reads_at, flag, IsReaching, IsReached};
 ghost use Rattle.lid_digraph.specs.Parts.{unmarked, AreBelow, SparesLoops};
 ghost use Rattle.lid_digraph.specs.Searches.{Marks, IsSearch, IsFeeding};
 

@@ -7,6 +7,7 @@ use Rattle.std.proofs.lemmas.Bool.{ltb-false}
 use Rattle.std.proofs.lemmas.Bool.Decides.{eqb_tells}
 use Rattle.std.proofs.lemmas.List.{length-map}
 use Rattle.std.proofs.lemmas.Option.{slice_get-map, slice_get_read}
+use Rattle.lid_base.proofs.Lists.{get_among}
 use Rattle.lid_rules.proofs.Subs.{position_below}
 use Rattle.lid_design.specs.declared.Design.{Design}
 use Rattle.lid_design.specs.declared.Model.{Model}
@@ -25,7 +26,6 @@ use Rattle.lid_elab.specs.Writing.{IsJudged, IsTemplate, IsPicked, ArePicked, mo
 use Rattle.lid_elab.specs.declared.driven.Driven.{Driven}
 use Rattle.lid_elab.specs.declared.template.LocalDriver.{LocalDriver}
 use Rattle.lid_elab.specs.declared.template.Template.{Template}
-use Rattle.lid_elab.proofs.Names.{get-among}
 use Rattle.lid_elab.proofs.Passing.{IsSoundInst}
 use Rattle.lid_elab.proofs.Wired.{Sub, sub_of, sound}
 use Rattle.lid_elab.proofs.Picking.{once_firsts, picked_by}
@@ -131,7 +131,7 @@ module _ (d : Design) (judged : IsJudged d) (k : ℕ) (reached : IsReached d k) 
           let mapped : Some (pick_of net) ≡ Some pick = sym (ap (λ (ps : List ℕ). slice_get ps j) is ∙ slice_get-map pick_of (model_nets d k) j ∙ ap (option_map pick_of) there) ∙ at in
           let same : pick_of net ≡ pick = cc in
           subst (λ (p : ℕ). IsPicked d k all p net) same
-          (subst (λ ls. IsPicked d k ls (pick_of net) net) (sym locals) (picked_by d judged k reached m here driven shows net (get-among (model_nets d k) j net there)))
+          (subst (λ ls. IsPicked d k ls (pick_of net) net) (sym locals) (picked_by d judged k reached m here driven shows net (get_among (model_nets d k) j net there)))
 
 -- the parts of a template make it
 pub template_whole : (d : Design) (k : ℕ) (t : Template) → ArePicked d k t.locals t.picks → length t.offsets ≡ length (insts_of d k) → ((i o : ℕ) → slice_get t.offsets i ≡ Some o → o ≡ offset_of d k i) → t.actuals ≡ map (places_in_inst d k) (insts_of d k) → IsTemplate d k t

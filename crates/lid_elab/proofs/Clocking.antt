@@ -4,18 +4,18 @@ use Rattle.std.specs.Option.{option_map_or}
 use Rattle.std.specs.List.{list_any}
 use Rattle.std.specs.Str.{bytes_eq}
 use Rattle.std.proofs.lemmas.List.Quantifiers.{position-Some}
+use Rattle.lid_base.specs.Lists.{Among}
+use Rattle.lid_base.proofs.Lists.{get_among, bytes_same}
 use Rattle.lid_design.specs.declared.Design.{Design}
 use Rattle.lid_design.specs.declared.Model.{Model}
 use Rattle.lid_design.specs.declared.Inst.{Inst}
 use Rattle.lid_design.specs.declared.Bind.{Bind}
 use Rattle.lid_design.specs.WellFormed.{IsWellFormed}
 use Rattle.lid_design.specs.Columns.{model_named, model_at, instance_model, is_own_clock, is_clock_within, is_clock}
-use Rattle.lid_design.specs.Walks.{Among}
 use Rattle.lid_design.specs.Models.{number_named, instance_number, number_from, is_clock_of, IsReached}
 use Rattle.lid_hierarchy.specs.Surveys.{IsModelOrder}
 use Rattle.lid_hierarchy.specs.Clocks.{binds_to, inst_binds, is_clock_in}
 use Rattle.lid_hierarchy.proofs.Fixpoints.{find_position, clock_fixpoint}
-use Rattle.lid_elab.proofs.Names.{bytes_same, get-among}
 
 pub or_left : (a b : Bool) → a ≡ true → (a || b) ≡ true
 or_left true b h = refl
@@ -53,7 +53,7 @@ bound_clock d formed order ordered k reached m here i inst at j sub names there 
     ap (λ (o : Option Model). option_map_or (λ m. is_clock d m b.actual) o false) (sym here)
     ∙ clock_fixpoint d formed order ordered k (ordered.each k reached) b.actual
     ∙ ap (λ (o : Option Model). option_map_or (is_clock_in d (is_clock_of d) b.actual) o false) here
-    ∙ or_right (is_own_clock m b.actual) _ (any_true (inst_binds d (is_clock_of d) b.actual) m.insts inst (get-among m.insts i inst at) of_inst)
+    ∙ or_right (is_own_clock m b.actual) _ (any_true (inst_binds d (is_clock_of d) b.actual) m.insts inst (get_among m.insts i inst at) of_inst)
   where
     formal_clock : is_clock_of d j b.formal ≡ true
     formal_clock = ap (λ (o : Option Model). option_map_or (λ m. is_clock d m b.formal) o false) there ∙ clock

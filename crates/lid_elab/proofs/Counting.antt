@@ -4,19 +4,19 @@ use Rattle.std.specs.Option.{option_map_or}
 use Rattle.std.proofs.lemmas.List.{take_all, take_more, get_or-set_same, get_or-set_other, length-set, length-replicate}
 use Rattle.std.proofs.lemmas.Option.{slice_get_read, get_or_from_slice_get}
 use Rattle.std.proofs.lemmas.Bool.Decides.{eqb_tells}
+use Rattle.lid_base.specs.Lists.{Among}
+use Rattle.lid_base.proofs.Lists.{among_left, among_right, last_case}
 use Rattle.lid_design.specs.declared.Design.{Design}
 use Rattle.lid_design.specs.declared.Inst.{Inst}
 use Rattle.lid_design.specs.Models.{insts_of, instance_number, number_named, IsReached}
 use Rattle.lid_design.specs.Places.{model_nets}
-use Rattle.lid_design.specs.Walks.{Among}
-use Rattle.lid_design.proofs.Tables.{among-left, among_right}
 use Rattle.lid_hierarchy.specs.Surveys.{StandsAfterItsModels, IsModelOrder}
-use Rattle.lid_hierarchy.proofs.Walks.{reached_below}
 use Rattle.lid_elab.specs.Numbers.{over_insts, size_of, offset_of}
 use Rattle.lid_elab.specs.Parts.{AreSizes, HasSizes}
 use Rattle.lid_elab.specs.Writing.{IsJudged}
 use Rattle.lid_elab.proofs.Judged.{shallow_of, few_columns, within}
 use Rattle.lid_elab.proofs.Stacking.{size_sum}
+use Rattle.lid_hierarchy.proofs.Walks.{reached_below}
 
 -- one more instance of a list
 over_step : (d : Design) (f : ℕ → ℕ) (insts : List Inst) (i : ℕ) → over_insts d f (take (suc i) insts) ≡ over_insts d f (take i insts) + option_map_or f (option_and_then (λ inst. number_named d inst.model) (slice_get insts i)) 0
@@ -89,12 +89,6 @@ earlier d found (x ∷ order) (suc i) h after inst j names = by (earlier d (x �
     by (inl (inr among)) = inl among
     by (inr among) = inr (inr among)
 
-last_case : {P : Type 0} (x : ℕ) (xs : List ℕ) (k : ℕ) → Among x (xs ++ k ∷ []) → (Among x xs → P) → (x ≡ k → P) → P
-last_case x [] k (inl same) here last = last same
-last_case x [] k (inr none) here last = absurd none
-last_case x (y ∷ ys) k (inl same) here last = here (inl same)
-last_case x (y ∷ ys) k (inr among) here last = last_case x ys k among (λ later. here (inr later)) last
-
 module _ (d : Design) where
   pub sizes_start : (sizes : List (Option ℕ)) (order : List ℕ) → sizes ≡ replicate (length d.models) None → AreSizes d (λ k. Among k (take 0 order)) sizes
   sizes_start sizes order is = record {
@@ -138,7 +132,7 @@ module _ (d : Design) where
 
         known : (k n : ℕ) → get_or new k None ≡ Some n → ((eqb k at ≡ true) × (k ≡ at)) ⊎ ((eqb k at ≡ false) × (k ≢ at)) → Among k (take i order ++ at ∷ [])
         known k n there (inl same) = among_right k (take i order) (at ∷ []) (inl same.1)
-        known k n there (inr other) = among-left k (take i order) (at ∷ []) (have.only k n (sym (new_other k other.1) ∙ there))
+        known k n there (inr other) = among_left k (take i order) (at ∷ []) (have.only k n (sym (new_other k other.1) ∙ there))
 
   -- all models of the order have theirs
   pub sizes_end : (order : List ℕ) → IsModelOrder d order → (n : ℕ) → length order ≤ n → (sizes : List (Option ℕ)) → AreSizes d (λ k. Among k (take n order)) sizes → AreSizes d (IsReached d) sizes

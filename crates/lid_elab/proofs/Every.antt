@@ -4,6 +4,8 @@ use Rattle.std.specs.Option.{option_map_or}
 use Rattle.std.specs.List.{flat_map, count_by, enumerate_from}
 use Rattle.std.specs.Str.{bytes_eq}
 use Rattle.std.proofs.lemmas.List.{length-map}
+use Rattle.lid_base.specs.Lists.{Among}
+use Rattle.lid_base.proofs.Lists.{among_right, among_append, map_among, flat_among, get_among, among_get, then_some}
 use Rattle.lid_design.specs.declared.Design.{Design}
 use Rattle.lid_design.specs.declared.Model.{Model}
 use Rattle.lid_design.specs.declared.Cell.{Cell}
@@ -12,25 +14,24 @@ use Rattle.lid_design.specs.declared.Inst.{Inst}
 use Rattle.lid_design.specs.WellFormed.{IsWellFormed}
 use Rattle.lid_design.specs.Network.{Driver}
 use Rattle.lid_design.specs.Columns.{Column, column, is_among, model_named, model_at, is_clock, data_inputs, cell_at, output_at, actuals_of, port_at, drivers_in, drivers}
-use Rattle.lid_design.specs.Walks.{Among, IsDriven}
+use Rattle.lid_design.specs.Walks.{IsDriven}
 use Rattle.lid_design.specs.Models.{nets, inner_drivers, driven_by, actuals_bound_to, cell_out, control_names, number_from, IsReached}
 use Rattle.lid_design.specs.Places.{model_nets, columns}
-use Rattle.lid_design.proofs.Tables.{among_right}
 use Rattle.lid_rules.specs.Acceptance.{ModelsPass}
 use Rattle.lid_hierarchy.specs.Surveys.{IsModelOrder, AreKnown}
 use Rattle.lid_elab.specs.Numbers.{start_of}
 use Rattle.lid_elab.specs.Locals.{inputs_from, inner_locals, of_net, driver_at}
-use Rattle.lid_elab.proofs.Names.{to_among, among-append, map-among, flat-among, get-among, among-get, count_none}
+use Rattle.lid_elab.proofs.Names.{to_among, count_none}
 use Rattle.lid_elab.proofs.Clocking.{model_at_number}
 use Rattle.lid_elab.proofs.Locals.{of_net_count, inner_named, inputs_named, inputs_seen}
 use Rattle.lid_elab.proofs.Shallow.{IsShallow}
 use Rattle.lid_elab.proofs.Wired.{Spot, spot_input, spot_cell, spot_bind, among_bound, net_from}
 use Rattle.lid_elab.proofs.Single.{drivers_at, inputs_fewer}
-use Rattle.lid_elab.proofs.Numbering.{then_some, starts_at}
+use Rattle.lid_elab.proofs.Numbering.{starts_at}
 
 -- what cells and instances drive has a place
 inner_spot : (d : Design) (m : Model) (net : List ℕ) → Among net (inner_drivers d m) → Spot m net
-inner_spot d m net among = by (among-append net (map cell_out m.cells) (flat_map (driven_by d) m.insts) among)
+inner_spot d m net among = by (among_append net (map cell_out m.cells) (flat_map (driven_by d) m.insts) among)
   where
     of_cell : (cell : Cell) → Among cell m.cells → net ≡ cell_out cell → Spot m net
     of_cell (Names inputs out cover) is eq = spot_cell (Names inputs out cover) is (among_right net inputs (out ∷ []) (inl eq))
@@ -41,8 +42,8 @@ inner_spot d m net among = by (among-append net (map cell_out m.cells) (flat_map
     of_inst inst is (Some sub) bound = let found = among_bound sub.outputs inst.binds net bound in spot_bind inst found.0 is found.1 found.3
 
     by : Among net (map cell_out m.cells) ⊎ Among net (flat_map (driven_by d) m.insts) → Spot m net
-    by (inl cells) = let found = map-among cell_out net m.cells cells in of_cell found.0 found.1 found.2
-    by (inr insts) = let found = flat-among (driven_by d) net m.insts insts in of_inst found.0 found.1 (model_named d found.0.model) found.2
+    by (inl cells) = let found = map_among cell_out net m.cells cells in of_cell found.0 found.1 found.2
+    by (inr insts) = let found = flat_among (driven_by d) net m.insts insts in of_inst found.0 found.1 (model_named d found.0.model) found.2
 
 counted : (net : List ℕ) (names : List (List ℕ)) → 0 < count_by (bytes_eq net) names → is_among net names ≡ true
 counted net names some = by (is_among net names) refl
@@ -80,8 +81,8 @@ module _ (d : Design) (formed : IsWellFormed d) (order : List ℕ) (ordered : Is
     column_of : (shallow : (k : ℕ) → IsReached d k → IsShallow d (length d.models) k) (path : List ℕ) → number_from d d.root path ≡ Some k → (net : List ℕ) → Among net (nets d m) → Among (column path net) (columns d)
     column_of shallow path leads net among =
         let names : model_nets d k ≡ nets d m = ap (λ (o : Option Model). option_map_or (nets d) o []) here in
-        let at = among-get (model_nets d k) net (subst (Among net) (sym names) among) in
-        get-among (columns d) (start_of d path + at.0) (column path net) (starts_at d shallow path k at.0 net leads at.1)
+        let at = among_get (model_nets d k) net (subst (Among net) (sym names) among) in
+        get_among (columns d) (start_of d path + at.0) (column path net) (starts_at d shallow path k at.0 net leads at.1)
 
   pub driven_column : (shallow : (k : ℕ) → IsReached d k → IsShallow d (length d.models) k) (c : Column) → IsDriven (drivers d) c → Among c (columns d)
   unfolding drivers

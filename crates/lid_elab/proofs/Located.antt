@@ -4,16 +4,16 @@ use Rattle.std.specs.Option.{option_map_or}
 use Rattle.std.specs.List.{flat_map, enumerate_from}
 use Rattle.std.specs.Str.{bytes_eq}
 use Rattle.std.proofs.lemmas.Option.{slice_get-map}
+use Rattle.lid_base.specs.Lists.{Among}
+use Rattle.lid_base.proofs.Lists.{filter_among, get_among, bytes_same}
 use Rattle.lid_design.specs.declared.Design.{Design}
 use Rattle.lid_design.specs.declared.Model.{Model}
 use Rattle.lid_design.specs.declared.Inst.{Inst}
 use Rattle.lid_design.specs.Columns.{Column, column, is_clock}
-use Rattle.lid_design.specs.Walks.{Among}
 use Rattle.lid_design.specs.Models.{occurrences, firsts, nets, insts_of, number_named, instance_number, number_from, IsReached}
 use Rattle.lid_design.specs.Places.{place, places, model_nets, columns_at, columns}
 use Rattle.lid_elab.specs.Numbers.{over_insts, size_within, size_of, offset_of, start_of, columns_in}
 use Rattle.lid_elab.proofs.Shallow.{IsShallow, shallow_le}
-use Rattle.lid_elab.proofs.Names.{filter-among, get-among, bytes_same}
 use Rattle.lid_elab.proofs.Numbering.{block, columns_step, columns_length, size_same, over_same, take_get, at_length}
 
 -- where an item of two joined lists stands
@@ -29,7 +29,7 @@ get_split {A} (y ∷ xs) ys (suc m) x here = by (get_split xs ys m x here)
 -- names each once, by their places
 gets_differ : (x : List ℕ) (xs : List (List ℕ)) (i : ℕ) → slice_get (filter (λ other. not (bytes_eq other x)) xs) i ≡ Some x → ⊥
 gets_differ x xs i here =
-    let kept = filter-among (λ other. not (bytes_eq other x)) x xs (get-among (filter (λ other. not (bytes_eq other x)) xs) i x here) in
+    let kept = filter_among (λ other. not (bytes_eq other x)) x xs (get_among (filter (λ other. not (bytes_eq other x)) xs) i x here) in
     absurd (let e : not true ≡ true = ap not (sym (bytes_same x x refl)) ∙ kept.1 in let f : false ≡ true = e in cc)
 
 abbrev AreOnce : List (List ℕ) → Type 0
@@ -37,7 +37,7 @@ AreOnce xs = (i j : ℕ) (x : List ℕ) → slice_get xs i ≡ Some x → slice_
 
 -- the place before a filter
 filter_place : (p : List ℕ → Bool) (xs : List (List ℕ)) (i : ℕ) (x : List ℕ) → slice_get (filter p xs) i ≡ Some x → (n : ℕ) × (slice_get xs n ≡ Some x)
-filter_place p xs i x here = by xs (filter-among p x xs (get-among (filter p xs) i x here)).0
+filter_place p xs i x here = by xs (filter_among p x xs (get_among (filter p xs) i x here)).0
   where
     by : (ys : List (List ℕ)) → Among x ys → (n : ℕ) × (slice_get ys n ≡ Some x)
     by [] none = absurd none

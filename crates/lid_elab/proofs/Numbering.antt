@@ -5,6 +5,7 @@ use Rattle.std.specs.List.{flat_map, enumerate_from}
 use Rattle.std.proofs.lemmas.List.{length-map, append-nil}
 use Rattle.std.proofs.lemmas.List.Concat.{flat_map-append}
 use Rattle.std.proofs.lemmas.Option.{slice_get-map}
+use Rattle.lid_base.proofs.Lists.{then_some}
 use Rattle.lid_design.specs.declared.Design.{Design}
 use Rattle.lid_design.specs.declared.Inst.{Inst}
 use Rattle.lid_design.specs.Columns.{Column, column}
@@ -48,10 +49,6 @@ stands_get whole start part at i x here =
     ∙ ap (λ xs. slice_get xs (length at.before + i)) at.parts
     ∙ get_right at.before (part ++ at.after) i
     ∙ get_left part at.after i x here
-
-pub then_some : {A B : Type 0} (o : Option A) (f : A → Option B) (b : B) → option_and_then f o ≡ Some b → (a : A) × (o ≡ Some a) × (f a ≡ Some b)
-then_some None f b h = absurd (let e : None ≡ Some b = h in cc)
-then_some (Some a) f b h = (a, refl, h)
 
 module _ (d : Design) where
   -- the columns of an instance and of the places in it

@@ -5,6 +5,7 @@ use Rattle.std.specs.Option.{option_map_or}
 use Rattle.std.specs.List.{All}
 use Rattle.std.proofs.lemmas.List.{length-map}
 use Rattle.std.proofs.lemmas.Option.{slice_get_within, slice_get-map, slice_get-get_or, get_or_from_slice_get}
+use Rattle.lid_base.proofs.Lists.{get_among, then_some}
 use Rattle.lid_design.specs.declared.Design.{Design}
 use Rattle.lid_design.specs.declared.Model.{Model}
 use Rattle.lid_design.specs.declared.Inst.{Inst}
@@ -20,8 +21,7 @@ use Rattle.lid_elab.specs.declared.template.LocalDriver.{LocalDriver}
 use Rattle.lid_elab.specs.declared.template.Template.{Template}
 use Rattle.lid_elab.specs.declared.writing.Place.{Place}
 use Rattle.lid_elab.specs.declared.writing.Around.{Around}
-use Rattle.lid_elab.proofs.Names.{get-among}
-use Rattle.lid_elab.proofs.Numbering.{then_some, starts_at}
+use Rattle.lid_elab.proofs.Numbering.{starts_at}
 use Rattle.lid_elab.proofs.Located.{get_split}
 use Rattle.lid_elab.proofs.Judged.{shallow_of, few_columns}
 use Rattle.lid_elab.proofs.Placing.{FitsAround, at_root, in_inst, net_right, net_small}
@@ -97,7 +97,7 @@ module _ (d : Design) (judged : IsJudged d) (path : List ℕ) (k : ℕ) (leads :
       by None e = absurd (let none : None ≡ Some net = ap (λ (o : Option Model). slice_get (option_map_or (nets d) o []) j) (sym e) ∙ named in cc)
       by (Some m) e =
           let names : model_nets d k ≡ nets d m = ap (λ (o : Option Model). option_map_or (nets d) o []) e in
-          let among = get-among (nets d m) j net (ap (λ (ns : List (List ℕ)). slice_get ns j) (sym names) ∙ named) in
+          let among = get_among (nets d m) j net (ap (λ (ns : List (List ℕ)). slice_get ns j) (sym names) ∙ named) in
           let one : of_net net (locals d m) ≡ p.local ∷ [] = ap (λ (o : Option Model). of_net net (option_map_or (locals d) o [])) (sym e) ∙ p.only in
           let insts : length t.offsets ≡ length m.insts = is.few ∙ ap (λ (o : Option Model). length (option_map_or (λ m. m.insts) o [])) e in
           let fit = fits d path k around judged outer in

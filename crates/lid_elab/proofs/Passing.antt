@@ -1,17 +1,18 @@
 -- What the conditions say of each reached model, where none of them applies.
 use Rattle.std.proofs.Common.{◌≡◌, ℕ, Bool, true, false, not, List, [], ◌∷◌, Option, Some, None, option_and_then, option_map, slice_get, inl, inr, refl, sym, ◌∙◌, ap, subst, zero-add}
 use Rattle.std.specs.List.{enumerate_from}
+use Rattle.lid_base.specs.Lists.{Among}
+use Rattle.lid_base.proofs.Lists.{among_enumerate, not_false}
 use Rattle.lid_design.specs.declared.Design.{Design}
 use Rattle.lid_design.specs.declared.Model.{Model}
 use Rattle.lid_design.specs.declared.Inst.{Inst}
 use Rattle.lid_design.specs.declared.Bind.{Bind}
 use Rattle.lid_design.specs.Columns.{is_among, model_named, data_inputs}
-use Rattle.lid_design.specs.Walks.{Among}
 use Rattle.lid_design.specs.Models.{occurrences, is_port, driver_names, IsReached}
 use Rattle.lid_rules.specs.declared.fault.CheckFault.{CheckFault}
 use Rattle.lid_rules.specs.Conditions.{or_fault, first_told, in_models, in_insts, in_known, is_twice, formals, is_undriven, is_misused, unknown_formal, unknown_formal_at, formal_twice, formal_twice_at, unbound, unbound_at, two_drivers, two_drivers_in, undriven, undriven_in, clock_use, clock_use_in}
 use Rattle.lid_rules.specs.Acceptance.{ModelsPass, fault_after_recursion}
-use Rattle.lid_elab.proofs.Names.{among_enumerate, none_found}
+use Rattle.lid_elab.proofs.Names.{none_found}
 
 -- what the conditions say of an instance of a model
 pub record IsSoundInst (d : Design) (sub : Model) (inst : Inst) : Type 0 where
@@ -69,10 +70,6 @@ all_none d ks none =
     let g = or_none (undriven d ks) _ f.1 in
     let h = or_none (clock_use d ks) _ g.1 in
     record { formal = a.0; twice = b.0; unbounds = e.0; two = f.0; not_driven = g.0; clock = h.0 }
-
-not_false : (b : Bool) → not b ≡ false → b ≡ true
-not_false true h = refl
-not_false false h = absurd (let e : true ≡ false = h in cc)
 
 sound_inst : (d : Design) (ks : List ℕ) → AllNone d ks → (k : ℕ) (m : Model) → Among k ks → slice_get d.models k ≡ Some m → (i : ℕ) (inst : Inst) (sub : Model) → slice_get m.insts i ≡ Some inst → model_named d inst.model ≡ Some sub → IsSoundInst d sub inst
 unfolding unknown_formal formal_twice unbound

@@ -5,6 +5,8 @@ use Rattle.std.specs.List.{AllByRecursion, IsDistinct, flat_map, count_by, posit
 use Rattle.std.specs.Str.{bytes_eq}
 use Rattle.std.proofs.lemmas.Bool.{ltb-false}
 use Rattle.std.proofs.lemmas.Option.{slice_get-map}
+use Rattle.lid_base.specs.Lists.{Among}
+use Rattle.lid_base.proofs.Lists.{among_right, among_append, filter_among, among_map, map_among, among_flat, flat_among, get_among, bytes_same}
 use Rattle.lid_design.specs.declared.Design.{Design}
 use Rattle.lid_design.specs.declared.Model.{Model}
 use Rattle.lid_design.specs.declared.Cell.{Cell}
@@ -13,8 +15,6 @@ use Rattle.lid_design.specs.declared.Inst.{Inst}
 use Rattle.lid_design.specs.Columns.{is_among, is_clock, data_inputs, model_named}
 use Rattle.lid_design.specs.Models.{firsts, nets, cell_out, control_names, driven_by, actuals_bound_to, inner_drivers, port_drivers, driver_names, IsReached}
 use Rattle.lid_design.specs.Places.{model_nets}
-use Rattle.lid_design.specs.Walks.{Among}
-use Rattle.lid_design.proofs.Tables.{among_right}
 use Rattle.lid_names.specs.Names.{texts}
 use Rattle.lid_names.proofs.Lists.{count_append}
 use Rattle.lid_hierarchy.proofs.Numbers.{firsts_distinct}
@@ -24,7 +24,7 @@ use Rattle.lid_elab.specs.Parts.{net_of, numbered_local, Shows}
 use Rattle.lid_elab.specs.Writing.{IsJudged, IsPicked, model_locals}
 use Rattle.lid_elab.specs.declared.driven.Driven.{Driven}
 use Rattle.lid_elab.specs.declared.template.LocalDriver.{LocalDriver}
-use Rattle.lid_elab.proofs.Names.{bytes_same, among-append, filter-among, among-map, map-among, among_flat, flat-among, get-among, count-cons}
+use Rattle.lid_elab.proofs.Names.{count-cons}
 use Rattle.lid_elab.proofs.Locals.{locals_named}
 use Rattle.lid_elab.proofs.Wired.{Spot, spot_input, spot_cell, spot_bind, occurs, among_bound, sound}
 use Rattle.lid_elab.proofs.Single.{inputs_fewer, exactly_one, of_net_among}
@@ -68,7 +68,7 @@ among_of_net {V} net ps p is same =
 module _ (d : Design) (judged : IsJudged d) (k : ℕ) (reached : IsReached d k) (m : Model) (here : slice_get d.models k ≡ Some m) where
   input_spot : (net : List ℕ) → Among net (data_inputs d m) → Spot m net
   unfolding data_inputs
-  input_spot net is = spot_input (filter-among (λ net. not (is_clock d m net)) net m.inputs is).0
+  input_spot net is = spot_input (filter_among (λ net. not (is_clock d m net)) net m.inputs is).0
 
   cell_spot : (net : List ℕ) (cell : Cell) → Among cell m.cells → net ≡ cell_out cell → Spot m net
   cell_spot net (Names inputs out cover) is same = spot_cell (Names inputs out cover) is (among_right net inputs (out ∷ []) (inl same))
@@ -80,15 +80,15 @@ module _ (d : Design) (judged : IsJudged d) (k : ℕ) (reached : IsReached d k) 
 
   -- a driven net is named in the model
   driven_spot : (net : List ℕ) → Among net (data_inputs d m ++ inner_drivers d m) → Spot m net
-  driven_spot net is = by (among-append net (data_inputs d m) (inner_drivers d m) is)
+  driven_spot net is = by (among_append net (data_inputs d m) (inner_drivers d m) is)
     where
       inner : Among net (map cell_out m.cells) ⊎ Among net (flat_map (driven_by d) m.insts) → Spot m net
-      inner (inl cells) = let found = map-among cell_out net m.cells cells in cell_spot net found.0 found.1 found.2
-      inner (inr insts) = let found = flat-among (driven_by d) net m.insts insts in inst_spot net found.0 found.1 (model_named d found.0.model) found.2
+      inner (inl cells) = let found = map_among cell_out net m.cells cells in cell_spot net found.0 found.1 found.2
+      inner (inr insts) = let found = flat_among (driven_by d) net m.insts insts in inst_spot net found.0 found.1 (model_named d found.0.model) found.2
 
       by : Among net (data_inputs d m) ⊎ Among net (inner_drivers d m) → Spot m net
       by (inl input) = input_spot net input
-      by (inr rest) = inner (among-append net (map cell_out m.cells) (flat_map (driven_by d) m.insts) rest)
+      by (inr rest) = inner (among_append net (map cell_out m.cells) (flat_map (driven_by d) m.insts) rest)
 
   -- no net stands twice among the driven nets
   pub driven_once : IsOnce (map net_of (locals d m))
@@ -126,13 +126,13 @@ module _ (d : Design) (judged : IsJudged d) (k : ℕ) (reached : IsReached d k) 
       there = of_net_among net (locals d m) one.0 (subst (λ (ls : List (Local (List ℕ))). Among one.0 ls) (sym one.1) (inl refl))
 
       name_at : option_map net_of (slice_get (locals d m) place) ≡ Some net
-      name_at = sym (slice_get-map net_of (locals d m) place) ∙ position_get net (map net_of (locals d m)) (among-map net_of (net, one.0) (locals d m) there)
+      name_at = sym (slice_get-map net_of (locals d m) place) ∙ position_get net (map net_of (locals d m)) (among_map net_of (net, one.0) (locals d m) there)
 
       pair : (p : NetLocal) × (slice_get (locals d m) place ≡ Some p) × (net_of p ≡ net)
       pair = map_some net_of (slice_get (locals d m) place) net name_at
 
       alone : pair.0.1 ≡ one.0
-      alone = by (subst (λ (ls : List (Local (List ℕ))). Among pair.0.1 ls) one.1 (among_of_net net (locals d m) pair.0 (get-among (locals d m) place pair.0 pair.1) pair.2))
+      alone = by (subst (λ (ls : List (Local (List ℕ))). Among pair.0.1 ls) one.1 (among_of_net net (locals d m) pair.0 (get_among (locals d m) place pair.0 pair.1) pair.2))
         where
           by : (pair.0.1 ≡ one.0) ⊎ ⊥ → pair.0.1 ≡ one.0
           by (inl same) = same

@@ -5,6 +5,8 @@ use Rattle.std.specs.Option.{option_map_or}
 use Rattle.std.specs.List.{All, AllByRecursion, position_or_len, prefix_len}
 use Rattle.std.specs.Str.{bytes_eq}
 use Rattle.std.proofs.lemmas.Option.{get_or_from_slice_get, slice_get_within, slice_get-map}
+use Rattle.lid_base.specs.Lists.{Among}
+use Rattle.lid_base.proofs.Lists.{get_among, same_bytes, bytes_same}
 use Rattle.lid_cover.specs.declared.Cover.{Cover}
 use Rattle.lid_design.specs.declared.Design.{Design}
 use Rattle.lid_design.specs.declared.Model.{Model}
@@ -12,7 +14,7 @@ use Rattle.lid_design.specs.declared.Inst.{Inst}
 use Rattle.lid_design.specs.WellFormed.{IsWellFormed}
 use Rattle.lid_design.specs.Network.{Driver, from_latch, from_cover, from_connection}
 use Rattle.lid_design.specs.Columns.{Column, column, data_inputs, drivers}
-use Rattle.lid_design.specs.Walks.{Among, read_now, read_before}
+use Rattle.lid_design.specs.Walks.{read_now, read_before}
 use Rattle.lid_design.specs.Models.{nets, insts_of, instance_number, number_named, number_from, IsReached}
 use Rattle.lid_design.specs.Places.{model_nets, columns}
 use Rattle.lid_rules.specs.Acceptance.{ModelsPass}
@@ -22,7 +24,6 @@ use Rattle.lid_elab.specs.Numbers.{offset_of, start_of}
 use Rattle.lid_elab.specs.Locals.{Local, local_input, local_latch, local_cover, local_connection, locals, of_net, actual_for, driver_at, driver_in}
 use Rattle.lid_elab.specs.Templates.{place_in, numbered, placed, IsSmall}
 use Rattle.lid_elab.specs.Writing.{IsRight, model_inputs}
-use Rattle.lid_elab.proofs.Names.{same_bytes, bytes_same, get-among}
 use Rattle.lid_elab.proofs.Clocking.{named_model}
 use Rattle.lid_elab.proofs.Shallow.{IsShallow}
 use Rattle.lid_elab.proofs.Numbering.{starts_at}
@@ -171,7 +172,7 @@ module _ (d : Design) (formed : IsWellFormed d) (order : List ℕ) (ordered : Is
         (ap (λ (ns : List ℕ). slice_get ns j) (w.each ∙ ap (map (λ formal. place_in d w.around (actual_for w.inst formal))) inputs)
         ∙ slice_get-map (λ formal. place_in d w.around (actual_for w.inst formal)) (data_inputs d m) j
         ∙ ap (option_map (λ formal. place_in d w.around (actual_for w.inst formal))) input) in
-        let is_net = actual_net d formed order ordered known pass w.around (w.up, w.leads) w.body w.there w.i w.inst w.at (inst_sub start actuals w) net (get-among (data_inputs d m) j net input) in
+        let is_net = actual_net d formed order ordered known pass w.around (w.up, w.leads) w.body w.there w.i w.inst w.at (inst_sub start actuals w) net (get_among (data_inputs d m) j net input) in
         let n = number_of w.up w.around w.body w.leads w.there (actual_for w.inst net) is_net in
         let whole : start_of d w.up + place_in d w.around (actual_for w.inst net) ≡ start + slice_index actuals j = (let a = w.is_start in omega arith) in
         let moved : HasNumber (start + slice_index actuals j) (column w.up (actual_for w.inst net)) = subst (λ (x : ℕ). HasNumber x (column w.up (actual_for w.inst net))) whole n in
@@ -226,7 +227,7 @@ module _ (d : Design) (formed : IsWellFormed d) (order : List ℕ) (ordered : Is
           ∙ slice_get-map (λ formal. place_in d w.around (actual_for w.inst formal)) (data_inputs d m) j
           ∙ ap (option_map (λ formal. place_in d w.around (actual_for w.inst formal))) input) in
           let number : slice_index actuals j ≡ place_in d w.around (actual_for w.inst net) = get_or_from_slice_get actuals j (place_in d w.around (actual_for w.inst net)) 0 at_j in
-          let is_net = actual_net d formed order ordered known pass w.around (w.up, w.leads) w.body w.there w.i w.inst w.at (inst_sub start actuals w) net (get-among (data_inputs d m) j net input) in
+          let is_net = actual_net d formed order ordered known pass w.around (w.up, w.leads) w.body w.there w.i w.inst w.at (inst_sub start actuals w) net (get_among (data_inputs d m) j net input) in
           let n = (number_of w.up w.around w.body w.leads w.there (actual_for w.inst net) is_net).1 in
           let first = w.is_start in
           let a : start ≤ 1048576 = omega arith in

@@ -7,6 +7,8 @@ use Rattle.std.specs.Str.{bytes_eq}
 use Rattle.std.proofs.lemmas.Bool.{ltb-false}
 use Rattle.std.proofs.lemmas.Option.{get_or_from_slice_get}
 use Rattle.std.proofs.lemmas.List.{map-append, append-nil}
+use Rattle.lid_base.specs.Lists.{Among}
+use Rattle.lid_base.proofs.Lists.{among_append, filter_among, map_among, flat_among, get_among, enumerate_among, same_bytes}
 use Rattle.lid_cover.specs.declared.Cover.{Cover}
 use Rattle.lid_design.specs.declared.Design.{Design}
 use Rattle.lid_design.specs.declared.Model.{Model}
@@ -17,14 +19,13 @@ use Rattle.lid_design.specs.declared.Bind.{Bind}
 use Rattle.lid_design.specs.WellFormed.{IsWellFormed}
 use Rattle.lid_design.specs.Network.{Driver, from_connection}
 use Rattle.lid_design.specs.Columns.{Column, column, is_among, model_named, model_at, is_clock, data_inputs, first_bit, cell_at, output_at, actuals_of, port_at, drivers_in, drivers}
-use Rattle.lid_design.specs.Walks.{Among}
 use Rattle.lid_design.specs.Models.{occurrences, nets, port_drivers, inner_drivers, driver_names, read_by, read_names, actuals_bound_to, number_from, IsReached}
 use Rattle.lid_rules.specs.Conditions.{formals, formal_of}
 use Rattle.lid_rules.specs.Acceptance.{ModelsPass}
 use Rattle.lid_names.proofs.Lists.{is_among_append, count_append}
 use Rattle.lid_hierarchy.specs.Surveys.{IsModelOrder, AreKnown}
 use Rattle.lid_elab.specs.Locals.{Local, local_input, local_latch, local_cover, local_connection, NetLocal, inputs_from, local_of, output_of, outputs_of, inner_locals, locals, of_net, driver_at, driver_in, bound_pairs, first_name_of, actual_for}
-use Rattle.lid_elab.proofs.Names.{same_bytes, to_among, from_among, among-append, filter-among, map-among, flat-among, get-among, enumerate-among, count-cons, count_some}
+use Rattle.lid_elab.proofs.Names.{to_among, from_among, count-cons, count_some}
 use Rattle.lid_elab.proofs.Passing.{IsSoundInst}
 use Rattle.lid_elab.proofs.Clocking.{or_left, own_clock, model_at_number}
 use Rattle.lid_elab.proofs.Locals.{net_of, of_net_append, of_net_count, locals_named, inputs_named, inputs_seen, inner_seen}
@@ -66,7 +67,7 @@ pub of_net_among : {V : Type 0} (net : List ℕ) (ps : List (List ℕ × V)) (v 
 of_net_among {V} net ps v among = by found.0 (bytes_eq found.0.0 net) refl found.1 found.2
   where
     found : (p : List ℕ × V) × Among p ps × Among v (cond (bytes_eq p.0 net) (p.1 ∷ []) [])
-    found = flat-among (λ p. cond (bytes_eq p.0 net) (p.1 ∷ []) []) v ps among
+    found = flat_among (λ p. cond (bytes_eq p.0 net) (p.1 ∷ []) []) v ps among
 
     by : (p : List ℕ × V) (b : Bool) → bytes_eq p.0 net ≡ b → Among p ps → Among v (cond b (p.1 ∷ []) []) → Among (net, v) ps
     by p true e is (inl eq) =
@@ -86,11 +87,11 @@ inputs_from_among k (name ∷ names) net l (inr later) =
 
 input_among : (d : Design) (m : Model) (net : List ℕ) → Among net (data_inputs d m) → Among net m.inputs
 unfolding data_inputs
-input_among d m net among = (filter-among (λ net. not (is_clock d m net)) net m.inputs among).0
+input_among d m net among = (filter_among (λ net. not (is_clock d m net)) net m.inputs among).0
 
 -- no cell and no instance gives an input of the model
 no_input : (d : Design) (m : Model) (net : List ℕ) (j : ℕ) → Among {A = NetLocal} (net, local_input j) (inner_locals d m) → ⊥
-no_input d m net j among = by (among-append {A = NetLocal} (net, local_input j) (map local_of m.cells) (flat_map (outputs_of d) (enumerate_from 0 m.insts)) among)
+no_input d m net j among = by (among_append {A = NetLocal} (net, local_input j) (map local_of m.cells) (flat_map (outputs_of d) (enumerate_from 0 m.insts)) among)
   where
     is_from_input : NetLocal → Bool
     is_from_input (n, local_input j) = true
@@ -112,11 +113,11 @@ no_input d m net j among = by (among-append {A = NetLocal} (net, local_input j) 
 
     of_model : (p : ℕ × Inst) (o : Option Model) → Among {A = NetLocal} (net, local_input j) (option_map_or (λ m. flat_map (output_of m.outputs p.0) p.1.binds) o []) → ⊥
     of_model p None none = none
-    of_model p (Some sub) among = let found = flat-among (output_of sub.outputs p.0) (net, local_input j) p.1.binds among in of_bind p.0 found.0 (is_among found.0.formal sub.outputs) found.2
+    of_model p (Some sub) among = let found = flat_among (output_of sub.outputs p.0) (net, local_input j) p.1.binds among in of_bind p.0 found.0 (is_among found.0.formal sub.outputs) found.2
 
     by : Among {A = NetLocal} (net, local_input j) (map local_of m.cells) ⊎ Among {A = NetLocal} (net, local_input j) (flat_map (outputs_of d) (enumerate_from 0 m.insts)) → ⊥
-    by (inl cells) = let found = map-among local_of (net, local_input j) m.cells cells in of_cell found.0 found.2
-    by (inr outs) = let found = flat-among (outputs_of d) (net, local_input j) (enumerate_from 0 m.insts) outs in of_model found.0 (model_named d found.0.1.model) found.2
+    by (inl cells) = let found = map_among local_of (net, local_input j) m.cells cells in of_cell found.0 found.2
+    by (inr outs) = let found = flat_among (outputs_of d) (net, local_input j) (enumerate_from 0 m.insts) outs in of_model found.0 (model_named d found.0.1.model) found.2
 
 pairs_named : (binds : List Bind) → map net_of (map (λ (b : Bind). (b.formal, b.actual)) binds) ≡ map formal_of binds
 pairs_named [] = refl
@@ -177,7 +178,7 @@ module _ (d : Design) (formed : IsWellFormed d) (order : List ℕ) (ordered : Is
         from_port : (is_among net m.inputs ≡ true) ⊎ (is_among net clocks ≡ true) → length (of_net net (locals d m)) ≡ 1
         from_port (inl is) = at_least (inl (count_some net (data_inputs d m) (from_among net (data_inputs d m) (data_input d m net free.1 (to_among net m.inputs is)))))
         from_port (inr is) =
-            let clock = filter-among (λ net. not (is_among net m.inputs)) net m.clocks (to_among net clocks is) in
+            let clock = filter_among (λ net. not (is_among net m.inputs)) net m.clocks (to_among net clocks is) in
             true_not_false (is_clock d m net) (own_clock d m net (or_left (is_among net m.clocks) _ (from_among net m.clocks clock.0))) free.1
 
         by : (is_among net (port_drivers m) ≡ true) ⊎ (is_among net (inner_drivers d m) ≡ true) → length (of_net net (locals d m)) ≡ 1
@@ -187,7 +188,7 @@ module _ (d : Design) (formed : IsWellFormed d) (order : List ℕ) (ordered : Is
     -- what a driver reads are nets
     pub wired_local : (net : List ℕ) (l : Local (List ℕ)) → Among {A = NetLocal} (net, l) (locals d m) → IsWiredLocal m net l
     unfolding locals
-    wired_local net l among = by (among-append (net, l) (inputs_from 0 (data_inputs d m)) (inner_locals d m) among)
+    wired_local net l among = by (among_append (net, l) (inputs_from 0 (data_inputs d m)) (inner_locals d m) among)
       where
         read : (n : List ℕ) → Among n (read_names d m) → Among n (nets d m)
         read n is = read_is_net d formed order ordered known pass k reached m here n is
@@ -209,21 +210,21 @@ module _ (d : Design) (formed : IsWellFormed d) (order : List ℕ) (ordered : Is
         of_inst : (p : ℕ × Inst) → slice_get m.insts p.0 ≡ Some p.1 → Among {A = NetLocal} (net, l) (outputs_of d p) → IsWiredLocal m net l
         of_inst p at among =
             let sub = sub_of d formed order ordered known pass k reached m here p.0 p.1 at in
-            let found = flat-among (output_of sub.model.outputs p.0) (net, l) p.1.binds (subst (λ (o : Option Model). Among {A = NetLocal} (net, l) (option_map_or (λ m. flat_map (output_of m.outputs p.0) p.1.binds) o [])) sub.named among) in
+            let found = flat_among (output_of sub.model.outputs p.0) (net, l) p.1.binds (subst (λ (o : Option Model). Among {A = NetLocal} (net, l) (option_map_or (λ m. flat_map (output_of m.outputs p.0) p.1.binds) o [])) sub.named among) in
             of_bind p at sub found.0 (is_among found.0.formal sub.model.outputs) refl found.2
 
         of_inner : Among {A = NetLocal} (net, l) (map local_of m.cells) ⊎ Among {A = NetLocal} (net, l) (flat_map (outputs_of d) (enumerate_from 0 m.insts)) → IsWiredLocal m net l
-        of_inner (inl cells) = let found = map-among local_of (net, l) m.cells cells in of_cell found.0 found.1 found.2
+        of_inner (inl cells) = let found = map_among local_of (net, l) m.cells cells in of_cell found.0 found.1 found.2
         of_inner (inr outs) =
-            let found = flat-among (outputs_of d) (net, l) (enumerate_from 0 m.insts) outs in
-            let at = enumerate-among 0 m.insts found.0 found.1 in
+            let found = flat_among (outputs_of d) (net, l) (enumerate_from 0 m.insts) outs in
+            let at = enumerate_among 0 m.insts found.0 found.1 in
             of_inst found.0 (ap (slice_get m.insts) (at.1 ∙ zero-add at.0) ∙ at.2) found.2
 
         by : Among {A = NetLocal} (net, l) (inputs_from 0 (data_inputs d m)) ⊎ Among {A = NetLocal} (net, l) (inner_locals d m) → IsWiredLocal m net l
         by (inl input) =
             let found = inputs_from_among 0 (data_inputs d m) net l input in
             subst (IsWiredLocal m net) (sym (found.1 ∙ ap local_input (zero-add found.0))) (wired_input found.0 found.2)
-        by (inr inner) = of_inner (among-append (net, l) (map local_of m.cells) (flat_map (outputs_of d) (enumerate_from 0 m.insts)) inner)
+        by (inr inner) = of_inner (among_append (net, l) (map local_of m.cells) (flat_map (outputs_of d) (enumerate_from 0 m.insts)) inner)
 
     -- what drives a column
     pub drivers_at : (path : List ℕ) → number_from d d.root path ≡ Some k → (net : List ℕ) → is_clock d m net ≡ false → drivers d (column path net) ≡ port_at d m path net ++ map (driver_at path) (of_net net (inner_locals d m))
@@ -272,13 +273,13 @@ module _ (d : Design) (formed : IsWellFormed d) (order : List ℕ) (ordered : Is
 
     -- it is a net around the instance
     pub actual_net : (formal : List ℕ) → Among formal (data_inputs d sub.model) → Among (actual_for inst formal) (nets d m)
-    actual_net formal input = read_is_net d formed order ordered known pass k reached m here (actual_for inst formal) (inst_read d formed order ordered known pass k reached m here (actual_for inst formal) inst (get-among m.insts i inst at) read)
+    actual_net formal input = read_is_net d formed order ordered known pass k reached m here (actual_for inst formal) (inst_read d formed order ordered known pass k reached m here (actual_for inst formal) inst (get_among m.insts i inst at) read)
       where
         pair_in : Among {A = List ℕ × List ℕ} (formal, actual_for inst formal) (bound_pairs inst)
         pair_in = of_net_among formal (bound_pairs inst) (actual_for inst formal) (subst (λ (ns : List (List ℕ)). Among (actual_for inst formal) ns) (sym (bound_once formal input)) (inl refl))
 
         found : (b : Bind) × Among b inst.binds × (◌≡◌ {A = List ℕ × List ℕ} (formal, actual_for inst formal) (b.formal, b.actual))
-        found = map-among (λ (b : Bind). (b.formal, b.actual)) (formal, actual_for inst formal) inst.binds pair_in
+        found = map_among (λ (b : Bind). (b.formal, b.actual)) (formal, actual_for inst formal) inst.binds pair_in
 
         in_inputs : is_among found.0.formal (data_inputs d sub.model) ≡ true
         in_inputs = from_among found.0.formal (data_inputs d sub.model) (subst (λ (n : List ℕ). Among n (data_inputs d sub.model)) (ap (λ (p : List ℕ × List ℕ). p.0) found.2) input)
@@ -315,7 +316,7 @@ module _ (d : Design) (formed : IsWellFormed d) (order : List ℕ) (ordered : Is
         in_first : (inputs ≡ l ∷ []) × (inner ≡ []) → drivers d (column (i ∷ path) net) ≡ driver_in path i inst (data_inputs d sub.model) l ∷ []
         in_first (mine, none) =
             let found = inputs_from_among 0 (data_inputs d sub.model) net l (of_net_among net (inputs_from 0 (data_inputs d sub.model)) l (subst (λ (ls : List (Local (List ℕ))). Among l ls) (sym mine) (inl refl))) in
-            let input : Among net (data_inputs d sub.model) = get-among (data_inputs d sub.model) found.0 net found.2 in
+            let input : Among net (data_inputs d sub.model) = get_among (data_inputs d sub.model) found.0 net found.2 in
             let is_input : l ≡ local_input found.0 = found.1 ∙ ap local_input (zero-add found.0) in
             let name : slice_index_or (data_inputs d sub.model) found.0 [] ≡ net = get_or_from_slice_get (data_inputs d sub.model) found.0 net [] found.2 in
             start

@@ -2,17 +2,16 @@
 use Rattle.std.proofs.Common.{◌≡◌, ℕ, zero, suc, ◌+◌, ◌<◌, ◌^◌, List, [], ◌∷◌, ◌++◌, length, take, reverse, Option, Some, None, option_and_then, slice_get, refl, sym, ◌∙◌, ap, subst, arith, zero-add}
 use Rattle.std.specs.Option.{option_map_or}
 use Rattle.std.proofs.lemmas.List.{reverse-append}
+use Rattle.lid_base.proofs.Lists.{get_among, all_among}
 use Rattle.lid_design.specs.declared.Design.{Design}
 use Rattle.lid_design.specs.declared.Model.{Model}
 use Rattle.lid_design.specs.declared.Inst.{Inst}
 use Rattle.lid_design.specs.WellFormed.{IsWellFormed}
 use Rattle.lid_design.specs.Models.{insts_of, instance_number, number_named, number_from}
 use Rattle.lid_design.specs.Places.{model_nets, columns, places}
-use Rattle.lid_design.proofs.Tables.{all-among}
 use Rattle.lid_elab.specs.Numbers.{over_insts, size_within, size_of, offset_of, start_of, weight_within, weight_of}
 use Rattle.lid_elab.specs.Writing.{IsAt, AreNext, weights}
 use Rattle.lid_elab.specs.declared.writing.Place.{Place}
-use Rattle.lid_elab.proofs.Names.{get-among}
 use Rattle.lid_elab.proofs.Shallow.{IsShallow}
 use Rattle.lid_elab.proofs.Numbering.{over_same, size_same, columns_length}
 
@@ -74,7 +73,7 @@ module _ (d : Design) where
     where
       by : (o : Option Model) → slice_get d.models k ≡ o → length (option_map_or (λ m. m.insts) o []) < 2 ^ 32
       by None e = omega arith
-      by (Some m) e = all-among (λ m. length m.insts < 2 ^ 32) d.models m formed.insts (get-among d.models k m e)
+      by (Some m) e = all_among (λ m. length m.insts < 2 ^ 32) d.models m formed.insts (get_among d.models k m e)
 
   -- a place is pushed before others
   pub next_pushed : (old new : List Place) (p : Place) (path : List ℕ) (n m : ℕ) → new ≡ old ++ p ∷ [] → IsAt d path p → p.start ≡ n → m ≡ n + size_of d p.model → AreNext d m (reverse old) → AreNext d n (reverse new)

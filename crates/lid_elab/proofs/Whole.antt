@@ -42,6 +42,3 @@ elaborated d judged network starts written whole few offset = record {
           below = subst (λ (n : ℕ). AllByRecursion (λ a. a < n) (read_now found.0 ++ read_before found.0)) (sym whole) right.below;
         }
 
-pub root_reached : (d : Design) → IsReached d d.root
-unfolding number_from
-root_reached d = ([], refl)

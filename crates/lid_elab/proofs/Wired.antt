@@ -4,6 +4,8 @@ use Rattle.std.specs.Option.{option_map_or}
 use Rattle.std.specs.List.{flat_map}
 use Rattle.std.specs.Str.{bytes_eq}
 use Rattle.std.proofs.lemmas.Option.{slice_get_within, slice_get-get_or}
+use Rattle.lid_base.specs.Lists.{Among}
+use Rattle.lid_base.proofs.Lists.{among_left, among_right, among_append, among_filter, filter_among, among_map, map_among, among_flat, flat_among, get_among, same_bytes, bytes_same}
 use Rattle.lid_design.specs.declared.Design.{Design}
 use Rattle.lid_design.specs.declared.Model.{Model}
 use Rattle.lid_design.specs.declared.Cell.{Cell}
@@ -12,13 +14,11 @@ use Rattle.lid_design.specs.declared.Inst.{Inst}
 use Rattle.lid_design.specs.declared.Bind.{Bind}
 use Rattle.lid_design.specs.WellFormed.{IsWellFormed}
 use Rattle.lid_design.specs.Columns.{is_among, model_named, is_clocked_by, is_own_clock, is_clock, data_inputs}
-use Rattle.lid_design.specs.Walks.{Among}
 use Rattle.lid_design.specs.Models.{occurrences, firsts, nets, is_port, port_drivers, inner_drivers, driver_names, driven_by, read_by, read_names, cell_out, cell_reads, cell_names, control_names, actual_of, actual_names, actuals_bound_to, number_named, insts_of, instance_number, number_from, IsReached}
-use Rattle.lid_design.proofs.Tables.{among-left, among_right}
 use Rattle.lid_rules.specs.Conditions.{formals}
 use Rattle.lid_rules.specs.Acceptance.{ModelsPass}
 use Rattle.lid_hierarchy.specs.Surveys.{IsModelOrder, AreKnown}
-use Rattle.lid_elab.proofs.Names.{same_bytes, bytes_same, to_among, from_among, among-append, among-filter, filter-among, among-map, map-among, among_flat, flat-among, get-among}
+use Rattle.lid_elab.proofs.Names.{to_among, from_among}
 use Rattle.lid_elab.proofs.Passing.{IsSound, sound_model}
 use Rattle.lid_elab.proofs.Clocking.{or_left, or_right, any_true, own_clock, named_model, bound_clock, number_within}
 
@@ -48,12 +48,12 @@ firsts_among x (y ∷ ys) (inr later) = by (bytes_eq x y) refl (firsts_among x y
   where
     by : (b : Bool) → bytes_eq x y ≡ b → Among x (firsts ys) → Among x (firsts (y ∷ ys))
     by true e next = inl (same_bytes x y e)
-    by false e next = inr (among-filter (λ other. not (bytes_eq other y)) x (firsts ys) next (ap not e))
+    by false e next = inr (among_filter (λ other. not (bytes_eq other y)) x (firsts ys) next (ap not e))
 
 among-firsts : (x : List ℕ) (xs : List (List ℕ)) → Among x (firsts xs) → Among x xs
 among-firsts x [] among = absurd among
 among-firsts x (y ∷ ys) (inl same) = inl same
-among-firsts x (y ∷ ys) (inr later) = inr (among-firsts x ys (filter-among (λ other. not (bytes_eq other y)) x (firsts ys) later).0)
+among-firsts x (y ∷ ys) (inr later) = inr (among-firsts x ys (filter_among (λ other. not (bytes_eq other y)) x (firsts ys) later).0)
 
 -- the places of a model where a net is named
 pub data Spot (m : Model) (net : List ℕ) : Type 0 where
@@ -75,10 +75,10 @@ past_cells m = all_ports m ++ flat_map cell_names m.cells
 
 spot_of : (m : Model) (net : List ℕ) → Among net (occurrences m) → Spot m net
 unfolding occurrences
-spot_of m net among = by1 (among-append net (past_cells m) (flat_map actual_names m.insts) among)
+spot_of m net among = by1 (among_append net (past_cells m) (flat_map actual_names m.insts) among)
   where
     of_inst : (inst : Inst) × Among inst m.insts × Among net (actual_names inst) → Spot m net
-    of_inst found = let b = map-among actual_of net found.0.binds found.2 in spot_bind found.0 b.0 found.1 b.1 b.2
+    of_inst found = let b = map_among actual_of net found.0.binds found.2 in spot_bind found.0 b.0 found.1 b.1 b.2
 
     of_cell : (cell : Cell) × Among cell m.cells × Among net (cell_names cell) → Spot m net
     of_cell found = spot_cell found.0 found.1 found.2
@@ -88,48 +88,48 @@ spot_of m net among = by1 (among-append net (past_cells m) (flat_map actual_name
     by4 (inr there) = spot_output there
 
     by3 : Among net (ports m) ⊎ Among net m.clocks → Spot m net
-    by3 (inl here) = by4 (among-append net m.inputs m.outputs here)
+    by3 (inl here) = by4 (among_append net m.inputs m.outputs here)
     by3 (inr there) = spot_clock there
 
     by2 : Among net (all_ports m) ⊎ Among net (flat_map cell_names m.cells) → Spot m net
-    by2 (inl here) = by3 (among-append net (ports m) m.clocks here)
-    by2 (inr there) = of_cell (flat-among cell_names net m.cells there)
+    by2 (inl here) = by3 (among_append net (ports m) m.clocks here)
+    by2 (inr there) = of_cell (flat_among cell_names net m.cells there)
 
     by1 : Among net (past_cells m) ⊎ Among net (flat_map actual_names m.insts) → Spot m net
-    by1 (inl here) = by2 (among-append net (all_ports m) (flat_map cell_names m.cells) here)
-    by1 (inr there) = of_inst (flat-among actual_names net m.insts there)
+    by1 (inl here) = by2 (among_append net (all_ports m) (flat_map cell_names m.cells) here)
+    by1 (inr there) = of_inst (flat_among actual_names net m.insts there)
 
 pub occurs : (m : Model) (net : List ℕ) → Spot m net → Among net (occurrences m)
 unfolding occurrences
 occurs m net spot = by spot
   where
     from_cells : Among net (past_cells m) → Among net (past_cells m ++ flat_map actual_names m.insts)
-    from_cells here = among-left net (past_cells m) (flat_map actual_names m.insts) here
+    from_cells here = among_left net (past_cells m) (flat_map actual_names m.insts) here
 
     from_ports : Among net (all_ports m) → Among net (past_cells m ++ flat_map actual_names m.insts)
-    from_ports here = from_cells (among-left net (all_ports m) (flat_map cell_names m.cells) here)
+    from_ports here = from_cells (among_left net (all_ports m) (flat_map cell_names m.cells) here)
 
     by : Spot m net → Among net (past_cells m ++ flat_map actual_names m.insts)
-    by (spot_input here) = from_ports (among-left net (ports m) m.clocks (among-left net m.inputs m.outputs here))
-    by (spot_output here) = from_ports (among-left net (ports m) m.clocks (among_right net m.inputs m.outputs here))
+    by (spot_input here) = from_ports (among_left net (ports m) m.clocks (among_left net m.inputs m.outputs here))
+    by (spot_output here) = from_ports (among_left net (ports m) m.clocks (among_right net m.inputs m.outputs here))
     by (spot_clock here) = from_ports (among_right net (ports m) m.clocks here)
     by (spot_cell cell among named) = from_cells (among_right net (all_ports m) (flat_map cell_names m.cells) (among_flat cell_names cell net m.cells among named))
     by (spot_bind inst b among bound same) =
-        let here : Among net (actual_names inst) = subst (λ (n : List ℕ). Among n (actual_names inst)) (sym same) (among-map actual_of b inst.binds bound) in
+        let here : Among net (actual_names inst) = subst (λ (n : List ℕ). Among n (actual_names inst)) (sym same) (among_map actual_of b inst.binds bound) in
         among_right net (past_cells m) (flat_map actual_names m.insts) (among_flat actual_names inst net m.insts among here)
 
 pub bound_among : (formals : List (List ℕ)) (binds : List Bind) (b : Bind) → Among b binds → is_among b.formal formals ≡ true → Among b.actual (actuals_bound_to formals binds)
-bound_among formals binds b bound formal = among-map actual_of b (filter (λ b. is_among b.formal formals) binds) (among-filter (λ b. is_among b.formal formals) b binds bound formal)
+bound_among formals binds b bound formal = among_map actual_of b (filter (λ b. is_among b.formal formals) binds) (among_filter (λ b. is_among b.formal formals) b binds bound formal)
 
 pub among_bound : (formals : List (List ℕ)) (binds : List Bind) (net : List ℕ) → Among net (actuals_bound_to formals binds) → (b : Bind) × Among b binds × (is_among b.formal formals ≡ true) × (net ≡ b.actual)
 among_bound formals binds net among =
-    let found = map-among actual_of net (filter (λ b. is_among b.formal formals) binds) among in
-    let kept = filter-among (λ b. is_among b.formal formals) found.0 binds found.1 in
+    let found = map_among actual_of net (filter (λ b. is_among b.formal formals) binds) among in
+    let kept = filter_among (λ b. is_among b.formal formals) found.0 binds found.1 in
     (found.0, kept.0, kept.1, found.2)
 
 pub data_input : (d : Design) (m : Model) (net : List ℕ) → is_clock d m net ≡ false → Among net m.inputs → Among net (data_inputs d m)
 unfolding data_inputs
-data_input d m net free among = among-filter (λ net. not (is_clock d m net)) net m.inputs among (ap not free)
+data_input d m net free among = among_filter (λ net. not (is_clock d m net)) net m.inputs among (ap not free)
 
 -- the model of an instance
 pub record Sub (d : Design) (inst : Inst) : Type 0 where
@@ -152,7 +152,7 @@ module _ (d : Design) (formed : IsWellFormed d) (order : List ℕ) (ordered : Is
       let at_k : slice_get (insts_of d k) i ≡ Some inst = ap (λ (is : List Inst). slice_get is i) insts ∙ at in
       let found = some_of_is (instance_number d i k) (known k i reached (slice_get_within (insts_of d k) i inst at_k)) in
       let names : number_named d inst.model ≡ Some found.0 = ap (option_and_then (λ inst. number_named d inst.model)) (sym at_k) ∙ found.1 in
-      let below = number_within d inst found.0 names m (get-among d.models k m here) in
+      let below = number_within d inst found.0 names m (get_among d.models k m here) in
       let there = slice_get-get_or d.models found.0 m below in
       record {
         number = found.0;
@@ -178,10 +178,10 @@ module _ (d : Design) (formed : IsWellFormed d) (order : List ℕ) (ordered : Is
     -- what is read occurs
     read_spot : (net : List ℕ) → Among net (read_names d m) → Spot m net
     unfolding read_names
-    read_spot net among = by (among-append net (flat_map cell_reads m.cells ++ flat_map (read_by d) m.insts) m.outputs among)
+    read_spot net among = by (among_append net (flat_map cell_reads m.cells ++ flat_map (read_by d) m.insts) m.outputs among)
       where
         of_cell : (cell : Cell) → Among cell m.cells → Among net (cell_reads cell) → Spot m net
-        of_cell (Names inputs out cover) is read = spot_cell (Names inputs out cover) is (among-left net inputs (out ∷ []) read)
+        of_cell (Names inputs out cover) is read = spot_cell (Names inputs out cover) is (among_left net inputs (out ∷ []) read)
         of_cell (Latch input out kind control init) is (inl same) = spot_cell (Latch input out kind control init) is (inl same)
         of_cell (Latch input out kind control init) is (inr none) = absurd none
 
@@ -190,20 +190,20 @@ module _ (d : Design) (formed : IsWellFormed d) (order : List ℕ) (ordered : Is
         of_sub inst is (Some sub) read = let found = among_bound (data_inputs d sub) inst.binds net read in spot_bind inst found.0 is found.1 found.3
 
         by2 : Among net (flat_map cell_reads m.cells) ⊎ Among net (flat_map (read_by d) m.insts) → Spot m net
-        by2 (inl cells) = let found = flat-among cell_reads net m.cells cells in of_cell found.0 found.1 found.2
-        by2 (inr insts) = let found = flat-among (read_by d) net m.insts insts in of_sub found.0 found.1 (model_named d found.0.model) found.2
+        by2 (inl cells) = let found = flat_among cell_reads net m.cells cells in of_cell found.0 found.1 found.2
+        by2 (inr insts) = let found = flat_among (read_by d) net m.insts insts in of_sub found.0 found.1 (model_named d found.0.model) found.2
 
         by : Among net (flat_map cell_reads m.cells ++ flat_map (read_by d) m.insts) ⊎ Among net m.outputs → Spot m net
-        by (inl rest) = by2 (among-append net (flat_map cell_reads m.cells) (flat_map (read_by d) m.insts) rest)
+        by (inl rest) = by2 (among_append net (flat_map cell_reads m.cells) (flat_map (read_by d) m.insts) rest)
         by (inr outs) = spot_output outs
 
     pub cell_read : (net : List ℕ) (cell : Cell) → Among cell m.cells → Among net (cell_reads cell) → Among net (read_names d m)
     unfolding read_names
-    cell_read net cell is read = among-left net (flat_map cell_reads m.cells ++ flat_map (read_by d) m.insts) m.outputs (among-left net (flat_map cell_reads m.cells) (flat_map (read_by d) m.insts) (among_flat cell_reads cell net m.cells is read))
+    cell_read net cell is read = among_left net (flat_map cell_reads m.cells ++ flat_map (read_by d) m.insts) m.outputs (among_left net (flat_map cell_reads m.cells) (flat_map (read_by d) m.insts) (among_flat cell_reads cell net m.cells is read))
 
     pub inst_read : (net : List ℕ) (inst : Inst) → Among inst m.insts → Among net (read_by d inst) → Among net (read_names d m)
     unfolding read_names
-    inst_read net inst is read = among-left net (flat_map cell_reads m.cells ++ flat_map (read_by d) m.insts) m.outputs (among_right net (flat_map cell_reads m.cells) (flat_map (read_by d) m.insts) (among_flat (read_by d) inst net m.insts is read))
+    inst_read net inst is read = among_left net (flat_map cell_reads m.cells ++ flat_map (read_by d) m.insts) m.outputs (among_right net (flat_map cell_reads m.cells) (flat_map (read_by d) m.insts) (among_flat (read_by d) inst net m.insts is read))
 
     pub output_read : (net : List ℕ) → Among net m.outputs → Among net (read_names d m)
     unfolding read_names
@@ -215,12 +215,12 @@ module _ (d : Design) (formed : IsWellFormed d) (order : List ℕ) (ordered : Is
     read_is_net net read =
         let spot = occurs m net (read_spot net read) in
         let free = misused_not (is_clock d m net) _ (is_among net (read_names d m)) (is_among net (inner_drivers d m)) (sound.clocks net spot) (from_among net (read_names d m) read) in
-        among-filter (λ net. not (is_clock d m net)) net (firsts (occurrences m)) (firsts_among net (occurrences m) spot) (ap not free)
+        among_filter (λ net. not (is_clock d m net)) net (firsts (occurrences m)) (firsts_among net (occurrences m) spot) (ap not free)
 
     pub net_free : (net : List ℕ) → Among net (nets d m) → Among net (occurrences m) × (is_clock d m net ≡ false)
     unfolding nets
     net_free net among =
-        let kept = filter-among (λ net. not (is_clock d m net)) net (firsts (occurrences m)) among in
+        let kept = filter_among (λ net. not (is_clock d m net)) net (firsts (occurrences m)) among in
         (among-firsts net (occurrences m) kept.0, unnot (is_clock d m net) kept.1)
       where
         unnot : (b : Bool) → not b ≡ true → b ≡ false
@@ -229,7 +229,7 @@ module _ (d : Design) (formed : IsWellFormed d) (order : List ℕ) (ordered : Is
 
     pub net_from : (net : List ℕ) → Spot m net → is_clock d m net ≡ false → Among net (nets d m)
     unfolding nets
-    net_from net spot free = among-filter (λ net. not (is_clock d m net)) net (firsts (occurrences m)) (firsts_among net (occurrences m) (occurs m net spot)) (ap not free)
+    net_from net spot free = among_filter (λ net. not (is_clock d m net)) net (firsts (occurrences m)) (firsts_among net (occurrences m) (occurs m net spot)) (ap not free)
 
     -- a net is driven
     pub driven_net : (net : List ℕ) → Among net (occurrences m) → is_clock d m net ≡ false → is_among net (driver_names d m) ≡ true
@@ -246,14 +246,14 @@ module _ (d : Design) (formed : IsWellFormed d) (order : List ℕ) (ordered : Is
         inner is = from_among net (driver_names d m) (among_right net (port_drivers m) (inner_drivers d m) is)
 
         from_cell : (cell : Cell) → Among cell m.cells → Among net (cell_names cell) → is_among net (driver_names d m) ≡ true
-        from_cell (Names inputs out cover) is named = by_part (among-append net inputs (out ∷ []) named)
+        from_cell (Names inputs out cover) is named = by_part (among_append net inputs (out ∷ []) named)
           where
             by_part : Among net inputs ⊎ Among net (out ∷ []) → is_among net (driver_names d m) ≡ true
             by_part (inl read) = from_read (cell_read net (Names inputs out cover) is read)
-            by_part (inr (inl same)) = inner (among-left net (map cell_out m.cells) (flat_map (driven_by d) m.insts) (subst (λ (n : List ℕ). Among n (map cell_out m.cells)) (sym same) (among-map cell_out (Names inputs out cover) m.cells is)))
+            by_part (inr (inl same)) = inner (among_left net (map cell_out m.cells) (flat_map (driven_by d) m.insts) (subst (λ (n : List ℕ). Among n (map cell_out m.cells)) (sym same) (among_map cell_out (Names inputs out cover) m.cells is)))
             by_part (inr (inr none)) = absurd none
         from_cell (Latch input out kind control init) is (inl same) = from_read (cell_read net (Latch input out kind control init) is (inl same))
-        from_cell (Latch input out kind control init) is (inr rest) = by_part (among-append net (control_names control) (out ∷ []) rest)
+        from_cell (Latch input out kind control init) is (inr rest) = by_part (among_append net (control_names control) (out ∷ []) rest)
           where
             by_control : (c : Option (List ℕ)) → control ≡ c → Among net (control_names c) → is_among net (driver_names d m) ≡ true
             by_control None e none = absurd none
@@ -263,7 +263,7 @@ module _ (d : Design) (formed : IsWellFormed d) (order : List ℕ) (ordered : Is
 
             by_part : Among net (control_names control) ⊎ Among net (out ∷ []) → is_among net (driver_names d m) ≡ true
             by_part (inl named) = by_control control refl named
-            by_part (inr (inl same)) = inner (among-left net (map cell_out m.cells) (flat_map (driven_by d) m.insts) (subst (λ (n : List ℕ). Among n (map cell_out m.cells)) (sym same) (among-map cell_out (Latch input out kind control init) m.cells is)))
+            by_part (inr (inl same)) = inner (among_left net (map cell_out m.cells) (flat_map (driven_by d) m.insts) (subst (λ (n : List ℕ). Among n (map cell_out m.cells)) (sym same) (among_map cell_out (Latch input out kind control init) m.cells is)))
             by_part (inr (inr none)) = absurd none
 
         from_bind : (inst : Inst) (b : Bind) → Among inst m.insts → Among b inst.binds → net ≡ b.actual → is_among net (driver_names d m) ≡ true
@@ -302,7 +302,7 @@ module _ (d : Design) (formed : IsWellFormed d) (order : List ℕ) (ordered : Is
             by_port (inr rest) = by_rest (or_cases (is_among b.formal sub.model.outputs) (is_among b.formal sub.model.clocks) rest)
 
         by : Spot m net → is_among net (driver_names d m) ≡ true
-        by (spot_input is) = from_among net (driver_names d m) (among-left net (port_drivers m) (inner_drivers d m) (among-left net m.inputs (filter (λ net. not (is_among net m.inputs)) m.clocks) is))
+        by (spot_input is) = from_among net (driver_names d m) (among_left net (port_drivers m) (inner_drivers d m) (among_left net m.inputs (filter (λ net. not (is_among net m.inputs)) m.clocks) is))
         by (spot_output is) = from_read (output_read net is)
         by (spot_clock is) = clocked (or_left (is_among net m.clocks) _ (from_among net m.clocks is))
         by (spot_cell cell is named) = from_cell cell is named

@@ -1,10 +1,11 @@
 -- The columns of a design by their numbers, and what drives each of them.
 use Rattle.std.specs.Prelude.{◌≡◌, ℕ, ◌+◌, ◌<◌, List, [], ◌∷◌, ◌++◌, length, map, Some, slice_get, slice_index_or}
 use Rattle.std.specs.List.{AllByRecursion}
+use Rattle.lid_base.specs.Lists.{Among}
 use Rattle.lid_design.specs.declared.Design.{Design}
 use Rattle.lid_design.specs.Network.{Driver, from_input, from_latch, from_cover, from_connection}
 use Rattle.lid_design.specs.Columns.{Column, column, drivers}
-use Rattle.lid_design.specs.Walks.{Among, read_now, read_before, IsDriven}
+use Rattle.lid_design.specs.Walks.{read_now, read_before, IsDriven}
 use Rattle.lid_design.specs.Models.{insts_of, number_from}
 use Rattle.lid_design.specs.Places.{columns, model_nets}
 use Rattle.lid_elab.specs.declared.driver.ColumnDriver.{ColumnDriver}

@@ -2,19 +2,15 @@
 use Rattle.std.proofs.Common.{◌≡◌, ◌≢◌, ◌⊎◌, ℕ, zero, suc, ◌+◌, ◌<◌, eqb, true, false, List, [], ◌∷◌, ◌++◌, length, take, get_or, Some, inl, inr, refl, sym, ◌∙◌, ap, subst, arith}
 use Rattle.std.proofs.lemmas.List.{take_more}
 use Rattle.std.proofs.lemmas.Bool.Decides.{eqb_tells}
+use Rattle.lid_base.specs.Lists.{Among}
+use Rattle.lid_base.proofs.Lists.{among_at, last_case}
 use Rattle.lid_design.specs.declared.Design.{Design}
 use Rattle.lid_design.specs.Columns.{is_among}
 use Rattle.lid_design.specs.WellFormed.{IsWellFormed}
-use Rattle.lid_design.specs.Walks.{Among}
 use Rattle.lid_design.specs.Models.{instance_number, is_clock_of}
 use Rattle.lid_hierarchy.specs.Surveys.{StandsAfterItsModels, IsModelOrder}
 use Rattle.lid_hierarchy.specs.Clocks.{in_sets, HasClocks, HaveClocks}
 use Rattle.lid_hierarchy.proofs.Fixpoints.{clock_by_same, clock_fixpoint}
-
-pub among-at : (xs : List ℕ) (i d : ℕ) → i < length xs → Among (get_or xs i d) xs
-among-at [] i d h = absurd (omega arith)
-among-at (x ∷ xs) zero d h = inl refl
-among-at (x ∷ xs) (suc i) d h = inr (among-at xs i d (omega arith))
 
 -- the model of an instance stands before the model that has it
 earlier : (d : Design) (found order : List ℕ) (i e : ℕ) → i < length order → StandsAfterItsModels d found order → (inst j : ℕ) → instance_number d inst (get_or order i e) ≡ Some j → Among j found ⊎ Among j (take i order)
@@ -27,12 +23,6 @@ earlier d found (x ∷ order) (suc i) e h after inst j names = by (earlier d (x 
     by (inl (inr among)) = inl among
     by (inr among) = inr (inr among)
 
-last_case : {P : Type 0} (x : ℕ) (xs : List ℕ) (k : ℕ) → Among x (xs ++ k ∷ []) → (Among x xs → P) → (x ≡ k → P) → P
-last_case x [] k (inl same) here last = last same
-last_case x [] k (inr none) here last = absurd none
-last_case x (y ∷ ys) k (inl same) here last = here (inl same)
-last_case x (y ∷ ys) k (inr among) here last = last_case x ys k among (λ later. here (inr later)) last
-
 module _ (d : Design) (formed : IsWellFormed d) (order : List ℕ) (ordered : IsModelOrder d order) (i : ℕ) (h : i < length order) (old new : List (List (List ℕ))) (set : List (List ℕ)) (have : HaveClocks d (take i order) old) (has : HasClocks d old (get_or order i 0) set) (size : length new ≡ length old) (here : get_or new (get_or order i 0) [] ≡ set) (others : (k : ℕ) → k ≢ get_or order i 0 → get_or new k [] ≡ get_or old k []) where
   -- the model that comes next
   at_next : (net : List ℕ) → in_sets new (get_or order i 0) net ≡ is_clock_of d (get_or order i 0) net
@@ -40,7 +30,7 @@ module _ (d : Design) (formed : IsWellFormed d) (order : List ℕ) (ordered : Is
       ap (is_among net) here
       ∙ has net
       ∙ clock_by_same d (in_sets old) (is_clock_of d) (get_or order i 0) (λ inst j formal names. subs inst j formal (earlier d [] order i 0 h ordered.after inst j names)) net
-      ∙ sym (clock_fixpoint d formed order ordered (get_or order i 0) (among-at order i 0 h) net)
+      ∙ sym (clock_fixpoint d formed order ordered (get_or order i 0) (among_at order i 0 h) net)
     where
       subs : (inst j : ℕ) (formal : List ℕ) → ⊥ ⊎ Among j (take i order) → in_sets old j formal ≡ is_clock_of d j formal
       subs inst j formal (inl none) = absurd none

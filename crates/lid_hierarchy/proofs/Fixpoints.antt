@@ -5,13 +5,13 @@ use Rattle.std.specs.Option.{option_map_or}
 use Rattle.std.specs.List.{list_any, prefix_len}
 use Rattle.std.specs.Str.{bytes_eq}
 use Rattle.std.proofs.lemmas.Bool.{lt-ltb, le-ltb, ltb-true, ltb-false}
+use Rattle.lid_base.specs.Lists.{Among}
 use Rattle.lid_design.specs.declared.Design.{Design}
 use Rattle.lid_design.specs.declared.Model.{Model}
 use Rattle.lid_design.specs.declared.Inst.{Inst}
 use Rattle.lid_design.specs.declared.Bind.{Bind}
 use Rattle.lid_design.specs.Columns.{is_own_clock, binds_clock, is_clock_within, is_clock}
 use Rattle.lid_design.specs.WellFormed.{IsWellFormed}
-use Rattle.lid_design.specs.Walks.{Among}
 use Rattle.lid_design.specs.Models.{number_named, instance_number, is_clock_of}
 use Rattle.lid_hierarchy.specs.Surveys.{StandsAfterItsModels, IsModelOrder}
 use Rattle.lid_hierarchy.specs.Clocks.{binds_to, inst_binds, is_clock_in, is_clock_by}

@@ -4,12 +4,12 @@ use Rattle.std.specs.List.{AllByRecursion, IsDistinct, prefix_len}
 use Rattle.std.specs.Str.{bytes_eq}
 use Rattle.std.proofs.lemmas.List.{length-map}
 use Rattle.std.proofs.lemmas.Slice.Eq.{bytes_eq-Decides}
+use Rattle.lid_base.specs.Lists.{Among}
 use Rattle.lid_names.specs.Names.{firsts}
 use Rattle.lid_digraph.specs.Graphs.{flag}
 use Rattle.lid_design.specs.declared.Design.{Design}
 use Rattle.lid_design.specs.declared.Model.{Model}
 use Rattle.lid_design.specs.WellFormed.{IsWellFormed}
-use Rattle.lid_design.specs.Walks.{Among}
 use Rattle.lid_design.specs.Models.{number_named, IsReached, Ascend, AreReached}
 use Rattle.lid_hierarchy.specs.Surveys.{instance_numbers}
 use Rattle.lid_hierarchy.specs.Graphs.{name_of, number_by, row_by, places_of_true}

@@ -1,14 +1,15 @@
 -- Orders of the reached models, and models that reach themselves.
 use Rattle.std.proofs.Common.{◌≡◌, ◌⊎◌, ℕ, zero, suc, ◌<◌, ◌≤◌, Bool, true, false, cond, List, [], ◌∷◌, ◌++◌, length, take, map, filter, get_or, slice_index, Option, Some, None, option_and_then, inl, inr, refl, sym, ◌∙◌, ap, subst, arith}
-use Rattle.lid_digraph.specs.Graphs.{Among, reads_at, flag, Walk, IsOnLoop, HasNoLoop, IsOrder}
+use Rattle.lid_base.specs.Lists.{Among}
+use Rattle.lid_digraph.specs.Graphs.{reads_at, flag, Walk, IsOnLoop, HasNoLoop, IsOrder}
 use Rattle.lid_digraph.specs.Results.{IsLeastOnLoop}
 use Rattle.lid_design.specs.declared.Design.{Design}
-use Rattle.lid_design.specs.Walks.{Among as AmongAny}
 use Rattle.lid_design.specs.Models.{instance_number, number_from, IsReached, ReachesItself, HasNoRecursion}
 use Rattle.lid_hierarchy.specs.Surveys.{AreMarked, instance_numbers, IsFirstRecursive, StandsAfterItsModels, IsModelOrder}
 use Rattle.std.proofs.lemmas.List.{length-map}
+use Rattle.lid_base.proofs.Lists.{then_some, last_case}
 use Rattle.lid_hierarchy.specs.Graphs.{IsUsedGraph, kept, kept_row, some_of, graph_of}
-use Rattle.lid_hierarchy.proofs.Walks.{number_from_outer, then_some, instance_reads, reads_instance}
+use Rattle.lid_hierarchy.proofs.Walks.{number_from_outer, instance_reads, reads_instance}
 
 index_after : (before : List ℕ) (k : ℕ) (later : List ℕ) → slice_index (before ++ k ∷ later) (length before) ≡ k
 index_after [] k later = refl
@@ -25,13 +26,6 @@ take_before (x ∷ before) later = ap (λ (ks : List ℕ). x ∷ ks) (take_befor
 append-assoc : (xs ys zs : List ℕ) → (xs ++ ys) ++ zs ≡ xs ++ (ys ++ zs)
 append-assoc [] ys zs = refl
 append-assoc (x ∷ xs) ys zs = ap (λ (ks : List ℕ). x ∷ ks) (append-assoc xs ys zs)
-
--- one of a list with one more is one of the list, or the one
-last-case : {P : Type 0} (x : ℕ) (xs : List ℕ) (k : ℕ) → Among x (xs ++ k ∷ []) → (Among x xs → P) → (x ≡ k → P) → P
-last-case x [] k (inl same) here last = last same
-last-case x [] k (inr none) here last = absurd none
-last-case x (y ∷ ys) k (inl same) here last = here (inl same)
-last-case x (y ∷ ys) k (inr among) here last = last-case x ys k among (λ later. here (inr later)) last
 
 pub flag-within : (marks : List Bool) (k : ℕ) → flag marks k ≡ true → k < length marks
 flag-within [] k mark = absurd (let e : false ≡ true = mark in cc)
@@ -102,27 +96,27 @@ module _ (d : Design) (g : List (List ℕ)) (used : IsUsedGraph d g) where
   pub none_recursive : HasNoLoop g → HasNoRecursion d
   none_recursive none k reached itself = none k (recursive_loop k reached itself)
 
-  pub to_any : (x : ℕ) (xs : List ℕ) → Among x xs → AmongAny x xs
+  pub to_any : (x : ℕ) (xs : List ℕ) → Among x xs → Among x xs
   to_any x [] among = among
   to_any x (y ∷ ys) (inl e) = inl e
   to_any x (y ∷ ys) (inr later) = inr (to_any x ys later)
 
   module _ (order : List ℕ) (is : IsOrder g order) (marks : List Bool) (marked : AreMarked d marks) where
-    kept_among : (x : ℕ) (ks : List ℕ) → Among x ks → flag marks x ≡ true → AmongAny x (filter (flag marks) ks)
+    kept_among : (x : ℕ) (ks : List ℕ) → Among x ks → flag marks x ≡ true → Among x (filter (flag marks) ks)
     kept_among x [] among mark = among
     kept_among x (k ∷ ks) among mark = by (flag marks k) refl among (λ later. kept_among x ks later mark)
       where
-        by : (b : Bool) → flag marks k ≡ b → (x ≡ k) ⊎ Among x ks → (Among x ks → AmongAny x (filter (flag marks) ks)) → AmongAny x (cond b (k ∷ filter (flag marks) ks) (filter (flag marks) ks))
+        by : (b : Bool) → flag marks k ≡ b → (x ≡ k) ⊎ Among x ks → (Among x ks → Among x (filter (flag marks) ks)) → Among x (cond b (k ∷ filter (flag marks) ks) (filter (flag marks) ks))
         by true e (inl same) later = inl same
         by true e (inr among) later = inr (later among)
         by false e (inl same) later = absurd (let f : flag marks k ≡ true = subst (λ (n : ℕ). flag marks n ≡ true) same mark in cc)
         by false e (inr among) later = later among
 
-    kept_only : (x : ℕ) (ks : List ℕ) → AmongAny x (filter (flag marks) ks) → flag marks x ≡ true
+    kept_only : (x : ℕ) (ks : List ℕ) → Among x (filter (flag marks) ks) → flag marks x ≡ true
     kept_only x [] among = absurd among
     kept_only x (k ∷ ks) among = by (flag marks k) refl among (kept_only x ks)
       where
-        by : (b : Bool) → flag marks k ≡ b → AmongAny x (cond b (k ∷ filter (flag marks) ks) (filter (flag marks) ks)) → (AmongAny x (filter (flag marks) ks) → flag marks x ≡ true) → flag marks x ≡ true
+        by : (b : Bool) → flag marks k ≡ b → Among x (cond b (k ∷ filter (flag marks) ks) (filter (flag marks) ks)) → (Among x (filter (flag marks) ks) → flag marks x ≡ true) → flag marks x ≡ true
         by true e (inl same) rest = subst (λ (n : ℕ). flag marks n ≡ true) (sym same) e
         by true e (inr later) rest = rest later
         by false e later rest = rest later
@@ -146,7 +140,7 @@ module _ (d : Design) (g : List (List ℕ)) (used : IsUsedGraph d g) where
         (subst (Among j) taken (is.earlier (length before) j within read), reached_through d k j (i ∷ []) reached names)
 
     abbrev pub Stood : List ℕ → List ℕ → List ℕ → Type 0
-    Stood before later found = before ++ later ≡ order → ((x : ℕ) → Among x before → IsReached d x → AmongAny x found) → StandsAfterItsModels d found (filter (flag marks) later)
+    Stood before later found = before ++ later ≡ order → ((x : ℕ) → Among x before → IsReached d x → Among x found) → StandsAfterItsModels d found (filter (flag marks) later)
 
     stands : (before later found : List ℕ) → Stood before later found
     stands before [] found whole all = tt
@@ -159,10 +153,10 @@ module _ (d : Design) (g : List (List ℕ)) (used : IsUsedGraph d g) where
         by true e with without =
             let reached = (marked.exact k).0 e in (
               (λ i j names. let before_it = earlier before later k whole reached i j names in all j before_it.0 before_it.1),
-              with shifted (λ x among is_reached. last-case x before k among (λ here. inr (all x here is_reached)) (λ same. inl same)),
+              with shifted (λ x among is_reached. last_case x before k among (λ here. inr (all x here is_reached)) (λ same. inl same)),
             )
         by false e with without =
-            without shifted (λ x among is_reached. last-case x before k among (λ here. all x here is_reached) (λ same. absurd (let f : flag marks k ≡ true = subst (λ (n : ℕ). flag marks n ≡ true) same ((marked.exact x).1 is_reached) in cc)))
+            without shifted (λ x among is_reached. last_case x before k among (λ here. all x here is_reached) (λ same. absurd (let f : flag marks k ≡ true = subst (λ (n : ℕ). flag marks n ≡ true) same ((marked.exact x).1 is_reached) in cc)))
 
     pub kept_order : IsModelOrder d (filter (flag marks) order)
     kept_order = record {

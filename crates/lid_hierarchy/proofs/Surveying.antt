@@ -1,6 +1,7 @@
 -- What a survey is made of.
 use Rattle.std.proofs.Common.{◌≡◌, ℕ, zero, suc, ◌<◌, Bool, false, not, cond, List, [], ◌∷◌, length, filter, get_or, Option, Some, None, slice_get, refl, sym, ◌∙◌, ap, subst, arith}
 use Rattle.std.specs.Option.{option_map_or}
+use Rattle.lid_base.proofs.Lists.{filter_same}
 use Rattle.lid_digraph.specs.Graphs.{IsGraph}
 use Rattle.lid_design.specs.declared.Design.{Design}
 use Rattle.lid_design.specs.declared.Model.{Model}
@@ -12,7 +13,7 @@ use Rattle.lid_hierarchy.specs.Surveys.{AreNames, IsModelOrder}
 use Rattle.lid_hierarchy.specs.Graphs.{IsUsedGraph}
 use Rattle.lid_hierarchy.specs.Clocks.{HaveClocks}
 use Rattle.lid_hierarchy.specs.Nets.{nets_by, nets_of_all}
-use Rattle.lid_hierarchy.proofs.Walks.{reached_below, instance_below}
+use Rattle.lid_hierarchy.proofs.Walks.{instance_below, reached_below}
 use Rattle.lid_hierarchy.proofs.Listing.{firsts_filter}
 
 pub used_is_graph : (d : Design) → IsWellFormed d → (g : List (List ℕ)) → IsUsedGraph d g → IsGraph g
@@ -31,12 +32,6 @@ nets_long : (ms : List Model) (sets : List (List (List ℕ))) → length sets �
 nets_long [] sets same = refl
 nets_long (m ∷ ms) [] same = absurd (omega arith)
 nets_long (m ∷ ms) (set ∷ sets) same = let h = nets_long ms sets (omega arith) in omega arith
-
-filter_same : (p q : List ℕ → Bool) (xs : List (List ℕ)) → ((x : List ℕ) → p x ≡ q x) → filter p xs ≡ filter q xs
-filter_same p q [] same = refl
-filter_same p q (x ∷ xs) same =
-    ap (λ (b : Bool). cond b (x ∷ filter p xs) (filter p xs)) (same x)
-    ∙ ap (λ (ns : List (List ℕ)). cond (q x) (x ∷ ns) ns) (filter_same p q xs same)
 
 module _ (d : Design) (formed : IsWellFormed d) (order : List ℕ) (ordered : IsModelOrder d order) (clocks named : List (List (List ℕ))) (have : HaveClocks d order clocks) (made : named ≡ nets_of_all d.models clocks) where
   clock : (k : ℕ) (name : List ℕ) → IsReached d k → is_among name (get_or clocks k []) ≡ is_clock_of d k name

@@ -5,7 +5,9 @@ use Rattle.std.specs.List.{cons_option}
 use Rattle.std.specs.Str.{bytes_eq}
 use Rattle.std.proofs.lemmas.List.{length-map}
 use Rattle.std.proofs.lemmas.List.Quantifiers.{position-Some}
-use Rattle.lid_digraph.specs.Graphs.{Among, reads_at, flag, WalkPast, IsReaching, IsGraph}
+use Rattle.lid_base.specs.Lists.{Among}
+use Rattle.lid_base.proofs.Lists.{then_some}
+use Rattle.lid_digraph.specs.Graphs.{reads_at, flag, WalkPast, IsReaching, IsGraph}
 use Rattle.lid_design.specs.WellFormed.{IsWellFormed}
 use Rattle.lid_design.specs.declared.Design.{Design}
 use Rattle.lid_design.specs.declared.Model.{Model}
@@ -25,11 +27,6 @@ some_model d formed = by d.models formed.rooted
     by : (ms : List Model) → d.root < length ms → Model
     by [] h = absurd (omega arith)
     by (m ∷ ms) h = m
-
--- a value that is chosen by an option, taken apart
-pub then_some : {A B : Type 0} (o : Option A) (f : A → Option B) (b : B) → option_and_then f o ≡ Some b → (a : A) × (o ≡ Some a) × (f a ≡ Some b)
-then_some None f b h = absurd (let e : None ≡ Some b = h in cc)
-then_some (Some a) f b h = (a, refl, h)
 
 -- one more instance at the outer end of a path
 pub number_from_outer : (d : Design) (k i : ℕ) (path : List ℕ) → number_from d k (path ++ i ∷ []) ≡ option_and_then (λ b. number_from d b path) (instance_number d i k)
@@ -126,6 +123,10 @@ below_from d formed (i ∷ path) k leads =
     let parts = then_some (slice_get (insts_of d outer.0) i) (named d) k outer.2 in
     (position-Some (λ m. bytes_eq m.name parts.0.model) d.models k (some_model d formed) parts.2).0
 
+-- the number of a reached model is one of the models
+pub reached_below : (d : Design) → IsWellFormed d → (k : ℕ) → IsReached d k → k < length d.models
+reached_below d formed k reached = below_from d formed reached.0 k reached.1
+
 -- the graph of the models has only their numbers
 pub models_are_graph : (d : Design) → IsWellFormed d → IsGraph (graph_of d)
 models_are_graph d formed = record {
@@ -157,10 +158,6 @@ flag_none n marks e c = ap (λ (bs : List Bool). flag bs c) e ∙ by n c
 -- what is told of a graph that is the graph of the models
 pub reached_from : (d : Design) (g : List (List ℕ)) → g ≡ graph_of d → (cut flags : List Bool) → ((a : ℕ) → IsTrue (flag flags a) ↔ IsReaching g cut a d.root) → (a : ℕ) → IsTrue (flag flags a) ↔ IsReaching (graph_of d) cut a d.root
 reached_from d g same cut flags exact = subst (λ (h : List (List ℕ)). (a : ℕ) → IsTrue (flag flags a) ↔ IsReaching h cut a d.root) same exact
-
--- the number of a reached model is one of the models
-pub reached_below : (d : Design) → IsWellFormed d → (k : ℕ) → IsReached d k → k < length d.models
-reached_below d formed k reached = below_from d formed reached.0 k reached.1
 
 -- the model of an instance is one of the models
 pub instance_below : (d : Design) → IsWellFormed d → (k b i : ℕ) → instance_number d i k ≡ Some b → b < length d.models

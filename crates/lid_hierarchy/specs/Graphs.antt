@@ -1,11 +1,12 @@
 -- The graph of the models of a design: each reads the models of its instances.
 use Rattle.std.specs.Prelude.{◌≡◌, Some, length, ℕ, ◌+◌, Bool, true, false, List, [], ◌∷◌, map, filter, filter_map, position, Option}
 use Rattle.std.specs.Str.{bytes_eq}
+use Rattle.lid_base.specs.Lists.{Among}
 use Rattle.lid_design.specs.declared.Design.{Design}
 use Rattle.lid_design.specs.declared.Model.{Model}
 use Rattle.lid_design.specs.declared.Inst.{Inst}
 use Rattle.lid_design.specs.Models.{IsReached, instance_number}
-use Rattle.lid_digraph.specs.Graphs.{Among, reads_at, flag}
+use Rattle.lid_digraph.specs.Graphs.{reads_at, flag}
 use Rattle.lid_hierarchy.specs.Surveys.{instance_numbers, AreMarked}
 
 abbrev pub name_of : Model → List ℕ

@@ -1,10 +1,10 @@
 -- What is found of the models of a design, model by model.
 use Rattle.std.specs.Prelude.{◌≡◌, ◌↔◌, Bool, true, false, ℕ, ◌<◌, ◌≤◌, List, [], ◌∷◌, length, map, Option, Some, IsSome, slice_index_or}
+use Rattle.lid_base.specs.Lists.{Among}
 use Rattle.lid_design.specs.declared.Design.{Design}
 use Rattle.lid_hierarchy.specs.declared.survey.SurveyFault.{SurveyFault}
 use Rattle.lid_hierarchy.specs.declared.survey.SurveyFault.TheVariants.{Recursive, Memory}
 use Rattle.lid_design.specs.WellFormed.{IsWellFormed}
-use Rattle.lid_design.specs.Walks.{Among}
 use Rattle.lid_design.specs.Columns.{is_among}
 use Rattle.lid_design.specs.Places.{model_nets}
 use Rattle.lid_design.specs.Models.{number_named, insts_of, instance_number, is_clock_of, IsReached, ReachesItself, HasNoRecursion, AreReached}

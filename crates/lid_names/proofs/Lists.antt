@@ -9,10 +9,8 @@ use Rattle.std.proofs.lemmas.List.Elements.{filter-append}
 use Rattle.std.proofs.lemmas.List.Folds.{list_any-append}
 use Rattle.std.proofs.lemmas.List.Sums.{sum_by-append}
 use Rattle.std.proofs.lemmas.Slice.Eq.{bytes_eq-Decides}
+use Rattle.lid_base.proofs.Lists.{same_bytes}
 use Rattle.lid_names.specs.Names.{is_among, firsts, with_name, texts}
-
-pub same_bytes : (xs ys : List ℕ) → bytes_eq xs ys ≡ true → xs ≡ ys
-same_bytes xs ys h = (bytes_eq-Decides xs ys).0 h
 
 abbrev pub differs : List ℕ → List ℕ → Bool
 differs name other = not (bytes_eq other name)

@@ -4,22 +4,12 @@ use Rattle.std.proofs.Common.{option_map, ◌≡◌, ℕ, zero, suc, ◌<◌, �
 use Rattle.std.specs.Option.{option_map_or}
 use Rattle.std.specs.List.{AllByRecursion, prefix_len}
 use Rattle.std.proofs.lemmas.Bool.{ltb-true}
+use Rattle.lid_base.specs.Lists.{Among}
+use Rattle.lid_base.proofs.Lists.{all_at}
 use Rattle.lid_design.specs.declared.Design.{Design}
 use Rattle.lid_design.specs.declared.Model.{Model}
 use Rattle.lid_design.specs.WellFormed.{IsWellFormed}
-use Rattle.lid_design.specs.Walks.{Among}
 use Rattle.lid_design.specs.Models.{insts_of}
-
--- an item of a list by its place
-pub among_at : (xs : List ℕ) (i d : ℕ) → i < length xs → Among (get_or xs i d) xs
-among_at [] i d h = absurd (omega arith)
-among_at (x ∷ xs) zero d h = inl refl
-among_at (x ∷ xs) (suc i) d h = inr (among_at xs i d (omega arith))
-
-pub all_at : {A : Type 0} (P : A → Type 0) (xs : List A) (i : ℕ) (x : A) → AllByRecursion P xs → slice_get xs i ≡ Some x → P x
-all_at P [] i x all h = absurd (let e : None ≡ Some x = h in cc)
-all_at P (y ∷ ys) zero x all h = subst P (let e : Some y ≡ Some x = h in cc) all.0
-all_at P (y ∷ ys) (suc i) x all h = all_at P ys i x all.1 h
 
 -- a model has fewer than 2^32 instances
 pub few_insts : (d : Design) → IsWellFormed d → (k : ℕ) (m : Model) → slice_get d.models k ≡ Some m → length m.insts < 2 ^ 32

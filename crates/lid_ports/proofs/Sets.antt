@@ -2,10 +2,11 @@
 use Rattle.std.proofs.Common.{◌≡◌, ℕ, zero, suc, Bool, true, false, ◌||◌, ◌&&◌, cond, List, [], ◌∷◌, filter, find, Option, Some, slice_get, slice_index_or, refl, sym, ◌∙◌, ap}
 use Rattle.std.specs.Option.{option_map_or}
 use Rattle.std.specs.Str.{bytes_eq}
+use Rattle.lid_base.proofs.Lists.{same_bytes}
 use Rattle.lid_design.specs.declared.Design.{Design}
 use Rattle.lid_design.specs.declared.Model.{Model}
 use Rattle.lid_names.specs.Names.{is_among}
-use Rattle.lid_names.proofs.Lists.{same_bytes, is_among_firsts}
+use Rattle.lid_names.proofs.Lists.{is_among_firsts}
 use Rattle.lid_ports.specs.declared.ports.Port.{Port}
 use Rattle.lid_ports.specs.Ports.{names_in, sets_in, is_in}
 
@@ -22,11 +23,6 @@ pub find_same : {A : Type 0} (p q : A → Bool) (xs : List A) → ((x : A) → p
 find_same p q [] same = refl
 find_same {A} p q (x ∷ xs) same =
     ap (λ (b : Bool). cond b (Some x) (find p xs)) (same x) ∙ ap (λ (o : Option A). cond (q x) (Some x) o) (find_same p q xs same)
-
-pub filter_same : {A : Type 0} (p q : A → Bool) (xs : List A) → ((x : A) → p x ≡ q x) → filter p xs ≡ filter q xs
-filter_same p q [] same = refl
-filter_same {A} p q (x ∷ xs) same =
-    ap (λ (b : Bool). cond b (x ∷ filter p xs) (filter p xs)) (same x) ∙ ap (λ (ys : List A). cond (q x) (x ∷ ys) ys) (filter_same p q xs same)
 
 and_false : (a : Bool) → (a && false) ≡ false
 and_false true = refl

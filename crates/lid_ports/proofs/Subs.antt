@@ -2,6 +2,7 @@
 use Rattle.std.proofs.Common.{◌≡◌, ℕ, false, not, ◌&&◌, [], ◌∷◌, map, filter, Option, Some, None, option_and_then, slice_get, sym, ◌∙◌, ap}
 use Rattle.std.specs.Option.{option_map_or}
 use Rattle.std.specs.Str.{bytes_eq}
+use Rattle.lid_base.proofs.Lists.{filter_same}
 use Rattle.lid_design.specs.declared.Design.{Design}
 use Rattle.lid_design.specs.declared.Model.{Model}
 use Rattle.lid_design.specs.declared.Inst.{Inst}
@@ -13,7 +14,7 @@ use Rattle.lid_names.proofs.Numbers.{position_below, there}
 use Rattle.lid_ports.specs.declared.nets.Side.{Side}
 use Rattle.lid_ports.specs.declared.nets.Side.TheVariants.{Driven, Read}
 use Rattle.lid_ports.specs.Nets.{actuals_on, nets_on}
-use Rattle.lid_ports.proofs.Sets.{filter_same, is_among_filter}
+use Rattle.lid_ports.proofs.Sets.{is_among_filter}
 
 -- instance i of model k, whose model has the number j
 module _ (d : Design) (k i : ℕ) (inst : Inst) (here : slice_get (insts_of d k) i ≡ Some inst) where

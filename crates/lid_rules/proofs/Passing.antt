@@ -2,10 +2,10 @@
 use Rattle.std.proofs.Common.{◌≡◌, ℕ, zero, suc, ◌+◌, ◌<◌, ◌≤◌, cond, is_none, List, [], ◌∷◌, length, Option, Some, None, IsSome, option_and_then, slice_get, inl, inr, refl, sym, ◌∙◌, ap, arith}
 use Rattle.std.specs.Option.{option_map_or}
 use Rattle.std.specs.List.{enumerate_from}
+use Rattle.lid_base.specs.Lists.{Among}
 use Rattle.lid_design.specs.declared.Design.{Design}
 use Rattle.lid_design.specs.declared.Model.{Model}
 use Rattle.lid_design.specs.declared.Inst.{Inst}
-use Rattle.lid_design.specs.Walks.{Among}
 use Rattle.lid_design.specs.Models.{number_named, Ascend, AreReached}
 use Rattle.lid_hierarchy.specs.Surveys.{AreKnown}
 use Rattle.lid_rules.specs.declared.fault.CheckFault.{CheckFault}

@@ -2,16 +2,18 @@
 use Rattle.std.proofs.Common.{◌≡◌, ℕ, zero, suc, ◌+◌, ◌<◌, ◌≤◌, List, [], ◌∷◌, ◌++◌, length, map, Option, Some, None, slice_get, inl, inr, refl, sym, ◌∙◌, ap, subst, arith, zero-add}
 use Rattle.std.specs.Option.{option_map_or}
 use Rattle.std.proofs.lemmas.Option.{slice_get-get_or}
+use Rattle.lid_base.specs.Lists.{Among}
+use Rattle.lid_base.proofs.Lists.{map_among, get_among, among_get, all_among, then_some}
 use Rattle.lid_design.specs.declared.Design.{Design}
 use Rattle.lid_design.specs.declared.Model.{Model}
 use Rattle.lid_design.specs.WellFormed.{IsWellFormed}
 use Rattle.lid_design.specs.Network.{Driver, from_input, from_latch, from_cover, from_connection, from_each}
 use Rattle.lid_design.specs.Columns.{Column, column, drivers}
-use Rattle.lid_design.specs.Walks.{Among, read_now, read_before, IsDriven, IsDrivenOnce, AreReadsDriven, WalksEnd, HasTable, HasOneTable}
+use Rattle.lid_design.specs.Walks.{read_now, read_before, IsDriven, IsDrivenOnce, AreReadsDriven, WalksEnd, HasTable, HasOneTable}
 use Rattle.lid_design.specs.Models.{nets, insts_of, number_named, instance_number, number_from}
 use Rattle.lid_design.specs.Places.{columns, model_nets}
 use Rattle.lid_design.specs.Loops.{HasNoLoop}
-use Rattle.lid_design.proofs.Tables.{all-among, has_table, has_one_table}
+use Rattle.lid_design.proofs.Tables.{has_table, has_one_table}
 use Rattle.lid_hierarchy.specs.Surveys.{AreKnown}
 use Rattle.lid_rules.specs.Conditions.{duplicate_name, unknown_model}
 use Rattle.lid_rules.specs.Acceptance.{ModelsPass, fault_before_recursion}
@@ -21,9 +23,7 @@ use Rattle.lid_elab.specs.Numbers.{offset_of, start_of}
 use Rattle.lid_elab.specs.Locals.{actual_for}
 use Rattle.lid_elab.specs.Templates.{place_in, numbered, placed}
 use Rattle.lid_elab.specs.Writing.{IsJudged, IsRight, model_inputs, IsOuter}
-use Rattle.lid_elab.proofs.Names.{get-among, among-get, map-among}
 use Rattle.lid_elab.proofs.Passing.{or_none}
-use Rattle.lid_elab.proofs.Numbering.{then_some}
 use Rattle.lid_elab.proofs.Located.{Located, located}
 use Rattle.lid_elab.proofs.Judged.{shallow_of}
 use Rattle.lid_elab.proofs.Outer.{fits}
@@ -81,7 +81,7 @@ module _ (d : Design) (judged : IsJudged d) where
       in_model at None e = absurd (let none : None ≡ Some c.net = ap (λ (o : Option Model). slice_get (option_map_or (nets d) o []) at.net) (sym e) ∙ at.here in cc)
       in_model at (Some m) e =
           let names : model_nets d at.model ≡ nets d m = ap (λ (o : Option Model). option_map_or (nets d) o []) e in
-          let among = get-among (nets d m) at.net c.net (ap (λ (ns : List (List ℕ)). slice_get ns at.net) (sym names) ∙ at.here) in
+          let among = get_among (nets d m) at.net c.net (ap (λ (ns : List (List ℕ)). slice_get ns at.net) (sym names) ∙ at.here) in
           let one = exactly_one d judged.formed judged.order judged.ordered judged.known judged.pass at.model (c.path, at.leads) m e c.net among in
           let around = around_at c.path at.model at.leads in
           let count = length m.insts in (
@@ -96,7 +96,7 @@ module _ (d : Design) (judged : IsJudged d) where
       by at = in_model at (slice_get d.models at.model) refl
 
   right_of : (c : Column) → Among c (columns d) → (s : Driver ℕ) × IsRight d c s
-  right_of c among = let at = among-get (columns d) c among in right_at at.0 c at.1
+  right_of c among = let at = among_get (columns d) c among in right_at at.0 c at.1
 
   pub driven_of : (c : Column) → Among c (columns d) → IsDriven (drivers d) c
   driven_of c among =
@@ -122,10 +122,10 @@ module _ (d : Design) (judged : IsJudged d) where
       let right = right_of c (column_of c (some_item s (drivers d c) among)) in
       let driver : s ≡ map_driver (column_at d) right.0 = one_item s (map_driver (column_at d) right.0) (subst (λ (ss : List (Driver Column)). Among s ss) right.1.only among) in
       let reads = ap (λ (r : Driver Column). read_now r ++ read_before r) driver ∙ reads_mapped (column_at d) right.0 in
-      let found = map-among (column_at d) a (read_now right.0 ++ read_before right.0) (subst (λ (cs : List Column). Among a cs) reads read) in
-      let below = all-among (λ (k : ℕ). k < length (columns d)) (read_now right.0 ++ read_before right.0) found.0 right.1.below found.1 in
+      let found = map_among (column_at d) a (read_now right.0 ++ read_before right.0) (subst (λ (cs : List Column). Among a cs) reads read) in
+      let below = all_among (λ (k : ℕ). k < length (columns d)) (read_now right.0 ++ read_before right.0) found.0 right.1.below found.1 in
       let here = slice_get-get_or (columns d) found.0 (column [] []) below in
-      driven_of a (get-among (columns d) found.0 a (here ∙ ap Some (sym found.2)))
+      driven_of a (get_among (columns d) found.0 a (here ∙ ap Some (sym found.2)))
     where
       some_item : (t : Driver Column) (ss : List (Driver Column)) → Among t ss → 0 < length ss
       some_item t [] none = absurd none

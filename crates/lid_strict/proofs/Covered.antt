@@ -4,6 +4,8 @@ use Rattle.std.specs.Option.{option_map_or}
 use Rattle.std.specs.List.{AllByRecursion, enumerate_from}
 use Rattle.std.specs.Str.{bytes_eq}
 use Rattle.std.proofs.lemmas.List.{length-map}
+use Rattle.lid_base.specs.Lists.{Among}
+use Rattle.lid_base.proofs.Lists.{all_among, all_append, then_some}
 use Rattle.lid_cover.specs.Cover.{IsCover}
 use Rattle.lid_design.specs.declared.Design.{Design}
 use Rattle.lid_design.specs.declared.Model.{Model}
@@ -14,7 +16,6 @@ use Rattle.lid_design.specs.declared.Bind.{Bind}
 use Rattle.lid_design.specs.Network.{Driver, from_input, from_latch, from_cover, from_connection}
 use Rattle.lid_design.specs.Columns.{Column, column, is_among, model_named, instance_model, model_at, is_clock, places_of, cell_at, output_at, actuals_of, port_at, drivers_in, drivers, data_inputs, first_bit}
 use Rattle.lid_design.specs.WellFormed.{IsWellFormed, IsWellFormedCell}
-use Rattle.lid_design.specs.Walks.{Among}
 
 -- a cover that a driver evaluates meets the rules of covers, with as many inputs as it reads
 abbrev pub IsCovered : {C : Type 0} → Driver C → Type 0
@@ -23,18 +24,9 @@ IsCovered (from_latch first input) = Unit {0}
 IsCovered (from_cover cover inputs) = IsCover cover × (cover.inputs ≡ length inputs)
 IsCovered (from_connection c) = Unit {0}
 
-all_append : {A : Type 0} (P : A → Type 0) (xs ys : List A) → AllByRecursion P xs → AllByRecursion P ys → AllByRecursion P (xs ++ ys)
-all_append P [] ys left right = right
-all_append P (x ∷ xs) ys left right = (left.0, all_append P xs ys left.1 right)
-
 all_flat : {A B : Type 0} (P : B → Type 0) (f : A → List B) (xs : List A) → ((x : A) → Among x xs → AllByRecursion P (f x)) → AllByRecursion P (flat_map f xs)
 all_flat P f [] each = tt
 all_flat P f (x ∷ xs) each = all_append P (f x) (flat_map f xs) (each x (inl refl)) (all_flat P f xs (λ y i. each y (inr i)))
-
-all_among : {A : Type 0} (P : A → Type 0) (xs : List A) (x : A) → AllByRecursion P xs → Among x xs → P x
-all_among P [] x all i = absurd i
-all_among P (y ∷ ys) x all (inl e) = subst P (sym e) all.0
-all_among P (y ∷ ys) x all (inr i) = all_among P ys x all.1 i
 
 found_among : {A : Type 0} (p : A → Bool) (xs : List A) (x : A) → find p xs ≡ Some x → Among x xs
 found_among p [] x h = absurd (let e : None ≡ Some x = h in cc)
@@ -48,10 +40,6 @@ pub got_among : {A : Type 0} (xs : List A) (i : ℕ) (x : A) → slice_get xs i 
 got_among [] i x h = absurd (let e : None ≡ Some x = h in cc)
 got_among (y ∷ ys) zero x h = inl (let f : Some y ≡ Some x = h in cc)
 got_among (y ∷ ys) (suc i) x h = inr (got_among ys i x h)
-
-then_some : {A B : Type 0} (o : Option A) (f : A → Option B) (b : B) → option_and_then f o ≡ Some b → (a : A) × (o ≡ Some a) × (f a ≡ Some b)
-then_some None f b h = absurd (let e : None ≡ Some b = h in cc)
-then_some (Some a) f b h = (a, refl, h)
 
 -- the model at a path is one of the models
 model_among : (d : Design) (path : List ℕ) (m : Model) → model_at d path ≡ Some m → Among m d.models

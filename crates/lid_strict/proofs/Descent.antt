@@ -1,7 +1,8 @@
 -- What never leads back to itself among finitely many ends.
 use Rattle.std.proofs.Common.{◌≡◌, ◌⊎◌, ℕ, zero, suc, ◌<◌, ◌≤◌, List, [], ◌∷◌, length, inl, inr, refl, sym, ◌∙◌, ap, subst, arith}
+use Rattle.lid_base.specs.Lists.{Among}
 use Rattle.lid_design.specs.Network.{Driver}
-use Rattle.lid_design.specs.Walks.{Among, Feeds, Walk, WalksEnd, IsDriven}
+use Rattle.lid_design.specs.Walks.{Feeds, Walk, WalksEnd, IsDriven}
 
 -- a list without one of its items
 pub record Without {A : Type 0} (x : A) (xs : List A) : Type 0 where

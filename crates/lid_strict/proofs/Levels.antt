@@ -2,17 +2,16 @@
 -- instances.
 use Rattle.std.proofs.Common.{◌≡◌, ◌⊎◌, ℕ, zero, suc, ◌+◌, ◌<◌, ◌≤◌, Bool, true, false, not, ◌&&◌, cond, List, [], ◌∷◌, ◌++◌, length, filter, Option, Some, None, option_and_then, slice_get, inl, inr, refl, sym, ◌∙◌, ap, arith, length-append}
 use Rattle.std.specs.Option.{option_map_or}
+use Rattle.lid_base.specs.Lists.{Among}
+use Rattle.lid_base.proofs.Lists.{among_left, among_right, among_append, among_filter, filter_among}
 use Rattle.lid_design.specs.declared.Design.{Design}
 use Rattle.lid_design.specs.declared.Inst.{Inst}
 use Rattle.lid_design.specs.WellFormed.{IsWellFormed}
-use Rattle.lid_design.specs.Walks.{Among}
 use Rattle.lid_design.specs.Models.{Ascend, AreReached, HasNoRecursion, IsReached, insts_of, number_named, instance_number, number_from}
-use Rattle.lid_design.proofs.Tables.{among-left, among_right}
 use Rattle.lid_hierarchy.specs.Surveys.{StandsAfterItsModels, IsModelOrder}
-use Rattle.lid_hierarchy.proofs.Walks.{reached_below}
-use Rattle.lid_elab.proofs.Names.{among-append, among-filter, filter-among}
 use Rattle.lid_elab.proofs.Shallow.{IsShallow}
 use Rattle.lid_strict.proofs.Descent.{without}
+use Rattle.lid_hierarchy.proofs.Walks.{reached_below}
 
 module _ (d : Design) where
   -- one or more instances lead from model x to model k
@@ -109,18 +108,18 @@ module _ (d : Design) where
   low_levels (suc n) ks k among low = by (is_low n k) refl (low_levels n ks k among)
     where
       by : (b : Bool) → is_low n k ≡ b → (is_low n k ≡ true → Among k (levels n ks)) → Among k (levels n ks ++ level n ks)
-      by true e next = among-left k (levels n ks) (level n ks) (next e)
+      by true e next = among_left k (levels n ks) (level n ks) (next e)
       by false e next =
           let new : (is_low (suc n) k && not (is_low n k)) ≡ true = ap (λ (b : Bool). b && not (is_low n k)) low ∙ ap not e in
-          among_right k (levels n ks) (level n ks) (among-filter (λ k. is_low (suc n) k && not (is_low n k)) k ks among new)
+          among_right k (levels n ks) (level n ks) (among_filter (λ k. is_low (suc n) k && not (is_low n k)) k ks among new)
 
   levels_only : (n : ℕ) (ks : List ℕ) (k : ℕ) → Among k (levels n ks) → Among k ks
   levels_only zero ks k none = absurd none
-  levels_only (suc n) ks k among = by (among-append k (levels n ks) (level n ks) among) (levels_only n ks k)
+  levels_only (suc n) ks k among = by (among_append k (levels n ks) (level n ks) among) (levels_only n ks k)
     where
       by : Among k (levels n ks) ⊎ Among k (level n ks) → (Among k (levels n ks) → Among k ks) → Among k ks
       by (inl before) next = next before
-      by (inr here) next = (filter-among (λ k. is_low (suc n) k && not (is_low n k)) k ks here).0
+      by (inr here) next = (filter_among (λ k. is_low (suc n) k && not (is_low n k)) k ks here).0
 
   after_all : (earlier ys : List ℕ) → ((k : ℕ) → Among k ys → (i j : ℕ) → instance_number d i k ≡ Some j → Among j earlier) → StandsAfterItsModels d earlier ys
   after_all earlier [] each = tt
@@ -145,7 +144,7 @@ module _ (d : Design) where
     where
       below : (k : ℕ) → Among k (level n ks) → (i j : ℕ) → instance_number d i k ≡ Some j → Among j (levels n ks)
       below k among i j names =
-          let kept = filter-among (λ k. is_low (suc n) k && not (is_low n k)) k ks among in
+          let kept = filter_among (λ k. is_low (suc n) k && not (is_low n k)) k ks among in
           let low = (both_true (is_low (suc n) k) (not (is_low n k)) kept.1).0 in
           low_levels n ks j (closed k i j kept.0 names) (low_at (is_low n) (insts_of d k) low i j names)
 

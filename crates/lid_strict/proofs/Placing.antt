@@ -8,11 +8,13 @@ use Rattle.std.proofs.lemmas.List.{take_more, map-append}
 use Rattle.std.proofs.lemmas.List.Quantifiers.{position-Some}
 use Rattle.std.proofs.lemmas.Option.{slice_get-get_or, slice_get_within, slice_get_read}
 use Rattle.std.proofs.lemmas.Slice.Eq.{bytes_eq-Decides}
+use Rattle.lid_base.specs.Lists.{Among}
+use Rattle.lid_base.proofs.Lists.{all_push}
+use Rattle.lid_design.proofs.Reached.{root_reached}
 use Rattle.lid_design.specs.declared.Design.{Design}
 use Rattle.lid_design.specs.declared.Model.{Model}
 use Rattle.lid_design.specs.Network.{Driver}
 use Rattle.lid_design.specs.Columns.{Column, column, root_outputs}
-use Rattle.lid_design.specs.Walks.{Among}
 use Rattle.lid_design.specs.WellFormed.{IsWellFormed}
 use Rattle.lid_design.specs.Models.{nets, number_from, IsReached}
 use Rattle.lid_design.specs.Places.{columns, model_nets}
@@ -23,10 +25,6 @@ use Rattle.lid_elab.proofs.Placing.{position_get}
 use Rattle.lid_elab.proofs.Wired.{output_read, read_is_net}
 use Rattle.lid_check.proofs.Numbered.{column_is, within}
 use Rattle.lid_strict.proofs.Covered.{got_among}
-
-pub root_reached : (d : Design) → IsReached d d.root
-unfolding number_from
-root_reached d = ([], refl)
 
 module _ (d : Design) (network : List (Driver ℕ)) (starts : List ℕ) (is : IsElaborated d network starts) where
   at_root : (name : List ℕ) (place : ℕ) → position (bytes_eq name) (model_nets d d.root) ≡ Some place → slice_get (columns d) place ≡ Some (column [] name)
@@ -42,10 +40,6 @@ module _ (d : Design) (network : List (Driver ℕ)) (starts : List ℕ) (is : Is
 
   pub place_column : (name : List ℕ) (place : ℕ) → position (bytes_eq name) (model_nets d d.root) ≡ Some place → column_at d place ≡ column [] name
   place_column name place h = column_is d network starts is place (column [] name) (at_root name place h)
-
-all_push : {A : Type 0} (P : A → Type 0) (xs : List A) (x : A) → AllByRecursion P xs → P x → AllByRecursion P (xs ++ x ∷ [])
-all_push P [] x all p = (p, tt)
-all_push P (y ∷ ys) x all p = (all.0, all_push P ys x all.1 p)
 
 -- the root has its outputs
 pub outputs_are : (d e : Design) (models : List Model) (root : Model) → IsWellFormed d → e ≡ d → models ≡ e.models → root ≡ get_or models e.root root → root_outputs d ≡ root.outputs

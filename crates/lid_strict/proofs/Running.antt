@@ -2,10 +2,10 @@
 use Rattle.std.proofs.Common.{◌≡◌, ℕ, zero, suc, ◌+◌, ◌<◌, ◌==◌, Bool, false, List, [], ◌∷◌, ◌++◌, length, map, take, drop, get_or, Result, Ok, Err, IfOk, Option, option_to_list, refl, sym, ◌∙◌, ap, subst, arith, add-zero, zero-add}
 use Rattle.std.specs.List.{AllByRecursion}
 use Rattle.std.proofs.Math.Dec.{eqb-suc-zero}
+use Rattle.lid_base.proofs.Lists.{all_at}
 use Rattle.lid_design.specs.Network.{Driver, from_input, from_latch, from_cover, from_connection, Table, IsStrict, bit_of, latch_bit, from_each}
 use Rattle.lid_design.specs.Walks.{read_before}
 use Rattle.lid_strict.specs.Networks.{driver_of, bit_at, AreHeldBelow, bit_from, FitsRow, rows_at, IsRun}
-use Rattle.lid_strict.proofs.Settling.{all-at}
 
 from_each_suc : {A : Type 0} (f : ℕ → A) (k n : ℕ) → from_each f k (suc n) ≡ from_each f k n ++ f (k + n) ∷ []
 from_each_suc f k zero = ap (λ (m : ℕ). f m ∷ []) (sym (add-zero k))
@@ -46,7 +46,7 @@ module _ (network : List (Driver ℕ)) (rows : List (List Bool)) (below : AreHel
   fits row t before same_row h last k s here =
       let each = strict t k h in
       let one = subst (λ (o : Option (Driver ℕ)). AllByRecursion (λ r. b t k ≡ bit_of rows b t r) (option_to_list o)) here each in
-      one.0 ∙ driver_bit row t before same_row last s (all-at (λ (r : Driver ℕ). AllByRecursion (λ a. a < length network) (read_before r)) network k s below here)
+      one.0 ∙ driver_bit row t before same_row last s (all_at (λ (r : Driver ℕ). AllByRecursion (λ a. a < length network) (read_before r)) network k s below here)
 
 -- a run that goes on by a row
 pub runs_next : (network : List (Driver ℕ)) (outs : List ℕ) (rows : List (List Bool)) → AreHeldBelow network → (t : ℕ) (before now : List Bool) (out : List (List Bool)) (row : List Bool) (bits : List Bool) → IsRun network outs rows t before out → t < length rows → row ≡ get_or rows t [] → length now ≡ length network → ((f : ℕ → Bool) → FitsRow network row (t == 0) before f → (k : ℕ) → k < length network → bit_at now k ≡ f k) → ((f : ℕ → Bool) → FitsRow network row (t == 0) before f → bits ≡ map f outs) → IsRun network outs rows (t + 1) now (out ++ bits ∷ [])

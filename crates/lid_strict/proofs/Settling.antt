@@ -3,10 +3,12 @@ use Rattle.std.proofs.Common.{◌≡◌, ◌≢◌, ◌⊎◌, ℕ, zero, suc, �
 use Rattle.std.proofs.lemmas.List.{take_more, get_or-set_same, get_or-set_other}
 use Rattle.std.specs.List.{AllByRecursion}
 use Rattle.std.proofs.lemmas.Bool.Decides.{eqb_tells}
+use Rattle.lid_base.specs.Lists.{Among}
+use Rattle.lid_base.proofs.Lists.{last_case}
 use Rattle.lid_cover.specs.Cover.{cover_value}
 use Rattle.lid_design.specs.Network.{Driver, from_input, from_latch, from_cover, from_connection}
 use Rattle.lid_design.specs.Walks.{read_now}
-use Rattle.lid_digraph.specs.Graphs.{Among, reads_at, IsOrder}
+use Rattle.lid_digraph.specs.Graphs.{reads_at, IsOrder}
 use Rattle.lid_strict.specs.Networks.{bit_at, reads_of, bit_from, FitsRow, AgreesAt}
 
 map_agree : (f g : ℕ → Bool) (xs : List ℕ) → ((a : ℕ) → Among a xs → f a ≡ g a) → map f xs ≡ map g xs
@@ -28,12 +30,6 @@ reads-at : (network : List (Driver ℕ)) (k : ℕ) (s : Driver ℕ) → slice_ge
 reads-at [] k s h = absurd (let e : None ≡ Some s = h in cc)
 reads-at (r ∷ network) zero s h = let e : Some r ≡ Some s = h in let f : r ≡ s = cc in ap read_now f
 reads-at (r ∷ network) (suc k) s h = reads-at network k s h
-
-last_case : {P : Type 0} (x : ℕ) (xs : List ℕ) (k : ℕ) → Among x (xs ++ k ∷ []) → (Among x xs → P) → (x ≡ k → P) → P
-last_case x [] k (inl e) here last = last e
-last_case x [] k (inr none) here last = absurd none
-last_case x (y ∷ ys) k (inl e) here last = here (inl e)
-last_case x (y ∷ ys) k (inr among) here last = last_case x ys k among (λ later. here (inr later)) last
 
 module _ (network : List (Driver ℕ)) (order : List ℕ) (is : IsOrder (reads_of network) order) (row : List Bool) (is_first : Bool) (before : List Bool) (now : List Bool) (i : ℕ) (h : i < length order) (s : Driver ℕ) (here : slice_get network (slice_index order i) ≡ Some s) (room : slice_index order i < length now) (v : Bool) (value : v ≡ bit_from row is_first before (bit_at now) s) where
   module _ (f : ℕ → Bool) (fits : FitsRow network row is_first before f) (agree : AgreesAt f (take i order) now) where
@@ -61,8 +57,3 @@ among-at [] i h = absurd (omega arith)
 among-at (x ∷ xs) zero h = inl refl
 among-at (x ∷ xs) (suc i) h = inr (among-at xs i (omega arith))
 
--- what holds of all items holds of the one at a place
-pub all-at : {A : Type 0} (P : A → Type 0) (xs : List A) (k : ℕ) (x : A) → AllByRecursion P xs → slice_get xs k ≡ Some x → P x
-all-at P [] k x all h = absurd (let e : None ≡ Some x = h in cc)
-all-at P (y ∷ ys) zero x all h = let e : Some y ≡ Some x = h in let f : y ≡ x = cc in subst P f all.0
-all-at P (y ∷ ys) (suc k) x all h = all-at P ys k x all.1 h

@@ -3,14 +3,16 @@ use Rattle.std.proofs.Common.{◌≡◌, ◌<◌, inl, inr, ℕ, List, [], ◌�
 use Rattle.std.specs.List.{AllByRecursion}
 use Rattle.std.proofs.lemmas.Option.{slice_get-get_or, slice_get-map}
 use Rattle.std.proofs.lemmas.List.{length-map}
+use Rattle.lid_base.specs.Lists.{Among}
+use Rattle.lid_base.proofs.Lists.{all_at}
 use Rattle.lid_design.specs.Network.{Driver, from_input}
 use Rattle.lid_design.specs.Walks.{read_now}
-use Rattle.lid_digraph.specs.Graphs.{Among, IsOrder}
+use Rattle.lid_digraph.specs.Graphs.{IsOrder}
 use Rattle.lid_strict.specs.Networks.{reads_of, HasCover}
 use Rattle.lid_strict.specs.Programs.{shown_step, shown_program, in_order, IsLaidOut}
 use Rattle.lid_strict.specs.declared.program.Step.{Step}
 use Rattle.lid_strict.specs.declared.program.Program.{Program}
-use Rattle.lid_strict.proofs.Settling.{all-at, among-at}
+use Rattle.lid_strict.proofs.Settling.{among-at}
 
 -- a step gives what the driver of its number gives
 pub step_driver : (network : List (Driver ℕ)) (order : List ℕ) (p : Program) → IsLaidOut network order p → (i : ℕ) → i < length order → (step : Step) → slice_get p.steps.items i ≡ Some step → slice_get network (slice_index order i) ≡ Some (shown_step p.reads.items p.cubes.items step)
@@ -29,7 +31,7 @@ step_driver network order p laid i h step here =
 pub step_cover : (p : Program) → AllByRecursion HasCover (shown_program p) → (i : ℕ) (step : Step) → slice_get p.steps.items i ≡ Some step → HasCover (shown_step p.reads.items p.cubes.items step)
 step_cover p covers i step here =
     let shown = shown_step p.reads.items p.cubes.items in
-    all-at HasCover (map shown p.steps.items) i (shown step) covers (slice_get-map shown p.steps.items i ∙ ap (option_map shown) here)
+    all_at HasCover (map shown p.steps.items) i (shown step) covers (slice_get-map shown p.steps.items i ∙ ap (option_map shown) here)
 
 all_among : (P : ℕ → Type 0) (xs : List ℕ) → ((k : ℕ) → Among k xs → P k) → AllByRecursion P xs
 all_among P [] each = tt
@@ -49,6 +51,6 @@ all_map P f (x ∷ xs) all = (all.0, all_map P f xs all.1)
 pub covers_in_order : (network : List (Driver ℕ)) → AllByRecursion HasCover network → (order : List ℕ) → AllByRecursion (λ k. k < length network) order → AllByRecursion HasCover (in_order network order)
 covers_in_order network covers [] below = tt
 covers_in_order network covers (k ∷ order) below = (
-  all-at HasCover network k (slice_index_or network k (from_input 0)) covers (slice_get-get_or network k (from_input 0) below.0),
+  all_at HasCover network k (slice_index_or network k (from_input 0)) covers (slice_get-get_or network k (from_input 0) below.0),
   covers_in_order network covers order below.1,
 )

@@ -2,6 +2,7 @@
 use Rattle.std.proofs.Common.{◌≡◌, ℕ, zero, suc, ◌<◌, ◌≤◌, Bool, List, [], ◌∷◌, length, map, Option, Some, None, slice_get, option_to_list, refl, sym, ◌∙◌, ap, subst, arith}
 use Rattle.std.specs.List.{AllByRecursion}
 use Rattle.std.proofs.lemmas.Option.{slice_get_within}
+use Rattle.lid_base.proofs.Lists.{among_get}
 use Rattle.lid_cover.specs.Cover.{cover_value}
 use Rattle.lid_design.specs.declared.Design.{Design}
 use Rattle.lid_design.specs.Network.{Driver, from_input, from_latch, from_cover, from_connection, Table, IsStrict, bit_of}
@@ -12,7 +13,6 @@ use Rattle.lid_design.proofs.Tables.{has_table}
 use Rattle.lid_digraph.specs.Graphs.{IsOrder}
 use Rattle.lid_digraph.proofs.Orders.{walks_end}
 use Rattle.lid_elab.specs.Elaborations.{map_driver, column_at, IsElaborated}
-use Rattle.lid_check.proofs.Lists.{among_get}
 use Rattle.lid_check.proofs.Numbered.{graph, graph_length, column_here, within, fed_number, walk_up, column_is}
 use Rattle.lid_strict.specs.Networks.{driver_of}
 

@@ -1,13 +1,13 @@
 -- Networks whose columns are numbers, and their rows.
 use Rattle.std.specs.Prelude.{◌≡◌, ◌+◌, ◌<◌, ℕ, Bool, true, false, List, [], length, map, slice_get, slice_index_or, option_to_list, Some, ⊤}
 use Rattle.std.specs.List.{AllByRecursion}
+use Rattle.lid_base.specs.Lists.{Among}
 use Rattle.lid_cover.specs.Cover.{cover_value, IsCover}
 use Rattle.lid_design.specs.Network.{Driver, from_input, from_latch, from_cover, from_connection, Table, IsStrict, from_each}
 use Rattle.lid_design.specs.Walks.{read_now, read_before}
 use Rattle.lid_design.specs.declared.Design.{Design}
 use Rattle.lid_design.specs.Columns.{column, root_outputs}
 use Rattle.lid_elab.specs.Elaborations.{column_at}
-use Rattle.lid_digraph.specs.Graphs.{Among}
 
 -- what drives a number: the driver at its place
 abbrev pub driver_of : List (Driver ℕ) → ℕ → List (Driver ℕ)

@@ -2,10 +2,11 @@
 
 ghost use Rattle.std.specs.Prelude.{◌≡◌, ◌<◌, ◌≤◌, ◌++◌, if◌then◌else◌, ℕ, Bool, List, [], length, map, IfOk, OnOk};
 ghost use Rattle.std.specs.List.{AllByRecursion, list_any};
+ghost use Rattle.lid_base.specs.Lists.{Among};
 ghost use Rattle.lid_cover.specs.Cover.{cover_value, IsCover};
 ghost use Rattle.lid_cover.specs.Masks.{packed, is_met};
 ghost use Rattle.lid_design.specs.Network.{Driver, Table, IsStrict};
-ghost use Rattle.lid_digraph.specs.Graphs.{Among, IsOrder};
+ghost use Rattle.lid_digraph.specs.Graphs.{IsOrder};
 ghost use Rattle.lid_elab.specs.Elaborations.{shown_driver};
 ghost use Rattle.lid_strict.specs.Networks.{driver_of, bit_at, reads_of, AreHeldBelow, HasCover, bit_from, FitsRow, AgreesAt, rows_at};
 ghost use Rattle.lid_strict.specs.Programs.{cover_of, shown_step, shown_program, IsThere, IsWhole, IsLaidOut};

@@ -1,7 +1,7 @@
 use Rattle.std.proofs.Common.{ℕ, sym, ap, subst}
+use Rattle.lid_design.proofs.Reached.{root_reached}
 use Rattle.lid_design.specs.declared.Design.{Design}
 use Rattle.lid_design.specs.Models.{IsReached}
-use Rattle.lid_check.proofs.Marking.{root_reached}
 use Rattle.lid_check.proofs.judging.find_facts.Goals as goal
 
 pub find_inputs-requires : goal.find_inputs-requires

@@ -1,9 +1,10 @@
 use Rattle.std.proofs.Common.{◌≡◌, ℕ, List, [], ◌∷◌, length, Some, slice_get, get_or, refl, sym, length-append, ◌∙◌, ap, subst, arith}
 use Rattle.std.proofs.lemmas.Option.{slice_get-get_or}
+use Rattle.lid_design.proofs.Reached.{root_reached}
 use Rattle.lid_design.specs.declared.Design.{Design}
 use Rattle.lid_design.specs.Models.{instance_number}
 use Rattle.lid_check.specs.declared.pearls.Pearl.{Pearl}
-use Rattle.lid_check.proofs.Marking.{pearls_more, root_reached, not_none}
+use Rattle.lid_check.proofs.Marking.{pearls_more, not_none}
 use Rattle.lid_check.proofs.pearls.list_instances.Goals as goal
 
 pub unreachable-requires : goal.unreachable-requires

@@ -1,11 +1,12 @@
 use Rattle.std.proofs.Common.{◌<◌, ◌≤◌, ℕ, List, length, get_or, slice_index_or, min, sym, ◌∙◌, ap, subst, arith}
 use Rattle.std.proofs.Math.ListN.{length-set}
 use Rattle.std.proofs.lemmas.List.{take_all}
-use Rattle.lid_design.specs.Walks.{Among}
+use Rattle.lid_base.specs.Lists.{Among}
+use Rattle.lid_base.proofs.Lists.{among_at}
 use Rattle.lid_counts.specs.Counts.{count_by_subs}
-use Rattle.lid_names.proofs.Numbers.{among_at}
-use Rattle.lid_counts.proofs.Counting.{reached_below, counted_more}
+use Rattle.lid_counts.proofs.Counting.{counted_more}
 use Rattle.lid_counts.proofs.counts.count_each.Goals as goal
+use Rattle.lid_hierarchy.proofs.Walks.{reached_below}
 
 pub count_from-count-requires : goal.count_from-count-requires
 count_from-count-requires c =

@@ -1,5 +1,5 @@
 use Rattle.std.proofs.Common.{◌<◌, length, arith}
-use Rattle.lid_names.proofs.Numbers.{among_at}
+use Rattle.lid_base.proofs.Lists.{among_at}
 use Rattle.lid_design_tests.proofs.rules.are_models.Goals as goal
 
 pub is_model-requires : goal.is_model-requires

@@ -1,5 +1,6 @@
 use Rattle.std.proofs.Common.{◌≡◌, ℕ, ◌↔◌, true, take}
-use Rattle.lid_digraph.specs.Graphs.{Among, flag, IsReached}
+use Rattle.lid_base.specs.Lists.{Among}
+use Rattle.lid_digraph.specs.Graphs.{flag, IsReached}
 use Rattle.lid_digraph.proofs.searching.reach_all.Given as goal
 
 abbrev pub invariant-loop-k : goal.invariant-loop-k

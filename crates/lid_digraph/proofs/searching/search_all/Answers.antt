@@ -1,7 +1,8 @@
 use Rattle.std.proofs.Common.{◌<◌, List, ℕ, length, sym, subst, arith}
-use Rattle.lid_digraph.specs.Graphs.{Among}
+use Rattle.lid_base.specs.Lists.{Among}
+use Rattle.lid_base.proofs.Lists.{among_last}
 use Rattle.lid_digraph.specs.Searches.{IsSearch}
-use Rattle.lid_digraph.proofs.Lists.{among_last, flag_within}
+use Rattle.lid_digraph.proofs.Lists.{flag_within}
 use Rattle.lid_digraph.proofs.searching.search_all.Goals as goal
 
 pub look_at-requires-clause-within : goal.look_at-requires-clause-within

@@ -1,5 +1,5 @@
 use Rattle.std.proofs.Common.{List, ℕ, false, set, sym, subst}
-use Rattle.lid_digraph.specs.Graphs.{Among}
+use Rattle.lid_base.specs.Lists.{Among}
 use Rattle.lid_digraph.specs.Parts.{IsPart}
 use Rattle.lid_digraph.proofs.Partial.{part_more}
 use Rattle.lid_digraph.proofs.taking.take_up.Goals as goal

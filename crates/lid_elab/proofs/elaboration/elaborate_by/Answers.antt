@@ -1,10 +1,11 @@
 use Rattle.std.proofs.Common.{◌≡◌, ◌<◌, ℕ, List, length, get_or, slice_get, sym, ◌∙◌, ap, subst, arith, map}
 use Rattle.std.proofs.lemmas.List.{length-map}
+use Rattle.lid_design.proofs.Reached.{root_reached}
 use Rattle.lid_design.specs.declared.Design.{Design}
 use Rattle.lid_elab.specs.Elaborations.{shown_driver}
 use Rattle.lid_elab.proofs.Judged.{few_columns}
 use Rattle.lid_elab.proofs.Outer.{template_at, template_within}
-use Rattle.lid_elab.proofs.Whole.{elaborated, root_reached}
+use Rattle.lid_elab.proofs.Whole.{elaborated}
 use Rattle.lid_elab.proofs.elaboration.elaborate_by.Goals as goal
 
 pub bounds-templates-design : goal.bounds-templates-design

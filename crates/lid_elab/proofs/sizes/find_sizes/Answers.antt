@@ -1,5 +1,5 @@
 use Rattle.std.proofs.Common.{◌<◌, ◌≤◌, ℕ, List, Option, Some, length, get_or, set, sym, ◌∙◌, ap, subst, arith}
-use Rattle.lid_hierarchy.proofs.Clocking.{among-at}
+use Rattle.lid_base.proofs.Lists.{among_at}
 use Rattle.lid_elab.specs.Parts.{HasSizes}
 use Rattle.lid_elab.proofs.Counting.{sizes_known, sizes_next, sizes_end, model_below}
 use Rattle.lid_elab.proofs.sizes.find_sizes.Goals as goal
@@ -7,7 +7,7 @@ use Rattle.lid_elab.proofs.sizes.find_sizes.Goals as goal
 pub sum_sizes-size-requires-clause-reached : goal.sum_sizes-size-requires-clause-reached
 sum_sizes-size-requires-clause-reached c =
     let h : c.loop-model.model-index < length c.order-order.result.now = omega arith in
-    c.order-order.ensures.only (get_or c.order-order.result.now c.loop-model.model-index 0) (among-at c.order-order.result.now c.loop-model.model-index 0 h)
+    c.order-order.ensures.only (get_or c.order-order.result.now c.loop-model.model-index 0) (among_at c.order-order.result.now c.loop-model.model-index 0 h)
 
 pub sum_sizes-size-requires-clause-sizes : goal.sum_sizes-size-requires-clause-sizes
 sum_sizes-size-requires-clause-sizes c =
@@ -20,7 +20,7 @@ pub put_size-requires : goal.put_size-requires
 put_size-requires c =
     let h : c.loop-model.model-index < length c.order-order.result.now = omega arith in
     let at = get_or c.order-order.result.now c.loop-model.model-index 0 in
-    let below = model_below c.args.survey.now c.requires at (c.order-order.ensures.only at (among-at c.order-order.result.now c.loop-model.model-index 0 h)) in
+    let below = model_below c.args.survey.now c.requires at (c.order-order.ensures.only at (among_at c.order-order.result.now c.loop-model.model-index 0 h)) in
     let long = c.loop-model.invariant.long in
     omega arith
 
@@ -30,7 +30,7 @@ loop-model-preserved c =
     let order = c.order-order.result.now in
     let at = get_or order c.loop-model.model-index 0 in
     let d = c.args.survey.now in
-    let below = model_below d c.requires at (c.order-order.ensures.only at (among-at order c.loop-model.model-index 0 h)) in
+    let below = model_below d c.requires at (c.order-order.ensures.only at (among_at order c.loop-model.model-index 0 h)) in
     sizes_next d order c.order-order.ensures c.loop-model.model-index h c.loop-model.sizes.items c.loop-model.invariant c.put_size.new.sizes.items below (c.put_size.ensures ∙ ap (λ (n : ℕ). set c.loop-model.sizes.items at (Some n)) c.sum_sizes-size.ensures)
 
 pub returns : goal.returns

@@ -1,5 +1,5 @@
 use Rattle.std.proofs.Common.{take}
-use Rattle.lid_design.specs.Walks.{Among}
+use Rattle.lid_base.specs.Lists.{Among}
 use Rattle.lid_elab.specs.Parts.{AreSizes}
 use Rattle.lid_elab.proofs.sizes.find_sizes.Given as goal
 

@@ -1,18 +1,19 @@
 use Rattle.std.proofs.Common.{List, ℕ, ◌<◌, length, arith, get_or, subst}
+use Rattle.lid_base.proofs.Lists.{among_at}
 use Rattle.lid_hierarchy.specs.Clocks.{HasClocks}
-use Rattle.lid_hierarchy.proofs.Walks.{reached_below}
-use Rattle.lid_hierarchy.proofs.Clocking.{among-at, clocks_next}
+use Rattle.lid_hierarchy.proofs.Clocking.{clocks_next}
 use Rattle.lid_hierarchy.proofs.clocks.put_clocks.Goals as goal
+use Rattle.lid_hierarchy.proofs.Walks.{reached_below}
 
 pub clocks_of-requires-clause-exists : goal.clocks_of-requires-clause-exists
 clocks_of-requires-clause-exists c =
     let h : c.loop-model.model-index < length c.args.order.now = omega arith in
-    reached_below c.args.uses.now c.requires.formed _ (c.requires.order.only _ (among-at c.args.order.now c.loop-model.model-index 0 h))
+    reached_below c.args.uses.now c.requires.formed _ (c.requires.order.only _ (among_at c.args.order.now c.loop-model.model-index 0 h))
 
 pub put_at-requires : goal.put_at-requires
 put_at-requires c =
     let h : c.loop-model.model-index < length c.args.order.now = omega arith in
-    let below = reached_below c.args.uses.now c.requires.formed _ (c.requires.order.only _ (among-at c.args.order.now c.loop-model.model-index 0 h)) in
+    let below = reached_below c.args.uses.now c.requires.formed _ (c.requires.order.only _ (among_at c.args.order.now c.loop-model.model-index 0 h)) in
     let size = c.loop-model.invariant.size in
     omega arith
 

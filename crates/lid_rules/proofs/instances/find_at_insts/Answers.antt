@@ -1,5 +1,5 @@
 use Rattle.std.proofs.Common.{◌<◌, length, arith}
-use Rattle.lid_names.proofs.Numbers.{among_at}
+use Rattle.lid_base.proofs.Lists.{among_at}
 use Rattle.lid_rules.proofs.instances.find_at_insts.Goals as goal
 
 pub judge_model-requires : goal.judge_model-requires

@@ -1,7 +1,7 @@
 use Rattle.std.proofs.Common.{◌<◌, length, arith}
 use Rattle.std.proofs.lemmas.Grind.{common_steps}
+use Rattle.lid_base.proofs.Lists.{among_at}
 use Rattle.lid_rules.specs.Names.{name_at}
-use Rattle.lid_names.proofs.Numbers.{among_at}
 use Rattle.lid_rules.proofs.names.list_findings.Goals as goal
 
 pub judge_model-requires : goal.judge_model-requires

@@ -1,8 +1,9 @@
 use Rattle.std.proofs.Common.{ℕ, List, ◌<◌, length, sym, ◌∙◌, subst, arith}
 use Rattle.std.proofs.lemmas.List.{length-map}
+use Rattle.lid_base.specs.Lists.{Among}
 use Rattle.lid_design.specs.Network.{Driver}
 use Rattle.lid_design.specs.Walks.{read_now}
-use Rattle.lid_digraph.specs.Graphs.{Among, IsOrder}
+use Rattle.lid_digraph.specs.Graphs.{IsOrder}
 use Rattle.lid_strict.specs.Networks.{bit_at, reads_of}
 use Rattle.lid_strict.proofs.Running.{map_agree, if_ok}
 use Rattle.lid_strict.proofs.simulation.run_row.Goals as goal

@@ -1,9 +1,10 @@
 use Rattle.std.proofs.Common.{◌≡◌, ◌<◌, ◌≤◌, ℕ, length, slice_index, slice_get, Some, refl, sym, ◌∙◌, subst, arith}
 use Rattle.std.proofs.lemmas.List.{take_all, length-set}
 use Rattle.std.proofs.lemmas.Option.{slice_get_read, slice_get-get_or}
-use Rattle.lid_digraph.specs.Graphs.{Among}
+use Rattle.lid_base.specs.Lists.{Among}
+use Rattle.lid_base.proofs.Lists.{all_at}
 use Rattle.lid_strict.specs.Programs.{shown_step}
-use Rattle.lid_strict.proofs.Settling.{agrees_next, all-at}
+use Rattle.lid_strict.proofs.Settling.{agrees_next}
 use Rattle.lid_strict.proofs.Steps.{step_driver, step_cover}
 use Rattle.lid_strict.proofs.simulation.settle.Goals as goal
 
@@ -26,7 +27,7 @@ loop-i-preserved c =
     let in_steps : i < length p.steps.items = omega arith in
     let here : slice_get p.steps.items i ≡ Some step = slice_get_read p.steps.items (length p.steps.items) i step refl in_steps c.index.ensures in
     let kept = c.loop-i.invariant.0 in
-    let room = all-at (λ (n : ℕ). n < length c.args.now.now) order i k c.requires.below (slice_get-get_or order i 0 h) in
+    let room = all_at (λ (n : ℕ). n < length c.args.now.now) order i k c.requires.below (slice_get-get_or order i 0 h) in
     let room_now : k < length c.loop-i.now = omega arith in (
       length-set c.loop-i.now k c.step_bit.result ∙ kept,
       (λ network laid f fits.

@@ -1,8 +1,8 @@
 use Rattle.std.proofs.Common.{ℕ, List, [], ◌<◌, length, map, sym, ◌∙◌, ap, subst, arith}
 use Rattle.std.specs.List.{AllByRecursion}
 use Rattle.std.proofs.lemmas.List.{length-map, take_all}
+use Rattle.lid_base.specs.Lists.{Among}
 use Rattle.lid_design.specs.Columns.{column}
-use Rattle.lid_design.specs.Walks.{Among}
 use Rattle.lid_elab.specs.Elaborations.{shown_driver, column_at}
 use Rattle.lid_strict.proofs.Placing.{outputs_are, item_among, place_below, place_column, numbers_more}
 use Rattle.lid_strict.proofs.whole.number_outputs.Goals as goal
