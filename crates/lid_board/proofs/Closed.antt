@@ -9,7 +9,7 @@ use Rattle.atomic_table.specs.Seated.{TableId}
 use Rattle.atomic_table.specs.Table.{State}
 use Rattle.lid_station.specs.Boards.{Facts, fill, drain}
 use Rattle.lid_station.specs.Plain.{end_facts, plain_ends, Holds, PlainStands}
-use Rattle.lid_station.specs.PlainLaws.{ends-even, ends-odd}
+use Rattle.lid_station.specs.PlainLaws.{ends_even, ends_odd}
 use Rattle.lid_station.specs.declared.pair.Pair.{Pair}
 use Rattle.lid_station.proofs.PlainStations.{station_there}
 use Rattle.lid_board.specs.Closing.{CanRestore, IsRestored, Restored, number_at, closed_facts}
@@ -115,11 +115,11 @@ restored_more words firsts numbers old now i put taken p q r at put_is taken_is 
     }
 
 -- what is known of an end by its parts
-facts_are : (cap passed : ℕ) (mark : Bool) (h : Held) → cap ≡ h.cap → passed ≡ h.passed → mark ≡ false → ◌≡◌ {A = Facts} (record { cap = cap; passed = passed; mark = mark; misses = None }) (closed_facts h)
+facts_are : (cap passed : ℕ) (mark : Bool) (h : Held) → cap ≡ h.cap → passed ≡ h.passed → mark ≡ false → ◌≡◌ {A = Facts} (record { cap = cap; start = 0; passed = passed; mark = mark; misses = None }) (closed_facts h)
 facts_are cap passed mark h a b c =
-    let A : ℕ → Facts = λ x. record { cap = x; passed = passed; mark = mark; misses = None } in
-    let B : ℕ → Facts = λ x. record { cap = h.cap; passed = x; mark = mark; misses = None } in
-    let C : Bool → Facts = λ x. record { cap = h.cap; passed = h.passed; mark = x; misses = None } in
+    let A : ℕ → Facts = λ x. record { cap = x; start = 0; passed = passed; mark = mark; misses = None } in
+    let B : ℕ → Facts = λ x. record { cap = h.cap; start = 0; passed = x; mark = mark; misses = None } in
+    let C : Bool → Facts = λ x. record { cap = h.cap; start = 0; passed = h.passed; mark = x; misses = None } in
     ap A a ∙ ap B b ∙ ap C c
 
 module _ {S : Type 0} (plan : Ends) (caps firsts : List ℕ) (table : TableId) (laid : IsLaid plan caps firsts table) (st : State S View) (id : ℕ) (v : View) (r : Related plan st)
@@ -205,12 +205,12 @@ module _ {S : Type 0} (plan : Ends) (caps firsts : List ℕ) (table : TableId) (
       dite (ℕ_discrete (end % 2) 0)
       (λ even.
       let number : end ≡ fill i = omega arith in
-      ends-even new end i number ∙ ap (option_map (end_facts true)) now.1
+      ends_even new end i number ∙ ap (option_map (end_facts true)) now.1
       ∙ ap (λ (f : Facts). Some f) (facts_are (length now.0.places.items) now.0.put now.0.room_seen (held v.ends (fill i)) one.size one.put one.no_room)
       ∙ ap (λ (e : ℕ). Some (closed_facts (held v.ends e))) (sym number))
       (λ odd.
       let number : end ≡ drain i = omega arith in
-      ends-odd new end i number ∙ ap (option_map (end_facts false)) now.1
+      ends_odd new end i number ∙ ap (option_map (end_facts false)) now.1
       ∙ ap (λ (f : Facts). Some f) (facts_are (length now.0.places.items) now.0.taken now.0.token_seen (held v.ends (drain i)) (one.size ∙ sym k.cap) one.taken one.no_token)
       ∙ ap (λ (e : ℕ). Some (closed_facts (held v.ends e))) (sym number))
 
