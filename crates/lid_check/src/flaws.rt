@@ -14,7 +14,7 @@ use lid_base::{Items, Name};
 use lid_elab::{Elaboration, elaborate, find_column, find_reads};
 use lid_hierarchy::Survey;
 use lid_names::copy_name;
-use lid_digraph::{Found, find_order};
+use lid_digraph::{Digraph, Found, find_order};
 use lid_rules::CheckFault;
 use std::alloc::{AllocError, Global};
 
@@ -52,12 +52,13 @@ fn find_among(
     requires reads { reads.now ≡ map read_now (map shown_driver columns.now.drivers) }
     ensures { IfOk result (FindsFlaw survey.now) }
 {
-    match find_order(alloc, reads)? {
+    let graph = Digraph { reads };
+    match find_order(alloc, &graph)? {
         Found::Order(order) => match find_dependence(
             alloc,
             survey,
             columns,
-            reads,
+            &graph,
             order.as_slice(),
         )? {
             Some(lead) => Ok(Some(Flaw::Dependence(lead))),

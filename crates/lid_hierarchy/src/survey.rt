@@ -14,7 +14,7 @@ use crate::uses::Uses;
 use lid_base::Items;
 use lid_design::Design;
 use lid_names::NameSet;
-use lid_digraph::{Found, find_order};
+use lid_digraph::{Digraph, Found, find_order};
 use std::alloc::{AllocError, Global};
 use std::marker::Model;
 
@@ -118,7 +118,10 @@ fn find_model_order(alloc: Global, uses: &Uses<'_>) -> Result<Items<u32>, Survey
     let Ok(graph) = uses.graph(alloc) else {
         return Err(SurveyFault::Memory);
     };
-    match find_order(alloc, graph.as_slice()) {
+    let graph = Digraph {
+        reads: graph.as_slice(),
+    };
+    match find_order(alloc, &graph) {
         Ok(Found::Order(all)) => keep_order(alloc, uses, all.as_slice()),
         Ok(Found::Loop(model)) => Err(SurveyFault::Recursive { model }),
         Err(_) => Err(SurveyFault::Memory),

@@ -16,7 +16,7 @@ use lid_check::Checked;
 use lid_elab::{Elaboration, elaborate, find_reads};
 use lid_design::Design;
 use lid_hierarchy::{Survey, SurveyFault, find_uses, survey_models};
-use lid_digraph::{Found, find_order};
+use lid_digraph::{Digraph, Found, find_order};
 use lid_texts::{Rows, copy_names};
 use std::alloc::{AllocError, Global};
 
@@ -95,7 +95,10 @@ fn run_columns(
 {
     let drivers = columns.drivers.as_slice();
     let reads = find_reads(alloc, drivers)?;
-    match find_order(alloc, reads.as_slice())? {
+    let graph = Digraph {
+        reads: reads.as_slice(),
+    };
+    match find_order(alloc, &graph)? {
         Found::Order(order) => simulate(alloc, drivers, order.as_slice(), outs, rows),
         Found::Loop(_) => unreachable!(),
     }

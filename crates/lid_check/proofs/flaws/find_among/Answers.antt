@@ -2,8 +2,8 @@ use Rattle.std.proofs.Common.{◌≡◌, List, ℕ, Option, map, length, sym, su
 use Rattle.std.proofs.lemmas.List.{length-map}
 use Rattle.lid_digraph.specs.Graphs.{IsGraph, HasNoLoop}
 use Rattle.lid_digraph.specs.Results.{IsFound, IsLeastOnLoop}
-use Rattle.lid_digraph.specs.declared.finding.Found.{Found}
-use Rattle.lid_digraph.specs.declared.finding.Found.TheVariants.{Order, Loop}
+use Rattle.lid_digraph.specs.declared.topological.Found.{Found}
+use Rattle.lid_digraph.specs.declared.topological.Found.TheVariants.{Order, Loop}
 use Rattle.lid_elab.specs.Elaborations.{shown_driver}
 use Rattle.lid_check.specs.declared.outputs.Lead.{Lead}
 use Rattle.lid_check.specs.Flaws.{FindsDependence}

@@ -1,7 +1,7 @@
 use Rattle.std.proofs.Common.{sym, subst}
 use Rattle.lid_digraph.specs.Graphs.{IsGraph, IsOrder}
 use Rattle.lid_digraph.specs.Results.{IsFound}
-use Rattle.lid_digraph.specs.declared.finding.Found.TheVariants.{Order, Loop}
+use Rattle.lid_digraph.specs.declared.topological.Found.TheVariants.{Order, Loop}
 use Rattle.lid_design.specs.Models.{HasNoRecursion}
 use Rattle.lid_hierarchy.specs.Surveys.{IsModelOrder}
 use Rattle.lid_hierarchy.specs.Graphs.{IsUsedGraph, IsKept}

@@ -6,7 +6,7 @@ use Rattle.lid_design.specs.Network.{Table, IsStrict}
 use Rattle.lid_design.specs.Columns.{IsStrictOutput}
 use Rattle.lid_digraph.specs.Graphs.{IsGraph, IsOrder}
 use Rattle.lid_digraph.specs.Results.{IsFound, IsLeastOnLoop}
-use Rattle.lid_digraph.specs.declared.finding.Found.TheVariants.{Order, Loop}
+use Rattle.lid_digraph.specs.declared.topological.Found.TheVariants.{Order, Loop}
 use Rattle.lid_elab.specs.declared.driver.ColumnDriver.{ColumnDriver}
 use Rattle.lid_elab.specs.Elaborations.{shown_driver, column_at}
 use Rattle.lid_check.proofs.Numbered.{is_graph, loop_down}
