@@ -2,16 +2,16 @@
 #![tactic(auto)]
 
 mod finding;
-mod following;
+mod cycles;
 mod grouping;
 mod laws;
-mod lowest;
+mod lowest_terms;
 mod parts;
-mod raising;
-mod rating;
-mod settling;
+mod relaxation;
+mod cycle_ratio;
+mod bellman_ford;
 mod showing;
-mod spreading;
+mod spanning_tree;
 
 pub use finding::find;
 pub use laws::lag_rule_bounds_firings;

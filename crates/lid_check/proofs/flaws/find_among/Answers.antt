@@ -10,17 +10,11 @@ use Rattle.lid_check.specs.Flaws.{FindsDependence}
 use Rattle.lid_check.proofs.Numbered.{is_graph, no_loop, first_loop}
 use Rattle.lid_check.proofs.flaws.find_among.Goals as goal
 
-pub find_order-requires : goal.find_order-requires
-find_order-requires c =
+pub invariant_of-graph : goal.invariant_of-graph
+invariant_of-graph c =
     let network = map shown_driver c.args.columns.now.drivers in
     let long : length network ≡ length c.args.columns.now.drivers = length-map c.args.columns.now.drivers shown_driver in
-    subst (λ (g : List (List ℕ)). IsGraph g) (sym c.requires.reads) (is_graph c.args.survey.now network c.args.columns.now.starts c.requires.elaborated (let few = c.requires.few in omega arith))
-
-pub find_dependence-requires-clause-graph : goal.find_dependence-requires-clause-graph
-find_dependence-requires-clause-graph c =
-    let network = map shown_driver c.args.columns.now.drivers in
-    let long : length network ≡ length c.args.columns.now.drivers = length-map c.args.columns.now.drivers shown_driver in
-    subst (λ (g : List (List ℕ)). IsGraph g) (sym c.requires.reads) (is_graph c.args.survey.now network c.args.columns.now.starts c.requires.elaborated (let few = c.requires.few in omega arith))
+    record { is_graph = subst (λ (g : List (List ℕ)). IsGraph g) (sym c.requires.reads) (is_graph c.args.survey.now network c.args.columns.now.starts c.requires.elaborated (let few = c.requires.few in omega arith)) }
 
 pub returns-in-Some : goal.returns-in-Some
 returns-in-Some c =

@@ -9,8 +9,8 @@ use Rattle.lid_hierarchy.proofs.Orders.{kept_order, least_recursive, none_recurs
 use Rattle.lid_hierarchy.proofs.Steps.{if_ok, on_ok}
 use Rattle.lid_hierarchy.proofs.survey.find_model_order.Goals as goal
 
-pub find_order-requires : goal.find_order-requires
-find_order-requires c = subst IsGraph (sym c.as_slice.ensures) c.in-Ok.ensures.graph
+pub invariant_of-graph : goal.invariant_of-graph
+invariant_of-graph c = record { is_graph = subst IsGraph (sym c.as_slice.ensures) c.in-Ok.ensures.graph }
 
 pub returns-in-Ok-Order-clause-order : goal.returns-in-Ok-Order-clause-order
 returns-in-Ok-Order-clause-order c =

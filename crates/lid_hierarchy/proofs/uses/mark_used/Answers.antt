@@ -6,11 +6,11 @@ use Rattle.lid_hierarchy.proofs.Walks.{models_are_graph, marks_reached, flag_non
 use Rattle.lid_hierarchy.proofs.Steps.{if_both_ok}
 use Rattle.lid_hierarchy.proofs.uses.mark_used.Goals as goal
 
-pub find_reaching-requires-clause-graph : goal.find_reaching-requires-clause-graph
+pub invariant_of-graph : goal.invariant_of-graph
 unfolding graph_of
-find_reaching-requires-clause-graph c =
+invariant_of-graph c =
     let whole : c.as_slice.result.now ≡ graph_of c.args.design.now = c.as_slice.ensures ∙ c.in_ok-graph.ensures ∙ ap (map some_of) c.requires.numbers in
-    subst IsGraph (sym whole) (models_are_graph c.args.design.now c.requires.formed)
+    record { is_graph = subst IsGraph (sym whole) (models_are_graph c.args.design.now c.requires.formed) }
 
 pub returns : goal.returns
 unfolding graph_of
