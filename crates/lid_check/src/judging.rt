@@ -10,8 +10,8 @@ use crate::flaws::{find_flaw, tell_flaw};
 use crate::pearls::find_inputs;
 use lid_base::{Items, Name};
 use lid_design::Design;
-use lid_judge::{check_models, count_latches};
 use lid_hierarchy::Survey;
+use lid_judge::{check_models, count_latches};
 use lid_rules::CheckFault;
 use std::alloc::Global;
 

@@ -9,7 +9,7 @@ use Rattle.std.proofs.lemmas.List.{get_or-set_same, get_or-set_other, length-set
 use Rattle.lid_graph.specs.declared.graph.Edge.{Edge}
 use Rattle.lid_graph.specs.declared.graph.Graph.{Graph}
 use Rattle.lid_graph.specs.Walks.{edge_at, walk_tokens}
-use Rattle.lid_rate.specs.WalksBack.{IsWalkBack, IsPredecessorWalk}
+use Rattle.lid_rate.specs.WalksBack.{IsPredecessorWalk}
 use Rattle.lid_rate.specs.Relaxation.{Relaxes, StaysRelaxed, AreEdges, ArePotentials, IsAttained, AreAtMost, IsRound, IsChanged}
 
 module _ (g : Graph) (es : List ℕ) (p q k : ℕ) (values : List ℕ) (last : List (Option ℕ)) (before : ArePotentials g es p q values last) (listed : Contains es k) (to : (edge_at g k).to < g.nodes) (new_values : List ℕ) (new_last : List (Option ℕ)) (raises : Relaxes (edge_at g k) k p q values last new_values new_last) where

@@ -1,8 +1,8 @@
 -- For the loops: potentials at a ratio, which are the lags of the transitions, or a closed walk of lower
 -- ratio.
-use Rattle.std.specs.Prelude.{◌≡◌, ℕ, ◌+◌, ◌*◌, ◌^◌, ◌<◌, ◌≤◌, List, length, reverse, slice_index, Option}
+use Rattle.std.specs.Prelude.{◌≡◌, ℕ, ◌*◌, ◌^◌, ◌<◌, ◌≤◌, List, length, slice_index, Option}
 use Rattle.lid_graph.specs.declared.graph.Graph.{Graph}
-use Rattle.lid_graph.specs.Walks.{edge_at, walk_tokens}
+use Rattle.lid_graph.specs.Walks.{walk_tokens}
 use Rattle.lid_rate.specs.declared.bellman_ford.Settled.{Settled}
 use Rattle.lid_rate.specs.declared.bellman_ford.Settled.TheVariants.{Lags, Lower}
 use Rattle.lid_rate.specs.WalksBack.{IsCycleOn}

@@ -1,5 +1,5 @@
 -- For the loops: the least ratio of the closed walks on a list of edges.
-use Rattle.std.specs.Prelude.{◌≡◌, ℕ, ◌*◌, ◌<◌, ◌≤◌, List, length, reverse}
+use Rattle.std.specs.Prelude.{◌≡◌, ℕ, ◌*◌, ◌≤◌, List, length}
 use Rattle.std.specs.Int.{IsGcd}
 use Rattle.std.specs.List.{Contains}
 use Rattle.lid_graph.specs.declared.graph.Graph.{Graph}

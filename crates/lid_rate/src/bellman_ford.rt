@@ -27,7 +27,10 @@ fn start(alloc: Global, nodes: u32) -> Result<Potentials, AllocError>
 {
     let values = Vec::from_elem(alloc, 0, nodes as usize)?;
     let predecessors = Vec::from_elem(alloc, None, nodes as usize)?;
-    Ok(Potentials { values, predecessors })
+    Ok(Potentials {
+        values,
+        predecessors,
+    })
 }
 
 /// Relaxes the edges from potentials 0 on, by `p` less `q` for each token, until no edge asks for more or

@@ -4,8 +4,8 @@ ghost use Rattle.std.specs.Prelude.{◌≡◌, ◌∷◌, [], ◌<◌, ◌≤◌
 ghost use Rattle.lid_rate.specs.Relaxation.{AreEdges};
 ghost use Rattle.lid_rate.specs.CycleRatios.{IsRate, IsOneTokenLoop};
 
-use crate::lowest_terms::{Ratio, lowest, tokens_on};
 use crate::bellman_ford::{Settled, find_potentials};
+use crate::lowest_terms::{Ratio, lowest, tokens_on};
 use lid_base::Items;
 use lid_graph::Graph;
 use std::alloc::{AllocError, Global};

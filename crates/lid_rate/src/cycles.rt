@@ -27,7 +27,11 @@ struct Trace {
 }
 
 /// Goes one edge on. Answers whether there was one.
-fn step_back(trace: &mut Trace, graph: &Graph, predecessors: &[Option<u32>]) -> Result<bool, AllocError>
+fn step_back(
+    trace: &mut Trace,
+    graph: &Graph,
+    predecessors: &[Option<u32>],
+) -> Result<bool, AllocError>
     requires predecessors { ArePredecessors graph.now predecessors.now }
     requires trace { (start : ℕ) × IsTrace graph.now predecessors.now start trace.old.chain.items trace.old.places.items trace.old.at }
     requires new { slice_index trace.old.places.items trace.old.at ≡ 0 }

@@ -1,15 +1,15 @@
 //! The search for a certificate of the ratio of each component of a marked graph.
 #![tactic(auto)]
 
-mod finding;
+mod bellman_ford;
+mod cycle_ratio;
 mod cycles;
+mod finding;
 mod grouping;
 mod laws;
 mod lowest_terms;
 mod parts;
 mod relaxation;
-mod cycle_ratio;
-mod bellman_ford;
 mod showing;
 mod spanning_tree;
 

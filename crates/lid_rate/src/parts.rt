@@ -5,9 +5,9 @@ ghost use Rattle.std.specs.List.{All};
 ghost use Rattle.lid_graph.specs.Walks.{edge_at, IsPaired};
 ghost use Rattle.lid_rate.specs.Rates.{IsRateable, AreLabels, IsPartOf, IsLoopAt, is_loop_edge, Assembles, numbers_where, is_labelled, edges_of};
 
+use crate::cycle_ratio::{Rate, least_ratio};
 use crate::lowest_terms::Ratio;
 use crate::relaxation::edge;
-use crate::cycle_ratio::{Rate, least_ratio};
 use crate::spanning_tree::{Tree, span};
 use lid_base::Items;
 use lid_cert::Part;
