@@ -36,13 +36,13 @@ set_at (x ∷ xs) zero q p e = refl
 set_at (x ∷ xs) (suc i) q p e = set_at xs i q p e
 
 -- the element that was written
-set_here : (pairs : List Pair) (i : ℕ) (q p : Pair) → slice_get (set pairs i q) i ≡ Some p → q ≡ p
+pub set_here : (pairs : List Pair) (i : ℕ) (q p : Pair) → slice_get (set pairs i q) i ≡ Some p → q ≡ p
 set_here [] i q p e = absurd (cc)
 set_here (x ∷ xs) zero q p e = same_Some q p e
 set_here (x ∷ xs) (suc i) q p e = set_here xs i q p e
 
 -- the elements that were not written
-set_there : (pairs : List Pair) (i j : ℕ) (q : Pair) → (j ≡ i → ⊥) → slice_get (set pairs i q) j ≡ slice_get pairs j
+pub set_there : (pairs : List Pair) (i j : ℕ) (q : Pair) → (j ≡ i → ⊥) → slice_get (set pairs i q) j ≡ slice_get pairs j
 set_there [] i j q other = refl
 set_there (x ∷ xs) zero zero q other = absurd (other refl)
 set_there (x ∷ xs) zero (suc j) q other = refl

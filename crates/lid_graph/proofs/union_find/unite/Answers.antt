@@ -1,6 +1,6 @@
 use Rattle.std.proofs.Common.{arith}
 use Rattle.lid_graph.proofs.Trees.{label_merged_left, label_merged_right}
-use Rattle.lid_graph.proofs.joining.merge.Goals as goal
+use Rattle.lid_graph.proofs.union_find.unite.Goals as goal
 
 pub returns-then-left-right-clause-label : goal.returns-then-left-right-clause-label
 returns-then-left-right-clause-label c = λ label labelled.

@@ -1,6 +1,6 @@
 use Rattle.std.proofs.Common.{ℕ, ◌≡◌, ◌<◌, get_or}
 use Rattle.lid_graph.specs.Forests.{IsForest, IsLabelled}
-use Rattle.lid_graph.proofs.joining.flatten.Given as goal
+use Rattle.lid_graph.proofs.union_find.flatten.Given as goal
 
 abbrev pub invariant-loop-v : goal.invariant-loop-v
 invariant-loop-v l = record {

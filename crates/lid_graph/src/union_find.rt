@@ -1,4 +1,4 @@
-//! The components of a graph.
+//! The components of a graph, by union-find with path halving.
 
 ghost use Rattle.std.specs.Prelude.{◌≡◌, ℕ, ◌<◌, ◌≤◌, length, slice_index, IfOk};
 ghost use Rattle.lid_graph.specs.Walks.{IsPaired, IsLeastJoined};
@@ -8,8 +8,8 @@ use crate::graph::Graph;
 use lid_base::Items;
 use std::alloc::{AllocError, Global};
 
-/// The root of a transition. On the way each transition that is passed gets its grandparent as its
-/// parent.
+/// The root of a transition. The path to it is halved: each transition that is passed gets its
+/// grandparent as its parent.
 fn find(parents: &mut [u32], v: u32) -> u32
     requires forest { IsForest parents.old }
     requires within { v < length parents.old }
@@ -28,7 +28,7 @@ fn find(parents: &mut [u32], v: u32) -> u32
 }
 
 /// Makes the trees of two transitions one. The lesser root is the root of both.
-fn merge(parents: &mut [u32], u: u32, v: u32)
+fn unite(parents: &mut [u32], u: u32, v: u32)
     requires forest { IsForest parents.old }
     requires left { u < length parents.old }
     requires right { v < length parents.old }
@@ -57,7 +57,7 @@ fn roots(alloc: Global, count: u32) -> Result<Vec<u32>, AllocError>
 }
 
 /// Makes the trees of the ends of each edge one.
-fn merge_all(parents: &mut [u32], graph: &Graph)
+fn unite_all(parents: &mut [u32], graph: &Graph)
     requires paired { IsPaired graph.now }
     requires length { length parents.old ≡ graph.now.nodes }
     requires own { (v : ℕ) → v < graph.now.nodes → slice_index parents.old v ≡ v }
@@ -65,7 +65,7 @@ fn merge_all(parents: &mut [u32], graph: &Graph)
 {
     let edges = graph.edges.as_slice();
     for k in 0..edges.len() {
-        merge(parents, edges[k].from, edges[k].to);
+        unite(parents, edges[k].from, edges[k].to);
     }
 }
 
@@ -81,13 +81,13 @@ fn flatten(parents: &mut [u32])
 }
 
 /// Makes each transition a child of the least transition of its component.
-fn settle(parents: &mut [u32], graph: &Graph)
+fn label_components(parents: &mut [u32], graph: &Graph)
     requires paired { IsPaired graph.now }
     requires length { length parents.old ≡ graph.now.nodes }
     requires own { (v : ℕ) → v < graph.now.nodes → slice_index parents.old v ≡ v }
     ensures { (v : ℕ) → v < graph.now.nodes → IsLeastJoined graph.now v (slice_index parents.new v) }
 {
-    merge_all(parents, graph);
+    unite_all(parents, graph);
     flatten(parents);
 }
 
@@ -101,6 +101,6 @@ pub fn components(alloc: Global, graph: &Graph) -> Result<Items<u32>, AllocError
     ensures least { IfOk result (λ least. (v : ℕ) → v < graph.now.nodes → IsLeastJoined graph.now v (slice_index least v)) }
 {
     let mut parents = roots(alloc, graph.nodes)?;
-    settle(parents.as_mut_slice(), graph);
+    label_components(parents.as_mut_slice(), graph);
     Ok(Items::from_vec(parents))
 }

@@ -1,6 +1,6 @@
 use Rattle.std.proofs.Common.{ℕ, ◌≡◌, ◌≤◌}
 use Rattle.lid_graph.specs.Forests.{IsForest, IsLabelled}
-use Rattle.lid_graph.proofs.joining.find.Given as goal
+use Rattle.lid_graph.proofs.union_find.find.Given as goal
 
 abbrev pub invariant-loop-parents : goal.invariant-loop-parents
 invariant-loop-parents l = record {

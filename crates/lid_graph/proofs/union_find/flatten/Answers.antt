@@ -1,6 +1,6 @@
 use Rattle.std.proofs.Common.{◌<◌, ◌≤◌, length, get_or, arith}
 use Rattle.lid_graph.proofs.Trees.{forest_write, flat_more, label_halved}
-use Rattle.lid_graph.proofs.joining.flatten.Goals as goal
+use Rattle.lid_graph.proofs.union_find.flatten.Goals as goal
 
 pub loop-v-preserved : goal.loop-v-preserved
 loop-v-preserved c =

@@ -1,6 +1,6 @@
 use Rattle.std.proofs.Common.{ℕ}
 use Rattle.lid_graph.specs.Forests.{IsForest, IsLinked}
-use Rattle.lid_graph.proofs.joining.merge_all.Given as goal
+use Rattle.lid_graph.proofs.union_find.unite_all.Given as goal
 
 abbrev pub invariant-loop-k : goal.invariant-loop-k
 invariant-loop-k l = record {

@@ -1,6 +1,6 @@
 use Rattle.std.proofs.Common.{◌<◌, ◌≤◌, length, get_or, ◌∙◌, arith}
 use Rattle.lid_graph.proofs.Trees.{forest_write, label_halved}
-use Rattle.lid_graph.proofs.joining.find.Goals as goal
+use Rattle.lid_graph.proofs.union_find.find.Goals as goal
 
 pub loop-parents-preserved : goal.loop-parents-preserved
 loop-parents-preserved c =
