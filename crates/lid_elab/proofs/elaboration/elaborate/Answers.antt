@@ -1,5 +1,5 @@
 use Rattle.std.proofs.Common.{sym, subst}
-use Rattle.lid_elab.specs.Writing.{AreTemplates}
+use Rattle.lid_elab.specs.Parts.{AreTemplates}
 use Rattle.lid_elab.proofs.elaboration.elaborate.Goals as goal
 
 pub elaborate_by-requires-clause-templates : goal.elaborate_by-requires-clause-templates

@@ -1,5 +1,5 @@
 use Rattle.std.proofs.Common.{sym, subst}
-use Rattle.lid_elab.specs.Writing.{AreTemplates}
+use Rattle.lid_elab.specs.Parts.{AreTemplates}
 use Rattle.lid_elab.proofs.finding.find_column.Goals as goal
 
 pub find_by-requires-clause-templates : goal.find_by-requires-clause-templates
