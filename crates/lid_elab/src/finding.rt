@@ -33,7 +33,7 @@ pub fn find_column(
     judged: &Judged<'_>,
     number: u32,
 ) -> Result<(Items<u32>, Name), AllocError>
-    requires exists { number < length (columns judged.now) }
+    requires { number < length (columns judged.now) }
     ensures { IfOk result (λ found. slice_get (columns judged.now) number ≡ Some (column (reverse found.0) found.1)) }
 {
     let survey = judged.survey();
