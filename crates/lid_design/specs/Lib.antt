@@ -5,3 +5,4 @@ pub mod Models
 pub mod Places
 pub mod Loops
 pub mod WellFormed
+pub mod Flat
