@@ -1,3 +1,5 @@
 pub mod Cutting
 pub mod Joining
 pub mod Lists
+pub mod Numbers
+pub mod Results

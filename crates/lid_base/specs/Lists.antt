@@ -1,5 +1,5 @@
 -- Items of lists, and lists that grow.
-use Rattle.std.specs.Prelude.{◌≡◌, ◌⊎◌, List, [], ◌∷◌, ◌++◌}
+use Rattle.std.specs.Prelude.{◌≡◌, ◌⊎◌, ℕ, List, [], ◌∷◌, ◌++◌, length, take}
 
 -- x is one of the list
 abbrev pub Among : {A : Type 0} → A → List A → Type 0
@@ -9,3 +9,7 @@ Among x (y ∷ ys) = (x ≡ y) ⊎ Among x ys
 -- items were appended to the first list
 abbrev pub Extends : {A : Type 0} → List A → List A → Type 0
 Extends {A} xs ys = (more : List A) × (ys ≡ xs ++ more)
+
+-- the second list begins with the first
+pub record Keeps (old new : List ℕ) : Type 0 where
+  pub kept : take (length old) new ≡ old

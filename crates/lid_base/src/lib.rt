@@ -1,5 +1,5 @@
-//! What every part of lid stands on: lists and names, the logical lines of a text, and the traits
-//! by which the program reaches files and outputs.
+//! What every part of lid stands on: lists and names, the logical lines of a text and their words,
+//! number words, and the traits by which the program reaches files and outputs.
 #![tactic(auto)]
 
 mod cut;
@@ -7,10 +7,14 @@ mod items;
 mod line;
 mod meet;
 mod memory;
+mod names;
+mod numerals;
 mod outside;
+mod runs;
 mod system;
 mod text;
 mod which;
+mod words;
 
 pub use cut::{
     content_of, cut_line, goes_on, has_bad_byte, has_long_word, next_word, push_words, words_part,
@@ -19,7 +23,11 @@ pub use items::{Bytes, Items, Name};
 pub use line::{Line, TextFault, lines};
 pub use meet::MeetGate;
 pub use memory::{File, MemShelf, MemSink};
+pub use names::{copy_name, copy_names, push_copies};
+pub use numerals::{append_number, is_below, number, number_below, value_below};
 pub use outside::{Gate, OpenGate, Shelf, ShelfFailed, Sink, SinkFailed};
+pub use runs::{Answer, Shown, Tally};
 pub use system::{DirShelf, StdSink};
 pub use text::Text;
 pub use which::Which;
+pub use words::{begins_with, is_same, last_word, word_at, words_after};
