@@ -19,15 +19,16 @@ use Rattle.lid_names.specs.Names.{texts}
 use Rattle.lid_hierarchy.proofs.Fixpoints.{find_position}
 use Rattle.lid_hierarchy.proofs.Numbers.{bytes_eq_comm}
 use Rattle.lid_elab.specs.Numbers.{offset_of}
-use Rattle.lid_elab.specs.Locals.{of_net, first_name_of, actual_for}
+use Rattle.lid_wiring.specs.Locals.{of_net, first_name_of, actual_for}
 use Rattle.lid_elab.specs.Templates.{place_in}
 use Rattle.lid_elab.specs.Parts.{formal_of, Shows, picks_among, places_bound, places_in_inst}
-use Rattle.lid_elab.specs.Writing.{IsJudged, IsTemplate, IsPicked, ArePicked, model_locals, model_inputs}
+use Rattle.lid_wiring.specs.Judged.{IsJudged}
+use Rattle.lid_elab.specs.Writing.{IsTemplate, IsPicked, ArePicked, model_locals, model_inputs}
 use Rattle.lid_elab.specs.declared.driven.Driven.{Driven}
 use Rattle.lid_elab.specs.declared.template.LocalDriver.{LocalDriver}
 use Rattle.lid_elab.specs.declared.template.Template.{Template}
-use Rattle.lid_elab.proofs.Passing.{IsSoundInst}
-use Rattle.lid_elab.proofs.Wired.{Sub, sub_of, sound}
+use Rattle.lid_wiring.proofs.Passing.{IsSoundInst}
+use Rattle.lid_wiring.proofs.Wired.{Sub, sub_of, sound}
 use Rattle.lid_elab.proofs.Picking.{once_firsts, picked_by}
 
 prefix_map : {A B : Type 0} (f : A → B) (p : B → Bool) (xs : List A) → prefix_len p (map f xs) ≡ prefix_len (λ x. p (f x)) xs
@@ -111,10 +112,10 @@ module _ (d : Design) (judged : IsJudged d) (k : ℕ) (reached : IsReached d k) 
       own = ap (λ (o : Option Model). slice_get (option_map_or (λ m. m.insts) o []) i) (sym here) ∙ at
 
       sub : Sub d inst
-      sub = sub_of d judged.formed judged.order judged.ordered judged.known judged.pass k reached m here i inst own
+      sub = sub_of d judged k reached m here i inst own
 
       judged_inst : IsSoundInst d sub.model inst
-      judged_inst = (sound d judged.formed judged.order judged.ordered judged.known judged.pass k reached m here).insts i inst sub.model own sub.named
+      judged_inst = (sound d judged k reached m here).insts i inst sub.model own sub.named
 
   -- the first places of the nets among those that are driven pick what drives them
   pub nets_picked : (all : List LocalDriver) (picks : List ℕ) (driven : Driven) → Shows d k (model_locals d k) driven → all ≡ driven.locals.items → picks ≡ picks_among d k (firsts (texts driven.nets.items)) → ArePicked d k all picks

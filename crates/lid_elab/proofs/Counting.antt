@@ -13,8 +13,10 @@ use Rattle.lid_design.specs.Places.{model_nets}
 use Rattle.lid_hierarchy.specs.Surveys.{StandsAfterItsModels, IsModelOrder}
 use Rattle.lid_elab.specs.Numbers.{over_insts, size_of, offset_of}
 use Rattle.lid_elab.specs.Parts.{AreSizes, HasSizes}
-use Rattle.lid_elab.specs.Writing.{IsJudged}
-use Rattle.lid_elab.proofs.Judged.{shallow_of, few_columns, within}
+use Rattle.lid_wiring.specs.Judged.{IsJudged}
+use Rattle.lid_wiring.proofs.Limits.{few_columns}
+use Rattle.lid_wiring.proofs.Shallow.{shallow_of}
+use Rattle.lid_elab.proofs.Numbering.{within}
 use Rattle.lid_elab.proofs.Stacking.{size_sum}
 use Rattle.lid_hierarchy.proofs.Walks.{reached_below}
 

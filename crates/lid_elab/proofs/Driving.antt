@@ -12,13 +12,14 @@ use Rattle.lid_design.specs.declared.Inst.{Inst}
 use Rattle.lid_design.specs.declared.Bind.{Bind}
 use Rattle.lid_design.specs.Columns.{is_clock, data_inputs}
 use Rattle.lid_design.specs.Models.{is_clock_of, firsts, insts_of, number_named, instance_number, IsReached}
-use Rattle.lid_elab.specs.Locals.{Local, NetLocal, inputs_from, local_input, local_connection, local_of, output_of, outputs_of, locals}
+use Rattle.lid_wiring.specs.Locals.{Local, NetLocal, inputs_from, local_input, local_connection, local_of, output_of, outputs_of, locals}
 use Rattle.lid_elab.specs.Templates.{shown_local, numbered}
 use Rattle.lid_elab.specs.Parts.{net_of, numbered_local, Grows, Shows, data_of, output_sets}
-use Rattle.lid_elab.specs.Writing.{IsJudged, model_locals, model_inputs}
+use Rattle.lid_wiring.specs.Judged.{IsJudged}
+use Rattle.lid_elab.specs.Writing.{model_locals, model_inputs}
 use Rattle.lid_elab.specs.declared.driven.Driven.{Driven}
 use Rattle.lid_elab.specs.declared.template.LocalDriver.{LocalDriver}
-use Rattle.lid_elab.proofs.Clocking.{named_model}
+use Rattle.lid_wiring.proofs.Clocking.{named_model}
 use Rattle.lid_elab.proofs.Picking.{map_some}
 use Rattle.lid_elab.proofs.Outer.{get_of}
 use Rattle.lid_elab.proofs.Counting.{model_below}

@@ -10,12 +10,12 @@ use Rattle.lid_design.specs.Columns.{column}
 use Rattle.lid_design.specs.Models.{insts_of, instance_number, number_from, IsReached}
 use Rattle.lid_design.specs.Places.{model_nets, columns, places}
 use Rattle.lid_elab.specs.Numbers.{over_insts, size_of, offset_of, start_of, weight_of, IsSpot}
-use Rattle.lid_elab.specs.Writing.{IsJudged, AreTemplates}
+use Rattle.lid_wiring.specs.Judged.{IsJudged}
+use Rattle.lid_elab.specs.Writing.{AreTemplates}
 use Rattle.lid_elab.specs.declared.template.Template.{Template}
-use Rattle.lid_elab.proofs.Shallow.{IsShallow}
+use Rattle.lid_wiring.proofs.Shallow.{IsShallow}
 use Rattle.lid_elab.proofs.Numbering.{columns_length, starts_at}
 use Rattle.lid_elab.proofs.Stacking.{size_sum, weight_sum, over_more}
-use Rattle.lid_elab.proofs.Judged.{shallow_of}
 
 module _ (d : Design) where
   pub root_spot : (number : ℕ) → number < length (columns d) → IsSpot d [] d.root number number
@@ -96,4 +96,4 @@ offsets_are d ts all k reached t offsets same =
 
 -- the column of a net
 pub spot_column : (d : Design) → IsJudged d → (path : List ℕ) (k number total : ℕ) → IsSpot d path k number total → (net : List ℕ) → slice_get (model_nets d k) number ≡ Some net → slice_get (columns d) total ≡ Some (column path net)
-spot_column d judged path k number total is net here = ap (slice_get (columns d)) (sym is.sum) ∙ starts_at d (shallow_of d judged) path k number net is.leads here
+spot_column d judged path k number total is net here = ap (slice_get (columns d)) (sym is.sum) ∙ starts_at d judged path k number net is.leads here

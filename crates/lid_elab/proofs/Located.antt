@@ -13,7 +13,8 @@ use Rattle.lid_design.specs.Columns.{Column, column, is_clock}
 use Rattle.lid_design.specs.Models.{occurrences, firsts, nets, insts_of, number_named, instance_number, number_from, IsReached}
 use Rattle.lid_design.specs.Places.{place, places, model_nets, columns_at, columns}
 use Rattle.lid_elab.specs.Numbers.{over_insts, size_within, size_of, offset_of, start_of, columns_in}
-use Rattle.lid_elab.proofs.Shallow.{IsShallow, shallow_le}
+use Rattle.lid_wiring.specs.Judged.{IsJudged}
+use Rattle.lid_wiring.proofs.Shallow.{IsShallow, shallow_le, shallow_of}
 use Rattle.lid_elab.proofs.Numbering.{block, columns_step, columns_length, size_same, over_same, take_get, at_length}
 
 -- where an item of two joined lists stands
@@ -146,7 +147,7 @@ module _ (d : Design) where
           let last : suc (n + more) ≡ total = omega arith in
           by more (n + more) refl ∙ size_same d (n + more) k (shallow_le d n (n + more) k (omega arith) deep) ∙ ap (λ (x : ℕ). size_within x d k) last
 
-  module _ (shallow : (k : ℕ) → IsReached d k → IsShallow d (length d.models) k) where
+  module _ (judged : IsJudged d) where
     located_in : (n : ℕ) (path : List ℕ) (k : ℕ) → n ≤ length d.models → number_from d d.root path ≡ Some k → IsShallow d n k → (m : ℕ) (c : Column) → slice_get (columns_in n d path k) m ≡ Some c → Located d (start_of d path + m) c
     unfolding number_from start_of size_of
     located_in zero path k le leads none m c here = absurd none
@@ -176,7 +177,7 @@ module _ (d : Design) where
 
     pub located : (n : ℕ) (c : Column) → slice_get (columns d) n ≡ Some c → Located d n c
     unfolding columns places start_of number_from
-    located n c here = subst (λ (x : ℕ). Located d x c) (zero-add n) (located_in (length d.models) [] d.root (omega arith) refl (shallow d.root ([], refl)) n c here)
+    located n c here = subst (λ (x : ℕ). Located d x c) (zero-add n) (located_in (length d.models) [] d.root (omega arith) refl (shallow_of d judged d.root ([], refl)) n c here)
 
     -- each column has one number
     pub columns_once : (i j : ℕ) (c : Column) → slice_get (columns d) i ≡ Some c → slice_get (columns d) j ≡ Some c → i ≡ j

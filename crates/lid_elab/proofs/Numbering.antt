@@ -1,5 +1,5 @@
 -- Where the columns of a place stand among all columns.
-use Rattle.std.proofs.Common.{◌≡◌, ℕ, zero, suc, ◌+◌, List, [], ◌∷◌, ◌++◌, length, take, Option, Some, None, option_and_then, option_map, slice_get, refl, sym, ◌∙◌, ap, subst, arith, append_assoc, length-append, add-zero, zero-add}
+use Rattle.std.proofs.Common.{◌≡◌, ℕ, zero, suc, ◌+◌, List, [], ◌∷◌, ◌++◌, length, take, Option, Some, None, option_and_then, option_map, slice_get, refl, sym, ◌∙◌, ap, subst, arith, ◌≤◌, append_assoc, length-append, add-zero, zero-add}
 use Rattle.std.specs.Option.{option_map_or}
 use Rattle.std.specs.List.{flat_map, enumerate_from}
 use Rattle.std.proofs.lemmas.List.{length-map, append-nil}
@@ -13,7 +13,8 @@ use Rattle.lid_design.specs.Models.{insts_of, number_named, instance_number, num
 use Rattle.lid_design.specs.Places.{Place, place, places_in, places, model_nets, columns_at, columns}
 use Rattle.lid_elab.specs.Numbers.{over_insts, size_within, size_of, offset_of, start_of, columns_in, StandsAt}
 use Rattle.lid_elab.specs.Elaborations.{StartsAt}
-use Rattle.lid_elab.proofs.Shallow.{IsShallow}
+use Rattle.lid_wiring.specs.Judged.{IsJudged}
+use Rattle.lid_wiring.proofs.Shallow.{IsShallow, shallow_of}
 
 -- a part of a part
 pub stands_left : {A : Type 0} (whole : List A) (start : ℕ) (xs ys : List A) → StandsAt whole start (xs ++ ys) → StandsAt whole start xs
@@ -153,7 +154,7 @@ module _ (d : Design) where
   take_get (suc i) zero j (x ∷ insts) names = names
   take_get (suc i) (suc m) j (x ∷ insts) names = take_get i m j insts names
 
-  module _ (shallow : (k : ℕ) → IsReached d k → IsShallow d (length d.models) k) where
+  module _ (judged : IsJudged d) where
     abbrev Stands : List ℕ → ℕ → Type 0
     Stands path k = StandsAt (columns d) (start_of d path) (columns_in (length d.models) d path k)
 
@@ -163,9 +164,9 @@ module _ (d : Design) where
     sub_stands path k i j leads names stands = by (length d.models) refl
       where
         by : (n : ℕ) → length d.models ≡ n → Stands (i ∷ path) j
-        by zero e = absurd (subst (λ (n : ℕ). IsShallow d n k) e (shallow k (path, leads)))
+        by zero e = absurd (subst (λ (n : ℕ). IsShallow d n k) e (shallow_of d judged k (path, leads)))
         by (suc n) e =
-            let deep : IsShallow d (suc n) k = subst (λ (n : ℕ). IsShallow d n k) e (shallow k (path, leads)) in
+            let deep : IsShallow d (suc n) k = subst (λ (n : ℕ). IsShallow d n k) e (shallow_of d judged k (path, leads)) in
             let found = then_some (slice_get (insts_of d k) i) (λ inst. number_named d inst.model) j names in
             let around : StandsAt (columns d) (start_of d path) (columns_at d (place path k) ++ flat_map (block n path) (enumerate_from 0 (insts_of d k))) =
             subst (λ (cs : List Column). StandsAt (columns d) (start_of d path) cs) (ap (λ (m : ℕ). columns_in m d path k) e ∙ columns_step n path k) stands in
@@ -198,8 +199,20 @@ module _ (d : Design) where
         column-here = slice_get-map (column path) (model_nets d k) j ∙ ap (option_map (column path)) here
 
         by : (n : ℕ) → length d.models ≡ n → slice_get (columns d) (start_of d path + j) ≡ Some (column path net)
-        by zero e = absurd (subst (λ (n : ℕ). IsShallow d n k) e (shallow k (path, leads)))
+        by zero e = absurd (subst (λ (n : ℕ). IsShallow d n k) e (shallow_of d judged k (path, leads)))
         by (suc n) e =
             let around = subst (λ (cs : List Column). StandsAt (columns d) (start_of d path) cs) (ap (λ (m : ℕ). columns_in m d path k) e ∙ columns_step n path k) (numbering path k leads) in
             let own = stands_left (columns d) (start_of d path) (columns_at d (place path k)) (flat_map (block n path) (enumerate_from 0 (insts_of d k))) around in
             stands_get (columns d) (start_of d path) (columns_at d (place path k)) own j (column path net) column-here
+
+    -- the columns of a place and of the places in it are among all
+    pub within : (path : List ℕ) (k : ℕ) → number_from d d.root path ≡ Some k → start_of d path + size_of d k ≤ length (columns d)
+    unfolding size_of
+    within path k leads =
+        let stands = numbering path k leads in
+        let part = columns_in (length d.models) d path k in
+        let size = columns_length (length d.models) path k in
+        let whole : length (columns d) ≡ length stands.before + (length part + length stands.after) =
+        ap length stands.parts ∙ length-append stands.before (part ++ stands.after) ∙ ap (λ (n : ℕ). length stands.before + n) (length-append part stands.after) in
+        let first = stands.long in
+        omega arith

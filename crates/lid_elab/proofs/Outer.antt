@@ -14,16 +14,17 @@ use Rattle.lid_design.specs.Columns.{Column, column}
 use Rattle.lid_design.specs.Models.{nets, insts_of, instance_number, number_named, number_from, IsReached}
 use Rattle.lid_design.specs.Places.{model_nets, columns}
 use Rattle.lid_elab.specs.Numbers.{start_of}
-use Rattle.lid_elab.specs.Locals.{locals, actual_for, of_net}
+use Rattle.lid_wiring.specs.Locals.{locals, actual_for, of_net}
 use Rattle.lid_elab.specs.Templates.{shown_local, place_in, placed, IsSmall}
-use Rattle.lid_elab.specs.Writing.{IsJudged, IsRight, AreWritten, model_inputs, IsPicked, IsTemplate, AreTemplates, IsAround, IsAt, IsOuter, picked, IsSmallAt}
+use Rattle.lid_wiring.specs.Judged.{IsJudged}
+use Rattle.lid_elab.specs.Writing.{IsRight, AreWritten, model_inputs, IsPicked, IsTemplate, AreTemplates, IsAround, IsAt, IsOuter, picked, IsSmallAt}
 use Rattle.lid_elab.specs.declared.template.LocalDriver.{LocalDriver}
 use Rattle.lid_elab.specs.declared.template.Template.{Template}
 use Rattle.lid_elab.specs.declared.writing.Place.{Place}
 use Rattle.lid_elab.specs.declared.writing.Around.{Around}
 use Rattle.lid_elab.proofs.Numbering.{starts_at}
 use Rattle.lid_elab.proofs.Located.{get_split}
-use Rattle.lid_elab.proofs.Judged.{shallow_of, few_columns}
+use Rattle.lid_wiring.proofs.Limits.{few_columns}
 use Rattle.lid_elab.proofs.Placing.{FitsAround, at_root, in_inst, net_right, net_small}
 
 -- the place around an instance by its template
@@ -59,11 +60,11 @@ outer_inst d ts all path p a at is =
     }
 
 -- what stands around fits
-pub fits : (d : Design) (path : List ℕ) (k : ℕ) (around : Option (ℕ × List ℕ)) → (judged : IsJudged d) → IsOuter d path k around → FitsAround d judged.formed judged.order judged.ordered judged.known judged.pass (shallow_of d judged) k path around
+pub fits : (d : Design) (path : List ℕ) (k : ℕ) (around : Option (ℕ × List ℕ)) → (judged : IsJudged d) → IsOuter d path k around → FitsAround d judged k path around
 fits d path k None judged outer = at_root outer
 fits d path k (Some around) judged (up, i, body, inst, is_path, leads, at, start, each) = by (slice_get d.models body) refl at
   where
-    by : (o : Option Model) → slice_get d.models body ≡ o → slice_get (option_map_or (λ m. m.insts) o []) i ≡ Some inst → FitsAround d judged.formed judged.order judged.ordered judged.known judged.pass (shallow_of d judged) k path (Some around)
+    by : (o : Option Model) → slice_get d.models body ≡ o → slice_get (option_map_or (λ m. m.insts) o []) i ≡ Some inst → FitsAround d judged k path (Some around)
     by None e none = absurd (let f : None ≡ Some inst = none in cc)
     by (Some m) e here = in_inst around.0 around.1 (record { up = up; i = i; around = body; body = m; inst = inst; is_path = is_path; leads = leads; there = e; at = here; is_start = start; each = each })
 
@@ -101,8 +102,8 @@ module _ (d : Design) (judged : IsJudged d) (path : List ℕ) (k : ℕ) (leads :
           let one : of_net net (locals d m) ≡ p.local ∷ [] = ap (λ (o : Option Model). of_net net (option_map_or (locals d) o [])) (sym e) ∙ p.only in
           let insts : length t.offsets ≡ length m.insts = is.few ∙ ap (λ (o : Option Model). length (option_map_or (λ m. m.insts) o [])) e in
           let fit = fits d path k around judged outer in
-          let right = net_right d judged.formed judged.order judged.ordered judged.known judged.pass (shallow_of d judged) path k m leads e t.offsets is.offset insts around fit net among p.local one in
-          let small = net_small d judged.formed judged.order judged.ordered judged.known judged.pass (shallow_of d judged) path k m leads e t.offsets is.offset insts (few_columns d judged) around fit net p.local one in
+          let right = net_right d judged path k m leads e t.offsets is.offset insts around fit net among p.local one in
+          let small = net_small d judged path k m leads e t.offsets is.offset insts (few_columns d judged) around fit net p.local one in
           record {
             right = subst (IsRight d (column path net)) (ap (placed (start_of d path) t.offsets around) (sym p.shown) ∙ sym (ap driver p.here)) right;
             small = subst (IsSmallAt t.offsets around) (sym p.here) (subst (IsSmall t.offsets around) (sym p.shown) small);
@@ -132,7 +133,7 @@ module _ (d : Design) (judged : IsJudged d) (path : List ℕ) (k : ℕ) (leads :
       by (inr (j, sum, later)) =
           let found = some_of_map driver (slice_get t.picks j) s (sym (slice_get-map driver t.picks j) ∙ later) in
           let named = get_of (model_nets d k) j (let l = is.long in let w = slice_get_within t.picks j found.0 found.1 in omega arith) in
-          let column_here = starts_at d (shallow_of d judged) path k j named.0 leads named.1 in
+          let column_here = starts_at d judged path k j named.0 leads named.1 in
           let number : n ≡ start_of d path + j = omega arith in
           let same_column : column path named.0 ≡ c = (let f : Some (column path named.0) ≡ Some c = sym column_here ∙ ap (slice_get (columns d)) (sym number) ∙ at in cc) in
           subst (λ (x : Column). IsRight d x s) same_column (subst (IsRight d (column path named.0)) found.2 (at_net j found.0 named.0 found.1 named.1).right)

@@ -11,24 +11,21 @@ use Rattle.lid_cover.specs.declared.Cover.{Cover}
 use Rattle.lid_design.specs.declared.Design.{Design}
 use Rattle.lid_design.specs.declared.Model.{Model}
 use Rattle.lid_design.specs.declared.Inst.{Inst}
-use Rattle.lid_design.specs.WellFormed.{IsWellFormed}
 use Rattle.lid_design.specs.Network.{Driver, from_latch, from_cover, from_connection}
 use Rattle.lid_design.specs.Columns.{Column, column, data_inputs, drivers}
 use Rattle.lid_design.specs.Walks.{read_now, read_before}
 use Rattle.lid_design.specs.Models.{nets, insts_of, instance_number, number_named, number_from, IsReached}
 use Rattle.lid_design.specs.Places.{model_nets, columns}
-use Rattle.lid_rules.specs.Acceptance.{ModelsPass}
-use Rattle.lid_hierarchy.specs.Surveys.{IsModelOrder, AreKnown}
 use Rattle.lid_elab.specs.Elaborations.{map_driver, column_at}
 use Rattle.lid_elab.specs.Numbers.{offset_of, start_of}
-use Rattle.lid_elab.specs.Locals.{Local, local_input, local_latch, local_cover, local_connection, locals, of_net, actual_for, driver_at, driver_in}
+use Rattle.lid_wiring.specs.Locals.{Local, local_input, local_latch, local_cover, local_connection, locals, of_net, actual_for, driver_at, driver_in}
 use Rattle.lid_elab.specs.Templates.{place_in, numbered, placed, IsSmall}
 use Rattle.lid_elab.specs.Writing.{IsRight, model_inputs}
-use Rattle.lid_elab.proofs.Clocking.{named_model}
-use Rattle.lid_elab.proofs.Shallow.{IsShallow}
+use Rattle.lid_wiring.proofs.Clocking.{named_model}
+use Rattle.lid_wiring.specs.Judged.{IsJudged}
 use Rattle.lid_elab.proofs.Numbering.{starts_at}
-use Rattle.lid_elab.proofs.Wired.{Sub}
-use Rattle.lid_elab.proofs.Single.{IsWiredLocal, wired_input, wired_latch, wired_cover, wired_output, wired_local, of_net_among, root_driven, inst_driven, actual_net}
+use Rattle.lid_wiring.proofs.Wired.{Sub}
+use Rattle.lid_wiring.proofs.Single.{IsWiredLocal, wired_input, wired_latch, wired_cover, wired_output, wired_local, of_net_among, root_driven, inst_driven, actual_net}
 
 -- a name stands at its place
 pub position_get : (net : List ℕ) (names : List (List ℕ)) → Among net names → slice_get names (position_or_len (bytes_eq net) names) ≡ Some net
@@ -40,7 +37,7 @@ position_get net (x ∷ names) among = by (bytes_eq net x) refl among (position_
     by false e (inl eq) later = absurd (let f : true ≡ false = sym (bytes_same net x eq) ∙ e in cc)
     by false e (inr rest) later = ap (slice_get (x ∷ names)) (one-add (prefix_len (λ y. not (bytes_eq net y)) names)) ∙ later rest
 
-module _ (d : Design) (formed : IsWellFormed d) (order : List ℕ) (ordered : IsModelOrder d order) (known : AreKnown d) (pass : ModelsPass d) (shallow : (k : ℕ) → IsReached d k → IsShallow d (length d.models) k) where
+module _ (d : Design) (judged : IsJudged d) where
   -- a column by the place of its net
   abbrev HasNumber : ℕ → Column → Type 0
   HasNumber n c = (column_at d n ≡ c) × (n < length (columns d))
@@ -48,7 +45,7 @@ module _ (d : Design) (formed : IsWellFormed d) (order : List ℕ) (ordered : Is
   number_of : (path : List ℕ) (k : ℕ) (m : Model) → number_from d d.root path ≡ Some k → slice_get d.models k ≡ Some m → (net : List ℕ) → Among net (nets d m) → HasNumber (start_of d path + place_in d k net) (column path net)
   number_of path k m leads here net among =
       let names : model_nets d k ≡ nets d m = ap (λ (o : Option Model). option_map_or (nets d) o []) here in
-      let at = starts_at d shallow path k (place_in d k net) net leads (position_get net (model_nets d k) (subst (Among net) (sym names) among)) in
+      let at = starts_at d judged path k (place_in d k net) net leads (position_get net (model_nets d k) (subst (Among net) (sym names) among)) in
       (get_or_from_slice_get (columns d) (start_of d path + place_in d k net) (column path net) (column [] []) at, slice_get_within (columns d) (start_of d path + place_in d k net) (column path net) at)
 
   cover_columns : (path : List ℕ) (k : ℕ) (m : Model) → number_from d d.root path ≡ Some k → slice_get d.models k ≡ Some m → (ns : List (List ℕ)) → ((n : List ℕ) → Among n ns → Among n (nets d m)) → (map (column_at d) (map (λ net. start_of d path + net) (map (place_in d k) ns)) ≡ map (column path) ns) × AllByRecursion (λ a. a < length (columns d)) (map (λ net. start_of d path + net) (map (place_in d k) ns) ++ [])
@@ -128,7 +125,7 @@ module _ (d : Design) (formed : IsWellFormed d) (order : List ℕ) (ordered : Is
     root_case : path ≡ [] → (net : List ℕ) → Among net (nets d m) → (l : Local (List ℕ)) → of_net net (locals d m) ≡ l ∷ [] → drivers d (column path net) ≡ driver_at path l ∷ []
     root_case root net among l one =
         subst (λ (p : List ℕ). number_from d d.root p ≡ Some k → drivers d (column p net) ≡ driver_at p l ∷ []) (sym root)
-        (λ leads. root_driven d formed order ordered known pass k reached m here leads net among l one) leads
+        (λ leads. root_driven d judged k reached m here leads net among l one) leads
 
     inst_leads : (start : ℕ) (actuals : List ℕ) (w : InInst k path start actuals) → number_from d d.root (w.i ∷ w.up) ≡ Some k
     inst_leads start actuals w = ap (number_from d d.root) (sym w.is_path) ∙ leads
@@ -148,7 +145,7 @@ module _ (d : Design) (formed : IsWellFormed d) (order : List ℕ) (ordered : Is
     unfolding inst_sub
     inst_case start actuals w net among l one =
         ap (λ (p : List ℕ). drivers d (column p net)) w.is_path
-        ∙ inst_driven d formed order ordered known pass w.around (w.up, w.leads) w.body w.there w.i w.inst w.at (inst_sub start actuals w) w.up w.leads (inst_leads start actuals w) net among l one
+        ∙ inst_driven d judged w.around (w.up, w.leads) w.body w.there w.i w.inst w.at (inst_sub start actuals w) w.up w.leads (inst_leads start actuals w) net among l one
 
     -- what reads inside the place or in its instances is right
     right_seen : (around : Option (ℕ × List ℕ)) → FitsAround k path around → (net : List ℕ) → Among net (nets d m) → (l : Local (List ℕ)) → of_net net (locals d m) ≡ l ∷ [] → (driver : Driver ℕ) → Seen l driver → ((up : List ℕ) (i : ℕ) (inst : Inst) → path ≡ i ∷ up → driver_in up i inst (data_inputs d m) l ≡ driver_at (i ∷ up) l) → IsRight d (column path net) driver
@@ -172,7 +169,7 @@ module _ (d : Design) (formed : IsWellFormed d) (order : List ℕ) (ordered : Is
         (ap (λ (ns : List ℕ). slice_get ns j) (w.each ∙ ap (map (λ formal. place_in d w.around (actual_for w.inst formal))) inputs)
         ∙ slice_get-map (λ formal. place_in d w.around (actual_for w.inst formal)) (data_inputs d m) j
         ∙ ap (option_map (λ formal. place_in d w.around (actual_for w.inst formal))) input) in
-        let is_net = actual_net d formed order ordered known pass w.around (w.up, w.leads) w.body w.there w.i w.inst w.at (inst_sub start actuals w) net (get_among (data_inputs d m) j net input) in
+        let is_net = actual_net d judged w.around (w.up, w.leads) w.body w.there w.i w.inst w.at (inst_sub start actuals w) net (get_among (data_inputs d m) j net input) in
         let n = number_of w.up w.around w.body w.leads w.there (actual_for w.inst net) is_net in
         let whole : start_of d w.up + place_in d w.around (actual_for w.inst net) ≡ start + slice_index actuals j = (let a = w.is_start in omega arith) in
         let moved : HasNumber (start + slice_index actuals j) (column w.up (actual_for w.inst net)) = subst (λ (x : ℕ). HasNumber x (column w.up (actual_for w.inst net))) whole n in
@@ -182,7 +179,7 @@ module _ (d : Design) (formed : IsWellFormed d) (order : List ℕ) (ordered : Is
         }
 
     -- what is placed for the one driver of a net is right
-    pub wired_right : (around : Option (ℕ × List ℕ)) → FitsAround k path around → (net : List ℕ) → Among net (nets d m) → (l : Local (List ℕ)) → of_net net (locals d m) ≡ l ∷ [] → IsWiredLocal d formed order ordered known pass m net l → IsRight d (column path net) (placed (start_of d path) offsets around (numbered d k l))
+    pub wired_right : (around : Option (ℕ × List ℕ)) → FitsAround k path around → (net : List ℕ) → Among net (nets d m) → (l : Local (List ℕ)) → of_net net (locals d m) ≡ l ∷ [] → IsWiredLocal d judged m net l → IsRight d (column path net) (placed (start_of d path) offsets around (numbered d k l))
     wired_right around fits net among _ one (wired_input j input) = right_input around fits net among j input one
     wired_right None fits net among _ one (wired_latch first input is) = right_seen None fits net among (local_latch first input) one _ (seen_latch first input is) (λ up i inst e. refl)
     wired_right (Some a) fits net among _ one (wired_latch first input is) = right_seen (Some a) fits net among (local_latch first input) one _ (seen_latch first input is) (λ up i inst e. refl)
@@ -193,7 +190,7 @@ module _ (d : Design) (formed : IsWellFormed d) (order : List ℕ) (ordered : Is
 
     pub net_right : (around : Option (ℕ × List ℕ)) → FitsAround k path around → (net : List ℕ) → Among net (nets d m) → (l : Local (List ℕ)) → of_net net (locals d m) ≡ l ∷ [] → IsRight d (column path net) (placed (start_of d path) offsets around (numbered d k l))
     net_right around fits net among l one =
-        wired_right around fits net among l one (wired_local d formed order ordered known pass k reached m here net l (of_net_among net (locals d m) l (subst (λ (ls : List (Local (List ℕ))). Among l ls) (sym one) (inl refl))))
+        wired_right around fits net among l one (wired_local d judged k reached m here net l (of_net_among net (locals d m) l (subst (λ (ls : List (Local (List ℕ))). Among l ls) (sym one) (inl refl))))
 
     -- all numbers are small
     module _ (most : length (columns d) ≤ 1048576) where
@@ -227,14 +224,14 @@ module _ (d : Design) (formed : IsWellFormed d) (order : List ℕ) (ordered : Is
           ∙ slice_get-map (λ formal. place_in d w.around (actual_for w.inst formal)) (data_inputs d m) j
           ∙ ap (option_map (λ formal. place_in d w.around (actual_for w.inst formal))) input) in
           let number : slice_index actuals j ≡ place_in d w.around (actual_for w.inst net) = get_or_from_slice_get actuals j (place_in d w.around (actual_for w.inst net)) 0 at_j in
-          let is_net = actual_net d formed order ordered known pass w.around (w.up, w.leads) w.body w.there w.i w.inst w.at (inst_sub start actuals w) net (get_among (data_inputs d m) j net input) in
+          let is_net = actual_net d judged w.around (w.up, w.leads) w.body w.there w.i w.inst w.at (inst_sub start actuals w) net (get_among (data_inputs d m) j net input) in
           let n = (number_of w.up w.around w.body w.leads w.there (actual_for w.inst net) is_net).1 in
           let first = w.is_start in
           let a : start ≤ 1048576 = omega arith in
           let b : slice_index actuals j ≤ 1048576 = omega arith in
           (a, slice_get_within actuals j (place_in d w.around (actual_for w.inst net)) at_j, b)
 
-      small_wired : (around : Option (ℕ × List ℕ)) → FitsAround k path around → (net : List ℕ) (l : Local (List ℕ)) → IsWiredLocal d formed order ordered known pass m net l → IsSmall offsets around (numbered d k l)
+      small_wired : (around : Option (ℕ × List ℕ)) → FitsAround k path around → (net : List ℕ) (l : Local (List ℕ)) → IsWiredLocal d judged m net l → IsSmall offsets around (numbered d k l)
       unfolding start_of number_from
       small_wired around fits net _ (wired_input j input) = small_input around fits net j input
       small_wired around fits net _ (wired_latch first input is) = small_latch around first (place_in d k input) (small_net input is)
@@ -245,4 +242,4 @@ module _ (d : Design) (formed : IsWellFormed d) (order : List ℕ) (ordered : Is
           small_output around i (option_map_or (λ j. place_in d j formal) (instance_number d i k) 0) below (omega arith) (omega arith)
 
       pub net_small : (around : Option (ℕ × List ℕ)) → FitsAround k path around → (net : List ℕ) (l : Local (List ℕ)) → of_net net (locals d m) ≡ l ∷ [] → IsSmall offsets around (numbered d k l)
-      net_small around fits net l one = small_wired around fits net l (wired_local d formed order ordered known pass k reached m here net l (of_net_among net (locals d m) l (subst (λ (ls : List (Local (List ℕ))). Among l ls) (sym one) (inl refl))))
+      net_small around fits net l one = small_wired around fits net l (wired_local d judged k reached m here net l (of_net_among net (locals d m) l (subst (λ (ls : List (Local (List ℕ))). Among l ls) (sym one) (inl refl))))

@@ -12,7 +12,7 @@ use Rattle.lid_design.specs.Places.{model_nets, columns, places}
 use Rattle.lid_elab.specs.Numbers.{over_insts, size_within, size_of, offset_of, start_of, weight_within, weight_of}
 use Rattle.lid_elab.specs.Writing.{IsAt, AreNext, weights}
 use Rattle.lid_elab.specs.declared.writing.Place.{Place}
-use Rattle.lid_elab.proofs.Shallow.{IsShallow}
+use Rattle.lid_wiring.proofs.Shallow.{IsShallow}
 use Rattle.lid_elab.proofs.Numbering.{over_same, size_same, columns_length}
 
 module _ (d : Design) where

@@ -10,11 +10,11 @@ use Rattle.lid_design.specs.Models.{insts_of, number_from, IsReached}
 use Rattle.lid_design.specs.Places.{columns}
 use Rattle.lid_elab.specs.Elaborations.{IsElaborated, IsDrivenBy, StartsAt}
 use Rattle.lid_elab.specs.Numbers.{offset_of, start_of}
-use Rattle.lid_elab.specs.Writing.{IsJudged, AreWritten}
+use Rattle.lid_wiring.specs.Judged.{IsJudged}
+use Rattle.lid_elab.specs.Writing.{AreWritten}
 use Rattle.lid_elab.proofs.Numbering.{starts_at}
 use Rattle.lid_elab.proofs.Located.{columns_once}
 use Rattle.lid_elab.proofs.Every.{driven_column}
-use Rattle.lid_elab.proofs.Judged.{shallow_of}
 use Rattle.lid_elab.proofs.Outer.{get_of}
 
 pub elaborated : (d : Design) → IsJudged d → (network : List (Driver ℕ)) (starts : List ℕ) → AreWritten d network → length network ≡ length (columns d) → length starts ≡ length (insts_of d d.root) → ((i o : ℕ) → slice_get starts i ≡ Some o → o ≡ offset_of d d.root i) → IsElaborated d network starts
@@ -22,13 +22,13 @@ unfolding start_of number_from
 elaborated d judged network starts written whole few offset = record {
   whole = whole;
   each = driven;
-  every = driven_column d judged.formed judged.order judged.ordered judged.known judged.pass (shallow_of d judged);
-  once = columns_once d (shallow_of d judged);
-  root = starts_at d (shallow_of d judged) [];
+  every = driven_column d judged;
+  once = columns_once d judged;
+  root = starts_at d judged [];
   insts = few;
   start = λ i start here.
       let first : start_of d (i ∷ []) ≡ start = zero-add (offset_of d d.root i) ∙ sym (offset i start here) in
-      subst (StartsAt d (i ∷ [])) first (starts_at d (shallow_of d judged) (i ∷ []));
+      subst (StartsAt d (i ∷ [])) first (starts_at d judged (i ∷ []));
 }
   where
     driven : (k : ℕ) (c : Column) → slice_get (columns d) k ≡ Some c → IsDrivenBy d network k c

@@ -11,7 +11,7 @@ use Rattle.lid_design.specs.Models.{firsts, number_named, instance_number, is_cl
 use Rattle.lid_design.specs.Places.{model_nets}
 use Rattle.lid_names.specs.Names.{texts}
 use Rattle.lid_elab.specs.Numbers.{size_of}
-use Rattle.lid_elab.specs.Locals.{Local, NetLocal, actual_for}
+use Rattle.lid_wiring.specs.Locals.{Local, NetLocal, actual_for}
 use Rattle.lid_elab.specs.Templates.{shown_local, place_in, numbered}
 use Rattle.lid_elab.specs.Writing.{model_inputs}
 use Rattle.lid_elab.specs.declared.driven.Driven.{Driven}

@@ -14,20 +14,12 @@ use Rattle.lid_hierarchy.specs.Surveys.{IsModelOrder, AreKnown}
 use Rattle.lid_rules.specs.Acceptance.{ModelsPass}
 use Rattle.lid_elab.specs.Elaborations.{map_driver, column_at}
 use Rattle.lid_elab.specs.Numbers.{size_of, offset_of, start_of, weight_of}
-use Rattle.lid_elab.specs.Locals.{Local, NetLocal, locals, of_net, actual_for}
+use Rattle.lid_wiring.specs.Locals.{Local, NetLocal, locals, of_net, actual_for}
 use Rattle.lid_elab.specs.Templates.{shown_local, place_in, numbered, placed, IsSmall}
 use Rattle.lid_elab.specs.declared.template.LocalDriver.{LocalDriver}
 use Rattle.lid_elab.specs.declared.template.Template.{Template}
 use Rattle.lid_elab.specs.declared.writing.Place.{Place}
 use Rattle.lid_elab.specs.declared.writing.Around.{Around}
-
--- what is known of a design whose columns are numbered
-pub record IsJudged (d : Design) : Type 0 where
-  pub formed : IsWellFormed d
-  pub order : List ℕ
-  pub ordered : IsModelOrder d order
-  pub known : AreKnown d
-  pub pass : ModelsPass d
 
 -- a driver is the one driver of a column
 pub record IsRight (d : Design) (c : Column) (driver : Driver ℕ) : Type 0 where
@@ -37,12 +29,6 @@ pub record IsRight (d : Design) (c : Column) (driver : Driver ℕ) : Type 0 wher
 -- the network are those of the first columns
 abbrev pub AreWritten : Design → List (Driver ℕ) → Type 0
 AreWritten d network = (n : ℕ) (c : Column) (driver : Driver ℕ) → slice_get (columns d) n ≡ Some c → slice_get network n ≡ Some driver → IsRight d c driver
-
-abbrev pub model_locals : Design → ℕ → List NetLocal
-model_locals d k = option_map_or (locals d) (slice_get d.models k) []
-
-abbrev pub model_inputs : Design → ℕ → List (List ℕ)
-model_inputs d k = option_map_or (data_inputs d) (slice_get d.models k) []
 
 -- what drives a net of a model, by the list of all that drive nets of it
 pub record IsPicked (d : Design) (k : ℕ) (all : List LocalDriver) (pick : ℕ) (net : List ℕ) : Type 0 where

@@ -1,7 +1,8 @@
 ghost use Rattle.std.specs.Prelude.{◌≡◌, ◌≤◌, length, map, IfOk};
 ghost use Rattle.lid_rules.specs.Acceptance.{ModelsPass};
 ghost use Rattle.lid_elab.specs.Elaborations.{shown_driver, IsElaborated};
-ghost use Rattle.lid_elab.specs.Writing.{IsJudged, AreTemplates};
+ghost use Rattle.lid_wiring.specs.Judged.{IsJudged};
+ghost use Rattle.lid_elab.specs.Writing.{AreTemplates};
 
 use crate::driver::ColumnDriver;
 use crate::template::{Template, find_templates};

@@ -6,7 +6,8 @@ ghost use Rattle.lid_design.specs.Models.{IsReached, instance_number};
 ghost use Rattle.lid_design.specs.Places.{columns, model_nets};
 ghost use Rattle.lid_rules.specs.Acceptance.{ModelsPass};
 ghost use Rattle.lid_elab.specs.Numbers.{size_of, offset_of, IsSpot};
-ghost use Rattle.lid_elab.specs.Writing.{IsJudged, AreTemplates};
+ghost use Rattle.lid_wiring.specs.Judged.{IsJudged};
+ghost use Rattle.lid_elab.specs.Writing.{AreTemplates};
 
 use crate::elaboration::judge;
 use crate::template::{Template, find_templates};

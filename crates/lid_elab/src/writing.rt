@@ -5,7 +5,8 @@ ghost use Rattle.lid_design.specs.Places.{model_nets, columns};
 ghost use Rattle.lid_elab.specs.Numbers.{over_insts, size_of, offset_of, weight_of};
 ghost use Rattle.lid_elab.specs.Elaborations.{shown_driver};
 ghost use Rattle.lid_elab.specs.Templates.{seen_around};
-ghost use Rattle.lid_elab.specs.Writing.{picked, IsSmallAt, IsJudged, AreTemplates, AreWritten, AreNext, IsAt, IsOuter, weights};
+ghost use Rattle.lid_wiring.specs.Judged.{IsJudged};
+ghost use Rattle.lid_elab.specs.Writing.{picked, IsSmallAt, AreTemplates, AreWritten, AreNext, IsAt, IsOuter, weights};
 
 use crate::driver::ColumnDriver;
 use crate::template::{LocalDriver, Template, place_driver};

@@ -20,14 +20,14 @@ use Rattle.lid_rules.specs.Acceptance.{ModelsPass, fault_before_recursion}
 use Rattle.lid_rules.proofs.Passing.{known_by}
 use Rattle.lid_elab.specs.Elaborations.{map_driver, column_at}
 use Rattle.lid_elab.specs.Numbers.{offset_of, start_of}
-use Rattle.lid_elab.specs.Locals.{actual_for}
+use Rattle.lid_wiring.specs.Locals.{actual_for}
 use Rattle.lid_elab.specs.Templates.{place_in, numbered, placed}
-use Rattle.lid_elab.specs.Writing.{IsJudged, IsRight, model_inputs, IsOuter}
-use Rattle.lid_elab.proofs.Passing.{or_none}
+use Rattle.lid_wiring.specs.Judged.{IsJudged}
+use Rattle.lid_elab.specs.Writing.{IsRight, model_inputs, IsOuter}
+use Rattle.lid_wiring.proofs.Passing.{or_none}
 use Rattle.lid_elab.proofs.Located.{Located, located}
-use Rattle.lid_elab.proofs.Judged.{shallow_of}
 use Rattle.lid_elab.proofs.Outer.{fits}
-use Rattle.lid_elab.proofs.Single.{exactly_one}
+use Rattle.lid_wiring.proofs.Single.{exactly_one}
 use Rattle.lid_elab.proofs.Placing.{net_right}
 use Rattle.lid_elab.proofs.Every.{driven_column}
 use Rattle.lid_strict.proofs.Descent.{walks_end}
@@ -75,18 +75,18 @@ module _ (d : Design) (judged : IsJudged d) where
 
   -- each column has one driver
   right_at : (n : ℕ) (c : Column) → slice_get (columns d) n ≡ Some c → (s : Driver ℕ) × IsRight d c s
-  right_at n c here = by (located d (shallow_of d judged) n c here)
+  right_at n c here = by (located d judged n c here)
     where
       in_model : (at : Located d n c) (o : Option Model) → slice_get d.models at.model ≡ o → (s : Driver ℕ) × IsRight d c s
       in_model at None e = absurd (let none : None ≡ Some c.net = ap (λ (o : Option Model). slice_get (option_map_or (nets d) o []) at.net) (sym e) ∙ at.here in cc)
       in_model at (Some m) e =
           let names : model_nets d at.model ≡ nets d m = ap (λ (o : Option Model). option_map_or (nets d) o []) e in
           let among = get_among (nets d m) at.net c.net (ap (λ (ns : List (List ℕ)). slice_get ns at.net) (sym names) ∙ at.here) in
-          let one = exactly_one d judged.formed judged.order judged.ordered judged.known judged.pass at.model (c.path, at.leads) m e c.net among in
+          let one = exactly_one d judged at.model (c.path, at.leads) m e c.net among in
           let around = around_at c.path at.model at.leads in
           let count = length m.insts in (
             placed (start_of d c.path) (from_each (offset_of d at.model) 0 count) around.0 (numbered d at.model one.0),
-            net_right d judged.formed judged.order judged.ordered judged.known judged.pass (shallow_of d judged) c.path at.model m at.leads e (from_each (offset_of d at.model) 0 count)
+            net_right d judged c.path at.model m at.leads e (from_each (offset_of d at.model) 0 count)
                 (λ i o is. from_each_at (offset_of d at.model) 0 count i o is ∙ ap (offset_of d at.model) (zero-add i))
                 (from_each_long (offset_of d at.model) 0 count)
                 around.0 (fits d c.path at.model around.0 judged around.1) c.net among one.0 one.1,
@@ -104,7 +104,7 @@ module _ (d : Design) (judged : IsJudged d) where
       subst (λ (ss : List (Driver Column)). 0 < length ss) (sym right.1.only) (omega arith)
 
   pub column_of : (c : Column) → IsDriven (drivers d) c → Among c (columns d)
-  column_of = driven_column d judged.formed judged.order judged.ordered judged.known judged.pass (shallow_of d judged)
+  column_of = driven_column d judged
 
   driven_once : IsDrivenOnce (drivers d)
   driven_once c = by (drivers d c) refl

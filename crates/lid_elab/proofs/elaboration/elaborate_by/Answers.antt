@@ -3,7 +3,7 @@ use Rattle.std.proofs.lemmas.List.{length-map}
 use Rattle.lid_design.proofs.Reached.{root_reached}
 use Rattle.lid_design.specs.declared.Design.{Design}
 use Rattle.lid_elab.specs.Elaborations.{shown_driver}
-use Rattle.lid_elab.proofs.Judged.{few_columns}
+use Rattle.lid_wiring.proofs.Limits.{few_columns}
 use Rattle.lid_elab.proofs.Outer.{template_at, template_within}
 use Rattle.lid_elab.proofs.Whole.{elaborated}
 use Rattle.lid_elab.proofs.elaboration.elaborate_by.Goals as goal

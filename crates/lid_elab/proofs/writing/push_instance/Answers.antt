@@ -2,7 +2,8 @@ use Rattle.std.proofs.Common.{◌≡◌, ◌+◌, ◌∷◌, Some, get_or, sym, 
 use Rattle.std.proofs.lemmas.Option.{slice_get-get_or}
 use Rattle.lid_design.specs.Models.{instance_number}
 use Rattle.lid_elab.specs.Numbers.{size_of, offset_of, weight_of}
-use Rattle.lid_elab.proofs.Judged.{few_columns, within}
+use Rattle.lid_wiring.proofs.Limits.{few_columns}
+use Rattle.lid_elab.proofs.Numbering.{within}
 use Rattle.lid_elab.proofs.Stacking.{over_more, inst_at, next_pushed, weight_pushed}
 use Rattle.lid_elab.proofs.writing.push_instance.Goals as goal
 

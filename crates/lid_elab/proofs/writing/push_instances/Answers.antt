@@ -5,7 +5,7 @@ use Rattle.lid_design.specs.Models.{insts_of}
 use Rattle.lid_design.specs.Places.{model_nets}
 use Rattle.lid_elab.specs.Numbers.{over_insts, size_of, offset_of, weight_of}
 use Rattle.lid_elab.specs.Writing.{AreNext, weights}
-use Rattle.lid_elab.proofs.Judged.{shallow_of}
+use Rattle.lid_wiring.proofs.Shallow.{shallow_of}
 use Rattle.lid_elab.proofs.Stacking.{size_sum, weight_sum}
 use Rattle.lid_elab.proofs.writing.push_instances.Goals as goal
 

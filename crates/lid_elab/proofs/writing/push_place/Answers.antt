@@ -8,7 +8,8 @@ use Rattle.lid_elab.specs.Numbers.{start_of}
 use Rattle.lid_elab.specs.Templates.{seen_around}
 use Rattle.lid_elab.specs.Writing.{picked, IsSmallAt}
 use Rattle.lid_elab.specs.declared.template.LocalDriver.{LocalDriver}
-use Rattle.lid_elab.proofs.Judged.{few_columns, within}
+use Rattle.lid_wiring.proofs.Limits.{few_columns}
+use Rattle.lid_elab.proofs.Numbering.{within}
 use Rattle.lid_elab.proofs.Outer.{picks_within, picks_small, written_more, same_network, on_ok, lengths, template_at, template_within}
 use Rattle.lid_elab.proofs.writing.push_place.Goals as goal
 

@@ -3,7 +3,8 @@ use Rattle.std.proofs.Common.{◌≡◌, ℕ, zero, suc, ◌+◌, ◌≤◌, Lis
 use Rattle.lid_base.specs.Lists.{Among}
 use Rattle.lid_design.specs.declared.Design.{Design}
 use Rattle.lid_design.specs.Models.{instance_number, IsReached}
-use Rattle.lid_hierarchy.specs.Surveys.{StandsAfterItsModels, IsModelOrder}
+use Rattle.lid_hierarchy.specs.Surveys.{StandsAfterItsModels}
+use Rattle.lid_wiring.specs.Judged.{IsJudged}
 
 -- each chain of instances from a model has fewer than so many steps
 abbrev pub IsShallow : Design → ℕ → ℕ → Type 0
@@ -33,6 +34,6 @@ module _ (d : Design) where
       by y (inr here) = shallow_next (length found) y (shallow y here)
 
   -- no chain of instances from a reached model has as many steps as there are models
-  pub reached_shallow : (order : List ℕ) → IsModelOrder d order → (k : ℕ) → IsReached d k → IsShallow d (length d.models) k
-  reached_shallow order ordered k reached =
-      order_shallow [] order (length d.models) (let short = ordered.short in omega arith) (λ x none. absurd none) ordered.after k (ordered.each k reached)
+  pub shallow_of : IsJudged d → (k : ℕ) → IsReached d k → IsShallow d (length d.models) k
+  shallow_of judged k reached =
+      order_shallow [] judged.order (length d.models) (let short = judged.ordered.short in omega arith) (λ x none. absurd none) judged.ordered.after k (judged.ordered.each k reached)

@@ -16,20 +16,18 @@ use Rattle.lid_design.specs.declared.Cell.{Cell}
 use Rattle.lid_design.specs.declared.Cell.TheVariants.{Names, Latch}
 use Rattle.lid_design.specs.declared.Inst.{Inst}
 use Rattle.lid_design.specs.declared.Bind.{Bind}
-use Rattle.lid_design.specs.WellFormed.{IsWellFormed}
 use Rattle.lid_design.specs.Network.{Driver, from_connection}
 use Rattle.lid_design.specs.Columns.{Column, column, is_among, model_named, model_at, is_clock, data_inputs, first_bit, cell_at, output_at, actuals_of, port_at, drivers_in, drivers}
 use Rattle.lid_design.specs.Models.{occurrences, nets, port_drivers, inner_drivers, driver_names, read_by, read_names, actuals_bound_to, number_from, IsReached}
 use Rattle.lid_rules.specs.Conditions.{formals, formal_of}
-use Rattle.lid_rules.specs.Acceptance.{ModelsPass}
 use Rattle.lid_names.proofs.Lists.{is_among_append, count_append}
-use Rattle.lid_hierarchy.specs.Surveys.{IsModelOrder, AreKnown}
-use Rattle.lid_elab.specs.Locals.{Local, local_input, local_latch, local_cover, local_connection, NetLocal, inputs_from, local_of, output_of, outputs_of, inner_locals, locals, of_net, driver_at, driver_in, bound_pairs, first_name_of, actual_for}
-use Rattle.lid_elab.proofs.Names.{to_among, from_among, count-cons, count_some}
-use Rattle.lid_elab.proofs.Passing.{IsSoundInst}
-use Rattle.lid_elab.proofs.Clocking.{or_left, own_clock, model_at_number}
-use Rattle.lid_elab.proofs.Locals.{net_of, of_net_append, of_net_count, locals_named, inputs_named, inputs_seen, inner_seen}
-use Rattle.lid_elab.proofs.Wired.{true_not_false, or_cases, bound_among, data_input, Sub, sub_of, sound, cell_read, inst_read, output_read, read_is_net, net_free, driven_net}
+use Rattle.lid_wiring.specs.Locals.{Local, local_input, local_latch, local_cover, local_connection, NetLocal, inputs_from, local_of, output_of, outputs_of, inner_locals, locals, of_net, driver_at, driver_in, bound_pairs, first_name_of, actual_for}
+use Rattle.lid_wiring.specs.Judged.{IsJudged}
+use Rattle.lid_wiring.proofs.Names.{to_among, from_among, count-cons, count_some}
+use Rattle.lid_wiring.proofs.Passing.{IsSoundInst}
+use Rattle.lid_wiring.proofs.Clocking.{or_left, own_clock, model_at_number}
+use Rattle.lid_wiring.proofs.Locals.{net_of, of_net_append, of_net_count, locals_named, inputs_named, inputs_seen, inner_seen}
+use Rattle.lid_wiring.proofs.Wired.{true_not_false, or_cases, bound_among, data_input, Sub, sub_of, sound, cell_read, inst_read, output_read, read_is_net, net_free, driven_net}
 
 single : {A : Type 0} (xs : List A) → length xs ≡ 1 → (x : A) × (xs ≡ x ∷ [])
 single [] h = absurd (omega arith)
@@ -136,7 +134,7 @@ actuals_seen path net (b ∷ binds) =
     by true = refl
     by false = refl
 
-module _ (d : Design) (formed : IsWellFormed d) (order : List ℕ) (ordered : IsModelOrder d order) (known : AreKnown d) (pass : ModelsPass d) where
+module _ (d : Design) (judged : IsJudged d) where
   -- what a driver of a net reads, inside the net's model
   pub data IsWiredLocal (m : Model) (net : List ℕ) : Local (List ℕ) → Type 0 where
     wired_input : (j : ℕ) → slice_get (data_inputs d m) j ≡ Some net → IsWiredLocal m net (local_input j)
@@ -147,10 +145,10 @@ module _ (d : Design) (formed : IsWellFormed d) (order : List ℕ) (ordered : Is
   module _ (k : ℕ) (reached : IsReached d k) (m : Model) (here : slice_get d.models k ≡ Some m) where
     pub exactly_one : (net : List ℕ) → Among net (nets d m) → (l : Local (List ℕ)) × (of_net net (locals d m) ≡ l ∷ [])
     unfolding driver_names
-    exactly_one net among = single (of_net net (locals d m)) (by (or_cases (is_among net (port_drivers m)) (is_among net (inner_drivers d m)) (sym (is_among_append net (port_drivers m) (inner_drivers d m)) ∙ driven_net d formed order ordered known pass k reached m here net free.0 free.1)))
+    exactly_one net among = single (of_net net (locals d m)) (by (or_cases (is_among net (port_drivers m)) (is_among net (inner_drivers d m)) (sym (is_among_append net (port_drivers m) (inner_drivers d m)) ∙ driven_net d judged k reached m here net free.0 free.1)))
       where
         free : Among net (occurrences m) × (is_clock d m net ≡ false)
-        free = net_free d formed order ordered known pass k reached m here net among
+        free = net_free d judged k reached m here net among
 
         clocks : List (List ℕ)
         clocks = filter (λ net. not (is_among net m.inputs)) m.clocks
@@ -166,7 +164,7 @@ module _ (d : Design) (formed : IsWellFormed d) (order : List ℕ) (ordered : Is
 
         most : (count m.inputs + count clocks) + count (inner_drivers d m) ≤ 1
         most =
-            let once = ltb-false 1 (count (port_drivers m ++ inner_drivers d m)) ((sound d formed order ordered known pass k reached m here).once net free.0) in
+            let once = ltb-false 1 (count (port_drivers m ++ inner_drivers d m)) ((sound d judged k reached m here).once net free.0) in
             let a = count_append net (port_drivers m) (inner_drivers d m) in
             let b = count_append net m.inputs clocks in
             omega arith
@@ -191,25 +189,25 @@ module _ (d : Design) (formed : IsWellFormed d) (order : List ℕ) (ordered : Is
     wired_local net l among = by (among_append (net, l) (inputs_from 0 (data_inputs d m)) (inner_locals d m) among)
       where
         read : (n : List ℕ) → Among n (read_names d m) → Among n (nets d m)
-        read n is = read_is_net d formed order ordered known pass k reached m here n is
+        read n is = read_is_net d judged k reached m here n is
 
         of_cell : (cell : Cell) → Among cell m.cells → ◌≡◌ {A = NetLocal} (net, l) (local_of cell) → IsWiredLocal m net l
         of_cell (Names inputs out cover) is eq =
-            subst (IsWiredLocal m net) (ap (λ (p : NetLocal). p.1) (sym eq)) (wired_cover cover inputs (λ n one. read n (cell_read d formed order ordered known pass k reached m here n (Names inputs out cover) is one)))
+            subst (IsWiredLocal m net) (ap (λ (p : NetLocal). p.1) (sym eq)) (wired_cover cover inputs (λ n one. read n (cell_read d judged k reached m here n (Names inputs out cover) is one)))
         of_cell (Latch input out kind control init) is eq =
-            subst (IsWiredLocal m net) (ap (λ (p : NetLocal). p.1) (sym eq)) (wired_latch (first_bit init) input (read input (cell_read d formed order ordered known pass k reached m here input (Latch input out kind control init) is (inl refl))))
+            subst (IsWiredLocal m net) (ap (λ (p : NetLocal). p.1) (sym eq)) (wired_latch (first_bit init) input (read input (cell_read d judged k reached m here input (Latch input out kind control init) is (inl refl))))
 
         of_bind : (p : ℕ × Inst) → slice_get m.insts p.0 ≡ Some p.1 → (sub : Sub d p.1) (b : Bind) (o : Bool) → is_among b.formal sub.model.outputs ≡ o → Among {A = NetLocal} (net, l) (cond o ((b.actual, local_connection p.0 b.formal) ∷ []) []) → IsWiredLocal m net l
         of_bind p at sub b true is (inl eq) =
             let out = to_among b.formal sub.model.outputs is in
-            let formal_net = read_is_net d formed order ordered known pass sub.number sub.reached sub.model sub.there b.formal (output_read d formed order ordered known pass sub.number sub.reached sub.model sub.there b.formal out) in
+            let formal_net = read_is_net d judged sub.number sub.reached sub.model sub.there b.formal (output_read d judged sub.number sub.reached sub.model sub.there b.formal out) in
             subst (IsWiredLocal m net) (ap (λ (q : NetLocal). q.1) (sym eq)) (wired_output p.0 b.formal p.1 at sub formal_net)
         of_bind p at sub b true is (inr none) = absurd none
         of_bind p at sub b false is none = absurd none
 
         of_inst : (p : ℕ × Inst) → slice_get m.insts p.0 ≡ Some p.1 → Among {A = NetLocal} (net, l) (outputs_of d p) → IsWiredLocal m net l
         of_inst p at among =
-            let sub = sub_of d formed order ordered known pass k reached m here p.0 p.1 at in
+            let sub = sub_of d judged k reached m here p.0 p.1 at in
             let found = flat_among (output_of sub.model.outputs p.0) (net, l) p.1.binds (subst (λ (o : Option Model). Among {A = NetLocal} (net, l) (option_map_or (λ m. flat_map (output_of m.outputs p.0) p.1.binds) o [])) sub.named among) in
             of_bind p at sub found.0 (is_among found.0.formal sub.model.outputs) refl found.2
 
@@ -239,7 +237,7 @@ module _ (d : Design) (formed : IsWellFormed d) (order : List ℕ) (ordered : Is
     pub root_driven : number_from d d.root [] ≡ Some k → (net : List ℕ) → Among net (nets d m) → (l : Local (List ℕ)) → of_net net (locals d m) ≡ l ∷ [] → drivers d (column [] net) ≡ driver_at [] l ∷ []
     unfolding locals
     root_driven leads net among l one =
-        let free = net_free d formed order ordered known pass k reached m here net among in
+        let free = net_free d judged k reached m here net among in
         let inputs = of_net net (inputs_from 0 (data_inputs d m)) in
         let inner = of_net net (inner_locals d m) in
         drivers_at [] leads net free.1
@@ -250,7 +248,7 @@ module _ (d : Design) (formed : IsWellFormed d) (order : List ℕ) (ordered : Is
   -- the net that a data input of an instance is bound to
   module _ (k : ℕ) (reached : IsReached d k) (m : Model) (here : slice_get d.models k ≡ Some m) (i : ℕ) (inst : Inst) (at : slice_get m.insts i ≡ Some inst) (sub : Sub d inst) where
     judged : IsSoundInst d sub.model inst
-    judged = (sound d formed order ordered known pass k reached m here).insts i inst sub.model at sub.named
+    judged = (sound d judged k reached m here).insts i inst sub.model at sub.named
 
     bound_once : (formal : List ℕ) → Among formal (data_inputs d sub.model) → of_net formal (bound_pairs inst) ≡ actual_for inst formal ∷ []
     bound_once formal input = by (single (of_net formal (bound_pairs inst)) total)
@@ -273,7 +271,7 @@ module _ (d : Design) (formed : IsWellFormed d) (order : List ℕ) (ordered : Is
 
     -- it is a net around the instance
     pub actual_net : (formal : List ℕ) → Among formal (data_inputs d sub.model) → Among (actual_for inst formal) (nets d m)
-    actual_net formal input = read_is_net d formed order ordered known pass k reached m here (actual_for inst formal) (inst_read d formed order ordered known pass k reached m here (actual_for inst formal) inst (get_among m.insts i inst at) read)
+    actual_net formal input = read_is_net d judged k reached m here (actual_for inst formal) (inst_read d judged k reached m here (actual_for inst formal) inst (get_among m.insts i inst at) read)
       where
         pair_in : Among {A = List ℕ × List ℕ} (formal, actual_for inst formal) (bound_pairs inst)
         pair_in = of_net_among formal (bound_pairs inst) (actual_for inst formal) (subst (λ (ns : List (List ℕ)). Among (actual_for inst formal) ns) (sym (bound_once formal input)) (inl refl))
@@ -302,7 +300,7 @@ module _ (d : Design) (formed : IsWellFormed d) (order : List ℕ) (ordered : Is
         inner = of_net net (inner_locals d sub.model)
 
         free : is_clock d sub.model net ≡ false
-        free = (net_free d formed order ordered known pass sub.number sub.reached sub.model sub.there net among).1
+        free = (net_free d judged sub.number sub.reached sub.model sub.there net among).1
 
         start : drivers d (column (i ∷ path) net) ≡ port_at d sub.model (i ∷ path) net ++ map (driver_at (i ∷ path)) inner
         start = drivers_at sub.number sub.reached sub.model sub.there (i ∷ path) inner_leads net free

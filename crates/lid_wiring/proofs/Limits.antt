@@ -1,24 +1,21 @@
--- What follows for the places of a design that is judged.
-use Rattle.std.proofs.Common.{◌≡◌, ℕ, ◌+◌, ◌≤◌, nat_lt, min, cond, Bool, true, false, List, [], ◌∷◌, ◌++◌, length, Some, None, refl, ◌∙◌, ap, arith, length-append}
+-- How many columns a judged design has.
+use Rattle.std.proofs.Common.{◌≡◌, ℕ, ◌≤◌, nat_lt, min, cond, Bool, true, false, List, [], ◌∷◌, length, Some, None, refl, ◌∙◌, arith}
 use Rattle.std.specs.List.{sum_by}
 use Rattle.std.proofs.lemmas.Bool.{ltb-false}
+use Rattle.std.proofs.lemmas.List.{length-map}
 use Rattle.std.proofs.lemmas.List.Concat.{length-flat_map}
-use Rattle.lid_design.specs.declared.Design.{Design}
-use Rattle.lid_design.specs.Columns.{column}
-use Rattle.lid_design.specs.Models.{insts_of, number_from, IsReached}
-use Rattle.lid_design.specs.Places.{Place as PlaceOf, places, model_nets, columns_at, columns, count_nets, count_cells, depth}
+use Rattle.std.proofs.lemmas.List.Sums.{sum_by-cons}
 use Rattle.lid_base.specs.declared.which.Which.{Which}
 use Rattle.lid_base.specs.declared.which.Which.TheVariants.{RootInsts, Depth, Cells, Nets}
+use Rattle.lid_design.specs.declared.Design.{Design}
+use Rattle.lid_design.specs.Columns.{column}
+use Rattle.lid_design.specs.Models.{insts_of}
+use Rattle.lid_design.specs.Places.{Place as PlaceOf, places, model_nets, columns_at, columns, count_nets, count_cells, depth}
 use Rattle.lid_rules.specs.declared.fault.CheckFault.TheVariants.{Limit}
-use Rattle.std.proofs.lemmas.List.Sums.{sum_by-cons}
 use Rattle.lid_rules.specs.Conditions.{limits, unknown_formal, formal_twice, unbound, two_drivers, undriven, clock_use, two_clocks, mixed_edges, root_logic, over}
 use Rattle.lid_rules.specs.Acceptance.{fault_after_recursion}
-use Rattle.lid_elab.specs.Numbers.{size_of, start_of, columns_in}
-use Rattle.lid_elab.specs.Writing.{IsJudged}
-use Rattle.lid_elab.proofs.Passing.{or_none}
-use Rattle.lid_elab.proofs.Shallow.{IsShallow, reached_shallow}
-use Rattle.lid_elab.proofs.Numbering.{numbering, columns_length}
-use Rattle.std.proofs.lemmas.List.{length-map}
+use Rattle.lid_wiring.specs.Judged.{IsJudged}
+use Rattle.lid_wiring.proofs.Passing.{or_none}
 
 pub no_limit : (d : Design) (ks : List ℕ) → fault_after_recursion d ks ≡ None → limits d ≡ None
 unfolding fault_after_recursion
@@ -63,21 +60,5 @@ nets_counted d =
     length-flat_map (columns_at d) (places d)
     ∙ sum_same (λ p. length (columns_at d p)) (λ (p : PlaceOf). length (model_nets d p.model)) (places d) (λ p. length-map (model_nets d p.model) (column p.path))
 
-module _ (d : Design) (judged : IsJudged d) where
-  pub shallow_of : (k : ℕ) → IsReached d k → IsShallow d (length d.models) k
-  shallow_of k reached = reached_shallow d judged.order judged.ordered k reached
-
-  pub few_columns : length (columns d) ≤ 1048576
-  few_columns = let few = few_nets d (no_limit d judged.pass.ks judged.pass.after) in let same = nets_counted d in omega arith
-
-  -- the columns of a place and of the places in it are among all
-  pub within : (path : List ℕ) (k : ℕ) → number_from d d.root path ≡ Some k → start_of d path + size_of d k ≤ length (columns d)
-  unfolding size_of
-  within path k leads =
-      let stands = numbering d shallow_of path k leads in
-      let part = columns_in (length d.models) d path k in
-      let size = columns_length d (length d.models) path k in
-      let whole : length (columns d) ≡ length stands.before + (length part + length stands.after) =
-      ap length stands.parts ∙ length-append stands.before (part ++ stands.after) ∙ ap (λ (n : ℕ). length stands.before + n) (length-append part stands.after) in
-      let first = stands.long in
-      omega arith
+pub few_columns : (d : Design) → IsJudged d → length (columns d) ≤ 1048576
+few_columns d judged = let few = few_nets d (no_limit d judged.pass.ks judged.pass.after) in let same = nets_counted d in omega arith

@@ -15,8 +15,8 @@ use Rattle.lid_design.specs.Network.{Driver, from_input, from_latch, from_cover,
 use Rattle.lid_design.specs.Columns.{Column, column, is_among, model_named, data_inputs, first_bit, places_of, cell_at, output_at}
 use Rattle.lid_design.specs.Models.{cell_out, inner_drivers, driven_by, actuals_bound_to, actual_of}
 use Rattle.lid_hierarchy.proofs.Numbers.{bytes_eq_comm}
-use Rattle.lid_elab.specs.Locals.{Local, local_input, local_latch, local_cover, local_connection, inputs_from, local_of, output_of, outputs_of, inner_locals, locals, of_net, driver_at}
-use Rattle.lid_elab.proofs.Names.{count-cons}
+use Rattle.lid_wiring.specs.Locals.{Local, local_input, local_latch, local_cover, local_connection, inputs_from, local_of, output_of, outputs_of, inner_locals, locals, of_net, driver_at}
+use Rattle.lid_wiring.proofs.Names.{count-cons}
 
 abbrev pub net_of : {V : Type 0} → List ℕ × V → List ℕ
 net_of p = p.0

@@ -12,15 +12,13 @@ use Rattle.lid_design.specs.declared.Cell.{Cell}
 use Rattle.lid_design.specs.declared.Cell.TheVariants.{Names, Latch}
 use Rattle.lid_design.specs.declared.Inst.{Inst}
 use Rattle.lid_design.specs.declared.Bind.{Bind}
-use Rattle.lid_design.specs.WellFormed.{IsWellFormed}
 use Rattle.lid_design.specs.Columns.{is_among, model_named, is_clocked_by, is_own_clock, is_clock, data_inputs}
 use Rattle.lid_design.specs.Models.{occurrences, firsts, nets, is_port, port_drivers, inner_drivers, driver_names, driven_by, read_by, read_names, cell_out, cell_reads, cell_names, control_names, actual_of, actual_names, actuals_bound_to, number_named, insts_of, instance_number, number_from, IsReached}
 use Rattle.lid_rules.specs.Conditions.{formals}
-use Rattle.lid_rules.specs.Acceptance.{ModelsPass}
-use Rattle.lid_hierarchy.specs.Surveys.{IsModelOrder, AreKnown}
-use Rattle.lid_elab.proofs.Names.{to_among, from_among}
-use Rattle.lid_elab.proofs.Passing.{IsSound, sound_model}
-use Rattle.lid_elab.proofs.Clocking.{or_left, or_right, any_true, own_clock, named_model, bound_clock, number_within}
+use Rattle.lid_wiring.specs.Judged.{IsJudged}
+use Rattle.lid_wiring.proofs.Names.{to_among, from_among}
+use Rattle.lid_wiring.proofs.Passing.{IsSound, sound_model}
+use Rattle.lid_wiring.proofs.Clocking.{or_left, or_right, any_true, own_clock, named_model, bound_clock, number_within}
 
 pub true_not_false : {P : Type 0} (b : Bool) → b ≡ true → b ≡ false → P
 true_not_false b is not_so = absurd (let e : true ≡ false = sym is ∙ not_so in cc)
@@ -144,13 +142,13 @@ some_of_is : {A : Type 0} (o : Option A) → IsSome o → (a : A) × (o ≡ Some
 some_of_is None is = absurd (let e : false ≡ true = is in cc)
 some_of_is (Some a) is = (a, refl)
 
-module _ (d : Design) (formed : IsWellFormed d) (order : List ℕ) (ordered : IsModelOrder d order) (known : AreKnown d) (pass : ModelsPass d) where
+module _ (d : Design) (judged : IsJudged d) where
   pub sub_of : (k : ℕ) → IsReached d k → (m : Model) → slice_get d.models k ≡ Some m → (i : ℕ) (inst : Inst) → slice_get m.insts i ≡ Some inst → Sub d inst
   unfolding number_from
   sub_of k reached m here i inst at =
       let insts : insts_of d k ≡ m.insts = ap (λ (o : Option Model). option_map_or (λ m. m.insts) o []) here in
       let at_k : slice_get (insts_of d k) i ≡ Some inst = ap (λ (is : List Inst). slice_get is i) insts ∙ at in
-      let found = some_of_is (instance_number d i k) (known k i reached (slice_get_within (insts_of d k) i inst at_k)) in
+      let found = some_of_is (instance_number d i k) (judged.known k i reached (slice_get_within (insts_of d k) i inst at_k)) in
       let names : number_named d inst.model ≡ Some found.0 = ap (option_and_then (λ inst. number_named d inst.model)) (sym at_k) ∙ found.1 in
       let below = number_within d inst found.0 names m (get_among d.models k m here) in
       let there = slice_get-get_or d.models found.0 m below in
@@ -165,7 +163,7 @@ module _ (d : Design) (formed : IsWellFormed d) (order : List ℕ) (ordered : Is
 
   module _ (k : ℕ) (reached : IsReached d k) (m : Model) (here : slice_get d.models k ≡ Some m) where
     pub sound : IsSound d m
-    sound = sound_model d pass k m reached here
+    sound = sound_model d judged k m reached here
 
     pub inst_at : (inst : Inst) → Among inst m.insts → (i : ℕ) × (slice_get m.insts i ≡ Some inst)
     inst_at inst among = by m.insts among
@@ -279,7 +277,7 @@ module _ (d : Design) (formed : IsWellFormed d) (order : List ℕ) (ordered : Is
             port = (sound.insts place.0 inst sub.model place.1 sub.named).ports b bound
 
             formal_clock : is_clock d sub.model b.formal ≡ true → is_among net (driver_names d m) ≡ true
-            formal_clock clock = true_not_false (is_clock d m net) (ap (is_clock d m) same ∙ bound_clock d formed order ordered k reached m here place.0 inst place.1 sub.number sub.model sub.names sub.there b bound clock) free
+            formal_clock clock = true_not_false (is_clock d m net) (ap (is_clock d m) same ∙ bound_clock d judged k reached m here place.0 inst place.1 sub.number sub.model sub.names sub.there b bound clock) free
 
             as_input : (c : Bool) → is_clock d sub.model b.formal ≡ c → is_among b.formal sub.model.inputs ≡ true → is_among net (driver_names d m) ≡ true
             as_input true clock in_inputs = formal_clock clock

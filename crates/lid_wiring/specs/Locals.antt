@@ -1,5 +1,5 @@
 -- What drives the nets of a model, told without a path.
-use Rattle.std.specs.Prelude.{ℕ, ◌+◌, Bool, if◌then◌else◌, List, [], ◌∷◌, ◌++◌, map, flat_map, slice_index_or}
+use Rattle.std.specs.Prelude.{◌≡◌, ℕ, ◌+◌, Bool, if◌then◌else◌, List, [], ◌∷◌, ◌++◌, map, flat_map, slice_index_or, Option, Some, option_and_then, option_map, slice_get}
 use Rattle.std.specs.Option.{option_map_or}
 use Rattle.std.specs.List.{enumerate_from}
 use Rattle.std.specs.Str.{bytes_eq}
@@ -11,7 +11,8 @@ use Rattle.lid_design.specs.declared.Cell.TheVariants.{Names, Latch}
 use Rattle.lid_design.specs.declared.Inst.{Inst}
 use Rattle.lid_design.specs.declared.Bind.{Bind}
 use Rattle.lid_design.specs.Network.{Driver, from_input, from_latch, from_cover, from_connection}
-use Rattle.lid_design.specs.Columns.{Column, column, is_among, model_named, data_inputs, first_bit}
+use Rattle.lid_design.specs.Columns.{Column, column, is_among, model_named, data_inputs, first_bit, drivers}
+use Rattle.lid_design.specs.Models.{insts_of, number_from}
 
 -- what drives a net inside its model; nets are told by their names, or by their places among the nets
 pub data Local (N : Type 0) : Type 0 where
@@ -77,3 +78,30 @@ driver_in path i inst inputs (local_input j) = from_connection (column path (act
 driver_in path i inst inputs (local_latch first input) = driver_at (i ∷ path) (local_latch first input)
 driver_in path i inst inputs (local_cover cover nets) = driver_at (i ∷ path) (local_cover cover nets)
 driver_in path i inst inputs (local_connection j formal) = driver_at (i ∷ path) (local_connection j formal)
+
+-- what drives nets of the model of a number
+abbrev pub model_locals : Design → ℕ → List NetLocal
+model_locals d k = option_map_or (locals d) (slice_get d.models k) []
+
+-- the data inputs of the model of a number
+abbrev pub model_inputs : Design → ℕ → List (List ℕ)
+model_inputs d k = option_map_or (data_inputs d) (slice_get d.models k) []
+
+-- an instance of the model at a path
+abbrev pub inst_at : Design → ℕ → List ℕ → Option Inst
+inst_at d i path = option_and_then (λ k. slice_get (insts_of d k) i) (number_from d d.root path)
+
+-- what it is at a path that leads to model k
+abbrev pub driver_of : Design → ℕ → List ℕ → Local (List ℕ) → Option (Driver Column)
+driver_of d k [] l = Some (driver_at [] l)
+driver_of d k (i ∷ path) l = option_map (λ inst. driver_in path i inst (model_inputs d k) l) (inst_at d i path)
+
+-- a column has exactly one driver, and it is that of its net in the model that its path leads to
+pub record IsToldByModel (d : Design) (c : Column) : Type 0 where
+  pub number : ℕ
+  pub leads : number_from d d.root c.path ≡ Some number
+  pub local : Local (List ℕ)
+  pub alone : of_net c.net (model_locals d number) ≡ local ∷ []
+  pub driver : Driver Column
+  pub told : driver_of d number c.path local ≡ Some driver
+  pub only : drivers d c ≡ driver ∷ []

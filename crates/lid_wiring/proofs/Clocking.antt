@@ -10,11 +10,10 @@ use Rattle.lid_design.specs.declared.Design.{Design}
 use Rattle.lid_design.specs.declared.Model.{Model}
 use Rattle.lid_design.specs.declared.Inst.{Inst}
 use Rattle.lid_design.specs.declared.Bind.{Bind}
-use Rattle.lid_design.specs.WellFormed.{IsWellFormed}
 use Rattle.lid_design.specs.Columns.{model_named, model_at, instance_model, is_own_clock, is_clock_within, is_clock}
 use Rattle.lid_design.specs.Models.{number_named, instance_number, number_from, is_clock_of, IsReached}
-use Rattle.lid_hierarchy.specs.Surveys.{IsModelOrder}
 use Rattle.lid_hierarchy.specs.Clocks.{binds_to, inst_binds, is_clock_in}
+use Rattle.lid_wiring.specs.Judged.{IsJudged}
 use Rattle.lid_hierarchy.proofs.Fixpoints.{find_position, clock_fixpoint}
 
 pub or_left : (a b : Bool) → a ≡ true → (a || b) ≡ true
@@ -48,10 +47,10 @@ pub named_model : (d : Design) (inst : Inst) (j : ℕ) → number_named d inst.m
 named_model d inst j names = find_position (λ m. bytes_eq m.name inst.model) d.models ∙ ap (option_and_then (slice_get d.models)) names
 
 -- a net that an instance binds to a clock name of its model is one
-pub bound_clock : (d : Design) → IsWellFormed d → (order : List ℕ) → IsModelOrder d order → (k : ℕ) → IsReached d k → (m : Model) → slice_get d.models k ≡ Some m → (i : ℕ) (inst : Inst) → slice_get m.insts i ≡ Some inst → (j : ℕ) (sub : Model) → number_named d inst.model ≡ Some j → slice_get d.models j ≡ Some sub → (b : Bind) → Among b inst.binds → is_clock d sub b.formal ≡ true → is_clock d m b.actual ≡ true
-bound_clock d formed order ordered k reached m here i inst at j sub names there b bound clock =
+pub bound_clock : (d : Design) → IsJudged d → (k : ℕ) → IsReached d k → (m : Model) → slice_get d.models k ≡ Some m → (i : ℕ) (inst : Inst) → slice_get m.insts i ≡ Some inst → (j : ℕ) (sub : Model) → number_named d inst.model ≡ Some j → slice_get d.models j ≡ Some sub → (b : Bind) → Among b inst.binds → is_clock d sub b.formal ≡ true → is_clock d m b.actual ≡ true
+bound_clock d judged k reached m here i inst at j sub names there b bound clock =
     ap (λ (o : Option Model). option_map_or (λ m. is_clock d m b.actual) o false) (sym here)
-    ∙ clock_fixpoint d formed order ordered k (ordered.each k reached) b.actual
+    ∙ clock_fixpoint d judged.formed judged.order judged.ordered k (judged.ordered.each k reached) b.actual
     ∙ ap (λ (o : Option Model). option_map_or (is_clock_in d (is_clock_of d) b.actual) o false) here
     ∙ or_right (is_own_clock m b.actual) _ (any_true (inst_binds d (is_clock_of d) b.actual) m.insts inst (get_among m.insts i inst at) of_inst)
   where
