@@ -4,7 +4,7 @@ use Rattle.std.specs.Option.{option_map_or}
 use Rattle.lid_design.specs.declared.Design.{Design}
 use Rattle.lid_design.specs.declared.Inst.{Inst}
 use Rattle.lid_design.specs.Models.{number_named, insts_of}
-use Rattle.lid_design.specs.Places.{cells_of, model_nets, count_in, is_latch, is_defaulted}
+use Rattle.lid_design.specs.Elaboration.{cells_of, model_nets, count_in, is_latch, is_defaulted}
 use Rattle.lid_counts.specs.declared.counts.Measure.{Measure}
 use Rattle.lid_counts.specs.declared.counts.Measure.TheVariants.{Depth, Cells, Nets, Latches, Defaulted}
 

@@ -1,6 +1,6 @@
 ghost use Rattle.std.specs.Prelude.{◌≡◌, ◌<◌, ◌≤◌, ◌^◌, ℕ, min, length, count_by, slice_get, slice_index_or, Some, IfOk};
 ghost use Rattle.lid_design.specs.Models.{IsReached, insts_of};
-ghost use Rattle.lid_design.specs.Places.{is_latch, is_defaulted, is_open};
+ghost use Rattle.lid_design.specs.Elaboration.{is_latch, is_defaulted, is_open};
 ghost use Rattle.lid_counts.specs.Counts.{own, joined, with_inst, count_by_subs, count_of, count_at_root};
 
 use lid_design::{Cell, Init, Inst, Model};

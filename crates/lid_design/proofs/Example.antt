@@ -57,4 +57,4 @@ part_meets = (part, record { below = below; once = once; driven = driven; earlie
     below = record { ins = (omega arith, tt); outs = (omega arith, tt); latches = ((omega arith, omega arith), tt); covers = (((omega arith, (omega arith, tt)), omega arith), tt) }
 
     cover : IsFlatCover (record { ins = 0 ∷ 1 ∷ []; out = 2; cover = both })
-    cover = (record { width = omega arith; rows = (record { in_range = omega arith; within = refl }, tt) }, refl)
+    cover = (record { width = omega arith; cubes = (record { in_range = omega arith; within = refl }, tt) }, refl)

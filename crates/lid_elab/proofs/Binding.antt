@@ -13,17 +13,17 @@ use Rattle.lid_design.specs.declared.Design.{Design}
 use Rattle.lid_design.specs.declared.Model.{Model}
 use Rattle.lid_design.specs.declared.Inst.{Inst}
 use Rattle.lid_design.specs.declared.Bind.{Bind}
-use Rattle.lid_design.specs.Models.{firsts, insts_of, number_named, number_from, instance_number, IsReached}
-use Rattle.lid_design.specs.Places.{model_nets}
+use Rattle.lid_design.specs.Models.{firsts, insts_of, number_named, number_from, instance_number, IsReached, formal_of, data_inputs_of}
+use Rattle.lid_design.specs.Elaboration.{model_nets}
 use Rattle.lid_names.specs.Names.{texts}
 use Rattle.lid_hierarchy.proofs.Fixpoints.{find_position}
 use Rattle.lid_hierarchy.proofs.Numbers.{bytes_eq_comm}
 use Rattle.lid_elab.specs.Numbers.{offset_of}
 use Rattle.lid_wiring.specs.Locals.{of_net, first_name_of, actual_for}
 use Rattle.lid_elab.specs.Templates.{place_in}
-use Rattle.lid_elab.specs.Parts.{formal_of, Shows, picks_among, places_bound, places_in_inst}
+use Rattle.lid_elab.specs.Parts.{Shows, picks_among, places_bound, places_in_inst}
 use Rattle.lid_wiring.specs.Judged.{IsJudged}
-use Rattle.lid_elab.specs.Writing.{IsTemplate, IsPicked, ArePicked, model_locals, model_inputs}
+use Rattle.lid_elab.specs.Writing.{IsTemplate, IsPicked, ArePicked, model_locals}
 use Rattle.lid_elab.specs.declared.driven.Driven.{Driven}
 use Rattle.lid_elab.specs.declared.template.LocalDriver.{LocalDriver}
 use Rattle.lid_elab.specs.declared.template.Template.{Template}
@@ -144,7 +144,7 @@ template_whole d k t picked few offset actuals = record {
   actual = actual;
 }
   where
-    actual : (i j : ℕ) (inst : Inst) → slice_get (insts_of d k) i ≡ Some inst → instance_number d i k ≡ Some j → slice_get t.actuals i ≡ Some (map (λ formal. place_in d k (actual_for inst formal)) (model_inputs d j))
+    actual : (i j : ℕ) (inst : Inst) → slice_get (insts_of d k) i ≡ Some inst → instance_number d i k ≡ Some j → slice_get t.actuals i ≡ Some (map (λ formal. place_in d k (actual_for inst formal)) (data_inputs_of d j))
     actual i j inst at number =
         ap (λ (rows : List (List ℕ)). slice_get rows i) actuals
         ∙ slice_get-map (places_in_inst d k) (insts_of d k) i

@@ -7,7 +7,7 @@ use Rattle.lid_design.specs.Network.{Driver}
 use Rattle.lid_design.specs.Columns.{Column}
 use Rattle.lid_design.specs.Walks.{read_now, read_before}
 use Rattle.lid_design.specs.Models.{insts_of, number_from, IsReached}
-use Rattle.lid_design.specs.Places.{columns}
+use Rattle.lid_design.specs.Elaboration.{columns}
 use Rattle.lid_elab.specs.Elaborations.{IsElaborated, IsDrivenBy, StartsAt}
 use Rattle.lid_elab.specs.Numbers.{offset_of, start_of}
 use Rattle.lid_wiring.specs.Judged.{IsJudged}

@@ -7,8 +7,8 @@ use Rattle.lid_design.specs.declared.Inst.{Inst}
 use Rattle.lid_design.specs.Network.{Driver, from_input}
 use Rattle.lid_design.specs.Columns.{Column, data_inputs, drivers}
 use Rattle.lid_design.specs.Walks.{read_now, read_before}
-use Rattle.lid_design.specs.Models.{insts_of, instance_number, number_from, IsReached}
-use Rattle.lid_design.specs.Places.{model_nets, columns}
+use Rattle.lid_design.specs.Models.{insts_of, instance_number, number_from, IsReached, data_inputs_of}
+use Rattle.lid_design.specs.Elaboration.{model_nets, columns}
 use Rattle.lid_design.specs.WellFormed.{IsWellFormed}
 use Rattle.lid_hierarchy.specs.Surveys.{IsModelOrder, AreKnown}
 use Rattle.lid_rules.specs.Acceptance.{ModelsPass}
@@ -49,7 +49,7 @@ pub record IsTemplate (d : Design) (k : ℕ) (t : Template) : Type 0 where
   pub each : (j pick : ℕ) (net : List ℕ) → slice_get t.picks j ≡ Some pick → slice_get (model_nets d k) j ≡ Some net → IsPicked d k t.locals pick net
   pub few : length t.offsets ≡ length (insts_of d k)
   pub offset : (i o : ℕ) → slice_get t.offsets i ≡ Some o → o ≡ offset_of d k i
-  pub actual : (i j : ℕ) (inst : Inst) → slice_get (insts_of d k) i ≡ Some inst → instance_number d i k ≡ Some j → slice_get t.actuals i ≡ Some (map (λ formal. place_in d k (actual_for inst formal)) (model_inputs d j))
+  pub actual : (i j : ℕ) (inst : Inst) → slice_get (insts_of d k) i ≡ Some inst → instance_number d i k ≡ Some j → slice_get t.actuals i ≡ Some (map (λ formal. place_in d k (actual_for inst formal)) (data_inputs_of d j))
 
 abbrev pub AreTemplates : Design → List Template → Type 0
 AreTemplates d ts = (k : ℕ) → IsReached d k → (t : Template) × (slice_get ts k ≡ Some t) × IsTemplate d k t
@@ -88,7 +88,7 @@ IsOuter d path k (Some around) =
     × (number_from d d.root up ≡ Some body)
     × (slice_get (insts_of d body) i ≡ Some inst)
     × (around.0 ≡ start_of d up)
-    × (around.1 ≡ map (λ formal. place_in d body (actual_for inst formal)) (model_inputs d k))
+    × (around.1 ≡ map (λ formal. place_in d body (actual_for inst formal)) (data_inputs_of d k))
 
 -- what a pick stands for has small numbers
 abbrev pub IsSmallAt : List ℕ → Option (ℕ × List ℕ) → Option LocalDriver → Type 0

@@ -2,7 +2,7 @@ ghost use Rattle.std.specs.Prelude.{◌≡◌, ◌⊎◌, ◌<◌, ◌^◌, ℕ,
 ghost use denote.Ref.{Bor};
 ghost use Rattle.std.specs.Str.{bytes_eq};
 ghost use Rattle.lid_design.specs.Models.{IsReached, HasNoRecursion, insts_of, instance_number, is_clock_of, AreReached};
-ghost use Rattle.lid_design.specs.Places.{model_nets};
+ghost use Rattle.lid_design.specs.Elaboration.{model_nets};
 ghost use Rattle.lid_design.specs.WellFormed.{IsWellFormed};
 ghost use Rattle.lid_hierarchy.specs.declared.survey.SurveyFault.TheVariants.{Memory};
 ghost use Rattle.lid_hierarchy.specs.Graphs.{IsKept};

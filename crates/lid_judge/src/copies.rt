@@ -2,8 +2,7 @@ ghost use Rattle.std.specs.Prelude.{◌≡◌, ◌⊎◌, IfOk};
 ghost use Rattle.lid_rules.specs.declared.fault.CheckFault.TheVariants.{Memory};
 ghost use Rattle.lid_rules.specs.Told.{shown};
 
-use lid_base::Name;
-use lid_names::copy_name;
+use lid_base::{Name, copy_name};
 use lid_rules::{CheckFault, Told};
 use std::alloc::{AllocError, Global};
 

@@ -1,7 +1,7 @@
 ghost use Rattle.std.specs.Prelude.{◌≡◌, ◌<◌, ℕ, min, length, IfOk};
 ghost use Rattle.lid_base.specs.declared.which.Which.TheVariants.{RootInsts};
 ghost use Rattle.lid_design.specs.Models.{insts_of};
-ghost use Rattle.lid_design.specs.Places.{count_latches, count_defaulted};
+ghost use Rattle.lid_design.specs.Elaboration.{count_latches, count_defaulted};
 ghost use Rattle.lid_rules.specs.Acceptance.{ModelsPass};
 ghost use Rattle.lid_rules.specs.Conditions.{over, limits};
 ghost use Rattle.lid_judge.specs.Limits.{total_limit, wide_limits, deep_limits};

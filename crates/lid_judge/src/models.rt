@@ -1,7 +1,6 @@
 ghost use Rattle.std.specs.Prelude.{◌≡◌, ◌⊎◌, IfOk, OnOk, IfErr};
 ghost use Rattle.lid_design.specs.WellFormed.{IsWellFormed};
-ghost use Rattle.lid_design.specs.Models.{HasNoRecursion};
-ghost use Rattle.lid_hierarchy.specs.Surveys.{IsFirstRecursive};
+ghost use Rattle.lid_design.specs.Models.{HasNoRecursion, IsFirstRecursive};
 ghost use Rattle.lid_rules.specs.declared.fault.CheckFault.TheVariants.{Memory};
 ghost use Rattle.lid_rules.specs.Acceptance.{ModelsPass, IsModelFault};
 ghost use Rattle.lid_rules.specs.Early.{TellsEarly, PassesEarly};

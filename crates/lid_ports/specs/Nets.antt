@@ -5,8 +5,7 @@ use Rattle.lid_design.specs.declared.Model.{Model}
 use Rattle.lid_design.specs.declared.Inst.{Inst}
 use Rattle.lid_design.specs.declared.Bind.{Bind}
 use Rattle.lid_design.specs.Columns.{is_among}
-use Rattle.lid_design.specs.Models.{is_clock_of, actual_of, driven_by, read_by, driver_names, inner_drivers, read_names}
-use Rattle.lid_names.specs.Names.{is_twice}
+use Rattle.lid_design.specs.Models.{is_clock_of, actual_of, driven_by, read_by, driver_names, inner_drivers, read_names, is_twice}
 use Rattle.lid_ports.specs.declared.ports.Port.TheVariants.{Input, Output}
 use Rattle.lid_ports.specs.declared.nets.Side.{Side}
 use Rattle.lid_ports.specs.declared.nets.Side.TheVariants.{Driven, Read}

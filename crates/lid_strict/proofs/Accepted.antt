@@ -10,8 +10,8 @@ use Rattle.lid_design.specs.WellFormed.{IsWellFormed}
 use Rattle.lid_design.specs.Network.{Driver, from_input, from_latch, from_cover, from_connection, from_each}
 use Rattle.lid_design.specs.Columns.{Column, column, drivers}
 use Rattle.lid_design.specs.Walks.{read_now, read_before, IsDriven, IsDrivenOnce, AreReadsDriven, WalksEnd, HasTable, HasOneTable}
-use Rattle.lid_design.specs.Models.{nets, insts_of, number_named, instance_number, number_from}
-use Rattle.lid_design.specs.Places.{columns, model_nets}
+use Rattle.lid_design.specs.Models.{nets, insts_of, number_named, instance_number, number_from, data_inputs_of}
+use Rattle.lid_design.specs.Elaboration.{columns, model_nets}
 use Rattle.lid_design.specs.Loops.{HasNoLoop}
 use Rattle.lid_design.proofs.Tables.{has_table, has_one_table}
 use Rattle.lid_hierarchy.specs.Surveys.{AreKnown}
@@ -23,7 +23,7 @@ use Rattle.lid_elab.specs.Numbers.{offset_of, start_of}
 use Rattle.lid_wiring.specs.Locals.{actual_for}
 use Rattle.lid_elab.specs.Templates.{place_in, numbered, placed}
 use Rattle.lid_wiring.specs.Judged.{IsJudged}
-use Rattle.lid_elab.specs.Writing.{IsRight, model_inputs, IsOuter}
+use Rattle.lid_elab.specs.Writing.{IsRight, IsOuter}
 use Rattle.lid_wiring.proofs.Passing.{or_none}
 use Rattle.lid_elab.proofs.Located.{Located, located}
 use Rattle.lid_elab.proofs.Outer.{fits}
@@ -71,7 +71,7 @@ module _ (d : Design) (judged : IsJudged d) where
   around_at (i ∷ up) k leads =
       let body = then_some (number_from d d.root up) (instance_number d i) k leads in
       let inst = then_some (slice_get (insts_of d body.0) i) (λ inst. number_named d inst.model) k body.2 in
-      (Some (start_of d up, map (λ formal. place_in d body.0 (actual_for inst.0 formal)) (model_inputs d k)), (up, i, body.0, inst.0, refl, body.1, inst.1, refl, refl))
+      (Some (start_of d up, map (λ formal. place_in d body.0 (actual_for inst.0 formal)) (data_inputs_of d k)), (up, i, body.0, inst.0, refl, body.1, inst.1, refl, refl))
 
   -- each column has one driver
   right_at : (n : ℕ) (c : Column) → slice_get (columns d) n ≡ Some c → (s : Driver ℕ) × IsRight d c s

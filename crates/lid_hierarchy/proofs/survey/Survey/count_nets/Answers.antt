@@ -1,7 +1,7 @@
 use Rattle.std.proofs.Common.{[], ◌<◌, length, subst, sym, arith, ap, ◌∙◌}
 use Rattle.lid_design.specs.declared.Design.{Design}
 use Rattle.lid_design.specs.Models.{IsReached}
-use Rattle.lid_design.specs.Places.{model_nets}
+use Rattle.lid_design.specs.Elaboration.{model_nets}
 use Rattle.lid_hierarchy.proofs.Fields.{field_at}
 use Rattle.lid_hierarchy.proofs.survey.Survey.count_nets.Goals as goal
 

@@ -2,7 +2,7 @@ use Rattle.std.proofs.Common.{[], ◌<◌, length, position, subst, sym, arith, 
 use Rattle.std.specs.Str.{bytes_eq}
 use Rattle.lid_design.specs.declared.Design.{Design}
 use Rattle.lid_design.specs.Models.{IsReached}
-use Rattle.lid_design.specs.Places.{model_nets}
+use Rattle.lid_design.specs.Elaboration.{model_nets}
 use Rattle.lid_hierarchy.proofs.Fields.{field_at}
 use Rattle.lid_hierarchy.proofs.survey.Survey.place_of.Goals as goal
 
