@@ -1,4 +1,4 @@
--- What is counted over the places of a design is what the recurrence on its models gives.
+-- What is counted over the instances of a design is what the recurrence on its models gives.
 use Rattle.std.specs.Option.{option_map_or}
 use Rattle.lid_design.specs.Elaboration.{instance, Instance, instances_in, instances, greatest, depth, over_instances}
 use Rattle.lid_counts.specs.declared.counts.Measure.TheVariants.{Depth}
@@ -12,7 +12,7 @@ use Rattle.lid_design.specs.Models.{number_named, insts_of}
 use Rattle.lid_counts.specs.declared.counts.Measure.{Measure}
 use Rattle.lid_counts.specs.Counts.{own, joined, with_insts, count_by_subs, count_within, count_of, count_at_root}
 
--- the places in an instance
+-- the instances in one
 abbrev pub inside : ℕ → Design → List ℕ → ℕ × Inst → List Instance
 inside n d path p = option_map_or (instances_in n d (p.0 ∷ path)) (number_named d p.1.model) []
 
@@ -47,16 +47,16 @@ module _ (what : Measure) (d : Design) where
           let sum : acc + sum_by f (instances_in n d (i ∷ path) j ++ rest) ≡ joined what acc (counts j) + sum_by f rest = (let e = sums acc (counts j) in omega arith) in
           sum ∙ next (joined what acc (counts j))
 
-  pub sum_places : Sums → (n : ℕ) → SumsOver n
+  pub sum_instances : Sums → (n : ℕ) → SumsOver n
   unfolding count_by_subs
-  sum_places sums zero path k = zero-add (own what d k)
-  sum_places sums (suc n) path k =
+  sum_instances sums zero path k = zero-add (own what d k)
+  sum_instances sums (suc n) path k =
       sum_cons (λ p. own what d p.model) (instance path k) (flat_map (inside n d path) (enumerate_from 0 (insts_of d k)))
-      ∙ sum_insts sums n (sum_places sums n) path (insts_of d k) 0 (own what d k)
+      ∙ sum_insts sums n (sum_instances sums n) path (insts_of d k) 0 (own what d k)
 
   pub sum_is : Sums → over_instances (own what) d ≡ count_at_root what d
   unfolding instances count_at_root count_of
-  sum_is sums = sum_places sums (length d.models) [] d.root
+  sum_is sums = sum_instances sums (length d.models) [] d.root
 
 greatest_append : (xs ys : List ℕ) → greatest (xs ++ ys) ≡ max (greatest xs) (greatest ys)
 greatest_append [] ys = omega arith
@@ -87,14 +87,14 @@ module _ (d : Design) where
           let deep : max (length path + acc) (greatest (map f (instances_in n d (i ∷ path) j ++ rest))) ≡ max (length path + max acc (counts j + 1)) (greatest (map f rest)) = omega arith in
           deep ∙ next (max acc (counts j + 1))
 
-  pub depth_places : (n : ℕ) → DepthOver n
+  pub depth_instances : (n : ℕ) → DepthOver n
   unfolding count_by_subs
-  depth_places zero path k = omega arith
-  depth_places (suc n) path k =
+  depth_instances zero path k = omega arith
+  depth_instances (suc n) path k =
       let first : length path ≡ length path + 0 = sym (add-zero (length path)) in
       ap (λ (n' : ℕ). max n' (greatest (map (λ p. length p.path) (flat_map (inside n d path) (enumerate_from 0 (insts_of d k)))))) first
-      ∙ depth_insts n (depth_places n) path (insts_of d k) 0 0
+      ∙ depth_insts n (depth_instances n) path (insts_of d k) 0 0
 
   pub depth_is : depth d ≡ count_at_root Depth d
   unfolding depth instances count_at_root count_of
-  depth_is = depth_places (length d.models) [] d.root ∙ zero-add (count_within (length d.models) Depth d d.root)
+  depth_is = depth_instances (length d.models) [] d.root ∙ zero-add (count_within (length d.models) Depth d d.root)

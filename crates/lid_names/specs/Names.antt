@@ -1,4 +1,5 @@
--- Lists of names without a name twice.
+-- What sets of borrowed names stand for: lists of names without a name twice. For the contracts of
+-- this crate alone.
 use denote.Ref.{Bor}
 use Rattle.lid_design.specs.Models.{is_twice}
 use Rattle.std.specs.Prelude.{◌≡◌, ℕ, Bool, nat_lt, if◌then◌else◌, List, [], ◌∷◌, ◌++◌, map, count_by}

@@ -1,4 +1,4 @@
--- The formals that an instance binds.
+-- How the conditions on instances are tried: the first formal that breaks one.
 use denote.Ref.{Bor}
 use Rattle.std.specs.Prelude.{ℕ, Bool, not, ◌||◌, List, map, find, Option, option_map, option_and_then, slice_get}
 use Rattle.lid_design.specs.declared.Design.{Design}

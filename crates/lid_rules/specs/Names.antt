@@ -1,4 +1,4 @@
--- The conditions that speak of the names of one model.
+-- How the conditions on names are tried: all three in one model before the next.
 use Rattle.std.specs.Prelude.{ℕ, Bool, List, Option, option_and_then, slice_get}
 use Rattle.lid_design.specs.declared.Design.{Design}
 use Rattle.lid_design.specs.declared.Model.{Model}
