@@ -1,4 +1,4 @@
--- What is found of the models of a design, model by model.
+-- How models are surveyed: what is found of the models of a design, model by model.
 use Rattle.std.specs.Prelude.{◌≡◌, ◌↔◌, Bool, true, false, ℕ, ◌<◌, ◌≤◌, List, [], ◌∷◌, length, map, Option, Some, IsSome, slice_index_or}
 use Rattle.lid_base.specs.Lists.{Among}
 use Rattle.lid_design.specs.declared.Design.{Design}
