@@ -18,9 +18,9 @@ use Rattle.lid_design.specs.WellFormed.{IsWellFormed}
 use Rattle.lid_rules.specs.Conditions.{is_duplicate, duplicate_in, duplicate_name, unknown_model}
 use Rattle.lid_rules.specs.Acceptance.{ModelsPass, fault_before_recursion}
 use Rattle.lid_wiring.proofs.Names.{to_among, from_among, none_found, count-cons, count_some}
-use Rattle.lid_wiring.proofs.Passing.{IsSound, sound_model, or_none, none_told, map_none}
+use Rattle.lid_wiring.proofs.Passing.{IsSound, sound_model, or_none, none_told, map_none, no_limit}
 use Rattle.lid_wiring.proofs.Wired.{firsts_among}
-use Rattle.lid_wiring.proofs.Limits.{no_limit, few_nets}
+use Rattle.lid_wiring.proofs.Limits.{few_nets}
 
 -- an output occurs, and is read
 output_occurs : (m : Model) (net : List ℕ) → Among net m.outputs → Among net (occurrences m)

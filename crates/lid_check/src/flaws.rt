@@ -3,7 +3,6 @@
 ghost use Rattle.std.specs.Prelude.{◌≡◌, ◌≤◌, Some, length, map, slice_get, IfOk};
 ghost use Rattle.lid_design.specs.Walks.{read_now};
 ghost use Rattle.lid_elab.specs.Elaborations.{shown_driver, IsElaborated};
-ghost use Rattle.lid_rules.specs.Acceptance.{ModelsPass};
 ghost use Rattle.lid_check.specs.Acceptance.{TellsLoop, TellsDependence};
 ghost use Rattle.lid_design.specs.Models.{data_inputs_of};
 ghost use Rattle.lid_check.specs.Flaws.{IsFirstOnLoop, IsFirstDependence, IsFirstFlaw, FindsFlaw, TellsFlaw};
@@ -15,6 +14,7 @@ use lid_elab::{Elaboration, elaborate, find_column, find_reads};
 use lid_hierarchy::Survey;
 use lid_digraph::{Found, find_order};
 use lid_rules::CheckFault;
+use lid_wiring::Judged;
 use std::alloc::{AllocError, Global};
 
 /// Why the columns of a design are refused.
@@ -30,13 +30,12 @@ pub(crate) enum Flaw {
 ///
 /// # Errors
 /// Where there is no memory.
-pub(crate) fn find_flaw(alloc: Global, survey: &Survey<'_>) -> Result<Option<Flaw>, AllocError>
-    requires { ModelsPass survey.now }
-    ensures { IfOk result (FindsFlaw survey.now) }
+pub(crate) fn find_flaw(alloc: Global, judged: &Judged<'_>) -> Result<Option<Flaw>, AllocError>
+    ensures { IfOk result (FindsFlaw judged.now) }
 {
-    let columns = elaborate(alloc, survey)?;
+    let columns = elaborate(alloc, judged)?;
     let reads = find_reads(alloc, columns.drivers.as_slice())?;
-    find_among(alloc, survey, &columns, reads.as_slice())
+    find_among(alloc, judged.survey(), &columns, reads.as_slice())
 }
 
 /// The first flaw of some columns, by what each reads in the same row.
@@ -72,26 +71,24 @@ fn find_among(
 /// Where there is no memory.
 pub(crate) fn tell_flaw(
     alloc: Global,
-    survey: &Survey<'_>,
+    judged: &Judged<'_>,
     flaw: Flaw,
 ) -> Result<CheckFault, AllocError>
-    requires passed { ModelsPass survey.now }
-    requires flaw { IsFirstFlaw survey.now flaw }
-    ensures { IfOk result (TellsFlaw survey.now) }
+    requires { IsFirstFlaw judged.now flaw }
+    ensures { IfOk result (TellsFlaw judged.now) }
 {
     match flaw {
-        Flaw::Loop(first) => tell_loop(alloc, survey, first),
-        Flaw::Dependence(lead) => tell_dependence(alloc, survey, lead),
+        Flaw::Loop(first) => tell_loop(alloc, judged, first),
+        Flaw::Dependence(lead) => tell_dependence(alloc, judged.survey(), lead),
     }
 }
 
 /// Tells the first column on a closed walk by its path and its name.
-fn tell_loop(alloc: Global, survey: &Survey<'_>, first: u32) -> Result<CheckFault, AllocError>
-    requires passed { ModelsPass survey.now }
-    requires first { IsFirstOnLoop survey.now first }
-    ensures { IfOk result (TellsLoop survey.now) }
+fn tell_loop(alloc: Global, judged: &Judged<'_>, first: u32) -> Result<CheckFault, AllocError>
+    requires { IsFirstOnLoop judged.now first }
+    ensures { IfOk result (TellsLoop judged.now) }
 {
-    let (path, name) = find_column(alloc, survey, first)?;
+    let (path, name) = find_column(alloc, judged, first)?;
     Ok(CheckFault::CombLoop { path, name })
 }
 

@@ -5,22 +5,22 @@ use Rattle.std.specs.List.{flat_map, enumerate_from}
 use Rattle.std.proofs.lemmas.List.{map-append, append-nil, length-map}
 use Rattle.std.proofs.lemmas.Option.{slice_get-map, slice_get_read, slice_get_within}
 use Rattle.lid_names.specs.Names.{texts}
-use Rattle.lid_rules.proofs.Sets.{filter_same, is_among_firsts}
+use Rattle.lid_names.proofs.Lists.{is_among_firsts}
+use Rattle.lid_base.proofs.Lists.{filter_same}
 use Rattle.lid_design.specs.declared.Design.{Design}
 use Rattle.lid_design.specs.declared.Model.{Model}
 use Rattle.lid_design.specs.declared.Inst.{Inst}
 use Rattle.lid_design.specs.declared.Bind.{Bind}
 use Rattle.lid_design.specs.Columns.{is_clock, data_inputs}
 use Rattle.lid_design.specs.Models.{is_clock_of, firsts, insts_of, number_named, instance_number, IsReached, data_inputs_of}
-use Rattle.lid_wiring.specs.Locals.{Local, NetLocal, inputs_from, local_input, local_connection, local_of, output_of, outputs_of, locals}
+use Rattle.lid_wiring.specs.Locals.{Local, NetLocal, inputs_from, local_input, local_connection, local_of, output_of, outputs_of, locals, model_locals}
 use Rattle.lid_elab.specs.Templates.{shown_local, numbered}
 use Rattle.lid_elab.specs.Parts.{net_of, numbered_local, Grows, Shows, data_of, output_sets}
 use Rattle.lid_wiring.specs.Judged.{IsJudged}
-use Rattle.lid_elab.specs.Writing.{model_locals}
 use Rattle.lid_elab.specs.declared.driven.Driven.{Driven}
 use Rattle.lid_elab.specs.declared.template.LocalDriver.{LocalDriver}
 use Rattle.lid_wiring.proofs.Clocking.{named_model}
-use Rattle.lid_elab.proofs.Picking.{map_some}
+use Rattle.lid_wiring.proofs.Names.{map_some}
 use Rattle.lid_elab.proofs.Outer.{get_of}
 use Rattle.lid_elab.proofs.Counting.{model_below}
 

@@ -11,7 +11,7 @@ use Rattle.lid_design.specs.Models.{insts_of, instance_number, number_from, IsRe
 use Rattle.lid_design.specs.Elaboration.{model_nets, columns, instances}
 use Rattle.lid_elab.specs.Numbers.{over_insts, size_of, offset_of, start_of, weight_of, IsSpot}
 use Rattle.lid_wiring.specs.Judged.{IsJudged}
-use Rattle.lid_elab.specs.Writing.{AreTemplates}
+use Rattle.lid_elab.specs.Parts.{AreTemplates}
 use Rattle.lid_elab.specs.declared.template.Template.{Template}
 use Rattle.lid_wiring.proofs.Shallow.{IsShallow}
 use Rattle.lid_elab.proofs.Numbering.{columns_length, starts_at}
@@ -90,8 +90,8 @@ offsets_are d ts all k reached t offsets same =
     let found = all k reached in
     let own : offsets ≡ found.0.offsets = same ∙ ap (λ (x : Template). x.offsets) (get_or_from_slice_get ts k found.0 t found.1) in
     record {
-      few = ap length own ∙ found.2.few;
-      each = λ i h. found.2.offset i (get_or offsets i 0) (ap (λ (os : List ℕ). slice_get os i) (sym own) ∙ slice_get-get_or offsets i 0 h);
+      few = ap length own ∙ found.2.offsets.long;
+      each = λ i h. found.2.offsets.each i (get_or offsets i 0) (ap (λ (os : List ℕ). slice_get os i) (sym own) ∙ slice_get-get_or offsets i 0 h);
     }
 
 -- the column of a net

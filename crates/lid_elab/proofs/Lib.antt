@@ -2,7 +2,7 @@ pub mod Numbering
 pub mod Located
 pub mod Every
 pub mod Steps
-pub mod Placing
+pub mod Placed
 pub mod Outer
 pub mod Stacking
 pub mod Whole

@@ -18,23 +18,17 @@ use Rattle.lid_design.specs.Elaboration.{model_nets}
 use Rattle.lid_names.specs.Names.{texts}
 use Rattle.lid_names.proofs.Lists.{count_append}
 use Rattle.lid_hierarchy.proofs.Numbers.{firsts_distinct}
-use Rattle.lid_wiring.specs.Locals.{Local, NetLocal, locals, of_net}
+use Rattle.lid_wiring.specs.Locals.{Local, NetLocal, locals, of_net, model_locals}
 use Rattle.lid_elab.specs.Templates.{shown_local, numbered}
-use Rattle.lid_elab.specs.Parts.{net_of, numbered_local, Shows}
+use Rattle.lid_elab.specs.Parts.{net_of, numbered_local, Shows, IsPicked}
 use Rattle.lid_wiring.specs.Judged.{IsJudged}
-use Rattle.lid_elab.specs.Writing.{IsPicked, model_locals}
 use Rattle.lid_elab.specs.declared.driven.Driven.{Driven}
 use Rattle.lid_elab.specs.declared.template.LocalDriver.{LocalDriver}
-use Rattle.lid_wiring.proofs.Names.{count-cons}
+use Rattle.lid_wiring.proofs.Names.{position_get, map_some}
 use Rattle.lid_wiring.proofs.Locals.{locals_named}
 use Rattle.lid_wiring.proofs.Wired.{Spot, spot_input, spot_cell, spot_bind, occurs, among_bound, sound}
 use Rattle.lid_wiring.proofs.Single.{inputs_fewer, exactly_one, of_net_among}
 use Rattle.lid_wiring.proofs.Driven.{once_firsts, among_of_net, driven_once}
-use Rattle.lid_elab.proofs.Placing.{position_get}
-
-pub map_some : {A B : Type 0} (f : A → B) (o : Option A) (b : B) → option_map f o ≡ Some b → (a : A) × (o ≡ Some a) × (f a ≡ b)
-map_some f None b h = absurd (let e : None ≡ Some b = h in cc)
-map_some f (Some a) b h = (a, refl, (let e : Some (f a) ≡ Some b = h in cc))
 
 module _ (d : Design) (judged : IsJudged d) (k : ℕ) (reached : IsReached d k) (m : Model) (here : slice_get d.models k ≡ Some m) where
   same_locals : model_locals d k ≡ locals d m

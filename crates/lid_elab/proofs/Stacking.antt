@@ -10,8 +10,8 @@ use Rattle.lid_design.specs.WellFormed.{IsWellFormed}
 use Rattle.lid_design.specs.Models.{insts_of, instance_number, number_named, number_from}
 use Rattle.lid_design.specs.Elaboration.{model_nets, columns, instances}
 use Rattle.lid_elab.specs.Numbers.{over_insts, size_within, size_of, offset_of, start_of, weight_within, weight_of}
-use Rattle.lid_elab.specs.Writing.{IsAt, AreNext, weights}
-use Rattle.lid_elab.specs.declared.writing.Place.{Place}
+use Rattle.lid_elab.specs.Scopes.{IsAt, AreNext, weights}
+use Rattle.lid_elab.specs.declared.placing.Scope.{Scope}
 use Rattle.lid_wiring.proofs.Shallow.{IsShallow}
 use Rattle.lid_elab.proofs.Numbering.{over_same, size_same, columns_length}
 
@@ -56,7 +56,7 @@ module _ (d : Design) where
       ap (λ (n : ℕ). over_insts d f (take n (insts_of d k))) next ∙ over_next f (insts_of d k) i j names
 
   -- the place of an instance
-  pub inst_at : (path : List ℕ) (p : Place) → IsAt d path p → (i j o : ℕ) → instance_number d i p.model ≡ Some j → o ≡ offset_of d p.model i → IsAt d (i ∷ path) (record { model = j; start = p.start + o; around = Some (record { model = p.model; start = p.start; inst = i }) })
+  pub inst_at : (path : List ℕ) (p : Scope) → IsAt d path p → (i j o : ℕ) → instance_number d i p.model ≡ Some j → o ≡ offset_of d p.model i → IsAt d (i ∷ path) (record { model = j; start = p.start + o; around = Some (record { model = p.model; start = p.start; inst = i }) })
   unfolding number_from start_of
   inst_at path p at i j o names off = record {
     leads = ap (option_and_then (instance_number d i)) at.leads ∙ names;
@@ -76,12 +76,12 @@ module _ (d : Design) where
       by (Some m) e = all_among (λ m. length m.insts < 2 ^ 32) d.models m formed.insts (get_among d.models k m e)
 
   -- a place is pushed before others
-  pub next_pushed : (old new : List Place) (p : Place) (path : List ℕ) (n m : ℕ) → new ≡ old ++ p ∷ [] → IsAt d path p → p.start ≡ n → m ≡ n + size_of d p.model → AreNext d m (reverse old) → AreNext d n (reverse new)
+  pub next_pushed : (old new : List Scope) (p : Scope) (path : List ℕ) (n m : ℕ) → new ≡ old ++ p ∷ [] → IsAt d path p → p.start ≡ n → m ≡ n + size_of d p.model → AreNext d m (reverse old) → AreNext d n (reverse new)
   next_pushed old new p path n m whole at start sum after =
-      subst (λ (ps : List Place). AreNext d n ps) (sym (ap reverse whole ∙ reverse-append old (p ∷ [])))
+      subst (λ (ps : List Scope). AreNext d n ps) (sym (ap reverse whole ∙ reverse-append old (p ∷ [])))
       ((path, at), start, subst (λ (x : ℕ). AreNext d x (reverse old)) sum after)
 
-  pub weight_pushed : (old new : List Place) (p : Place) → new ≡ old ++ p ∷ [] → weights d (reverse new) ≡ weight_of d p.model + weights d (reverse old)
+  pub weight_pushed : (old new : List Scope) (p : Scope) → new ≡ old ++ p ∷ [] → weights d (reverse new) ≡ weight_of d p.model + weights d (reverse old)
   weight_pushed old new p whole = ap (weights d) (ap reverse whole ∙ reverse-append old (p ∷ []))
 
   -- the root comes first

@@ -23,12 +23,12 @@ use Rattle.lid_elab.specs.Numbers.{offset_of, start_of}
 use Rattle.lid_wiring.specs.Locals.{actual_for}
 use Rattle.lid_elab.specs.Templates.{place_in, numbered, placed}
 use Rattle.lid_wiring.specs.Judged.{IsJudged}
-use Rattle.lid_elab.specs.Writing.{IsRight, IsOuter}
+use Rattle.lid_elab.specs.Scopes.{IsOnlyDriver, IsOuter}
 use Rattle.lid_wiring.proofs.Passing.{or_none}
 use Rattle.lid_elab.proofs.Located.{Located, located}
 use Rattle.lid_elab.proofs.Outer.{fits}
 use Rattle.lid_wiring.proofs.Single.{exactly_one}
-use Rattle.lid_elab.proofs.Placing.{net_right}
+use Rattle.lid_elab.proofs.Placed.{net_right}
 use Rattle.lid_elab.proofs.Every.{driven_column}
 use Rattle.lid_strict.proofs.Descent.{walks_end}
 use Rattle.lid_strict.proofs.Levels.{model_order}
@@ -71,13 +71,13 @@ module _ (d : Design) (judged : IsJudged d) where
   around_at (i ∷ up) k leads =
       let body = then_some (number_from d d.root up) (instance_number d i) k leads in
       let inst = then_some (slice_get (insts_of d body.0) i) (λ inst. number_named d inst.model) k body.2 in
-      (Some (start_of d up, map (λ formal. place_in d body.0 (actual_for inst.0 formal)) (data_inputs_of d k)), (up, i, body.0, inst.0, refl, body.1, inst.1, refl, refl))
+      (Some (start_of d up, map (λ formal. place_in d body.0 (actual_for inst.0 formal)) (data_inputs_of d k)), record { up = up; i = i; around = body.0; inst = inst.0; is_path = refl; leads = body.1; at = inst.1; is_start = refl; is_actuals = refl })
 
   -- each column has one driver
-  right_at : (n : ℕ) (c : Column) → slice_get (columns d) n ≡ Some c → (s : Driver ℕ) × IsRight d c s
+  right_at : (n : ℕ) (c : Column) → slice_get (columns d) n ≡ Some c → (s : Driver ℕ) × IsOnlyDriver d c s
   right_at n c here = by (located d judged n c here)
     where
-      in_model : (at : Located d n c) (o : Option Model) → slice_get d.models at.model ≡ o → (s : Driver ℕ) × IsRight d c s
+      in_model : (at : Located d n c) (o : Option Model) → slice_get d.models at.model ≡ o → (s : Driver ℕ) × IsOnlyDriver d c s
       in_model at None e = absurd (let none : None ≡ Some c.net = ap (λ (o : Option Model). slice_get (option_map_or (nets d) o []) at.net) (sym e) ∙ at.here in cc)
       in_model at (Some m) e =
           let names : model_nets d at.model ≡ nets d m = ap (λ (o : Option Model). option_map_or (nets d) o []) e in
@@ -92,10 +92,10 @@ module _ (d : Design) (judged : IsJudged d) where
                 around.0 (fits d c.path at.model around.0 judged around.1) c.net among one.0 one.1,
           )
 
-      by : Located d n c → (s : Driver ℕ) × IsRight d c s
+      by : Located d n c → (s : Driver ℕ) × IsOnlyDriver d c s
       by at = in_model at (slice_get d.models at.model) refl
 
-  right_of : (c : Column) → Among c (columns d) → (s : Driver ℕ) × IsRight d c s
+  right_of : (c : Column) → Among c (columns d) → (s : Driver ℕ) × IsOnlyDriver d c s
   right_of c among = let at = among_get (columns d) c among in right_at at.0 c at.1
 
   pub driven_of : (c : Column) → Among c (columns d) → IsDriven (drivers d) c

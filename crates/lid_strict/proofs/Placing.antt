@@ -18,10 +18,9 @@ use Rattle.lid_design.specs.Columns.{Column, column, root_outputs}
 use Rattle.lid_design.specs.WellFormed.{IsWellFormed}
 use Rattle.lid_design.specs.Models.{nets, number_from, IsReached}
 use Rattle.lid_design.specs.Elaboration.{columns, model_nets}
-use Rattle.lid_hierarchy.specs.Surveys.{IsModelOrder, AreKnown}
-use Rattle.lid_rules.specs.Acceptance.{ModelsPass}
+use Rattle.lid_wiring.specs.Judged.{IsJudged}
 use Rattle.lid_elab.specs.Elaborations.{column_at, IsElaborated}
-use Rattle.lid_elab.proofs.Placing.{position_get}
+use Rattle.lid_wiring.proofs.Names.{position_get}
 use Rattle.lid_wiring.proofs.Wired.{output_read, read_is_net}
 use Rattle.lid_check.proofs.Numbered.{column_is, within}
 use Rattle.lid_strict.proofs.Covered.{got_among}
@@ -54,7 +53,7 @@ pub item_among : (names : List (List ℕ)) (i : ℕ) (name : List ℕ) → i < l
 item_among names i name h at = got_among names i name (slice_get_read names (length names) i name refl h at)
 
 -- an output of the root is a net of the root
-output_net : (d : Design) → IsWellFormed d → (order : List ℕ) → IsModelOrder d order → AreKnown d → ModelsPass d → (name : List ℕ) → Among name (root_outputs d) → Among name (model_nets d d.root)
+output_net : (d : Design) → IsJudged d → (name : List ℕ) → Among name (root_outputs d) → Among name (model_nets d d.root)
 output_net d judged name among = by (slice_get d.models d.root) refl among
   where
     by : (o : Option Model) → slice_get d.models d.root ≡ o → Among name (option_map_or (λ m. m.outputs) o []) → Among name (model_nets d d.root)
@@ -74,7 +73,7 @@ has_place name names among = by (nat_lt (position_or_len (bytes_eq name) names) 
         absurd (omega arith)
 
 -- an output of the root has a place
-pub output_placed : (d : Design) → IsWellFormed d → (order : List ℕ) → IsModelOrder d order → AreKnown d → ModelsPass d → (name : List ℕ) → Among name (root_outputs d) → position (bytes_eq name) (model_nets d d.root) ≡ None → ⊥
+pub output_placed : (d : Design) → IsJudged d → (name : List ℕ) → Among name (root_outputs d) → position (bytes_eq name) (model_nets d d.root) ≡ None → ⊥
 output_placed d judged name among = has_place name (model_nets d d.root) (output_net d judged name among)
 
 -- one more number, of one more name

@@ -4,8 +4,9 @@
 ghost use Rattle.std.specs.Prelude.{◌≡◌, ◌<◌, ◌++◌, ◌∷◌, [], length, map, IfOk, OnOk};
 ghost use Rattle.std.specs.List.{AllByRecursion};
 ghost use Rattle.lid_elab.specs.Elaborations.{shown_driver};
+ghost use Rattle.lid_base.specs.Lists.{Extends};
 ghost use Rattle.lid_strict.specs.Networks.{HasCover};
-ghost use Rattle.lid_strict.specs.Programs.{shown_step, shown_program, in_order, Extends, IsThere, IsWhole};
+ghost use Rattle.lid_strict.specs.Programs.{shown_step, shown_program, in_order, IsThere, IsWhole};
 
 use lid_elab::ColumnDriver;
 use lid_cover::Cube;

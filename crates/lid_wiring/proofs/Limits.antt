@@ -12,23 +12,9 @@ use Rattle.lid_design.specs.Columns.{column}
 use Rattle.lid_design.specs.Models.{insts_of}
 use Rattle.lid_design.specs.Elaboration.{Instance as PlaceOf, instances, model_nets, columns_at, columns, count_nets, count_cells, depth}
 use Rattle.lid_rules.specs.declared.fault.CheckFault.TheVariants.{Limit}
-use Rattle.lid_rules.specs.Conditions.{limits, unknown_formal, formal_twice, unbound, two_drivers, undriven, clock_use, two_clocks, mixed_edges, root_logic, over}
-use Rattle.lid_rules.specs.Acceptance.{fault_after_recursion}
+use Rattle.lid_rules.specs.Conditions.{limits, over}
 use Rattle.lid_wiring.specs.Judged.{IsJudged}
-use Rattle.lid_wiring.proofs.Passing.{or_none}
-
-pub no_limit : (d : Design) (ks : List ℕ) → fault_after_recursion d ks ≡ None → limits d ≡ None
-unfolding fault_after_recursion
-no_limit d ks none =
-    let a = or_none (unknown_formal d ks) _ none in
-    let b = or_none (formal_twice d ks) _ a.1 in
-    let e = or_none (unbound d ks) _ b.1 in
-    let f = or_none (two_drivers d ks) _ e.1 in
-    let g = or_none (undriven d ks) _ f.1 in
-    let h = or_none (clock_use d ks) _ g.1 in
-    let i = or_none (two_clocks d) _ h.1 in
-    let j = or_none (mixed_edges d ks) _ i.1 in
-    (or_none (root_logic d) (limits d) j.1).1
+use Rattle.lid_wiring.proofs.Passing.{or_none, no_limit}
 
 not_over : (greatest count : ℕ) (which : Which) → over greatest which count ≡ None → count ≤ greatest
 not_over greatest count which none = by (nat_lt greatest count) refl none

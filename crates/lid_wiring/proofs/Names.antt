@@ -1,6 +1,6 @@
 -- Names in lists of names.
-use Rattle.std.proofs.Common.{◌≡◌, ◌⊎◌, ℕ, zero, suc, ◌+◌, ◌≤◌, Bool, true, false, ◌||◌, cond, List, [], ◌∷◌, ◌++◌, map, filter, find, Some, None, slice_get, inl, inr, refl, sym, ◌∙◌, ap, subst, arith}
-use Rattle.std.specs.List.{flat_map, count_by, enumerate_from}
+use Rattle.std.proofs.Common.{◌≡◌, ◌⊎◌, ℕ, zero, suc, ◌+◌, ◌≤◌, Bool, true, false, ◌||◌, not, cond, List, [], ◌∷◌, ◌++◌, map, filter, find, Option, Some, None, option_map, slice_get, inl, inr, refl, sym, ◌∙◌, ap, subst, arith, one-add}
+use Rattle.std.specs.List.{flat_map, count_by, enumerate_from, position_or_len, prefix_len}
 use Rattle.std.specs.Str.{bytes_eq}
 use Rattle.std.proofs.lemmas.Slice.Eq.{bytes_eq-Decides}
 use Rattle.std.proofs.lemmas.List.Sums.{sum_by-cons}
@@ -54,3 +54,18 @@ count_some x (y ∷ ys) some = subst (λ (n : ℕ). 1 ≤ n) (sym (count-cons x 
     by : (b : Bool) → (b || is_among x ys) ≡ true → (is_among x ys ≡ true → 1 ≤ count_by (bytes_eq x) ys) → 1 ≤ cond b 1 0 + count_by (bytes_eq x) ys
     by true h next = omega arith
     by false h next = let e = next h in omega arith
+
+-- a name stands at its place
+pub position_get : (net : List ℕ) (names : List (List ℕ)) → Among net names → slice_get names (position_or_len (bytes_eq net) names) ≡ Some net
+position_get net [] none = absurd none
+position_get net (x ∷ names) among = by (bytes_eq net x) refl among (position_get net names)
+  where
+    by : (b : Bool) → bytes_eq net x ≡ b → (net ≡ x) ⊎ Among net names → (Among net names → slice_get names (position_or_len (bytes_eq net) names) ≡ Some net) → slice_get (x ∷ names) (cond (not b) (1 + prefix_len (λ y. not (bytes_eq net y)) names) 0) ≡ Some net
+    by true e among later = ap Some (sym (same_bytes net x e))
+    by false e (inl eq) later = absurd (let f : true ≡ false = sym (bytes_same net x eq) ∙ e in cc)
+    by false e (inr rest) later = ap (slice_get (x ∷ names)) (one-add (prefix_len (λ y. not (bytes_eq net y)) names)) ∙ later rest
+
+-- what a mapped option comes from
+pub map_some : {A B : Type 0} (f : A → B) (o : Option A) (b : B) → option_map f o ≡ Some b → (a : A) × (o ≡ Some a) × (f a ≡ b)
+map_some f None b h = absurd (let e : None ≡ Some b = h in cc)
+map_some f (Some a) b h = (a, refl, (let e : Some (f a) ≡ Some b = h in cc))

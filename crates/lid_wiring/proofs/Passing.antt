@@ -10,9 +10,8 @@ use Rattle.lid_design.specs.declared.Bind.{Bind}
 use Rattle.lid_design.specs.Columns.{is_among, model_named, data_inputs}
 use Rattle.lid_design.specs.Models.{occurrences, is_port, driver_names, IsReached, is_twice, formals}
 use Rattle.lid_rules.specs.declared.fault.CheckFault.{CheckFault}
-use Rattle.lid_rules.specs.Conditions.{or_fault, first_told, in_models, in_insts, in_known, is_undriven, is_misused, unknown_formal, unknown_formal_at, formal_twice, formal_twice_at, unbound, unbound_at, two_drivers, two_drivers_in, undriven, undriven_in, clock_use, clock_use_in}
-use Rattle.lid_rules.specs.Acceptance.{fault_after_recursion}
-use Rattle.lid_wiring.specs.Judged.{IsJudged}
+use Rattle.lid_rules.specs.Conditions.{or_fault, first_told, in_models, in_insts, in_known, is_undriven, is_misused, unknown_formal, unknown_formal_at, formal_twice, formal_twice_at, unbound, unbound_at, two_drivers, two_drivers_in, undriven, undriven_in, clock_use, clock_use_in, two_clocks, mixed_edges, root_logic, limits}
+use Rattle.lid_rules.specs.Acceptance.{ModelsPass, fault_after_recursion}
 use Rattle.lid_wiring.proofs.Names.{none_found}
 
 -- what the conditions say of an instance of a model
@@ -60,6 +59,7 @@ record AllNone (d : Design) (ks : List ℕ) : Type 0 where
   two : two_drivers d ks ≡ None
   not_driven : undriven d ks ≡ None
   clock : clock_use d ks ≡ None
+  limit : limits d ≡ None
 
 all_none : (d : Design) (ks : List ℕ) → fault_after_recursion d ks ≡ None → AllNone d ks
 unfolding fault_after_recursion
@@ -70,7 +70,14 @@ all_none d ks none =
     let f = or_none (two_drivers d ks) _ e.1 in
     let g = or_none (undriven d ks) _ f.1 in
     let h = or_none (clock_use d ks) _ g.1 in
-    record { formal = a.0; twice = b.0; unbounds = e.0; two = f.0; not_driven = g.0; clock = h.0 }
+    let i = or_none (two_clocks d) _ h.1 in
+    let j = or_none (mixed_edges d ks) _ i.1 in
+    let l = or_none (root_logic d) (limits d) j.1 in
+    record { formal = a.0; twice = b.0; unbounds = e.0; two = f.0; not_driven = g.0; clock = h.0; limit = l.1 }
+
+-- no limit is passed
+pub no_limit : (d : Design) (ks : List ℕ) → fault_after_recursion d ks ≡ None → limits d ≡ None
+no_limit d ks none = (all_none d ks none).limit
 
 sound_inst : (d : Design) (ks : List ℕ) → AllNone d ks → (k : ℕ) (m : Model) → Among k ks → slice_get d.models k ≡ Some m → (i : ℕ) (inst : Inst) (sub : Model) → slice_get m.insts i ≡ Some inst → model_named d inst.model ≡ Some sub → IsSoundInst d sub inst
 unfolding unknown_formal formal_twice unbound
@@ -86,14 +93,14 @@ sound_inst d ks all k m among here i inst sub at named = record {
       not_false (is_among formal (formals inst)) (none_found (λ name. not (is_among name (formals inst))) (data_inputs d sub) (map_none _ _ told) formal input);
 }
 
-pub sound_model : (d : Design) → IsJudged d → (k : ℕ) (m : Model) → IsReached d k → slice_get d.models k ≡ Some m → IsSound d m
+pub sound_model : (d : Design) → ModelsPass d → (k : ℕ) (m : Model) → IsReached d k → slice_get d.models k ≡ Some m → IsSound d m
 unfolding two_drivers undriven clock_use
-sound_model d judged k m reached here =
-    let all = all_none d judged.pass.ks judged.pass.after in
-    let among = (judged.pass.reached.each k).1 reached in
+sound_model d pass k m reached here =
+    let all = all_none d pass.ks pass.after in
+    let among = (pass.reached.each k).1 reached in
     record {
-      once = λ net occurs. none_found (is_twice (driver_names d m)) (occurrences m) (map_none _ _ (model_none d judged.pass.ks (two_drivers_in d) all.two k m among here)) net occurs;
-      driven = λ net occurs. none_found (is_undriven d m) (occurrences m) (map_none _ _ (model_none d judged.pass.ks (undriven_in d) all.not_driven k m among here)) net occurs;
-      clocks = λ net occurs. none_found (is_misused d m) (occurrences m) (map_none _ _ (model_none d judged.pass.ks (clock_use_in d) all.clock k m among here)) net occurs;
-      insts = sound_inst d judged.pass.ks all k m among here;
+      once = λ net occurs. none_found (is_twice (driver_names d m)) (occurrences m) (map_none _ _ (model_none d pass.ks (two_drivers_in d) all.two k m among here)) net occurs;
+      driven = λ net occurs. none_found (is_undriven d m) (occurrences m) (map_none _ _ (model_none d pass.ks (undriven_in d) all.not_driven k m among here)) net occurs;
+      clocks = λ net occurs. none_found (is_misused d m) (occurrences m) (map_none _ _ (model_none d pass.ks (clock_use_in d) all.clock k m among here)) net occurs;
+      insts = sound_inst d pass.ks all k m among here;
     }

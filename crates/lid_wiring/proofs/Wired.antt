@@ -137,7 +137,7 @@ pub record Sub (d : Design) (inst : Inst) : Type 0 where
   pub named : model_named d inst.model ≡ Some model
   pub reached : IsReached d number
 
-some_of_is : {A : Type 0} (o : Option A) → IsSome o → (a : A) × (o ≡ Some a)
+pub some_of_is : {A : Type 0} (o : Option A) → IsSome o → (a : A) × (o ≡ Some a)
 some_of_is None is = absurd (let e : false ≡ true = is in cc)
 some_of_is (Some a) is = (a, refl)
 
@@ -162,7 +162,7 @@ module _ (d : Design) (judged : IsJudged d) where
 
   module _ (k : ℕ) (reached : IsReached d k) (m : Model) (here : slice_get d.models k ≡ Some m) where
     pub sound : IsSound d m
-    sound = sound_model d judged k m reached here
+    sound = sound_model d judged.pass k m reached here
 
     pub inst_at : (inst : Inst) → Among inst m.insts → (i : ℕ) × (slice_get m.insts i ≡ Some inst)
     inst_at inst among = by m.insts among

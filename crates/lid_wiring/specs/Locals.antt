@@ -75,9 +75,7 @@ actual_for inst formal = first_name_of (of_net formal (bound_pairs inst))
 -- what it is in instance i of the model at a path: an input is the net that it is bound to
 abbrev pub driver_in : List ℕ → ℕ → Inst → List (List ℕ) → Local (List ℕ) → Driver Column
 driver_in path i inst inputs (local_input j) = from_connection (column path (actual_for inst (slice_index_or inputs j [])))
-driver_in path i inst inputs (local_latch first input) = driver_at (i ∷ path) (local_latch first input)
-driver_in path i inst inputs (local_cover cover nets) = driver_at (i ∷ path) (local_cover cover nets)
-driver_in path i inst inputs (local_connection j formal) = driver_at (i ∷ path) (local_connection j formal)
+driver_in path i inst inputs other = driver_at (i ∷ path) other
 
 -- what drives nets of the model of a number
 abbrev pub model_locals : Design → ℕ → List NetLocal

@@ -36,7 +36,7 @@ impl<'d> Judged<'d> {
     /// The survey.
     pub fn survey(&self) -> &Survey<'d>
         ensures same { result.now ≡ self.now }
-        ensures judged { IsJudged self.now }
+        ensures judged { IsJudged result.now }
     {
         &self.survey
     }

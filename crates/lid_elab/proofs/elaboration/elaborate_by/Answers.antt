@@ -23,9 +23,9 @@ returns-clause-whole c =
     let starts : c.in_ok-starts.starts ≡ t.offsets = c.in_ok-starts.ensures ∙ c.as_slice.ensures in
     let drivers = c.in_ok-drivers.drivers in
     let whole = length-map drivers shown_driver ∙ c.in_ok-drivers.ensures.whole in
-    elaborated d c.requires.judged (map shown_driver drivers) c.in_ok-starts.starts c.in_ok-drivers.ensures.written whole
-    (ap length starts ∙ is.few)
-    (λ i o at. is.offset i o (ap (λ (os : List ℕ). slice_get os i) (sym starts) ∙ at))
+    elaborated d c.requires.judged c.in_ok-starts.starts (ap length starts ∙ is.offsets.long)
+    (λ i o at. is.offsets.each i o (ap (λ (os : List ℕ). slice_get os i) (sym starts) ∙ at))
+    (map shown_driver drivers) c.in_ok-drivers.ensures.written whole
 
 pub returns-clause-few : goal.returns-clause-few
 returns-clause-few c =

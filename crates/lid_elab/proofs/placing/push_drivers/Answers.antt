@@ -6,9 +6,9 @@ use Rattle.lid_elab.specs.Elaborations.{shown_driver}
 use Rattle.lid_elab.specs.Templates.{shown_local, seen_around, placed}
 use Rattle.std.specs.List.{All}
 use Rattle.lid_elab.specs.declared.template.LocalDriver.{LocalDriver}
-use Rattle.lid_elab.specs.Writing.{picked, IsSmallAt}
+use Rattle.lid_elab.specs.Scopes.{picked, IsSmallAt}
 use Rattle.lid_elab.proofs.Steps.{pushed_more}
-use Rattle.lid_elab.proofs.writing.push_drivers.Goals as goal
+use Rattle.lid_elab.proofs.placing.push_drivers.Goals as goal
 
 pub loop-pick-preserved : goal.loop-pick-preserved
 loop-pick-preserved c =

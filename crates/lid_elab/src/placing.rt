@@ -1,3 +1,5 @@
+//! Drivers are placed: scope by scope, each gets what its model tells of its nets.
+
 ghost use Rattle.std.specs.Prelude.{◌≡◌, ◌≤◌, ◌<◌, ◌++◌, ◌+◌, ℕ, List, [], Some, length, map, reverse, take, slice_get, IfOk, OnOk};
 ghost use Rattle.std.specs.List.{All};
 ghost use Rattle.lid_design.specs.Models.{insts_of};
@@ -6,7 +8,8 @@ ghost use Rattle.lid_elab.specs.Numbers.{over_insts, size_of, offset_of, weight_
 ghost use Rattle.lid_elab.specs.Elaborations.{shown_driver};
 ghost use Rattle.lid_elab.specs.Templates.{seen_around};
 ghost use Rattle.lid_wiring.specs.Judged.{IsJudged};
-ghost use Rattle.lid_elab.specs.Writing.{picked, IsSmallAt, AreTemplates, AreWritten, AreNext, IsAt, IsOuter, weights};
+ghost use Rattle.lid_elab.specs.Scopes.{picked, IsSmallAt, ArePlaced, AreNext, IsAt, IsOuter, weights};
+ghost use Rattle.lid_elab.specs.Parts.{AreTemplates};
 
 use crate::driver::ColumnDriver;
 use crate::template::{LocalDriver, Template, place_driver};
@@ -14,16 +17,17 @@ use lid_base::Items;
 use lid_hierarchy::Survey;
 use std::alloc::{AllocError, Global};
 
-/// A place of the elaboration: the model there and the number of its first column.
+/// A scope of the elaboration, which is the root or an instance in it: its model and the number of its
+/// first column.
 #[derive(Clone, Copy)]
-pub struct Place {
+pub struct Scope {
     pub model: u32,
     pub start: u32,
     /// The instance that it is; none at the root.
     pub around: Option<Around>,
 }
 
-/// An instance of the model at a place.
+/// The instance of a scope that another scope is.
 #[derive(Clone, Copy)]
 pub struct Around {
     pub model: u32,
@@ -31,7 +35,7 @@ pub struct Around {
     pub inst: u32,
 }
 
-/// Pushes what gives the columns of a place their bits.
+/// Pushes what gives the columns of a scope their bits.
 pub fn push_drivers<'d>(
     alloc: Global,
     drivers: &mut Vec<ColumnDriver<'d>>,
@@ -53,28 +57,28 @@ pub fn push_drivers<'d>(
     Ok(())
 }
 
-/// Pushes what gives the columns of a place their bits, where the columns before it have theirs.
-pub fn push_place<'d>(
+/// Pushes what gives the columns of a scope their bits, where the columns before it have theirs.
+pub fn place_scope<'d>(
     alloc: Global,
     survey: &Survey<'d>,
     templates: &[Template<'d>],
     drivers: &mut Vec<ColumnDriver<'d>>,
-    place: Place,
+    scope: Scope,
 ) -> Result<(), AllocError>
     requires judged { IsJudged survey.now }
     requires templates { AreTemplates survey.now templates.now }
-    requires there { (path : List ℕ) × IsAt survey.now path place }
-    requires next { place.start ≡ length drivers.now.items }
-    requires before { AreWritten survey.now (map shown_driver drivers.now.items) }
-    ensures after { OnOk result (AreWritten survey.now (map shown_driver drivers.new.items)) }
-    ensures long { OnOk result (length drivers.new.items ≡ length drivers.old.items + length (model_nets survey.now place.model)) }
+    requires there { (path : List ℕ) × IsAt survey.now path scope }
+    requires next { scope.start ≡ length drivers.now.items }
+    requires before { ArePlaced survey.now (map shown_driver drivers.now.items) }
+    ensures after { OnOk result (ArePlaced survey.now (map shown_driver drivers.new.items)) }
+    ensures long { OnOk result (length drivers.new.items ≡ length drivers.old.items + length (model_nets survey.now scope.model)) }
 {
-    let template = &templates[place.model as usize];
-    let around = around_of(survey, templates, place);
+    let template = &templates[scope.model as usize];
+    let around = around_of(survey, templates, scope);
     push_drivers(
         alloc,
         drivers,
-        place.start,
+        scope.start,
         template.offsets.as_slice(),
         around,
         template.locals.as_slice(),
@@ -82,19 +86,19 @@ pub fn push_place<'d>(
     )
 }
 
-/// What stands around a place: the first column of the place around, and the nets there that the
+/// What stands around a scope: the first column of the scope around, and the nets there that the
 /// inputs are bound to. `None` at the root.
 fn around_of<'t>(
     survey: &Survey<'_>,
     templates: &'t [Template<'_>],
-    place: Place,
+    scope: Scope,
 ) -> Option<(u32, &'t [u32])>
     requires templates { AreTemplates survey.now templates.now }
-    requires there { (path : List ℕ) × IsAt survey.now path place }
-    ensures { (path : List ℕ) → IsAt survey.now path place → IsOuter survey.now path place.model (seen_around result) }
+    requires there { (path : List ℕ) × IsAt survey.now path scope }
+    ensures { (path : List ℕ) → IsAt survey.now path scope → IsOuter survey.now path scope.model (seen_around result) }
 {
     let _ = survey;
-    match place.around {
+    match scope.around {
         None => None,
         Some(around) => {
             let outer = &templates[around.model as usize];
@@ -104,96 +108,96 @@ fn around_of<'t>(
     }
 }
 
-/// Pushes the places of the instances of a place, the last first.
+/// Pushes the scopes of the instances of a scope, the last first.
 fn push_instances(
     survey: &Survey<'_>,
     offsets: &[u32],
-    place: Place,
-    stack: &mut Vec<Place>,
+    scope: Scope,
+    stack: &mut Vec<Scope>,
 ) -> Result<(), AllocError>
     requires judged { IsJudged survey.now }
-    requires few { length offsets.now ≡ length (insts_of survey.now place.model) }
-    requires offset { (i o : ℕ) → slice_get offsets.now i ≡ Some o → o ≡ offset_of survey.now place.model i }
-    requires there { (path : List ℕ) × IsAt survey.now path place }
-    requires after { AreNext survey.now (place.start + size_of survey.now place.model) (reverse stack.now.items) }
-    ensures next { OnOk result (AreNext survey.now (place.start + length (model_nets survey.now place.model)) (reverse stack.new.items)) }
-    ensures lighter { OnOk result (weights survey.now (reverse stack.new.items) + 1 ≡ weights survey.now (reverse stack.old.items) + weight_of survey.now place.model) }
+    requires few { length offsets.now ≡ length (insts_of survey.now scope.model) }
+    requires offset { (i o : ℕ) → slice_get offsets.now i ≡ Some o → o ≡ offset_of survey.now scope.model i }
+    requires there { (path : List ℕ) × IsAt survey.now path scope }
+    requires after { AreNext survey.now (scope.start + size_of survey.now scope.model) (reverse stack.now.items) }
+    ensures next { OnOk result (AreNext survey.now (scope.start + length (model_nets survey.now scope.model)) (reverse stack.new.items)) }
+    ensures lighter { OnOk result (weights survey.now (reverse stack.new.items) + 1 ≡ weights survey.now (reverse stack.old.items) + weight_of survey.now scope.model) }
 {
     let mut i = offsets.len();
     while i > 0 {
         i -= 1;
-        push_instance(survey, offsets, place, i, stack)?;
+        push_instance(survey, offsets, scope, i, stack)?;
     }
     Ok(())
 }
 
-/// Pushes the place of an instance of a place, by its number there.
+/// Pushes the scope of an instance of a scope, by its number there.
 fn push_instance(
     survey: &Survey<'_>,
     offsets: &[u32],
-    place: Place,
+    scope: Scope,
     i: usize,
-    stack: &mut Vec<Place>,
+    stack: &mut Vec<Scope>,
 ) -> Result<(), AllocError>
     requires judged { IsJudged survey.now }
-    requires few { length offsets.now ≡ length (insts_of survey.now place.model) }
-    requires offset { (i o : ℕ) → slice_get offsets.now i ≡ Some o → o ≡ offset_of survey.now place.model i }
-    requires there { (path : List ℕ) × IsAt survey.now path place }
+    requires few { length offsets.now ≡ length (insts_of survey.now scope.model) }
+    requires offset { (i o : ℕ) → slice_get offsets.now i ≡ Some o → o ≡ offset_of survey.now scope.model i }
+    requires there { (path : List ℕ) × IsAt survey.now path scope }
     requires exists { i < length offsets.now }
-    requires after { AreNext survey.now (place.start + offset_of survey.now place.model (i + 1)) (reverse stack.now.items) }
-    ensures next { OnOk result (AreNext survey.now (place.start + offset_of survey.now place.model i) (reverse stack.new.items)) }
-    ensures heavier { OnOk result (weights survey.now (reverse stack.new.items) + over_insts survey.now (weight_of survey.now) (take i (insts_of survey.now place.model)) ≡ weights survey.now (reverse stack.old.items) + over_insts survey.now (weight_of survey.now) (take (i + 1) (insts_of survey.now place.model))) }
+    requires after { AreNext survey.now (scope.start + offset_of survey.now scope.model (i + 1)) (reverse stack.now.items) }
+    ensures next { OnOk result (AreNext survey.now (scope.start + offset_of survey.now scope.model i) (reverse stack.new.items)) }
+    ensures heavier { OnOk result (weights survey.now (reverse stack.new.items) + over_insts survey.now (weight_of survey.now) (take i (insts_of survey.now scope.model)) ≡ weights survey.now (reverse stack.old.items) + over_insts survey.now (weight_of survey.now) (take (i + 1) (insts_of survey.now scope.model))) }
 {
     let inst = i as u32;
-    if let Some(model) = survey.model_of(place.model, inst) {
+    if let Some(model) = survey.model_of(scope.model, inst) {
         let around = Around {
-            model: place.model,
-            start: place.start,
+            model: scope.model,
+            start: scope.start,
             inst,
         };
-        stack.push(Place {
+        stack.push(Scope {
             model,
-            start: place.start + offsets[i],
+            start: scope.start + offsets[i],
             around: Some(around),
         })?;
     }
     Ok(())
 }
 
-/// Works through a place: pushes what gives its columns their bits, and the places of its instances.
+/// Works through a scope: pushes what gives its columns their bits, and the scopes of its instances.
 fn visit<'d>(
     alloc: Global,
     survey: &Survey<'d>,
     templates: &[Template<'d>],
     drivers: &mut Vec<ColumnDriver<'d>>,
-    stack: &mut Vec<Place>,
-    place: Place,
+    stack: &mut Vec<Scope>,
+    scope: Scope,
 ) -> Result<(), AllocError>
     requires judged { IsJudged survey.now }
     requires templates { AreTemplates survey.now templates.now }
-    requires before { AreWritten survey.now (map shown_driver drivers.now.items) }
-    requires there { (path : List ℕ) × IsAt survey.now path place }
-    requires start { place.start ≡ length drivers.now.items }
-    requires rest { AreNext survey.now (place.start + size_of survey.now place.model) (reverse stack.now.items) }
-    ensures after { OnOk result (AreWritten survey.now (map shown_driver drivers.new.items)) }
+    requires before { ArePlaced survey.now (map shown_driver drivers.now.items) }
+    requires there { (path : List ℕ) × IsAt survey.now path scope }
+    requires start { scope.start ≡ length drivers.now.items }
+    requires rest { AreNext survey.now (scope.start + size_of survey.now scope.model) (reverse stack.now.items) }
+    ensures after { OnOk result (ArePlaced survey.now (map shown_driver drivers.new.items)) }
     ensures next { OnOk result (AreNext survey.now (length drivers.new.items) (reverse stack.new.items)) }
-    ensures lighter { OnOk result (weights survey.now (reverse stack.new.items) < weights survey.now (reverse stack.old.items) + weight_of survey.now place.model) }
+    ensures lighter { OnOk result (weights survey.now (reverse stack.new.items) < weights survey.now (reverse stack.old.items) + weight_of survey.now scope.model) }
 {
-    let template = &templates[place.model as usize];
+    let template = &templates[scope.model as usize];
     let offsets = template.offsets.as_slice();
-    push_place(alloc, survey, templates, drivers, place)?;
-    push_instances(survey, offsets, place, stack)
+    place_scope(alloc, survey, templates, drivers, scope)?;
+    push_instances(survey, offsets, scope, stack)
 }
 
 /// What gives each column its bit, in order, by what is known of the models.
-pub fn write_all<'d>(
+pub fn place_all<'d>(
     alloc: Global,
     survey: &Survey<'d>,
     templates: &[Template<'d>],
 ) -> Result<Items<ColumnDriver<'d>>, AllocError>
     requires judged { IsJudged survey.now }
     requires templates { AreTemplates survey.now templates.now }
-    ensures written { IfOk result (λ drivers. AreWritten survey.now (map shown_driver drivers)) }
+    ensures written { IfOk result (λ drivers. ArePlaced survey.now (map shown_driver drivers)) }
     ensures whole { IfOk result (λ drivers. length drivers ≡ length (columns survey.now)) }
 {
     let mut drivers = Vec::new(alloc);
@@ -211,17 +215,17 @@ fn push_all<'d>(
     requires judged { IsJudged survey.now }
     requires templates { AreTemplates survey.now templates.now }
     requires none { drivers.old.items ≡ [] }
-    ensures written { OnOk result (AreWritten survey.now (map shown_driver drivers.new.items)) }
+    ensures written { OnOk result (ArePlaced survey.now (map shown_driver drivers.new.items)) }
     ensures whole { OnOk result (length drivers.new.items ≡ length (columns survey.now)) }
 {
     let mut stack = Vec::new(alloc);
-    stack.push(Place {
+    stack.push(Scope {
         model: survey.design().root,
         start: 0,
         around: None,
     })?;
-    while let Some(place) = stack.pop() {
-        visit(alloc, survey, templates, drivers, &mut stack, place)?;
+    while let Some(scope) = stack.pop() {
+        visit(alloc, survey, templates, drivers, &mut stack, scope)?;
     }
     Ok(())
 }

@@ -1,8 +1,8 @@
 use Rattle.std.proofs.Common.{◌≡◌, ◌++◌, drop, map}
 use Rattle.lid_elab.specs.Elaborations.{shown_driver}
 use Rattle.lid_elab.specs.Templates.{seen_around}
-use Rattle.lid_elab.specs.Writing.{picked}
-use Rattle.lid_elab.proofs.writing.push_drivers.Given as goal
+use Rattle.lid_elab.specs.Scopes.{picked}
+use Rattle.lid_elab.proofs.placing.push_drivers.Given as goal
 
 abbrev pub invariant-loop-pick : goal.invariant-loop-pick
 invariant-loop-pick l =

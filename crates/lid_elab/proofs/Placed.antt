@@ -20,22 +20,13 @@ use Rattle.lid_elab.specs.Elaborations.{map_driver, column_at}
 use Rattle.lid_elab.specs.Numbers.{offset_of, start_of}
 use Rattle.lid_wiring.specs.Locals.{Local, local_input, local_latch, local_cover, local_connection, locals, of_net, actual_for, driver_at, driver_in}
 use Rattle.lid_elab.specs.Templates.{place_in, numbered, placed, IsSmall}
-use Rattle.lid_elab.specs.Writing.{IsRight}
+use Rattle.lid_elab.specs.Scopes.{IsOnlyDriver}
 use Rattle.lid_wiring.proofs.Clocking.{named_model}
 use Rattle.lid_wiring.specs.Judged.{IsJudged}
 use Rattle.lid_elab.proofs.Numbering.{starts_at}
+use Rattle.lid_wiring.proofs.Names.{position_get}
 use Rattle.lid_wiring.proofs.Wired.{Sub}
 use Rattle.lid_wiring.proofs.Single.{IsWiredLocal, wired_input, wired_latch, wired_cover, wired_output, wired_local, of_net_among, root_driven, inst_driven, actual_net}
-
--- a name stands at its place
-pub position_get : (net : List ℕ) (names : List (List ℕ)) → Among net names → slice_get names (position_or_len (bytes_eq net) names) ≡ Some net
-position_get net [] none = absurd none
-position_get net (x ∷ names) among = by (bytes_eq net x) refl among (position_get net names)
-  where
-    by : (b : Bool) → bytes_eq net x ≡ b → (net ≡ x) ⊎ Among net names → (Among net names → slice_get names (position_or_len (bytes_eq net) names) ≡ Some net) → slice_get (x ∷ names) (cond (not b) (1 + prefix_len (λ y. not (bytes_eq net y)) names) 0) ≡ Some net
-    by true e among later = ap Some (sym (same_bytes net x e))
-    by false e (inl eq) later = absurd (let f : true ≡ false = sym (bytes_same net x eq) ∙ e in cc)
-    by false e (inr rest) later = ap (slice_get (x ∷ names)) (one-add (prefix_len (λ y. not (bytes_eq net y)) names)) ∙ later rest
 
 module _ (d : Design) (judged : IsJudged d) where
   -- a column by the place of its net
@@ -148,7 +139,7 @@ module _ (d : Design) (judged : IsJudged d) where
         ∙ inst_driven d judged w.around (w.up, w.leads) w.body w.there w.i w.inst w.at (inst_sub start actuals w) w.up w.leads (inst_leads start actuals w) net among l one
 
     -- what reads inside the place or in its instances is right
-    right_seen : (around : Option (ℕ × List ℕ)) → FitsAround k path around → (net : List ℕ) → Among net (nets d m) → (l : Local (List ℕ)) → of_net net (locals d m) ≡ l ∷ [] → (driver : Driver ℕ) → Seen l driver → ((up : List ℕ) (i : ℕ) (inst : Inst) → path ≡ i ∷ up → driver_in up i inst (data_inputs d m) l ≡ driver_at (i ∷ up) l) → IsRight d (column path net) driver
+    right_seen : (around : Option (ℕ × List ℕ)) → FitsAround k path around → (net : List ℕ) → Among net (nets d m) → (l : Local (List ℕ)) → of_net net (locals d m) ≡ l ∷ [] → (driver : Driver ℕ) → Seen l driver → ((up : List ℕ) (i : ℕ) (inst : Inst) → path ≡ i ∷ up → driver_in up i inst (data_inputs d m) l ≡ driver_at (i ∷ up) l) → IsOnlyDriver d (column path net) driver
     right_seen None (at_root root) net among l one driver seen inner =
         record { only = root_case root net among l one ∙ ap (λ (s : Driver Column). s ∷ []) (sym seen.0); below = seen.1 }
     right_seen (Some around) (in_inst start actuals w) net among l one driver seen inner =
@@ -158,7 +149,7 @@ module _ (d : Design) (judged : IsJudged d) where
         }
 
     -- an input
-    right_input : (around : Option (ℕ × List ℕ)) → FitsAround k path around → (net : List ℕ) → Among net (nets d m) → (j : ℕ) → slice_get (data_inputs d m) j ≡ Some net → of_net net (locals d m) ≡ local_input j ∷ [] → IsRight d (column path net) (placed (start_of d path) offsets around (local_input j))
+    right_input : (around : Option (ℕ × List ℕ)) → FitsAround k path around → (net : List ℕ) → Among net (nets d m) → (j : ℕ) → slice_get (data_inputs d m) j ≡ Some net → of_net net (locals d m) ≡ local_input j ∷ [] → IsOnlyDriver d (column path net) (placed (start_of d path) offsets around (local_input j))
     unfolding inst_sub
     right_input None (at_root root) net among j input one = record { only = root_case root net among (local_input j) one; below = tt }
     right_input (Some around) (in_inst start actuals w) net among j input one =
@@ -179,7 +170,7 @@ module _ (d : Design) (judged : IsJudged d) where
         }
 
     -- what is placed for the one driver of a net is right
-    pub wired_right : (around : Option (ℕ × List ℕ)) → FitsAround k path around → (net : List ℕ) → Among net (nets d m) → (l : Local (List ℕ)) → of_net net (locals d m) ≡ l ∷ [] → IsWiredLocal d judged m net l → IsRight d (column path net) (placed (start_of d path) offsets around (numbered d k l))
+    pub wired_right : (around : Option (ℕ × List ℕ)) → FitsAround k path around → (net : List ℕ) → Among net (nets d m) → (l : Local (List ℕ)) → of_net net (locals d m) ≡ l ∷ [] → IsWiredLocal d judged m net l → IsOnlyDriver d (column path net) (placed (start_of d path) offsets around (numbered d k l))
     wired_right around fits net among _ one (wired_input j input) = right_input around fits net among j input one
     wired_right None fits net among _ one (wired_latch first input is) = right_seen None fits net among (local_latch first input) one _ (seen_latch first input is) (λ up i inst e. refl)
     wired_right (Some a) fits net among _ one (wired_latch first input is) = right_seen (Some a) fits net among (local_latch first input) one _ (seen_latch first input is) (λ up i inst e. refl)
@@ -188,7 +179,7 @@ module _ (d : Design) (judged : IsJudged d) where
     wired_right None fits net among _ one (wired_output i formal inst at sub is) = right_seen None fits net among (local_connection i formal) one _ (seen_output i formal inst at sub is) (λ up i inst e. refl)
     wired_right (Some a) fits net among _ one (wired_output i formal inst at sub is) = right_seen (Some a) fits net among (local_connection i formal) one _ (seen_output i formal inst at sub is) (λ up i inst e. refl)
 
-    pub net_right : (around : Option (ℕ × List ℕ)) → FitsAround k path around → (net : List ℕ) → Among net (nets d m) → (l : Local (List ℕ)) → of_net net (locals d m) ≡ l ∷ [] → IsRight d (column path net) (placed (start_of d path) offsets around (numbered d k l))
+    pub net_right : (around : Option (ℕ × List ℕ)) → FitsAround k path around → (net : List ℕ) → Among net (nets d m) → (l : Local (List ℕ)) → of_net net (locals d m) ≡ l ∷ [] → IsOnlyDriver d (column path net) (placed (start_of d path) offsets around (numbered d k l))
     net_right around fits net among l one =
         wired_right around fits net among l one (wired_local d judged k reached m here net l (of_net_among net (locals d m) l (subst (λ (ls : List (Local (List ℕ))). Among l ls) (sym one) (inl refl))))
 
