@@ -66,9 +66,8 @@ fn count_model(survey: &Survey<'_>, what: Measure, k: u32, model: &Model, counts
     requires few { length model.now.insts < 2 ^ 32 }
     ensures { result ≡ min (count_by_subs what survey.now (λ j. slice_index_or counts.now j 0) k) 4294967295 }
 {
-    let insts = model.insts.as_slice();
     let mut count = count_own(survey, what, k, model);
-    for i in 0..insts.len() {
+    for i in 0..model.insts.len() {
         count = join_inst(survey, what, k, i as u32, count, counts);
     }
     count

@@ -8,17 +8,17 @@ use Rattle.lid_counts.proofs.counts.count_model.Goals as goal
 
 pub loop-i-init : goal.loop-i-init
 loop-i-init c =
-    let here : c.as_slice-insts.result.now ≡ insts_of c.args.survey.now c.args.k = c.as_slice-insts.ensures ∙ sym (insts_here c.args.survey.now c.args.k c.args.model.now c.requires.model) in
+    let here : c.args.model.now.insts ≡ insts_of c.args.survey.now c.args.k = sym (insts_here c.args.survey.now c.args.k c.args.model.now c.requires.model) in
     record {
       small = let e = c.count_own-count.ensures in omega arith;
-      rest = counts_init c.args.what c.args.survey.now (λ (j : ℕ). slice_index_or c.args.counts.now j 0) c.args.k c.count_own-count.result c.as_slice-insts.result.now here c.count_own-count.ensures;
+      rest = counts_init c.args.what c.args.survey.now (λ (j : ℕ). slice_index_or c.args.counts.now j 0) c.args.k c.count_own-count.result c.args.model.now.insts here c.count_own-count.ensures;
     }
 
 pub loop-i-preserved : goal.loop-i-preserved
 loop-i-preserved c =
-    let insts = c.as_slice-insts.result.now in
+    let insts = c.args.model.now.insts in
     let h : c.loop-i.i < length insts = omega arith in
-    let here : insts ≡ insts_of c.args.survey.now c.args.k = c.as_slice-insts.ensures ∙ sym (insts_here c.args.survey.now c.args.k c.args.model.now c.requires.model) in
+    let here : insts ≡ insts_of c.args.survey.now c.args.k = sym (insts_here c.args.survey.now c.args.k c.args.model.now c.requires.model) in
     let found = there insts c.loop-i.i h in
     let joined = c.join_inst-count.ensures found.0 (ap (λ (insts : List Inst). slice_get insts c.loop-i.i) (sym here) ∙ found.1) in
     record {
