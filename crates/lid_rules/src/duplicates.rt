@@ -81,8 +81,19 @@ fn first_duplicate<'d>(
     ensures { IfOk result (λ name. name_behind name ≡ first_name (is_duplicate is_root model.now) model.now) }
 {
     let lists = tally_lists(alloc, model)?;
-    let names = list_occurrences(alloc, model)?;
-    Ok(first_among(is_root, &lists, names.as_slice()))
+    first_in_lists(alloc, is_root, &lists)
+}
+
+/// The first name of a model that stands twice in its lists, by the names of each.
+fn first_in_lists<'d>(
+    alloc: Global,
+    is_root: bool,
+    lists: &Lists<'d>,
+) -> Result<Option<&'d [u8]>, AllocError>
+    ensures { IfOk result (λ name. name_behind name ≡ first_name (is_duplicate is_root lists.now.model.now) lists.now.model.now) }
+{
+    let names = list_occurrences(alloc, lists.model)?;
+    Ok(first_among(is_root, lists, names.as_slice()))
 }
 
 /// Collects the names of each list of a model.

@@ -131,8 +131,8 @@ fn findings_in<'d>(
     requires few { length model.now.insts < 2 ^ 32 }
     ensures { IfOk result (λ found. (rule : NameRule) → told_by rule found ≡ name_rule rule ports.now model.now) }
 {
-    let nets = collect_nets(alloc, ports, k, model)?;
     let names = list_occurrences(alloc, model)?;
+    let nets = collect_nets(alloc, ports, k, model)?;
     Ok(tell_each(ports, k, &nets, names.as_slice()))
 }
 
