@@ -51,7 +51,7 @@ fn copy_told(alloc: Global, told: Told<'_>) -> Result<CheckFault, AllocError>
 
 /// The fault of a condition that tells a name of a model.
 fn name_fault(fault: NameFault, model: Name, name: Name) -> CheckFault
-    ensures { result ≡ name_fault fault model.entry name.entry }
+    ensures { result ≡ name_fault fault model name }
 {
     match fault {
         NameFault::DuplicateName => CheckFault::DuplicateName { model, name },
@@ -64,7 +64,7 @@ fn name_fault(fault: NameFault, model: Name, name: Name) -> CheckFault
 
 /// The fault of a condition that tells a name at an instance of a model.
 fn inst_fault(fault: InstFault, model: Name, inst: u32, name: Name) -> CheckFault
-    ensures { result ≡ inst_fault fault model.entry inst name.entry }
+    ensures { result ≡ inst_fault fault model inst name }
 {
     match fault {
         InstFault::UnknownModel => CheckFault::UnknownModel { model, inst, name },
