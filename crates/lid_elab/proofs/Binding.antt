@@ -28,7 +28,8 @@ use Rattle.lid_elab.specs.declared.template.LocalDriver.{LocalDriver}
 use Rattle.lid_elab.specs.declared.template.Template.{Template}
 use Rattle.lid_wiring.proofs.Passing.{IsSoundInst}
 use Rattle.lid_wiring.proofs.Wired.{Sub, sub_of, sound}
-use Rattle.lid_elab.proofs.Picking.{once_firsts, picked_by}
+use Rattle.lid_wiring.proofs.Driven.{once_firsts}
+use Rattle.lid_elab.proofs.Picking.{picked_by}
 
 prefix_map : {A B : Type 0} (f : A → B) (p : B → Bool) (xs : List A) → prefix_len p (map f xs) ≡ prefix_len (λ x. p (f x)) xs
 prefix_map f p [] = refl

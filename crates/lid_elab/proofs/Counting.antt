@@ -17,15 +17,8 @@ use Rattle.lid_wiring.specs.Judged.{IsJudged}
 use Rattle.lid_wiring.proofs.Limits.{few_columns}
 use Rattle.lid_wiring.proofs.Shallow.{shallow_of}
 use Rattle.lid_elab.proofs.Numbering.{within}
-use Rattle.lid_elab.proofs.Stacking.{size_sum}
+use Rattle.lid_elab.proofs.Stacking.{size_sum, over_step}
 use Rattle.lid_hierarchy.proofs.Walks.{reached_below}
-
--- one more instance of a list
-over_step : (d : Design) (f : ℕ → ℕ) (insts : List Inst) (i : ℕ) → over_insts d f (take (suc i) insts) ≡ over_insts d f (take i insts) + option_map_or f (option_and_then (λ inst. number_named d inst.model) (slice_get insts i)) 0
-over_step d f [] zero = refl
-over_step d f [] (suc i) = refl
-over_step d f (x ∷ insts) zero = omega arith
-over_step d f (x ∷ insts) (suc i) = let e = over_step d f insts i in omega arith
 
 over_some : (d : Design) (f : ℕ → ℕ) (insts : List Inst) (i : ℕ) → over_insts d f (take i insts) ≤ over_insts d f insts
 over_some d f insts zero = omega arith

@@ -5,8 +5,8 @@ use Rattle.std.specs.List.{flat_map, enumerate_from}
 use Rattle.std.proofs.lemmas.List.{map-append, append-nil, length-map}
 use Rattle.std.proofs.lemmas.Option.{slice_get-map, slice_get_read, slice_get_within}
 use Rattle.lid_names.specs.Names.{texts}
-use Rattle.lid_names.proofs.Lists.{is_among_firsts}
 use Rattle.lid_base.proofs.Lists.{filter_same}
+use Rattle.lid_names.proofs.Lists.{is_among_firsts}
 use Rattle.lid_design.specs.declared.Design.{Design}
 use Rattle.lid_design.specs.declared.Model.{Model}
 use Rattle.lid_design.specs.declared.Inst.{Inst}

@@ -1,4 +1,4 @@
--- The place around an instance, and its drivers.
+-- The scope around an instance, and its drivers.
 use Rattle.std.proofs.Common.{◌≡◌, ◌⊎◌, ℕ, zero, suc, ◌+◌, ◌<◌, List, [], ◌∷◌, ◌++◌, length, map, get_or, option_map, Option, Some, None, Result, Ok, Err, OnOk, option_and_then, slice_get, inl, inr, refl, sym, ◌∙◌, ap, subst, arith, length-append}
 use Rattle.std.specs.Prelude.{slice_index_or}
 use Rattle.std.specs.Option.{option_map_or}
@@ -18,7 +18,7 @@ use Rattle.lid_wiring.specs.Locals.{locals, actual_for, of_net}
 use Rattle.lid_elab.specs.Templates.{shown_local, place_in, placed, IsSmall}
 use Rattle.lid_wiring.specs.Judged.{IsJudged}
 use Rattle.lid_elab.specs.Scopes.{IsOnlyDriver, ArePlaced, IsAround, IsAt, IsOuter, picked, IsSmallAt}
-use Rattle.lid_elab.specs.Parts.{IsPicked, IsTemplate, AreTemplates}
+use Rattle.lid_elab.specs.Parts.{places_in_inst, IsPicked, IsTemplate, AreTemplates}
 use Rattle.lid_elab.specs.declared.template.LocalDriver.{LocalDriver}
 use Rattle.lid_elab.specs.declared.template.Template.{Template}
 use Rattle.lid_elab.specs.declared.placing.Scope.{Scope}
@@ -26,10 +26,11 @@ use Rattle.lid_elab.specs.declared.placing.Around.{Around}
 use Rattle.lid_elab.proofs.Numbering.{starts_at}
 use Rattle.lid_wiring.proofs.Names.{map_some}
 use Rattle.lid_elab.proofs.Located.{get_split}
+use Rattle.lid_elab.proofs.Binding.{bound_in}
 use Rattle.lid_wiring.proofs.Limits.{few_columns}
 use Rattle.lid_elab.proofs.Placed.{FitsAround, at_root, in_inst, net_right, net_small}
 
--- the place around an instance by its template
+-- the scope around an instance by its template
 pub record OuterInst (d : Design) (ts : List Template) (path : List ℕ) (k : ℕ) (a : Around) : Type 0 where
   pub up : List ℕ
   pub is_path : path ≡ a.inst ∷ up
@@ -74,7 +75,7 @@ fits d path k (Some around) judged w = by (slice_get d.models w.around) refl w.a
     by None e none = absurd (let f : None ≡ Some w.inst = none in cc)
     by (Some m) e here = in_inst around.0 around.1 (record { up = w.up; i = w.i; around = w.around; body = m; inst = w.inst; is_path = w.is_path; leads = w.leads; there = e; at = here; is_start = w.is_start; each = w.is_actuals })
 
--- the pick of a place among a list as long as another
+-- what stands at a place that is there
 pub get_of : {A : Type 0} (xs : List A) (i : ℕ) → i < length xs → (x : A) × (slice_get xs i ≡ Some x)
 get_of [] i less = absurd (omega arith)
 get_of (x ∷ xs) zero less = (x, refl)

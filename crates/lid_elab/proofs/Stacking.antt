@@ -43,19 +43,21 @@ module _ (d : Design) where
           ap (λ (m : ℕ). weight_within m d k) e
           ∙ ap (λ (s : ℕ). 1 + s) (over_same d (weight_within n d) (weight_within (length d.models) d) (insts_of d k) (λ i j names. weight_same n j (subs i j names) ∙ ap (λ (m : ℕ). weight_within m d j) (sym e)))
 
-  over_next : (f : ℕ → ℕ) (insts : List Inst) (i j : ℕ) → option_and_then (λ inst. number_named d inst.model) (slice_get insts i) ≡ Some j → over_insts d f (take (suc i) insts) ≡ over_insts d f (take i insts) + f j
-  over_next f [] i j names = absurd (let e : None ≡ Some j = names in cc)
-  over_next f (x ∷ insts) zero j names =
-      let e : option_map_or f (number_named d x.model) 0 ≡ f j = ap (λ (o : Option ℕ). option_map_or f o 0) names in
-      omega arith
-  over_next f (x ∷ insts) (suc i) j names = let e = over_next f insts i j names in omega arith
+  -- one more instance of a list
+  pub over_step : (f : ℕ → ℕ) (insts : List Inst) (i : ℕ) → over_insts d f (take (suc i) insts) ≡ over_insts d f (take i insts) + option_map_or f (option_and_then (λ inst. number_named d inst.model) (slice_get insts i)) 0
+  over_step f [] zero = refl
+  over_step f [] (suc i) = refl
+  over_step f (x ∷ insts) zero = omega arith
+  over_step f (x ∷ insts) (suc i) = let e = over_step f insts i in omega arith
 
   pub over_more : (f : ℕ → ℕ) (k i j : ℕ) → instance_number d i k ≡ Some j → over_insts d f (take (i + 1) (insts_of d k)) ≡ over_insts d f (take i (insts_of d k)) + f j
   over_more f k i j names =
       let next : i + 1 ≡ suc i = omega arith in
-      ap (λ (n : ℕ). over_insts d f (take n (insts_of d k))) next ∙ over_next f (insts_of d k) i j names
+      ap (λ (n : ℕ). over_insts d f (take n (insts_of d k))) next
+      ∙ over_step f (insts_of d k) i
+      ∙ ap (λ (o : Option ℕ). over_insts d f (take i (insts_of d k)) + option_map_or f o 0) names
 
-  -- the place of an instance
+  -- the scope of an instance
   pub inst_at : (path : List ℕ) (p : Scope) → IsAt d path p → (i j o : ℕ) → instance_number d i p.model ≡ Some j → o ≡ offset_of d p.model i → IsAt d (i ∷ path) (record { model = j; start = p.start + o; around = Some (record { model = p.model; start = p.start; inst = i }) })
   unfolding number_from start_of
   inst_at path p at i j o names off = record {

@@ -75,6 +75,7 @@ module _ (d : Design) (judged : IsJudged d) (starts : List ℕ) (few : length st
       }
 
   pub elaborated : (network : List (Driver ℕ)) → ArePlaced d network → length network ≡ length (columns d) → IsElaborated d network starts
+  unfolding start_of
   elaborated network written whole = record {
     whole = whole;
     each = driven;
@@ -87,7 +88,6 @@ module _ (d : Design) (judged : IsJudged d) (starts : List ℕ) (few : length st
   }
     where
       root_start : StartsAt d [] 0
-      unfolding start_of
       root_start = starts_at d judged []
 
       driven : (k : ℕ) (c : Column) → slice_get (columns d) k ≡ Some c → IsDrivenBy d network k c

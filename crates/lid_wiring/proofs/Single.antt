@@ -246,8 +246,8 @@ module _ (d : Design) (judged : IsJudged d) where
 
   -- the net that a data input of an instance is bound to
   module _ (k : ℕ) (reached : IsReached d k) (m : Model) (here : slice_get d.models k ≡ Some m) (i : ℕ) (inst : Inst) (at : slice_get m.insts i ≡ Some inst) (sub : Sub d inst) where
-    judged : IsSoundInst d sub.model inst
-    judged = (sound d judged k reached m here).insts i inst sub.model at sub.named
+    as_told : IsSoundInst d sub.model inst
+    as_told = (sound d judged k reached m here).insts i inst sub.model at sub.named
 
     bound_once : (formal : List ℕ) → Among formal (data_inputs d sub.model) → of_net formal (bound_pairs inst) ≡ actual_for inst formal ∷ []
     bound_once formal input = by (single (of_net formal (bound_pairs inst)) total)
@@ -256,13 +256,13 @@ module _ (d : Design) (judged : IsJudged d) where
         count = count_by (bytes_eq formal) (formals inst)
 
         bound : is_among formal (formals inst) ≡ true
-        bound = judged.bound formal input
+        bound = as_told.bound formal input
 
         total : length (of_net formal (bound_pairs inst)) ≡ 1
         total =
             let whole : length (of_net formal (bound_pairs inst)) ≡ count = of_net_count formal (bound_pairs inst) ∙ ap (count_by (bytes_eq formal)) (pairs_named inst.binds) in
             let least : 1 ≤ count = count_some formal (formals inst) bound in
-            let most : count ≤ 1 = ltb-false 1 count (judged.once formal (to_among formal (formals inst) bound)) in
+            let most : count ≤ 1 = ltb-false 1 count (as_told.once formal (to_among formal (formals inst) bound)) in
             omega arith
 
         by : (a : List ℕ) × (of_net formal (bound_pairs inst) ≡ a ∷ []) → of_net formal (bound_pairs inst) ≡ actual_for inst formal ∷ []

@@ -24,6 +24,7 @@ module _ (d : Design) (judged : IsJudged d) where
     only : drivers d (column path net) ≡ driver ∷ []
 
   told_at : (c : Column) (at : NetAt d judged c) (path : List ℕ) → path ≡ c.path → (l : Local (List ℕ)) → of_net c.net (locals d at.model) ≡ l ∷ [] → Told path c.net at.number l
+  unfolding number_from
   told_at c at [] same l one =
       let leads = ap (number_from d d.root) same ∙ at.leads in
       record { driver = _; told = refl; only = root_driven d judged at.number (c.path, at.leads) at.model at.here leads c.net at.net l one }
@@ -33,7 +34,6 @@ module _ (d : Design) (judged : IsJudged d) where
       leads = ap (number_from d d.root) same ∙ at.leads
 
       around : (k : ℕ) × (number_from d d.root up ≡ Some k) × (instance_number d i k ≡ Some at.number)
-      unfolding number_from
       around = then_some (number_from d d.root up) (instance_number d i) at.number leads
 
       inst : (x : Inst) × (slice_get (insts_of d around.0) i ≡ Some x) × (number_named d x.model ≡ Some at.number)

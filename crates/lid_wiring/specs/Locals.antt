@@ -52,12 +52,17 @@ locals d m = inputs_from 0 (data_inputs d m) ++ inner_locals d m
 abbrev pub of_net : {V : Type 0} → List ℕ → List (List ℕ × V) → List V
 of_net net ps = flat_map (λ p. if bytes_eq p.0 net then p.1 ∷ [] else []) ps
 
+-- what it is outside the model, where inputs, the nets of the model and those of its instances are told
+-- in other words
+abbrev pub resolved : {N C : Type 0} → (ℕ → Driver C) → (N → C) → (ℕ → N → C) → Local N → Driver C
+resolved input own inner (local_input j) = input j
+resolved input own inner (local_latch first net) = from_latch first (own net)
+resolved input own inner (local_cover cover nets) = from_cover cover (map own nets)
+resolved input own inner (local_connection i net) = from_connection (inner i net)
+
 -- what it is at a path; an input is given at the root
 abbrev pub driver_at : List ℕ → Local (List ℕ) → Driver Column
-driver_at path (local_input j) = from_input j
-driver_at path (local_latch first input) = from_latch first (column path input)
-driver_at path (local_cover cover inputs) = from_cover cover (map (column path) inputs)
-driver_at path (local_connection i formal) = from_connection (column (i ∷ path) formal)
+driver_at path = resolved from_input (column path) (λ i formal. column (i ∷ path) formal)
 
 -- the formals of an instance, each with its actual
 abbrev pub bound_pairs : Inst → List (List ℕ × List ℕ)
@@ -74,8 +79,7 @@ actual_for inst formal = first_name_of (of_net formal (bound_pairs inst))
 
 -- what it is in instance i of the model at a path: an input is the net that it is bound to
 abbrev pub driver_in : List ℕ → ℕ → Inst → List (List ℕ) → Local (List ℕ) → Driver Column
-driver_in path i inst inputs (local_input j) = from_connection (column path (actual_for inst (slice_index_or inputs j [])))
-driver_in path i inst inputs other = driver_at (i ∷ path) other
+driver_in path i inst inputs = resolved (λ j. from_connection (column path (actual_for inst (slice_index_or inputs j [])))) (column (i ∷ path)) (λ j formal. column (j ∷ i ∷ path) formal)
 
 -- what drives nets of the model of a number
 abbrev pub model_locals : Design → ℕ → List NetLocal

@@ -25,7 +25,7 @@ impl<'d> Model for Judged<'d> {
 /// The survey of a design whose models were seen to pass the conditions on models.
 pub fn judge(survey: Survey<'_>) -> Judged<'_>
     requires { ModelsPass survey }
-    ensures { result ≡ survey }
+    ensures { result ≡ survey.entry }
 {
     let _ = survey.design();
     let _ = survey.order();
