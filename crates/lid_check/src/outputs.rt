@@ -7,7 +7,8 @@ ghost use Rattle.lid_base.specs.Lists.{Among};
 ghost use Rattle.lid_design.specs.Walks.{read_now};
 ghost use Rattle.lid_digraph.specs.Graphs.{IsOrder};
 ghost use Rattle.lid_elab.specs.Elaborations.{shown_driver, IsElaborated};
-ghost use Rattle.lid_check.specs.Pearls.{inputs_of, is_marked, Fits, IsFirstMarked, AreUnmarked, LeadsTo, AreReachedIn, AreCutOff, AreLed, CutsOff, count_cut, IsFirstInput};
+ghost use Rattle.lid_design.specs.Models.{data_inputs_of};
+ghost use Rattle.lid_check.specs.Pearls.{is_marked, Fits, IsFirstMarked, AreUnmarked, LeadsTo, AreReachedIn, AreCutOff, AreLed, CutsOff, count_cut, IsFirstInput};
 ghost use Rattle.lid_check.specs.Flaws.{FindsLead, FindsDependence};
 
 use crate::pearls::{
@@ -56,7 +57,7 @@ fn find_input(
     requires cut { length cut.now ≡ length graph.now.reads.now }
     requires few { length graph.now.reads.now ≤ 1048576 }
     requires fits { Fits survey.now (length graph.now.reads.now) pearl }
-    requires some { (input : List ℕ) × Among input (inputs_of survey.now pearl.model) × LeadsTo survey.now graph.now.reads.now cut.now pearl input output.now }
+    requires some { (input : List ℕ) × Among input (data_inputs_of survey.now pearl.model) × LeadsTo survey.now graph.now.reads.now cut.now pearl input output.now }
     ensures { IfOk result (IsFirstInput survey.now graph.now.reads.now cut.now pearl output.now) }
 {
     let Some(end) = number_of(survey, pearl, output) else {
@@ -75,8 +76,8 @@ fn first_input(
 ) -> Result<usize, AllocError>
     requires fits { Fits survey.now (length marks.now) pearl }
     requires few { length marks.now ≤ 1048576 }
-    requires some { (input : List ℕ) × Among input (inputs_of survey.now pearl.model) × (is_marked survey.now pearl marks.now input ≡ true) }
-    ensures { IfOk result (IsFirstMarked survey.now pearl marks.now (inputs_of survey.now pearl.model)) }
+    requires some { (input : List ℕ) × Among input (data_inputs_of survey.now pearl.model) × (is_marked survey.now pearl marks.now input ≡ true) }
+    ensures { IfOk result (IsFirstMarked survey.now pearl marks.now (data_inputs_of survey.now pearl.model)) }
 {
     let inputs = find_inputs(alloc, survey, pearl.model)?;
     match first_marked(survey, pearl, marks, inputs.as_slice()) {

@@ -14,7 +14,7 @@ use Rattle.lid_design.specs.declared.Cell.TheVariants.{Names, Latch}
 use Rattle.lid_design.specs.declared.Inst.{Inst}
 use Rattle.lid_design.specs.Columns.{is_among, is_clock, data_inputs, model_named}
 use Rattle.lid_design.specs.Models.{firsts, nets, cell_out, control_names, driven_by, actuals_bound_to, inner_drivers, port_drivers, driver_names, IsReached}
-use Rattle.lid_design.specs.Places.{model_nets}
+use Rattle.lid_design.specs.Elaboration.{model_nets}
 use Rattle.lid_names.specs.Names.{texts}
 use Rattle.lid_names.proofs.Lists.{count_append}
 use Rattle.lid_hierarchy.proofs.Numbers.{firsts_distinct}

@@ -8,7 +8,7 @@ use Rattle.lid_design.specs.declared.Model.{Model}
 use Rattle.lid_design.specs.WellFormed.{IsWellFormed}
 use Rattle.lid_design.specs.Columns.{is_among, is_clock}
 use Rattle.lid_design.specs.Models.{occurrences, firsts, nets, IsReached, is_clock_of}
-use Rattle.lid_design.specs.Places.{model_nets}
+use Rattle.lid_design.specs.Elaboration.{model_nets}
 use Rattle.lid_hierarchy.specs.Surveys.{AreNames, IsModelOrder}
 use Rattle.lid_hierarchy.specs.Graphs.{IsUsedGraph}
 use Rattle.lid_hierarchy.specs.Clocks.{HaveClocks}

@@ -3,7 +3,7 @@ ghost use Rattle.std.specs.List.{AllByRecursion};
 ghost use Rattle.std.specs.Str.{bytes_eq};
 ghost use Rattle.lid_base.specs.Lists.{Among};
 ghost use Rattle.lid_design.specs.Columns.{column, root_outputs, IsStrictOutput};
-ghost use Rattle.lid_design.specs.Places.{model_nets};
+ghost use Rattle.lid_design.specs.Elaboration.{model_nets};
 ghost use Rattle.lid_design.specs.WellFormed.{IsWellFormed};
 ghost use Rattle.lid_elab.specs.Elaborations.{shown_driver, column_at, IsElaborated};
 ghost use Rattle.lid_rules.specs.Acceptance.{ModelsPass};

@@ -2,7 +2,7 @@ use Rattle.std.proofs.Common.{ℕ, List, Some, option_map, sym, ◌∙◌, ap}
 use Rattle.lid_rules.specs.Rules.{told_formal}
 use Rattle.lid_ports.specs.Formals.{name_behind}
 use Rattle.lid_rules.proofs.Telling.{rule_by_formal}
-use Rattle.lid_rules.proofs.instances.judge_inst.Goals as goal
+use Rattle.lid_rules.proofs.instances.find_by_rule_of.Goals as goal
 
 pub returns-in-Some : goal.returns-in-Some
 returns-in-Some c =

@@ -1,4 +1,5 @@
--- The elaboration of a design: the places of its models, and its columns in order.
+-- The elaboration of a design: all instances of its models by their paths, the columns in order, and
+-- what is counted over all instances.
 use Rattle.std.specs.Prelude.{ℕ, zero, suc, ◌+◌, max, List, [], ◌∷◌, length, map, flat_map, sum_by, count_by, Bool, true, false, slice_get}
 use Rattle.std.specs.Option.{option_map_or}
 use Rattle.std.specs.List.{enumerate_from}
@@ -10,37 +11,40 @@ use Rattle.lid_design.specs.declared.Init.TheVariants.{Zero, One, DontCare, Unkn
 use Rattle.lid_design.specs.Columns.{Column, column}
 use Rattle.lid_design.specs.Models.{nets, insts_of, number_named}
 
--- a place of the elaboration: a path, and the number of the model there
-pub record Place : Type 0 where
+-- an instance of the elaboration: its path, and the number of its model. The root is one, with the
+-- empty path
+pub record Instance : Type 0 where
   pub path : List ℕ
   pub model : ℕ
 
-abbrev pub place : List ℕ → ℕ → Place
-place path k = record { path = path; model = k }
+abbrev pub instance : List ℕ → ℕ → Instance
+instance path k = record { path = path; model = k }
 
--- the places from one of model k on, by at most so many steps into instances: the place stands
--- before those in it, and these stand in the order of the instances. So the paths, read from the
+-- an instance of model k and all in it, by at most so many steps into instances: it stands before
+-- those in it, and these stand in the order of the model's instances. So the paths, read from the
 -- root's instance numbers on, are in lexicographic order
-abbrev pub places_in : ℕ → Design → List ℕ → ℕ → List Place
-places_in zero d path k = place path k ∷ []
-places_in (suc n) d path k =
-    place path k
-    ∷ flat_map (λ p. option_map_or (places_in n d (p.0 ∷ path)) (number_named d p.1.model) []) (enumerate_from 0 (insts_of d k))
+abbrev pub instances_in : ℕ → Design → List ℕ → ℕ → List Instance
+instances_in zero d path k = instance path k ∷ []
+instances_in (suc n) d path k =
+    instance path k
+    ∷ flat_map (λ p. option_map_or (instances_in n d (p.0 ∷ path)) (number_named d p.1.model) []) (enumerate_from 0 (insts_of d k))
 
--- all places. Where no model reaches itself, no chain of instances is as long as the list of models
-unfoldable pub places : Design → List Place
-places d = places_in (length d.models) d [] d.root
+-- all instances. Where no model reaches itself, no chain of instances is as long as the list of
+-- models
+unfoldable pub instances : Design → List Instance
+instances d = instances_in (length d.models) d [] d.root
 
+-- the nets of a model, by the model's number
 abbrev pub model_nets : Design → ℕ → List (List ℕ)
 model_nets d k = option_map_or (nets d) (slice_get d.models k) []
 
--- the columns of a place, in the order in which the names first appear in its model
-abbrev pub columns_at : Design → Place → List Column
+-- the columns of an instance, in the order in which the names first appear in its model
+abbrev pub columns_at : Design → Instance → List Column
 columns_at d p = map (column p.path) (model_nets d p.model)
 
 -- all columns in order
 unfoldable pub columns : Design → List Column
-columns d = flat_map (columns_at d) (places d)
+columns d = flat_map (columns_at d) (instances d)
 
 -- the covers, latches and instances of a model
 abbrev pub cells_of : Design → ℕ → ℕ
@@ -65,23 +69,23 @@ is_defaulted (Latch input out kind control init) = is_open init
 abbrev pub count_in : (Cell → Bool) → Design → ℕ → ℕ
 count_in p d k = option_map_or (λ m. count_by p m.cells) (slice_get d.models k) 0
 
--- what is counted in the models, over all places
-abbrev pub over_places : (Design → ℕ → ℕ) → Design → ℕ
-over_places f d = sum_by (λ p. f d p.model) (places d)
+-- what is counted in the models, over all instances
+abbrev pub over_instances : (Design → ℕ → ℕ) → Design → ℕ
+over_instances f d = sum_by (λ p. f d p.model) (instances d)
 
 -- the covers, latches and instances over all paths
 unfoldable pub count_cells : Design → ℕ
-count_cells d = over_places cells_of d
+count_cells d = over_instances cells_of d
 
 -- the columns
 unfoldable pub count_nets : Design → ℕ
-count_nets d = over_places (λ d k. length (model_nets d k)) d
+count_nets d = over_instances (λ d k. length (model_nets d k)) d
 
 unfoldable pub count_latches : Design → ℕ
-count_latches d = over_places (count_in is_latch) d
+count_latches d = over_instances (count_in is_latch) d
 
 unfoldable pub count_defaulted : Design → ℕ
-count_defaulted d = over_places (count_in is_defaulted) d
+count_defaulted d = over_instances (count_in is_defaulted) d
 
 -- the greatest of a list of numbers, and 0 of none
 abbrev pub greatest : List ℕ → ℕ
@@ -90,4 +94,4 @@ greatest (n ∷ ns) = max n (greatest ns)
 
 -- the length of the longest chain of instances from the root
 unfoldable pub depth : Design → ℕ
-depth d = greatest (map (λ p. length p.path) (places d))
+depth d = greatest (map (λ p. length p.path) (instances d))
