@@ -6,7 +6,7 @@ use lid_base::Line;
 
 /// What the lines so far mean for the next line.
 #[derive(Clone, Copy)]
-pub struct Place {
+pub struct Context {
     /// The next line stands in a model.
     pub inside: bool,
     /// A row would belong to a cover.
@@ -23,15 +23,15 @@ pub struct Place {
     pub models: usize,
 }
 
-impl Place {
+impl Context {
     ghost use Rattle.lid_base.specs.declared.line.Line.{Line};
-    ghost use Rattle.lid_blif.specs.Faults.{place_of};
+    ghost use Rattle.lid_blif.specs.Faults.{context_of};
 
-    /// The place of the first line.
-    pub fn start() -> Place
-        ensures { result ≡ place_of [] }
+    /// The context of the first line.
+    pub fn start() -> Context
+        ensures { result ≡ context_of [] }
     {
-        Place {
+        Context {
             inside: false,
             covered: false,
             inputs: 0,
@@ -42,11 +42,11 @@ impl Place {
         }
     }
 
-    /// The place of the line after this one.
-    pub fn after(self, line: &Line) -> Place
+    /// The context of the line after this one.
+    pub fn after(self, line: &Line) -> Context
         requires rows { self.rows + 1 < 2 ^ 64 }
         requires models { self.models + 1 < 2 ^ 64 }
-        ensures { (before : List Line) → self ≡ place_of before → result ≡ place_of (line.now ∷ before) }
+        ensures { (before : List Line) → self ≡ context_of before → result ≡ context_of (line.now ∷ before) }
     {
         match keyword(line) {
             Keyword::Model => self.with_model(),
@@ -57,20 +57,20 @@ impl Place {
         }
     }
 
-    fn with_model(self) -> Place
+    fn with_model(self) -> Context
         requires { self.models + 1 < 2 ^ 64 }
         ensures { result ≡ record { inside = true; covered = false; inputs = 0; zeros = false; ones = false; rows = self.rows; models = self.models + 1 } }
     {
-        Place {
+        Context {
             models: self.models + 1,
             ..self.without_cover(true)
         }
     }
 
-    fn without_cover(self, inside: bool) -> Place
+    fn without_cover(self, inside: bool) -> Context
         ensures { result ≡ record { inside = inside; covered = false; inputs = 0; zeros = false; ones = false; rows = self.rows; models = self.models } }
     {
-        Place {
+        Context {
             inside,
             covered: false,
             inputs: 0,
@@ -81,10 +81,10 @@ impl Place {
         }
     }
 
-    fn with_cover(self, inputs: usize) -> Place
+    fn with_cover(self, inputs: usize) -> Context
         ensures { result ≡ record { inside = self.inside; covered = true; inputs = inputs; zeros = false; ones = false; rows = self.rows; models = self.models } }
     {
-        Place {
+        Context {
             inside: self.inside,
             covered: true,
             inputs,
@@ -95,11 +95,11 @@ impl Place {
         }
     }
 
-    fn with_row(self, zero: bool, one: bool) -> Place
+    fn with_row(self, zero: bool, one: bool) -> Context
         requires { self.rows + 1 < 2 ^ 64 }
         ensures { result ≡ record self { zeros = zero || self.zeros; ones = one || self.ones; rows = self.rows + 1 } }
     {
-        Place {
+        Context {
             zeros: zero || self.zeros,
             ones: one || self.ones,
             rows: self.rows + 1,
