@@ -11,13 +11,13 @@ ghost use Rattle.lid_check.specs.Acceptance.{IsAccepted};
 ghost use Rattle.lid_strict.specs.Networks.{AreNumbersOf};
 
 use crate::simulation::simulate;
-use lid_base::{Items, Name};
+use lid_base::{Items, Name, copy_names};
 use lid_check::Checked;
 use lid_elab::{Elaboration, elaborate, find_reads};
 use lid_design::Design;
 use lid_hierarchy::{Survey, SurveyFault, find_uses, survey_models};
 use lid_digraph::{Found, find_order};
-use lid_texts::{Rows, copy_names};
+use lid_texts::Rows;
 use std::alloc::{AllocError, Global};
 
 /// The strict outputs of an accepted design for input rows, by a plain simulation of all its
