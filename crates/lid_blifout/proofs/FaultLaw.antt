@@ -21,11 +21,11 @@ use Rattle.lid_blif.specs.declared.fault.BlifFault.TheVariants.{NoModel, Arity, 
 use Rattle.lid_blif.specs.declared.keyword.Keyword.{Keyword}
 use Rattle.lid_blif.specs.declared.keyword.Keyword.TheVariants.{Model, Inputs, Outputs, Clock, Names, Latch, Subckt, End, Unknown, Row}
 use Rattle.lid_blif.specs.declared.context.Context.{Context}
-use Rattle.lid_base.specs.Words.{last_word}
-use Rattle.lid_blif.specs.Words.{named_keyword, keyword_of, inputs_of, is_zero, is_one, is_row_of}
+use Rattle.lid_base.specs.Words.{word_at, last_word}
+use Rattle.lid_blif.specs.Words.{named_keyword, keyword_of, same_keyword, is_line, inputs_of, is_zero, is_one, is_row_of}
 use Rattle.lid_blif.specs.Faults.{context_of, model_names, ends_in_zero, ends_in_one, Case, told, cases_of, is_mixed, line_fault, first_fault}
 use Rattle.lid_design.specs.WellFormed.{model_name}
-use Rattle.lid_blif.proofs.Contexts.{context_of_cons, first_fault_pass}
+use Rattle.lid_blif.proofs.Contexts.{next_context, context_of_cons, first_fault_pass}
 use Rattle.lid_blif.proofs.Faults.{context_models}
 use Rattle.lid_blifout.specs.Canonical.{listed, output_word, cube_line, control_word, init_word, cell_lines, inst_line, body_lines, models_lines}
 use Rattle.lid_blifout.specs.Writable.{IsWritableCover, IsWritableCell, IsWritableInst, IsWritableModel, cell_rows, cells_rows, model_rows}
@@ -49,18 +49,34 @@ abbrev next_inside : Keyword → Bool → Bool
 next_inside End inside = false
 next_inside _ inside = inside
 
--- the context after a line that is neither a model's first nor a row
+-- what a line that is neither a model's first nor a row leaves as it was
+record IsKept (k : Keyword) (now next : Context) : Type 0 where
+  inside : next.inside ≡ next_inside k now.inside
+  rows : next.rows ≡ now.rows
+  names : same_keyword Model k ≡ false
+
+kept_after : (k : Keyword) (l : Line) (now : Context) → (k ≡ Model → ⊥) → (k ≡ Row → ⊥) → IsKept k now (next_context k l now)
+kept_after Model l now m r = absurd (m refl)
+kept_after Row l now m r = absurd (r refl)
+kept_after Inputs l now m r = record { inside = refl; rows = refl; names = refl }
+kept_after Outputs l now m r = record { inside = refl; rows = refl; names = refl }
+kept_after Clock l now m r = record { inside = refl; rows = refl; names = refl }
+kept_after Names l now m r = record { inside = refl; rows = refl; names = refl }
+kept_after Latch l now m r = record { inside = refl; rows = refl; names = refl }
+kept_after Subckt l now m r = record { inside = refl; rows = refl; names = refl }
+kept_after End l now m r = record { inside = refl; rows = refl; names = refl }
+kept_after Unknown l now m r = record { inside = refl; rows = refl; names = refl }
+
 at_after : (k : Keyword) (l : Line) (inside : Bool) (names : Words) (rows : ℕ) (before : List Line) → k ≡ keyword_of l.words → (k ≡ Model → ⊥) → (k ≡ Row → ⊥) → At inside names rows before → At (next_inside k inside) names rows (l ∷ before)
-at_after Model l inside names rows before e m r at = absurd (m refl)
-at_after Row l inside names rows before e m r at = absurd (r refl)
-at_after Inputs l inside names rows before e m r at = let p = context_of_cons Inputs l before e in record { inside_is = ap (λ (q : Context). q.inside) p ∙ at.inside_is; names_are = rw (← e) at.names_are; rows_are = ap (λ (q : Context). q.rows) p ∙ at.rows_are }
-at_after Outputs l inside names rows before e m r at = let p = context_of_cons Outputs l before e in record { inside_is = ap (λ (q : Context). q.inside) p ∙ at.inside_is; names_are = rw (← e) at.names_are; rows_are = ap (λ (q : Context). q.rows) p ∙ at.rows_are }
-at_after Clock l inside names rows before e m r at = let p = context_of_cons Clock l before e in record { inside_is = ap (λ (q : Context). q.inside) p ∙ at.inside_is; names_are = rw (← e) at.names_are; rows_are = ap (λ (q : Context). q.rows) p ∙ at.rows_are }
-at_after Names l inside names rows before e m r at = let p = context_of_cons Names l before e in record { inside_is = ap (λ (q : Context). q.inside) p ∙ at.inside_is; names_are = rw (← e) at.names_are; rows_are = ap (λ (q : Context). q.rows) p ∙ at.rows_are }
-at_after Latch l inside names rows before e m r at = let p = context_of_cons Latch l before e in record { inside_is = ap (λ (q : Context). q.inside) p ∙ at.inside_is; names_are = rw (← e) at.names_are; rows_are = ap (λ (q : Context). q.rows) p ∙ at.rows_are }
-at_after Subckt l inside names rows before e m r at = let p = context_of_cons Subckt l before e in record { inside_is = ap (λ (q : Context). q.inside) p ∙ at.inside_is; names_are = rw (← e) at.names_are; rows_are = ap (λ (q : Context). q.rows) p ∙ at.rows_are }
-at_after Unknown l inside names rows before e m r at = let p = context_of_cons Unknown l before e in record { inside_is = ap (λ (q : Context). q.inside) p ∙ at.inside_is; names_are = rw (← e) at.names_are; rows_are = ap (λ (q : Context). q.rows) p ∙ at.rows_are }
-at_after End l inside names rows before e m r at = let p = context_of_cons End l before e in record { inside_is = ap (λ (q : Context). q.inside) p; names_are = rw (← e) at.names_are; rows_are = ap (λ (q : Context). q.rows) p ∙ at.rows_are }
+at_after k l inside names rows before e m r at =
+    let next = context_of_cons k l before e in
+    let kept = kept_after k l (context_of before) m r in
+    let other : is_line Model l ≡ false = ap (same_keyword Model) (sym e) ∙ kept.names in
+    record {
+      inside_is = ap (λ (q : Context). q.inside) next ∙ kept.inside ∙ ap (next_inside k) at.inside_is;
+      names_are = cond-false (is_line Model l) (model_names before ++ word_at l.words 1 ∷ []) (model_names before) other ∙ at.names_are;
+      rows_are = ap (λ (q : Context). q.rows) next ∙ kept.rows ∙ at.rows_are;
+    }
 
 -- a line without fault, and no fault after it
 clear_line : (k : Keyword) (words : Words) (lines : List Words) (inside : Bool) (names : Words) (rows : ℕ) → k ≡ keyword_of words → (k ≡ Model → ⊥) → (k ≡ Row → ⊥)

@@ -9,7 +9,7 @@ ghost use Rattle.lid_cli.specs.Jobs.{is_given, is_tallied, is_allowed, files_in,
 
 use crate::table::{FILES, OPTIONS, TALLY};
 use clap::ArgMatches;
-use lid_base::{Name, Text};
+use lid_base::{Name, Text, copy_name};
 use std::alloc::{AllocError, Global};
 
 /// The value of an option or of the command's place.
@@ -93,10 +93,7 @@ pub fn name_of(
     ensures { IfOk result (λ name. name ≡ first_of option.now (rows_in given.now)) }
 {
     match value_of(given, option) {
-        Some(value) => {
-            let bytes = Vec::from_slice(alloc, value.as_bytes())?;
-            Ok(Some(Name::from_vec(bytes)))
-        }
+        Some(value) => Ok(Some(copy_name(alloc, value.as_bytes())?)),
         None => Ok(None),
     }
 }
