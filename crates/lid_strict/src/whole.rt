@@ -11,13 +11,13 @@ ghost use Rattle.lid_check.specs.Acceptance.{IsAccepted};
 ghost use Rattle.lid_strict.specs.Networks.{AreNumbersOf};
 
 use crate::simulation::simulate;
-use lid_base::{Items, Name};
+use lid_base::{Items, Name, copy_names};
 use lid_check::Checked;
 use lid_design::Design;
 use lid_digraph::{Digraph, Found, find_order};
 use lid_elab::{Elaboration, elaborate, find_reads};
 use lid_hierarchy::{Survey, SurveyFault, find_uses, survey_models};
-use lid_texts::{Rows, copy_names};
+use lid_texts::Rows;
 use lid_wiring::{Judged, judge};
 use std::alloc::{AllocError, Global};
 

@@ -7,7 +7,7 @@ use Rattle.std.proofs.Math.Bool.{or-false, or_assoc}
 use Rattle.lid_base.specs.Lines.{joins_of, goes_on, onto_first_join, physical_lines, is_newline}
 use Rattle.lid_texts.specs.declared.rows.VecFault.{VecFault}
 use Rattle.lid_texts.specs.declared.walk.RowWalk.{RowWalk}
-use Rattle.lid_texts.specs.Rows.{RowsLine, rows_line, rows_lines, has_words, header_fault, row_fault, row_bits, first_some, or_fault, bits_reading}
+use Rattle.lid_texts.specs.Rows.{RowsLine, rows_line, rows_lines, has_words, header_fault, row_fault, row_bits, first_some, ok_unless, bits_reading}
 use Rattle.lid_texts.specs.RowsWalk.{bits_after, or_refuse, joined, continued, alone, no_line, walk_after}
 
 same_line : (n m : ℕ) (v w : List (List ℕ)) (a b : Bool) → n ≡ m → v ≡ w → a ≡ b →
@@ -43,7 +43,7 @@ continued_ends : (begun : RowsLine) (p : ℕ × List ℕ) (ps : List (ℕ × Lis
 continued_ends begun p ps e = rw e (ap (λ l. joined begun l ∷ map rows_line (joins_of ps)) (alone_is p))
 
 refuse_first : {A : Type 0} (fault : Option VecFault) (later : Result A VecFault) (others : List (Option VecFault)) (a : A) →
-    later ≡ or_fault (first_some others) a → or_refuse fault later ≡ or_fault (first_some (fault ∷ others)) a
+    later ≡ ok_unless (first_some others) a → or_refuse fault later ≡ ok_unless (first_some (fault ∷ others)) a
 refuse_first None later others a h = h
 refuse_first (Some fault) later others a h = refl
 
@@ -87,7 +87,7 @@ module _ (columns : List (List ℕ)) (outs : ℕ) where
   -- the rows, read one by one and by their definition
   rows_after : (k : ℕ) (done : List (List Bool)) (lines : List RowsLine) →
       bits_after columns outs (suc k) done lines
-      ≡ or_fault (first_some (map (λ p. row_fault columns outs p.0 p.1) (enumerate_from (suc k) (filter has_words lines))))
+      ≡ ok_unless (first_some (map (λ p. row_fault columns outs p.0 p.1) (enumerate_from (suc k) (filter has_words lines))))
       (done ++ map (row_bits columns) (filter has_words lines))
   rows_after k done [] = rw (not_zero (suc k) (omega arith)) (ap Ok (sym (append-nil done)))
   rows_after k done (line ∷ lines) =
@@ -98,7 +98,7 @@ module _ (columns : List (List ℕ)) (outs : ℕ) where
       elim (has_words line) as (λ b.
       (if b then or_refuse (row_fault columns outs (suc k) line) (bits_after columns outs (suc k + 1) (done ++ row ∷ []) lines)
       else bits_after columns outs (suc k) done lines)
-      ≡ or_fault (first_some (map fault (enumerate_from (suc k) (cond b (line ∷ others) others))))
+      ≡ ok_unless (first_some (map fault (enumerate_from (suc k) (cond b (line ∷ others) others))))
       (done ++ map (row_bits columns) (cond b (line ∷ others) others))) [
         | true ↦ refuse_first (row_fault columns outs (suc k) line) _ _ _ (rw (add-one (suc k)) next)
         | false ↦ rows_after k done lines

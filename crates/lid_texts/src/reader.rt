@@ -5,29 +5,11 @@ ghost use Rattle.lid_texts.specs.Rows.{IsWide, bits_reading, rows_lines, rows_re
 
 use crate::rows::{Rows, VecFault};
 use crate::walk::RowWalk;
-use lid_base::{Items, Name, Which, cut_line};
-use std::alloc::{AllocError, Global};
+use lid_base::{Items, Name, Which, copy_names, cut_line};
+use std::alloc::Global;
 
 /// The most bytes of a rows text.
 const MOST_BYTES: usize = 67_108_864;
-
-/// A copy of a name.
-fn copy_name(alloc: Global, name: &Name) -> Result<Name, AllocError>
-    ensures { IfOk result (λ copy. copy ≡ name.now) }
-{
-    Ok(Items::from_vec(Vec::from_slice(alloc, name.as_slice())?))
-}
-
-/// A copy of a list of names.
-pub fn copy_names(alloc: Global, names: &[Name]) -> Result<Items<Name>, AllocError>
-    ensures { IfOk result (λ copy. copy ≡ names.now) }
-{
-    let mut copies = Vec::with_capacity(alloc, names.len())?;
-    for name in names {
-        copies.push(copy_name(alloc, name)?)?;
-    }
-    Ok(Items::from_vec(copies))
-}
 
 /// The bits of the rows of a text that is not too long.
 fn read_bits(
