@@ -1,0 +1,10 @@
+use Rattle.lid_reports.specs.Runs.{answer_text}
+use Rattle.lid_reports.proofs.answers.append_answer.Goals as goal
+
+pub returns-in-Void-clause-ok : goal.returns-in-Void-clause-ok
+unfolding answer_text
+returns-in-Void-clause-ok c = rw c.in-Void.is c.append_look-in-Void.ensures.ok
+
+pub returns-in-Stop-clause-ok : goal.returns-in-Stop-clause-ok
+unfolding answer_text
+returns-in-Stop-clause-ok c = rw c.in-Stop.is c.append_look-in-Stop.ensures.ok
