@@ -1,4 +1,5 @@
-//! The texts that lid reads and writes beside BLIF: rows of bits.
+//! The texts that lid reads and writes beside BLIF: rows of bits, read whole or in pieces, and the texts
+//! of runs.
 #![tactic(auto)]
 
 mod line;
@@ -8,6 +9,10 @@ mod scan;
 mod walk;
 mod writer;
 
+pub use lid_reports::{
+    ChannelLine, Report, SchedFault, Trace, TraceFault, print_answer, print_cycles, print_report,
+    print_tallies, print_trace, read_schedule, trace_fits,
+};
 pub use reader::read_rows;
 pub use rows::{Rows, VecFault};
 pub use scan::RowScan;

@@ -66,8 +66,7 @@ fn is_scanned(alloc: Global, text: &[u8], letters: &[u8], size: usize, want: Tol
     };
     let mut bits = Vec::new(alloc);
     let end = told_in_pieces(alloc, text, names.as_slice(), size, &mut bits);
-    end == want
-        && (!want.0.is_empty() || are_rows(alloc, text, names.as_slice(), bits.as_slice()))
+    end == want && (!want.0.is_empty() || are_rows(alloc, text, names.as_slice(), bits.as_slice()))
 }
 
 /// A text with comments, continued lines, carriage returns and bytes that none but a comment has, and
@@ -81,10 +80,22 @@ static BAD: &[u8] = b"# head \x01\r\n\nd e\\\n f # x\n0 1\\\r\n1\n\n10 1\t# c\r\
 #[test]
 fn pieces_of_any_size_give_the_answers_of_the_whole(rt: HostRuntime) {
     for size in [1, 2, 3, 7, 65_536] {
-        assert!(rt; is_scanned(rt.alloc(), GOOD, b"def", size, ("", 5)), "{size}");
-        assert!(rt; is_scanned(rt.alloc(), BAD, b"def", size, ("Char", 9)), "{size}");
-        assert!(rt; is_scanned(rt.alloc(), b"d\n1\n0 1\n", b"d", size, ("Width", 3)), "{size}");
-        assert!(rt; is_scanned(rt.alloc(), b"", b"d", size, ("Header", 0)), "{size}");
+        assert!(rt;
+            is_scanned(rt.alloc(), GOOD, b"def", size, ("", 5)),
+            "{size}"
+        );
+        assert!(rt;
+            is_scanned(rt.alloc(), BAD, b"def", size, ("Char", 9)),
+            "{size}"
+        );
+        assert!(rt;
+            is_scanned(rt.alloc(), b"d\n1\n0 1\n", b"d", size, ("Width", 3)),
+            "{size}"
+        );
+        assert!(rt;
+            is_scanned(rt.alloc(), b"", b"d", size, ("Header", 0)),
+            "{size}"
+        );
     }
 }
 
