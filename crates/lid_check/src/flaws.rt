@@ -10,10 +10,10 @@ ghost use Rattle.lid_check.specs.Flaws.{IsFirstOnLoop, IsFirstDependence, IsFirs
 use crate::outputs::{Lead, find_dependence};
 use crate::pearls::find_inputs;
 use lid_base::{Items, Name};
+use lid_digraph::{Found, find_order};
 use lid_elab::{Elaboration, elaborate, find_column, find_reads};
 use lid_hierarchy::Survey;
 use lid_names::copy_name;
-use lid_digraph::{Found, find_order};
 use lid_rules::CheckFault;
 use lid_wiring::Judged;
 use std::alloc::{AllocError, Global};

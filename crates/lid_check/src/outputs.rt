@@ -14,9 +14,9 @@ use crate::pearls::{
     Pearl, find_inputs, find_starts, is_marked, list_pearls, mark_first, number_of,
 };
 use lid_base::{Items, Name};
+use lid_digraph::{find_reached, find_reaching};
 use lid_elab::Elaboration;
 use lid_hierarchy::Survey;
-use lid_digraph::{find_reached, find_reaching};
 use std::alloc::{AllocError, Global};
 
 /// An output of a pearl that depends on a data input of it, by their places and the number of the

@@ -19,8 +19,7 @@ use Rattle.lid_names.specs.Names.{texts}
 use Rattle.lid_hierarchy.proofs.Fixpoints.{find_position}
 use Rattle.lid_hierarchy.proofs.Numbers.{bytes_eq_comm}
 use Rattle.lid_elab.specs.Numbers.{offset_of}
-use Rattle.lid_wiring.specs.Locals.{of_net, first_name_of, actual_for, model_locals, model_inputs}
-use Rattle.lid_elab.specs.Templates.{place_in}
+use Rattle.lid_wiring.specs.Locals.{of_net, first_name_of, actual_for, model_locals}
 use Rattle.lid_elab.specs.Parts.{formal_of, Shows, picks_among, places_bound, places_in_inst, IsTemplate, IsPicked, ArePicked}
 use Rattle.lid_wiring.specs.Judged.{IsJudged}
 use Rattle.lid_elab.specs.declared.driven.Driven.{Driven}

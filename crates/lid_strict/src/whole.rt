@@ -13,10 +13,10 @@ ghost use Rattle.lid_strict.specs.Networks.{AreNumbersOf};
 use crate::simulation::simulate;
 use lid_base::{Items, Name};
 use lid_check::Checked;
-use lid_elab::{Elaboration, elaborate, find_reads};
 use lid_design::Design;
-use lid_hierarchy::{Survey, SurveyFault, find_uses, survey_models};
 use lid_digraph::{Found, find_order};
+use lid_elab::{Elaboration, elaborate, find_reads};
+use lid_hierarchy::{Survey, SurveyFault, find_uses, survey_models};
 use lid_texts::{Rows, copy_names};
 use lid_wiring::{Judged, judge};
 use std::alloc::{AllocError, Global};
@@ -127,7 +127,9 @@ fn outputs_of<'j>(judged: &'j Judged<'_>) -> &'j [Name]
     ensures { result.now ≡ root_outputs judged.now }
 {
     let design = judged.survey().design();
-    design.models.as_slice()[design.root as usize].outputs.as_slice()
+    design.models.as_slice()[design.root as usize]
+        .outputs
+        .as_slice()
 }
 
 /// The place of an output of the root among the nets of the root.
