@@ -12,10 +12,11 @@ use Rattle.lid_cover.specs.Cover.{IsCube, IsCover}
 use Rattle.lid_design.specs.declared.Cell.{Cell}
 use Rattle.lid_blif.specs.declared.keyword.Keyword.{Keyword}
 use Rattle.lid_blif.specs.declared.keyword.Keyword.TheVariants.{Model, Inputs, Outputs, Clock, Names, Latch, Subckt, End, Unknown, Row}
-use Rattle.lid_blif.specs.Words.{word_at, keyword_of, is_line, inputs_of, leading, is_inner}
-use Rattle.lid_blif.specs.Designs.{number_of, is_cared_for, is_character_one, cube_of, width_of, cover_of, names_cell, cell_before, cells_of, insts_of, model_of, models_of}
-use Rattle.lid_blif.specs.WellFormed.{IsWellFormedCell}
-use Rattle.lid_blif.proofs.Numbers.{number_of_lt}
+use Rattle.lid_base.specs.Words.{word_at}
+use Rattle.lid_blif.specs.Words.{keyword_of, is_line, inputs_of, leading, is_inner}
+use Rattle.lid_blif.specs.Designs.{mask_of, is_cared_for, is_character_one, cube_of, width_of, cover_of, names_cell, cell_before, cells_of, insts_of, model_of, models_of}
+use Rattle.lid_design.specs.WellFormed.{IsWellFormedCell}
+use Rattle.lid_blif.proofs.Masks.{mask_below}
 use Rattle.lid_blif.proofs.Faults.{IsNarrow}
 
 -- the value of a character is 1 only where it is cared for
@@ -33,11 +34,11 @@ below_two false = omega arith
 double : (a r : ℕ) → 2 * a + r ≡ a * 2 ^ 1 + r
 double a r = omega arith
 
-value_within : (cs : List ℕ) → bit_and (number_of (map is_character_one cs)) (number_of (map is_cared_for cs)) ≡ number_of (map is_character_one cs)
+value_within : (cs : List ℕ) → bit_and (mask_of (map is_character_one cs)) (mask_of (map is_cared_for cs)) ≡ mask_of (map is_character_one cs)
 value_within [] = refl
 value_within (c ∷ cs) =
-    let v = number_of (map is_character_one cs) in
-    let k = number_of (map is_cared_for cs) in
+    let v = mask_of (map is_character_one cs) in
+    let k = mask_of (map is_cared_for cs) in
     let a = cond (c == 49) 1 0 in
     let b = cond (not (c == 45)) 1 0 in
     let split = and_block 1 v k a b (below_two (c == 49)) (below_two (not (c == 45))) in
@@ -49,7 +50,7 @@ IsCube_cube_of inputs row =
     let cs = take inputs (word_at row.words 0) in
     let few : length (map is_cared_for cs) ≤ inputs = simp (length-map, length-take) (omega arith) in
     let most : 2 ^ length (map is_cared_for cs) ≤ 2 ^ inputs = pow_mono few in
-    record { in_range = omega (arith, number_of_lt (map is_cared_for cs)); within = value_within cs }
+    record { in_range = omega (arith, mask_below (map is_cared_for cs)); within = value_within cs }
 
 cubes_formed : (inputs : ℕ) (rows : List Line) → AllByRecursion (IsCube inputs) (map (cube_of inputs) rows)
 cubes_formed inputs [] = tt
@@ -57,7 +58,7 @@ cubes_formed inputs (row ∷ rows) = (IsCube_cube_of inputs row, cubes_formed in
 
 names_formed : (words : List (List ℕ)) (rows : List Line) → inputs_of words ≤ 64 → IsWellFormedCell (names_cell words rows)
 names_formed words rows few =
-    let cover : IsCover (cover_of words rows) = record { width = omega arith; rows = cubes_formed (width_of words) rows } in
+    let cover : IsCover (cover_of words rows) = record { width = omega arith; cubes = cubes_formed (width_of words) rows } in
     let count : width_of words ≡ length (take (inputs_of words) (drop 1 words)) = simp (length-take, length-drop) (omega arith) in
     (cover, count)
 

@@ -10,12 +10,13 @@ use Rattle.lid_blif.specs.declared.fault.BlifFault.TheVariants.{Arity, TooManyIn
 use Rattle.lid_blif.specs.declared.fault.BlifFault.{BlifFault}
 use Rattle.lid_blif.specs.declared.keyword.Keyword.{Keyword}
 use Rattle.lid_blif.specs.declared.keyword.Keyword.TheVariants.{Model, Inputs, Outputs, Clock, Names, Latch, Subckt, End, Unknown, Row}
-use Rattle.lid_blif.specs.declared.place.Place.{Place}
-use Rattle.lid_blif.specs.Words.{word_at, keyword_of, is_line, same_keyword, inputs_of, leading, is_inner}
-use Rattle.lid_blif.specs.Faults.{place_of, model_names, Case, told, outside, line_fault, first_fault}
+use Rattle.lid_blif.specs.declared.context.Context.{Context}
+use Rattle.lid_base.specs.Words.{word_at}
+use Rattle.lid_blif.specs.Words.{keyword_of, is_line, same_keyword, inputs_of, leading, is_inner}
+use Rattle.lid_blif.specs.Faults.{context_of, model_names, Case, told, outside, line_fault, first_fault}
 use Rattle.lid_blif.specs.Designs.{models_of, model_of}
-use Rattle.lid_blif.specs.WellFormed.{model_name}
-use Rattle.lid_blif.proofs.Places.{first_fault_pass, first_fault_here}
+use Rattle.lid_design.specs.WellFormed.{model_name}
+use Rattle.lid_blif.proofs.Contexts.{first_fault_pass, first_fault_here}
 
 -- where no fault is told, no condition holds
 pub told-none : (c : Case) (cases : List Case) → told (c ∷ cases) ≡ None → (c.0 ≡ false) × (told cases ≡ None)
@@ -23,10 +24,10 @@ told-none (true, fault) cases h = absurd (let e : Some fault ≡ None = h in cc)
 told-none (false, fault) cases h = (refl, h)
 
 -- the first line and the later lines have no fault
-pub first_fault_none : (before : List Line) (l : Line) (ls : List Line) → first_fault before (l ∷ ls) ≡ None → (line_fault (place_of before) (model_names before) l ≡ None) × (first_fault (l ∷ before) ls ≡ None)
-first_fault_none before l ls h = cases (line_fault (place_of before) (model_names before) l) refl
+pub first_fault_none : (before : List Line) (l : Line) (ls : List Line) → first_fault before (l ∷ ls) ≡ None → (line_fault (context_of before) (model_names before) l ≡ None) × (first_fault (l ∷ before) ls ≡ None)
+first_fault_none before l ls h = cases (line_fault (context_of before) (model_names before) l) refl
   where
-    cases : (o : Option BlifFault) → line_fault (place_of before) (model_names before) l ≡ o → (line_fault (place_of before) (model_names before) l ≡ None) × (first_fault (l ∷ before) ls ≡ None)
+    cases : (o : Option BlifFault) → line_fault (context_of before) (model_names before) l ≡ o → (line_fault (context_of before) (model_names before) l ≡ None) × (first_fault (l ∷ before) ls ≡ None)
     cases None e = (e, sym (first_fault_pass before l ls e) ∙ h)
     cases (Some fault) e = absurd (let both : Some fault ≡ None = sym (first_fault_here before l ls fault e) ∙ h in cc)
 
@@ -34,13 +35,13 @@ first_fault_none before l ls h = cases (line_fault (place_of before) (model_name
 abbrev pub IsNarrow : Line → Type 0
 IsNarrow l = Names ≡ keyword_of l.words → inputs_of l.words ≤ 64
 
-pub line_fault_narrow : (place : Place) (names : List (List ℕ)) (l : Line) → line_fault place names l ≡ None → IsNarrow l
+pub line_fault_narrow : (context : Context) (names : List (List ℕ)) (l : Line) → line_fault context names l ≡ None → IsNarrow l
 unfolding line_fault
-line_fault_narrow place names l h e =
+line_fault_narrow context names l h e =
     let clear = rw (← e) at h in
     let wide : List Case = (nat_lt 64 (inputs_of l.words), TooManyInputs l.number) ∷ [] in
     let short : List Case = (nat_lt (length l.words) 2, Arity l.number) ∷ wide in
-    let inside = told-none (outside place l.number) short clear in
+    let inside = told-none (outside context l.number) short clear in
     let long = told-none (nat_lt (length l.words) 2, Arity l.number) wide inside.1 in
     let few = told-none (nat_lt 64 (inputs_of l.words), TooManyInputs l.number) [] long.1 in
     ltb-false 64 (inputs_of l.words) few.0
@@ -52,18 +53,18 @@ narrow_lines before (l ∷ ls) h =
     (line_fault_narrow _ _ l parts.0, narrow_lines (l ∷ before) ls parts.1)
 
 -- a line outside a model, without fault, opens one
-pub line_fault_opens : (k : Keyword) (l : Line) (place : Place) (names : List (List ℕ)) → k ≡ keyword_of l.words → place.inside ≡ false → line_fault place names l ≡ None → k ≡ Model
+pub line_fault_opens : (k : Keyword) (l : Line) (context : Context) (names : List (List ℕ)) → k ≡ keyword_of l.words → context.inside ≡ false → line_fault context names l ≡ None → k ≡ Model
 unfolding line_fault
-line_fault_opens Model l place names e out h = refl
-line_fault_opens Inputs l place names e out h = absurd (let clear = rw (← e, out) at h in cc)
-line_fault_opens Outputs l place names e out h = absurd (let clear = rw (← e, out) at h in cc)
-line_fault_opens Clock l place names e out h = absurd (let clear = rw (← e, out) at h in cc)
-line_fault_opens Names l place names e out h = absurd (let clear = rw (← e, out) at h in cc)
-line_fault_opens Latch l place names e out h = absurd (let clear = rw (← e, out) at h in cc)
-line_fault_opens Subckt l place names e out h = absurd (let clear = rw (← e, out) at h in cc)
-line_fault_opens End l place names e out h = absurd (let clear = rw (← e, out) at h in cc)
-line_fault_opens Unknown l place names e out h = absurd (let clear = rw (← e, out) at h in cc)
-line_fault_opens Row l place names e out h = absurd (let clear = rw (← e, out) at h in cc)
+line_fault_opens Model l context names e out h = refl
+line_fault_opens Inputs l context names e out h = absurd (let clear = rw (← e, out) at h in cc)
+line_fault_opens Outputs l context names e out h = absurd (let clear = rw (← e, out) at h in cc)
+line_fault_opens Clock l context names e out h = absurd (let clear = rw (← e, out) at h in cc)
+line_fault_opens Names l context names e out h = absurd (let clear = rw (← e, out) at h in cc)
+line_fault_opens Latch l context names e out h = absurd (let clear = rw (← e, out) at h in cc)
+line_fault_opens Subckt l context names e out h = absurd (let clear = rw (← e, out) at h in cc)
+line_fault_opens End l context names e out h = absurd (let clear = rw (← e, out) at h in cc)
+line_fault_opens Unknown l context names e out h = absurd (let clear = rw (← e, out) at h in cc)
+line_fault_opens Row l context names e out h = absurd (let clear = rw (← e, out) at h in cc)
 
 or_none : (a b : Bool) → (a || b) ≡ false → (a ≡ false) × (b ≡ false)
 or_none false b h = (refl, h)
@@ -80,9 +81,9 @@ distinct_push (x ∷ xs) name d h =
     let parts = or_none (bytes_eq x name) (list_any (λ other. bytes_eq other name) xs) h in
     (all_push (bytes_eq x) xs name d.0 parts.0, distinct_push xs name d.1 parts.1)
 
-pub place_models : (before : List Line) → (place_of before).models ≡ length (model_names before)
-unfolding place_of
-place_models before = refl
+pub context_models : (before : List Line) → (context_of before).models ≡ length (model_names before)
+unfolding context_of
+context_models before = refl
 
 pub same_model : (k : Keyword) → same_keyword Model k ≡ true → Model ≡ k
 same_model Model h = refl
@@ -97,16 +98,16 @@ same_model Unknown h = absurd (cc)
 same_model Row h = absurd (cc)
 
 -- a `.model` line without fault has a new name, and does not exceed the limit
-pub line_fault_new : (place : Place) (names : List (List ℕ)) (l : Line) → Model ≡ keyword_of l.words → line_fault place names l ≡ None → (list_any (λ other. bytes_eq other (word_at l.words 1)) names ≡ false) × (place.models + 1 ≤ 4096)
+pub line_fault_new : (context : Context) (names : List (List ℕ)) (l : Line) → Model ≡ keyword_of l.words → line_fault context names l ≡ None → (list_any (λ other. bytes_eq other (word_at l.words 1)) names ≡ false) × (context.models + 1 ≤ 4096)
 unfolding line_fault
-line_fault_new place names l e h =
+line_fault_new context names l e h =
     let clear = rw (← e) at h in
-    let many : List Case = (nat_lt 4096 (place.models + 1), Limit Models (place.models + 1)) ∷ [] in
+    let many : List Case = (nat_lt 4096 (context.models + 1), Limit Models (context.models + 1)) ∷ [] in
     let known : List Case = (list_any (λ other. bytes_eq other (word_at l.words 1)) names, DuplicateModel l.number) ∷ many in
     let one = told-none (not (length l.words == 2), Arity l.number) known clear in
     let new = told-none (list_any (λ other. bytes_eq other (word_at l.words 1)) names, DuplicateModel l.number) many one.1 in
-    let few = told-none (nat_lt 4096 (place.models + 1), Limit Models (place.models + 1)) [] new.1 in
-    (new.0, ltb-false 4096 (place.models + 1) few.0)
+    let few = told-none (nat_lt 4096 (context.models + 1), Limit Models (context.models + 1)) [] new.1 in
+    (new.0, ltb-false 4096 (context.models + 1) few.0)
 
 -- distinct names, and not too many
 pub record AreNames (names : List (List ℕ)) : Type 0 where
@@ -114,15 +115,15 @@ pub record AreNames (names : List (List ℕ)) : Type 0 where
   pub few : length names ≤ 4096
 
 -- one line more
-names_step : (before : List Line) (l : Line) (later : List (List ℕ)) → line_fault (place_of before) (model_names before) l ≡ None → AreNames (model_names before) → (AreNames (model_names (l ∷ before)) → AreNames (model_names (l ∷ before) ++ later)) → AreNames (model_names before ++ cond (is_line Model l) (word_at l.words 1 ∷ later) later)
+names_step : (before : List Line) (l : Line) (later : List (List ℕ)) → line_fault (context_of before) (model_names before) l ≡ None → AreNames (model_names before) → (AreNames (model_names (l ∷ before)) → AreNames (model_names (l ∷ before) ++ later)) → AreNames (model_names before ++ cond (is_line Model l) (word_at l.words 1 ∷ later) later)
 names_step before l later clear names next = cases (is_line Model l) refl
   where
     cases : (b : Bool) → is_line Model l ≡ b → AreNames (model_names before ++ cond (is_line Model l) (word_at l.words 1 ∷ later) later)
     cases true e =
-        let new = line_fault_new (place_of before) (model_names before) l (same_model (keyword_of l.words) e) clear in
+        let new = line_fault_new (context_of before) (model_names before) l (same_model (keyword_of l.words) e) clear in
         let more : AreNames (model_names before ++ word_at l.words 1 ∷ []) = record {
           distinct = distinct_push (model_names before) (word_at l.words 1) names.distinct new.0;
-          few = rw length_push (omega (arith, new.1, place_models before));
+          few = rw length_push (omega (arith, new.1, context_models before));
         } in
         let grown : model_names (l ∷ before) ≡ model_names before ++ word_at l.words 1 ∷ [] = rw e in
         let all = rw grown at (next (rw grown more)) in
@@ -148,9 +149,9 @@ names_of_models before (l ∷ ls) h names =
 
 -- there is a model
 pub some_model : (l : Line) (ls : List Line) → first_fault [] (l ∷ ls) ≡ None → 0 < length (models_of (l ∷ ls))
-unfolding place_of
+unfolding context_of
 some_model l ls h =
     let parts = first_fault_none [] l ls h in
-    let opens = line_fault_opens (keyword_of l.words) l (place_of []) (model_names []) refl refl parts.0 in
+    let opens = line_fault_opens (keyword_of l.words) l (context_of []) (model_names []) refl refl parts.0 in
     let first : is_line Model l ≡ true = rw opens in
     rw first (omega arith)

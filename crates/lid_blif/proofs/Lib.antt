@@ -1,5 +1,5 @@
-pub mod Places
-pub mod Numbers
+pub mod Contexts
+pub mod Masks
 pub mod Naming
 pub mod Faults
 pub mod Cubes

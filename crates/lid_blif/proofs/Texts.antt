@@ -1,6 +1,6 @@
 -- The design of a text without fault is well formed.
-use Rattle.std.proofs.Common.{◌≡◌, ℕ, suc, ◌+◌, ◌<◌, ◌≤◌, ◌^◌, Bool, true, false, cond, List, [], ◌∷◌, length, refl, sym, subst, arith}
-use Rattle.std.specs.Prelude.{Option, Some, None, Result, Ok, Err, IfOk, map, nat_lt}
+use Rattle.std.proofs.Common.{◌≡◌, ℕ, suc, ◌+◌, ◌<◌, ◌≤◌, ◌^◌, Bool, true, false, cond, List, [], ◌∷◌, length, refl, subst, arith}
+use Rattle.std.specs.Prelude.{Option, Some, None, map, nat_lt}
 use Rattle.std.specs.List.{slice_split, enumerate_from, IsDistinct}
 use Rattle.std.proofs.lemmas.Bool.{ltb-false}
 use Rattle.std.proofs.lemmas.List.{length-map}
@@ -11,12 +11,11 @@ use Rattle.lid_base.specs.declared.line.Line.{Line}
 use Rattle.lid_base.specs.declared.line.TextFault.{TextFault}
 use Rattle.lid_base.specs.declared.which.Which.TheVariants.{FileBytes}
 use Rattle.lid_base.specs.Lines.{is_newline, goes_on, onto_first_join, joins_of, line_of, has_words, physical_lines, logical_lines, text_fault}
-use Rattle.lid_design.specs.declared.Design.{Design}
 use Rattle.lid_blif.specs.declared.fault.BlifFault.{BlifFault}
 use Rattle.lid_blif.specs.declared.fault.BlifFault.TheVariants.{NoModel, Text, Limit}
 use Rattle.lid_blif.specs.Faults.{lines_fault, after_text, blif_fault}
 use Rattle.lid_blif.specs.Designs.{models_of, design_of}
-use Rattle.lid_blif.specs.WellFormed.{model_name, IsWellFormed}
+use Rattle.lid_design.specs.WellFormed.{model_name, IsWellFormed}
 use Rattle.lid_blif.proofs.Faults.{AreNames, names_of_models, some_model, narrow_lines}
 use Rattle.lid_blif.proofs.Cubes.{filter_le, models_formed, models_insts}
 
@@ -47,19 +46,29 @@ no_names : AreNames []
 unfolding IsDistinct
 no_names = record { distinct = tt; few = omega arith }
 
--- lines without fault stand for a well-formed design
+-- lines without fault stand for models of names that are distinct, and not too many
+names_read : (l : Line) (ls : List Line) → lines_fault (l ∷ ls) ≡ None → AreNames (map model_name (models_of (l ∷ ls)))
+names_read l ls h = names_of_models [] (l ∷ ls) h no_names
+
+models_few : (l : Line) (ls : List Line) → lines_fault (l ∷ ls) ≡ None → length (models_of (l ∷ ls)) ≤ 4096
+models_few l ls h = subst (λ n. n ≤ 4096) (length-map (models_of (l ∷ ls)) model_name) (names_read l ls h).few
+
+-- lines without fault stand for a well-formed design of at most 4,096 models
 pub lines_formed : (ls : List Line) → length ls < 2 ^ 32 → lines_fault ls ≡ None → IsWellFormed (design_of ls)
 unfolding design_of
 lines_formed [] few h = absurd (let e : Some (NoModel 0) ≡ None = h in cc)
-lines_formed (l ∷ ls) few h =
-    let names = names_of_models [] (l ∷ ls) h no_names in
-    record {
-      rooted = some_model l ls h;
-      few = subst (λ n. n ≤ 4096) (length-map (models_of (l ∷ ls)) model_name) names.few;
-      distinct = names.distinct;
-      insts = models_insts (2 ^ 32) (l ∷ ls) few;
-      cells = models_formed (l ∷ ls) (narrow_lines [] (l ∷ ls) h);
-    }
+lines_formed (l ∷ ls) few h = record {
+  rooted = some_model l ls h;
+  few = omega (arith, models_few l ls h);
+  distinct = (names_read l ls h).distinct;
+  insts = models_insts (2 ^ 32) (l ∷ ls) few;
+  cells = models_formed (l ∷ ls) (narrow_lines [] (l ∷ ls) h);
+}
+
+pub lines_few : (ls : List Line) → lines_fault ls ≡ None → length (design_of ls).models ≤ 4096
+unfolding design_of
+lines_few [] h = absurd (let e : Some (NoModel 0) ≡ None = h in cc)
+lines_few (l ∷ ls) h = models_few l ls h
 
 cond_none : (b : Bool) (fault : BlifFault) (later : Option BlifFault) → cond b (Some fault) later ≡ None → (b ≡ false) × (later ≡ None)
 cond_none true fault later h = absurd (let e : Some fault ≡ None = h in cc)
@@ -69,15 +78,17 @@ after_text_none : (fault : Option TextFault) (ls : List Line) → after_text fau
 after_text_none None ls h = h
 after_text_none (Some fault) ls h = absurd (let e : Some (Text fault) ≡ None = h in cc)
 
--- a text without fault stands for a well-formed design
-pub text_formed : (bytes : List ℕ) → blif_fault bytes ≡ None → IsWellFormed (design_of (logical_lines bytes))
+lines_good : (bytes : List ℕ) → blif_fault bytes ≡ None → (length bytes ≤ 16777216) × (lines_fault (logical_lines bytes) ≡ None)
 unfolding blif_fault
-text_formed bytes h =
+lines_good bytes h =
     let parts = cond_none (nat_lt 16777216 (length bytes)) (Limit FileBytes (length bytes)) (after_text (text_fault 1024 bytes) (logical_lines bytes)) h in
-    let small : length bytes ≤ 16777216 = ltb-false 16777216 (length bytes) parts.0 in
-    lines_formed (logical_lines bytes) (omega (arith, logical_lines_le bytes)) (after_text_none (text_fault 1024 bytes) (logical_lines bytes) parts.1)
+    (ltb-false 16777216 (length bytes) parts.0, after_text_none (text_fault 1024 bytes) (logical_lines bytes) parts.1)
 
--- what was made of lines that are few is well formed
-pub made_formed : (made : Result Design BlifFault) (ls : List Line) → length ls < 2 ^ 32 → IfOk made (λ d. (lines_fault ls ≡ None) × (d ≡ design_of ls)) → IfOk made IsWellFormed
-made_formed (Ok d) ls few h = subst IsWellFormed (sym h.1) (lines_formed ls few h.0)
-made_formed (Err fault) ls few h = tt
+-- a text without fault stands for a well-formed design of at most 4,096 models
+pub text_formed : (bytes : List ℕ) → blif_fault bytes ≡ None → IsWellFormed (design_of (logical_lines bytes))
+text_formed bytes h =
+    let good = lines_good bytes h in
+    lines_formed (logical_lines bytes) (omega (arith, good.0, logical_lines_le bytes)) good.1
+
+pub text_few : (bytes : List ℕ) → blif_fault bytes ≡ None → length (design_of (logical_lines bytes)).models ≤ 4096
+text_few bytes h = lines_few (logical_lines bytes) (lines_good bytes h).1

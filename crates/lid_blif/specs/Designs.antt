@@ -17,13 +17,14 @@ use Rattle.lid_design.specs.declared.Inst.{Inst}
 use Rattle.lid_design.specs.declared.Bind.{Bind}
 use Rattle.lid_blif.specs.declared.keyword.Keyword.{Keyword}
 use Rattle.lid_blif.specs.declared.keyword.Keyword.TheVariants.{Model, Inputs, Outputs, Clock, Names, Latch, Subckt, Row}
-use Rattle.lid_blif.specs.Words.{word_at, last_word, keyword_of, is_line, leading, is_inner, inputs_of, is_zero, is_one, has_type, has_init, is_equals}
+use Rattle.lid_base.specs.Words.{word_at, last_word}
+use Rattle.lid_blif.specs.Words.{keyword_of, is_line, leading, is_inner, inputs_of, is_zero, is_one, has_type, has_init, is_equals}
 use Rattle.lid_blif.specs.Faults.{ends_in_zero}
 
--- the number whose bit j is the entry j
-abbrev pub number_of : List Bool → ℕ
-number_of [] = 0
-number_of (bit ∷ bits) = 2 * number_of bits + (if bit then 1 else 0)
+-- the mask whose bit j is the entry j
+abbrev pub mask_of : List Bool → ℕ
+mask_of [] = 0
+mask_of (bit ∷ bits) = 2 * mask_of bits + (if bit then 1 else 0)
 
 -- a row looks at the inputs that are not `-`
 abbrev pub is_cared_for : ℕ → Bool
@@ -36,7 +37,7 @@ is_character_one character = character == 49
 abbrev pub cube_of : ℕ → Line → Cube
 cube_of inputs row =
     let characters = take inputs (word_at row.words 0) in
-    record { care = number_of (map is_cared_for characters); value = number_of (map is_character_one characters) }
+    record { care = mask_of (map is_cared_for characters); value = mask_of (map is_character_one characters) }
 
 -- the inputs of a cover: their number. More than 64 are refused, so no more are told
 abbrev pub width_of : List (List ℕ) → ℕ

@@ -11,8 +11,9 @@ use Rattle.lid_blif.specs.declared.fault.BlifFault.{BlifFault}
 use Rattle.lid_blif.specs.declared.fault.BlifFault.TheVariants.{Text, NoModel, Unsupported, Arity, RowOutside, RowShape, MixedRows, LatchType, LatchInit, BindShape, DuplicateModel, TooManyInputs, Limit}
 use Rattle.lid_blif.specs.declared.keyword.Keyword.{Keyword}
 use Rattle.lid_blif.specs.declared.keyword.Keyword.TheVariants.{Model, Names, Latch, Subckt, End, Unknown, Row}
-use Rattle.lid_blif.specs.declared.place.Place.{Place}
-use Rattle.lid_blif.specs.Words.{word_at, last_word, keyword_of, is_line, leading, inputs_of, is_zero, is_one, is_row_of, is_latch_type, is_latch_init, has_type, has_init, is_binding}
+use Rattle.lid_blif.specs.declared.context.Context.{Context}
+use Rattle.lid_base.specs.Words.{word_at, last_word}
+use Rattle.lid_blif.specs.Words.{keyword_of, is_line, leading, inputs_of, is_zero, is_one, is_row_of, is_latch_type, is_latch_init, has_type, has_init, is_binding}
 
 -- a model is open after `.model` and until `.end`
 abbrev pub open_after : Keyword → Bool → Bool
@@ -57,8 +58,8 @@ model_names [] = []
 model_names (l ∷ before) = if is_line Model l then model_names before ++ word_at l.words 1 ∷ [] else model_names before
 
 -- what these lines mean for the next line
-unfoldable pub place_of : List Line → Place
-place_of before = record {
+unfoldable pub context_of : List Line → Context
+context_of before = record {
   inside = is_inside before;
   covered = is_some (cover_line before);
   inputs = option_map_or (λ l. inputs_of l.words) (cover_line before) 0;
@@ -77,69 +78,69 @@ abbrev pub told : List Case → Option BlifFault
 told [] = None
 told (c ∷ cases) = if c.0 then Some c.1 else told cases
 
-abbrev pub outside : Place → ℕ → Case
-outside place number = (not place.inside, NoModel number)
+abbrev pub outside : Context → ℕ → Case
+outside context number = (not context.inside, NoModel number)
 
-abbrev pub model_cases : Place → List (List ℕ) → Line → List Case
-model_cases place names l =
+abbrev pub model_cases : Context → List (List ℕ) → Line → List Case
+model_cases context names l =
     (not (length l.words == 2), Arity l.number)
     ∷ (list_any (λ name. bytes_eq name (word_at l.words 1)) names, DuplicateModel l.number)
-    ∷ (nat_lt 4096 (place.models + 1), Limit Models (place.models + 1))
+    ∷ (nat_lt 4096 (context.models + 1), Limit Models (context.models + 1))
     ∷ []
 
-abbrev pub names_cases : Place → Line → List Case
-names_cases place l =
-    outside place l.number
+abbrev pub names_cases : Context → Line → List Case
+names_cases context l =
+    outside context l.number
     ∷ (nat_lt (length l.words) 2, Arity l.number)
     ∷ (nat_lt 64 (inputs_of l.words), TooManyInputs l.number)
     ∷ []
 
-abbrev pub latch_cases : Place → Line → List Case
-latch_cases place l =
-    outside place l.number
+abbrev pub latch_cases : Context → Line → List Case
+latch_cases context l =
+    outside context l.number
     ∷ (nat_lt (length l.words) 3 || nat_lt 6 (length l.words), Arity l.number)
     ∷ (has_type l.words && not (is_latch_type (word_at l.words 3)), LatchType l.number)
     ∷ (has_init l.words && not (is_latch_init (last_word l.words)), LatchInit l.number)
     ∷ []
 
-abbrev pub subckt_cases : Place → Line → List Case
-subckt_cases place l =
-    outside place l.number
+abbrev pub subckt_cases : Context → Line → List Case
+subckt_cases context l =
+    outside context l.number
     ∷ (nat_lt (length l.words) 2, Arity l.number)
     ∷ (not (list_all is_binding (drop 2 l.words)), BindShape l.number)
     ∷ []
 
 -- a row's output differs from that of an earlier row of its cover
-abbrev pub is_mixed : Place → Line → Bool
-is_mixed place l = if ends_in_zero l then place.ones else place.zeros
+abbrev pub is_mixed : Context → Line → Bool
+is_mixed context l = if ends_in_zero l then context.ones else context.zeros
 
-abbrev pub row_cases : Place → Line → List Case
-row_cases place l =
-    outside place l.number
-    ∷ (not place.covered, RowOutside l.number)
-    ∷ (not (is_row_of place.inputs l.words), RowShape l.number)
-    ∷ (is_mixed place l, MixedRows l.number)
-    ∷ (nat_lt 1048576 (place.rows + 1), Limit CoverRows (place.rows + 1))
+abbrev pub row_cases : Context → Line → List Case
+row_cases context l =
+    outside context l.number
+    ∷ (not context.covered, RowOutside l.number)
+    ∷ (not (is_row_of context.inputs l.words), RowShape l.number)
+    ∷ (is_mixed context l, MixedRows l.number)
+    ∷ (nat_lt 1048576 (context.rows + 1), Limit CoverRows (context.rows + 1))
     ∷ []
 
 -- what may be at fault in a line, in the order in which it is told
-abbrev pub cases_of : Keyword → Place → List (List ℕ) → Line → List Case
-cases_of Model place names l = model_cases place names l
-cases_of Names place names l = names_cases place l
-cases_of Latch place names l = latch_cases place l
-cases_of Subckt place names l = subckt_cases place l
-cases_of Row place names l = row_cases place l
-cases_of Unknown place names l = outside place l.number ∷ (true, Unsupported l.number) ∷ []
-cases_of _ place names l = outside place l.number ∷ []
+abbrev pub cases_of : Keyword → Context → List (List ℕ) → Line → List Case
+cases_of Model context names l = model_cases context names l
+cases_of Names context names l = names_cases context l
+cases_of Latch context names l = latch_cases context l
+cases_of Subckt context names l = subckt_cases context l
+cases_of Row context names l = row_cases context l
+cases_of Unknown context names l = outside context l.number ∷ (true, Unsupported l.number) ∷ []
+cases_of _ context names l = outside context l.number ∷ []
 
--- the fault of a line at a place, after models of these names
-unfoldable pub line_fault : Place → List (List ℕ) → Line → Option BlifFault
-line_fault place names l = told (cases_of (keyword_of l.words) place names l)
+-- the fault of a line in a context, after models of these names
+unfoldable pub line_fault : Context → List (List ℕ) → Line → Option BlifFault
+line_fault context names l = told (cases_of (keyword_of l.words) context names l)
 
 -- the fault of the first faulty line
 abbrev pub first_fault : List Line → List Line → Option BlifFault
 first_fault before [] = None
-first_fault before (l ∷ ls) = or_fault (line_fault (place_of before) (model_names before) l) (first_fault (l ∷ before) ls)
+first_fault before (l ∷ ls) = or_fault (line_fault (context_of before) (model_names before) l) (first_fault (l ∷ before) ls)
   where
     or_fault : Option BlifFault → Option BlifFault → Option BlifFault
     or_fault None later = later

@@ -2,4 +2,3 @@ pub mod Words
 pub mod Faults
 pub mod Names
 pub mod Designs
-pub mod WellFormed

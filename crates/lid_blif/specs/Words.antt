@@ -1,17 +1,10 @@
 -- What the words of a logical line say.
-use Rattle.std.specs.Prelude.{ℕ, ◌-◌, ◌==◌, nat_le, Bool, true, false, not, ◌&&◌, ◌||◌, if◌then◌else◌, List, [], ◌∷◌, length, slice_index_or, bytes_eq, codes}
+use Rattle.std.specs.Prelude.{ℕ, ◌-◌, ◌==◌, nat_le, Bool, true, false, not, ◌&&◌, ◌||◌, if◌then◌else◌, List, [], ◌∷◌, length, bytes_eq, codes}
 use Rattle.std.specs.List.{list_any, list_all, before_first, after_first}
+use Rattle.lid_base.specs.Words.{word_at, last_word}
 use Rattle.lid_base.specs.declared.line.Line.{Line}
 use Rattle.lid_blif.specs.declared.keyword.Keyword.{Keyword}
 use Rattle.lid_blif.specs.declared.keyword.Keyword.TheVariants.{Model, Inputs, Outputs, Clock, Names, Latch, Subckt, End, Unknown, Row}
-
--- the word at a place, or no bytes past the end
-abbrev pub word_at : List (List ℕ) → ℕ → List ℕ
-word_at words i = slice_index_or words i []
-
--- the last word
-abbrev pub last_word : List (List ℕ) → List ℕ
-last_word words = word_at words (length words - 1)
 
 abbrev pub begins_with_dot : List ℕ → Bool
 begins_with_dot [] = false

@@ -5,20 +5,22 @@ ghost use Rattle.std.specs.List.{list_any};
 ghost use Rattle.lid_design.specs.declared.Cell.{Cell};
 ghost use Rattle.lid_blif.specs.Words.{keyword_of, inputs_of};
 ghost use Rattle.lid_blif.specs.Faults.{ends_in_zero};
-ghost use Rattle.lid_blif.specs.Designs.{number_of, is_cared_for, is_character_one, cube_of, cover_of, names_cell, kind_of, control_of, init_of, latch_cell, bind_of, inst_of, cell_before};
+ghost use Rattle.lid_blif.specs.Designs.{mask_of, is_cared_for, is_character_one, cube_of, cover_of, names_cell, kind_of, control_of, init_of, latch_cell, bind_of, inst_of, cell_before};
 
 use crate::keyword::Keyword;
 use crate::shapes::{actual, formal, has_init, has_type};
-use crate::words::{after, copy, is, is_zero_row, keyword, last, leading_rows, push_copies, word};
-use lid_base::{Items, Line, Name};
+use crate::words::{is_zero_row, keyword, leading_rows};
+use lid_base::{
+    Items, Line, Name, copy_name, copy_names, is_same, last_word, word_at, words_after,
+};
 use lid_cover::{Cover, Cube};
 use lid_design::{Bind, Cell, Init, Inst, LatchKind};
 use std::alloc::{AllocError, Global};
 
 fn cube_from(characters: &[u8]) -> Cube
     requires { length characters.now ≤ 64 }
-    ensures care { result.care ≡ number_of (map is_cared_for characters.now) }
-    ensures value { result.value ≡ number_of (map is_character_one characters.now) }
+    ensures care { result.care ≡ mask_of (map is_cared_for characters.now) }
+    ensures value { result.value ≡ mask_of (map is_character_one characters.now) }
 {
     let mut care: u64 = 0;
     let mut value: u64 = 0;
@@ -36,7 +38,7 @@ fn cube_of(inputs: usize, row: &Line) -> Cube
     requires { inputs ≤ 64 }
     ensures { result ≡ cube_of inputs row.now }
 {
-    let characters = word(row.words.as_slice(), 0);
+    let characters = word_at(row.words.as_slice(), 0);
     if inputs < characters.len() {
         cube_from(&characters[..inputs])
     } else {
@@ -88,19 +90,11 @@ fn inputs_of(words: &[Name]) -> &[Name]
     }
 }
 
-fn copies(alloc: Global, names: &[Name]) -> Result<Items<Name>, AllocError>
-    ensures { IfOk result (λ copied. copied ≡ names.now) }
-{
-    let mut copied = Vec::new(alloc);
-    push_copies(alloc, names, &mut copied)?;
-    Ok(Items::from_vec(copied))
-}
-
 fn names_cell(alloc: Global, words: &[Name], rows: &[Line]) -> Result<Cell, AllocError>
     ensures { IfOk result (λ cell. cell ≡ names_cell words.now rows.now) }
 {
-    let inputs = copies(alloc, inputs_of(words))?;
-    let out = copy(alloc, last(words))?;
+    let inputs = copy_names(alloc, inputs_of(words))?;
+    let out = copy_name(alloc, last_word(words))?;
     let cover = cover_of(alloc, words, rows)?;
     Ok(Cell::Names { inputs, out, cover })
 }
@@ -110,7 +104,7 @@ fn kind_of(words: &[Name]) -> LatchKind
 {
     if !has_type(words) {
         LatchKind::Plain
-    } else if is(word(words, 3), b"re") {
+    } else if is_same(word_at(words, 3), b"re") {
         LatchKind::Rise
     } else {
         LatchKind::Fall
@@ -120,23 +114,27 @@ fn kind_of(words: &[Name]) -> LatchKind
 fn control_of(alloc: Global, words: &[Name]) -> Result<Option<Name>, AllocError>
     ensures { IfOk result (λ control. control ≡ control_of words.now) }
 {
-    let name = word(words, 4);
-    if !has_type(words) || is(name, b"NIL") {
+    let name = word_at(words, 4);
+    if !has_type(words) || is_same(name, b"NIL") {
         return Ok(None);
     }
-    let name = copy(alloc, name)?;
+    let name = copy_name(alloc, name)?;
     Ok(Some(name))
 }
 
 fn init_of(words: &[Name]) -> Init
     ensures { result ≡ init_of words.now }
 {
-    let init: &[u8] = if has_init(words) { last(words) } else { b"3" };
-    if is(init, b"0") {
+    let init: &[u8] = if has_init(words) {
+        last_word(words)
+    } else {
+        b"3"
+    };
+    if is_same(init, b"0") {
         Init::Zero
-    } else if is(init, b"1") {
+    } else if is_same(init, b"1") {
         Init::One
-    } else if is(init, b"2") {
+    } else if is_same(init, b"2") {
         Init::DontCare
     } else {
         Init::Unknown
@@ -146,8 +144,8 @@ fn init_of(words: &[Name]) -> Init
 fn latch_cell(alloc: Global, words: &[Name]) -> Result<Cell, AllocError>
     ensures { IfOk result (λ cell. cell ≡ latch_cell words.now) }
 {
-    let input = copy(alloc, word(words, 1))?;
-    let out = copy(alloc, word(words, 2))?;
+    let input = copy_name(alloc, word_at(words, 1))?;
+    let out = copy_name(alloc, word_at(words, 2))?;
     let control = control_of(alloc, words)?;
     Ok(Cell::Latch {
         input,
@@ -186,8 +184,8 @@ pub fn push_cell(
 fn bind_of(alloc: Global, word: &[u8]) -> Result<Bind, AllocError>
     ensures { IfOk result (λ bind. bind ≡ bind_of word.now) }
 {
-    let formal = copy(alloc, formal(word))?;
-    let actual = copy(alloc, actual(word))?;
+    let formal = copy_name(alloc, formal(word))?;
+    let actual = copy_name(alloc, actual(word))?;
     Ok(Bind { formal, actual })
 }
 
@@ -207,7 +205,7 @@ pub fn inst_of(alloc: Global, line: &Line) -> Result<Inst, AllocError>
     ensures { IfOk result (λ inst. inst ≡ inst_of line.now) }
 {
     let words = line.words.as_slice();
-    let model = copy(alloc, word(words, 1))?;
-    let binds = binds_of(alloc, after(words, 2))?;
+    let model = copy_name(alloc, word_at(words, 1))?;
+    let binds = binds_of(alloc, words_after(words, 2))?;
     Ok(Inst { model, binds })
 }

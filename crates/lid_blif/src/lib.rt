@@ -3,10 +3,10 @@
 #![tactic(auto)]
 
 mod cells;
+mod context;
 mod fault;
 mod keyword;
 mod models;
-mod place;
 mod reader;
 mod scan;
 mod shapes;

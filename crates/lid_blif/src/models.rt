@@ -1,13 +1,12 @@
 //! The models of a design.
 
 ghost use Rattle.std.specs.Prelude.{◌≡◌, ◌++◌, drop, IfOk, OnOk};
-ghost use Rattle.lid_blif.specs.Words.{word_at};
 ghost use Rattle.lid_blif.specs.Designs.{cells_of, insts_of, names_of, model_of, models_of, design_of};
 
 use crate::cells::{inst_of, push_cell};
 use crate::keyword::Keyword;
-use crate::words::{after, copy, is_line, leading_inner, push_copies, word};
-use lid_base::{Items, Line, Name};
+use crate::words::{is_line, leading_inner};
+use lid_base::{Items, Line, Name, copy_name, push_copies, word_at, words_after};
 use lid_design::{Cell, Design, Inst, Model};
 use std::alloc::{AllocError, Global};
 
@@ -17,7 +16,7 @@ fn names_of(alloc: Global, wanted: Keyword, body: &[Line]) -> Result<Items<Name>
     let mut names = Vec::new(alloc);
     for line in body {
         if is_line(wanted, line) {
-            push_copies(alloc, after(line.words.as_slice(), 1), &mut names)?;
+            push_copies(alloc, words_after(line.words.as_slice(), 1), &mut names)?;
         }
     }
     Ok(Items::from_vec(names))
@@ -91,7 +90,7 @@ fn model_of(alloc: Global, name: &[u8], body: &[Line]) -> Result<Model, AllocErr
 {
     let ports = ports_of(alloc, body)?;
     let parts = parts_of(alloc, body)?;
-    let name = copy(alloc, name)?;
+    let name = copy_name(alloc, name)?;
     let Ports {
         inputs,
         outputs,
@@ -115,7 +114,7 @@ fn models_of(alloc: Global, lines: &[Line]) -> Result<Items<Model>, AllocError>
     for (at, line) in lines.iter().enumerate() {
         if is_line(Keyword::Model, line) {
             let body = leading_inner(&lines[at + 1..]);
-            let model = model_of(alloc, word(line.words.as_slice(), 1), body)?;
+            let model = model_of(alloc, word_at(line.words.as_slice(), 1), body)?;
             models.push(model)?;
         }
     }

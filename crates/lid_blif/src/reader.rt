@@ -1,10 +1,10 @@
 //! From a text to a design.
 
-ghost use Rattle.std.specs.Prelude.{◌≡◌, ◌⊎◌, IfOk, IfErr, OnErr, Some, None};
+ghost use Rattle.std.specs.Prelude.{◌≡◌, ◌≤◌, ◌⊎◌, length, IfOk, IfErr, OnErr, Some, None};
 ghost use Rattle.lid_base.specs.Lines.{logical_lines};
 ghost use Rattle.lid_blif.specs.Faults.{blif_fault, lines_fault};
 ghost use Rattle.lid_blif.specs.Designs.{design_of};
-ghost use Rattle.lid_blif.specs.WellFormed.{IsWellFormed};
+ghost use Rattle.lid_design.specs.WellFormed.{IsWellFormed};
 
 use crate::fault::BlifFault;
 use crate::models::design_of;
@@ -53,6 +53,7 @@ fn design_from(alloc: Global, lines: &[Line]) -> Result<Design, BlifFault>
 pub fn read(alloc: Global, bytes: &[u8]) -> Result<Design, BlifFault>
     ensures ok { IfOk result (λ d. (blif_fault bytes.now ≡ None) × (d ≡ design_of (logical_lines bytes.now))) }
     ensures formed { IfOk result IsWellFormed }
+    ensures few { IfOk result (λ d. length d.models ≤ 4096) }
     ensures err { IfErr result (λ e. (e ≡ BlifFault.Memory) ⊎ (blif_fault bytes.now ≡ Some e)) }
 {
     if bytes.len() > MOST_BYTES {

@@ -4,14 +4,14 @@ ghost use Rattle.std.specs.Prelude.{◌≡◌, ◌+◌, ◌<◌, ◌^◌, ◌⊎
 ghost use Rattle.std.specs.List.{list_any};
 ghost use Rattle.lid_base.specs.declared.line.Line.{Line};
 ghost use Rattle.lid_blif.specs.Names.{HoldsNames};
-ghost use Rattle.lid_blif.specs.Faults.{place_of, model_names, told, outside, model_cases, names_cases, latch_cases, subckt_cases, row_cases, is_mixed, line_fault, first_fault};
+ghost use Rattle.lid_blif.specs.Faults.{context_of, model_names, told, outside, model_cases, names_cases, latch_cases, subckt_cases, row_cases, is_mixed, line_fault, first_fault};
 
+use crate::context::Context;
 use crate::fault::BlifFault;
 use crate::keyword::Keyword;
-use crate::place::Place;
 use crate::shapes::{are_bindings, has_init, has_type, is_latch_init, is_latch_type, is_row_of};
-use crate::words::{after, is_line, is_zero_row, keyword, last, word};
-use lid_base::{Line, Which};
+use crate::words::{is_line, is_zero_row, keyword};
+use lid_base::{Line, Which, last_word, word_at, words_after};
 use std::alloc::{AllocError, Global};
 use std::collections::HashSet;
 
@@ -27,16 +27,16 @@ fn is_known(names: &HashSet<&[u8]>, name: &[u8]) -> bool
     names.contains(name)
 }
 
-fn model_fault(place: &Place, names: &HashSet<&[u8]>, model: &Line) -> Option<BlifFault>
-    requires { place.now.models + 1 < 2 ^ 64 }
-    ensures { (earlier : List (List ℕ)) → HoldsNames names.now earlier → result ≡ told (model_cases place.now earlier model.now) }
+fn model_fault(context: &Context, names: &HashSet<&[u8]>, model: &Line) -> Option<BlifFault>
+    requires { context.now.models + 1 < 2 ^ 64 }
+    ensures { (earlier : List (List ℕ)) → HoldsNames names.now earlier → result ≡ told (model_cases context.now earlier model.now) }
 {
     let words = model.words.as_slice();
     let line = model.number;
-    let models = place.models + 1;
+    let models = context.models + 1;
     if words.len() != 2 {
         Some(BlifFault::Arity { line })
-    } else if is_known(names, word(words, 1)) {
+    } else if is_known(names, word_at(words, 1)) {
         Some(BlifFault::DuplicateModel { line })
     } else if models > MOST_MODELS {
         Some(BlifFault::Limit {
@@ -48,12 +48,12 @@ fn model_fault(place: &Place, names: &HashSet<&[u8]>, model: &Line) -> Option<Bl
     }
 }
 
-fn names_fault(place: &Place, cover: &Line) -> Option<BlifFault>
-    ensures { result ≡ told (names_cases place.now cover.now) }
+fn names_fault(context: &Context, cover: &Line) -> Option<BlifFault>
+    ensures { result ≡ told (names_cases context.now cover.now) }
 {
     let words = cover.words.as_slice();
     let line = cover.number;
-    if !place.inside {
+    if !context.inside {
         Some(BlifFault::NoModel { line })
     } else if words.len() < 2 {
         Some(BlifFault::Arity { line })
@@ -64,63 +64,63 @@ fn names_fault(place: &Place, cover: &Line) -> Option<BlifFault>
     }
 }
 
-fn latch_fault(place: &Place, latch: &Line) -> Option<BlifFault>
-    ensures { result ≡ told (latch_cases place.now latch.now) }
+fn latch_fault(context: &Context, latch: &Line) -> Option<BlifFault>
+    ensures { result ≡ told (latch_cases context.now latch.now) }
 {
     let words = latch.words.as_slice();
     let line = latch.number;
-    if !place.inside {
+    if !context.inside {
         Some(BlifFault::NoModel { line })
     } else if words.len() < 3 || words.len() > 6 {
         Some(BlifFault::Arity { line })
-    } else if has_type(words) && !is_latch_type(word(words, 3)) {
+    } else if has_type(words) && !is_latch_type(word_at(words, 3)) {
         Some(BlifFault::LatchType { line })
-    } else if has_init(words) && !is_latch_init(last(words)) {
+    } else if has_init(words) && !is_latch_init(last_word(words)) {
         Some(BlifFault::LatchInit { line })
     } else {
         None
     }
 }
 
-fn subckt_fault(place: &Place, inst: &Line) -> Option<BlifFault>
-    ensures { result ≡ told (subckt_cases place.now inst.now) }
+fn subckt_fault(context: &Context, inst: &Line) -> Option<BlifFault>
+    ensures { result ≡ told (subckt_cases context.now inst.now) }
 {
     let words = inst.words.as_slice();
     let line = inst.number;
-    if !place.inside {
+    if !context.inside {
         Some(BlifFault::NoModel { line })
     } else if words.len() < 2 {
         Some(BlifFault::Arity { line })
-    } else if !are_bindings(after(words, 2)) {
+    } else if !are_bindings(words_after(words, 2)) {
         Some(BlifFault::BindShape { line })
     } else {
         None
     }
 }
 
-fn is_mixed(place: &Place, row: &Line) -> bool
-    ensures { result ≡ is_mixed place.now row.now }
+fn is_mixed(context: &Context, row: &Line) -> bool
+    ensures { result ≡ is_mixed context.now row.now }
 {
     if is_zero_row(row) {
-        place.ones
+        context.ones
     } else {
-        place.zeros
+        context.zeros
     }
 }
 
-fn row_fault(place: &Place, row: &Line) -> Option<BlifFault>
-    requires { place.now.rows + 1 < 2 ^ 64 }
-    ensures { result ≡ told (row_cases place.now row.now) }
+fn row_fault(context: &Context, row: &Line) -> Option<BlifFault>
+    requires { context.now.rows + 1 < 2 ^ 64 }
+    ensures { result ≡ told (row_cases context.now row.now) }
 {
     let line = row.number;
-    let rows = place.rows + 1;
-    if !place.inside {
+    let rows = context.rows + 1;
+    if !context.inside {
         Some(BlifFault::NoModel { line })
-    } else if !place.covered {
+    } else if !context.covered {
         Some(BlifFault::RowOutside { line })
-    } else if !is_row_of(place.inputs, row.words.as_slice()) {
+    } else if !is_row_of(context.inputs, row.words.as_slice()) {
         Some(BlifFault::RowShape { line })
-    } else if is_mixed(place, row) {
+    } else if is_mixed(context, row) {
         Some(BlifFault::MixedRows { line })
     } else if rows > MOST_ROWS {
         Some(BlifFault::Limit {
@@ -133,19 +133,19 @@ fn row_fault(place: &Place, row: &Line) -> Option<BlifFault>
 }
 
 #[tactic(auto, unfolding(crate::specs::Faults::line_fault))]
-fn line_fault(place: &Place, names: &HashSet<&[u8]>, line: &Line) -> Option<BlifFault>
-    requires rows { place.now.rows + 1 < 2 ^ 64 }
-    requires models { place.now.models + 1 < 2 ^ 64 }
-    ensures { (earlier : List (List ℕ)) → HoldsNames names.now earlier → result ≡ line_fault place.now earlier line.now }
+fn line_fault(context: &Context, names: &HashSet<&[u8]>, line: &Line) -> Option<BlifFault>
+    requires rows { context.now.rows + 1 < 2 ^ 64 }
+    requires models { context.now.models + 1 < 2 ^ 64 }
+    ensures { (earlier : List (List ℕ)) → HoldsNames names.now earlier → result ≡ line_fault context.now earlier line.now }
 {
     match keyword(line) {
-        Keyword::Model => model_fault(place, names, line),
-        Keyword::Names => names_fault(place, line),
-        Keyword::Latch => latch_fault(place, line),
-        Keyword::Subckt => subckt_fault(place, line),
-        Keyword::Row => row_fault(place, line),
-        Keyword::Unknown if place.inside => Some(BlifFault::Unsupported { line: line.number }),
-        _ if place.inside => None,
+        Keyword::Model => model_fault(context, names, line),
+        Keyword::Names => names_fault(context, line),
+        Keyword::Latch => latch_fault(context, line),
+        Keyword::Subckt => subckt_fault(context, line),
+        Keyword::Row => row_fault(context, line),
+        Keyword::Unknown if context.inside => Some(BlifFault::Unsupported { line: line.number }),
+        _ if context.inside => None,
         _ => Some(BlifFault::NoModel { line: line.number }),
     }
 }
@@ -154,7 +154,7 @@ fn remember<'a>(line: &'a Line, names: &mut HashSet<&'a [u8]>) -> Result<(), All
     ensures { OnOk result ((before : List Line) → HoldsNames names.old (model_names before) → HoldsNames names.new (model_names (line.now ∷ before))) }
 {
     if is_line(Keyword::Model, line) {
-        names.insert(word(line.words.as_slice(), 1))?;
+        names.insert(word_at(line.words.as_slice(), 1))?;
     }
     Ok(())
 }
@@ -167,16 +167,16 @@ pub fn scan(alloc: Global, lines: &[Line]) -> Result<(), BlifFault>
     ensures ok { OnOk result (first_fault [] lines.now ≡ None) }
     ensures err { IfErr result (λ e. (e ≡ BlifFault.Memory) ⊎ (first_fault [] lines.now ≡ Some e)) }
 {
-    let mut place = Place::start();
+    let mut context = Context::start();
     let mut names = HashSet::new(alloc);
     for line in lines {
-        if let Some(fault) = line_fault(&place, &names, line) {
+        if let Some(fault) = line_fault(&context, &names, line) {
             return Err(fault);
         }
         let Ok(()) = remember(line, &mut names) else {
             return Err(BlifFault::Memory);
         };
-        place = place.after(line);
+        context = context.after(line);
     }
     Ok(())
 }

@@ -4,8 +4,7 @@ ghost use Rattle.std.specs.Prelude.{◌≡◌, ◌||◌};
 ghost use Rattle.std.specs.List.{list_all, list_any, position, before_first, after_first};
 ghost use Rattle.lid_blif.specs.Words.{is_input_character, is_row_of, is_zero, is_one, is_latch_type, is_latch_init, has_type, has_init, is_equals, is_binding};
 
-use crate::words::{is, last, word};
-use lid_base::Name;
+use lid_base::{Name, is_same, last_word, word_at};
 
 fn is_input_character(character: u8) -> bool
     ensures { result ≡ is_input_character character }
@@ -27,19 +26,19 @@ fn are_input_characters(characters: &[u8]) -> bool
 fn is_output(word: &[u8]) -> bool
     ensures { result ≡ (is_zero word.now || is_one word.now) }
 {
-    is(word, b"0") || is(word, b"1")
+    is_same(word, b"0") || is_same(word, b"1")
 }
 
 /// Whether the words are a row of a cover with so many inputs.
 pub fn is_row_of(inputs: usize, words: &[Name]) -> bool
     ensures { result ≡ is_row_of inputs words.now }
 {
-    if !is_output(last(words)) {
+    if !is_output(last_word(words)) {
         false
     } else if inputs == 0 {
         words.len() == 1
     } else {
-        let characters = word(words, 0);
+        let characters = word_at(words, 0);
         words.len() == 2 && characters.len() == inputs && are_input_characters(characters)
     }
 }
@@ -48,14 +47,14 @@ pub fn is_row_of(inputs: usize, words: &[Name]) -> bool
 pub fn is_latch_type(word: &[u8]) -> bool
     ensures { result ≡ is_latch_type word.now }
 {
-    is(word, b"re") || is(word, b"fe")
+    is_same(word, b"re") || is_same(word, b"fe")
 }
 
 /// Whether a latch may have this initial value.
 pub fn is_latch_init(word: &[u8]) -> bool
     ensures { result ≡ is_latch_init word.now }
 {
-    is(word, b"0") || is(word, b"1") || is(word, b"2") || is(word, b"3")
+    is_same(word, b"0") || is_same(word, b"1") || is_same(word, b"2") || is_same(word, b"3")
 }
 
 /// Whether the words of a latch have a type and a control.

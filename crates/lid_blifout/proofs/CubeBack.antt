@@ -6,7 +6,7 @@ use Rattle.std.proofs.lemmas.Nat.{and_block}
 use Rattle.std.proofs.lemmas.Bool.{cases_Bool, cond-true, cond-false, eqb-true, eqb-false}
 use Rattle.std.proofs.Math.Nat.{pow-succ'}
 use Rattle.lid_cover.specs.Cover.{lowest_bit}
-use Rattle.lid_blif.specs.Designs.{number_of, is_cared_for, is_character_one}
+use Rattle.lid_blif.specs.Designs.{mask_of, is_cared_for, is_character_one}
 use Rattle.lid_blifout.specs.Canonical.{characters}
 
 -- a bit as a number
@@ -37,7 +37,7 @@ bit_small true false = omega arith
 bit_small false true = omega arith
 bit_small false false = omega arith
 
-pub cared_back : (n care value : ℕ) → care < 2 ^ n → number_of (map is_cared_for (characters n care value)) ≡ care
+pub cared_back : (n care value : ℕ) → care < 2 ^ n → mask_of (map is_cared_for (characters n care value)) ≡ care
 cared_back zero care value h = let small : care < 1 = h in omega arith
 cared_back (suc n) care value h =
     let power = pow-succ' 2 n in
@@ -49,7 +49,7 @@ cared_back (suc n) care value h =
 halves : (n : ℕ) → n ≡ (n / 2) * 2 ^ 1 + n % 2
 halves n = omega arith
 
-pub value_back : (n care value : ℕ) → care < 2 ^ n → bit_and value care ≡ value → number_of (map is_character_one (characters n care value)) ≡ value
+pub value_back : (n care value : ℕ) → care < 2 ^ n → bit_and value care ≡ value → mask_of (map is_character_one (characters n care value)) ≡ value
 value_back zero care value h within =
     let small : care < 1 = h in
     let none : care ≡ 0 = omega arith in

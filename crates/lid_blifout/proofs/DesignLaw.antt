@@ -19,12 +19,13 @@ use Rattle.lid_design.specs.declared.Inst.{Inst}
 use Rattle.lid_design.specs.declared.Bind.{Bind}
 use Rattle.lid_blif.specs.declared.keyword.Keyword.{Keyword}
 use Rattle.lid_blif.specs.declared.keyword.Keyword.TheVariants.{Model, Inputs, Outputs, Clock, Names, Latch, Subckt, End, Unknown, Row}
-use Rattle.lid_blif.specs.Words.{word_at, last_word, named_keyword, same_keyword, keyword_of, is_line, is_inner, leading, inputs_of, is_zero}
+use Rattle.lid_base.specs.Words.{word_at, last_word}
+use Rattle.lid_blif.specs.Words.{named_keyword, same_keyword, keyword_of, is_line, is_inner, leading, inputs_of, is_zero}
 use Rattle.lid_blif.specs.Faults.{ends_in_zero}
-use Rattle.lid_blif.specs.Designs.{number_of, is_cared_for, is_character_one, cube_of, width_of, cover_of, names_cell, latch_cell, bind_of, inst_of, control_named, init_named, model_of, models_of}
-use Rattle.lid_blifout.specs.Canonical.{Words, listed, cube_line, control_word, kind_words, init_word, cell_lines, bind_word, inst_line, body_lines, models_lines}
+use Rattle.lid_blif.specs.Designs.{mask_of, is_cared_for, is_character_one, cube_of, width_of, cover_of, names_cell, latch_cell, bind_of, inst_of, control_named, init_named, model_of, models_of}
+use Rattle.lid_blifout.specs.Canonical.{listed, cube_line, control_word, kind_words, init_word, cell_lines, bind_word, inst_line, body_lines, models_lines}
 use Rattle.lid_blifout.specs.Writable.{IsControl, IsWritableCover, IsWritableLatch, IsWritableCell, IsWritableBind, IsWritableInst, IsWritableModel}
-use Rattle.lid_blifout.proofs.TextLaw.{numbered}
+use Rattle.lid_lines.specs.Texts.{Words, numbered}
 use Rattle.lid_blifout.proofs.LineWords.{is_row_line, last_word_after, formal_back, actual_back}
 use Rattle.lid_blifout.proofs.CubeBack.{cared_back, value_back}
 use Rattle.lid_blifout.proofs.FaultLaw.{line_at}
@@ -139,8 +140,8 @@ leading_rows inputs on (cube ∷ cubes) lines n h =
 cube_back : (inputs n : ℕ) (on : Bool) (cube : Cube) → IsCube inputs cube → cube_of inputs (line_at n (cube_line inputs on cube)) ≡ cube
 cube_back inputs n on cube w =
     let row = is_row_line inputs on cube in
-    let care : number_of (map is_cared_for (take inputs (word_at (cube_line inputs on cube) 0))) ≡ cube.care = ap (λ (cs : List ℕ). number_of (map is_cared_for cs)) row.characters ∙ cared_back inputs cube.care cube.value w.in_range in
-    let value : number_of (map is_character_one (take inputs (word_at (cube_line inputs on cube) 0))) ≡ cube.value = ap (λ (cs : List ℕ). number_of (map is_character_one cs)) row.characters ∙ value_back inputs cube.care cube.value w.in_range w.within in
+    let care : mask_of (map is_cared_for (take inputs (word_at (cube_line inputs on cube) 0))) ≡ cube.care = ap (λ (cs : List ℕ). mask_of (map is_cared_for cs)) row.characters ∙ cared_back inputs cube.care cube.value w.in_range in
+    let value : mask_of (map is_character_one (take inputs (word_at (cube_line inputs on cube) 0))) ≡ cube.value = ap (λ (cs : List ℕ). mask_of (map is_character_one cs)) row.characters ∙ value_back inputs cube.care cube.value w.in_range w.within in
     both care value
   where
     both : {a b c d : ℕ} → a ≡ c → b ≡ d → ◌≡◌ {A = Cube} (record { care = a; value = b }) (record { care = c; value = d })

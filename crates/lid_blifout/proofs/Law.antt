@@ -13,7 +13,8 @@ use Rattle.lid_blif.specs.Faults.{first_fault, lines_fault, after_text, blif_fau
 use Rattle.lid_blif.specs.Designs.{design_of}
 use Rattle.lid_blifout.specs.Canonical.{models_lines, canonical_text}
 use Rattle.lid_blifout.specs.Writable.{IsWritable}
-use Rattle.lid_blifout.proofs.TextLaw.{numbered, text_law, text_clean}
+use Rattle.lid_lines.specs.Texts.{numbered}
+use Rattle.lid_lines.proofs.ReadBack.{text_law, text_clean}
 use Rattle.lid_blifout.proofs.SpelledLines.{models_spelled}
 use Rattle.lid_blifout.proofs.FaultLaw.{models_clear}
 use Rattle.lid_blifout.proofs.DesignLaw.{models_back}
@@ -24,11 +25,11 @@ some_lines (m ∷ ms) h = refl
 
 lines_back : (d : Design) → IsWritable d → logical_lines (canonical_text d) ≡ numbered 1 (models_lines d.models)
 unfolding canonical_text
-lines_back d w = text_law (models_lines d.models) (models_spelled d.models w.models)
+lines_back d w = text_law 1024 (models_lines d.models) (models_spelled d.models w.models)
 
 text_good : (d : Design) → IsWritable d → text_fault 1024 (canonical_text d) ≡ None
 unfolding canonical_text
-text_good d w = text_clean (models_lines d.models) (models_spelled d.models w.models)
+text_good d w = text_clean 1024 (models_lines d.models) (models_spelled d.models w.models)
 
 fault_back : (d : Design) → IsWritable d → blif_fault (canonical_text d) ≡ None
 unfolding blif_fault

@@ -1,12 +1,9 @@
 pub mod Lines
-pub mod Spelled
-pub mod TextLaw
 pub mod LineWords
 pub mod FaultLaw
 pub mod CubeBack
 pub mod DesignLaw
 pub mod SpelledLines
-pub mod ReadWords
 pub mod ReadLaw
 pub mod WritableLaw
 pub mod Law

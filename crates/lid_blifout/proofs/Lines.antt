@@ -1,50 +1,18 @@
 -- Lines and texts, a piece at a time.
 use Rattle.std.proofs.Common.{◌≡◌, ℕ, zero, suc, ◌-◌, ◌/◌, ◌<◌, ◌==◌, Bool, true, false, cond, List, [], ◌∷◌, ◌++◌, length, refl, sym, subst, ap, ◌∙◌, append-nil, append_assoc, arith}
 use Rattle.std.specs.Prelude.{map, codes, Result, Ok, Err, OnOk, is_ok}
-use Rattle.std.specs.List.{flat_map, join_with_byte}
+use Rattle.std.specs.List.{flat_map}
 use Rattle.lid_cover.specs.declared.Cube.{Cube}
 use Rattle.lid_design.specs.declared.Model.{Model}
 use Rattle.lid_design.specs.declared.Bind.{Bind}
-use Rattle.lid_blifout.specs.Canonical.{Words, line_text, lines_text, bind_word, character, characters, cube_line, output_word, cell_lines, inst_line, listed, model_lines}
-use Rattle.lid_blifout.specs.Pieces.{spaced, spaced_binds, asked_text}
-
--- the words after the first, each after a blank
-pub join_spaced : (word : List ℕ) (words : Words) → join_with_byte 32 (word ∷ words) ≡ word ++ spaced words
-join_spaced word [] = sym (append-nil word)
-join_spaced word (next ∷ words) = ap (λ (bytes : List ℕ). word ++ 32 ∷ bytes) (join_spaced next words)
-
-pub line_text_cons : (word : List ℕ) (words : Words) → line_text (word ∷ words) ≡ word ++ (spaced words ++ 10 ∷ [])
-unfolding line_text
-line_text_cons word words = ap (λ (bytes : List ℕ). bytes ++ 10 ∷ []) (join_spaced word words) ∙ append_assoc word (spaced words) (10 ∷ [])
-
-pub spaced_append : (xs bs : Words) → spaced (xs ++ bs) ≡ spaced xs ++ spaced bs
-spaced_append [] bs = refl
-spaced_append (word ∷ xs) bs = ap (λ (bytes : List ℕ). 32 ∷ word ++ bytes) (spaced_append xs bs) ∙ sym (append_assoc (32 ∷ word) (spaced xs) (spaced bs))
+use Rattle.lid_lines.specs.Texts.{Words, line_text, lines_text, spaced}
+use Rattle.lid_lines.proofs.Pieces.{line_text_cons, lines_text_append, appended, spaced_push}
+use Rattle.lid_blifout.specs.Canonical.{bind_word, character, characters, cube_line, output_word, cell_lines, inst_line, listed, model_lines}
+use Rattle.lid_blifout.specs.Pieces.{spaced_binds, asked_text}
 
 pub spaced_bound : (binds : List Bind) → spaced (map bind_word binds) ≡ spaced_binds binds
 spaced_bound [] = refl
 spaced_bound (bind ∷ binds) = ap (λ (bytes : List ℕ). (32 ∷ bind_word bind) ++ bytes) (spaced_bound binds)
-
-pub lines_text_append : (xs bs : List Words) → lines_text (xs ++ bs) ≡ lines_text xs ++ lines_text bs
-lines_text_append [] bs = refl
-lines_text_append (line ∷ xs) bs = ap (λ (bytes : List ℕ). line_text line ++ bytes) (lines_text_append xs bs) ∙ sym (append_assoc (line_text line) (lines_text xs) (lines_text bs))
-
--- what was appended in two steps
-pub appended : (old mid new xs ys : List ℕ) → mid ≡ old ++ xs → new ≡ mid ++ ys → new ≡ old ++ (xs ++ ys)
-appended old mid new xs ys a b = b ∙ ap (λ (bytes : List ℕ). bytes ++ ys) a ∙ append_assoc old xs ys
-
--- a line, of its first word, what stands after it, and the newline
-pub line_made : (old mid rest new word after : List ℕ) (words : Words) → mid ≡ old ++ word → rest ≡ mid ++ after → new ≡ rest ++ 10 ∷ [] → after ≡ spaced words → new ≡ old ++ line_text (word ∷ words)
-line_made old mid rest new word after words a b c e =
-    let whole = appended old rest new (word ++ after) (10 ∷ []) (appended old mid rest word after a b) c in
-    let said : (word ++ after) ++ 10 ∷ [] ≡ line_text (word ∷ words) = append_assoc word after (10 ∷ []) ∙ ap (λ (bytes : List ℕ). word ++ (bytes ++ 10 ∷ [])) e ∙ sym (line_text_cons word words) in
-    whole ∙ ap (λ (bytes : List ℕ). old ++ bytes) said
-
-pub spaced_one : (word : List ℕ) → 32 ∷ word ≡ spaced (word ∷ [])
-spaced_one word = sym (append-nil (32 ∷ word))
-
-pub spaced_push : (words : Words) (word : List ℕ) → spaced words ++ 32 ∷ word ≡ spaced (words ++ word ∷ [])
-spaced_push words word = ap (λ (bytes : List ℕ). spaced words ++ bytes) (spaced_one word) ∙ sym (spaced_append words (word ∷ []))
 
 pub cube_text : (inputs : ℕ) (on : Bool) (cube : Cube) → line_text (cube_line inputs on cube) ≡ asked_text inputs cube ++ (output_word on ++ 10 ∷ [])
 cube_text inputs on cube = by (inputs == 0)
@@ -73,15 +41,6 @@ latch_said input out init kinds =
 pub listed_text : (keyword : List ℕ) (names : Words) → 0 < length names → line_text (keyword ∷ names) ≡ lines_text (listed keyword names)
 listed_text keyword [] h = absurd (omega arith)
 listed_text keyword (name ∷ names) h = sym (append-nil (line_text (keyword ∷ name ∷ names)))
-
--- the same, for what is known to be equal
-pub said_as : {X : Type 0} (say : X → List ℕ) (old new : List ℕ) (x y : X) → x ≡ y → new ≡ old ++ say x → new ≡ old ++ say y
-said_as say old new x y e h = h ∙ ap (λ z. old ++ say z) e
-
--- where a call that may fail ended well
-pub on_ok : {T E : Type 0} (result : Result T E) (P Q : Type 0) → (P → Q) → OnOk result P → OnOk result Q
-on_ok (Ok x) P Q f h = f h
-on_ok (Err e) P Q f h = tt
 
 pub on_ok_items : {T E : Type 0} (result : Result T E) (new a b : List ℕ) → new ≡ cond (is_ok result) a b → OnOk result (new ≡ a)
 on_ok_items (Ok x) new a b h = h

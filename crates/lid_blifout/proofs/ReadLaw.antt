@@ -18,16 +18,18 @@ use Rattle.lid_design.specs.declared.Bind.{Bind}
 use Rattle.lid_blif.specs.declared.fault.BlifFault.TheVariants.{Arity, RowOutside, RowShape, MixedRows, LatchType, LatchInit, BindShape, DuplicateModel, TooManyInputs, Limit}
 use Rattle.lid_blif.specs.declared.keyword.Keyword.{Keyword}
 use Rattle.lid_blif.specs.declared.keyword.Keyword.TheVariants.{Model, Inputs, Outputs, Clock, Names, Latch, Subckt, End, Unknown, Row}
-use Rattle.lid_blif.specs.declared.place.Place.{Place}
-use Rattle.lid_blif.specs.Words.{word_at, last_word, keyword_of, same_keyword, is_line, is_inner, leading, inputs_of, is_row_of, is_latch_type, is_latch_init, has_type, has_init, is_equals, is_empty, is_binding}
-use Rattle.lid_blif.specs.Faults.{place_of, model_names, row_count, ends_in_zero, Case, outside, is_mixed, line_fault, first_fault}
+use Rattle.lid_blif.specs.declared.context.Context.{Context}
+use Rattle.lid_base.specs.Words.{word_at, last_word}
+use Rattle.lid_blif.specs.Words.{keyword_of, same_keyword, is_line, is_inner, leading, inputs_of, is_row_of, is_latch_type, is_latch_init, has_type, has_init, is_equals, is_empty, is_binding}
+use Rattle.lid_blif.specs.Faults.{context_of, model_names, row_count, ends_in_zero, Case, outside, is_mixed, line_fault, first_fault}
 use Rattle.lid_blif.specs.Designs.{cube_of, width_of, names_of, kind_named, control_named, kind_of, control_of, bind_of, inst_of, latch_cell, names_cell, cell_before, cells_of, insts_of, model_of, models_of}
-use Rattle.lid_blif.specs.WellFormed.{IsWellFormedCell}
+use Rattle.lid_design.specs.WellFormed.{IsWellFormedCell}
 use Rattle.lid_blif.proofs.Faults.{told-none, first_fault_none, same_model}
-use Rattle.lid_blifout.specs.Canonical.{Words, bind_word}
-use Rattle.lid_blifout.specs.Writable.{IsSpelled, IsControl, IsWritableLatch, IsWritableBind, IsWritableInst, IsWritableCell, IsWritableModel, cell_rows, cells_rows, model_rows}
-use Rattle.lid_blifout.proofs.Spelled.{AreSpelled}
-use Rattle.lid_blifout.proofs.ReadWords.{all_both, all_take, all_drop, before_fails}
+use Rattle.lid_lines.specs.Texts.{Words}
+use Rattle.lid_blifout.specs.Canonical.{bind_word}
+use Rattle.lid_blifout.specs.Writable.{IsControl, IsWritableLatch, IsWritableBind, IsWritableInst, IsWritableCell, IsWritableModel, cell_rows, cells_rows, model_rows}
+use Rattle.lid_lines.specs.Spelled.{IsSpelled, AreSpelled}
+use Rattle.lid_lines.proofs.ReadWords.{all_both, all_take, all_drop, before_fails}
 
 -- what holds of the words of a line without fault
 pub record IsShaped (l : Line) : Type 0 where
@@ -41,41 +43,41 @@ or_left_false : (a b : Bool) → (a || b) ≡ false → a ≡ false
 or_left_false true b h = absurd (let e : true ≡ false = h in cc)
 or_left_false false b h = refl
 
-model_shape : (place : Place) (names : Words) (l : Line) → line_fault place names l ≡ None → Model ≡ keyword_of l.words → length l.words ≡ 2
+model_shape : (context : Context) (names : Words) (l : Line) → line_fault context names l ≡ None → Model ≡ keyword_of l.words → length l.words ≡ 2
 unfolding line_fault
-model_shape place names l h e =
+model_shape context names l h e =
     let clear = rw (← e) at h in
-    let later : List Case = (list_any (λ name. bytes_eq name (word_at l.words 1)) names, DuplicateModel l.number) ∷ (nat_lt 4096 (place.models + 1), Limit Models (place.models + 1)) ∷ [] in
+    let later : List Case = (list_any (λ name. bytes_eq name (word_at l.words 1)) names, DuplicateModel l.number) ∷ (nat_lt 4096 (context.models + 1), Limit Models (context.models + 1)) ∷ [] in
     let first = told-none (not (length l.words == 2), Arity l.number) later clear in
     eqb-true (length l.words) 2 (not-false (length l.words == 2) first.0)
 
-names_shape : (place : Place) (names : Words) (l : Line) → line_fault place names l ≡ None → Names ≡ keyword_of l.words → 2 ≤ length l.words
+names_shape : (context : Context) (names : Words) (l : Line) → line_fault context names l ≡ None → Names ≡ keyword_of l.words → 2 ≤ length l.words
 unfolding line_fault
-names_shape place names l h e =
+names_shape context names l h e =
     let clear = rw (← e) at h in
     let wide : List Case = (nat_lt 64 (inputs_of l.words), TooManyInputs l.number) ∷ [] in
     let short : List Case = (nat_lt (length l.words) 2, Arity l.number) ∷ wide in
-    let inside = told-none (outside place l.number) short clear in
+    let inside = told-none (outside context l.number) short clear in
     let long = told-none (nat_lt (length l.words) 2, Arity l.number) wide inside.1 in
     ltb-false (length l.words) 2 long.0
 
-latch_shape : (place : Place) (names : Words) (l : Line) → line_fault place names l ≡ None → Latch ≡ keyword_of l.words → 3 ≤ length l.words
+latch_shape : (context : Context) (names : Words) (l : Line) → line_fault context names l ≡ None → Latch ≡ keyword_of l.words → 3 ≤ length l.words
 unfolding line_fault
-latch_shape place names l h e =
+latch_shape context names l h e =
     let clear = rw (← e) at h in
     let typed : List Case = (has_type l.words && not (is_latch_type (word_at l.words 3)), LatchType l.number) ∷ (has_init l.words && not (is_latch_init (last_word l.words)), LatchInit l.number) ∷ [] in
     let short : List Case = (nat_lt (length l.words) 3 || nat_lt 6 (length l.words), Arity l.number) ∷ typed in
-    let inside = told-none (outside place l.number) short clear in
+    let inside = told-none (outside context l.number) short clear in
     let long = told-none (nat_lt (length l.words) 3 || nat_lt 6 (length l.words), Arity l.number) typed inside.1 in
     ltb-false (length l.words) 3 (or_left_false (nat_lt (length l.words) 3) (nat_lt 6 (length l.words)) long.0)
 
-inst_shape : (place : Place) (names : Words) (l : Line) → line_fault place names l ≡ None → Subckt ≡ keyword_of l.words → (2 ≤ length l.words) × (list_all is_binding (drop 2 l.words) ≡ true)
+inst_shape : (context : Context) (names : Words) (l : Line) → line_fault context names l ≡ None → Subckt ≡ keyword_of l.words → (2 ≤ length l.words) × (list_all is_binding (drop 2 l.words) ≡ true)
 unfolding line_fault
-inst_shape place names l h e =
+inst_shape context names l h e =
     let clear = rw (← e) at h in
     let bound : List Case = (not (list_all is_binding (drop 2 l.words)), BindShape l.number) ∷ [] in
     let short : List Case = (nat_lt (length l.words) 2, Arity l.number) ∷ bound in
-    let inside = told-none (outside place l.number) short clear in
+    let inside = told-none (outside context l.number) short clear in
     let long = told-none (nat_lt (length l.words) 2, Arity l.number) bound inside.1 in
     let last = told-none (not (list_all is_binding (drop 2 l.words)), BindShape l.number) [] long.1 in
     (ltb-false (length l.words) 2 long.0, not-false (list_all is_binding (drop 2 l.words)) last.0)
@@ -84,32 +86,32 @@ lines_shaped : (before ls : List Line) → first_fault before ls ≡ None → Al
 lines_shaped before [] h = tt
 lines_shaped before (l ∷ ls) h =
     let parts = first_fault_none before l ls h in
-    let place = place_of before in
+    let context = context_of before in
     let names = model_names before in (
       record {
-        model = model_shape place names l parts.0;
-        names = names_shape place names l parts.0;
-        latch = latch_shape place names l parts.0;
-        inst = λ e. (inst_shape place names l parts.0 e).0;
-        binds = λ e. (inst_shape place names l parts.0 e).1;
+        model = model_shape context names l parts.0;
+        names = names_shape context names l parts.0;
+        latch = latch_shape context names l parts.0;
+        inst = λ e. (inst_shape context names l parts.0 e).0;
+        binds = λ e. (inst_shape context names l parts.0 e).1;
       },
       lines_shaped (l ∷ before) ls parts.1,
     )
 
-word_spelled : (words : Words) (i : ℕ) → i < length words → AllByRecursion IsSpelled words → IsSpelled (word_at words i)
+word_spelled : (words : Words) (i : ℕ) → i < length words → AllByRecursion (IsSpelled 1024) words → IsSpelled 1024 (word_at words i)
 word_spelled [] i lt h = absurd (omega arith)
 word_spelled (w ∷ ws) zero lt h = h.0
 word_spelled (w ∷ ws) (suc i) lt h = word_spelled ws i (omega arith) h.1
 
 -- latches
-control_ok : (w : List ℕ) → IsSpelled w → IfSome (control_named w) IsControl
+control_ok : (w : List ℕ) → IsSpelled 1024 w → IfSome (control_named w) IsControl
 control_ok w s =
     elim (cases_Bool (bytes_eq w (codes "NIL"))) [
       | inl yes' ↦ subst (λ (o : Option (List ℕ)). IfSome o IsControl) (sym (cond-true (bytes_eq w (codes "NIL")) None (Some w) yes')) tt
       | inr no' ↦ subst (λ (o : Option (List ℕ)). IfSome o IsControl) (sym (cond-false (bytes_eq w (codes "NIL")) None (Some w) no')) (record { spelled = s; named = no' })
     ]
 
-controls_ok : (words : Words) → AllByRecursion IsSpelled words → IfSome (control_of words) IsControl
+controls_ok : (words : Words) → AllByRecursion (IsSpelled 1024) words → IfSome (control_of words) IsControl
 controls_ok words h =
     elim (cases_Bool (has_type words)) [
       | inl yes' ↦
@@ -131,18 +133,18 @@ plain_ok words = by (has_type words)
 
 -- what holds of each cell, beside the rules of covers
 abbrev IsReadCell : Cell → Type 0
-IsReadCell (NamesCell inputs out cover) = (AllByRecursion IsSpelled inputs × IsSpelled out) × (cover.cubes ≡ [] → cover.on ≡ true)
+IsReadCell (NamesCell inputs out cover) = (AllByRecursion (IsSpelled 1024) inputs × IsSpelled 1024 out) × (cover.cubes ≡ [] → cover.on ≡ true)
 IsReadCell (LatchCell input out kind control init) = IsWritableLatch input out kind control
 
 no_rows_on : {X : Type 0} (f : Line → X) (rows : List Line) → map f rows ≡ [] → not (list_any ends_in_zero rows) ≡ true
 no_rows_on f [] h = refl
 no_rows_on f (row ∷ rows) h = absurd (cc)
 
-names_read : (l : Line) (rows : List Line) → AreSpelled l.words → 2 ≤ length l.words → IsReadCell (names_cell l.words rows)
+names_read : (l : Line) (rows : List Line) → AreSpelled 1024 l.words → 2 ≤ length l.words → IsReadCell (names_cell l.words rows)
 names_read l rows s long =
-    ((all_take IsSpelled (inputs_of l.words) (drop 1 l.words) (all_drop IsSpelled 1 l.words s.all), word_spelled l.words (length l.words - 1) (omega arith) s.all), no_rows_on _ rows)
+    ((all_take (IsSpelled 1024) (inputs_of l.words) (drop 1 l.words) (all_drop (IsSpelled 1024) 1 l.words s.all), word_spelled l.words (length l.words - 1) (omega arith) s.all), no_rows_on _ rows)
 
-latch_read : (l : Line) → AreSpelled l.words → 3 ≤ length l.words → IsReadCell (latch_cell l.words)
+latch_read : (l : Line) → AreSpelled 1024 l.words → 3 ≤ length l.words → IsReadCell (latch_cell l.words)
 latch_read l s long = record {
   reads = word_spelled l.words 1 (omega arith) s.all;
   driven = word_spelled l.words 2 (omega arith) s.all;
@@ -150,7 +152,7 @@ latch_read l s long = record {
   plain = plain_ok l.words;
 }
 
-cell_read : (k : Keyword) (l : Line) (later : List Line) (cells : List Cell) → k ≡ keyword_of l.words → AreSpelled l.words → IsShaped l → AllByRecursion IsReadCell cells → AllByRecursion IsReadCell (cell_before k l.words later cells)
+cell_read : (k : Keyword) (l : Line) (later : List Line) (cells : List Cell) → k ≡ keyword_of l.words → AreSpelled 1024 l.words → IsShaped l → AllByRecursion IsReadCell cells → AllByRecursion IsReadCell (cell_before k l.words later cells)
 cell_read Names l later cells e s shape h = (names_read l (leading (is_line Row) later) s (shape.names e), h)
 cell_read Latch l later cells e s shape h = (latch_read l s (shape.latch e), h)
 cell_read Model l later cells e s shape h = h
@@ -163,20 +165,20 @@ cell_read Unknown l later cells e s shape h = h
 cell_read Row l later cells e s shape h = h
 
 abbrev pub AreRead : List Line → Type 0
-AreRead ls = AllByRecursion (λ l. AreSpelled l.words × IsShaped l) ls
+AreRead ls = AllByRecursion (λ l. AreSpelled 1024 l.words × IsShaped l) ls
 
 cells_read : (ls : List Line) → AreRead ls → AllByRecursion IsReadCell (cells_of ls)
 cells_read [] h = tt
 cells_read (l ∷ ls) h = let here = h.0 in cell_read (keyword_of l.words) l ls (cells_of ls) refl here.0 here.1 (cells_read ls h.1)
 
-names_all : (k : Keyword) (ls : List Line) → AreRead ls → AllByRecursion IsSpelled (names_of k ls)
+names_all : (k : Keyword) (ls : List Line) → AreRead ls → AllByRecursion (IsSpelled 1024) (names_of k ls)
 names_all k [] h = tt
 names_all k (l ∷ ls) h =
     let later = names_all k ls h.1 in
     let here = h.0 in
     let said = here.0 in
-    elim (is_line k l) as (λ b. AllByRecursion IsSpelled (flat_map (λ (m : Line). drop 1 m.words) (cond b (l ∷ filter (is_line k) ls) (filter (is_line k) ls)))) [
-      | true ↦ all_append IsSpelled (drop 1 l.words) (names_of k ls) (all_drop IsSpelled 1 l.words said.all) later
+    elim (is_line k l) as (λ b. AllByRecursion (IsSpelled 1024) (flat_map (λ (m : Line). drop 1 m.words) (cond b (l ∷ filter (is_line k) ls) (filter (is_line k) ls)))) [
+      | true ↦ all_append (IsSpelled 1024) (drop 1 l.words) (names_of k ls) (all_drop (IsSpelled 1024) 1 l.words said.all) later
       | false ↦ later
     ]
 
@@ -187,7 +189,7 @@ mark_tail (x ∷ []) [] h = absurd (omega arith)
 mark_tail (x ∷ []) (y ∷ ys) h = refl
 mark_tail (x ∷ z ∷ xs) ys h = mark_tail (z ∷ xs) ys h
 
-module _ (w : List ℕ) (s : IsSpelled w) (bound : is_binding w ≡ true) where
+module _ (w : List ℕ) (s : IsSpelled 1024 w) (bound : is_binding w ≡ true) where
   bind_back : bind_word (bind_of w) ≡ w
   bind_back =
       let parts = and_parts (list_any is_equals w) (not (is_empty (before_first is_equals w)) && not (is_empty (after_first is_equals w))) bound in
@@ -220,7 +222,7 @@ module _ (w : List ℕ) (s : IsSpelled w) (bound : is_binding w ≡ true) where
 abbrev pub EndsWellBind : Bind → Type 0
 EndsWellBind bind = ends_in_mark bind.formal ≡ false
 
-binds_read : (words : Words) → AllByRecursion IsSpelled words → list_all is_binding words ≡ true → AllByRecursion EndsWellBind (map bind_of words) → AllByRecursion IsWritableBind (map bind_of words)
+binds_read : (words : Words) → AllByRecursion (IsSpelled 1024) words → list_all is_binding words ≡ true → AllByRecursion EndsWellBind (map bind_of words) → AllByRecursion IsWritableBind (map bind_of words)
 binds_read [] s h u = tt
 binds_read (w ∷ ws) s h u = let parts = and_parts (is_binding w) (list_all is_binding ws) h in (bind_read w s.0 parts.0 u.0, binds_read ws s.1 parts.1 u.1)
 
@@ -252,7 +254,7 @@ insts_read (l ∷ ls) h u = by (is_line Subckt l) refl (λ marks. insts_read ls 
         let marks = rw e at u in
         let inst : IsWritableInst (inst_of l) = record {
           model = word_spelled l.words 1 (shape.inst is) said.all;
-          binds = binds_read (drop 2 l.words) (all_drop IsSpelled 2 l.words said.all) (shape.binds is) marks.0;
+          binds = binds_read (drop 2 l.words) (all_drop (IsSpelled 1024) 2 l.words said.all) (shape.binds is) marks.0;
         } in
         rw e (inst, later marks.1)
     by false e later = let marks = rw e at u in rw e (later marks)
@@ -305,20 +307,20 @@ models_rows_le (l ∷ ls) =
       | false ↦ omega (arith, later, count, more)
     ]
 
-row_limit : (place : Place) (names : Words) (l : Line) → line_fault place names l ≡ None → Row ≡ keyword_of l.words → place.rows + 1 ≤ 1048576
+row_limit : (context : Context) (names : Words) (l : Line) → line_fault context names l ≡ None → Row ≡ keyword_of l.words → context.rows + 1 ≤ 1048576
 unfolding line_fault
-row_limit place names l h e =
+row_limit context names l h e =
     let clear = rw (← e) at h in
-    let limit : List Case = (nat_lt 1048576 (place.rows + 1), Limit CoverRows (place.rows + 1)) ∷ [] in
-    let mixed : List Case = (is_mixed place l, MixedRows l.number) ∷ limit in
-    let shape : List Case = (not (is_row_of place.inputs l.words), RowShape l.number) ∷ mixed in
-    let covered : List Case = (not place.covered, RowOutside l.number) ∷ shape in
-    let a = told-none (outside place l.number) covered clear in
-    let b = told-none (not place.covered, RowOutside l.number) shape a.1 in
-    let c = told-none (not (is_row_of place.inputs l.words), RowShape l.number) mixed b.1 in
-    let d = told-none (is_mixed place l, MixedRows l.number) limit c.1 in
-    let f = told-none (nat_lt 1048576 (place.rows + 1), Limit CoverRows (place.rows + 1)) [] d.1 in
-    ltb-false 1048576 (place.rows + 1) f.0
+    let limit : List Case = (nat_lt 1048576 (context.rows + 1), Limit CoverRows (context.rows + 1)) ∷ [] in
+    let mixed : List Case = (is_mixed context l, MixedRows l.number) ∷ limit in
+    let shape : List Case = (not (is_row_of context.inputs l.words), RowShape l.number) ∷ mixed in
+    let covered : List Case = (not context.covered, RowOutside l.number) ∷ shape in
+    let a = told-none (outside context l.number) covered clear in
+    let b = told-none (not context.covered, RowOutside l.number) shape a.1 in
+    let c = told-none (not (is_row_of context.inputs l.words), RowShape l.number) mixed b.1 in
+    let d = told-none (is_mixed context l, MixedRows l.number) limit c.1 in
+    let f = told-none (nat_lt 1048576 (context.rows + 1), Limit CoverRows (context.rows + 1)) [] d.1 in
+    ltb-false 1048576 (context.rows + 1) f.0
 
 same_row : (k : Keyword) → same_keyword Row k ≡ true → Row ≡ k
 same_row Row h = refl
@@ -332,8 +334,8 @@ same_row Subckt h = absurd (cc)
 same_row End h = absurd (cc)
 same_row Unknown h = absurd (cc)
 
-place_rows : (before : List Line) → (place_of before).rows ≡ row_count before
-unfolding place_of
+place_rows : (before : List Line) → (context_of before).rows ≡ row_count before
+unfolding context_of
 place_rows before = refl
 
 rows_limit : (before ls : List Line) → first_fault before ls ≡ None → row_count before ≤ 1048576 → row_count before + row_count ls ≤ 1048576
@@ -346,7 +348,7 @@ rows_limit before (l ∷ ls) h few =
     let more : row_count (l ∷ before) ≤ 1048576 =
     elim (cases_Bool (is_line Row l)) [
       | inl yes' ↦
-          let limit = row_limit (place_of before) (model_names before) l parts.0 (same_row (keyword_of l.words) yes') in
+          let limit = row_limit (context_of before) (model_names before) l parts.0 (same_row (keyword_of l.words) yes') in
           let one : ◌≡◌ {A = ℕ} (cond (is_line Row l) 1 0) 1 = cond-true (is_line Row l) 1 0 yes' in
           omega (arith, grown, at, limit, one)
       | inr no' ↦ let none : ◌≡◌ {A = ℕ} (cond (is_line Row l) 1 0) 0 = cond-false (is_line Row l) 1 0 no' in omega (arith, grown, none)
@@ -374,7 +376,7 @@ writable_cells : (cells : List Cell) → AllByRecursion IsWellFormedCell cells �
 writable_cells [] f r = tt
 writable_cells (cell ∷ cells) f r = (writable_cell cell f.0 r.0, writable_cells cells f.1 r.1)
 
-model_read : (name : List ℕ) (body : List Line) → IsSpelled name → AreRead body → AllByRecursion IsWellFormedCell (cells_of body) → AllByRecursion EndsWellInst (insts_of body) → IsWritableModel (model_of name body)
+model_read : (name : List ℕ) (body : List Line) → IsSpelled 1024 name → AreRead body → AllByRecursion IsWellFormedCell (cells_of body) → AllByRecursion EndsWellInst (insts_of body) → IsWritableModel (model_of name body)
 unfolding model_of
 model_read name body s h f u = record {
   name = s;
@@ -402,5 +404,5 @@ models_read (l ∷ ls) h f u = by (is_line Model l) refl (models_read ls h.1)
         rw e (first, later formed.1 marks.1)
     by false e later = let marks = rw e at u in let formed = rw e at f in rw e (later formed marks)
 
-pub lines_read : (ls : List Line) → first_fault [] ls ≡ None → AllByRecursion (λ l. AreSpelled l.words) ls → AreRead ls
-lines_read ls h s = all_both (λ l. AreSpelled l.words) IsShaped ls s (lines_shaped [] ls h)
+pub lines_read : (ls : List Line) → first_fault [] ls ≡ None → AllByRecursion (λ l. AreSpelled 1024 l.words) ls → AreRead ls
+lines_read ls h s = all_both (λ l. AreSpelled 1024 l.words) IsShaped ls s (lines_shaped [] ls h)

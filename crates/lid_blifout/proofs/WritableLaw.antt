@@ -9,10 +9,10 @@ use Rattle.lid_blif.specs.declared.fault.BlifFault.{BlifFault}
 use Rattle.lid_blif.specs.declared.fault.BlifFault.TheVariants.{NoModel, Text, Limit}
 use Rattle.lid_blif.specs.Faults.{first_fault, lines_fault, after_text, blif_fault}
 use Rattle.lid_blif.specs.Designs.{models_of, design_of}
-use Rattle.lid_blif.proofs.Texts.{text_formed}
+use Rattle.lid_blif.proofs.Texts.{text_formed, text_few}
 use Rattle.lid_blifout.specs.Canonical.{canonical_text}
 use Rattle.lid_blifout.specs.Writable.{IsWritable, HasPlainFormals}
-use Rattle.lid_blifout.proofs.ReadWords.{text_words}
+use Rattle.lid_lines.proofs.ReadWords.{text_words}
 use Rattle.lid_blifout.proofs.ReadLaw.{models_read, models_rows_few, lines_read}
 
 passed : (b : Bool) (fault : BlifFault) (later : Option BlifFault) → cond b (Some fault) later ≡ None → later ≡ None
@@ -35,14 +35,14 @@ read_writable bytes h plain short =
     let after = passed (nat_lt 16777216 (length bytes)) (Limit FileBytes (length bytes)) (after_text (text_fault 1024 bytes) ls) h in
     let parts = text_passed (text_fault 1024 bytes) ls after in
     let clear = lines_passed ls parts.1 in
-    let read = lines_read ls clear (text_words bytes parts.0) in
+    let read = lines_read ls clear (text_words 1024 bytes parts.0) in
     let some : 0 < length (models_of ls) = formed.rooted in
     record {
       rooted = refl;
       some = some;
       distinct = formed.distinct;
       models = models_read ls read formed.cells plain;
-      few_models = formed.few;
+      few_models = text_few bytes h;
       few_rows = models_rows_few ls clear;
       short = short;
     }

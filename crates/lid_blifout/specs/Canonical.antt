@@ -1,6 +1,6 @@
 -- The canonical text of a design, line by line.
 use Rattle.std.specs.Prelude.{ℕ, zero, suc, ◌/◌, ◌==◌, Bool, if◌then◌else◌, List, [], ◌∷◌, ◌++◌, map, codes, Option, Some, None}
-use Rattle.std.specs.List.{flat_map, join_with_byte}
+use Rattle.std.specs.List.{flat_map}
 use Rattle.lid_cover.specs.declared.Cube.{Cube}
 use Rattle.lid_cover.specs.Cover.{lowest_bit}
 use Rattle.lid_design.specs.declared.Design.{Design}
@@ -13,18 +13,7 @@ use Rattle.lid_design.specs.declared.Init.{Init}
 use Rattle.lid_design.specs.declared.Init.TheVariants.{Zero, One, DontCare, Unknown}
 use Rattle.lid_design.specs.declared.Inst.{Inst}
 use Rattle.lid_design.specs.declared.Bind.{Bind}
-
--- the words of a line
-abbrev pub Words : Type 0
-Words = List (List ℕ)
-
--- a line: its words with a blank between each two
-unfoldable pub line_text : Words → List ℕ
-line_text words = join_with_byte 32 words ++ 10 ∷ []
-
--- lines as a text
-abbrev pub lines_text : List Words → List ℕ
-lines_text lines = flat_map line_text lines
+use Rattle.lid_lines.specs.Texts.{Words, lines_text}
 
 -- the names after their keyword, where there are names
 abbrev pub listed : List ℕ → List (List ℕ) → List Words

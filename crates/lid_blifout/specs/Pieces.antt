@@ -1,13 +1,9 @@
 -- Pieces of lines, as they are written.
-use Rattle.std.specs.Prelude.{◌≡◌, length, take, ℕ, ◌==◌, if◌then◌else◌, List, [], ◌∷◌, ◌++◌}
+use Rattle.std.specs.Prelude.{ℕ, ◌==◌, if◌then◌else◌, List, [], ◌∷◌, ◌++◌}
 use Rattle.std.specs.List.{flat_map}
 use Rattle.lid_cover.specs.declared.Cube.{Cube}
 use Rattle.lid_design.specs.declared.Bind.{Bind}
 use Rattle.lid_blifout.specs.Canonical.{characters, bind_word}
-
--- words, each after a blank
-abbrev pub spaced : List (List ℕ) → List ℕ
-spaced words = flat_map (λ word. 32 ∷ word) words
 
 -- bindings, each after a blank
 abbrev pub spaced_binds : List Bind → List ℕ
@@ -16,7 +12,3 @@ spaced_binds binds = flat_map (λ bind. 32 ∷ bind_word bind) binds
 -- what a row asks of its inputs
 abbrev pub asked_text : ℕ → Cube → List ℕ
 asked_text inputs cube = if inputs == 0 then [] else characters inputs cube.care cube.value ++ 32 ∷ []
-
--- what was written before is still there
-pub record Extends (old new : List ℕ) : Type 0 where
-  pub kept : take (length old) new ≡ old

@@ -1,7 +1,7 @@
--- The designs that have a canonical text.
-use Rattle.std.specs.Prelude.{◌≡◌, ℕ, ◌<◌, ◌≤◌, nat_le, Bool, true, false, not, ◌&&◌, List, [], length, map, bytes_eq, codes, Option, None, IfSome}
+-- The designs that have a canonical text. Each of its words has at most 1,024 bytes.
+use Rattle.std.specs.Prelude.{◌≡◌, ℕ, ◌<◌, ◌≤◌, true, false, List, [], length, map, bytes_eq, codes, Option, None, IfSome}
 use Rattle.std.specs.List.{AllByRecursion, IsDistinct, sum_by}
-use Rattle.lid_base.specs.Lines.{ends_in_mark, is_hash}
+use Rattle.lid_base.specs.Lines.{ends_in_mark}
 use Rattle.lid_cover.specs.Cover.{IsCover}
 use Rattle.lid_cover.specs.declared.Cover.{Cover}
 use Rattle.lid_design.specs.declared.Design.{Design}
@@ -12,38 +12,28 @@ use Rattle.lid_design.specs.declared.LatchKind.{LatchKind}
 use Rattle.lid_design.specs.declared.LatchKind.TheVariants.{Plain}
 use Rattle.lid_design.specs.declared.Inst.{Inst}
 use Rattle.lid_design.specs.declared.Bind.{Bind}
+use Rattle.lid_lines.specs.Spelled.{IsSpelled}
 use Rattle.lid_blif.specs.Words.{is_equals}
-use Rattle.lid_blif.specs.WellFormed.{model_name}
+use Rattle.lid_design.specs.WellFormed.{model_name}
 use Rattle.lid_blifout.specs.Canonical.{bind_word, canonical_text}
-
--- a byte that may stand in a word: it is printed, and neither separates words nor begins a comment
-abbrev pub is_word_byte : ℕ → Bool
-is_word_byte b = (nat_le 33 b && nat_le b 126) && not (is_hash b)
-
--- bytes that are read as one word of at most 1,024 bytes, which does not end in `\`
-pub record IsSpelled (word : List ℕ) : Type 0 where
-  pub some : 0 < length word
-  pub short : length word ≤ 1024
-  pub bytes : AllByRecursion (λ b. is_word_byte b ≡ true) word
-  pub unmarked : ends_in_mark word ≡ false
 
 -- a cover that is read back: one without rows is read as `on`
 pub record IsWritableCover (inputs : List (List ℕ)) (out : List ℕ) (cover : Cover) : Type 0 where
-  pub names : AllByRecursion IsSpelled inputs
-  pub driven : IsSpelled out
+  pub names : AllByRecursion (IsSpelled 1024) inputs
+  pub driven : IsSpelled 1024 out
   pub rules : IsCover cover
   pub count : cover.inputs ≡ length inputs
   pub constant : cover.cubes ≡ [] → cover.on ≡ true
 
 -- a name that stands for a control: `NIL` stands for none
 pub record IsControl (name : List ℕ) : Type 0 where
-  pub spelled : IsSpelled name
+  pub spelled : IsSpelled 1024 name
   pub named : bytes_eq name (codes "NIL") ≡ false
 
 -- a latch that is read back: one without a type has no control
 pub record IsWritableLatch (input out : List ℕ) (kind : LatchKind) (control : Option (List ℕ)) : Type 0 where
-  pub reads : IsSpelled input
-  pub driven : IsSpelled out
+  pub reads : IsSpelled 1024 input
+  pub driven : IsSpelled 1024 out
   pub controlled : IfSome control IsControl
   pub plain : kind ≡ Plain → control ≡ None
 
@@ -53,21 +43,21 @@ IsWritableCell (Latch input out kind control init) = IsWritableLatch input out k
 
 -- a binding that is read back: it is split at its first `=`
 pub record IsWritableBind (bind : Bind) : Type 0 where
-  pub formal : IsSpelled bind.formal
-  pub actual : IsSpelled bind.actual
+  pub formal : IsSpelled 1024 bind.formal
+  pub actual : IsSpelled 1024 bind.actual
   pub split : AllByRecursion (λ b. is_equals b ≡ false) bind.formal
   pub short : length (bind_word bind) ≤ 1024
   pub unmarked : ends_in_mark (bind_word bind) ≡ false
 
 pub record IsWritableInst (inst : Inst) : Type 0 where
-  pub model : IsSpelled inst.model
+  pub model : IsSpelled 1024 inst.model
   pub binds : AllByRecursion IsWritableBind inst.binds
 
 pub record IsWritableModel (m : Model) : Type 0 where
-  pub name : IsSpelled m.name
-  pub inputs : AllByRecursion IsSpelled m.inputs
-  pub outputs : AllByRecursion IsSpelled m.outputs
-  pub clocks : AllByRecursion IsSpelled m.clocks
+  pub name : IsSpelled 1024 m.name
+  pub inputs : AllByRecursion (IsSpelled 1024) m.inputs
+  pub outputs : AllByRecursion (IsSpelled 1024) m.outputs
+  pub clocks : AllByRecursion (IsSpelled 1024) m.clocks
   pub cells : AllByRecursion IsWritableCell m.cells
   pub insts : AllByRecursion IsWritableInst m.insts
 

@@ -3,51 +3,31 @@
 ghost use Rattle.std.specs.Prelude.{◌≡◌, ◌≤◌, ℕ, List, length, ◌++◌, ◌∷◌, [], map, codes, None, OnOk, OnErr, ◌&&◌};
 ghost use Rattle.std.specs.List.{flat_map};
 ghost use Rattle.lid_base.specs.Lines.{logical_lines};
+ghost use Rattle.lid_base.specs.Lists.{Keeps};
 ghost use Rattle.lid_blif.specs.Faults.{blif_fault};
 ghost use Rattle.lid_blif.specs.Designs.{design_of};
 ghost use Rattle.lid_design.specs.declared.Design.{Design};
 ghost use Rattle.lid_design.specs.declared.Cell.TheVariants.{Names, Latch};
-ghost use Rattle.lid_blifout.specs.Canonical.{lines_text, listed, characters, cube_line, control_word, kind_words, init_word, output_word, character, line_text, bind_word, cell_lines, inst_line, body_lines, model_lines, models_lines, canonical_text};
+ghost use Rattle.lid_lines.specs.Texts.{line_text, lines_text, spaced};
+ghost use Rattle.lid_blifout.specs.Canonical.{listed, characters, cube_line, control_word, kind_words, init_word, output_word, character, bind_word, cell_lines, inst_line, body_lines, model_lines, models_lines, canonical_text};
 ghost use Rattle.lid_blifout.specs.Writable.{IsWritable, HasPlainFormals};
-ghost use Rattle.lid_blifout.specs.Pieces.{spaced, spaced_binds, asked_text, Extends};
+ghost use Rattle.lid_blifout.specs.Pieces.{spaced_binds, asked_text};
 
 use lid_base::Name;
 use lid_cover::{Cover, Cube};
 use lid_design::{Bind, Cell, Design, Init, Inst, LatchKind, Model};
+use lid_lines::{append_keyword_line, append_word, append_words};
 use std::alloc::AllocError;
-
-/// Appends a blank and a word.
-fn append_word(word: &[u8], into: &mut Vec<u8>) -> Result<(), AllocError>
-    ensures ok { OnOk result (into.new.items ≡ into.old.items ++ 32 ∷ word.now) }
-    ensures kept { Extends into.old.items into.new.items }
-{
-    into.push(b' ')?;
-    into.extend_from_slice(word)
-}
-
-/// Appends the names, each after a blank.
-fn append_names(names: &[Name], into: &mut Vec<u8>) -> Result<(), AllocError>
-    ensures ok { OnOk result (into.new.items ≡ into.old.items ++ spaced names.now) }
-    ensures kept { Extends into.old.items into.new.items }
-{
-    for name in names {
-        append_word(name.as_slice(), into)?;
-    }
-    Ok(())
-}
 
 /// Appends a line with a keyword and names, where there are names.
 fn append_listed(keyword: &[u8], names: &[Name], into: &mut Vec<u8>) -> Result<(), AllocError>
     ensures ok { OnOk result (into.new.items ≡ into.old.items ++ lines_text (listed keyword.now names.now)) }
-    ensures kept { Extends into.old.items into.new.items }
+    ensures kept { Keeps into.old.items into.new.items }
 {
     if names.is_empty() {
         return Ok(());
     }
-    into.extend_from_slice(keyword)?;
-    append_names(names, into)?;
-    into.push(b'\n')?;
-    Ok(())
+    append_keyword_line(keyword, names, into)
 }
 
 /// What a row asks of its first input.
@@ -66,7 +46,7 @@ fn character(care: u64, value: u64) -> u8
 /// Appends a character for each input of a row.
 fn append_characters(inputs: u32, cube: &Cube, into: &mut Vec<u8>) -> Result<(), AllocError>
     ensures ok { OnOk result (into.new.items ≡ into.old.items ++ characters inputs cube.now.care cube.now.value) }
-    ensures kept { Extends into.old.items into.new.items }
+    ensures kept { Keeps into.old.items into.new.items }
 {
     let mut care = cube.care;
     let mut value = cube.value;
@@ -83,7 +63,7 @@ fn append_characters(inputs: u32, cube: &Cube, into: &mut Vec<u8>) -> Result<(),
 /// Appends the output of a row, which ends its line.
 fn append_output(on: bool, into: &mut Vec<u8>) -> Result<(), AllocError>
     ensures ok { OnOk result (into.new.items ≡ into.old.items ++ (output_word on ++ 10 ∷ [])) }
-    ensures kept { Extends into.old.items into.new.items }
+    ensures kept { Keeps into.old.items into.new.items }
 {
     into.extend_from_slice(if on { b"1\n" } else { b"0\n" })
 }
@@ -91,7 +71,7 @@ fn append_output(on: bool, into: &mut Vec<u8>) -> Result<(), AllocError>
 /// Appends what a row asks of its inputs, and a blank, where there are inputs.
 fn append_asked(inputs: u32, cube: &Cube, into: &mut Vec<u8>) -> Result<(), AllocError>
     ensures ok { OnOk result (into.new.items ≡ into.old.items ++ asked_text inputs cube.now) }
-    ensures kept { Extends into.old.items into.new.items }
+    ensures kept { Keeps into.old.items into.new.items }
 {
     if inputs > 0 {
         append_characters(inputs, cube, into)?;
@@ -103,7 +83,7 @@ fn append_asked(inputs: u32, cube: &Cube, into: &mut Vec<u8>) -> Result<(), Allo
 /// Appends the line of a row.
 fn append_cube(inputs: u32, on: bool, cube: &Cube, into: &mut Vec<u8>) -> Result<(), AllocError>
     ensures ok { OnOk result (into.new.items ≡ into.old.items ++ line_text (cube_line inputs on cube.now)) }
-    ensures kept { Extends into.old.items into.new.items }
+    ensures kept { Keeps into.old.items into.new.items }
 {
     append_asked(inputs, cube, into)?;
     append_output(on, into)
@@ -112,7 +92,7 @@ fn append_cube(inputs: u32, on: bool, cube: &Cube, into: &mut Vec<u8>) -> Result
 /// Appends the lines of a cover's rows.
 fn append_cubes(cover: &Cover, into: &mut Vec<u8>) -> Result<(), AllocError>
     ensures ok { OnOk result (into.new.items ≡ into.old.items ++ lines_text (map (cube_line cover.now.inputs cover.now.on) cover.now.cubes)) }
-    ensures kept { Extends into.old.items into.new.items }
+    ensures kept { Keeps into.old.items into.new.items }
 {
     for cube in cover.cubes.as_slice() {
         append_cube(cover.inputs, cover.on, cube, into)?;
@@ -123,10 +103,10 @@ fn append_cubes(cover: &Cover, into: &mut Vec<u8>) -> Result<(), AllocError>
 /// Appends the line of a cover without its rows.
 fn append_cover_line(inputs: &[Name], out: &Name, into: &mut Vec<u8>) -> Result<(), AllocError>
     ensures ok { OnOk result (into.new.items ≡ into.old.items ++ line_text (codes ".names" ∷ inputs.now ++ out.now ∷ [])) }
-    ensures kept { Extends into.old.items into.new.items }
+    ensures kept { Keeps into.old.items into.new.items }
 {
     into.extend_from_slice(b".names")?;
-    append_names(inputs, into)?;
+    append_words(inputs, into)?;
     append_word(out.as_slice(), into)?;
     into.push(b'\n')?;
     Ok(())
@@ -140,7 +120,7 @@ fn append_cover(
     into: &mut Vec<u8>,
 ) -> Result<(), AllocError>
     ensures ok { OnOk result (into.new.items ≡ into.old.items ++ lines_text (cell_lines (Names inputs.now out.now cover.now))) }
-    ensures kept { Extends into.old.items into.new.items }
+    ensures kept { Keeps into.old.items into.new.items }
 {
     append_cover_line(inputs, out, into)?;
     append_cubes(cover, into)
@@ -162,7 +142,7 @@ fn append_kind(
     into: &mut Vec<u8>,
 ) -> Result<(), AllocError>
     ensures ok { OnOk result (into.new.items ≡ into.old.items ++ spaced (kind_words kind control.now)) }
-    ensures kept { Extends into.old.items into.new.items }
+    ensures kept { Keeps into.old.items into.new.items }
 {
     match kind {
         LatchKind::Plain => Ok(()),
@@ -198,7 +178,7 @@ fn append_latch(
     into: &mut Vec<u8>,
 ) -> Result<(), AllocError>
     ensures ok { OnOk result (into.new.items ≡ into.old.items ++ lines_text (cell_lines (Latch input.now out.now kind control.now init))) }
-    ensures kept { Extends into.old.items into.new.items }
+    ensures kept { Keeps into.old.items into.new.items }
 {
     into.extend_from_slice(b".latch")?;
     append_word(input.as_slice(), into)?;
@@ -212,7 +192,7 @@ fn append_latch(
 /// Appends the lines of a cell.
 fn append_cell(cell: &Cell, into: &mut Vec<u8>) -> Result<(), AllocError>
     ensures ok { OnOk result (into.new.items ≡ into.old.items ++ lines_text (cell_lines cell.now)) }
-    ensures kept { Extends into.old.items into.new.items }
+    ensures kept { Keeps into.old.items into.new.items }
 {
     match cell {
         Cell::Names { inputs, out, cover } => append_cover(inputs.as_slice(), out, cover, into),
@@ -227,10 +207,10 @@ fn append_cell(cell: &Cell, into: &mut Vec<u8>) -> Result<(), AllocError>
 }
 
 /// Appends the lines of the cells.
-#[tactic(auto, using(crate::proofs::Lines::lines_text_append))]
+#[tactic(auto, using(lid_lines::proofs::Pieces::lines_text_append))]
 fn append_cells(cells: &[Cell], into: &mut Vec<u8>) -> Result<(), AllocError>
     ensures ok { OnOk result (into.new.items ≡ into.old.items ++ lines_text (flat_map cell_lines cells.now)) }
-    ensures kept { Extends into.old.items into.new.items }
+    ensures kept { Keeps into.old.items into.new.items }
 {
     for cell in cells {
         append_cell(cell, into)?;
@@ -241,7 +221,7 @@ fn append_cells(cells: &[Cell], into: &mut Vec<u8>) -> Result<(), AllocError>
 /// Appends a blank and a binding.
 fn append_bind(bind: &Bind, into: &mut Vec<u8>) -> Result<(), AllocError>
     ensures ok { OnOk result (into.new.items ≡ into.old.items ++ 32 ∷ bind_word bind.now) }
-    ensures kept { Extends into.old.items into.new.items }
+    ensures kept { Keeps into.old.items into.new.items }
 {
     append_word(bind.formal.as_slice(), into)?;
     into.push(b'=')?;
@@ -251,7 +231,7 @@ fn append_bind(bind: &Bind, into: &mut Vec<u8>) -> Result<(), AllocError>
 /// Appends the bindings, each after a blank.
 fn append_binds(binds: &[Bind], into: &mut Vec<u8>) -> Result<(), AllocError>
     ensures ok { OnOk result (into.new.items ≡ into.old.items ++ spaced_binds binds.now) }
-    ensures kept { Extends into.old.items into.new.items }
+    ensures kept { Keeps into.old.items into.new.items }
 {
     for bind in binds {
         append_bind(bind, into)?;
@@ -262,7 +242,7 @@ fn append_binds(binds: &[Bind], into: &mut Vec<u8>) -> Result<(), AllocError>
 /// Appends the line of an instance.
 fn append_inst(inst: &Inst, into: &mut Vec<u8>) -> Result<(), AllocError>
     ensures ok { OnOk result (into.new.items ≡ into.old.items ++ line_text (inst_line inst.now)) }
-    ensures kept { Extends into.old.items into.new.items }
+    ensures kept { Keeps into.old.items into.new.items }
 {
     into.extend_from_slice(b".subckt")?;
     append_word(inst.model.as_slice(), into)?;
@@ -274,7 +254,7 @@ fn append_inst(inst: &Inst, into: &mut Vec<u8>) -> Result<(), AllocError>
 /// Appends the lines of the instances.
 fn append_insts(insts: &[Inst], into: &mut Vec<u8>) -> Result<(), AllocError>
     ensures ok { OnOk result (into.new.items ≡ into.old.items ++ lines_text (map inst_line insts.now)) }
-    ensures kept { Extends into.old.items into.new.items }
+    ensures kept { Keeps into.old.items into.new.items }
 {
     for inst in insts {
         append_inst(inst, into)?;
@@ -285,7 +265,7 @@ fn append_insts(insts: &[Inst], into: &mut Vec<u8>) -> Result<(), AllocError>
 /// Appends the first line of a model.
 fn append_title(name: &Name, into: &mut Vec<u8>) -> Result<(), AllocError>
     ensures ok { OnOk result (into.new.items ≡ into.old.items ++ line_text (codes ".model" ∷ name.now ∷ [])) }
-    ensures kept { Extends into.old.items into.new.items }
+    ensures kept { Keeps into.old.items into.new.items }
 {
     into.extend_from_slice(b".model")?;
     append_word(name.as_slice(), into)?;
@@ -296,7 +276,7 @@ fn append_title(name: &Name, into: &mut Vec<u8>) -> Result<(), AllocError>
 /// Appends the lines of a model.
 fn append_model(model: &Model, into: &mut Vec<u8>) -> Result<(), AllocError>
     ensures ok { OnOk result (into.new.items ≡ into.old.items ++ lines_text (model_lines model.now)) }
-    ensures kept { Extends into.old.items into.new.items }
+    ensures kept { Keeps into.old.items into.new.items }
 {
     append_title(&model.name, into)?;
     append_listed(b".inputs", model.inputs.as_slice(), into)?;
@@ -308,10 +288,10 @@ fn append_model(model: &Model, into: &mut Vec<u8>) -> Result<(), AllocError>
 }
 
 /// Appends the lines of the models.
-#[tactic(auto, using(crate::proofs::Lines::lines_text_append))]
+#[tactic(auto, using(lid_lines::proofs::Pieces::lines_text_append))]
 pub fn append_models(models: &[Model], into: &mut Vec<u8>) -> Result<(), AllocError>
     ensures ok { OnOk result (into.new.items ≡ into.old.items ++ lines_text (models_lines models.now)) }
-    ensures kept { Extends into.old.items into.new.items }
+    ensures kept { Keeps into.old.items into.new.items }
 {
     for model in models {
         append_model(model, into)?;

@@ -1,6 +1,4 @@
 pub mod Numerals
-pub mod PlainTexts
-pub mod PlainWords
 pub mod PrintedLengths
 pub mod PrintedLines
 pub mod Read

@@ -1,16 +1,19 @@
 -- How long the text of a certificate may be.
-use Rattle.std.proofs.Common.{◌≡◌, ℕ, zero, suc, ◌+◌, ◌*◌, ◌^◌, ◌<◌, ◌≤◌, List, [], ◌∷◌, ◌++◌, length, get_or, arith, length-append}
+use Rattle.std.proofs.Common.{◌≡◌, ℕ, zero, suc, ◌+◌, ◌*◌, ◌^◌, ◌<◌, ◌≤◌, List, [], ◌∷◌, ◌++◌, length, get_or, map, refl, sym, ap, ◌∙◌, arith, length-append}
 use Rattle.std.specs.Prelude.{codes, Option, Some, None}
 use Rattle.std.specs.Fmt.{decimal}
-use Rattle.std.specs.List.{All, AllByRecursion, flat_map, sum_by}
+use Rattle.std.specs.List.{All, AllByRecursion, sum_by}
 use Rattle.std.proofs.lemmas.Fmt.{length-decimal-le}
 use Rattle.std.proofs.lemmas.List.Sums.{sum_by-cons}
 use Rattle.std.proofs.lemmas.List.Elements.{recursion_from_All}
 use Rattle.lid_cert.specs.declared.cert.Part.{Part}
 use Rattle.lid_cert.specs.declared.cert.Cert.{Cert}
 use Rattle.lid_cert.specs.Certificates.{AreLists}
-use Rattle.lid_certtext.specs.Texts.{spaced, number_line, node_text, node_texts, part_text, cert_text, via_word}
+use Rattle.lid_lines.specs.Texts.{Words, line_text, lines_text, spaced}
+use Rattle.lid_lines.proofs.Pieces.{line_text_cons, lines_text_append, spaced_push}
+use Rattle.lid_certtext.specs.Written.{via_word, node_words, node_rows, count_words, ratio_words, cycle_words, part_lines, parts_lines, header_words, cert_text}
 use Rattle.lid_certtext.specs.Printed.{IsSmall, IsSmallVia, IsPartSmall, IsPartFull, IsPartPrintable, IsReadBack, room, PrintedIsShort}
+use Rattle.lid_certtext.proofs.PrintedLines.{rows_push}
 use Rattle.lid_certtext.proofs.ReadBack.{printed_is_read_back}
 
 small_length : (n : ℕ) → n < 2 ^ 32 → length (decimal n) ≤ 10
@@ -23,21 +26,21 @@ via_length : (via : Option ℕ) → IsSmallVia via → length (via_word via) ≤
 via_length None small = omega arith
 via_length (Some k) small = small_length k small
 
-spaced_cons : (n : ℕ) (ns : List ℕ) → length (spaced (n ∷ ns)) ≡ suc (length (decimal n)) + length (spaced ns)
-spaced_cons n ns = omega (arith, length-append (32 ∷ decimal n) (spaced ns))
+spaced_cons : (n : ℕ) (ns : List ℕ) → length (spaced (map decimal (n ∷ ns))) ≡ suc (length (decimal n)) + length (spaced (map decimal ns))
+spaced_cons n ns = omega (arith, length-append (32 ∷ decimal n) (spaced (map decimal ns)))
 
-spaced_length : (ns : List ℕ) → AllByRecursion IsSmall ns → length (spaced ns) ≤ 11 * length ns
+spaced_length : (ns : List ℕ) → AllByRecursion IsSmall ns → length (spaced (map decimal ns)) ≤ 11 * length ns
 spaced_length [] h = omega arith
 spaced_length (n ∷ ns) h =
     let first = small_length n h.0 in
     let later = spaced_length ns h.1 in
     omega (arith, first, later, spaced_cons n ns)
 
-line_length : (name numbers : List ℕ) → length (number_line name numbers) ≡ length name + (length (spaced numbers) + 1)
-line_length name numbers = omega (arith, length-append name (spaced numbers ++ 10 ∷ []), length-append (spaced numbers) (10 ∷ []))
+line_length : (word : List ℕ) (words : Words) → length (line_text (word ∷ words)) ≡ length word + (length (spaced words) + 1)
+line_length word words = omega (arith, ap length (line_text_cons word words), length-append word (spaced words ++ 10 ∷ []), length-append (spaced words) (10 ∷ []))
 
 module _ (part : Part) (p : IsPartPrintable part) (few : length part.nodes < 2 ^ 32) where
-  node_length : (i : ℕ) → i < length part.nodes → length (node_text part i) ≤ 78
+  node_length : (i : ℕ) → i < length part.nodes → length (line_text (node_words part i)) ≤ 78
   node_length i h =
       let node = get_or part.nodes i 0 in
       let lag = get_or part.lag i 0 in
@@ -50,46 +53,50 @@ module _ (part : Part) (p : IsPartPrintable part) (few : length part.nodes < 2 ^
       let c = large_length lead (p.full.range.lead i 0 (omega (arith, p.lists.lead))) in
       let d = small_length depth (p.small.depth i 0 (omega (arith, p.lists.depth))) in
       let e = via_length (get_or part.via i None) (p.small.via i None (omega (arith, p.lists.via))) in
-      let all : length (spaced numbers) ≤ 62 = omega (arith, a, b, c, d, spaced_cons node (lag ∷ lead ∷ depth ∷ []), spaced_cons lag (lead ∷ depth ∷ []), spaced_cons lead (depth ∷ []), spaced_cons depth []) in
-      omega (arith, all, e, length-append (codes "node") (spaced numbers ++ (32 ∷ via ++ 10 ∷ [])), length-append (spaced numbers) (32 ∷ via ++ 10 ∷ []), length-append (32 ∷ via) (10 ∷ []))
+      let all : length (spaced (map decimal numbers)) ≤ 62 = omega (arith, a, b, c, d, spaced_cons node (lag ∷ lead ∷ depth ∷ []), spaced_cons lag (lead ∷ depth ∷ []), spaced_cons lead (depth ∷ []), spaced_cons depth []) in
+      let words : length (spaced (map decimal numbers ++ via ∷ [])) ≡ length (spaced (map decimal numbers)) + length (32 ∷ via) = ap length (sym (spaced_push (map decimal numbers) via)) ∙ length-append (spaced (map decimal numbers)) (32 ∷ via) in
+      omega (arith, all, e, words, line_length (codes "node") (map decimal numbers ++ via ∷ []))
 
-  nodes_length : (n : ℕ) → n ≤ length part.nodes → length (node_texts part n) ≤ 78 * n
+  nodes_length : (n : ℕ) → n ≤ length part.nodes → length (lines_text (node_rows part n)) ≤ 78 * n
   nodes_length zero h = omega arith
   nodes_length (suc n) h =
       let before = nodes_length n (omega arith) in
       let last = node_length n (omega arith) in
-      omega (arith, before, last, length-append (node_texts part n) (node_text part n))
+      omega (arith, before, last, ap length (rows_push part n), length-append (lines_text (node_rows part n)) (line_text (node_words part n)))
 
-  part_length : length (part_text part) ≤ room part
-  unfolding part_text
+  part_length : length (lines_text (part_lines part)) ≤ room part
   part_length =
-      let count = number_line (codes "part") (length part.nodes ∷ []) in
-      let ratio = number_line (codes "ratio") (part.p ∷ part.q ∷ []) in
-      let walk = number_line (codes "cycle") part.cycle in
-      let nodes = node_texts part (length part.nodes) in
+      let count = line_text (count_words part) in
+      let ratio = line_text (ratio_words part) in
+      let walk = line_text (cycle_words part) in
+      let nodes = lines_text (node_rows part (length part.nodes)) in
       let k = small_length (length part.nodes) few in
       let a = small_length part.p (omega (arith, p.full.range.p)) in
       let b = small_length part.q (omega (arith, p.full.range.q)) in
       let edges = spaced_length part.cycle (recursion_from_All IsSmall part.cycle p.small.cycle) in
       let rows = nodes_length (length part.nodes) (omega arith) in
-      let first : length count ≤ 16 = omega (arith, k, line_length (codes "part") (length part.nodes ∷ []), spaced_cons (length part.nodes) []) in
-      let second : length ratio ≤ 28 = omega (arith, a, b, line_length (codes "ratio") (part.p ∷ part.q ∷ []), spaced_cons part.p (part.q ∷ []), spaced_cons part.q []) in
-      let third : length walk ≤ 6 + 11 * length part.cycle = omega (arith, edges, line_length (codes "cycle") part.cycle) in
+      let first : length count ≤ 16 = omega (arith, k, line_length (codes "part") (map decimal (length part.nodes ∷ [])), spaced_cons (length part.nodes) []) in
+      let second : length ratio ≤ 28 = omega (arith, a, b, line_length (codes "ratio") (map decimal (part.p ∷ part.q ∷ [])), spaced_cons part.p (part.q ∷ []), spaced_cons part.q []) in
+      let third : length walk ≤ 6 + 11 * length part.cycle = omega (arith, edges, line_length (codes "cycle") (map decimal part.cycle)) in
       omega (arith, first, second, third, rows, length-append count (ratio ++ (walk ++ nodes)), length-append ratio (walk ++ nodes), length-append walk nodes)
 
-parts_length : (parts : List Part) → AllByRecursion IsPartPrintable parts → AllByRecursion (λ part. IsSmall (length part.nodes)) parts → length (flat_map part_text parts) ≤ sum_by room parts
+parts_length : (parts : List Part) → AllByRecursion IsPartPrintable parts → AllByRecursion (λ part. IsSmall (length part.nodes)) parts → length (lines_text (parts_lines parts)) ≤ sum_by room parts
 parts_length [] h few = omega arith
 parts_length (part ∷ parts) h few =
     let first = part_length part h.0 few.0 in
     let later = parts_length parts h.1 few.1 in
     let whole = sum_by-cons room part parts in
-    omega (arith, first, later, whole, length-append (part_text part) (flat_map part_text parts))
+    omega (arith, first, later, whole, ap length (lines_text_append (part_lines part) (parts_lines parts)), length-append (lines_text (part_lines part)) (lines_text (parts_lines parts)))
+
+header_length : length (line_text header_words) ≡ 11
+unfolding line_text
+header_length = refl
 
 pub printed_is_short : PrintedIsShort
 unfolding cert_text
 printed_is_short cert parts few =
     let all = parts_length cert.parts (recursion_from_All IsPartPrintable cert.parts parts) (recursion_from_All (λ part. IsSmall (length part.nodes)) cert.parts few) in
-    omega (arith, all)
+    omega (arith, all, length-append (line_text header_words) (lines_text (parts_lines cert.parts)), header_length)
 
 -- both laws by what is known of each part on its own
 module _ (cert : Cert) (lists : All AreLists cert.parts) (small : All IsPartSmall cert.parts) (full : All IsPartFull cert.parts) where

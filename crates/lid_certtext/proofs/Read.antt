@@ -1,37 +1,15 @@
 -- What is read lies in the ranges of the text, and has one number of each kind for each transition.
-use Rattle.std.proofs.Common.{◌≡◌, ℕ, ◌+◌, ◌-◌, ◌*◌, ◌^◌, ◌<◌, ◌&&◌, nat_lt, Bool, true, false, cond, List, [], ◌∷◌, length, drop, codes, Option, Some, None, unwrap_or, refl, sym, ◌∙◌, arith}
+use Rattle.std.proofs.Common.{◌≡◌, ℕ, ◌^◌, ◌<◌, Bool, true, false, cond, List, [], ◌∷◌, length, drop, codes, sym, ◌∙◌, arith}
 use Rattle.std.specs.List.{All}
-use Rattle.std.proofs.lemmas.Bool.{ltb-true}
 use Rattle.std.proofs.lemmas.List.{length-map}
 use Rattle.std.proofs.lemmas.List.Elements.{All-nil, All-cons, All-map}
 use Rattle.lid_base.specs.declared.line.Line.{Line}
 use Rattle.lid_cert.specs.declared.cert.Part.{Part}
 use Rattle.lid_cert.specs.Certificates.{AreLists, IsPartInRange}
-use Rattle.lid_certtext.specs.Texts.{word_at, is_digit, begins_number, number_on, number_below, value_below, via_value, begins_with, words_at, node_lines, column, part_of, parts_of}
-
-number_on_below : (limit n v : ℕ) (bs : List ℕ) → number_on limit n bs ≡ Some v → v < limit
-number_on_below limit n v [] e = by_test (nat_lt n limit) refl e
-  where
-    by_test : (b : Bool) → nat_lt n limit ≡ b → cond b (Some n) None ≡ Some v → v < limit
-    by_test true is e = let less : n < limit = ltb-true n limit is in let same : n ≡ v = cc in omega arith
-    by_test false is e = cc
-number_on_below limit n v (b ∷ bs) e = by_test (is_digit b && nat_lt n limit) e (λ h. number_on_below limit (n * 10 + (b - 48)) v bs h)
-  where
-    by_test : (t : Bool) → cond t (number_on limit (n * 10 + (b - 48)) bs) None ≡ Some v → (number_on limit (n * 10 + (b - 48)) bs ≡ Some v → v < limit) → v < limit
-    by_test true e later = later e
-    by_test false e later = cc
-
-pub value_below_less : (limit : ℕ) (word : List ℕ) → 0 < limit → value_below limit word < limit
-unfolding number_below
-value_below_less limit word some = by_form (begins_number word)
-  where
-    by_value : (o : Option ℕ) → number_on limit 0 word ≡ o → unwrap_or o 0 < limit
-    by_value None is = some
-    by_value (Some v) is = number_on_below limit 0 v word is
-
-    by_form : (b : Bool) → unwrap_or (cond b (number_on limit 0 word) None) 0 < limit
-    by_form true = by_value (number_on limit 0 word) refl
-    by_form false = some
+use Rattle.lid_base.specs.Numbers.{value_below}
+use Rattle.lid_base.proofs.Numbers.{value_below_less}
+use Rattle.lid_base.specs.Words.{word_at, begins_with}
+use Rattle.lid_certtext.specs.Texts.{via_value, words_at, node_lines, column, part_of, parts_of}
 
 column_below : (limit i : ℕ) (ls : List Line) → 0 < limit → All (λ n. n < limit) (column limit i ls)
 column_below limit i ls some =

@@ -2,7 +2,7 @@
 use Rattle.std.proofs.Common.{◌≡◌, ℕ, zero, suc, ◌+◌, ◌-◌, ◌^◌, ◌<◌, ◌≤◌, true, false, List, [], ◌∷◌, ◌++◌, length, get_or, take, map, refl, sym, ap, ◌∙◌, arith, length-append, lt-ltb}
 use Rattle.std.specs.Prelude.{Option, None, Some, nat_lt, nat_le, codes}
 use Rattle.std.specs.Fmt.{decimal}
-use Rattle.std.specs.List.{All, AllByRecursion, flat_map}
+use Rattle.std.specs.List.{All, AllByRecursion}
 use Rattle.std.proofs.lemmas.Bool.{cond-true, cond-false, and_from, le-ltb, le-leb}
 use Rattle.std.proofs.lemmas.List.{take_all, length-map, map-append}
 use Rattle.std.proofs.lemmas.List.Elements.{recursion_from_All}
@@ -16,12 +16,20 @@ use Rattle.lid_cert.specs.declared.cert.Cert.{Cert}
 use Rattle.lid_certtext.specs.declared.fault.CertFault.TheVariants.{Limit}
 use Rattle.lid_certtext.specs.declared.stage.Stage.{Stage}
 use Rattle.lid_certtext.specs.declared.stage.Stage.TheVariants.{Header, Between, Nodes}
-use Rattle.lid_certtext.specs.Texts.{word_at, begins_with, is_below, value_below, via_value, is_part_line, is_ratio_line, is_cycle_line, is_node_line, line_at_fault, at_line, fault_in, cert_fault, column, node_lines, part_of, parts_of, cert_of, part_text, cert_text}
+use Rattle.lid_base.specs.Numbers.{is_below, value_below}
+use Rattle.lid_base.specs.Words.{word_at, begins_with}
+use Rattle.lid_certtext.specs.Written.{built, node_words, node_rows, count_words, ratio_words, cycle_words, part_lines, header_words, parts_lines, cert_lines, cert_text}
+use Rattle.lid_certtext.specs.Texts.{via_value, is_part_line, is_ratio_line, is_cycle_line, is_node_line, line_at_fault, at_line, fault_in, cert_fault, column, node_lines, part_of, parts_of, cert_of}
 use Rattle.lid_certtext.specs.Printed.{IsSmall, IsPartPrintable, PrintedIsReadBack}
-use Rattle.lid_certtext.proofs.Numerals.{value_back, is_number, plain_number, via_back, is_via, plain_via, values_back, are_numbers, plain_numbers}
-use Rattle.lid_certtext.proofs.PlainWords.{Words, IsPlainWord, IsPlainLine, plain_name, all_weaker}
-use Rattle.lid_certtext.proofs.PlainTexts.{numbered, text_law, text_clean}
-use Rattle.lid_certtext.proofs.PrintedLines.{built, node_words, node_rows, count_words, ratio_words, cycle_words, part_lines, header_words, parts_lines, cert_lines, cert_lines_text, nodes_fit}
+use Rattle.lid_base.proofs.Numbers.{value_back, is_number}
+use Rattle.lid_lines.specs.Texts.{Words, line_text, lines_text, numbered}
+use Rattle.lid_lines.specs.Spelled.{IsSpelled, AreSpelled}
+use Rattle.lid_lines.proofs.Spelled.{all_map}
+use Rattle.lid_lines.proofs.Numbers.{spelled_word, spelled_number, spelled_numbers}
+use Rattle.lid_lines.proofs.Pieces.{lines_text_append}
+use Rattle.lid_lines.proofs.ReadBack.{text_law, text_clean}
+use Rattle.lid_certtext.proofs.Numerals.{via_back, is_via, spelled_via, values_back, are_numbers}
+use Rattle.lid_certtext.proofs.PrintedLines.{nodes_fit}
 
 built_all : {X : Type 0} (P : X → Type 0) (f : ℕ → X) (n : ℕ) → ((i : ℕ) → i < n → P (f i)) → AllByRecursion P (built f n)
 built_all P f zero h = tt
@@ -36,7 +44,7 @@ record IsRow (words : Words) : Type 0 where
   due : is_node_line words ≡ true
   node : begins_with (codes "node") words ≡ true
   other : begins_with (codes "part") words ≡ false
-  plain : IsPlainLine words
+  spelled : AreSpelled 1024 words
 
 module _ (part : Part) (p : IsPartPrintable part) (few : length part.nodes < 2 ^ 32) where
   node_row : (i : ℕ) → i < length part.nodes → IsRow (node_words part i)
@@ -47,24 +55,24 @@ module _ (part : Part) (p : IsPartPrintable part) (few : length part.nodes < 2 ^
       let depth = p.small.depth i 0 (omega (arith, p.lists.depth)) in
       let via = p.small.via i None (omega (arith, p.lists.via)) in
       let below : is_below (2 ^ 32) (decimal (get_or part.nodes i 0)) ≡ true = is_number (2 ^ 32) (get_or part.nodes i 0) v (omega arith) in
-      let plain : AllByRecursion IsPlainWord (node_words part i) = (plain_name (codes "node") refl refl refl, (plain_number (get_or part.nodes i 0) (omega arith), (plain_number (get_or part.lag i 0) (omega arith), (plain_number (get_or part.lead i 0) (omega arith), (plain_number (get_or part.depth i 0) (omega arith), (plain_via (get_or part.via i None) via, tt)))))) in
+      let spelled : AllByRecursion (IsSpelled 1024) (node_words part i) = (spelled_word 1024 (codes "node") refl refl refl refl, (spelled_number 1024 (get_or part.nodes i 0) (omega arith) (omega arith), (spelled_number 1024 (get_or part.lag i 0) (omega arith) (omega arith), (spelled_number 1024 (get_or part.lead i 0) (omega arith) (omega arith), (spelled_number 1024 (get_or part.depth i 0) (omega arith) (omega arith), (spelled_via (get_or part.via i None) via, tt)))))) in
       record {
         due = and_from _ _ below (and_from _ _ (is_number (2 ^ 62) (get_or part.lag i 0) lag (omega arith)) (and_from _ _ (is_number (2 ^ 62) (get_or part.lead i 0) lead (omega arith)) (and_from _ _ (is_number (2 ^ 32) (get_or part.depth i 0) depth (omega arith)) (is_via (get_or part.via i None) via))));
         node = refl;
         other = refl;
-        plain = record { some = omega arith; all = plain };
+        spelled = record { some = omega arith; all = spelled };
       }
 
-  rows : AllByRecursion IsRow (node_rows part)
+  rows : AllByRecursion IsRow (node_rows part (length part.nodes))
   rows = built_all IsRow (node_words part) (length part.nodes) node_row
 
-  -- the lines of a part are made of plain words
-  part_plain : AllByRecursion IsPlainLine (part_lines part)
-  part_plain =
-      let count : IsPlainLine (count_words part) = record { some = omega arith; all = (plain_name (codes "part") refl refl refl, (plain_number (length part.nodes) (omega arith), tt)) } in
-      let ratio : IsPlainLine (ratio_words part) = record { some = omega arith; all = (plain_name (codes "ratio") refl refl refl, (plain_number part.p (omega (arith, p.full.range.p)), (plain_number part.q (omega (arith, p.full.range.q)), tt))) } in
-      let walk : IsPlainLine (cycle_words part) = record { some = omega arith; all = (plain_name (codes "cycle") refl refl refl, plain_numbers part.cycle (recursion_from_All IsSmall part.cycle p.small.cycle)) } in
-      (count, (ratio, (walk, all_weaker IsRow IsPlainLine (λ words row. row.plain) (node_rows part) rows)))
+  -- the lines of a part are made of spelled words
+  part_spelled : AllByRecursion (AreSpelled 1024) (part_lines part)
+  part_spelled =
+      let count : AreSpelled 1024 (count_words part) = record { some = omega arith; all = (spelled_word 1024 (codes "part") refl refl refl refl, (spelled_number 1024 (length part.nodes) (omega arith) (omega arith), tt)) } in
+      let ratio : AreSpelled 1024 (ratio_words part) = record { some = omega arith; all = (spelled_word 1024 (codes "ratio") refl refl refl refl, (spelled_number 1024 part.p (omega (arith, p.full.range.p)) (omega arith), (spelled_number 1024 part.q (omega (arith, p.full.range.q)) (omega arith), tt))) } in
+      let walk : AreSpelled 1024 (cycle_words part) = record { some = omega arith; all = (spelled_word 1024 (codes "cycle") refl refl refl refl, spelled_numbers 1024 (2 ^ 32) part.cycle (omega arith) (omega arith) (recursion_from_All IsSmall part.cycle p.small.cycle)) } in
+      (count, (ratio, (walk, all_map IsRow (AreSpelled 1024) (λ words row. row.spelled) (node_rows part (length part.nodes)) rows)))
 
   count_due : is_part_line (count_words part) ≡ true
   count_due =
@@ -80,6 +88,10 @@ module _ (part : Part) (p : IsPartPrintable part) (few : length part.nodes < 2 ^
       let two : 2 ≤ length (cycle_words part) = omega (arith, p.full.walk, length-map part.cycle decimal) in
       and_from (nat_le 2 (length (cycle_words part))) _ (le-leb 2 (length (cycle_words part)) two) (are_numbers part.cycle (recursion_from_All IsSmall part.cycle p.small.cycle))
 
+-- a part more
+grown : (part : Part) (parts : List Part) → length (lines_text (parts_lines (part ∷ parts))) ≡ length (lines_text (part_lines part)) + length (lines_text (parts_lines parts))
+grown part parts = ap length (lines_text_append (part_lines part) (parts_lines parts)) ∙ length-append (lines_text (part_lines part)) (lines_text (parts_lines parts))
+
 -- no line at fault among so many lines of transitions, where there is none after them
 rows_clear : (rows : List Words) (left n last : ℕ) (rest : List Words) → left ≡ length rows → 0 < length rows → AllByRecursion IsRow rows → ((m k : ℕ) → line_at_fault Between k (numbered m rest) ≡ None) → line_at_fault (Nodes left) last (numbered n (rows ++ rest)) ≡ None
 rows_clear [] left n last rest count some h after = absurd (omega arith)
@@ -92,27 +104,27 @@ rows_clear (row ∷ next ∷ rows) left n last rest count some h after =
     ∙ ap (λ (stage : Stage). line_at_fault stage n (numbered (n + 1) (next ∷ rows ++ rest))) (cond-true (nat_lt 1 left) (Nodes (left - 1)) Between (lt-ltb 1 left (omega arith)))
     ∙ rows_clear (next ∷ rows) (left - 1) (n + 1) n rest (omega arith) (omega arith) h.1 after
 
-parts_clear : (parts : List Part) (n last : ℕ) → AllByRecursion IsPartPrintable parts → length (flat_map part_text parts) < 2 ^ 32 → line_at_fault Between last (numbered n (parts_lines parts)) ≡ None
+parts_clear : (parts : List Part) (n last : ℕ) → AllByRecursion IsPartPrintable parts → length (lines_text (parts_lines parts)) < 2 ^ 32 → line_at_fault Between last (numbered n (parts_lines parts)) ≡ None
 parts_clear [] n last h short = refl
 parts_clear (part ∷ parts) n last h short =
     let fits = nodes_fit part in
-    let whole = length-append (part_text part) (flat_map part_text parts) in
+    let whole = grown part parts in
     let few : length part.nodes < 2 ^ 32 = omega (arith, fits, whole) in
-    let later : length (flat_map part_text parts) < 2 ^ 32 = omega (arith, whole) in
+    let later : length (lines_text (parts_lines parts)) < 2 ^ 32 = omega (arith, whole) in
     let rest = parts_lines parts in
     let value : value_below (2 ^ 32) (decimal (length part.nodes)) ≡ length part.nodes = value_back (2 ^ 32) (length part.nodes) few (omega arith) in
-    let some : 0 < length (node_rows part) = omega (arith, h.0.full.some, length_built (node_words part) (length part.nodes)) in
+    let some : 0 < length (node_rows part (length part.nodes)) = omega (arith, h.0.full.some, length_built (node_words part) (length part.nodes)) in
     cond-true (is_part_line (count_words part)) _ _ (count_due part h.0 few)
     ∙ cond-true (is_ratio_line (ratio_words part)) _ _ (ratio_due part h.0 few)
     ∙ cond-true (is_cycle_line (cycle_words part)) _ _ (cycle_due part h.0 few)
-    ∙ rows_clear (node_rows part) (value_below (2 ^ 32) (decimal (length part.nodes))) (n + 1 + 1 + 1) (n + 1 + 1) rest (value ∙ sym (length_built (node_words part) (length part.nodes))) some (rows part h.0 few) (λ m k. parts_clear parts m k h.1 later)
+    ∙ rows_clear (node_rows part (length part.nodes)) (value_below (2 ^ 32) (decimal (length part.nodes))) (n + 1 + 1 + 1) (n + 1 + 1) rest (value ∙ sym (length_built (node_words part) (length part.nodes))) some (rows part h.0 few) (λ m k. parts_clear parts m k h.1 later)
 
-parts_plain : (parts : List Part) → AllByRecursion IsPartPrintable parts → length (flat_map part_text parts) < 2 ^ 32 → AllByRecursion IsPlainLine (parts_lines parts)
-parts_plain [] h short = tt
-parts_plain (part ∷ parts) h short =
+parts_spelled : (parts : List Part) → AllByRecursion IsPartPrintable parts → length (lines_text (parts_lines parts)) < 2 ^ 32 → AllByRecursion (AreSpelled 1024) (parts_lines parts)
+parts_spelled [] h short = tt
+parts_spelled (part ∷ parts) h short =
     let fits = nodes_fit part in
-    let whole = length-append (part_text part) (flat_map part_text parts) in
-    all_append IsPlainLine (part_lines part) (parts_lines parts) (part_plain part h.0 (omega (arith, fits, whole))) (parts_plain parts h.1 (omega (arith, whole)))
+    let whole = grown part parts in
+    all_append (AreSpelled 1024) (part_lines part) (parts_lines parts) (part_spelled part h.0 (omega (arith, fits, whole))) (parts_spelled parts h.1 (omega (arith, whole)))
 
 -- the lists of a part, from the lines of its transitions
 built_take : {X : Type 0} (f : ℕ → X) (xs : List X) (d : X) (n : ℕ) → n ≤ length xs → ((i : ℕ) → i < n → f i ≡ get_or xs i d) → built f n ≡ take n xs
@@ -167,11 +179,11 @@ same_part a b nodes p q walk lag lead via depth =
     made : List ℕ → ℕ → ℕ → List ℕ → List ℕ → List ℕ → List (Option ℕ) → List ℕ → Part
     made nodes p q walk lag lead via depth = record { nodes = nodes; p = p; q = q; cycle = walk; lag = lag; lead = lead; via = via; depth = depth }
 
-part_back : (part : Part) (p : IsPartPrintable part) (few : length part.nodes < 2 ^ 32) (n : ℕ) (parts : List Part) → part_of (numbered n (ratio_words part ∷ cycle_words part ∷ (node_rows part ++ parts_lines parts))) ≡ part
+part_back : (part : Part) (p : IsPartPrintable part) (few : length part.nodes < 2 ^ 32) (n : ℕ) (parts : List Part) → part_of (numbered n (ratio_words part ∷ cycle_words part ∷ (node_rows part (length part.nodes) ++ parts_lines parts))) ≡ part
 part_back part p few n parts =
     let count = length part.nodes in
-    let lines = numbered (n + 1 + 1) (node_rows part) in
-    let ends : node_lines (numbered (n + 1 + 1) (node_rows part ++ parts_lines parts)) ≡ lines = rows_end (node_rows part) (n + 1 + 1) parts (rows part p few) in
+    let lines = numbered (n + 1 + 1) (node_rows part (length part.nodes)) in
+    let ends : node_lines (numbered (n + 1 + 1) (node_rows part (length part.nodes) ++ parts_lines parts)) ≡ lines = rows_end (node_rows part (length part.nodes)) (n + 1 + 1) parts (rows part p few) in
     same_part _ part
     (ap (column (2 ^ 32) 1) ends ∙ column_back (λ words. value_below (2 ^ 32) (word_at words 1)) (node_words part) part.nodes 0 count (n + 1 + 1) refl (λ i h. value_back (2 ^ 32) (get_or part.nodes i 0) (p.small.nodes i 0 h) (omega (arith, p.small.nodes i 0 h))))
     (value_back (2 ^ 31) part.p p.full.range.p (omega (arith, p.full.range.p)))
@@ -182,30 +194,32 @@ part_back part p few n parts =
     (ap (map (λ l. via_value (word_at l.words 5))) ends ∙ column_back (λ words. via_value (word_at words 5)) (node_words part) part.via None count (n + 1 + 1) p.lists.via (λ i h. via_back (get_or part.via i None) (p.small.via i None (omega (arith, p.lists.via)))))
     (ap (column (2 ^ 32) 4) ends ∙ column_back (λ words. value_below (2 ^ 32) (word_at words 4)) (node_words part) part.depth 0 count (n + 1 + 1) p.lists.depth (λ i h. let less = p.small.depth i 0 (omega (arith, p.lists.depth)) in value_back (2 ^ 32) (get_or part.depth i 0) less (omega (arith, less))))
 
-parts_back : (parts : List Part) (n : ℕ) → AllByRecursion IsPartPrintable parts → length (flat_map part_text parts) < 2 ^ 32 → parts_of (numbered n (parts_lines parts)) ≡ parts
+parts_back : (parts : List Part) (n : ℕ) → AllByRecursion IsPartPrintable parts → length (lines_text (parts_lines parts)) < 2 ^ 32 → parts_of (numbered n (parts_lines parts)) ≡ parts
 parts_back [] n h short = refl
 parts_back (part ∷ parts) n h short =
     let fits = nodes_fit part in
-    let whole = length-append (part_text part) (flat_map part_text parts) in
+    let whole = grown part parts in
     let few : length part.nodes < 2 ^ 32 = omega (arith, fits, whole) in
-    let later : length (flat_map part_text parts) < 2 ^ 32 = omega (arith, whole) in
-    ap (λ (first : Part). first ∷ parts_of (numbered (n + 1 + 1 + 1) (node_rows part ++ parts_lines parts))) (part_back part h.0 few (n + 1) parts)
-    ∙ ap (λ (ps : List Part). part ∷ ps) (rows_back (node_rows part) (n + 1 + 1 + 1) (parts_lines parts) parts (rows part h.0 few) (λ m. parts_back parts m h.1 later))
+    let later : length (lines_text (parts_lines parts)) < 2 ^ 32 = omega (arith, whole) in
+    ap (λ (first : Part). first ∷ parts_of (numbered (n + 1 + 1 + 1) (node_rows part (length part.nodes) ++ parts_lines parts))) (part_back part h.0 few (n + 1) parts)
+    ∙ ap (λ (ps : List Part). part ∷ ps) (rows_back (node_rows part (length part.nodes)) (n + 1 + 1 + 1) (parts_lines parts) parts (rows part h.0 few) (λ m. parts_back parts m h.1 later))
 
-parts_short : (cert : Cert) → length (cert_text cert) ≤ 16777216 → length (flat_map part_text cert.parts) < 2 ^ 32
+parts_short : (cert : Cert) → length (cert_text cert) ≤ 16777216 → length (lines_text (parts_lines cert.parts)) < 2 ^ 32
 unfolding cert_text
-parts_short cert short = omega arith
+parts_short cert short = omega (arith, length-append (line_text header_words) (lines_text (parts_lines cert.parts)))
 
-cert_plain : (cert : Cert) → All IsPartPrintable cert.parts → length (cert_text cert) ≤ 16777216 → AllByRecursion IsPlainLine (cert_lines cert)
-cert_plain cert parts short =
-    let header : IsPlainLine header_words = record { some = omega arith; all = (plain_name (codes "lid-cert") refl refl refl, (plain_name (codes "1") refl refl refl, tt)) } in
-    (header, parts_plain cert.parts (recursion_from_All IsPartPrintable cert.parts parts) (parts_short cert short))
+cert_spelled : (cert : Cert) → All IsPartPrintable cert.parts → length (cert_text cert) ≤ 16777216 → AllByRecursion (AreSpelled 1024) (cert_lines cert)
+cert_spelled cert parts short =
+    let header : AreSpelled 1024 header_words = record { some = omega arith; all = (spelled_word 1024 (codes "lid-cert") refl refl refl refl, (spelled_word 1024 (codes "1") refl refl refl refl, tt)) } in
+    (header, parts_spelled cert.parts (recursion_from_All IsPartPrintable cert.parts parts) (parts_short cert short))
 
 lines_back : (cert : Cert) → All IsPartPrintable cert.parts → length (cert_text cert) ≤ 16777216 → logical_lines (cert_text cert) ≡ numbered 1 (cert_lines cert)
-lines_back cert parts short = ap logical_lines (sym (cert_lines_text cert)) ∙ text_law (cert_lines cert) (cert_plain cert parts short)
+unfolding cert_text
+lines_back cert parts short = text_law 1024 (cert_lines cert) (cert_spelled cert parts short)
 
 text_good : (cert : Cert) → All IsPartPrintable cert.parts → length (cert_text cert) ≤ 16777216 → text_fault 1024 (cert_text cert) ≡ None
-text_good cert parts short = ap (text_fault 1024) (sym (cert_lines_text cert)) ∙ text_clean (cert_lines cert) (cert_plain cert parts short)
+unfolding cert_text
+text_good cert parts short = text_clean 1024 (cert_lines cert) (cert_spelled cert parts short)
 
 no_fault : (cert : Cert) → All IsPartPrintable cert.parts → length (cert_text cert) ≤ 16777216 → cert_fault (cert_text cert) ≡ None
 unfolding cert_fault

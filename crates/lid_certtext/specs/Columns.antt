@@ -2,7 +2,9 @@
 use Rattle.std.specs.Prelude.{◌≡◌, ℕ, ◌^◌, List, [], ◌∷◌, ◌++◌, map}
 use Rattle.lid_base.specs.declared.line.Line.{Line}
 use Rattle.lid_certtext.specs.declared.building.Columns.{Columns}
-use Rattle.lid_certtext.specs.Texts.{word_at, value_below, via_value, column}
+use Rattle.lid_base.specs.Numbers.{value_below}
+use Rattle.lid_base.specs.Words.{word_at}
+use Rattle.lid_certtext.specs.Texts.{via_value, column}
 
 -- what one more line says stands at the end
 pub record AreMore (old new : Columns) (words : List (List ℕ)) : Type 0 where

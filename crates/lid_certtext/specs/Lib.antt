@@ -1,3 +1,4 @@
 pub mod Columns
 pub mod Printed
 pub mod Texts
+pub mod Written

@@ -4,7 +4,8 @@ use Rattle.std.specs.List.{All, sum_by}
 use Rattle.lid_cert.specs.declared.cert.Part.{Part}
 use Rattle.lid_cert.specs.declared.cert.Cert.{Cert}
 use Rattle.lid_cert.specs.Certificates.{AreLists, IsPartInRange}
-use Rattle.lid_certtext.specs.Texts.{cert_fault, cert_of, cert_text}
+use Rattle.lid_certtext.specs.Texts.{cert_fault, cert_of}
+use Rattle.lid_certtext.specs.Written.{cert_text}
 
 -- transitions, edges and depths lie below 2^32
 abbrev pub IsSmall : ℕ → Type 0

@@ -1,8 +1,9 @@
--- Certificates as texts: how they are read, as a function of the whole text, and how they are written.
-use Rattle.std.specs.Prelude.{◌≡◌, ℕ, zero, suc, ◌+◌, ◌-◌, ◌*◌, ◌^◌, ◌==◌, nat_lt, nat_le, Bool, true, false, not, ◌&&◌, ◌||◌, if◌then◌else◌, List, [], ◌∷◌, ◌++◌, length, drop, take, map, codes, bytes_eq, slice_index, slice_index_or, Option, Some, None, is_some, unwrap_or}
-use Rattle.std.specs.Fmt.{decimal}
-use Rattle.std.specs.List.{list_all, flat_map}
+-- Certificates as texts: how they are read, as a function of the whole text.
+use Rattle.std.specs.Prelude.{ℕ, ◌-◌, ◌^◌, ◌==◌, nat_lt, nat_le, Bool, true, false, ◌&&◌, ◌||◌, if◌then◌else◌, List, [], ◌∷◌, length, drop, map, codes, bytes_eq, slice_index_or, Option, Some, None}
+use Rattle.std.specs.List.{list_all}
 use Rattle.lid_base.specs.Lines.{logical_lines, text_fault}
+use Rattle.lid_base.specs.Numbers.{number_below, is_below, value_below}
+use Rattle.lid_base.specs.Words.{word_at, begins_with}
 use Rattle.lid_base.specs.declared.line.Line.{Line}
 use Rattle.lid_base.specs.declared.line.TextFault.{TextFault}
 use Rattle.lid_base.specs.declared.line.TextFault.TheVariants as text
@@ -14,40 +15,9 @@ use Rattle.lid_certtext.specs.declared.fault.CertFault.TheVariants.{Word, Limit}
 use Rattle.lid_certtext.specs.declared.stage.Stage.{Stage}
 use Rattle.lid_certtext.specs.declared.stage.Stage.TheVariants.{Header, Between, Ratio, Cycle, Nodes}
 
--- the word at a place, or no bytes past the end
-abbrev pub word_at : List (List ℕ) → ℕ → List ℕ
-word_at words i = slice_index_or words i []
-
-abbrev pub is_digit : ℕ → Bool
-is_digit b = nat_le 48 b && nat_le b 57
-
--- the number that digits stand for when they follow those of n, where it is below the limit
-abbrev pub number_on : ℕ → ℕ → List ℕ → Option ℕ
-number_on limit n [] = if nat_lt n limit then Some n else None
-number_on limit n (b ∷ bs) = if is_digit b && nat_lt n limit then number_on limit (n * 10 + (b - 48)) bs else None
-
--- there is a first character, and it is no `0` unless it stands alone
-abbrev pub begins_number : List ℕ → Bool
-begins_number [] = false
-begins_number (b ∷ bs) = not (b == 48) || (length bs == 0)
-
--- the number that a word stands for, where it is below the limit
-unfoldable pub number_below : ℕ → List ℕ → Option ℕ
-number_below limit word = if begins_number word then number_on limit 0 word else None
-
-abbrev pub is_below : ℕ → List ℕ → Bool
-is_below limit word = is_some (number_below limit word)
-
--- the number of a word that stands for one
-abbrev pub value_below : ℕ → List ℕ → ℕ
-value_below limit word = unwrap_or (number_below limit word) 0
-
 -- a word that stands for an edge, or `-` for none
 abbrev pub is_via_word : List ℕ → Bool
 is_via_word word = bytes_eq word (codes "-") || is_below (2 ^ 32) word
-
-abbrev pub begins_with : List ℕ → List (List ℕ) → Bool
-begins_with name words = bytes_eq (word_at words 0) name
 
 -- a line `part K` with K at least 1
 abbrev pub is_part_line : List (List ℕ) → Bool
@@ -164,42 +134,3 @@ parts_of (l ∷ ls) = if begins_with (codes "part") l.words then part_of ls ∷ 
 -- the certificate that a text without fault stands for
 unfoldable pub cert_of : List ℕ → Cert
 cert_of bytes = record { parts = parts_of (logical_lines bytes) }
-
-abbrev pub via_word : Option ℕ → List ℕ
-via_word None = codes "-"
-via_word (Some k) = decimal k
-
--- numbers, each after a blank
-abbrev pub spaced : List ℕ → List ℕ
-spaced numbers = flat_map (λ n. 32 ∷ decimal n) numbers
-
--- a line of a name and numbers
-abbrev pub number_line : List ℕ → List ℕ → List ℕ
-number_line name numbers = name ++ (spaced numbers ++ 10 ∷ [])
-
--- the line of the i-th transition of a part
-abbrev pub node_text : Part → ℕ → List ℕ
-node_text part i =
-    codes "node"
-    ++ (spaced (slice_index part.nodes i ∷ slice_index part.lag i ∷ slice_index part.lead i ∷ slice_index part.depth i ∷ [])
-    ++ (32 ∷ via_word (slice_index_or part.via i None) ++ 10 ∷ []))
-
--- the lines of the first transitions of a part
-abbrev pub node_texts : Part → ℕ → List ℕ
-node_texts part zero = []
-node_texts part (suc n) = node_texts part n ++ node_text part n
-
--- the lines of a part
-unfoldable pub part_text : Part → List ℕ
-part_text part =
-    number_line (codes "part") (length part.nodes ∷ [])
-    ++ (number_line (codes "ratio") (part.p ∷ part.q ∷ [])
-    ++ (number_line (codes "cycle") part.cycle ++ node_texts part (length part.nodes)))
-
--- a certificate as a text
-unfoldable pub cert_text : Cert → List ℕ
-cert_text cert = codes "lid-cert 1" ++ (10 ∷ flat_map part_text cert.parts)
-
--- what was written before is still there
-pub record Extends (old new : List ℕ) : Type 0 where
-  pub kept : take (length old) new ≡ old

@@ -2,11 +2,11 @@
 
 ghost use Rattle.std.specs.Prelude.{◌≡◌, map, drop, IfOk, OnOk, codes};
 ghost use Rattle.lid_certtext.specs.Columns.{AreMore, AreColumns};
-ghost use Rattle.lid_certtext.specs.Texts.{value_below, words_at, node_lines, part_of, parts_of};
+ghost use Rattle.lid_base.specs.Numbers.{value_below};
+ghost use Rattle.lid_certtext.specs.Texts.{words_at, node_lines, part_of, parts_of};
 
-use crate::stage::begins_with;
-use crate::words::{LARGE, RATIO, after_first, small, value_below, via_value, word};
-use lid_base::{Items, Line, Name};
+use crate::words::{LARGE, RATIO, small, via_value};
+use lid_base::{Items, Line, Name, begins_with, value_below, word_at, words_after};
 use lid_cert::Part;
 use std::alloc::{AllocError, Global};
 
@@ -48,11 +48,11 @@ fn append(columns: &mut Columns, line: &Line) -> Result<(), AllocError>
     ensures { OnOk result (AreMore columns.old columns.new line.now.words) }
 {
     let words = line.words.as_slice();
-    columns.nodes.push(small(word(words, 1)))?;
-    columns.lag.push(value_below(LARGE, word(words, 2)))?;
-    columns.lead.push(value_below(LARGE, word(words, 3)))?;
-    columns.depth.push(small(word(words, 4)))?;
-    columns.via.push(via_value(word(words, 5)))?;
+    columns.nodes.push(small(word_at(words, 1)))?;
+    columns.lag.push(value_below(LARGE, word_at(words, 2)))?;
+    columns.lead.push(value_below(LARGE, word_at(words, 3)))?;
+    columns.depth.push(small(word_at(words, 4)))?;
+    columns.via.push(via_value(word_at(words, 5)))?;
     Ok(())
 }
 
@@ -96,7 +96,7 @@ fn part_of(alloc: Global, lines: &[Line]) -> Result<Part, AllocError>
     ensures { IfOk result (λ part. part ≡ part_of lines.now) }
 {
     let ratio = words_at(lines, 0);
-    let cycle = small_numbers(alloc, after_first(words_at(lines, 1)))?;
+    let cycle = small_numbers(alloc, words_after(words_at(lines, 1), 1))?;
     let columns = columns_of(alloc, node_lines(after_two(lines)))?;
     let Columns {
         nodes,
@@ -107,8 +107,8 @@ fn part_of(alloc: Global, lines: &[Line]) -> Result<Part, AllocError>
     } = columns;
     Ok(Part {
         nodes: Items::from_vec(nodes),
-        p: value_below(RATIO, word(ratio, 1)),
-        q: value_below(RATIO, word(ratio, 2)),
+        p: value_below(RATIO, word_at(ratio, 1)),
+        q: value_below(RATIO, word_at(ratio, 2)),
         cycle,
         lag: Items::from_vec(lag),
         lead: Items::from_vec(lead),

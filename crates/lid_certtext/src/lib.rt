@@ -4,13 +4,13 @@
 mod building;
 mod fault;
 mod laws;
-mod writer;
 mod ranges;
 mod reader;
 mod stage;
 mod words;
+mod writer;
 
 pub use fault::CertFault;
 pub use laws::{printed_is_read_back, printed_is_short};
-pub use writer::print_cert;
 pub use reader::read_cert;
+pub use writer::print_cert;

@@ -1,13 +1,11 @@
 //! Which line is due in the text of a certificate.
 
 ghost use Rattle.std.specs.Prelude.{◌≡◌};
-ghost use Rattle.lid_certtext.specs.Texts.{begins_with, is_header_line, is_part_line, is_ratio_line, is_cycle_line, is_node_line, is_due, due_after, may_end, line_at_fault};
+ghost use Rattle.lid_certtext.specs.Texts.{is_header_line, is_part_line, is_ratio_line, is_cycle_line, is_node_line, is_due, due_after, may_end, line_at_fault};
 ghost use Rattle.lid_certtext.specs.declared.stage.Stage.TheVariants as stage;
 
-use crate::words::{
-    LARGE, RATIO, SMALL, after_first, are_small, is, is_below, is_via_word, small, word,
-};
-use lid_base::{Line, Name};
+use crate::words::{LARGE, RATIO, SMALL, are_small, is_via_word, small};
+use lid_base::{Line, Name, begins_with, is_below, is_same, word_at, words_after};
 
 /// Which line is due. `left` is how many `node` lines are due in this part.
 #[derive(Clone, Copy)]
@@ -21,17 +19,10 @@ pub(crate) enum Stage {
     Nodes { left: u32 },
 }
 
-/// Whether a line begins with this word.
-pub(crate) fn begins_with(name: &[u8], words: &[Name]) -> bool
-    ensures { result ≡ begins_with name.now words.now }
-{
-    is(word(words, 0), name)
-}
-
 fn is_header_line(words: &[Name]) -> bool
     ensures { result ≡ is_header_line words.now }
 {
-    words.len() == 2 && begins_with(b"lid-cert", words) && is(word(words, 1), b"1")
+    words.len() == 2 && begins_with(b"lid-cert", words) && is_same(word_at(words, 1), b"1")
 }
 
 fn is_part_line(words: &[Name]) -> bool
@@ -39,8 +30,8 @@ fn is_part_line(words: &[Name]) -> bool
 {
     words.len() == 2
         && begins_with(b"part", words)
-        && is_below(SMALL, word(words, 1))
-        && 0 < small(word(words, 1))
+        && is_below(SMALL, word_at(words, 1))
+        && 0 < small(word_at(words, 1))
 }
 
 fn is_ratio_line(words: &[Name]) -> bool
@@ -48,14 +39,14 @@ fn is_ratio_line(words: &[Name]) -> bool
 {
     words.len() == 3
         && begins_with(b"ratio", words)
-        && is_below(RATIO, word(words, 1))
-        && is_below(RATIO, word(words, 2))
+        && is_below(RATIO, word_at(words, 1))
+        && is_below(RATIO, word_at(words, 2))
 }
 
 fn is_cycle_line(words: &[Name]) -> bool
     ensures { result ≡ is_cycle_line words.now }
 {
-    2 <= words.len() && begins_with(b"cycle", words) && are_small(after_first(words))
+    2 <= words.len() && begins_with(b"cycle", words) && are_small(words_after(words, 1))
 }
 
 fn is_node_line(words: &[Name]) -> bool
@@ -63,11 +54,11 @@ fn is_node_line(words: &[Name]) -> bool
 {
     words.len() == 6
         && begins_with(b"node", words)
-        && is_below(SMALL, word(words, 1))
-        && is_below(LARGE, word(words, 2))
-        && is_below(LARGE, word(words, 3))
-        && is_below(SMALL, word(words, 4))
-        && is_via_word(word(words, 5))
+        && is_below(SMALL, word_at(words, 1))
+        && is_below(LARGE, word_at(words, 2))
+        && is_below(LARGE, word_at(words, 3))
+        && is_below(SMALL, word_at(words, 4))
+        && is_via_word(word_at(words, 5))
 }
 
 /// Whether a line has the form that is due.
@@ -90,7 +81,7 @@ fn due_after(stage: Stage, words: &[Name]) -> Stage
     match stage {
         Stage::Header => Stage::Between,
         Stage::Between => Stage::Ratio {
-            left: small(word(words, 1)),
+            left: small(word_at(words, 1)),
         },
         Stage::Ratio { left } => Stage::Cycle { left },
         Stage::Cycle { left } => Stage::Nodes { left },

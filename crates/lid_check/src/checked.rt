@@ -3,7 +3,7 @@ ghost use denote.Ref.{Bor};
 ghost use Rattle.std.specs.Str.{bytes_eq};
 ghost use Rattle.lid_design.specs.Columns.{root_inputs, root_outputs};
 ghost use Rattle.lid_design.specs.Loops.{pearls};
-ghost use Rattle.lid_design.specs.Places.{count_latches, count_defaulted};
+ghost use Rattle.lid_design.specs.Elaboration.{count_latches, count_defaulted};
 ghost use Rattle.lid_design.specs.WellFormed.{IsWellFormed};
 ghost use Rattle.lid_rules.specs.declared.fault.CheckFault.TheVariants.{Memory};
 ghost use Rattle.lid_check.specs.Acceptance.{rooted_at, with_root, IsAccepted, IsRefused};

@@ -4,16 +4,15 @@ ghost use Rattle.std.specs.Prelude.{◌≡◌, ◌≤◌, Some, length, map, sli
 ghost use Rattle.lid_design.specs.Walks.{read_now};
 ghost use Rattle.lid_elab.specs.Elaborations.{shown_driver, IsElaborated};
 ghost use Rattle.lid_check.specs.Acceptance.{TellsLoop, TellsDependence};
-ghost use Rattle.lid_check.specs.Pearls.{inputs_of};
+ghost use Rattle.lid_design.specs.Models.{data_inputs_of};
 ghost use Rattle.lid_check.specs.Flaws.{IsFirstOnLoop, IsFirstDependence, IsFirstFlaw, FindsFlaw, TellsFlaw};
 
 use crate::outputs::{Lead, find_dependence};
 use crate::pearls::find_inputs;
-use lid_base::{Items, Name};
-use lid_digraph::{Found, find_order};
+use lid_base::{Items, Name, copy_name};
+use lid_digraph::{Digraph, Found, find_order};
 use lid_elab::{Elaboration, elaborate, find_column, find_reads};
 use lid_hierarchy::Survey;
-use lid_names::copy_name;
 use lid_rules::CheckFault;
 use lid_wiring::Judged;
 use std::alloc::{AllocError, Global};
@@ -51,12 +50,13 @@ fn find_among(
     requires reads { reads.now ≡ map read_now (map shown_driver columns.now.drivers) }
     ensures { IfOk result (FindsFlaw survey.now) }
 {
-    match find_order(alloc, reads)? {
+    let graph = Digraph { reads };
+    match find_order(alloc, &graph)? {
         Found::Order(order) => match find_dependence(
             alloc,
             survey,
             columns,
-            reads,
+            &graph,
             order.as_slice(),
         )? {
             Some(lead) => Ok(Some(Flaw::Dependence(lead))),
@@ -112,7 +112,7 @@ fn tell_dependence(alloc: Global, survey: &Survey<'_>, lead: Lead) -> Result<Che
 /// The name of the data input that leads to an output.
 fn copy_input(alloc: Global, survey: &Survey<'_>, lead: Lead) -> Result<Name, AllocError>
     requires { IsFirstDependence survey.now lead }
-    ensures { IfOk result (λ name. slice_get (inputs_of survey.now lead.model) lead.input ≡ Some name) }
+    ensures { IfOk result (λ name. slice_get (data_inputs_of survey.now lead.model) lead.input ≡ Some name) }
 {
     let inputs = find_inputs(alloc, survey, lead.model)?;
     copy_name(alloc, inputs.as_slice()[lead.input].as_slice())

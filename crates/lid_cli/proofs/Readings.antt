@@ -6,7 +6,7 @@ use Rattle.clap.specs.Walk.{Row}
 use Rattle.clap.specs.declared.error.Error.{Error}
 use Rattle.clap.specs.declared.error.kind.ErrorKind.TheVariants.{OutOfMemory}
 use Rattle.clap.specs.declared.parser.matches.ArgMatches.{ArgMatches}
-use Rattle.lid_cli.specs.Reading.{lid_app, given_in, rows_in, rows_unless}
+use Rattle.lid_cli.specs.Reading.{lid_app, given_in, matches_in, matches_unless}
 
 -- `clap` states what it finds by this command
 pub is_simple_lid : is_simple lid_app ≡ true
@@ -18,25 +18,25 @@ pub is_free_lid : is_simple_and_free lid_app ≡ true
 unfolding lid_app
 is_free_lid = refl
 
--- no kind of fault comes, so the rows are given
+-- no kind of fault comes, so the matches are given
 pub given_free : (words : List (List ℕ)) → fault_of lid_app words ≡ [] → Some (matches_of lid_app words) ≡ given_in words
 unfolding given_in
-given_free words e = sym (ap (λ (kinds : Kinds). rows_unless kinds (matches_of lid_app words)) e)
+given_free words e = sym (ap (λ (kinds : Kinds). matches_unless kinds (matches_of lid_app words)) e)
 
 -- matches without a fault are what is given
 pub given_matches : (words : List (List ℕ)) (a : App) (m : ArgMatches) → a ≡ lid_app → HasMatchesOf a (map (λ t. t) words) m → (is_simple_and_free a ≡ true → fault_of a (map (λ t. t) words) ≡ [])
-    → Some (rows_in m) ≡ given_in words
-unfolding rows_in
+    → Some (matches_in m) ≡ given_in words
+unfolding matches_in
 given_matches words a m is has free =
-    let rows : rows_in m ≡ matches_of a (map (λ t. t) words) = (has (ap is_simple is ∙ is_simple_lid)).0 in
+    let found : matches_in m ≡ matches_of a (map (λ t. t) words) = (has (ap is_simple is ∙ is_simple_lid)).0 in
     let none : fault_of a (map (λ t. t) words) ≡ [] = free (ap is_simple_and_free is ∙ is_free_lid) in
-    ap Some (rows ∙ ap₂ matches_of is (map-id words)) ∙ given_free words (sym (ap₂ fault_of is (map-id words)) ∙ none)
+    ap Some (found ∙ ap₂ matches_of is (map-id words)) ∙ given_free words (sym (ap₂ fault_of is (map-id words)) ∙ none)
 
 -- a fault of some kind leaves nothing
-pub no_rows : (kinds : Kinds) (rows : List Row) (e : Error) → HasKind kinds e → kind_of e ≢ OutOfMemory → rows_unless kinds rows ≡ None
-no_rows [] rows e (inl is) not = absurd (not is)
-no_rows [] rows e (inr among) not = absurd among
-no_rows (k ∷ ks) rows e has not = refl
+pub no_rows : (kinds : Kinds) (found : List Row) (e : Error) → HasKind kinds e → kind_of e ≢ OutOfMemory → matches_unless kinds found ≡ None
+no_rows [] found e (inl is) not = absurd (not is)
+no_rows [] found e (inr among) not = absurd among
+no_rows (k ∷ ks) found e has not = refl
 
 -- a fault that is not want of memory is in the words
 pub none_given : (words : List (List ℕ)) (a : App) (e : Error) → a ≡ lid_app → (is_simple_and_free a ≡ true → HasKind (fault_of a (map (λ t. t) words)) e) → kind_of e ≢ OutOfMemory

@@ -44,47 +44,47 @@ forms = map (form_by (λ w. w.now) (λ ws. map (λ w. w.now) ws.now)) FORMS
 
 -- whether an option stands in the words
 unfoldable pub is_given : List Row → List ℕ → Bool
-is_given rows name = is_some (first_of name rows)
+is_given found name = is_some (first_of name found)
 
 -- whether the flag stands in the words
 unfoldable pub is_tallied : List Row → Bool
-is_tallied rows = bytes_eq (unwrap_or (first_of TALLY.now rows) []) (codes "true")
+is_tallied found = bytes_eq (unwrap_or (first_of TALLY.now found) []) (codes "true")
 
 -- the files in their order
 unfoldable pub files_in : List Row → List (List ℕ)
-files_in rows = unwrap_or (all_of FILES.now rows) []
+files_in found = unwrap_or (all_of FILES.now found) []
 
 unfoldable pub file_at : ℕ → List Row → List ℕ
-file_at i rows = slice_index_or (files_in rows) i []
+file_at i found = slice_index_or (files_in found) i []
 
 -- the option is one of these, where it stands
 unfoldable pub is_allowed : List (List ℕ) → List Row → List ℕ → Bool
-is_allowed options rows name = not (is_given rows name) || list_any (λ o. bytes_eq o name) options
+is_allowed options found name = not (is_given found name) || list_any (λ o. bytes_eq o name) options
 
 -- only these options stand in the words
 unfoldable pub has_only : List (List ℕ) → List Row → Bool
-has_only options rows = list_all (is_allowed options rows) option_names
+has_only options found = list_all (is_allowed options found) option_names
 
 -- these options stand in the words
 unfoldable pub has_each : List (List ℕ) → List Row → Bool
-has_each options rows = list_all (is_given rows) options
+has_each options found = list_all (is_given found) options
 
 -- the words have the form
 unfoldable pub has_form : Form → List Row → Bool
-has_form form rows =
-    length (files_in rows) == form.files && (has_each form.needed rows && (has_only form.options rows && (form.has_tally || not (is_tallied rows))))
+has_form form found =
+    length (files_in found) == form.files && (has_each form.needed found && (has_only form.options found && (form.has_tally || not (is_tallied found))))
 
 -- the job of `strict`
 unfoldable pub strict_job : List Row → Option Job
-strict_job rows = Some (Strict (file_at 0 rows) (file_at 1 rows) (first_of ROOT.now rows))
+strict_job found = Some (Strict (file_at 0 found) (file_at 1 found) (first_of ROOT.now found))
 
 -- the job of a command whose form the words have
 unfoldable pub job_made : Command → List Row → Option Job
-job_made command.Strict rows = strict_job rows
+job_made command.Strict found = strict_job found
 
 -- the job of a form, where the words have it
 unfoldable pub job_formed : List Row → Form → Option Job
-job_formed rows form = if has_form form rows then job_made form.command rows else None
+job_formed found form = if has_form form found then job_made form.command found else None
 
 -- the form among these that a word names
 abbrev pub form_among : List Form → List ℕ → Option Form
@@ -92,11 +92,11 @@ form_among fs word = find (λ form. bytes_eq form.word word) fs
 
 -- the form that the command's word names
 unfoldable pub form_in : List Row → Option Form
-form_in rows = option_and_then (form_among forms) (first_of COMMAND.now rows)
+form_in found = option_and_then (form_among forms) (first_of COMMAND.now found)
 
 -- the job that stands in what `clap` found
 unfoldable pub job_given : List Row → Option Job
-job_given rows = option_and_then (job_formed rows) (form_in rows)
+job_given found = option_and_then (job_formed found) (form_in found)
 
 -- the job that the words ask for; none where they are no job
 unfoldable pub job_of : List (List ℕ) → Option Job

@@ -48,14 +48,14 @@ option_names = map (λ o. o.now) OPTIONS
 unfoldable pub lid_app : App
 lid_app = with_rule (with_options (with_rule (with_rule bare_app command_rule) files_rule) option_names) (flag_rule TALLY.now)
 
--- the rows of a reading
-unfoldable pub rows_in : ArgMatches → List Row
-rows_in matches = rows_of (found_of matches)
+-- the matches of a reading, as `clap` lists them
+unfoldable pub matches_in : ArgMatches → List Row
+matches_in matches = rows_of (found_of matches)
 
-abbrev pub rows_unless : Kinds → List Row → Option (List Row)
-rows_unless [] rows = Some rows
-rows_unless (kind ∷ kinds) rows = None
+abbrev pub matches_unless : Kinds → List Row → Option (List Row)
+matches_unless [] found = Some found
+matches_unless (kind ∷ kinds) found = None
 
 -- what `clap` finds in the words; nothing where it finds a fault
 unfoldable pub given_in : List (List ℕ) → Option (List Row)
-given_in words = rows_unless (fault_of lid_app words) (matches_of lid_app words)
+given_in words = matches_unless (fault_of lid_app words) (matches_of lid_app words)

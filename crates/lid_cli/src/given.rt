@@ -4,17 +4,17 @@ ghost use Rattle.std.specs.Prelude.{◌≡◌, IfOk, map, option_map, length, sl
 ghost use Rattle.std.specs.List.{list_all, list_any};
 ghost use Rattle.std.specs.Str.{bytes_eq};
 ghost use Rattle.clap.specs.Words.{all_of, first_of};
-ghost use Rattle.lid_cli.specs.Reading.{rows_in};
+ghost use Rattle.lid_cli.specs.Reading.{matches_in};
 ghost use Rattle.lid_cli.specs.Jobs.{is_given, is_tallied, is_allowed, files_in, file_at, has_only, has_each};
 
 use crate::table::{FILES, OPTIONS, TALLY};
 use clap::ArgMatches;
-use lid_base::{Name, Text};
+use lid_base::{Name, Text, copy_name};
 use std::alloc::{AllocError, Global};
 
 /// The value of an option or of the command's place.
 pub fn value_of<'a>(given: &ArgMatches<'a>, name: &str) -> Option<&'a str>
-    ensures { option_map (λ s. s.now) result ≡ first_of name.now (rows_in given.now) }
+    ensures { option_map (λ s. s.now) result ≡ first_of name.now (matches_in given.now) }
 {
     given.get_str(name)
 }
@@ -22,7 +22,7 @@ pub fn value_of<'a>(given: &ArgMatches<'a>, name: &str) -> Option<&'a str>
 /// Whether an option stands in the words.
 #[tactic(auto, unfolding(crate::specs::Jobs::is_given))]
 pub fn is_given(given: &ArgMatches<'_>, name: &str) -> bool
-    ensures { result ≡ is_given (rows_in given.now) name.now }
+    ensures { result ≡ is_given (matches_in given.now) name.now }
 {
     value_of(given, name).is_some()
 }
@@ -30,7 +30,7 @@ pub fn is_given(given: &ArgMatches<'_>, name: &str) -> bool
 /// Whether the flag stands in the words.
 #[tactic(auto, unfolding(crate::specs::Jobs::is_tallied))]
 pub fn is_tallied(given: &ArgMatches<'_>) -> bool
-    ensures { result ≡ is_tallied (rows_in given.now) }
+    ensures { result ≡ is_tallied (matches_in given.now) }
 {
     match value_of(given, TALLY) {
         Some(text) => text == "true",
@@ -40,7 +40,7 @@ pub fn is_tallied(given: &ArgMatches<'_>) -> bool
 
 /// The files in their order, where there are some.
 fn files<'m, 'a>(given: &'m ArgMatches<'a>) -> Option<&'m [&'a str]>
-    ensures { option_map (λ s. map (λ f. f.now) s.now) result ≡ all_of FILES.now (rows_in given.now) }
+    ensures { option_map (λ s. map (λ f. f.now) s.now) result ≡ all_of FILES.now (matches_in given.now) }
 {
     given.get_strs(FILES)
 }
@@ -48,7 +48,7 @@ fn files<'m, 'a>(given: &'m ArgMatches<'a>) -> Option<&'m [&'a str]>
 /// How many files there are.
 #[tactic(auto, unfolding(crate::specs::Jobs::files_in))]
 pub fn file_count(given: &ArgMatches<'_>) -> usize
-    ensures { result ≡ length (files_in (rows_in given.now)) }
+    ensures { result ≡ length (files_in (matches_in given.now)) }
 {
     match files(given) {
         Some(names) => names.len(),
@@ -59,7 +59,7 @@ pub fn file_count(given: &ArgMatches<'_>) -> usize
 /// The name of a file by its place; no text where there is none.
 #[tactic(auto, unfolding(crate::specs::Jobs::files_in, crate::specs::Jobs::file_at))]
 fn file_at<'a>(given: &ArgMatches<'a>, at: usize) -> &'a str
-    ensures { result.now ≡ file_at at (rows_in given.now) }
+    ensures { result.now ≡ file_at at (matches_in given.now) }
 {
     match files(given) {
         Some(names) => name_at(names, at),
@@ -79,7 +79,7 @@ fn name_at<'a>(names: &[&'a str], at: usize) -> &'a str
 
 /// The text of the name of a file by its place.
 pub fn file_text(alloc: Global, given: &ArgMatches<'_>, at: usize) -> Result<Text, AllocError>
-    ensures { IfOk result (λ text. text ≡ file_at at (rows_in given.now)) }
+    ensures { IfOk result (λ text. text ≡ file_at at (matches_in given.now)) }
 {
     Ok(Text::new(String::from_str(alloc, file_at(given, at))?))
 }
@@ -90,13 +90,10 @@ pub fn name_of(
     given: &ArgMatches<'_>,
     option: &str,
 ) -> Result<Option<Name>, AllocError>
-    ensures { IfOk result (λ name. name ≡ first_of option.now (rows_in given.now)) }
+    ensures { IfOk result (λ name. name ≡ first_of option.now (matches_in given.now)) }
 {
     match value_of(given, option) {
-        Some(value) => {
-            let bytes = Vec::from_slice(alloc, value.as_bytes())?;
-            Ok(Some(Name::from_vec(bytes)))
-        }
+        Some(value) => Ok(Some(copy_name(alloc, value.as_bytes())?)),
         None => Ok(None),
     }
 }
@@ -116,14 +113,14 @@ fn is_one_of(name: &str, names: &[&str]) -> bool
 /// Whether an option stands only where it may.
 #[tactic(auto, unfolding(crate::specs::Jobs::is_allowed))]
 fn is_allowed(given: &ArgMatches<'_>, options: &[&str], name: &str) -> bool
-    ensures { result ≡ is_allowed (map (λ o. o.now) options.now) (rows_in given.now) name.now }
+    ensures { result ≡ is_allowed (map (λ o. o.now) options.now) (matches_in given.now) name.now }
 {
     !is_given(given, name) || is_one_of(name, options)
 }
 
 /// Whether each of these names is that of an option that stands only where it may.
 fn are_allowed(given: &ArgMatches<'_>, options: &[&str], names: &[&str]) -> bool
-    ensures { result ≡ list_all (is_allowed (map (λ o. o.now) options.now) (rows_in given.now)) (map (λ n. n.now) names.now) }
+    ensures { result ≡ list_all (is_allowed (map (λ o. o.now) options.now) (matches_in given.now)) (map (λ n. n.now) names.now) }
 {
     for name in names {
         if !is_allowed(given, options, name) {
@@ -136,7 +133,7 @@ fn are_allowed(given: &ArgMatches<'_>, options: &[&str], names: &[&str]) -> bool
 /// Whether only these options stand in the words.
 #[tactic(auto, unfolding(crate::specs::Jobs::has_only))]
 pub fn has_only(given: &ArgMatches<'_>, options: &[&str]) -> bool
-    ensures { result ≡ has_only (map (λ o. o.now) options.now) (rows_in given.now) }
+    ensures { result ≡ has_only (map (λ o. o.now) options.now) (matches_in given.now) }
 {
     are_allowed(given, options, &OPTIONS)
 }
@@ -144,7 +141,7 @@ pub fn has_only(given: &ArgMatches<'_>, options: &[&str]) -> bool
 /// Whether these options stand in the words.
 #[tactic(auto, unfolding(crate::specs::Jobs::has_each))]
 pub fn has_each(given: &ArgMatches<'_>, options: &[&str]) -> bool
-    ensures { result ≡ has_each (map (λ o. o.now) options.now) (rows_in given.now) }
+    ensures { result ≡ has_each (map (λ o. o.now) options.now) (matches_in given.now) }
 {
     for option in options {
         if !is_given(given, option) {

@@ -1,7 +1,7 @@
 //! The job that the words of a command line ask for.
 
 ghost use Rattle.std.specs.Prelude.{◌≡◌, IfOk};
-ghost use Rattle.lid_cli.specs.Reading.{rows_in};
+ghost use Rattle.lid_cli.specs.Reading.{matches_in};
 ghost use Rattle.lid_cli.specs.Jobs.{form_shown, job_made, job_formed, job_given, job_of};
 
 use crate::form::{form_of, has_form};
@@ -34,7 +34,7 @@ fn make_job(
     command: Command,
     given: &ArgMatches<'_>,
 ) -> Result<Option<Job>, AllocError>
-    ensures { IfOk result (λ job. job ≡ job_made command (rows_in given.now)) }
+    ensures { IfOk result (λ job. job ≡ job_made command (matches_in given.now)) }
 {
     match command {
         Command::Strict => strict_job(alloc, given),
@@ -44,7 +44,7 @@ fn make_job(
 /// The job of a form, where the words have it.
 #[tactic(auto, unfolding(crate::specs::Jobs::job_formed))]
 fn formed_job(alloc: Global, form: Form, given: &ArgMatches<'_>) -> Result<Option<Job>, AllocError>
-    ensures { IfOk result (λ job. job ≡ job_formed (rows_in given.now) (form_shown form.entry)) }
+    ensures { IfOk result (λ job. job ≡ job_formed (matches_in given.now) (form_shown form.entry)) }
 {
     let (command, ..) = form;
     if has_form(form, given) {
@@ -57,7 +57,7 @@ fn formed_job(alloc: Global, form: Form, given: &ArgMatches<'_>) -> Result<Optio
 /// The job that stands in what `clap` found.
 #[tactic(auto, unfolding(crate::specs::Jobs::job_given))]
 fn given_job(alloc: Global, given: &ArgMatches<'_>) -> Result<Option<Job>, AllocError>
-    ensures { IfOk result (λ job. job ≡ job_given (rows_in given.now)) }
+    ensures { IfOk result (λ job. job ≡ job_given (matches_in given.now)) }
 {
     match form_of(given) {
         Some(form) => formed_job(alloc, form, given),

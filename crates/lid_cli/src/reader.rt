@@ -2,7 +2,7 @@
 
 ghost use Rattle.std.specs.Prelude.{◌≡◌, ◌≢◌, IfOk, option_map, map, false, None};
 ghost use Rattle.clap.specs.Words.{app_of, rule_of, with_rule, kind_of};
-ghost use Rattle.lid_cli.specs.Reading.{bare_app, option_rule, flag_rule, command_rule, files_rule, with_options, lid_app, given_in, rows_in};
+ghost use Rattle.lid_cli.specs.Reading.{bare_app, option_rule, flag_rule, command_rule, files_rule, with_options, lid_app, given_in, matches_in};
 
 use crate::table::{COMMAND, FILES, OPTIONS, TALLY};
 use clap::error::ErrorKind;
@@ -104,7 +104,7 @@ fn without_matches<'a>(error: &Error) -> Result<Option<ArgMatches<'a>>, AllocErr
 
 /// What `clap` finds in the words; `None` where it finds a fault.
 pub fn parse(alloc: Global, words: &[Text]) -> Result<Option<ArgMatches<'_>>, AllocError>
-    ensures { IfOk result (λ m. option_map rows_in m ≡ given_in words.entry.now) }
+    ensures { IfOk result (λ m. option_map matches_in m ≡ given_in words.entry.now) }
 {
     let command = lid_command(alloc)?;
     match command.try_get_matches_from(words) {

@@ -12,8 +12,8 @@ use Rattle.lid_design.specs.declared.Model.{Model}
 use Rattle.lid_design.specs.declared.Inst.{Inst}
 use Rattle.lid_design.specs.declared.Bind.{Bind}
 use Rattle.lid_design.specs.Columns.{is_clock, data_inputs}
-use Rattle.lid_design.specs.Models.{is_clock_of, firsts, insts_of, number_named, instance_number, IsReached}
-use Rattle.lid_wiring.specs.Locals.{Local, NetLocal, inputs_from, local_input, local_connection, local_of, output_of, outputs_of, locals, model_locals, model_inputs}
+use Rattle.lid_design.specs.Models.{is_clock_of, firsts, insts_of, number_named, instance_number, IsReached, data_inputs_of}
+use Rattle.lid_wiring.specs.Locals.{Local, NetLocal, inputs_from, local_input, local_connection, local_of, output_of, outputs_of, locals, model_locals}
 use Rattle.lid_elab.specs.Templates.{shown_local, numbered}
 use Rattle.lid_elab.specs.Parts.{net_of, numbered_local, Grows, Shows, data_of, output_sets}
 use Rattle.lid_wiring.specs.Judged.{IsJudged}
@@ -189,7 +189,7 @@ module _ (d : Design) (k : ℕ) where
     unfolding data_inputs
     data_is = filter_same (λ net. not (is_clock_of d k net)) (λ net. not (is_clock d m net)) m.inputs (λ net. ap (λ (o : Option Model). not (option_map_or (λ m. is_clock d m net) o false)) here)
 
-    pub inputs_are : data_of d k m.inputs ≡ model_inputs d k
+    pub inputs_are : data_of d k m.inputs ≡ data_inputs_of d k
     inputs_are = data_is ∙ sym (ap (λ (o : Option Model). option_map_or (data_inputs d) o []) here)
 
     -- all that drives nets of a model

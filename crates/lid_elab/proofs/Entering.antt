@@ -8,7 +8,7 @@ use Rattle.lid_design.specs.declared.Design.{Design}
 use Rattle.lid_design.specs.declared.Inst.{Inst}
 use Rattle.lid_design.specs.Columns.{column}
 use Rattle.lid_design.specs.Models.{insts_of, instance_number, number_from, IsReached}
-use Rattle.lid_design.specs.Places.{model_nets, columns, places}
+use Rattle.lid_design.specs.Elaboration.{model_nets, columns, instances}
 use Rattle.lid_elab.specs.Numbers.{over_insts, size_of, offset_of, start_of, weight_of, IsSpot}
 use Rattle.lid_wiring.specs.Judged.{IsJudged}
 use Rattle.lid_elab.specs.Parts.{AreTemplates}
@@ -19,7 +19,7 @@ use Rattle.lid_elab.proofs.Stacking.{size_sum, weight_sum, over_more}
 
 module _ (d : Design) where
   pub root_spot : (number : ℕ) → number < length (columns d) → IsSpot d [] d.root number number
-  unfolding size_of columns places start_of number_from
+  unfolding size_of columns instances start_of number_from
   root_spot number below = record {
     leads = refl;
     sum = zero-add number;

@@ -8,7 +8,7 @@ use Rattle.lid_design.specs.declared.Model.{Model}
 use Rattle.lid_design.specs.Columns.{Column, drivers}
 use Rattle.lid_design.specs.Walks.{IsDriven}
 use Rattle.lid_design.specs.Models.{nets}
-use Rattle.lid_design.specs.Places.{model_nets, columns}
+use Rattle.lid_design.specs.Elaboration.{model_nets, columns}
 use Rattle.lid_wiring.specs.Judged.{IsJudged}
 use Rattle.lid_wiring.proofs.Driven.{driven_at}
 use Rattle.lid_elab.specs.Numbers.{start_of}

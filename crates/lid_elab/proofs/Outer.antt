@@ -11,10 +11,10 @@ use Rattle.lid_design.specs.declared.Model.{Model}
 use Rattle.lid_design.specs.declared.Inst.{Inst}
 use Rattle.lid_design.specs.Network.{Driver, from_input}
 use Rattle.lid_design.specs.Columns.{Column, column}
-use Rattle.lid_design.specs.Models.{nets, insts_of, instance_number, number_named, number_from, IsReached}
-use Rattle.lid_design.specs.Places.{model_nets, columns}
+use Rattle.lid_design.specs.Models.{nets, insts_of, instance_number, number_named, number_from, IsReached, data_inputs_of}
+use Rattle.lid_design.specs.Elaboration.{model_nets, columns}
 use Rattle.lid_elab.specs.Numbers.{start_of}
-use Rattle.lid_wiring.specs.Locals.{locals, actual_for, of_net, model_inputs}
+use Rattle.lid_wiring.specs.Locals.{locals, actual_for, of_net}
 use Rattle.lid_elab.specs.Templates.{shown_local, place_in, placed, IsSmall}
 use Rattle.lid_wiring.specs.Judged.{IsJudged}
 use Rattle.lid_elab.specs.Scopes.{IsOnlyDriver, ArePlaced, IsAround, IsAt, IsOuter, picked, IsSmallAt}
@@ -40,7 +40,7 @@ pub record OuterInst (d : Design) (ts : List Template) (path : List ℕ) (k : �
   pub here : slice_get ts a.model ≡ Some t
   pub inst : Inst
   pub at : slice_get (insts_of d a.model) a.inst ≡ Some inst
-  pub actuals : slice_get t.actuals a.inst ≡ Some (map (λ formal. place_in d a.model (actual_for inst formal)) (model_inputs d k))
+  pub actuals : slice_get t.actuals a.inst ≡ Some (map (λ formal. place_in d a.model (actual_for inst formal)) (data_inputs_of d k))
 
 pub outer_inst : (d : Design) (ts : List Template) → AreTemplates d ts → (path : List ℕ) (p : Scope) (a : Around) → IsAt d path p → p.around ≡ Some a → OuterInst d ts path p.model a
 unfolding number_from

@@ -13,11 +13,11 @@ use Rattle.lid_design.specs.declared.Inst.{Inst}
 use Rattle.lid_design.specs.Network.{Driver, from_latch, from_cover, from_connection}
 use Rattle.lid_design.specs.Columns.{Column, column, data_inputs, drivers}
 use Rattle.lid_design.specs.Walks.{read_now, read_before}
-use Rattle.lid_design.specs.Models.{nets, insts_of, instance_number, number_named, number_from, IsReached}
-use Rattle.lid_design.specs.Places.{model_nets, columns}
+use Rattle.lid_design.specs.Models.{nets, insts_of, instance_number, number_named, number_from, IsReached, data_inputs_of}
+use Rattle.lid_design.specs.Elaboration.{model_nets, columns}
 use Rattle.lid_elab.specs.Elaborations.{map_driver, column_at}
 use Rattle.lid_elab.specs.Numbers.{offset_of, start_of}
-use Rattle.lid_wiring.specs.Locals.{Local, local_input, local_latch, local_cover, local_connection, locals, of_net, actual_for, driver_at, driver_in, model_inputs}
+use Rattle.lid_wiring.specs.Locals.{Local, local_input, local_latch, local_cover, local_connection, locals, of_net, actual_for, driver_at, driver_in}
 use Rattle.lid_elab.specs.Templates.{place_in, numbered, placed, IsSmall}
 use Rattle.lid_elab.specs.Scopes.{IsOnlyDriver}
 use Rattle.lid_wiring.proofs.Clocking.{named_model}
@@ -62,7 +62,7 @@ module _ (d : Design) (judged : IsJudged d) where
     pub there : slice_get d.models around ≡ Some body
     pub at : slice_get body.insts i ≡ Some inst
     pub is_start : start ≡ start_of d up
-    pub each : actuals ≡ map (λ formal. place_in d around (actual_for inst formal)) (model_inputs d k)
+    pub each : actuals ≡ map (λ formal. place_in d around (actual_for inst formal)) (data_inputs_of d k)
 
   -- the place around, where there is one
   pub data FitsAround (k : ℕ) (path : List ℕ) : Option (ℕ × List ℕ) → Type 0 where
@@ -152,7 +152,7 @@ module _ (d : Design) (judged : IsJudged d) where
     unfolding inst_sub
     right_input None (at_root root) net among j input one = record { only = root_case root net among (local_input j) one; below = tt }
     right_input (Some around) (in_inst start actuals w) net among j input one =
-        let inputs : model_inputs d k ≡ data_inputs d m = ap (λ (o : Option Model). option_map_or (data_inputs d) o []) here in
+        let inputs : data_inputs_of d k ≡ data_inputs d m = ap (λ (o : Option Model). option_map_or (data_inputs d) o []) here in
         let name : slice_index_or (data_inputs d m) j [] ≡ net = get_or_from_slice_get (data_inputs d m) j net [] input in
         let number : slice_index actuals j ≡ place_in d w.around (actual_for w.inst net) =
         get_or_from_slice_get actuals j (place_in d w.around (actual_for w.inst net)) 0
@@ -208,7 +208,7 @@ module _ (d : Design) (judged : IsJudged d) where
       unfolding inst_sub
       small_input None (at_root root) net j input = tt
       small_input (Some around) (in_inst start actuals w) net j input =
-          let inputs : model_inputs d k ≡ data_inputs d m = ap (λ (o : Option Model). option_map_or (data_inputs d) o []) here in
+          let inputs : data_inputs_of d k ≡ data_inputs d m = ap (λ (o : Option Model). option_map_or (data_inputs d) o []) here in
           let at_j : slice_get actuals j ≡ Some (place_in d w.around (actual_for w.inst net)) =
           (ap (λ (ns : List ℕ). slice_get ns j) (w.each ∙ ap (map (λ formal. place_in d w.around (actual_for w.inst formal))) inputs)
           ∙ slice_get-map (λ formal. place_in d w.around (actual_for w.inst formal)) (data_inputs d m) j

@@ -8,7 +8,7 @@ use Rattle.lid_design.specs.declared.Model.{Model}
 use Rattle.lid_design.specs.declared.Inst.{Inst}
 use Rattle.lid_design.specs.WellFormed.{IsWellFormed}
 use Rattle.lid_design.specs.Models.{insts_of, instance_number, number_named, number_from}
-use Rattle.lid_design.specs.Places.{model_nets, columns, places}
+use Rattle.lid_design.specs.Elaboration.{model_nets, columns, instances}
 use Rattle.lid_elab.specs.Numbers.{over_insts, size_within, size_of, offset_of, start_of, weight_within, weight_of}
 use Rattle.lid_elab.specs.Scopes.{IsAt, AreNext, weights}
 use Rattle.lid_elab.specs.declared.placing.Scope.{Scope}
@@ -88,5 +88,5 @@ module _ (d : Design) where
 
   -- the root comes first
   pub root_first : AreNext d 0 (record { model = d.root; start = 0; around = None } ∷ [])
-  unfolding size_of columns places start_of number_from
+  unfolding size_of columns instances start_of number_from
   root_first = (([], record { leads = refl; start = refl; outer = refl }), refl, zero-add (size_within (length d.models) d d.root) ∙ sym (columns_length d (length d.models) [] d.root))

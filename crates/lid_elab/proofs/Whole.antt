@@ -10,8 +10,8 @@ use Rattle.lid_design.specs.declared.Design.{Design}
 use Rattle.lid_design.specs.Network.{Driver}
 use Rattle.lid_design.specs.Columns.{Column}
 use Rattle.lid_design.specs.Walks.{read_now, read_before}
-use Rattle.lid_design.specs.Models.{insts_of, instance_number, number_from}
-use Rattle.lid_design.specs.Places.{places, columns}
+use Rattle.lid_design.specs.Models.{insts_of, instance_number, number_from, IsReached}
+use Rattle.lid_design.specs.Elaboration.{instances, columns}
 use Rattle.lid_design.proofs.Reached.{root_reached}
 use Rattle.lid_wiring.specs.Judged.{IsJudged}
 use Rattle.lid_wiring.proofs.Wired.{some_of_is}
@@ -31,7 +31,7 @@ module _ (d : Design) (judged : IsJudged d) (starts : List ℕ) (few : length st
 
   -- all columns are those of the root and of the instances in it
   all_columns : length (columns d) ≡ size_of d d.root
-  unfolding size_of columns places
+  unfolding size_of columns instances
   all_columns = columns_length d (length d.models) [] d.root
 
   block_length : (i model : ℕ) → length (columns_in (length d.models) d (i ∷ []) model) ≡ size_of d model

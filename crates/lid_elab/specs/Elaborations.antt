@@ -7,7 +7,7 @@ use Rattle.lid_design.specs.Network.{Driver, from_input, from_latch, from_cover,
 use Rattle.lid_design.specs.Columns.{Column, column, drivers}
 use Rattle.lid_design.specs.Walks.{read_now, read_before, IsDriven}
 use Rattle.lid_design.specs.Models.{insts_of, instance_number, number_from}
-use Rattle.lid_design.specs.Places.{columns, model_nets}
+use Rattle.lid_design.specs.Elaboration.{columns, model_nets}
 use Rattle.lid_elab.specs.Numbers.{columns_in, StandsAt}
 use Rattle.lid_elab.specs.declared.driver.ColumnDriver.{ColumnDriver}
 use Rattle.lid_elab.specs.declared.driver.ColumnDriver.TheVariants.{Input, Latch, Cover as OfCover, Connection}

@@ -7,11 +7,11 @@ use Rattle.lid_design.specs.declared.Design.{Design}
 use Rattle.lid_design.specs.declared.Model.{Model}
 use Rattle.lid_design.specs.declared.Inst.{Inst}
 use Rattle.lid_design.specs.declared.Bind.{Bind}
-use Rattle.lid_design.specs.Models.{firsts, insts_of, number_named, instance_number, is_clock_of, IsReached}
-use Rattle.lid_design.specs.Places.{model_nets}
+use Rattle.lid_design.specs.Models.{firsts, insts_of, number_named, instance_number, is_clock_of, IsReached, data_inputs_of}
+use Rattle.lid_design.specs.Elaboration.{model_nets}
 use Rattle.lid_names.specs.Names.{texts}
 use Rattle.lid_elab.specs.Numbers.{size_of, offset_of}
-use Rattle.lid_wiring.specs.Locals.{Local, NetLocal, of_net, actual_for, model_locals, model_inputs}
+use Rattle.lid_wiring.specs.Locals.{Local, NetLocal, of_net, actual_for, model_locals}
 use Rattle.lid_elab.specs.Templates.{shown_local, place_in, numbered}
 use Rattle.lid_elab.specs.declared.driven.Driven.{Driven}
 use Rattle.lid_elab.specs.declared.template.LocalDriver.{LocalDriver}
@@ -48,9 +48,6 @@ pub record Shows (d : Design) (k : ℕ) (ps : List NetLocal) (driven : Driven) :
 abbrev pub data_of : Design → ℕ → List (List ℕ) → List (List ℕ)
 data_of d k names = filter (λ net. not (is_clock_of d k net)) names
 
-abbrev pub formal_of : Bind → List ℕ
-formal_of b = b.formal
-
 -- the set of the outputs of each model
 abbrev pub output_sets : List Model → List (List (List ℕ))
 output_sets ms = map (λ m. firsts m.outputs) ms
@@ -61,7 +58,7 @@ picks_among d k nets = map (λ net. position_or_len (bytes_eq net) nets) (model_
 
 -- the nets of model k that the data inputs of an instance are bound to, where its model has number j
 abbrev pub places_bound : Design → ℕ → ℕ → Inst → List ℕ
-places_bound d k j inst = map (λ formal. place_in d k (actual_for inst formal)) (model_inputs d j)
+places_bound d k j inst = map (λ formal. place_in d k (actual_for inst formal)) (data_inputs_of d j)
 
 abbrev pub places_in_inst : Design → ℕ → Inst → List ℕ
 places_in_inst d k inst = option_map_or (λ j. places_bound d k j inst) (number_named d inst.model) []

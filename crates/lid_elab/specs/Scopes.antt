@@ -8,11 +8,11 @@ use Rattle.lid_design.specs.declared.Inst.{Inst}
 use Rattle.lid_design.specs.Network.{Driver, from_input}
 use Rattle.lid_design.specs.Columns.{Column, drivers}
 use Rattle.lid_design.specs.Walks.{read_now, read_before}
-use Rattle.lid_design.specs.Models.{insts_of, number_from}
-use Rattle.lid_design.specs.Places.{columns}
+use Rattle.lid_design.specs.Models.{insts_of, number_from, data_inputs_of}
+use Rattle.lid_design.specs.Elaboration.{columns}
 use Rattle.lid_elab.specs.Elaborations.{map_driver, column_at}
 use Rattle.lid_elab.specs.Numbers.{size_of, start_of, weight_of}
-use Rattle.lid_wiring.specs.Locals.{actual_for, model_inputs}
+use Rattle.lid_wiring.specs.Locals.{actual_for}
 use Rattle.lid_elab.specs.Templates.{shown_local, place_in, placed, IsSmall}
 use Rattle.lid_elab.specs.declared.template.LocalDriver.{LocalDriver}
 use Rattle.lid_elab.specs.declared.placing.Scope.{Scope}
@@ -63,7 +63,7 @@ pub record StandsIn (d : Design) (path : List ℕ) (k : ℕ) (start : ℕ) (actu
   pub leads : number_from d d.root up ≡ Some around
   pub at : slice_get (insts_of d around) i ≡ Some inst
   pub is_start : start ≡ start_of d up
-  pub is_actuals : actuals ≡ map (λ formal. place_in d around (actual_for inst formal)) (model_inputs d k)
+  pub is_actuals : actuals ≡ map (λ formal. place_in d around (actual_for inst formal)) (data_inputs_of d k)
 
 -- what stands around a path, as drivers are placed
 abbrev pub IsOuter : Design → List ℕ → ℕ → Option (ℕ × List ℕ) → Type 0

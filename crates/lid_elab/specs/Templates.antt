@@ -7,7 +7,7 @@ use Rattle.std.specs.Str.{bytes_eq}
 use Rattle.lid_design.specs.declared.Design.{Design}
 use Rattle.lid_design.specs.Network.{Driver, from_input, from_connection}
 use Rattle.lid_design.specs.Models.{instance_number}
-use Rattle.lid_design.specs.Places.{model_nets}
+use Rattle.lid_design.specs.Elaboration.{model_nets}
 use Rattle.lid_wiring.specs.Locals.{Local, resolved, local_input, local_latch, local_cover, local_connection}
 use Rattle.lid_elab.specs.declared.template.LocalDriver.{LocalDriver}
 use Rattle.lid_elab.specs.declared.template.LocalDriver.TheVariants.{Input, Latch, Cover as OfCover, Connection}

@@ -3,15 +3,14 @@
 ghost use Rattle.std.specs.Prelude.{◌≡◌, ◌≤◌, ◌<◌, ◌+◌, [], Some, length, reverse, slice_get, slice_index, IfOk};
 ghost use Rattle.lid_design.specs.Columns.{column};
 ghost use Rattle.lid_design.specs.Models.{IsReached, instance_number};
-ghost use Rattle.lid_design.specs.Places.{columns, model_nets};
+ghost use Rattle.lid_design.specs.Elaboration.{columns, model_nets};
 ghost use Rattle.lid_elab.specs.Numbers.{size_of, offset_of, IsSpot};
 ghost use Rattle.lid_wiring.specs.Judged.{IsJudged};
 ghost use Rattle.lid_elab.specs.Parts.{AreTemplates};
 
 use crate::template::{Template, find_templates};
-use lid_base::{Items, Name};
+use lid_base::{Items, Name, copy_name};
 use lid_hierarchy::Survey;
-use lid_names::copy_name;
 use lid_wiring::Judged;
 use std::alloc::{AllocError, Global};
 

@@ -1,6 +1,6 @@
 ghost use Rattle.std.specs.Prelude.{◌≡◌, ◌<◌, ◌^◌, Some, length, map, slice_get, IfOk};
 ghost use Rattle.lid_design.specs.Models.{insts_of, IsReached};
-ghost use Rattle.lid_design.specs.Places.{model_nets};
+ghost use Rattle.lid_design.specs.Elaboration.{model_nets};
 ghost use Rattle.lid_elab.specs.Templates.{place_in};
 ghost use Rattle.lid_wiring.specs.Judged.{IsJudged};
 

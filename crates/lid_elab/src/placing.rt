@@ -3,7 +3,7 @@
 ghost use Rattle.std.specs.Prelude.{◌≡◌, ◌≤◌, ◌<◌, ◌++◌, ◌+◌, ℕ, List, [], Some, length, map, reverse, take, slice_get, IfOk, OnOk};
 ghost use Rattle.std.specs.List.{All};
 ghost use Rattle.lid_design.specs.Models.{insts_of};
-ghost use Rattle.lid_design.specs.Places.{model_nets, columns};
+ghost use Rattle.lid_design.specs.Elaboration.{model_nets, columns};
 ghost use Rattle.lid_elab.specs.Numbers.{over_insts, size_of, offset_of, weight_of};
 ghost use Rattle.lid_elab.specs.Elaborations.{shown_driver};
 ghost use Rattle.lid_elab.specs.Templates.{seen_around};

@@ -10,8 +10,8 @@ use Rattle.lid_design.specs.WellFormed.{IsWellFormed}
 use Rattle.lid_design.specs.Network.{Driver, from_input, from_latch, from_cover, from_connection, from_each}
 use Rattle.lid_design.specs.Columns.{Column, column, drivers}
 use Rattle.lid_design.specs.Walks.{read_now, read_before, IsDriven, IsDrivenOnce, AreReadsDriven, WalksEnd, HasTable, HasOneTable}
-use Rattle.lid_design.specs.Models.{nets, insts_of, number_named, instance_number, number_from}
-use Rattle.lid_design.specs.Places.{columns, model_nets}
+use Rattle.lid_design.specs.Models.{nets, insts_of, number_named, instance_number, number_from, data_inputs_of}
+use Rattle.lid_design.specs.Elaboration.{columns, model_nets}
 use Rattle.lid_design.specs.Loops.{HasNoLoop}
 use Rattle.lid_design.proofs.Tables.{has_table, has_one_table}
 use Rattle.lid_hierarchy.specs.Surveys.{AreKnown}
@@ -20,7 +20,7 @@ use Rattle.lid_rules.specs.Acceptance.{ModelsPass, fault_before_recursion}
 use Rattle.lid_rules.proofs.Passing.{known_by}
 use Rattle.lid_elab.specs.Elaborations.{map_driver, column_at}
 use Rattle.lid_elab.specs.Numbers.{offset_of, start_of}
-use Rattle.lid_wiring.specs.Locals.{actual_for, model_inputs}
+use Rattle.lid_wiring.specs.Locals.{actual_for}
 use Rattle.lid_elab.specs.Templates.{place_in, numbered, placed}
 use Rattle.lid_wiring.specs.Judged.{IsJudged}
 use Rattle.lid_elab.specs.Scopes.{IsOnlyDriver, IsOuter}
@@ -73,7 +73,7 @@ module _ (d : Design) (judged : IsJudged d) where
   around_at (i ∷ up) k leads =
       let body = then_some (number_from d d.root up) (instance_number d i) k leads in
       let inst = then_some (slice_get (insts_of d body.0) i) (λ inst. number_named d inst.model) k body.2 in
-      (Some (start_of d up, map (λ formal. place_in d body.0 (actual_for inst.0 formal)) (model_inputs d k)), record { up = up; i = i; around = body.0; inst = inst.0; is_path = refl; leads = body.1; at = inst.1; is_start = refl; is_actuals = refl })
+      (Some (start_of d up, map (λ formal. place_in d body.0 (actual_for inst.0 formal)) (data_inputs_of d k)), record { up = up; i = i; around = body.0; inst = inst.0; is_path = refl; leads = body.1; at = inst.1; is_start = refl; is_actuals = refl })
 
   -- each column has one driver
   right_at : (n : ℕ) (c : Column) → slice_get (columns d) n ≡ Some c → (s : Driver ℕ) × IsOnlyDriver d c s

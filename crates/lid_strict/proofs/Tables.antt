@@ -7,7 +7,7 @@ use Rattle.lid_cover.specs.Cover.{cover_value}
 use Rattle.lid_design.specs.declared.Design.{Design}
 use Rattle.lid_design.specs.Network.{Driver, from_input, from_latch, from_cover, from_connection, Table, IsStrict, bit_of}
 use Rattle.lid_design.specs.Columns.{Column, drivers}
-use Rattle.lid_design.specs.Places.{columns}
+use Rattle.lid_design.specs.Elaboration.{columns}
 use Rattle.lid_design.specs.Walks.{Walk, WalksEnd, IsDriven, IsDrivenOnce, HasTable}
 use Rattle.lid_design.proofs.Tables.{has_table}
 use Rattle.lid_digraph.specs.Graphs.{IsOrder}

@@ -3,7 +3,7 @@ ghost use Rattle.std.specs.List.{AllByRecursion};
 ghost use Rattle.std.specs.Str.{bytes_eq};
 ghost use Rattle.lid_base.specs.Lists.{Among};
 ghost use Rattle.lid_design.specs.Columns.{column, root_outputs, IsStrictOutput};
-ghost use Rattle.lid_design.specs.Places.{model_nets};
+ghost use Rattle.lid_design.specs.Elaboration.{model_nets};
 ghost use Rattle.lid_design.specs.WellFormed.{IsWellFormed};
 ghost use Rattle.lid_elab.specs.Elaborations.{shown_driver, column_at, IsElaborated};
 ghost use Rattle.lid_rules.specs.Acceptance.{ModelsPass};
@@ -11,13 +11,13 @@ ghost use Rattle.lid_check.specs.Acceptance.{IsAccepted};
 ghost use Rattle.lid_strict.specs.Networks.{AreNumbersOf};
 
 use crate::simulation::simulate;
-use lid_base::{Items, Name};
+use lid_base::{Items, Name, copy_names};
 use lid_check::Checked;
 use lid_design::Design;
-use lid_digraph::{Found, find_order};
+use lid_digraph::{Digraph, Found, find_order};
 use lid_elab::{Elaboration, elaborate, find_reads};
 use lid_hierarchy::{Survey, SurveyFault, find_uses, survey_models};
-use lid_texts::{Rows, copy_names};
+use lid_texts::Rows;
 use lid_wiring::{Judged, judge};
 use std::alloc::{AllocError, Global};
 
@@ -98,7 +98,10 @@ fn run_columns(
 {
     let drivers = columns.drivers.as_slice();
     let reads = find_reads(alloc, drivers)?;
-    match find_order(alloc, reads.as_slice())? {
+    let graph = Digraph {
+        reads: reads.as_slice(),
+    };
+    match find_order(alloc, &graph)? {
         Found::Order(order) => simulate(alloc, drivers, order.as_slice(), outs, rows),
         Found::Loop(_) => unreachable!(),
     }

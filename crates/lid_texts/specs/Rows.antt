@@ -90,19 +90,23 @@ first_some [] = None
 first_some (None ∷ options) = first_some options
 first_some (Some a ∷ options) = Some a
 
--- the fault of some logical lines, where they have one: the first is the header, the others are the rows
+-- what is at fault in each logical line: the first is the header, the others are the rows
+abbrev pub line_faults : List (List ℕ) → ℕ → List RowsLine → List (Option VecFault)
+line_faults columns outs [] = []
+line_faults columns outs (header ∷ rows) = header_fault columns header ∷ map (λ p. row_fault columns outs p.0 p.1) (enumerate_from 1 rows)
+
+-- the fault of some logical lines, where they have one; there is a header
 abbrev pub lines_fault : List (List ℕ) → ℕ → List RowsLine → Option VecFault
 lines_fault columns outs [] = Some Header
-lines_fault columns outs (header ∷ rows) =
-    first_some (header_fault columns header ∷ map (λ p. row_fault columns outs p.0 p.1) (enumerate_from 1 rows))
+lines_fault columns outs (header ∷ rows) = first_some (line_faults columns outs (header ∷ rows))
 
-abbrev pub or_fault : {A : Type 0} → Option VecFault → A → Result A VecFault
-or_fault None a = Ok a
-or_fault (Some fault) a = Err fault
+abbrev pub ok_unless : {A : Type 0} → Option VecFault → A → Result A VecFault
+ok_unless None a = Ok a
+ok_unless (Some fault) a = Err fault
 
 -- the bits of all rows, or the fault of the first line that has one
 unfoldable pub bits_reading : List (List ℕ) → ℕ → List RowsLine → Result (List (List Bool)) VecFault
-bits_reading columns outs lines = or_fault (lines_fault columns outs lines) (map (row_bits columns) (drop 1 lines))
+bits_reading columns outs lines = ok_unless (lines_fault columns outs lines) (map (row_bits columns) (drop 1 lines))
 
 abbrev pub under_columns : List (List ℕ) → Result (List (List Bool)) VecFault → Result Rows VecFault
 under_columns columns (Ok bits) = Ok (record { columns = columns; bits = bits })

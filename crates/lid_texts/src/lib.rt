@@ -2,11 +2,13 @@
 #![tactic(auto)]
 
 mod line;
-mod writer;
 mod reader;
 mod rows;
+mod scan;
 mod walk;
+mod writer;
 
-pub use writer::print_rows;
-pub use reader::{copy_names, read_rows};
+pub use reader::read_rows;
 pub use rows::{Rows, VecFault};
+pub use scan::RowScan;
+pub use writer::print_rows;

@@ -1,49 +1,35 @@
 //! Rows of bits, written as a text.
 
 ghost use Rattle.std.specs.Prelude.{◌≡◌, ◌++◌, ◌∷◌, [], map, OnOk, OnErr};
-ghost use Rattle.std.specs.List.{flat_map, join_with_byte};
-ghost use Rattle.lid_texts.specs.Rows.{is_any};
-ghost use Rattle.lid_texts.specs.RowsText.{header_text, row_text, rows_text, bit_char, Extends};
+ghost use Rattle.std.specs.List.{flat_map};
+ghost use Rattle.lid_base.specs.Lists.{Keeps};
+ghost use Rattle.lid_lines.specs.Texts.{line_text};
+ghost use Rattle.lid_texts.specs.Rows.{is_any, header_words};
+ghost use Rattle.lid_texts.specs.RowsText.{row_text, rows_text, bit_char};
 
 use crate::line::has_columns;
 use crate::rows::Rows;
 use lid_base::{Items, Name};
+use lid_lines::append_line;
 use std::alloc::AllocError;
 
-/// Appends the names with a blank between each two.
-fn append_names(names: &[Name], into: &mut Vec<u8>) -> Result<(), AllocError>
-    ensures ok { OnOk result (into.new.items ≡ into.old.items ++ join_with_byte 32 names.now) }
-    ensures kept { Extends into.old.items into.new.items }
-{
-    let mut rest = names;
-    while let [name, after @ ..] = rest {
-        into.extend_from_slice(name.as_slice())?;
-        if !after.is_empty() {
-            into.push(b' ')?;
-        }
-        rest = after;
-    }
-    Ok(())
-}
-
 /// Appends the header line.
+#[tactic(auto, unfolding(lid_lines::specs::Texts::line_text))]
 fn append_header(columns: &[Name], into: &mut Vec<u8>) -> Result<(), AllocError>
-    ensures ok { OnOk result (into.new.items ≡ into.old.items ++ header_text columns.now) }
-    ensures kept { Extends into.old.items into.new.items }
+    ensures ok { OnOk result (into.new.items ≡ into.old.items ++ line_text (header_words columns.now)) }
+    ensures kept { Keeps into.old.items into.new.items }
 {
     if has_columns(columns) {
-        append_names(columns, into)?;
-        into.push(b'\n')?;
+        append_line(columns, into)
     } else {
-        into.extend_from_slice(b"-\n")?;
+        into.extend_from_slice(b"-\n")
     }
-    Ok(())
 }
 
 /// Appends a character for each bit.
 fn append_bits(row: &[bool], into: &mut Vec<u8>) -> Result<(), AllocError>
     ensures ok { OnOk result (into.new.items ≡ into.old.items ++ map bit_char row.now) }
-    ensures kept { Extends into.old.items into.new.items }
+    ensures kept { Keeps into.old.items into.new.items }
 {
     for bit in row {
         into.push(if *bit { b'1' } else { b'0' })?;
@@ -54,7 +40,7 @@ fn append_bits(row: &[bool], into: &mut Vec<u8>) -> Result<(), AllocError>
 /// Appends the line of a row.
 fn append_row(columns: &[Name], row: &[bool], into: &mut Vec<u8>) -> Result<(), AllocError>
     ensures ok { OnOk result (into.new.items ≡ into.old.items ++ row_text columns.now row.now) }
-    ensures kept { Extends into.old.items into.new.items }
+    ensures kept { Keeps into.old.items into.new.items }
 {
     if has_columns(columns) {
         append_bits(row, into)?;
@@ -68,7 +54,7 @@ fn append_row(columns: &[Name], row: &[bool], into: &mut Vec<u8>) -> Result<(), 
 /// Appends the line of each row.
 fn append_rows(columns: &[Name], bits: &[Items<bool>], into: &mut Vec<u8>) -> Result<(), AllocError>
     ensures ok { OnOk result (into.new.items ≡ into.old.items ++ flat_map (row_text columns.now) bits.now) }
-    ensures kept { Extends into.old.items into.new.items }
+    ensures kept { Keeps into.old.items into.new.items }
 {
     for row in bits {
         append_row(columns, row.as_slice(), into)?;
@@ -80,7 +66,7 @@ fn append_rows(columns: &[Name], bits: &[Items<bool>], into: &mut Vec<u8>) -> Re
 #[tactic(auto, unfolding(crate::specs::RowsText::rows_text))]
 fn append_text(rows: &Rows, into: &mut Vec<u8>) -> Result<(), AllocError>
     ensures ok { OnOk result (into.new.items ≡ into.old.items ++ rows_text rows.now.columns rows.now.bits) }
-    ensures kept { Extends into.old.items into.new.items }
+    ensures kept { Keeps into.old.items into.new.items }
 {
     append_header(rows.columns.as_slice(), into)?;
     append_rows(rows.columns.as_slice(), rows.bits.as_slice(), into)

@@ -5,3 +5,5 @@
 mod base;
 #[cfg(test)]
 mod rows;
+#[cfg(test)]
+mod scan;

@@ -5,11 +5,6 @@ use Rattle.std.proofs.lemmas.List.Elements.{recursion_from_All}
 use Rattle.lid_base.specs.Lines.{logical_lines}
 use Rattle.lid_design.specs.declared.Design.{Design}
 use Rattle.lid_design.specs.Columns.{root_inputs, root_outputs}
-use Rattle.lid_design.specs.declared.Model.{Model}
-use Rattle.lid_design.specs.declared.Cell.{Cell}
-use Rattle.lid_design.specs.declared.Cell.TheVariants.{Names, Latch}
-use Rattle.lid_design.specs.WellFormed.{IsWellFormed, IsWellFormedCell}
-use Rattle.lid_blif.specs.WellFormed.{IsWellFormed as BlifFormed, IsWellFormedCell as BlifCell}
 use Rattle.lid_blif.specs.declared.fault.BlifFault.{BlifFault}
 use Rattle.lid_blif.specs.declared.fault.BlifFault.TheVariants as blif
 use Rattle.lid_blif.specs.Designs.{design_of}
@@ -110,25 +105,3 @@ vec_declines d bytes columns outs e c o (inr h) = rows_declined (vec_reading d b
 pub wide_rows : (r : Rows) (names : List (List ℕ)) → r.columns ≡ names → IsWide r → AllByRecursion (λ row. length row ≡ length names) r.bits
 wide_rows r names e h =
     subst (λ (l : List (List ℕ)). AllByRecursion (λ row. length row ≡ length l) r.bits) e (recursion_from_All (λ row. length row ≡ length r.columns) r.bits h)
-
--- each cell of a list that was read is well formed
-cells_formed : (cells : List Cell) → AllByRecursion BlifCell cells → AllByRecursion IsWellFormedCell cells
-cells_formed [] h = tt
-cells_formed (Names inputs out cover ∷ cells) h = (h.0, cells_formed cells h.1)
-cells_formed (Latch input out kind control init ∷ cells) h = (tt, cells_formed cells h.1)
-
-models_formed : (models : List Model) → AllByRecursion (λ m. AllByRecursion BlifCell m.cells) models → AllByRecursion (λ m. AllByRecursion IsWellFormedCell m.cells) models
-models_formed [] h = tt
-models_formed (m ∷ models) h = (cells_formed m.cells h.0, models_formed models h.1)
-
--- each design that is read is well formed
-pub formed : (d : Design) → BlifFormed d → IsWellFormed d
-formed d h =
-    let few : length d.models ≤ 4096 = h.few in
-    record {
-      rooted = h.rooted;
-      few = omega arith;
-      distinct = h.distinct;
-      insts = h.insts;
-      cells = models_formed d.models h.cells;
-    }

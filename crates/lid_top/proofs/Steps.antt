@@ -1,5 +1,5 @@
 -- How the steps of a script make the script.
-use Rattle.std.proofs.Common.{◌≡◌, ℕ, ◌≤◌, List, Option, Result, Ok, Err, inl, inr, refl, sym, subst, arith, IfOk, IfErr}
+use Rattle.std.proofs.Common.{◌≡◌, ℕ, ◌≤◌, List, Option, inl, inr, refl, sym, subst, arith}
 use Rattle.lid_base.specs.Outside.{Rose}
 use Rattle.lid_design.specs.declared.Design.{Design}
 use Rattle.lid_top.specs.declared.fault.Stop.{Stop}
@@ -11,14 +11,6 @@ use Rattle.lid_top.specs.Statuses.{HasText}
 -- a count that rose after it had grown
 pub rose_later : (a b c : ℕ) → a ≤ b → Rose b c → Rose a c
 rose_later a b c g r = omega (arith, g, r)
-
-pub if_ok : {A E : Type 0} {P Q : A → Type 0} → (r : Result A E) → ((a : A) → P a → Q a) → IfOk r P → IfOk r Q
-if_ok (Ok a) f h = f a h
-if_ok (Err e) f h = tt
-
-pub if_err : {A E : Type 0} {P Q : E → Type 0} → (r : Result A E) → ((e : E) → P e → Q e) → IfErr r P → IfErr r Q
-if_err (Ok a) f h = tt
-if_err (Err e) f h = f e h
 
 module _ {A : Type 0} (held : List ℕ → Option (List ℕ)) (name : List ℕ) (limit : ℕ) (read : List ℕ → Reading A) where
   pub got_it : (bytes : List ℕ) (a : A) → IsFetched held name limit bytes → read bytes ≡ good a → Got held name limit read a

@@ -10,7 +10,7 @@ use Rattle.lid_base.specs.declared.which.Which.TheVariants.{RootInsts, Depth, Ce
 use Rattle.lid_design.specs.declared.Design.{Design}
 use Rattle.lid_design.specs.Columns.{column}
 use Rattle.lid_design.specs.Models.{insts_of}
-use Rattle.lid_design.specs.Places.{Place as PlaceOf, places, model_nets, columns_at, columns, count_nets, count_cells, depth}
+use Rattle.lid_design.specs.Elaboration.{Instance as PlaceOf, instances, model_nets, columns_at, columns, count_nets, count_cells, depth}
 use Rattle.lid_rules.specs.declared.fault.CheckFault.TheVariants.{Limit}
 use Rattle.lid_rules.specs.Conditions.{limits, over}
 use Rattle.lid_wiring.specs.Judged.{IsJudged}
@@ -43,8 +43,8 @@ sum_same f g (x ∷ xs) same =
 nets_counted : (d : Design) → length (columns d) ≡ count_nets d
 unfolding columns count_nets
 nets_counted d =
-    length-flat_map (columns_at d) (places d)
-    ∙ sum_same (λ p. length (columns_at d p)) (λ (p : PlaceOf). length (model_nets d p.model)) (places d) (λ p. length-map (model_nets d p.model) (column p.path))
+    length-flat_map (columns_at d) (instances d)
+    ∙ sum_same (λ p. length (columns_at d p)) (λ (p : PlaceOf). length (model_nets d p.model)) (instances d) (λ p. length-map (model_nets d p.model) (column p.path))
 
 pub few_columns : (d : Design) → IsJudged d → length (columns d) ≤ 1048576
 few_columns d judged = let few = few_nets d (no_limit d judged.pass.ks judged.pass.after) in let same = nets_counted d in omega arith

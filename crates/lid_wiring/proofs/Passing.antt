@@ -8,9 +8,9 @@ use Rattle.lid_design.specs.declared.Model.{Model}
 use Rattle.lid_design.specs.declared.Inst.{Inst}
 use Rattle.lid_design.specs.declared.Bind.{Bind}
 use Rattle.lid_design.specs.Columns.{is_among, model_named, data_inputs}
-use Rattle.lid_design.specs.Models.{occurrences, is_port, driver_names, IsReached}
+use Rattle.lid_design.specs.Models.{occurrences, is_port, driver_names, IsReached, is_twice, formals}
 use Rattle.lid_rules.specs.declared.fault.CheckFault.{CheckFault}
-use Rattle.lid_rules.specs.Conditions.{or_fault, first_told, in_models, in_insts, in_known, is_twice, formals, is_undriven, is_misused, unknown_formal, unknown_formal_at, formal_twice, formal_twice_at, unbound, unbound_at, two_drivers, two_drivers_in, undriven, undriven_in, clock_use, clock_use_in, two_clocks, mixed_edges, root_logic, limits}
+use Rattle.lid_rules.specs.Conditions.{or_fault, first_told, in_models, in_insts, in_known, is_undriven, is_misused, unknown_formal, unknown_formal_at, formal_twice, formal_twice_at, unbound, unbound_at, two_drivers, two_drivers_in, undriven, undriven_in, clock_use, clock_use_in, two_clocks, mixed_edges, root_logic, limits}
 use Rattle.lid_rules.specs.Acceptance.{ModelsPass, fault_after_recursion}
 use Rattle.lid_wiring.proofs.Names.{none_found}
 

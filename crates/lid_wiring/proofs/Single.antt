@@ -18,8 +18,7 @@ use Rattle.lid_design.specs.declared.Inst.{Inst}
 use Rattle.lid_design.specs.declared.Bind.{Bind}
 use Rattle.lid_design.specs.Network.{Driver, from_connection}
 use Rattle.lid_design.specs.Columns.{Column, column, is_among, model_named, model_at, is_clock, data_inputs, first_bit, cell_at, output_at, actuals_of, port_at, drivers_in, drivers}
-use Rattle.lid_design.specs.Models.{occurrences, nets, port_drivers, inner_drivers, driver_names, read_by, read_names, actuals_bound_to, number_from, IsReached}
-use Rattle.lid_rules.specs.Conditions.{formals, formal_of}
+use Rattle.lid_design.specs.Models.{occurrences, nets, port_drivers, inner_drivers, driver_names, read_by, read_names, actuals_bound_to, number_from, IsReached, formals, formal_of}
 use Rattle.lid_names.proofs.Lists.{is_among_append, count_append}
 use Rattle.lid_wiring.specs.Locals.{Local, local_input, local_latch, local_cover, local_connection, NetLocal, inputs_from, local_of, output_of, outputs_of, inner_locals, locals, of_net, driver_at, driver_in, bound_pairs, first_name_of, actual_for}
 use Rattle.lid_wiring.specs.Judged.{IsJudged}

@@ -8,9 +8,9 @@ use Rattle.lid_design.specs.declared.Inst.{Inst}
 use Rattle.lid_design.specs.Network.{Driver}
 use Rattle.lid_design.specs.Columns.{Column, column, data_inputs, drivers}
 use Rattle.lid_design.specs.Walks.{IsDriven}
-use Rattle.lid_design.specs.Models.{insts_of, instance_number, number_named, number_from}
+use Rattle.lid_design.specs.Models.{insts_of, instance_number, number_named, number_from, data_inputs_of}
 use Rattle.lid_wiring.specs.Judged.{IsJudged}
-use Rattle.lid_wiring.specs.Locals.{Local, locals, of_net, driver_in, model_inputs, inst_at, driver_of, IsToldByModel}
+use Rattle.lid_wiring.specs.Locals.{Local, locals, of_net, driver_in, inst_at, driver_of, IsToldByModel}
 use Rattle.lid_wiring.proofs.Clocking.{named_model}
 use Rattle.lid_wiring.proofs.Wired.{Sub}
 use Rattle.lid_wiring.proofs.Single.{exactly_one, root_driven, inst_driven}
@@ -42,7 +42,7 @@ module _ (d : Design) (judged : IsJudged d) where
       sub : Sub d inst.0
       sub = record { number = at.number; names = inst.2; model = at.model; there = at.here; named = named_model d inst.0 at.number inst.2 ∙ at.here; reached = (c.path, at.leads) }
 
-      inputs : model_inputs d at.number ≡ data_inputs d at.model
+      inputs : data_inputs_of d at.number ≡ data_inputs d at.model
       inputs = ap (λ (o : Option Model). option_map_or (data_inputs d) o []) at.here
 
       seen : inst_at d i up ≡ Some inst.0
@@ -52,7 +52,7 @@ module _ (d : Design) (judged : IsJudged d) where
       by None e none = absurd (let f : None ≡ Some inst.0 = none in cc)
       by (Some body) e here = record {
         driver = driver_in up i inst.0 (data_inputs d at.model) l;
-        told = ap (option_map (λ inst. driver_in up i inst (model_inputs d at.number) l)) seen ∙ ap (λ (ns : List (List ℕ)). Some (driver_in up i inst.0 ns l)) inputs;
+        told = ap (option_map (λ inst. driver_in up i inst (data_inputs_of d at.number) l)) seen ∙ ap (λ (ns : List (List ℕ)). Some (driver_in up i inst.0 ns l)) inputs;
         only = inst_driven d judged around.0 (up, around.1) body e i inst.0 here sub up around.1 leads c.net at.net l one;
       }
 

@@ -13,8 +13,7 @@ use Rattle.lid_design.specs.declared.Cell.TheVariants.{Names, Latch}
 use Rattle.lid_design.specs.declared.Inst.{Inst}
 use Rattle.lid_design.specs.declared.Bind.{Bind}
 use Rattle.lid_design.specs.Columns.{is_among, model_named, is_clocked_by, is_own_clock, is_clock, data_inputs}
-use Rattle.lid_design.specs.Models.{occurrences, firsts, nets, is_port, port_drivers, inner_drivers, driver_names, driven_by, read_by, read_names, cell_out, cell_reads, cell_names, control_names, actual_of, actual_names, actuals_bound_to, number_named, insts_of, instance_number, number_from, IsReached}
-use Rattle.lid_rules.specs.Conditions.{formals}
+use Rattle.lid_design.specs.Models.{occurrences, firsts, nets, is_port, port_drivers, inner_drivers, driver_names, driven_by, read_by, read_names, cell_out, cell_reads, cell_names, control_names, actual_of, actual_names, actuals_bound_to, number_named, insts_of, instance_number, number_from, IsReached, formals}
 use Rattle.lid_wiring.specs.Judged.{IsJudged}
 use Rattle.lid_wiring.proofs.Names.{to_among, from_among}
 use Rattle.lid_wiring.proofs.Passing.{IsSound, sound_model}

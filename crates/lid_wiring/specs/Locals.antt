@@ -12,7 +12,7 @@ use Rattle.lid_design.specs.declared.Inst.{Inst}
 use Rattle.lid_design.specs.declared.Bind.{Bind}
 use Rattle.lid_design.specs.Network.{Driver, from_input, from_latch, from_cover, from_connection}
 use Rattle.lid_design.specs.Columns.{Column, column, is_among, model_named, data_inputs, first_bit, drivers}
-use Rattle.lid_design.specs.Models.{insts_of, number_from}
+use Rattle.lid_design.specs.Models.{insts_of, number_from, data_inputs_of}
 
 -- what drives a net inside its model; nets are told by their names, or by their places among the nets
 pub data Local (N : Type 0) : Type 0 where
@@ -85,10 +85,6 @@ driver_in path i inst inputs = resolved (λ j. from_connection (column path (act
 abbrev pub model_locals : Design → ℕ → List NetLocal
 model_locals d k = option_map_or (locals d) (slice_get d.models k) []
 
--- the data inputs of the model of a number
-abbrev pub model_inputs : Design → ℕ → List (List ℕ)
-model_inputs d k = option_map_or (data_inputs d) (slice_get d.models k) []
-
 -- an instance of the model at a path
 abbrev pub inst_at : Design → ℕ → List ℕ → Option Inst
 inst_at d i path = option_and_then (λ k. slice_get (insts_of d k) i) (number_from d d.root path)
@@ -96,7 +92,7 @@ inst_at d i path = option_and_then (λ k. slice_get (insts_of d k) i) (number_fr
 -- what it is at a path that leads to model k
 abbrev pub driver_of : Design → ℕ → List ℕ → Local (List ℕ) → Option (Driver Column)
 driver_of d k [] l = Some (driver_at [] l)
-driver_of d k (i ∷ path) l = option_map (λ inst. driver_in path i inst (model_inputs d k) l) (inst_at d i path)
+driver_of d k (i ∷ path) l = option_map (λ inst. driver_in path i inst (data_inputs_of d k) l) (inst_at d i path)
 
 -- a column has exactly one driver, and it is that of its net in the model that its path leads to
 pub record IsToldByModel (d : Design) (c : Column) : Type 0 where

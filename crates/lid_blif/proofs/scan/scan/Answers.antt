@@ -2,17 +2,17 @@ use Rattle.std.proofs.Common.{◌≡◌, sym, ◌∙◌, ap, refl, take, drop, a
 use Rattle.std.specs.Prelude.{ℕ, reverse, bytes_eq, None}
 use Rattle.std.specs.List.{list_any}
 use Rattle.std.specs.Borrow.{Bor}
-use Rattle.lid_blif.specs.declared.place.Place.{Place}
-use Rattle.lid_blif.specs.Faults.{place_of, model_names, line_fault, first_fault}
-use Rattle.lid_blif.proofs.Places.{before_more, none_from, first_left, first_fault_pass, rows_none, rows_cons, models_none, models_cons}
+use Rattle.lid_blif.specs.declared.context.Context.{Context}
+use Rattle.lid_blif.specs.Faults.{context_of, model_names, line_fault, first_fault}
+use Rattle.lid_blif.proofs.Contexts.{before_more, none_from, first_left, first_fault_pass, rows_none, rows_cons, models_none, models_cons}
 use Rattle.lid_blif.proofs.scan.scan.Goals as goal
 
 pub loop-line-init : goal.loop-line-init
 loop-line-init c = record {
-  place = c.start-place.ensures;
+  context = c.start-context.ensures;
   names = λ name. ap (list_any (λ (k : Bor (List ℕ)). bytes_eq name k.now)) c.new-names.ensures.empty;
-  rows = rows_none _ c.start-place.ensures;
-  models = models_none _ c.start-place.ensures;
+  rows = rows_none _ c.start-context.ensures;
+  models = models_none _ c.start-context.ensures;
   later = refl;
 }
 
@@ -27,14 +27,14 @@ loop-line-preserved c =
     let held = c.loop-line.invariant in
     let here = first_left (first_fault before) xs i x lt c.line-item.is in
     let none : c.line_fault.result ≡ None = none_from _ c.in_default.not-Some in
-    let clear : line_fault (place_of before) (model_names before) x ≡ None =
-    ap (λ p. line_fault p (model_names before) x) (sym held.place) ∙ sym (c.line_fault.ensures (model_names before) held.names) ∙ none in
+    let clear : line_fault (context_of before) (model_names before) x ≡ None =
+    ap (λ p. line_fault p (model_names before) x) (sym held.context) ∙ sym (c.line_fault.ensures (model_names before) held.names) ∙ none in
     let passed = first_fault_pass before x (drop (i + 1) xs) clear in
-    let placed = c.after-place.ensures before held.place in
+    let placed = c.after-context.ensures before held.context in
     record {
-      place = placed ∙ ap place_of (sym more);
+      context = placed ∙ ap context_of (sym more);
       names = λ name. c.in-Ok.ensures before held.names name ∙ ap (λ b. list_any (λ other. bytes_eq other name) (model_names b)) (sym more);
-      rows = omega (arith, rows_cons x before, ap (λ (p : Place). p.rows) placed, ap (λ (p : Place). p.rows) held.place);
-      models = omega (arith, models_cons x before, ap (λ (p : Place). p.models) placed, ap (λ (p : Place). p.models) held.place);
+      rows = omega (arith, rows_cons x before, ap (λ (p : Context). p.rows) placed, ap (λ (p : Context). p.rows) held.context);
+      models = omega (arith, models_cons x before, ap (λ (p : Context). p.models) placed, ap (λ (p : Context). p.models) held.context);
       later = ap (λ b. first_fault b (drop (i + 1) xs)) more ∙ sym passed ∙ sym here ∙ held.later;
     }

@@ -2,7 +2,8 @@ use Rattle.std.proofs.Common.{◌∷◌, ◌++◌, List, ℕ, ap, sym}
 use Rattle.std.specs.Prelude.{codes, map}
 use Rattle.lid_blifout.specs.Canonical.{bind_word}
 use Rattle.lid_blifout.specs.Pieces.{spaced_binds}
-use Rattle.lid_blifout.proofs.Lines.{line_made, appended, spaced_bound, said_as}
+use Rattle.lid_lines.proofs.Pieces.{line_made, appended, said_as}
+use Rattle.lid_blifout.proofs.Lines.{spaced_bound}
 use Rattle.lid_blifout.proofs.writer.append_inst.Goals as goal
 
 pub returns-clause-ok : goal.returns-clause-ok

@@ -1,8 +1,10 @@
 use Rattle.std.proofs.Common.{◌∷◌, [], ◌++◌, List, ℕ, ap, sym, ◌∙◌, append-nil}
 use Rattle.std.specs.Prelude.{codes}
-use Rattle.lid_blifout.specs.Canonical.{kind_words, init_word, line_text}
-use Rattle.lid_blifout.specs.Pieces.{spaced}
-use Rattle.lid_blifout.proofs.Lines.{line_made, appended, latch_said, said_as}
+use Rattle.lid_lines.specs.Texts.{line_text}
+use Rattle.lid_blifout.specs.Canonical.{kind_words, init_word}
+use Rattle.lid_lines.specs.Texts.{spaced}
+use Rattle.lid_lines.proofs.Pieces.{line_made, appended, said_as}
+use Rattle.lid_blifout.proofs.Lines.{latch_said}
 use Rattle.lid_blifout.proofs.writer.append_latch.Goals as goal
 
 pub returns-clause-ok : goal.returns-clause-ok

@@ -1,10 +1,11 @@
 use Rattle.std.proofs.Common.{◌≡◌, ◌++◌, take}
-use Rattle.lid_blifout.specs.Canonical.{lines_text, models_lines}
-use Rattle.lid_blifout.specs.Pieces.{Extends}
+use Rattle.lid_lines.specs.Texts.{lines_text}
+use Rattle.lid_blifout.specs.Canonical.{models_lines}
+use Rattle.lid_base.specs.Lists.{Keeps}
 use Rattle.lid_blifout.proofs.writer.append_models.Given as goal
 
 abbrev pub invariant-loop-model : goal.invariant-loop-model
 invariant-loop-model l = record {
   done : l.into.items ≡ l.fn.into.items ++ lines_text (models_lines (take l.model-index l.models));
-  kept : Extends l.fn.into.items l.into.items;
+  kept : Keeps l.fn.into.items l.into.items;
 }

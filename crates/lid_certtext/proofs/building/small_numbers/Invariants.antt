@@ -1,5 +1,5 @@
 use Rattle.std.proofs.Common.{◌≡◌, map, take}
-use Rattle.lid_certtext.specs.Texts.{value_below}
+use Rattle.lid_base.specs.Numbers.{value_below}
 use Rattle.lid_certtext.proofs.building.small_numbers.Given as goal
 
 abbrev pub invariant-loop-word : goal.invariant-loop-word

@@ -1,15 +1,12 @@
-use Rattle.std.proofs.Common.{◌≡◌, ℕ, List, Result, Ok, Err, IfOk, sym, subst}
+use Rattle.std.proofs.Common.{◌≡◌, ℕ, List, sym, subst}
 use Rattle.std.specs.List.{All}
 use Rattle.lid_base.specs.Lines.{logical_lines}
+use Rattle.lid_base.proofs.Results.{if_ok}
 use Rattle.lid_cert.specs.declared.cert.Cert.{Cert}
 use Rattle.lid_cert.specs.Certificates.{AreLists, IsInRange}
 use Rattle.lid_certtext.specs.Texts.{cert_of}
 use Rattle.lid_certtext.proofs.Read.{parts_of_range, parts_of_lists}
 use Rattle.lid_certtext.proofs.reader.read_cert.Goals as goal
-
-if_ok : {T E : Type 0} (r : Result T E) (P Q : T → Type 0) → ((x : T) → P x → Q x) → IfOk r P → IfOk r Q
-if_ok (Ok x) P Q f h = f x h
-if_ok (Err e) P Q f h = tt
 
 range_of : (bytes : List ℕ) (A : Type 0) (cert : Cert) → A × (cert ≡ cert_of bytes) → IsInRange cert
 unfolding cert_of
@@ -20,7 +17,7 @@ unfolding cert_of
 lists_of bytes A cert h = subst (λ (c : Cert). All AreLists c.parts) (sym h.1) (parts_of_lists (logical_lines bytes))
 
 pub returns-clause-range : goal.returns-clause-range
-returns-clause-range c = if_ok c.cert_from.result _ IsInRange (λ cert. range_of c.args.bytes.now _ cert) c.cert_from.ensures.ok
+returns-clause-range c = if_ok c.cert_from.result (λ cert. range_of c.args.bytes.now _ cert) c.cert_from.ensures.ok
 
 pub returns-clause-lists : goal.returns-clause-lists
-returns-clause-lists c = if_ok c.cert_from.result _ (λ cert. All AreLists cert.parts) (λ cert. lists_of c.args.bytes.now _ cert) c.cert_from.ensures.ok
+returns-clause-lists c = if_ok c.cert_from.result (λ cert. lists_of c.args.bytes.now _ cert) c.cert_from.ensures.ok

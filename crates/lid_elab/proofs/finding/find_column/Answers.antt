@@ -1,7 +1,7 @@
 use Rattle.std.proofs.Common.{◌≡◌, ◌<◌, Some, IfOk, length, reverse, slice_get, sym, subst}
 use Rattle.lid_design.specs.declared.Design.{Design}
 use Rattle.lid_design.specs.Columns.{column}
-use Rattle.lid_design.specs.Places.{columns}
+use Rattle.lid_design.specs.Elaboration.{columns}
 use Rattle.lid_elab.specs.Parts.{AreTemplates}
 use Rattle.lid_elab.proofs.finding.find_column.Goals as goal
 

@@ -2,7 +2,7 @@ use Rattle.std.proofs.Common.{◌≡◌, ◌<◌, ◌+◌, ◌++◌, ℕ, List, 
 use Rattle.std.specs.List.{All}
 use Rattle.std.proofs.lemmas.List.{length-map}
 use Rattle.lid_design.specs.Network.{Driver}
-use Rattle.lid_design.specs.Places.{model_nets}
+use Rattle.lid_design.specs.Elaboration.{model_nets}
 use Rattle.lid_elab.specs.Elaborations.{shown_driver}
 use Rattle.lid_elab.specs.Numbers.{start_of}
 use Rattle.lid_elab.specs.Templates.{seen_around}

@@ -2,7 +2,7 @@ use Rattle.std.proofs.Common.{◌≡◌, ◌+◌, ℕ, List, length, reverse, ta
 use Rattle.std.proofs.lemmas.List.{take_all}
 use Rattle.lid_design.specs.declared.Inst.{Inst}
 use Rattle.lid_design.specs.Models.{insts_of}
-use Rattle.lid_design.specs.Places.{model_nets}
+use Rattle.lid_design.specs.Elaboration.{model_nets}
 use Rattle.lid_elab.specs.Numbers.{over_insts, size_of, offset_of, weight_of}
 use Rattle.lid_elab.specs.Scopes.{AreNext, weights}
 use Rattle.lid_wiring.proofs.Shallow.{shallow_of}

@@ -3,7 +3,7 @@ use Rattle.std.specs.Str.{bytes_eq}
 use Rattle.lid_design.proofs.Reached.{root_reached}
 use Rattle.lid_design.specs.declared.Design.{Design}
 use Rattle.lid_design.specs.Models.{IsReached}
-use Rattle.lid_design.specs.Places.{model_nets}
+use Rattle.lid_design.specs.Elaboration.{model_nets}
 use Rattle.lid_wiring.specs.Judged.{IsJudged}
 use Rattle.lid_strict.proofs.Placing.{output_placed}
 use Rattle.lid_strict.proofs.whole.place_of.Goals as goal

@@ -1,7 +1,8 @@
 use Rattle.std.proofs.Common.{sym, subst}
 use Rattle.lid_design.specs.declared.Design.{Design}
 use Rattle.lid_hierarchy.specs.declared.survey.SurveyFault.{SurveyFault}
-use Rattle.lid_hierarchy.specs.Surveys.{AreKnown, IsFirstRecursive, IsSurveyFault}
+use Rattle.lid_design.specs.Models.{IsFirstRecursive}
+use Rattle.lid_hierarchy.specs.Surveys.{AreKnown, IsSurveyFault}
 use Rattle.lid_rules.specs.Acceptance.{fault_before_recursion}
 use Rattle.lid_rules.specs.Conditions.{duplicate_name, unknown_model}
 use Rattle.lid_rules.proofs.Passing.{known_by}

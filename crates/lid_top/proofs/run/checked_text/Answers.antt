@@ -1,6 +1,7 @@
 use Rattle.lid_design.specs.declared.Design.{Design}
 use Rattle.lid_top.specs.Scripts.{Script, check_script, rows_script}
-use Rattle.lid_top.proofs.Steps.{if_ok, if_err, text_checked, cause_checked, cause_unchecked}
+use Rattle.lid_base.proofs.Results.{if_ok, if_err}
+use Rattle.lid_top.proofs.Steps.{text_checked, cause_checked, cause_unchecked}
 use Rattle.lid_top.proofs.run.checked_text.Goals as goal
 
 pub returns-in-Ok-clause-ok : goal.returns-in-Ok-clause-ok

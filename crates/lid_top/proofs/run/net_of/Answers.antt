@@ -1,14 +1,11 @@
 use Rattle.std.proofs.Common.{subst, sym}
 use Rattle.lid_top.specs.Scripts.{net_reading}
 use Rattle.lid_top.specs.Causes.{Declines}
-use Rattle.lid_top.proofs.Readings.{net_good, net_declines, formed}
+use Rattle.lid_top.proofs.Readings.{net_good, net_declines}
 use Rattle.lid_top.proofs.run.net_of.Goals as goal
 
 pub returns-in-Ok-clause-ok : goal.returns-in-Ok-clause-ok
 returns-in-Ok-clause-ok c = net_good c.args.bytes.now c.in-Ok.design c.in-Ok.ensures.ok
-
-pub returns-in-Ok-clause-formed : goal.returns-in-Ok-clause-formed
-returns-in-Ok-clause-formed c = formed c.in-Ok.design c.in-Ok.ensures.formed
 
 pub returns-in-Err-clause-err : goal.returns-in-Err-clause-err
 returns-in-Err-clause-err c =

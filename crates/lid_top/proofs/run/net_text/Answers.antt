@@ -3,7 +3,8 @@ use Rattle.lid_top.specs.Scripts.{Script, net_limit, net_reading, check_script, 
 use Rattle.lid_top.specs.Causes.{IsCause}
 use Rattle.lid_top.specs.Statuses.{HasText}
 use Rattle.lid_design.specs.declared.Design.{Design}
-use Rattle.lid_top.proofs.Steps.{if_ok, if_err, text_after, cause_after, cause_here}
+use Rattle.lid_base.proofs.Results.{if_ok, if_err}
+use Rattle.lid_top.proofs.Steps.{text_after, cause_after, cause_here}
 use Rattle.lid_top.proofs.run.net_text.Goals as goal
 
 pub returns-in-Ok-clause-ok : goal.returns-in-Ok-clause-ok

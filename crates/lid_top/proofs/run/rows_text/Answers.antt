@@ -1,7 +1,8 @@
 use Rattle.std.proofs.Common.{Bool, List, refl}
 use Rattle.lid_top.specs.Outputs.{strict_output}
 use Rattle.lid_top.specs.Scripts.{Script, end, gives, rows_limit, vec_reading, rows_script}
-use Rattle.lid_top.proofs.Steps.{if_ok, if_err, text_after, cause_here, want_anywhere}
+use Rattle.lid_base.proofs.Results.{if_ok, if_err}
+use Rattle.lid_top.proofs.Steps.{text_after, cause_here, want_anywhere}
 use Rattle.lid_top.proofs.run.rows_text.Goals as goal
 
 pub returns-in-Ok-clause-ok : goal.returns-in-Ok-clause-ok

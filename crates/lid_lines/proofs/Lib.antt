@@ -1,0 +1,5 @@
+pub mod Numbers
+pub mod Pieces
+pub mod ReadBack
+pub mod ReadWords
+pub mod Spelled
