@@ -35,7 +35,8 @@ pub fn accept(alloc: Global, design: &Design) -> Result<Facts, CheckFault>
     ensures err { IfErr result (λ fault. (fault ≡ Memory) ⊎ IsRefusal design.now fault) }
 {
     let survey = check_models(alloc, design)?;
-    check_columns(alloc, &judge(survey))
+    let judged = judge(survey);
+    check_columns(alloc, &judged)
 }
 
 /// Judges the columns of a design that meets the conditions on models.

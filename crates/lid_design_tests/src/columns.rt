@@ -66,7 +66,10 @@ fn is_elaborated(alloc: Global, design: &Design, wanted: &str) -> Result<bool, A
     requires { IsWellFormed design.now }
 {
     match check_models(alloc, design) {
-        Ok(survey) => has_lines(alloc, &judge(survey), wanted),
+        Ok(survey) => {
+            let judged = judge(survey);
+            has_lines(alloc, &judged, wanted)
+        }
         Err(_) => Ok(false),
     }
 }

@@ -32,7 +32,9 @@ use Rattle.lid_elab.proofs.Placed.{net_right}
 use Rattle.lid_elab.proofs.Every.{driven_column}
 use Rattle.lid_strict.proofs.Descent.{walks_end}
 use Rattle.lid_strict.proofs.Levels.{model_order}
+use Rattle.lid_wiring.proofs.Told.{told_by_model}
 use Rattle.lid_strict.proofs.Outputs.{from_each_long}
+use Rattle.lid_strict.proofs.Tables.{once_by}
 
 known_of : (d : Design) → ModelsPass d → AreKnown d
 unfolding fault_before_recursion
@@ -107,15 +109,7 @@ module _ (d : Design) (judged : IsJudged d) where
   column_of = driven_column d judged
 
   driven_once : IsDrivenOnce (drivers d)
-  driven_once c = by (drivers d c) refl
-    where
-      by : (ss : List (Driver Column)) → drivers d c ≡ ss → length ss ≤ 1
-      by [] e = omega arith
-      by (s ∷ ss) e =
-          let some : IsDriven (drivers d) c = subst (λ (rs : List (Driver Column)). 0 < length rs) (sym e) (omega arith) in
-          let right = right_of c (column_of c some) in
-          let long = ap length (sym e ∙ right.1.only) in
-          omega arith
+  driven_once = once_by (drivers d) (λ c driven. let told = told_by_model d judged c driven in (told.driver, told.only))
 
   reads_driven : AreReadsDriven (drivers d)
   reads_driven c s a among read =

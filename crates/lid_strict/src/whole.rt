@@ -48,7 +48,8 @@ fn run(
     ensures { IfOk result (IsStrictOutput design.now rows.now) }
 {
     let survey = survey_passed(alloc, design)?;
-    run_judged(alloc, &judge(survey), rows)
+    let judged = judge(survey);
+    run_judged(alloc, &judged, rows)
 }
 
 /// What is found of the models of a design that meets the conditions on models.
