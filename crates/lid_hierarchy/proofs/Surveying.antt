@@ -1,5 +1,5 @@
 -- What a survey is made of.
-use Rattle.std.proofs.Common.{◌≡◌, ℕ, zero, suc, ◌<◌, Bool, false, not, cond, List, [], ◌∷◌, length, filter, get_or, Option, Some, None, slice_get, refl, sym, ◌∙◌, ap, subst, arith}
+use Rattle.std.proofs.Common.{◌≡◌, ℕ, zero, suc, ◌<◌, false, not, List, [], ◌∷◌, length, get_or, Option, Some, None, slice_get, refl, sym, ◌∙◌, ap, subst, arith}
 use Rattle.std.specs.Option.{option_map_or}
 use Rattle.lid_base.proofs.Lists.{filter_same}
 use Rattle.lid_digraph.specs.Graphs.{IsGraph}

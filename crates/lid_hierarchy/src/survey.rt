@@ -13,8 +13,8 @@ use crate::nets::find_nets;
 use crate::uses::Uses;
 use lid_base::Items;
 use lid_design::Design;
-use lid_names::NameSet;
 use lid_digraph::{Found, find_order};
+use lid_names::NameSet;
 use std::alloc::{AllocError, Global};
 use std::marker::Model;
 

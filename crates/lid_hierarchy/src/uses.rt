@@ -9,8 +9,8 @@ ghost use Rattle.lid_design.specs.WellFormed.{IsWellFormed};
 
 use lid_base::Items;
 use lid_design::{Design, Inst};
-use lid_names::NameSet;
 use lid_digraph::find_reaching;
+use lid_names::NameSet;
 use std::alloc::{AllocError, Global};
 use std::marker::Model;
 
