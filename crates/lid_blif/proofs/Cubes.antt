@@ -58,7 +58,7 @@ cubes_formed inputs (row ∷ rows) = (IsCube_cube_of inputs row, cubes_formed in
 
 names_formed : (words : List (List ℕ)) (rows : List Line) → inputs_of words ≤ 64 → IsWellFormedCell (names_cell words rows)
 names_formed words rows few =
-    let cover : IsCover (cover_of words rows) = record { width = omega arith; rows = cubes_formed (width_of words) rows } in
+    let cover : IsCover (cover_of words rows) = record { width = omega arith; cubes = cubes_formed (width_of words) rows } in
     let count : width_of words ≡ length (take (inputs_of words) (drop 1 words)) = simp (length-take, length-drop) (omega arith) in
     (cover, count)
 

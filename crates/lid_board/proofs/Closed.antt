@@ -9,9 +9,9 @@ use Rattle.atomic_table.specs.Seated.{TableId}
 use Rattle.atomic_table.specs.Table.{State}
 use Rattle.lid_station.specs.Boards.{Facts, fill, drain}
 use Rattle.lid_station.specs.Plain.{end_facts, plain_ends, Holds, PlainStands}
-use Rattle.lid_station.specs.PlainLaws.{ends-even, ends-odd}
+use Rattle.lid_station.specs.PlainLaws.{ends_even, ends_odd}
 use Rattle.lid_station.specs.declared.pair.Pair.{Pair}
-use Rattle.lid_station.proofs.PlainStations.{station_there}
+use Rattle.lid_station.proofs.PlainStations.{station_there, set_here, set_there}
 use Rattle.lid_board.specs.Closing.{CanRestore, IsRestored, Restored, number_at, closed_facts}
 use Rattle.lid_board.specs.Halves.{shown}
 use Rattle.lid_board.specs.Owners.{IsOwned}
@@ -74,18 +74,6 @@ small_more places place token there fits small k d inside =
     (λ hit. let e : get_or (set places place token) k d ≡ token = ap (λ (n : ℕ). get_or (set places place token) n d) hit ∙ get_or-set_same places place token d there in omega arith)
     (λ miss. let e = get_or-set_other places place k token d miss in let s = small k d (omega arith) in omega arith)
 
-pair_set : (pairs : List Pair) (i : ℕ) (q p : Pair) → slice_get (set pairs i q) i ≡ Some p → q ≡ p
-pair_set [] i q p e = absurd (cc)
-pair_set (x ∷ xs) zero q p e = same_Some q p e
-pair_set (x ∷ xs) (suc i) q p e = pair_set xs i q p e
-
-pair_else : (pairs : List Pair) (i j : ℕ) (q : Pair) → (j ≡ i → ⊥) → slice_get (set pairs i q) j ≡ slice_get pairs j
-pair_else [] i j q other = refl
-pair_else (x ∷ xs) zero zero q other = absurd (other refl)
-pair_else (x ∷ xs) zero (suc j) q other = refl
-pair_else (x ∷ xs) (suc i) zero q other = refl
-pair_else (x ∷ xs) (suc i) (suc j) q other = pair_else xs i j q (λ e. other (ap suc e))
-
 -- by other names of the numbers
 pub can_at : (words first put taken so_put so_taken : ℕ) (p : Pair) → so_put ≡ put → so_taken ≡ taken → CanRestore words first put taken p → CanRestore words first so_put so_taken p
 can_at words first put taken so_put so_taken p a b can =
@@ -102,7 +90,7 @@ restored_more words firsts numbers old now i put taken p q r at put_is taken_is 
       done = λ j x y below at_old at_new.
           dite (ℕ_discrete j i)
           (λ hit.
-          let new_is : q ≡ y = pair_set now i q y (ap (λ (n : ℕ). slice_get (set now i q) n) (sym hit) ∙ at_new) in
+          let new_is : q ≡ y = set_here now i q y (ap (λ (n : ℕ). slice_get (set now i q) n) (sym hit) ∙ at_new) in
           let old_is : p ≡ x = same_Some p x (sym at ∙ r.others i (omega arith) ∙ ap (slice_get old) (sym hit) ∙ at_old) in
           let here : IsRestored words (get_or firsts i 0) (number_at numbers (2 * i)) (number_at numbers (2 * i + 1)) (length x.places.items) y =
           subst (λ (z : Pair). IsRestored words (get_or firsts i 0) (number_at numbers (2 * i)) (number_at numbers (2 * i + 1)) (length x.places.items) z) new_is
@@ -110,16 +98,16 @@ restored_more words firsts numbers old now i put taken p q r at put_is taken_is 
           (subst (λ (n : ℕ). IsRestored words (get_or firsts i 0) n (number_at numbers (2 * i + 1)) (length p.places.items) q) put_is
           (subst (λ (n : ℕ). IsRestored words (get_or firsts i 0) put n (length p.places.items) q) taken_is one))) in
           subst (λ (n : ℕ). IsRestored words (get_or firsts n 0) (number_at numbers (2 * n)) (number_at numbers (2 * n + 1)) (length x.places.items) y) (sym hit) here)
-          (λ miss. r.done j x y (omega arith) at_old (sym (pair_else now i j q miss) ∙ at_new));
-      others = λ j past. pair_else now i j q (λ e. omega arith) ∙ r.others j (omega arith);
+          (λ miss. r.done j x y (omega arith) at_old (sym (set_there now i j q miss) ∙ at_new));
+      others = λ j past. set_there now i j q (λ e. omega arith) ∙ r.others j (omega arith);
     }
 
 -- what is known of an end by its parts
-facts_are : (cap passed : ℕ) (mark : Bool) (h : Held) → cap ≡ h.cap → passed ≡ h.passed → mark ≡ false → ◌≡◌ {A = Facts} (record { cap = cap; passed = passed; mark = mark; misses = None }) (closed_facts h)
+facts_are : (cap passed : ℕ) (mark : Bool) (h : Held) → cap ≡ h.cap → passed ≡ h.passed → mark ≡ false → ◌≡◌ {A = Facts} (record { cap = cap; start = 0; passed = passed; mark = mark; misses = None }) (closed_facts h)
 facts_are cap passed mark h a b c =
-    let A : ℕ → Facts = λ x. record { cap = x; passed = passed; mark = mark; misses = None } in
-    let B : ℕ → Facts = λ x. record { cap = h.cap; passed = x; mark = mark; misses = None } in
-    let C : Bool → Facts = λ x. record { cap = h.cap; passed = h.passed; mark = x; misses = None } in
+    let A : ℕ → Facts = λ x. record { cap = x; start = 0; passed = passed; mark = mark; misses = None } in
+    let B : ℕ → Facts = λ x. record { cap = h.cap; start = 0; passed = x; mark = mark; misses = None } in
+    let C : Bool → Facts = λ x. record { cap = h.cap; start = 0; passed = h.passed; mark = x; misses = None } in
     ap A a ∙ ap B b ∙ ap C c
 
 module _ {S : Type 0} (plan : Ends) (caps firsts : List ℕ) (table : TableId) (laid : IsLaid plan caps firsts table) (st : State S View) (id : ℕ) (v : View) (r : Related plan st)
@@ -205,12 +193,12 @@ module _ {S : Type 0} (plan : Ends) (caps firsts : List ℕ) (table : TableId) (
       dite (ℕ_discrete (end % 2) 0)
       (λ even.
       let number : end ≡ fill i = omega arith in
-      ends-even new end i number ∙ ap (option_map (end_facts true)) now.1
+      ends_even new end i number ∙ ap (option_map (end_facts true)) now.1
       ∙ ap (λ (f : Facts). Some f) (facts_are (length now.0.places.items) now.0.put now.0.room_seen (held v.ends (fill i)) one.size one.put one.no_room)
       ∙ ap (λ (e : ℕ). Some (closed_facts (held v.ends e))) (sym number))
       (λ odd.
       let number : end ≡ drain i = omega arith in
-      ends-odd new end i number ∙ ap (option_map (end_facts false)) now.1
+      ends_odd new end i number ∙ ap (option_map (end_facts false)) now.1
       ∙ ap (λ (f : Facts). Some f) (facts_are (length now.0.places.items) now.0.taken now.0.token_seen (held v.ends (drain i)) (one.size ∙ sym k.cap) one.taken one.no_token)
       ∙ ap (λ (e : ℕ). Some (closed_facts (held v.ends e))) (sym number))
 

@@ -8,7 +8,8 @@ use Rattle.lid_station.specs.Words.{half_of, word, word_number}
 use Rattle.lid_station.proofs.Words.{word_nothing, word_full_even, word_full_odd}
 use Rattle.lid_board.specs.Halves.{shown, others, filling}
 use Rattle.lid_board.specs.Relation.{Kept}
-use Rattle.lid_board.specs.Told.{ShowsNext, HasFullBits}
+use Rattle.lid_station.specs.Boards.{HasFullBits}
+use Rattle.lid_board.specs.Told.{ShowsNext}
 use Rattle.lid_board.specs.Views.{passing}
 use Rattle.lid_board.specs.declared.view.Held.{Held}
 use Rattle.lid_board.proofs.Halving.{shown_word, token-there, room-there, full_there}

@@ -1,5 +1,5 @@
 -- One station through each kind of step.
-use Rattle.std.proofs.Common.{◌≡◌, ℕ, ◌+◌, ◌/◌, ◌%◌, ◌<◌, ◌≤◌, false, List, length, get_or, take, set, sym, ◌∙◌, ap, arith, get_or-set_same, get_or-set_other}
+use Rattle.std.proofs.Common.{◌≡◌, ℕ, ◌+◌, ◌/◌, ◌%◌, ◌<◌, ◌≤◌, Bool, true, false, List, length, get_or, take, set, sym, ◌∙◌, ap, arith, get_or-set_same, get_or-set_other}
 use Rattle.std.specs.Prelude.{bit_and, bit_or}
 use Rattle.lid_station.specs.Words.{word}
 use Rattle.lid_board.specs.Halves.{others, filling}
@@ -10,8 +10,12 @@ use Rattle.lid_board.proofs.Halving.{taken_here, taken_else, put_here, put_else}
 use mathlib.Core.Logic.{dite}
 use native.Mathlib.Decide.{ℕ_discrete}
 
-pub kept_token : (words : List ℕ) (first : ℕ) (f d : Held) → Kept words first f d → d.passed < f.passed → Kept words first f (seen d)
-kept_token words first f d k some = record {
+-- a station at whose ends other things are seen and missed
+kept_as : (words : List ℕ) (first : ℕ) (f d : Held) (room token : Bool) (stops voids : ℕ) → Kept words first f d
+    → (token ≡ true → d.passed < f.passed) → (room ≡ true → f.passed < d.passed + f.cap)
+    → (d.passed < d.start → voids ≡ 0) → (f.passed < f.cap → stops ≡ 0)
+    → Kept words first (record f { mark = room; misses = stops }) (record d { mark = token; misses = voids })
+kept_as words first f d room token stops voids k token_seen room_seen token_early room_early = record {
   stream = k.stream;
   cap = k.cap;
   start = k.start;
@@ -24,112 +28,33 @@ kept_token words first f d k some = record {
   room = k.room;
   started = k.started;
   shows = k.shows;
-  token_seen = λ _. some;
-  room_seen = k.room_seen;
-  token_early = k.token_early;
-  room_early = k.room_early;
+  token_seen = token_seen;
+  room_seen = room_seen;
+  token_early = token_early;
+  room_early = room_early;
 }
+
+pub kept_token : (words : List ℕ) (first : ℕ) (f d : Held) → Kept words first f d → d.passed < f.passed → Kept words first f (seen d)
+kept_token words first f d k some = kept_as words first f d f.mark true f.misses d.misses k (λ _. some) k.room_seen k.token_early k.room_early
 
 pub kept_void : (words : List ℕ) (first : ℕ) (f d : Held) → Kept words first f d → f.passed ≤ d.passed → Kept words first f (missing d)
-kept_void words first f d k none = record {
-  stream = k.stream;
-  cap = k.cap;
-  start = k.start;
-  two = k.two;
-  few = k.few;
-  small = k.small;
-  short = k.short;
-  within = k.within;
-  ordered = k.ordered;
-  room = k.room;
-  started = k.started;
-  shows = k.shows;
-  token_seen = k.token_seen;
-  room_seen = k.room_seen;
-  token_early = λ early. (let more = k.started in let same = k.start in absurd (omega arith));
-  room_early = k.room_early;
-}
+kept_void words first f d k none =
+    kept_as words first f d f.mark d.mark f.misses (d.misses + 1) k k.token_seen k.room_seen
+    (λ early. (let more = k.started in let same = k.start in absurd (omega arith))) k.room_early
 
 pub kept_room : (words : List ℕ) (first : ℕ) (f d : Held) → Kept words first f d → f.passed < d.passed + f.cap → Kept words first (seen f) d
-kept_room words first f d k some = record {
-  stream = k.stream;
-  cap = k.cap;
-  start = k.start;
-  two = k.two;
-  few = k.few;
-  small = k.small;
-  short = k.short;
-  within = k.within;
-  ordered = k.ordered;
-  room = k.room;
-  started = k.started;
-  shows = k.shows;
-  token_seen = k.token_seen;
-  room_seen = λ _. some;
-  token_early = k.token_early;
-  room_early = k.room_early;
-}
+kept_room words first f d k some = kept_as words first f d true d.mark f.misses d.misses k k.token_seen (λ _. some) k.token_early k.room_early
 
 pub kept_stop : (words : List ℕ) (first : ℕ) (f d : Held) → Kept words first f d → d.passed + f.cap ≤ f.passed → Kept words first (missing f) d
-kept_stop words first f d k full = record {
-  stream = k.stream;
-  cap = k.cap;
-  start = k.start;
-  two = k.two;
-  few = k.few;
-  small = k.small;
-  short = k.short;
-  within = k.within;
-  ordered = k.ordered;
-  room = k.room;
-  started = k.started;
-  shows = k.shows;
-  token_seen = k.token_seen;
-  room_seen = k.room_seen;
-  token_early = k.token_early;
-  room_early = λ early. absurd (omega arith);
-}
+kept_stop words first f d k full =
+    kept_as words first f d f.mark d.mark (f.misses + 1) d.misses k k.token_seen k.room_seen k.token_early (λ early. absurd (omega arith))
 
 -- a hand lets go of what it has seen
 pub kept_unseen_in : (words : List ℕ) (first : ℕ) (f d : Held) → Kept words first f d → Kept words first f (record d { mark = false })
-kept_unseen_in words first f d k = record {
-  stream = k.stream;
-  cap = k.cap;
-  start = k.start;
-  two = k.two;
-  few = k.few;
-  small = k.small;
-  short = k.short;
-  within = k.within;
-  ordered = k.ordered;
-  room = k.room;
-  started = k.started;
-  shows = k.shows;
-  token_seen = λ e. absurd (cc);
-  room_seen = k.room_seen;
-  token_early = k.token_early;
-  room_early = k.room_early;
-}
+kept_unseen_in words first f d k = kept_as words first f d f.mark false f.misses d.misses k (λ e. absurd (cc)) k.room_seen k.token_early k.room_early
 
 pub kept_unseen_out : (words : List ℕ) (first : ℕ) (f d : Held) → Kept words first f d → Kept words first (record f { mark = false }) d
-kept_unseen_out words first f d k = record {
-  stream = k.stream;
-  cap = k.cap;
-  start = k.start;
-  two = k.two;
-  few = k.few;
-  small = k.small;
-  short = k.short;
-  within = k.within;
-  ordered = k.ordered;
-  room = k.room;
-  started = k.started;
-  shows = k.shows;
-  token_seen = k.token_seen;
-  room_seen = λ e. absurd (cc);
-  token_early = k.token_early;
-  room_early = k.room_early;
-}
+kept_unseen_out words first f d k = kept_as words first f d false d.mark f.misses d.misses k k.token_seen (λ e. absurd (cc)) k.token_early k.room_early
 
 -- a place's word is one of the station's
 pub place_within : (cap passed : ℕ) → 2 ≤ cap → passed % cap / 2 < words_of cap

@@ -71,7 +71,7 @@ module _ {S : Type 0} (plan : Ends) (slots id place : ℕ) (me : Me S View) (sta
           refl,
           record {
             right = record { stream = kept.stream ∙ k.stream; cap = kept.cap ∙ k.cap; early = is_early plan _ id _ next (set_here st.views id _ seat) };
-            void = λ _. record { now = refl; nothing = nothing; unseen = λ mark. (let some = kept.token_seen mark in omega arith) };
+            void = λ _. record { now = refl; nothing = nothing; started = (let more = kept.started in let same = kept.start in omega arith); unseen = λ mark. (let some = kept.token_seen mark in omega arith) };
             token = λ some. absurd (some zero_half);
             exact = λ g at_g. (let e = ap (λ (y : Held). y.passed) (own g at_g) in let o = kept.ordered in ((λ _. omega arith), (λ _. zero_half)));
           },

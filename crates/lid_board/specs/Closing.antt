@@ -10,9 +10,10 @@ use Rattle.lid_board.specs.declared.view.Held.{Held}
 abbrev pub number_at : List (Option ℕ) → ℕ → ℕ
 number_at numbers end = unwrap_or (slice_index_or numbers end None) 0
 
--- what is known at an end once the board is closed: nothing is seen, and misses are not counted
+-- what is known at an end once the board is closed: nothing is seen, the start count is not known,
+-- and misses are not counted
 abbrev pub closed_facts : Held → Facts
-closed_facts h = record { cap = h.cap; passed = h.passed; mark = false; misses = None }
+closed_facts h = record { cap = h.cap; start = 0; passed = h.passed; mark = false; misses = None }
 
 -- whether a plain station can hold what a station holds that so many tokens passed
 pub record CanRestore (words first so_put so_taken : ℕ) (p : Pair) : Type 0 where

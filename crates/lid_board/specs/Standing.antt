@@ -19,29 +19,29 @@ abbrev pub Admits : Ends → Ends → ℕ → ℕ → Type 0
 Admits plan ends station token =
     (f : Facts) → facts_at ends (fill station) ≡ Some f → slice_get (stream_of plan station) f.passed ≡ Some token
 
-option-there : {A : Type 0} (xs : List (Option A)) (i : ℕ) (x : A) → get_or xs i None ≡ Some x → i < length xs
-option-there [] i x e = absurd (cc)
-option-there (y ∷ ys) zero x e = omega arith
-option-there (y ∷ ys) (suc i) x e = let l = option-there ys i x e in omega arith
+option_there : {A : Type 0} (xs : List (Option A)) (i : ℕ) (x : A) → get_or xs i None ≡ Some x → i < length xs
+option_there [] i x e = absurd (cc)
+option_there (y ∷ ys) zero x e = omega arith
+option_there (y ∷ ys) (suc i) x e = let l = option_there ys i x e in omega arith
 
-passed-there : (o : Option Held) (f : Facts) → option_map facts o ≡ Some f → (n : ℕ) × (option_map (λ (h : Held). h.passed) o ≡ Some n)
-passed-there None f e = absurd (cc)
-passed-there (Some h) f e = (h.passed, refl)
+passed_there : (o : Option Held) (f : Facts) → option_map facts o ≡ Some f → (n : ℕ) × (option_map (λ (h : Held). h.passed) o ≡ Some n)
+passed_there None f e = absurd (cc)
+passed_there (Some h) f e = (h.passed, refl)
 
 -- an end of a hand is one of its board
-pub served-within : (board : Board) (hand : Hand) (end : ℕ) (f : Facts) → IsOf hand board → facts_at (ends_of hand) end ≡ Some f → end < length (plan_of board)
-served-within board hand end f of served =
-    let number = passed-there (at (ends_of hand) end) f served in
-    let inside = option-there hand.ends.items end number.0 (hand.tied end ∙ number.1) in
+pub served_within : (board : Board) (hand : Hand) (end : ℕ) (f : Facts) → IsOf hand board → facts_at (ends_of hand) end ≡ Some f → end < length (plan_of board)
+served_within board hand end f of served =
+    let number = passed_there (at (ends_of hand) end) f served in
+    let inside = option_there hand.ends.items end number.0 (hand.tied end ∙ number.1) in
     let room = of.room in
     let ends = board.laid.ends in
     omega arith
 
 -- the next token of the stream of a board's station is admitted
-pub attended-next : (board : Board) (hand : Hand) (of : IsOf hand board) (streams : ℕ → List ℕ) (station token : ℕ) (f : Facts)
+pub attended_next : (board : Board) (hand : Hand) (of : IsOf hand board) (streams : ℕ → List ℕ) (station token : ℕ) (f : Facts)
     → StandsFor (plan_of board) streams → facts_at (ends_of hand) (fill station) ≡ Some f → slice_get (streams station) f.passed ≡ Some token → Admits (plan_of board) (ends_of hand) station token
-attended-next board hand of streams station token f stands served next g at_g =
+attended_next board hand of streams station token f stands served next g at_g =
     let same : g ≡ f = same_Some g f (sym at_g ∙ served) in
     ap (λ (y : Facts). slice_get (stream_of (plan_of board) station) y.passed) same
-    ∙ ap (λ (s : List ℕ). slice_get s f.passed) (stands station (served-within board hand (fill station) f of served))
+    ∙ ap (λ (s : List ℕ). slice_get s f.passed) (stands station (served_within board hand (fill station) f of served))
     ∙ next

@@ -1,8 +1,6 @@
 -- What a step tells the hand that makes it.
-use Rattle.std.specs.Prelude.{◌≡◌, ℕ, ◌+◌, ◌-◌, ◌*◌, ◌/◌, ◌%◌, ◌^◌, ◌<◌, ◌≤◌, true, take, Some, slice_get}
-use Rattle.lid_station.specs.Boards.{Facts, fill, drain}
-use Rattle.lid_station.specs.declared.looks.OutLook.{OutLook}
-use Rattle.lid_station.specs.declared.looks.OutLook.TheVariants.{Room, Stop}
+use Rattle.std.specs.Prelude.{◌≡◌, ℕ, ◌+◌, ◌-◌, ◌^◌, ◌<◌, ◌≤◌, true, take, Some, slice_get}
+use Rattle.lid_station.specs.Boards.{fill, drain, HasFullBits}
 use Rattle.lid_station.specs.Words.{word, word_number}
 use Rattle.lid_board.specs.Halves.{shown}
 use Rattle.lid_board.specs.Relation.{stream_of, cap_of}
@@ -10,7 +8,7 @@ use Rattle.lid_board.specs.Views.{Ends, at, IsEarly, seen, missing, passing, cha
 use Rattle.lid_board.specs.declared.view.Held.{Held}
 
 -- an end is of the station of the plan, and the hand's ends stay early
-pub record IsRight (plan : Ends) (station : ℕ) (h : Held) (new : Ends) : Type 0 where
+pub record IsOnlyDriver (plan : Ends) (station : ℕ) (h : Held) (new : Ends) : Type 0 where
   pub stream : h.stream ≡ stream_of plan station
   pub cap : h.cap ≡ cap_of plan station
   pub early : IsEarly new
@@ -19,6 +17,7 @@ pub record IsRight (plan : Ends) (station : ℕ) (h : Held) (new : Ends) : Type 
 pub record FoundVoid (old : Ends) (station : ℕ) (d : Held) (found : ℕ) (new : Ends) : Type 0 where
   pub now : new ≡ changed old (drain station) (missing d)
   pub nothing : found ≡ 0
+  pub started : d.start ≤ d.passed
   pub unseen : d.mark ≡ true → ⊥
 
 -- a word shows the next token of a drained end
@@ -29,23 +28,12 @@ pub record ShowsNext (d : Held) (half : ℕ) : Type 0 where
 
 -- a load by the drainer
 pub record LooksIn (plan old : Ends) (station place : ℕ) (d : Held) (found : ℕ) (new : Ends) : Type 0 where
-  pub right : IsRight plan station d new
+  pub right : IsOnlyDriver plan station d new
   pub void : shown place found ≡ 0 → FoundVoid old station d found new
   pub token : (shown place found ≡ 0 → ⊥) → (new ≡ changed old (drain station) (seen d)) × ShowsNext d (shown place found)
   pub exact :
       (f : Held) → at old (fill station) ≡ Some f
       → (shown place found ≡ 0 → f.passed ≡ d.passed) × (f.passed ≡ d.passed → shown place found ≡ 0)
-
--- each place of a station's word of this number has its full bit there: bit 31 of an even place,
--- and bit 63 of an odd one, which the last word of an odd capacity has not
-pub record HasFullBits (cap number told : ℕ) : Type 0 where
-  pub even : told / 2147483648 % 2 ≡ 1
-  pub odd : 2 * number + 1 < cap → told / 9223372036854775808 % 2 ≡ 1
-
--- the word that is told of a station that holds its capacity has the full bit of each of its places
-abbrev pub TellsFull : OutLook → Facts → Type 0
-TellsFull Room f = Unit {0}
-TellsFull (Stop told) f = HasFullBits f.cap (word_number f.cap f.passed) told
 
 -- a load by the filler found no room
 pub record FoundStop (old : Ends) (station : ℕ) (f : Held) (found : ℕ) (new : Ends) : Type 0 where
@@ -57,7 +45,7 @@ pub record FoundStop (old : Ends) (station : ℕ) (f : Held) (found : ℕ) (new 
 
 -- a load by the filler
 pub record LooksOut (plan old : Ends) (station place : ℕ) (f : Held) (found : ℕ) (new : Ends) : Type 0 where
-  pub right : IsRight plan station f new
+  pub right : IsOnlyDriver plan station f new
   pub room : shown place found ≡ 0 → new ≡ changed old (fill station) (seen f)
   pub stop : (shown place found ≡ 0 → ⊥) → FoundStop old station f found new
   pub exact :
@@ -66,13 +54,13 @@ pub record LooksOut (plan old : Ends) (station place : ℕ) (f : Held) (found : 
 
 -- a `fetch_and` by the drainer
 pub record Takes (plan old : Ends) (station place : ℕ) (d : Held) (found : ℕ) (new : Ends) : Type 0 where
-  pub right : IsRight plan station d new
+  pub right : IsOnlyDriver plan station d new
   pub now : new ≡ changed old (drain station) (passing d)
   pub token : ShowsNext d (shown place found)
   pub counted : d.passed + 1 < 2 ^ 64
 
 -- a `fetch_or` by the filler
 pub record Puts (plan old : Ends) (station : ℕ) (f : Held) (new : Ends) : Type 0 where
-  pub right : IsRight plan station f new
+  pub right : IsOnlyDriver plan station f new
   pub now : new ≡ changed old (fill station) (passing f)
   pub counted : f.passed + 1 < 2 ^ 64

@@ -35,7 +35,7 @@ has end v = one_of (at v.ends end)
 
 -- what a trait of stations sees of an end
 abbrev pub facts : Held → Facts
-facts h = record { cap = h.cap; passed = h.passed; mark = h.mark; misses = Some h.misses }
+facts h = record { cap = h.cap; start = h.start; passed = h.passed; mark = h.mark; misses = Some h.misses }
 
 -- what a trait of stations sees of ends
 abbrev pub facts_at : Ends → ℕ → Option Facts

@@ -1,10 +1,7 @@
 //! A hand at its board.
 
-ghost use Rattle.std.specs.Prelude.{◌≡◌, ◌↔◌, ◌+◌, ◌*◌, ℕ, List, Some};
-ghost use Rattle.lid_station.specs.Boards.{Facts, fill, drain, Changes, looked_out, FindsOut, HasFilled, IsServed, IsMarked, IsRoom, IsStop};
 ghost use Rattle.lid_board.specs.Owners.{IsOf, ends_of, plan_of, identity_of};
-ghost use Rattle.lid_board.specs.Standing.{StandsFor, Admits, attended-next};
-ghost use Rattle.lid_board.specs.Told.{TellsFull};
+ghost use Rattle.lid_board.specs.Standing.{StandsFor, Admits, attended_next};
 ghost use Rattle.lid_board.specs.Views.{facts_at};
 
 use crate::board::Board;
@@ -37,18 +34,7 @@ impl<'b> Stations for Attended<'b> {
         self.board.look_in(self.hand, station)
     }
 
-    /// Looks for room, as any stations do. The word that `Stop` tells has the full bit of each place.
-    fn look_out(&mut self, station: u32) -> OutLook
-        requires { IsServed (facts_at (ends_of self.old.hand.now)) (fill station) }
-        ensures changed { Changes (facts_at (ends_of self.old.hand.now)) (fill station) (looked_out result) (facts_at (ends_of self.new.hand.now)) }
-        ensures found { (streams : ℕ → List ℕ) → (f : Facts) → StandsFor (plan_of self.old.board.now) streams → facts_at (ends_of self.old.hand.now) (fill station) ≡ Some f → FindsOut result f (streams station) }
-        ensures filled { (f : Facts) → facts_at (ends_of self.old.hand.now) (fill station) ≡ Some f → HasFilled result f }
-        ensures full { (f : Facts) → facts_at (ends_of self.old.hand.now) (fill station) ≡ Some f → TellsFull result f }
-        ensures again { IsMarked (facts_at (ends_of self.old.hand.now)) (fill station) → IsRoom result }
-        ensures exact { (f : Facts) → (d : Facts) → facts_at (ends_of self.old.hand.now) (fill station) ≡ Some f → facts_at (ends_of self.old.hand.now) (drain station) ≡ Some d → (IsStop result ↔ f.passed ≡ d.passed + f.cap) }
-        ensures kept { (streams : ℕ → List ℕ) → StandsFor (plan_of self.old.board.now) streams → StandsFor (plan_of self.new.board.now) streams }
-        ensures same { identity_of self.new.hand.ghost_name self.new.hand.now ≡ identity_of self.old.hand.ghost_name self.old.hand.now }
-    {
+    fn look_out(&mut self, station: u32) -> OutLook {
         self.board.look_out(self.hand, station)
     }
 
@@ -60,5 +46,5 @@ impl<'b> Stations for Attended<'b> {
         self.board.put(self.hand, station, token);
     }
 
-    ghost next_is_admitted = { λ a. attended-next a.board.now a.hand.now a.of_board };
+    ghost next_is_admitted = { λ a. attended_next a.board.now a.hand.now a.of_board };
 }

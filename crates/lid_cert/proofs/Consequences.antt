@@ -15,7 +15,7 @@ use Rattle.lid_graph.proofs.Journeys.{joined_step, joined_back}
 use Rattle.lid_cert.specs.declared.cert.Part.{Part}
 use Rattle.lid_cert.specs.declared.cert.Cert.{Cert}
 use Rattle.lid_cert.specs.Certificates.{has_node, lag_of, lead_of, depth_of, via_of, IsPart, IsVia, parts_with}
-use Rattle.lid_cert.specs.Laws.{Shows, EachIsShown, WalksHaveTokens, RatioIsShown, LagsAreShown, LeadsBoundFirings, LagsBoundFirings, CapsAreReached, quotient_up}
+use Rattle.lid_cert.specs.Laws.{Shows, EachIsShown, WalksMeetRatio, RatioIsShown, LagsAreShown, LeadsBoundFirings, LagsBoundFirings, CapsAreReached, quotient_up}
 use Rattle.lid_cert.proofs.Parts.{node_within, node_met, edge_met, stays_forth, stays_back, lag_along}
 
 part_of : (g : Graph) (cert : Cert) (part : Part) (v : ℕ) → Shows g cert part v → IsPart g part
@@ -217,7 +217,7 @@ each_is_shown g cert v paired certifies h =
     let found = some_passes (λ part. has_node part v) cert.parts (omega arith) in
     (found.0, record { paired = paired; certifies = certifies; stands = found.1; inside = found.2 })
 
-pub walks_have_tokens : WalksHaveTokens
+pub walks_have_tokens : WalksMeetRatio
 walks_have_tokens g cert part ks shows closed =
     let bound = walk_has_tokens g shows.paired part (part_of g cert part (walk_start g ks) shows) (λ v. 0) ks closed shows.inside in
     omega arith

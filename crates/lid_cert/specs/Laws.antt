@@ -21,8 +21,8 @@ abbrev pub EachIsShown : Type 0
 EachIsShown = (g : Graph) (cert : Cert) (v : ℕ) → IsPaired g → Certifies g cert → v < g.nodes → (part : Part) × Shows g cert part v
 
 -- each closed walk of a part has at least p tokens for q edges
-abbrev pub WalksHaveTokens : Type 0
-WalksHaveTokens =
+abbrev pub WalksMeetRatio : Type 0
+WalksMeetRatio =
     (g : Graph) (cert : Cert) (part : Part) (ks : List ℕ)
     → Shows g cert part (walk_start g ks)
     → IsClosedWalk g ks

@@ -1,7 +1,7 @@
 //! What follows from a certificate. Each function here does nothing; its contract is a law for all
 //! graphs and certificates.
 
-ghost use Rattle.lid_cert.specs.Laws.{EachIsShown, WalksHaveTokens, RatioIsShown, LagsAreShown, LeadsBoundFirings, LagsBoundFirings, CapsAreReached};
+ghost use Rattle.lid_cert.specs.Laws.{EachIsShown, WalksMeetRatio, RatioIsShown, LagsAreShown, LeadsBoundFirings, LagsBoundFirings, CapsAreReached};
 
 /// Each transition of a certified graph stands in a part.
 pub fn each_is_shown()
@@ -11,7 +11,7 @@ pub fn each_is_shown()
 /// Each closed walk of a part has `tokens*q >= p*edges`, and p/q is the ratio of its component. A lag
 /// is at least `p*edges - q*tokens` of each walk that ends at its transition.
 pub fn ratio_is_shown()
-    ensures walks { WalksHaveTokens }
+    ensures walks { WalksMeetRatio }
     ensures ratio { RatioIsShown }
     ensures lags { LagsAreShown }
 {}

@@ -12,13 +12,13 @@ use Rattle.lid_design.specs.declared.Design.{Design}
 use Rattle.lid_design.specs.Network.{Driver}
 use Rattle.lid_design.specs.Columns.{Column, column, drivers, model_at}
 use Rattle.lid_design.specs.Walks.{Feeds}
-use Rattle.lid_design.specs.Models.{number_from}
-use Rattle.lid_design.specs.Places.{model_nets, columns}
+use Rattle.lid_design.specs.Models.{number_from, data_inputs_of}
+use Rattle.lid_design.specs.Elaboration.{model_nets, columns}
 use Rattle.lid_design.specs.Loops.{IsInside, WalkInside, IsDependent}
 use Rattle.lid_digraph.specs.Graphs.{flag, WalkPast, IsReached}
 use Rattle.lid_elab.specs.Elaborations.{column_at, StartsAt, IsElaborated}
 use Rattle.lid_check.specs.declared.pearls.Pearl.{Pearl}
-use Rattle.lid_check.specs.Pearls.{inputs_of, number_in, IsInputOf, Fits, is_marked, LeadsTo, IsCutOff, AreReachedIn}
+use Rattle.lid_check.specs.Pearls.{number_in, IsInputOf, Fits, is_marked, LeadsTo, IsCutOff, AreReachedIn}
 use Rattle.lid_check.proofs.Numbered.{graph, graph_length, column_here, column_is, within, edge_down, edge_up, fed_number}
 use Rattle.lid_check.proofs.Geometry.{input_net, column_net}
 use Rattle.lid_check.proofs.Leads.{marked_number}
@@ -144,13 +144,13 @@ module _ (d : Design) (network : List (Driver ℕ)) (starts : List ℕ) (is : Is
       inside_own : (net : List ℕ) (k : ℕ) → number_in d pearl net ≡ Some k → IsInside pearl_path (column_at d k).path
       inside_own net k number = ([], ap (λ (c : Column). c.path) (at_path net k number))
 
-      output_column : (n : ℕ) (input output : List ℕ) → Among input (inputs_of d pearl.model) → WalkInside d pearl_path n (column pearl_path input) (column pearl_path output) → (k : ℕ) × (slice_get (columns d) k ≡ Some (column pearl_path output))
+      output_column : (n : ℕ) (input output : List ℕ) → Among input (data_inputs_of d pearl.model) → WalkInside d pearl_path n (column pearl_path input) (column pearl_path output) → (k : ℕ) × (slice_get (columns d) k ≡ Some (column pearl_path output))
       output_column zero input output among w =
           let number = net_number pearl_path pearl placed input (input_net d pearl.model input among) in
           (number.0, net_column pearl_path pearl placed input number.0 number.1 ∙ ap Some w.0)
       output_column (suc n) input output among w = fed_number d network starts is w.0 (column pearl_path output) w.2
 
-      depends_leads : (input output : List ℕ) → Among input (inputs_of d pearl.model) → IsDependent d pearl_path input output → LeadsTo d g cut pearl input output
+      depends_leads : (input output : List ℕ) → Among input (data_inputs_of d pearl.model) → IsDependent d pearl_path input output → LeadsTo d g cut pearl input output
       depends_leads input output among (n, w) =
           let to = output_column n input output among w in
           let k = to.0 in
@@ -178,7 +178,7 @@ module _ (d : Design) (network : List (Driver ℕ)) (starts : List ℕ) (is : Is
           (starting reached : List Bool)
           (are_starts : (k : ℕ) → (flag starting k ≡ true) ↔ IsInputOf d ps k)
           (are_reached : (k : ℕ) → k < length g → (flag reached k ≡ true) ↔ IsReached g cut starting k) where
-        reached_leads : (output : List ℕ) → is_marked d pearl reached output ≡ true → (input : List ℕ) × Among input (inputs_of d pearl.model) × LeadsTo d g cut pearl input output
+        reached_leads : (output : List ℕ) → is_marked d pearl reached output ≡ true → (input : List ℕ) × Among input (data_inputs_of d pearl.model) × LeadsTo d g cut pearl input output
         reached_leads output on =
             let to = marked_number reached (number_in d pearl output) on in
             let k = to.0 in
@@ -197,11 +197,11 @@ module _ (d : Design) (network : List (Driver ℕ)) (starts : List ℕ) (is : Is
             let begins : IsInside pearl_path where_other.0 = subst (λ (c : Column). IsInside pearl_path c.path) col_a (inside_start n (column_at d a) (column_at d k) inside) in
             let same_pearl : other ≡ pearl = where_other.3 begins in (
               input,
-              subst (λ (p : Pearl). Among input (inputs_of d p.model)) same_pearl start.2.1,
+              subst (λ (p : Pearl). Among input (data_inputs_of d p.model)) same_pearl start.2.1,
               (a, k, subst (λ (p : Pearl). number_in d p input ≡ Some a) same_pearl from, to.1, back.2),
             )
 
-        leads_reached : (output input : List ℕ) → Among input (inputs_of d pearl.model) → LeadsTo d g cut pearl input output → is_marked d pearl reached output ≡ true
+        leads_reached : (output input : List ℕ) → Among input (data_inputs_of d pearl.model) → LeadsTo d g cut pearl input output → is_marked d pearl reached output ≡ true
         leads_reached output input among (a, k, from, to, reaching) =
             let below : k < length network = below_end output k to in
             let long = graph_length d network starts is in

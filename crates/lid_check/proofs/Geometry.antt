@@ -14,9 +14,8 @@ use Rattle.lid_design.specs.declared.Inst.{Inst}
 use Rattle.lid_design.specs.Network.{Driver, from_input, from_latch, from_cover, from_connection}
 use Rattle.lid_design.specs.Columns.{Column, column, is_among, model_named, model_at, is_clock, data_inputs, first_bit, places_of, cell_at, output_at, actuals_of, port_at, drivers_in, drivers}
 use Rattle.lid_design.specs.Walks.{read_now, Feeds}
-use Rattle.lid_design.specs.Models.{cell_names, actual_names, occurrences, firsts, nets, insts_of, number_named, instance_number, number_from}
-use Rattle.lid_design.specs.Places.{Place, places_in, places, model_nets, columns_at, columns}
-use Rattle.lid_check.specs.Pearls.{inputs_of}
+use Rattle.lid_design.specs.Models.{cell_names, actual_names, occurrences, firsts, nets, insts_of, number_named, instance_number, number_from, data_inputs_of}
+use Rattle.lid_design.specs.Elaboration.{Instance, instances_in, instances, model_nets, columns_at, columns}
 
 -- a name that occurs is one of the first occurrences
 among_firsts : (x : List ℕ) (xs : List (List ℕ)) → Among x xs → Among x (firsts xs)
@@ -29,7 +28,7 @@ among_firsts x (y ∷ ys) (inr later) = by (bytes_eq x y) refl (among_firsts x y
     by false e among = inr (among_filter (λ other. not (bytes_eq other y)) x (firsts ys) among (ap not e))
 
 -- a data input is a net with a column
-pub input_net : (d : Design) (k : ℕ) (input : List ℕ) → Among input (inputs_of d k) → Among input (model_nets d k)
+pub input_net : (d : Design) (k : ℕ) (input : List ℕ) → Among input (data_inputs_of d k) → Among input (model_nets d k)
 unfolding data_inputs nets occurrences
 input_net d k input among = by (slice_get d.models k) among
   where
@@ -48,28 +47,28 @@ input_net d k input among = by (slice_get d.models k) among
 
 module _ (d : Design) where
   -- the number of the model of a place
-  place_number : (n : ℕ) (path : List ℕ) (k : ℕ) → number_from d d.root path ≡ Some k → (p : Place) → Among p (places_in n d path k) → number_from d d.root p.path ≡ Some p.model
+  place_number : (n : ℕ) (path : List ℕ) (k : ℕ) → number_from d d.root path ≡ Some k → (p : Instance) → Among p (instances_in n d path k) → number_from d d.root p.path ≡ Some p.model
   unfolding number_from
-  place_number zero path k leads p (inl e) = subst (λ (q : Place). number_from d d.root q.path ≡ Some q.model) (sym e) leads
+  place_number zero path k leads p (inl e) = subst (λ (q : Instance). number_from d d.root q.path ≡ Some q.model) (sym e) leads
   place_number zero path k leads p (inr none) = absurd none
-  place_number (suc n) path k leads p (inl e) = subst (λ (q : Place). number_from d d.root q.path ≡ Some q.model) (sym e) leads
+  place_number (suc n) path k leads p (inl e) = subst (λ (q : Instance). number_from d d.root q.path ≡ Some q.model) (sym e) leads
   place_number (suc n) path k leads p (inr among) =
-      let found = flat_among (λ q. option_map_or (places_in n d (q.0 ∷ path)) (number_named d q.1.model) []) p (enumerate_from 0 (insts_of d k)) among in
+      let found = flat_among (λ q. option_map_or (instances_in n d (q.0 ∷ path)) (number_named d q.1.model) []) p (enumerate_from 0 (insts_of d k)) among in
       let at = enumerate_among 0 (insts_of d k) found.0 found.1 in
       let number : found.0.0 ≡ at.0 = (let e = at.1 in omega arith) in
       let inst : instance_number d found.0.0 k ≡ number_named d found.0.1.model = ap (λ (i : ℕ). option_and_then (λ inst. number_named d inst.model) (slice_get (insts_of d k) i)) number ∙ ap (option_and_then (λ inst. number_named d inst.model)) at.2 in
       let there : number_from d d.root (found.0.0 ∷ path) ≡ number_named d found.0.1.model = ap (option_and_then (instance_number d found.0.0)) leads ∙ inst in
       by found.0.0 (number_named d found.0.1.model) there found.2 (place_number n (found.0.0 ∷ path))
     where
-      by : (i : ℕ) (o : Option ℕ) → number_from d d.root (i ∷ path) ≡ o → Among p (option_map_or (places_in n d (i ∷ path)) o []) → ((j : ℕ) → number_from d d.root (i ∷ path) ≡ Some j → (q : Place) → Among q (places_in n d (i ∷ path) j) → number_from d d.root q.path ≡ Some q.model) → number_from d d.root p.path ≡ Some p.model
+      by : (i : ℕ) (o : Option ℕ) → number_from d d.root (i ∷ path) ≡ o → Among p (option_map_or (instances_in n d (i ∷ path)) o []) → ((j : ℕ) → number_from d d.root (i ∷ path) ≡ Some j → (q : Instance) → Among q (instances_in n d (i ∷ path) j) → number_from d d.root q.path ≡ Some q.model) → number_from d d.root p.path ≡ Some p.model
       by i None there none next = absurd none
       by i (Some j) there here next = next j there p here
 
   -- the name of a column is a net of the model at its path
   pub column_net : (path net : List ℕ) (k : ℕ) → Among (column path net) (columns d) → number_from d d.root path ≡ Some k → Among net (model_nets d k)
-  unfolding columns places number_from
+  unfolding columns instances number_from
   column_net path net k among leads =
-      let found = flat_among (columns_at d) (column path net) (places d) among in
+      let found = flat_among (columns_at d) (column path net) (instances d) among in
       let at = map_among (column found.0.path) (column path net) (model_nets d found.0.model) found.2 in
       let number = place_number (length d.models) [] d.root refl found.0 found.1 in
       let path_is : path ≡ found.0.path = ap (λ (c : Column). c.path) at.2 in

@@ -9,7 +9,7 @@ use Rattle.lid_base.proofs.Lists.{get_among, among_get}
 use Rattle.lid_design.specs.declared.Design.{Design}
 use Rattle.lid_design.specs.declared.Model.{Model}
 use Rattle.lid_design.specs.Columns.{data_inputs}
-use Rattle.lid_design.specs.Models.{IsReached}
+use Rattle.lid_design.specs.Models.{IsReached, data_inputs_of}
 use Rattle.lid_design.specs.Loops.{pearls}
 use Rattle.lid_digraph.specs.Graphs.{flag, IsReaching}
 use Rattle.lid_rules.specs.declared.fault.CheckFault.{CheckFault}
@@ -18,7 +18,7 @@ use Rattle.lid_rules.specs.Acceptance.{ModelsPass}
 use Rattle.lid_check.specs.declared.outputs.Lead.{Lead}
 use Rattle.lid_check.specs.declared.pearls.Pearl.{Pearl}
 use Rattle.lid_check.specs.Acceptance.{DependsOn, HasNoDependence, StandsBefore, TellsDependence, IsRefusal}
-use Rattle.lid_check.specs.Pearls.{inputs_of, number_in, is_marked, Fits, IsFirstMarked, AreUnmarked, LeadsTo, AreReachedIn, AreCutOff, NoneLeads, IsFirstInput}
+use Rattle.lid_check.specs.Pearls.{number_in, is_marked, Fits, IsFirstMarked, AreUnmarked, LeadsTo, AreReachedIn, AreCutOff, NoneLeads, IsFirstInput}
 use Rattle.lid_check.specs.Flaws.{IsFirstLead, IsFirstDependence, TellsFlaw}
 
 pub marked_number : (marks : List Bool) (o : Option ℕ) → option_map_or (flag marks) o false ≡ true → (a : ℕ) × (o ≡ Some a) × (flag marks a ≡ true)
@@ -38,7 +38,7 @@ model_read d ms k m e same models is below =
     let all : ms ≡ d.models = models ∙ ap (λ (x : Design). x.models) same in
     slice_get_read d.models (length d.models) k m refl below (is ∙ ap (λ (xs : List Model). get_or xs k m) all)
 
-pub inputs_at : (d : Design) (k : ℕ) (m : Model) → slice_get d.models k ≡ Some m → inputs_of d k ≡ data_inputs d m
+pub inputs_at : (d : Design) (k : ℕ) (m : Model) → slice_get d.models k ≡ Some m → data_inputs_of d k ≡ data_inputs d m
 inputs_at d k m here = ap (λ (o : Option Model). option_map_or (data_inputs d) o []) here
 
 module _ (d : Design) (g : List (List ℕ)) (cut : List Bool) (pearl : Pearl) where
@@ -55,7 +55,7 @@ module _ (d : Design) (g : List (List ℕ)) (cut : List Bool) (pearl : Pearl) wh
         let end_is : k ≡ end = cc in
         ap (λ (o : Option ℕ). option_map_or (flag marks) o false) from ∙ (exact a).1 (subst (λ (x : ℕ). IsReaching g cut a x) end_is reaches)
 
-    pub first_leads : (i : ℕ) → IsFirstMarked d pearl marks (inputs_of d pearl.model) i → IsFirstInput d g cut pearl output i
+    pub first_leads : (i : ℕ) → IsFirstMarked d pearl marks (data_inputs_of d pearl.model) i → IsFirstInput d g cut pearl output i
     first_leads i first = record {
       input = first.name;
       here = first.here;
@@ -64,7 +64,7 @@ module _ (d : Design) (g : List (List ℕ)) (cut : List Bool) (pearl : Pearl) wh
     }
 
     -- where a data input leads to the output, one is marked
-    pub some_marked : ((input : List ℕ) × Among input (inputs_of d pearl.model) × LeadsTo d g cut pearl input output) → (input : List ℕ) × Among input (inputs_of d pearl.model) × (is_marked d pearl marks input ≡ true)
+    pub some_marked : ((input : List ℕ) × Among input (data_inputs_of d pearl.model) × LeadsTo d g cut pearl input output) → (input : List ℕ) × Among input (data_inputs_of d pearl.model) × (is_marked d pearl marks input ≡ true)
     some_marked (input, among, leads) = (input, among, leads_marked input leads)
 
   module _ (reached : List Bool) (are : AreReachedIn d g cut reached pearl) where
@@ -75,7 +75,7 @@ module _ (d : Design) (g : List (List ℕ)) (cut : List Bool) (pearl : Pearl) wh
         let on : true ≡ false = sym ((are output).1 (input, among, leads)) ∙ unmarked o output (subst (λ (x : Model). slice_get x.outputs o ≡ Some output) model out) in
         cc
 
-    pub unmarked_before : (m : Model) (o : ℕ) → IsFirstMarked d pearl reached m.outputs o → (j : ℕ) (input other : List ℕ) → j < o → slice_get m.outputs j ≡ Some other → Among input (inputs_of d pearl.model) → ¬ LeadsTo d g cut pearl input other
+    pub unmarked_before : (m : Model) (o : ℕ) → IsFirstMarked d pearl reached m.outputs o → (j : ℕ) (input other : List ℕ) → j < o → slice_get m.outputs j ≡ Some other → Among input (data_inputs_of d pearl.model) → ¬ LeadsTo d g cut pearl input other
     unmarked_before m o first j input other below there among leads =
         let on : true ≡ false = sym ((are other).1 (input, among, leads)) ∙ first.first j other below there in
         cc
@@ -111,11 +111,11 @@ module _ (d : Design) (g : List (List ℕ)) (cut reached : List Bool) (ps : List
           let is : pearl ≡ other = cc in
           subst (λ (x : Pearl). NoneLeads d g cut x) is none
 
-  depends_leads : (p o i : ℕ) (m : Model) (output input : List ℕ) → DependsOn d p o i m output input → (pearl : Pearl) → slice_get ps p ≡ Some pearl → (slice_get d.models pearl.model ≡ Some m) × Among input (inputs_of d pearl.model) × LeadsTo d g cut pearl input output
+  depends_leads : (p o i : ℕ) (m : Model) (output input : List ℕ) → DependsOn d p o i m output input → (pearl : Pearl) → slice_get ps p ≡ Some pearl → (slice_get d.models pearl.model ≡ Some m) × Among input (data_inputs_of d pearl.model) × LeadsTo d g cut pearl input output
   depends_leads p o i m output input on pearl here =
       let off = apart.each p on.path pearl on.pearl here in
       let model : slice_get d.models pearl.model ≡ Some m = sym off.model ∙ on.model in
-      let among : Among input (inputs_of d pearl.model) = subst (λ (xs : List (List ℕ)). Among input xs) (sym (inputs_at d pearl.model m model)) (get_among (data_inputs d m) i input on.given) in
+      let among : Among input (data_inputs_of d pearl.model) = subst (λ (xs : List (List ℕ)). Among input xs) (sym (inputs_at d pearl.model m model)) (get_among (data_inputs d m) i input on.given) in
       (model, among, (off.exact input output among).0 on.walk)
 
   pub none_depends : ((p : ℕ) (pearl : Pearl) → slice_get ps p ≡ Some pearl → NoneLeads d g cut pearl) → HasNoDependence d
@@ -143,12 +143,12 @@ module _ (d : Design) (g : List (List ℕ)) (cut reached : List Bool) (ps : List
           model = off.model ∙ told.here;
           out = told.out;
           given = subst (λ (xs : List (List ℕ)). slice_get xs lead.input ≡ Some input) inputs told.leads.here;
-          walk = (off.exact input told.output (get_among (inputs_of d pearl.model) lead.input input told.leads.here)).1 told.leads.on;
+          walk = (off.exact input told.output (get_among (data_inputs_of d pearl.model) lead.input input told.leads.here)).1 told.leads.on;
         };
         first = earlier;
       }
     where
-      same_pearl : (q o i : ℕ) (m : Model) (output input : List ℕ) → DependsOn d q o i m output input → q ≡ p → (slice_get d.models pearl.model ≡ Some m) × Among input (inputs_of d pearl.model) × LeadsTo d g cut pearl input output
+      same_pearl : (q o i : ℕ) (m : Model) (output input : List ℕ) → DependsOn d q o i m output input → q ≡ p → (slice_get d.models pearl.model ≡ Some m) × Among input (data_inputs_of d pearl.model) × LeadsTo d g cut pearl input output
       same_pearl q o i m output input on same = depends_leads q o i m output input on pearl (ap (slice_get ps) same ∙ here)
 
       model_is : (m : Model) → slice_get d.models pearl.model ≡ Some m → m ≡ told.m
@@ -166,11 +166,11 @@ module _ (d : Design) (g : List (List ℕ)) (cut reached : List Bool) (ps : List
           let leads = same_pearl q o i m output input on same in
           let out : Some output ≡ Some told.output = sym (subst (λ (x : Model). slice_get x.outputs o ≡ Some output) (model_is m leads.0) on.out) ∙ ap (slice_get told.m.outputs) output_same ∙ told.out in
           let output_is : output ≡ told.output = cc in
-          let given : slice_get (inputs_of d pearl.model) i ≡ Some input = subst (λ (xs : List (List ℕ)). slice_get xs i ≡ Some input) (sym (inputs_at d pearl.model m leads.0)) on.given in
+          let given : slice_get (data_inputs_of d pearl.model) i ≡ Some input = subst (λ (xs : List (List ℕ)). slice_get xs i ≡ Some input) (sym (inputs_at d pearl.model m leads.0)) on.given in
           told.leads.first i input below given (subst (λ (x : List ℕ). LeadsTo d g cut pearl input x) output_is leads.2)
 
 -- the first output that depends on an input, told by names
-pub tells_dependence : (d : Design) (lead : Lead) (first : IsFirstDependence d lead) (name output input : List ℕ) → name ≡ first.m.name → slice_get first.m.outputs lead.output ≡ Some output → slice_get (inputs_of d lead.model) lead.input ≡ Some input → TellsDependence d (OutputFromInput name output input)
+pub tells_dependence : (d : Design) (lead : Lead) (first : IsFirstDependence d lead) (name output input : List ℕ) → name ≡ first.m.name → slice_get first.m.outputs lead.output ≡ Some output → slice_get (data_inputs_of d lead.model) lead.input ≡ Some input → TellsDependence d (OutputFromInput name output input)
 tells_dependence d lead first name output input named out given =
     let out_same : Some output ≡ Some first.output = sym out ∙ first.on.out in
     let output_is : output ≡ first.output = cc in

@@ -12,4 +12,3 @@ pub from_numbers : (x : ℕ) (xs : List ℕ) → Among x xs → Among x xs
 from_numbers x [] among = among
 from_numbers x (y ∷ ys) (inl same) = inl same
 from_numbers x (y ∷ ys) (inr later) = inr (from_numbers x ys later)
-

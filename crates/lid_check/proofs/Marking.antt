@@ -6,10 +6,10 @@ use Rattle.lid_base.proofs.Lists.{among_left, among_right, among_last, among_pus
 use Rattle.lid_design.specs.declared.Design.{Design}
 use Rattle.lid_design.specs.declared.Model.{Model}
 use Rattle.lid_design.specs.Columns.{is_clock, data_inputs}
-use Rattle.lid_design.specs.Models.{IsReached, is_clock_of, instance_number, number_from}
+use Rattle.lid_design.specs.Models.{IsReached, is_clock_of, instance_number, number_from, data_inputs_of}
 use Rattle.lid_digraph.specs.Graphs.{flag}
 use Rattle.lid_check.specs.declared.pearls.Pearl.{Pearl}
-use Rattle.lid_check.specs.Pearls.{inputs_of, number_in, IsNumberOf, IsInputOf}
+use Rattle.lid_check.specs.Pearls.{number_in, IsNumberOf, IsInputOf}
 
 -- one net more is marked
 pub nets_more : (d : Design) (pearl : Pearl) (names : List (List ℕ)) (net : List ℕ) (old mid new : List Bool) → ((k : ℕ) → (flag mid k ≡ true) ↔ ((flag old k ≡ true) ⊎ IsNumberOf d pearl names k)) → ((k : ℕ) → (flag new k ≡ true) ↔ ((flag mid k ≡ true) ⊎ (number_in d pearl net ≡ Some k))) → (k : ℕ) → (flag new k ≡ true) ↔ ((flag old k ≡ true) ⊎ IsNumberOf d pearl (names ++ net ∷ []) k)
@@ -35,23 +35,23 @@ nets_more d pearl names net old mid new before step k = (to, from)
     from (inr here) = which here.0 here.2 (among_push here.0 net names here.1)
 
 -- the data inputs of one pearl more are marked
-pub inputs_more : (d : Design) (ps : List Pearl) (pearl : Pearl) (old mid new : List Bool) → ((k : ℕ) → (flag mid k ≡ true) ↔ ((flag old k ≡ true) ⊎ IsInputOf d ps k)) → ((k : ℕ) → (flag new k ≡ true) ↔ ((flag mid k ≡ true) ⊎ IsNumberOf d pearl (inputs_of d pearl.model) k)) → (k : ℕ) → (flag new k ≡ true) ↔ ((flag old k ≡ true) ⊎ IsInputOf d (ps ++ pearl ∷ []) k)
+pub inputs_more : (d : Design) (ps : List Pearl) (pearl : Pearl) (old mid new : List Bool) → ((k : ℕ) → (flag mid k ≡ true) ↔ ((flag old k ≡ true) ⊎ IsInputOf d ps k)) → ((k : ℕ) → (flag new k ≡ true) ↔ ((flag mid k ≡ true) ⊎ IsNumberOf d pearl (data_inputs_of d pearl.model) k)) → (k : ℕ) → (flag new k ≡ true) ↔ ((flag old k ≡ true) ⊎ IsInputOf d (ps ++ pearl ∷ []) k)
 inputs_more d ps pearl old mid new before step k = (to, from)
   where
     first : (flag old k ≡ true) ⊎ IsInputOf d ps k → (flag old k ≡ true) ⊎ IsInputOf d (ps ++ pearl ∷ []) k
     first (inl on) = inl on
     first (inr here) = inr (here.0, among_left here.0 ps (pearl ∷ []) here.1, here.2)
 
-    next : (flag mid k ≡ true) ⊎ IsNumberOf d pearl (inputs_of d pearl.model) k → (flag old k ≡ true) ⊎ IsInputOf d (ps ++ pearl ∷ []) k
+    next : (flag mid k ≡ true) ⊎ IsNumberOf d pearl (data_inputs_of d pearl.model) k → (flag old k ≡ true) ⊎ IsInputOf d (ps ++ pearl ∷ []) k
     next (inl on) = first ((before k).0 on)
     next (inr here) = inr (pearl, among_last pearl ps, here)
 
     to : flag new k ≡ true → (flag old k ≡ true) ⊎ IsInputOf d (ps ++ pearl ∷ []) k
     to on = next ((step k).0 on)
 
-    which : (p : Pearl) → IsNumberOf d p (inputs_of d p.model) k → Among p ps ⊎ (p ≡ pearl) → flag new k ≡ true
+    which : (p : Pearl) → IsNumberOf d p (data_inputs_of d p.model) k → Among p ps ⊎ (p ≡ pearl) → flag new k ≡ true
     which p number (inl among) = (step k).1 (inl ((before k).1 (inr (p, among, number))))
-    which p number (inr same) = (step k).1 (inr (subst (λ (x : Pearl). IsNumberOf d x (inputs_of d x.model) k) same number))
+    which p number (inr same) = (step k).1 (inr (subst (λ (x : Pearl). IsNumberOf d x (data_inputs_of d x.model) k) same number))
 
     from : (flag old k ≡ true) ⊎ IsInputOf d (ps ++ pearl ∷ []) k → flag new k ≡ true
     from (inl on) = (step k).1 (inl ((before k).1 (inl on)))
@@ -65,13 +65,13 @@ get_push (z ∷ xs) y zero x here = inl here
 get_push (z ∷ xs) y (suc j) x here = elim (get_push xs y j x here) [ inl old ↦ inl old | inr new ↦ inr (ap suc new.0, new.1) ]
 
 -- the data inputs of a model, without its clock names
-pub inputs_some : (d : Design) (k : ℕ) (m : Model) → slice_get d.models k ≡ Some m → filter (λ net. not (is_clock_of d k net)) m.inputs ≡ inputs_of d k
+pub inputs_some : (d : Design) (k : ℕ) (m : Model) → slice_get d.models k ≡ Some m → filter (λ net. not (is_clock_of d k net)) m.inputs ≡ data_inputs_of d k
 unfolding data_inputs
 inputs_some d k m here =
     ap (λ (o : Option Model). filter (λ net. not (option_map_or (λ (n : Model). is_clock d n net) o false)) m.inputs) here
     ∙ ap (λ (o : Option Model). option_map_or (data_inputs d) o []) (sym here)
 
-pub inputs_none : (d : Design) (k : ℕ) → slice_get d.models k ≡ None → inputs_of d k ≡ []
+pub inputs_none : (d : Design) (k : ℕ) → slice_get d.models k ≡ None → data_inputs_of d k ≡ []
 inputs_none d k none = ap (λ (o : Option Model). option_map_or (data_inputs d) o []) none
 
 -- a list of pearls for instances, and one more

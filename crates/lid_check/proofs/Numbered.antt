@@ -8,7 +8,7 @@ use Rattle.lid_design.specs.declared.Design.{Design}
 use Rattle.lid_design.specs.Network.{Driver, from_input, from_latch, from_cover, from_connection}
 use Rattle.lid_design.specs.Columns.{Column, column, drivers}
 use Rattle.lid_design.specs.Walks.{read_now, read_before, Feeds, Walk as WalkOf}
-use Rattle.lid_design.specs.Places.{columns}
+use Rattle.lid_design.specs.Elaboration.{columns}
 use Rattle.lid_design.specs.Loops.{IsOnLoop as IsColumnOnLoop, HasNoLoop as HasNoColumnLoop}
 use Rattle.lid_digraph.specs.Graphs.{reads_at, IsGraph, Walk, IsOnLoop, HasNoLoop}
 use Rattle.lid_digraph.specs.Results.{IsLeastOnLoop}

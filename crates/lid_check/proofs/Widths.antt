@@ -12,15 +12,15 @@ use Rattle.lid_base.proofs.Lists.{among_left, among_right, among_filter, same_by
 use Rattle.lid_design.specs.declared.Design.{Design}
 use Rattle.lid_design.specs.declared.Model.{Model}
 use Rattle.lid_design.specs.Columns.{is_among, is_clock, root_outputs}
-use Rattle.lid_design.specs.Models.{occurrences, firsts, nets, read_names, inner_drivers, insts_of, number_named, number_from, IsReached}
-use Rattle.lid_design.specs.Places.{Place, place, places, places_in, model_nets, count_nets}
+use Rattle.lid_design.specs.Models.{occurrences, firsts, nets, read_names, inner_drivers, insts_of, number_named, number_from, IsReached, is_twice}
+use Rattle.lid_design.specs.Elaboration.{Instance, instance, instances, instances_in, model_nets, count_nets}
 use Rattle.lid_design.specs.WellFormed.{IsWellFormed}
-use Rattle.lid_rules.specs.Conditions.{is_twice, is_duplicate, duplicate_in, duplicate_name, unknown_model}
+use Rattle.lid_rules.specs.Conditions.{is_duplicate, duplicate_in, duplicate_name, unknown_model}
 use Rattle.lid_rules.specs.Acceptance.{ModelsPass, fault_before_recursion}
-use Rattle.lid_elab.proofs.Names.{to_among, from_among, none_found, count-cons, count_some}
-use Rattle.lid_elab.proofs.Passing.{IsSound, sound_model, or_none, none_told, map_none}
-use Rattle.lid_elab.proofs.Wired.{firsts_among}
-use Rattle.lid_elab.proofs.Judged.{no_limit, few_nets}
+use Rattle.lid_wiring.proofs.Names.{to_among, from_among, none_found, count-cons, count_some}
+use Rattle.lid_wiring.proofs.Passing.{IsSound, sound_model, or_none, none_told, map_none, no_limit}
+use Rattle.lid_wiring.proofs.Wired.{firsts_among}
+use Rattle.lid_wiring.proofs.Limits.{few_nets}
 
 -- an output occurs, and is read
 output_occurs : (m : Model) (net : List ℕ) → Among net m.outputs → Among net (occurrences m)
@@ -122,16 +122,16 @@ outputs_few d pass k m reached here =
     (λ q among. from_among q (nets d m) (output_net d m (sound_model d pass k m reached here) q (to_among q m.outputs among)))
 
 -- the nets of the root are some of the columns
-first : (d : Design) (k : ℕ) (ps : List Place) → length (model_nets d k) ≤ sum_by (λ (p : Place). length (model_nets d p.model)) (place [] k ∷ ps)
-first d k ps = let e = sum_by-cons (λ (p : Place). length (model_nets d p.model)) (place [] k) ps in omega arith
+first : (d : Design) (k : ℕ) (ps : List Instance) → length (model_nets d k) ≤ sum_by (λ (p : Instance). length (model_nets d p.model)) (instance [] k ∷ ps)
+first d k ps = let e = sum_by-cons (λ (p : Instance). length (model_nets d p.model)) (instance [] k) ps in omega arith
 
-root_counted : (n : ℕ) (d : Design) (k : ℕ) → length (model_nets d k) ≤ sum_by (λ (p : Place). length (model_nets d p.model)) (places_in n d [] k)
+root_counted : (n : ℕ) (d : Design) (k : ℕ) → length (model_nets d k) ≤ sum_by (λ (p : Instance). length (model_nets d p.model)) (instances_in n d [] k)
 root_counted zero d k = first d k []
-root_counted (suc n) d k = first d k (flat_map (λ p. option_map_or (places_in n d (p.0 ∷ [])) (number_named d p.1.model) []) (enumerate_from 0 (insts_of d k)))
+root_counted (suc n) d k = first d k (flat_map (λ p. option_map_or (instances_in n d (p.0 ∷ [])) (number_named d p.1.model) []) (enumerate_from 0 (insts_of d k)))
 
 -- an accepted design has at most as many outputs as columns
 pub few_outputs : (d : Design) → IsWellFormed d → ModelsPass d → length (root_outputs d) ≤ 1048576
-unfolding count_nets places number_from
+unfolding count_nets instances number_from
 few_outputs d formed pass = by (slice_get d.models d.root) refl
   where
     by : (o : Option Model) → slice_get d.models d.root ≡ o → length (option_map_or (λ m. m.outputs) o []) ≤ 1048576

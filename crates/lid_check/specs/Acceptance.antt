@@ -4,7 +4,7 @@ use Rattle.lid_design.specs.declared.Design.{Design}
 use Rattle.lid_design.specs.declared.Model.{Model}
 use Rattle.lid_design.specs.Columns.{Column, data_inputs, model_at}
 use Rattle.lid_design.specs.Models.{number_named}
-use Rattle.lid_design.specs.Places.{columns}
+use Rattle.lid_design.specs.Elaboration.{columns}
 use Rattle.lid_design.specs.Loops.{IsOnLoop, HasNoLoop, pearls, IsDependent}
 use Rattle.lid_rules.specs.declared.fault.CheckFault.{CheckFault}
 use Rattle.lid_rules.specs.declared.fault.CheckFault.TheVariants.{NoRoot, CombLoop, OutputFromInput}

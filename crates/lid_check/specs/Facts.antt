@@ -3,7 +3,7 @@ use Rattle.std.specs.Prelude.{◌≡◌, length}
 use Rattle.lid_design.specs.declared.Design.{Design}
 use Rattle.lid_design.specs.Columns.{root_inputs}
 use Rattle.lid_design.specs.Loops.{pearls}
-use Rattle.lid_design.specs.Places.{count_latches, count_defaulted}
+use Rattle.lid_design.specs.Elaboration.{count_latches, count_defaulted}
 use Rattle.lid_design.specs.WellFormed.{IsWellFormed}
 use Rattle.lid_check.specs.declared.judging.Facts.{Facts}
 use Rattle.lid_check.specs.Acceptance.{IsAccepted}

@@ -4,12 +4,12 @@ use Rattle.lid_base.specs.Lists.{Among}
 use Rattle.lid_design.specs.declared.Design.{Design}
 use Rattle.lid_design.specs.declared.Model.{Model}
 use Rattle.lid_design.specs.Columns.{Column}
-use Rattle.lid_design.specs.Models.{IsReached}
-use Rattle.lid_design.specs.Places.{columns}
+use Rattle.lid_design.specs.Models.{IsReached, data_inputs_of}
+use Rattle.lid_design.specs.Elaboration.{columns}
 use Rattle.lid_design.specs.Loops.{IsOnLoop, HasNoLoop}
 use Rattle.lid_rules.specs.declared.fault.CheckFault.{CheckFault}
 use Rattle.lid_check.specs.Acceptance.{TellsLoop, DependsOn, HasNoDependence, StandsBefore, TellsDependence}
-use Rattle.lid_check.specs.Pearls.{inputs_of, LeadsTo, NoneLeads, IsFirstInput}
+use Rattle.lid_check.specs.Pearls.{LeadsTo, NoneLeads, IsFirstInput}
 use Rattle.lid_check.specs.declared.flaws.Flaw.{Flaw}
 use Rattle.lid_check.specs.declared.flaws.Flaw.TheVariants.{Loop, Dependence}
 use Rattle.lid_check.specs.declared.outputs.Lead.{Lead}
@@ -33,7 +33,7 @@ pub record IsFirstLead (d : Design) (g : List (List ℕ)) (cut : List Bool) (pea
       (j : ℕ) (input other : List ℕ)
       → j < lead.output
       → slice_get m.outputs j ≡ Some other
-      → Among input (inputs_of d pearl.model)
+      → Among input (data_inputs_of d pearl.model)
       → ¬ LeadsTo d g cut pearl input other
   pub leads : IsFirstInput d g cut pearl output lead.input
 

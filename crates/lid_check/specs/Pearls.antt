@@ -6,15 +6,11 @@ use Rattle.lid_base.specs.Lists.{Among}
 use Rattle.lid_design.specs.declared.Design.{Design}
 use Rattle.lid_design.specs.declared.Model.{Model}
 use Rattle.lid_design.specs.Columns.{data_inputs, model_at}
-use Rattle.lid_design.specs.Models.{IsReached, insts_of, instance_number}
-use Rattle.lid_design.specs.Places.{model_nets}
+use Rattle.lid_design.specs.Models.{IsReached, insts_of, instance_number, data_inputs_of}
+use Rattle.lid_design.specs.Elaboration.{model_nets}
 use Rattle.lid_design.specs.Loops.{pearls, IsDependent}
 use Rattle.lid_digraph.specs.Graphs.{flag, IsReaching, IsReached as IsReachedFrom}
 use Rattle.lid_check.specs.declared.pearls.Pearl.{Pearl}
-
--- the data inputs of a model, by its number
-abbrev pub inputs_of : Design → ℕ → List (List ℕ)
-inputs_of d k = option_map_or (data_inputs d) (slice_get d.models k) []
 
 -- the number of the column of a net of a pearl, where it has one
 abbrev pub number_in : Design → Pearl → List ℕ → Option ℕ
@@ -26,7 +22,7 @@ IsNumberOf d pearl names k = (name : List ℕ) × Among name names × (number_in
 
 -- the column of a number belongs to a data input of one of some pearls
 abbrev pub IsInputOf : Design → List Pearl → ℕ → Type 0
-IsInputOf d ps k = (pearl : Pearl) × Among pearl ps × IsNumberOf d pearl (inputs_of d pearl.model) k
+IsInputOf d ps k = (pearl : Pearl) × Among pearl ps × IsNumberOf d pearl (data_inputs_of d pearl.model) k
 
 -- the model of a pearl is reached, and the columns of its nets are among so many
 pub record Fits (d : Design) (n : ℕ) (pearl : Pearl) : Type 0 where
@@ -71,7 +67,7 @@ pub record IsCutOff (d : Design) (g : List (List ℕ)) (cut : List Bool) (path :
   pub fits : Fits d (length g) pearl
   pub exact :
       (input output : List ℕ)
-      → Among input (inputs_of d pearl.model)
+      → Among input (data_inputs_of d pearl.model)
       → IsDependent d path input output ↔ LeadsTo d g cut pearl input output
 
 -- the marks tell of each output of a pearl whether a data input of it leads there
@@ -79,7 +75,7 @@ abbrev pub AreReachedIn : Design → List (List ℕ) → List Bool → List Bool
 AreReachedIn d g cut reached pearl =
     (output : List ℕ)
     → (is_marked d pearl reached output ≡ true)
-    ↔ ((input : List ℕ) × Among input (inputs_of d pearl.model) × LeadsTo d g cut pearl input output)
+    ↔ ((input : List ℕ) × Among input (data_inputs_of d pearl.model) × LeadsTo d g cut pearl input output)
 
 -- the cut keeps walks of numbers in their pearls, and the marks tell where data inputs lead
 pub record AreCutOff (d : Design) (g : List (List ℕ)) (cut reached : List Bool) (ps : List Pearl) : Type 0 where
@@ -97,15 +93,15 @@ NoneLeads d g cut pearl =
     (o : ℕ) (m : Model) (input output : List ℕ)
     → slice_get d.models pearl.model ≡ Some m
     → slice_get m.outputs o ≡ Some output
-    → Among input (inputs_of d pearl.model)
+    → Among input (data_inputs_of d pearl.model)
     → ¬ LeadsTo d g cut pearl input output
 
 -- the place among the data inputs of a pearl of the first one that leads to an output of it
 pub record IsFirstInput (d : Design) (g : List (List ℕ)) (cut : List Bool) (pearl : Pearl) (output : List ℕ) (i : ℕ) : Type 0 where
   pub input : List ℕ
-  pub here : slice_get (inputs_of d pearl.model) i ≡ Some input
+  pub here : slice_get (data_inputs_of d pearl.model) i ≡ Some input
   pub on : LeadsTo d g cut pearl input output
-  pub first : (j : ℕ) (other : List ℕ) → j < i → slice_get (inputs_of d pearl.model) j ≡ Some other → ¬ LeadsTo d g cut pearl other output
+  pub first : (j : ℕ) (other : List ℕ) → j < i → slice_get (data_inputs_of d pearl.model) j ≡ Some other → ¬ LeadsTo d g cut pearl other output
 
 -- marks tell of each column whether a data input of a pearl leads to it past the cut
 abbrev pub AreLed : Design → List (List ℕ) → List Bool → List Pearl → List Bool → Type 0

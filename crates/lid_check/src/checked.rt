@@ -3,12 +3,12 @@ ghost use denote.Ref.{Bor};
 ghost use Rattle.std.specs.Str.{bytes_eq};
 ghost use Rattle.lid_design.specs.Columns.{root_inputs, root_outputs};
 ghost use Rattle.lid_design.specs.Loops.{pearls};
-ghost use Rattle.lid_design.specs.Places.{count_latches, count_defaulted};
+ghost use Rattle.lid_design.specs.Elaboration.{count_latches, count_defaulted};
 ghost use Rattle.lid_design.specs.WellFormed.{IsWellFormed};
 ghost use Rattle.lid_rules.specs.declared.fault.CheckFault.TheVariants.{Memory};
 ghost use Rattle.lid_check.specs.Acceptance.{rooted_at, with_root, IsAccepted, IsRefused};
 
-use crate::judging::{Facts, judge};
+use crate::judging::{Facts, accept};
 use lid_base::Name;
 use lid_design::Design;
 use lid_rules::CheckFault;
@@ -50,7 +50,7 @@ pub fn check(alloc: Global, design: Design, root: Option<&Name>) -> Result<Check
         models: design.models,
         root,
     };
-    match judge(alloc, &design) {
+    match accept(alloc, &design) {
         Ok(facts) => Ok(Checked { design, facts }),
         Err(fault) => Err(fault),
     }

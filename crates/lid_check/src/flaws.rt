@@ -3,19 +3,18 @@
 ghost use Rattle.std.specs.Prelude.{◌≡◌, ◌≤◌, Some, length, map, slice_get, IfOk};
 ghost use Rattle.lid_design.specs.Walks.{read_now};
 ghost use Rattle.lid_elab.specs.Elaborations.{shown_driver, IsElaborated};
-ghost use Rattle.lid_rules.specs.Acceptance.{ModelsPass};
 ghost use Rattle.lid_check.specs.Acceptance.{TellsLoop, TellsDependence};
-ghost use Rattle.lid_check.specs.Pearls.{inputs_of};
+ghost use Rattle.lid_design.specs.Models.{data_inputs_of};
 ghost use Rattle.lid_check.specs.Flaws.{IsFirstOnLoop, IsFirstDependence, IsFirstFlaw, FindsFlaw, TellsFlaw};
 
 use crate::outputs::{Lead, find_dependence};
 use crate::pearls::find_inputs;
-use lid_base::{Items, Name};
+use lid_base::{Items, Name, copy_name};
+use lid_digraph::{Digraph, Found, find_order};
 use lid_elab::{Elaboration, elaborate, find_column, find_reads};
 use lid_hierarchy::Survey;
-use lid_names::copy_name;
-use lid_digraph::{Found, find_order};
 use lid_rules::CheckFault;
+use lid_wiring::Judged;
 use std::alloc::{AllocError, Global};
 
 /// Why the columns of a design are refused.
@@ -31,13 +30,12 @@ pub(crate) enum Flaw {
 ///
 /// # Errors
 /// Where there is no memory.
-pub(crate) fn find_flaw(alloc: Global, survey: &Survey<'_>) -> Result<Option<Flaw>, AllocError>
-    requires { ModelsPass survey.now }
-    ensures { IfOk result (FindsFlaw survey.now) }
+pub(crate) fn find_flaw(alloc: Global, judged: &Judged<'_>) -> Result<Option<Flaw>, AllocError>
+    ensures { IfOk result (FindsFlaw judged.now) }
 {
-    let columns = elaborate(alloc, survey)?;
+    let columns = elaborate(alloc, judged)?;
     let reads = find_reads(alloc, columns.drivers.as_slice())?;
-    find_among(alloc, survey, &columns, reads.as_slice())
+    find_among(alloc, judged.survey(), &columns, reads.as_slice())
 }
 
 /// The first flaw of some columns, by what each reads in the same row.
@@ -52,12 +50,13 @@ fn find_among(
     requires reads { reads.now ≡ map read_now (map shown_driver columns.now.drivers) }
     ensures { IfOk result (FindsFlaw survey.now) }
 {
-    match find_order(alloc, reads)? {
+    let graph = Digraph { reads };
+    match find_order(alloc, &graph)? {
         Found::Order(order) => match find_dependence(
             alloc,
             survey,
             columns,
-            reads,
+            &graph,
             order.as_slice(),
         )? {
             Some(lead) => Ok(Some(Flaw::Dependence(lead))),
@@ -73,26 +72,24 @@ fn find_among(
 /// Where there is no memory.
 pub(crate) fn tell_flaw(
     alloc: Global,
-    survey: &Survey<'_>,
+    judged: &Judged<'_>,
     flaw: Flaw,
 ) -> Result<CheckFault, AllocError>
-    requires passed { ModelsPass survey.now }
-    requires flaw { IsFirstFlaw survey.now flaw }
-    ensures { IfOk result (TellsFlaw survey.now) }
+    requires { IsFirstFlaw judged.now flaw }
+    ensures { IfOk result (TellsFlaw judged.now) }
 {
     match flaw {
-        Flaw::Loop(first) => tell_loop(alloc, survey, first),
-        Flaw::Dependence(lead) => tell_dependence(alloc, survey, lead),
+        Flaw::Loop(first) => tell_loop(alloc, judged, first),
+        Flaw::Dependence(lead) => tell_dependence(alloc, judged.survey(), lead),
     }
 }
 
 /// Tells the first column on a closed walk by its path and its name.
-fn tell_loop(alloc: Global, survey: &Survey<'_>, first: u32) -> Result<CheckFault, AllocError>
-    requires passed { ModelsPass survey.now }
-    requires first { IsFirstOnLoop survey.now first }
-    ensures { IfOk result (TellsLoop survey.now) }
+fn tell_loop(alloc: Global, judged: &Judged<'_>, first: u32) -> Result<CheckFault, AllocError>
+    requires { IsFirstOnLoop judged.now first }
+    ensures { IfOk result (TellsLoop judged.now) }
 {
-    let (path, name) = find_column(alloc, survey, first)?;
+    let (path, name) = find_column(alloc, judged, first)?;
     Ok(CheckFault::CombLoop { path, name })
 }
 
@@ -115,7 +112,7 @@ fn tell_dependence(alloc: Global, survey: &Survey<'_>, lead: Lead) -> Result<Che
 /// The name of the data input that leads to an output.
 fn copy_input(alloc: Global, survey: &Survey<'_>, lead: Lead) -> Result<Name, AllocError>
     requires { IsFirstDependence survey.now lead }
-    ensures { IfOk result (λ name. slice_get (inputs_of survey.now lead.model) lead.input ≡ Some name) }
+    ensures { IfOk result (λ name. slice_get (data_inputs_of survey.now lead.model) lead.input ≡ Some name) }
 {
     let inputs = find_inputs(alloc, survey, lead.model)?;
     copy_name(alloc, inputs.as_slice()[lead.input].as_slice())

@@ -2,7 +2,6 @@ ghost use Rattle.std.specs.Prelude.{◌≡◌, ◌⊎◌, length, IfOk, IfErr};
 ghost use Rattle.lid_design.specs.Loops.{pearls};
 ghost use Rattle.lid_design.specs.WellFormed.{IsWellFormed};
 ghost use Rattle.lid_rules.specs.declared.fault.CheckFault.TheVariants.{Memory};
-ghost use Rattle.lid_rules.specs.Acceptance.{ModelsPass};
 ghost use Rattle.lid_check.specs.Acceptance.{IsAccepted, IsRefusal};
 ghost use Rattle.lid_check.specs.Facts.{AreFacts};
 
@@ -10,9 +9,10 @@ use crate::flaws::{find_flaw, tell_flaw};
 use crate::pearls::find_inputs;
 use lid_base::{Items, Name};
 use lid_design::Design;
-use lid_judge::{check_models, count_latches};
 use lid_hierarchy::Survey;
+use lid_judge::{check_models, count_latches};
 use lid_rules::CheckFault;
+use lid_wiring::{Judged, judge};
 use std::alloc::Global;
 
 /// What is kept of an accepted design.
@@ -25,38 +25,38 @@ pub struct Facts {
     pub defaulted: u64,
 }
 
-/// Judges a design with its root by all conditions but `NoRoot`.
+/// Accepts a design with its root, or refuses it by one of the conditions but `NoRoot`.
 ///
 /// # Errors
 /// The first condition that applies is told, at its first place. `Memory` may come at any design.
-pub fn judge(alloc: Global, design: &Design) -> Result<Facts, CheckFault>
+pub fn accept(alloc: Global, design: &Design) -> Result<Facts, CheckFault>
     requires { IsWellFormed design.now }
     ensures ok { IfOk result (λ facts. AreFacts design.now facts) }
     ensures err { IfErr result (λ fault. (fault ≡ Memory) ⊎ IsRefusal design.now fault) }
 {
     let survey = check_models(alloc, design)?;
-    judge_columns(alloc, &survey)
+    let judged = judge(survey);
+    check_columns(alloc, &judged)
 }
 
 /// Judges the columns of a design that meets the conditions on models.
 ///
 /// # Errors
 /// The first condition that applies is told, at its first place. `Memory` may come at any design.
-fn judge_columns(alloc: Global, survey: &Survey<'_>) -> Result<Facts, CheckFault>
-    requires { ModelsPass survey.now }
-    ensures ok { IfOk result (λ facts. AreFacts survey.now facts) }
-    ensures err { IfErr result (λ fault. (fault ≡ Memory) ⊎ IsRefusal survey.now fault) }
+fn check_columns(alloc: Global, judged: &Judged<'_>) -> Result<Facts, CheckFault>
+    ensures ok { IfOk result (λ facts. AreFacts judged.now facts) }
+    ensures err { IfErr result (λ fault. (fault ≡ Memory) ⊎ IsRefusal judged.now fault) }
 {
-    match find_flaw(alloc, survey)? {
+    let survey = judged.survey();
+    match find_flaw(alloc, judged)? {
         None => find_facts(alloc, survey),
-        Some(flaw) => Err(tell_flaw(alloc, survey, flaw)?),
+        Some(flaw) => Err(tell_flaw(alloc, judged, flaw)?),
     }
 }
 
 /// What is kept of a design: its inputs and its counts.
 fn find_facts(alloc: Global, survey: &Survey<'_>) -> Result<Facts, CheckFault>
-    requires passed { ModelsPass survey.now }
-    requires accepted { IsAccepted survey.now }
+    requires { IsAccepted survey.now }
     ensures ok { IfOk result (λ facts. AreFacts survey.now facts) }
     ensures err { IfErr result (λ fault. fault ≡ Memory) }
 {

@@ -5,18 +5,19 @@ ghost use Rattle.std.specs.List.{AllByRecursion};
 ghost use Rattle.std.specs.Option.{MatchOption};
 ghost use Rattle.lid_base.specs.Lists.{Among};
 ghost use Rattle.lid_design.specs.Walks.{read_now};
-ghost use Rattle.lid_digraph.specs.Graphs.{IsGraph, IsOrder};
+ghost use Rattle.lid_digraph.specs.Graphs.{IsOrder};
 ghost use Rattle.lid_elab.specs.Elaborations.{shown_driver, IsElaborated};
-ghost use Rattle.lid_check.specs.Pearls.{inputs_of, is_marked, Fits, IsFirstMarked, AreUnmarked, LeadsTo, AreReachedIn, AreCutOff, AreLed, CutsOff, count_cut, IsFirstInput};
+ghost use Rattle.lid_design.specs.Models.{data_inputs_of};
+ghost use Rattle.lid_check.specs.Pearls.{is_marked, Fits, IsFirstMarked, AreUnmarked, LeadsTo, AreReachedIn, AreCutOff, AreLed, CutsOff, count_cut, IsFirstInput};
 ghost use Rattle.lid_check.specs.Flaws.{FindsLead, FindsDependence};
 
 use crate::pearls::{
     Pearl, find_inputs, find_starts, is_marked, list_pearls, mark_first, number_of,
 };
 use lid_base::{Items, Name};
+use lid_digraph::{Digraph, find_reached, find_reaching};
 use lid_elab::Elaboration;
 use lid_hierarchy::Survey;
-use lid_digraph::{find_reached, find_reaching};
 use std::alloc::{AllocError, Global};
 
 /// An output of a pearl that depends on a data input of it, by their places and the number of the
@@ -49,21 +50,20 @@ fn find_input(
     alloc: Global,
     survey: &Survey<'_>,
     pearl: Pearl,
-    reads: &[Items<u32>],
+    graph: &Digraph<'_>,
     cut: &[bool],
     output: &[u8],
 ) -> Result<usize, AllocError>
-    requires graph { IsGraph reads.now }
-    requires cut { length cut.now ≡ length reads.now }
-    requires few { length reads.now ≤ 1048576 }
-    requires fits { Fits survey.now (length reads.now) pearl }
-    requires some { (input : List ℕ) × Among input (inputs_of survey.now pearl.model) × LeadsTo survey.now reads.now cut.now pearl input output.now }
-    ensures { IfOk result (IsFirstInput survey.now reads.now cut.now pearl output.now) }
+    requires cut { length cut.now ≡ length graph.now.reads.now }
+    requires few { length graph.now.reads.now ≤ 1048576 }
+    requires fits { Fits survey.now (length graph.now.reads.now) pearl }
+    requires some { (input : List ℕ) × Among input (data_inputs_of survey.now pearl.model) × LeadsTo survey.now graph.now.reads.now cut.now pearl input output.now }
+    ensures { IfOk result (IsFirstInput survey.now graph.now.reads.now cut.now pearl output.now) }
 {
     let Some(end) = number_of(survey, pearl, output) else {
         unreachable!();
     };
-    let reaching = find_reaching(alloc, reads, cut, end)?;
+    let reaching = find_reaching(alloc, graph, cut, end)?;
     first_input(alloc, survey, pearl, reaching.as_slice())
 }
 
@@ -76,8 +76,8 @@ fn first_input(
 ) -> Result<usize, AllocError>
     requires fits { Fits survey.now (length marks.now) pearl }
     requires few { length marks.now ≤ 1048576 }
-    requires some { (input : List ℕ) × Among input (inputs_of survey.now pearl.model) × (is_marked survey.now pearl marks.now input ≡ true) }
-    ensures { IfOk result (IsFirstMarked survey.now pearl marks.now (inputs_of survey.now pearl.model)) }
+    requires some { (input : List ℕ) × Among input (data_inputs_of survey.now pearl.model) × (is_marked survey.now pearl marks.now input ≡ true) }
+    ensures { IfOk result (IsFirstMarked survey.now pearl marks.now (data_inputs_of survey.now pearl.model)) }
 {
     let inputs = find_inputs(alloc, survey, pearl.model)?;
     match first_marked(survey, pearl, marks, inputs.as_slice()) {
@@ -91,17 +91,16 @@ fn find_lead(
     alloc: Global,
     survey: &Survey<'_>,
     pearl: Pearl,
-    reads: &[Items<u32>],
+    graph: &Digraph<'_>,
     cut: &[bool],
     reached: &[bool],
 ) -> Result<Option<Lead>, AllocError>
-    requires graph { IsGraph reads.now }
-    requires cut { length cut.now ≡ length reads.now }
-    requires reached { length reached.now ≡ length reads.now }
-    requires few { length reads.now ≤ 1048576 }
-    requires fits { Fits survey.now (length reads.now) pearl }
-    requires marks { AreReachedIn survey.now reads.now cut.now reached.now pearl }
-    ensures { IfOk result (FindsLead survey.now reads.now cut.now pearl) }
+    requires cut { length cut.now ≡ length graph.now.reads.now }
+    requires reached { length reached.now ≡ length graph.now.reads.now }
+    requires few { length graph.now.reads.now ≤ 1048576 }
+    requires fits { Fits survey.now (length graph.now.reads.now) pearl }
+    requires marks { AreReachedIn survey.now graph.now.reads.now cut.now reached.now pearl }
+    ensures { IfOk result (FindsLead survey.now graph.now.reads.now cut.now pearl) }
 {
     let body = &survey.design().models.as_slice()[pearl.model as usize];
     let outputs = body.outputs.as_slice();
@@ -109,7 +108,7 @@ fn find_lead(
         None => Ok(None),
         Some(output) => {
             let name = outputs[output].as_slice();
-            let input = find_input(alloc, survey, pearl, reads, cut, name)?;
+            let input = find_input(alloc, survey, pearl, graph, cut, name)?;
             let model = pearl.model;
             Ok(Some(Lead {
                 model,
@@ -126,19 +125,18 @@ fn find_in_pearls(
     alloc: Global,
     survey: &Survey<'_>,
     pearls: &[Pearl],
-    reads: &[Items<u32>],
+    graph: &Digraph<'_>,
     cut: &[bool],
     reached: &[bool],
 ) -> Result<Option<Lead>, AllocError>
-    requires graph { IsGraph reads.now }
-    requires cut { length cut.now ≡ length reads.now }
-    requires reached { length reached.now ≡ length reads.now }
-    requires few { length reads.now ≤ 1048576 }
-    requires apart { AreCutOff survey.now reads.now cut.now reached.now pearls.now }
+    requires cut { length cut.now ≡ length graph.now.reads.now }
+    requires reached { length reached.now ≡ length graph.now.reads.now }
+    requires few { length graph.now.reads.now ≤ 1048576 }
+    requires apart { AreCutOff survey.now graph.now.reads.now cut.now reached.now pearls.now }
     ensures { IfOk result (FindsDependence survey.now) }
 {
     for p in 0..pearls.len() {
-        match find_lead(alloc, survey, pearls[p], reads, cut, reached)? {
+        match find_lead(alloc, survey, pearls[p], graph, cut, reached)? {
             Some(lead) => return Ok(Some(lead)),
             None => (),
         }
@@ -163,20 +161,19 @@ fn mark_led(
     alloc: Global,
     survey: &Survey<'_>,
     pearls: &[Pearl],
-    reads: &[Items<u32>],
+    graph: &Digraph<'_>,
     order: &[u32],
     cut: &[bool],
 ) -> Result<Items<bool>, AllocError>
-    requires graph { IsGraph reads.now }
-    requires order { IsOrder reads.now order.now }
-    requires cut { length cut.now ≡ length reads.now }
-    requires few { length reads.now ≤ 1048576 }
-    requires fit { AllByRecursion (Fits survey.now (length reads.now)) pearls.now }
-    ensures count { IfOk result (λ led. length led ≡ length reads.now) }
-    ensures exact { IfOk result (AreLed survey.now reads.now cut.now pearls.now) }
+    requires order { IsOrder graph.now.reads.now order.now }
+    requires cut { length cut.now ≡ length graph.now.reads.now }
+    requires few { length graph.now.reads.now ≤ 1048576 }
+    requires fit { AllByRecursion (Fits survey.now (length graph.now.reads.now)) pearls.now }
+    ensures count { IfOk result (λ led. length led ≡ length graph.now.reads.now) }
+    ensures exact { IfOk result (AreLed survey.now graph.now.reads.now cut.now pearls.now) }
 {
-    let starts = find_starts(alloc, survey, pearls, reads.len())?;
-    find_reached(alloc, reads, order, cut, starts.as_slice())
+    let starts = find_starts(alloc, survey, pearls, graph.reads.len())?;
+    find_reached(alloc, graph, order, cut, starts.as_slice())
 }
 
 /// The first output of a pearl that depends on a data input of it, with the first such input. The
@@ -188,23 +185,22 @@ pub(crate) fn find_dependence(
     alloc: Global,
     survey: &Survey<'_>,
     columns: &Elaboration<'_>,
-    reads: &[Items<u32>],
+    graph: &Digraph<'_>,
     order: &[u32],
 ) -> Result<Option<Lead>, AllocError>
     requires elaborated { IsElaborated survey.now (map shown_driver columns.now.drivers) columns.now.starts }
     requires few { length columns.now.drivers ≤ 1048576 }
-    requires reads { reads.now ≡ map read_now (map shown_driver columns.now.drivers) }
-    requires graph { IsGraph reads.now }
-    requires order { IsOrder reads.now order.now }
+    requires reads { graph.now.reads.now ≡ map read_now (map shown_driver columns.now.drivers) }
+    requires order { IsOrder graph.now.reads.now order.now }
     ensures { IfOk result (FindsDependence survey.now) }
 {
     let pearls = list_pearls(alloc, survey, columns.starts.as_slice())?;
-    let cut = mark_first(alloc, count_cut(survey), reads.len())?;
+    let cut = mark_first(alloc, count_cut(survey), graph.reads.len())?;
     find_past(
         alloc,
         survey,
         pearls.as_slice(),
-        reads,
+        graph,
         order,
         cut.as_slice(),
     )
@@ -215,18 +211,17 @@ fn find_past(
     alloc: Global,
     survey: &Survey<'_>,
     pearls: &[Pearl],
-    reads: &[Items<u32>],
+    graph: &Digraph<'_>,
     order: &[u32],
     cut: &[bool],
 ) -> Result<Option<Lead>, AllocError>
-    requires graph { IsGraph reads.now }
-    requires order { IsOrder reads.now order.now }
-    requires few { length reads.now ≤ 1048576 }
-    requires size { length cut.now ≡ length reads.now }
-    requires fit { AllByRecursion (Fits survey.now (length reads.now)) pearls.now }
-    requires apart { CutsOff survey.now reads.now cut.now pearls.now }
+    requires order { IsOrder graph.now.reads.now order.now }
+    requires few { length graph.now.reads.now ≤ 1048576 }
+    requires size { length cut.now ≡ length graph.now.reads.now }
+    requires fit { AllByRecursion (Fits survey.now (length graph.now.reads.now)) pearls.now }
+    requires apart { CutsOff survey.now graph.now.reads.now cut.now pearls.now }
     ensures { IfOk result (FindsDependence survey.now) }
 {
-    let led = mark_led(alloc, survey, pearls, reads, order, cut)?;
-    find_in_pearls(alloc, survey, pearls, reads, cut, led.as_slice())
+    let led = mark_led(alloc, survey, pearls, graph, order, cut)?;
+    find_in_pearls(alloc, survey, pearls, graph, cut, led.as_slice())
 }

@@ -2,13 +2,12 @@
 
 ghost use Rattle.std.specs.Prelude.{◌≡◌, ◌⊎◌, ◌↔◌, ◌+◌, ◌<◌, ◌≤◌, ℕ, true, false, not, length, filter, IfOk, OnOk};
 ghost use Rattle.std.specs.List.{AllByRecursion};
-ghost use Rattle.lid_design.specs.Models.{IsReached, insts_of, is_clock_of};
+ghost use Rattle.lid_design.specs.Models.{IsReached, insts_of, is_clock_of, data_inputs_of};
 ghost use Rattle.lid_digraph.specs.Graphs.{flag};
-ghost use Rattle.lid_check.specs.Pearls.{inputs_of, number_in, IsNumberOf, IsInputOf, Fits, is_marked, ArePearls};
+ghost use Rattle.lid_check.specs.Pearls.{number_in, IsNumberOf, IsInputOf, Fits, is_marked, ArePearls};
 
-use lid_base::{Items, Name};
+use lid_base::{Items, Name, copy_name};
 use lid_hierarchy::Survey;
-use lid_names::copy_name;
 use std::alloc::{AllocError, Global};
 
 /// A pearl: an instance of the root, or the root itself where it has none.
@@ -49,7 +48,7 @@ pub(crate) fn find_inputs(
     model: u32,
 ) -> Result<Items<Name>, AllocError>
     requires { IsReached survey.now model }
-    ensures { IfOk result (λ names. names ≡ inputs_of survey.now model) }
+    ensures { IfOk result (λ names. names ≡ data_inputs_of survey.now model) }
 {
     match survey.design().models.as_slice().get(model as usize) {
         Some(body) => without_clocks(alloc, survey, model, body.inputs.as_slice()),

@@ -1,10 +1,10 @@
--- What is counted over the places of a design, by recurrence on its models.
+-- How counts are found: what is counted over the instances of a design, by recurrence on its models.
 use Rattle.std.specs.Prelude.{ℕ, zero, suc, ◌+◌, max, List, [], ◌∷◌, length}
 use Rattle.std.specs.Option.{option_map_or}
 use Rattle.lid_design.specs.declared.Design.{Design}
 use Rattle.lid_design.specs.declared.Inst.{Inst}
 use Rattle.lid_design.specs.Models.{number_named, insts_of}
-use Rattle.lid_design.specs.Places.{cells_of, model_nets, count_in, is_latch, is_defaulted}
+use Rattle.lid_design.specs.Elaboration.{cells_of, model_nets, count_in, is_latch, is_defaulted}
 use Rattle.lid_counts.specs.declared.counts.Measure.{Measure}
 use Rattle.lid_counts.specs.declared.counts.Measure.TheVariants.{Depth, Cells, Nets, Latches, Defaulted}
 
@@ -46,6 +46,6 @@ count_within (suc n) what d k = count_by_subs what d (count_within n what d) k
 unfoldable pub count_of : Measure → Design → ℕ → ℕ
 count_of what d k = count_within (length d.models) what d k
 
--- what is counted over all places
+-- what is counted over all instances
 unfoldable pub count_at_root : Measure → Design → ℕ
 count_at_root what d = count_of what d d.root

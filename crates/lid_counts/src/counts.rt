@@ -1,6 +1,6 @@
 ghost use Rattle.std.specs.Prelude.{◌≡◌, ◌<◌, ◌≤◌, ◌^◌, ℕ, min, length, count_by, slice_get, slice_index_or, Some, IfOk};
 ghost use Rattle.lid_design.specs.Models.{IsReached, insts_of};
-ghost use Rattle.lid_design.specs.Places.{is_latch, is_defaulted, is_open};
+ghost use Rattle.lid_design.specs.Elaboration.{is_latch, is_defaulted, is_open};
 ghost use Rattle.lid_counts.specs.Counts.{own, joined, with_inst, count_by_subs, count_of, count_at_root};
 
 use lid_design::{Cell, Init, Inst, Model};
@@ -11,7 +11,7 @@ use std::alloc::{AllocError, Global};
 /// The greatest count that is told. A count above it is told as this.
 const TOP: u64 = 4_294_967_295;
 
-/// What is counted over all places of a design.
+/// What is counted over all instances of a design.
 #[derive(Clone, Copy)]
 pub enum Measure {
     /// The longest chain of instances.
@@ -26,7 +26,7 @@ pub enum Measure {
     Defaulted,
 }
 
-/// What is counted over all places of a design, at most 4,294,967,295.
+/// What is counted over all instances of a design, at most 4,294,967,295.
 #[tactic(auto, unfolding(crate::specs::Counts::count_at_root))]
 pub fn count_all(alloc: Global, survey: &Survey<'_>, what: Measure) -> Result<u64, AllocError>
     ensures { IfOk result (λ n. n ≡ min (count_at_root what survey.now) 4294967295) }
@@ -35,7 +35,7 @@ pub fn count_all(alloc: Global, survey: &Survey<'_>, what: Measure) -> Result<u6
     Ok(read(counts.as_slice(), survey.design().root))
 }
 
-/// What is counted over the places from each reached model on, at most `TOP`.
+/// What is counted over the instances from one of each reached model on, at most `TOP`.
 fn count_each(alloc: Global, survey: &Survey<'_>, what: Measure) -> Result<Vec<u64>, AllocError>
     ensures { IfOk result (λ counts. (k : ℕ) → IsReached survey.now k → slice_index_or counts.items k 0 ≡ min (count_of what survey.now k) 4294967295) }
 {
@@ -48,7 +48,7 @@ fn count_each(alloc: Global, survey: &Survey<'_>, what: Measure) -> Result<Vec<u
     Ok(counts)
 }
 
-/// What is counted over the places from a model on, by the counts of the models of its instances.
+/// What is counted over the instances from one of a model on, by the counts of the models of its instances.
 fn count_from(survey: &Survey<'_>, what: Measure, k: u32, counts: &[u64]) -> u64
     requires { IsReached survey.now k }
     ensures { result ≡ min (count_by_subs what survey.now (λ j. slice_index_or counts.now j 0) k) 4294967295 }
@@ -59,17 +59,16 @@ fn count_from(survey: &Survey<'_>, what: Measure, k: u32, counts: &[u64]) -> u64
     }
 }
 
-/// What is counted over the places from a model on, by the counts of the models of its instances.
+/// What is counted over the instances from one of a model on, by the counts of the models of its instances.
 fn count_model(survey: &Survey<'_>, what: Measure, k: u32, model: &Model, counts: &[u64]) -> u64
     requires reached { IsReached survey.now k }
     requires model { slice_get survey.now.models k ≡ Some model.now }
     requires few { length model.now.insts < 2 ^ 32 }
     ensures { result ≡ min (count_by_subs what survey.now (λ j. slice_index_or counts.now j 0) k) 4294967295 }
 {
-    let insts = model.insts.as_slice();
     let mut count = count_own(survey, what, k, model);
-    for i in 0..insts.len() {
-        count = join_inst(survey, what, k, i as u32, &insts[i], count, counts);
+    for i in 0..model.insts.len() {
+        count = join_inst(survey, what, k, i as u32, count, counts);
     }
     count
 }
@@ -80,15 +79,12 @@ fn join_inst(
     what: Measure,
     k: u32,
     i: u32,
-    inst: &Inst,
     count: u64,
     counts: &[u64],
 ) -> u64
-    requires inst { slice_get (insts_of survey.now k) i ≡ Some inst.now }
-    requires small { count ≤ 4294967295 }
-    ensures value { result ≡ min (with_inst what survey.now (λ j. slice_index_or counts.now j 0) count inst.now) 4294967295 }
+    requires { count ≤ 4294967295 }
+    ensures { (inst : Inst) → slice_get (insts_of survey.now k) i ≡ Some inst → result ≡ min (with_inst what survey.now (λ j. slice_index_or counts.now j 0) count inst) 4294967295 }
 {
-    let _ = inst;
     match survey.model_of(k, i) {
         Some(sub) => join(what, count, read(counts, sub)),
         None => count,

@@ -1,4 +1,4 @@
-//! What is counted over all places of a design, by recurrence on its models.
+//! What is counted over all instances of a design, by recurrence on its models.
 #![tactic(auto)]
 
 mod counts;

@@ -80,10 +80,10 @@ met_fits (bit ∷ bits) care value h =
     ∙ ap (λ (b : Bool). (not (lowest_bit care) || same_bit (lowest_bit value) bit) && b) later
 
 any_fits : (inputs : List Bool) (cubes : List Cube) → AllByRecursion (IsCube (length inputs)) cubes → list_any (is_met (packed inputs)) cubes ≡ list_any (agrees inputs) cubes
-any_fits inputs [] rows = refl
-any_fits inputs (cube ∷ cubes) rows =
-    let head = met_fits inputs cube.care cube.value rows.0.in_range in
-    let tail = any_fits inputs cubes rows.1 in
+any_fits inputs [] rules = refl
+any_fits inputs (cube ∷ cubes) rules =
+    let head = met_fits inputs cube.care cube.value rules.0.in_range in
+    let tail = any_fits inputs cubes rules.1 in
     ap (λ (b : Bool). b || list_any (is_met (packed inputs)) cubes) head ∙ ap (λ (b : Bool). agrees inputs cube || b) tail
 
 beq_same_bit : (on found : Bool) → beq found on ≡ same_bit on found
@@ -97,4 +97,4 @@ pub met_value : (cover : Cover) → IsCover cover → (inputs : List Bool) → l
 unfolding cover_value
 met_value cover rules inputs long found e =
     let R : ℕ → Type 0 = λ n. AllByRecursion (IsCube n) cover.cubes in
-    beq_same_bit cover.on found ∙ ap (same_bit cover.on) (e ∙ any_fits inputs cover.cubes (subst R (sym long) rules.rows))
+    beq_same_bit cover.on found ∙ ap (same_bit cover.on) (e ∙ any_fits inputs cover.cubes (subst R (sym long) rules.cubes))

@@ -18,7 +18,7 @@ abbrev pub fits : ℕ → ℕ → List Bool → Bool
 fits care value [] = true
 fits care value (bit ∷ bits) = (not (lowest_bit care) || same_bit (lowest_bit value) bit) && fits (care / 2) (value / 2) bits
 
--- a row agrees with the inputs when they are equal at every place that it cares for
+-- a cube agrees with the inputs when they are equal at every place that it cares for
 abbrev pub agrees : List Bool → Cube → Bool
 agrees bits cube = fits cube.care cube.value bits
 
@@ -26,7 +26,7 @@ agrees bits cube = fits cube.care cube.value bits
 unfoldable pub cover_value : Cover → List Bool → Bool
 cover_value cover bits = same_bit cover.on (list_any (agrees bits) cover.cubes)
 
--- a row of so many inputs looks at no other bits, and asks nothing of bits that it does not look at
+-- a cube of so many inputs looks at no other bits, and asks nothing of bits that it does not look at
 pub record IsCube (inputs : ℕ) (cube : Cube) : Type 0 where
   pub in_range : cube.care < 2 ^ inputs
   pub within : bit_and cube.value cube.care ≡ cube.value
@@ -34,4 +34,4 @@ pub record IsCube (inputs : ℕ) (cube : Cube) : Type 0 where
 -- the rules that each cover meets
 pub record IsCover (cover : Cover) : Type 0 where
   pub width : cover.inputs ≤ 64
-  pub rows : AllByRecursion (IsCube cover.inputs) cover.cubes
+  pub cubes : AllByRecursion (IsCube cover.inputs) cover.cubes

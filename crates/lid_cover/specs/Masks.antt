@@ -1,4 +1,4 @@
--- The inputs of a cover as one number.
+-- How `eval` works: the inputs of a cover as one number.
 use Rattle.std.specs.Prelude.{ℕ, ◌+◌, ◌*◌, ◌==◌, Bool, if◌then◌else◌, bit_and, bit_xor, List, [], ◌∷◌}
 use Rattle.lid_cover.specs.declared.Cube.{Cube}
 
@@ -7,6 +7,6 @@ abbrev pub packed : List Bool → ℕ
 packed [] = 0
 packed (bit ∷ bits) = (if bit then 1 else 0) + 2 * packed bits
 
--- whether a row agrees with packed inputs
+-- whether a cube agrees with packed inputs
 abbrev pub is_met : ℕ → Cube → Bool
 is_met bits cube = bit_and (bit_xor bits cube.value) cube.care == 0

@@ -1,4 +1,4 @@
-//! Covers: the logic of one cell, as the rows of a truth table.
+//! Covers: the logic of one cell, as a list of cubes.
 #![tactic(auto)]
 
 ghost use Rattle.std.specs.Prelude.{◌≡◌, Bool, List, length};
@@ -8,16 +8,17 @@ ghost use Rattle.lid_cover.specs.Masks.{packed, is_met};
 
 use lid_base::Items;
 
-/// One row of a cover. Bit j belongs to input j.
+/// A cube: values that are asked of some inputs. It is one row of the cover's table in a netlist. Bit
+/// j belongs to input j.
 #[derive(Clone, Copy, Debug, PartialEq, Eq)]
 pub struct Cube {
-    /// The inputs that the row looks at. No bit at or above the number of inputs is set.
+    /// The inputs that it looks at. No bit at or above the number of inputs is set.
     pub care: u64,
     /// The values that it asks of them. No bit outside `care` is set.
     pub value: u64,
 }
 
-/// A cover with up to 64 inputs. A cover without rows has `on` true and no cubes: it is the
+/// A cover with up to 64 inputs. A cover without cubes has `on` true: it is the
 /// constant 0.
 #[derive(Drop)]
 pub struct Cover {
@@ -37,7 +38,7 @@ pub fn eval(cover: &Cover, bits: u64) -> bool
     any_met(cover.cubes.as_slice(), bits) == cover.on
 }
 
-/// Whether some row agrees with packed inputs.
+/// Whether some cube agrees with packed inputs.
 fn any_met(cubes: &[Cube], bits: u64) -> bool
     ensures { result ≡ list_any (is_met bits) cubes.now }
 {
@@ -52,7 +53,7 @@ mod tests {
     use std::alloc::AllocError;
 
     #[test]
-    fn rows_of_zeros_make_zeros(rt: HostRuntime) -> Result<(), AllocError> {
+    fn cubes_of_zeros_make_zeros(rt: HostRuntime) -> Result<(), AllocError> {
         let cube = Cube { care: 5, value: 4 };
         let mut cubes = Vec::new(rt.alloc());
         cubes.push(cube)?;

@@ -1,2 +1,4 @@
 pub mod Reached
 pub mod Tables
+pub mod Parts
+mod Example

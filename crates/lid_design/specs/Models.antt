@@ -1,6 +1,6 @@
 -- The nets of a model: where its names occur, what drives and what reads them; and how models use
 -- each other.
-use Rattle.std.specs.Prelude.{◌≡◌, ◌↔◌, ◌≤◌, ⊤, ℕ, ◌+◌, ◌==◌, Bool, true, false, not, ◌&&◌, ◌||◌, List, [], ◌∷◌, ◌++◌, length, map, filter, flat_map, position, Option, Some, None, option_and_then, slice_get}
+use Rattle.std.specs.Prelude.{◌≡◌, ◌↔◌, ◌≤◌, ◌<◌, ⊤, ℕ, ◌+◌, ◌==◌, nat_lt, Bool, true, false, not, ◌&&◌, ◌||◌, List, [], ◌∷◌, ◌++◌, length, map, filter, flat_map, count_by, position, Option, Some, None, option_and_then, slice_get}
 use Rattle.std.specs.Option.{option_map_or}
 use Rattle.std.specs.Str.{bytes_eq}
 use Rattle.lid_base.specs.Lists.{Among}
@@ -26,6 +26,13 @@ cell_names (Latch input out kind control init) = input ∷ control_names control
 abbrev pub actual_of : Bind → List ℕ
 actual_of b = b.actual
 
+abbrev pub formal_of : Bind → List ℕ
+formal_of b = b.formal
+
+-- the formals that an instance binds
+abbrev pub formals : Inst → List (List ℕ)
+formals inst = map formal_of inst.binds
+
 abbrev pub actual_names : Inst → List (List ℕ)
 actual_names inst = map actual_of inst.binds
 
@@ -33,6 +40,10 @@ actual_names inst = map actual_of inst.binds
 unfoldable pub occurrences : Model → List (List ℕ)
 occurrences m =
     m.inputs ++ m.outputs ++ m.clocks ++ flat_map cell_names m.cells ++ flat_map actual_names m.insts
+
+-- whether a name stands in a list more than once
+abbrev pub is_twice : List (List ℕ) → List ℕ → Bool
+is_twice names name = nat_lt 1 (count_by (bytes_eq name) names)
 
 -- each name where it comes first
 abbrev pub firsts : List (List ℕ) → List (List ℕ)
@@ -106,6 +117,10 @@ insts_of d k = option_map_or (λ m. m.insts) (slice_get d.models k) []
 abbrev pub is_clock_of : Design → ℕ → List ℕ → Bool
 is_clock_of d k name = option_map_or (λ m. is_clock d m name) (slice_get d.models k) false
 
+-- the data inputs of a model, by the model's number
+abbrev pub data_inputs_of : Design → ℕ → List (List ℕ)
+data_inputs_of d k = option_map_or (data_inputs d) (slice_get d.models k) []
+
 -- the number of the model of instance i of model k
 abbrev pub instance_number : Design → ℕ → ℕ → Option ℕ
 instance_number d i k = option_and_then (λ inst. number_named d inst.model) (slice_get (insts_of d k) i)
@@ -126,6 +141,12 @@ ReachesItself d k = (i : ℕ) × (path : List ℕ) × (number_from d k (i ∷ pa
 
 abbrev pub HasNoRecursion : Design → Type 0
 HasNoRecursion d = (k : ℕ) → IsReached d k → ¬ ReachesItself d k
+
+-- the first model in the order of the text that is reached and reaches itself
+pub record IsFirstRecursive (d : Design) (k : ℕ) : Type 0 where
+  pub reached : IsReached d k
+  pub itself : ReachesItself d k
+  pub first : (j : ℕ) → j < k → IsReached d j → ¬ ReachesItself d j
 
 -- numbers ascend from a least one on
 abbrev pub Ascend : ℕ → List ℕ → Type 0

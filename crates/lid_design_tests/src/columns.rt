@@ -1,13 +1,13 @@
 //! What drives the columns of a design, by their numbers.
 
 ghost use Rattle.lid_design.specs.WellFormed.{IsWellFormed};
-ghost use Rattle.lid_rules.specs.Acceptance.{ModelsPass};
 
 use crate::told::design_of;
-use lid_elab::{Driver, Elaboration, elaborate};
+use lid_elab::{ColumnDriver, Elaboration, elaborate};
 use lid_design::Design;
 use lid_judge::check_models;
-use lid_hierarchy::{Survey, is_well_formed};
+use lid_hierarchy::is_well_formed;
+use lid_wiring::{Judged, judge};
 use std::alloc::{AllocError, Global};
 use std::process::Abort;
 use std::test::Fail;
@@ -23,18 +23,18 @@ const NESTED: &str =
 .outputs o\n.subckt mid d=x q=o c=ck\n.end\n";
 
 /// A driver in words and numbers.
-fn shown(alloc: Global, driver: &Driver<'_>) -> Result<String, AllocError> {
+fn shown(alloc: Global, driver: &ColumnDriver<'_>) -> Result<String, AllocError> {
     match driver {
-        Driver::Given(place) => format!(in alloc; "given {place}"),
-        Driver::Held { first, input } => format!(in alloc; "held {first} {input}"),
-        Driver::Made { inputs, .. } => made(alloc, inputs.as_slice()),
-        Driver::Same(other) => format!(in alloc; "same {other}"),
+        ColumnDriver::Input(place) => format!(in alloc; "input {place}"),
+        ColumnDriver::Latch { first, input } => format!(in alloc; "latch {first} {input}"),
+        ColumnDriver::Cover { inputs, .. } => shown_cover(alloc, inputs.as_slice()),
+        ColumnDriver::Connection(other) => format!(in alloc; "connection {other}"),
     }
 }
 
 /// A cover, by the columns that it reads.
-fn made(alloc: Global, inputs: &[u32]) -> Result<String, AllocError> {
-    let mut text = String::from_str(alloc, "made")?;
+fn shown_cover(alloc: Global, inputs: &[u32]) -> Result<String, AllocError> {
+    let mut text = String::from_str(alloc, "cover")?;
     for input in inputs {
         text.push_str(format!(in alloc; " {input}")?.as_str())?;
     }
@@ -55,10 +55,8 @@ fn lines(alloc: Global, elaboration: &Elaboration<'_>) -> Result<String, AllocEr
 }
 
 /// Whether the columns of a design that meets the conditions on models have these lines.
-fn has_lines(alloc: Global, survey: &Survey<'_>, wanted: &str) -> Result<bool, AllocError>
-    requires { ModelsPass survey.now }
-{
-    let elaboration = elaborate(alloc, survey)?;
+fn has_lines(alloc: Global, judged: &Judged<'_>, wanted: &str) -> Result<bool, AllocError> {
+    let elaboration = elaborate(alloc, judged)?;
     let text = lines(alloc, &elaboration)?;
     Ok(text.as_str() == wanted)
 }
@@ -68,7 +66,10 @@ fn is_elaborated(alloc: Global, design: &Design, wanted: &str) -> Result<bool, A
     requires { IsWellFormed design.now }
 {
     match check_models(alloc, design) {
-        Ok(survey) => has_lines(alloc, &survey, wanted),
+        Ok(survey) => {
+            let judged = judge(survey);
+            has_lines(alloc, &judged, wanted)
+        }
         Err(_) => Ok(false),
     }
 }
@@ -94,14 +95,15 @@ fn nested(rt: &impl Abort, alloc: Global) -> Design {
 #[test]
 fn two_instances_of_a_model(rt: HostRuntime) -> Result<(), Fail> {
     let design = design_of(&rt, rt.alloc(), TWO);
-    let wanted =
-        "given 0\nsame 6\nsame 4\nsame 0\nheld true 3\nsame 2\nheld true 5\nstart 3\nstart 5\n";
+    let wanted = "input 0\nconnection 6\nconnection 4\nconnection 0\nlatch true 3\nconnection 2\n\
+latch true 5\nstart 3\nstart 5\n";
     expect(&rt, rt.alloc(), &design, wanted)
 }
 
 #[test]
 fn an_instance_in_an_instance(rt: HostRuntime) -> Result<(), Fail> {
     let design = nested(&rt, rt.alloc());
-    let wanted = "given 0\nsame 3\nsame 0\nmade 4 2\nsame 6\nsame 2\nheld false 5\nstart 2\n";
+    let wanted = "input 0\nconnection 3\nconnection 0\ncover 4 2\nconnection 6\nconnection 2\n\
+latch false 5\nstart 2\n";
     expect(&rt, rt.alloc(), &design, wanted)
 }

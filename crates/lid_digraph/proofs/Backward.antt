@@ -6,7 +6,7 @@ use Rattle.std.proofs.lemmas.List.Sums.{sum_by-set}
 use Rattle.lid_base.specs.Lists.{Among}
 use Rattle.lid_base.proofs.Lists.{among_left, among_last, among_push}
 use Rattle.lid_digraph.specs.Graphs.{reads_at, flag, WalkPast, IsReaching}
-use Rattle.lid_digraph.specs.Parts.{unmarked, count_false}
+use Rattle.lid_digraph.specs.PartialOrders.{unmarked, count_false}
 use Rattle.lid_digraph.specs.Searches.{IsFeeding, AreMarked, Marks, IsSearch}
 use Rattle.lid_digraph.proofs.Lists.{flag_here, flag_there}
 use Rattle.lid_digraph.proofs.Walking.{past_first}

@@ -1,7 +1,7 @@
 pub mod Lists
 pub mod Walking
 pub mod Orders
-pub mod Partial
+pub mod PartialOrders
 pub mod Trails
 pub mod Uphill
 pub mod Backward

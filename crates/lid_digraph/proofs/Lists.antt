@@ -1,16 +1,12 @@
 -- Numbers among a list, its fronts, and marks.
-use Rattle.std.proofs.Common.{◌≡◌, ℕ, zero, suc, ◌+◌, ◌<◌, ◌≢◌, ◌⊎◌, inl, inr, Bool, true, false, List, [], ◌∷◌, ◌++◌, length, get_or, set, take, drop, refl, sym, subst, arith}
+use Rattle.std.proofs.Common.{◌≡◌, ℕ, zero, suc, ◌+◌, ◌<◌, ◌≢◌, inl, inr, Bool, true, false, List, [], ◌∷◌, ◌++◌, length, get_or, set, take, drop, refl, sym, subst, arith}
 use Rattle.std.proofs.lemmas.List.{get_or-set_same, get_or-set_other, get_or_default}
 use Rattle.std.proofs.lemmas.List.Sums.{sum_by-cons}
 use Rattle.std.proofs.lemmas.Grind.{common_steps}
 use Rattle.lid_base.specs.Lists.{Among}
+use Rattle.lid_base.proofs.Lists.{among_at}
 use Rattle.lid_digraph.specs.Graphs.{reads_at, IsGraph, flag}
-use Rattle.lid_digraph.specs.Parts.{AreBelow, marked, count_true}
-
-pub among_at : (xs : List ℕ) (i : ℕ) → i < length xs → Among (get_or xs i 0) xs
-among_at [] i h = absurd (omega arith)
-among_at (x ∷ xs) zero h = inl refl
-among_at (x ∷ xs) (suc i) h = inr (among_at xs i (omega arith))
+use Rattle.lid_digraph.specs.PartialOrders.{AreBelow, marked, count_true}
 
 pub index_among : (b : ℕ) (xs : List ℕ) → Among b xs → (i : ℕ) × (i < length xs) × (get_or xs i 0 ≡ b)
 index_among b [] h = absurd h
@@ -64,7 +60,7 @@ none_marked (false ∷ flags) (suc k) h =
 
 -- what a number reads are numbers of the graph
 pub row_below : (g : List (List ℕ)) → IsGraph g → (k : ℕ) → AreBelow (length g) (reads_at g k)
-row_below g graph k i d h = subst (λ (x : ℕ). x < length g) (get_or_default (reads_at g k) i 0 d h) (graph.within k (get_or (reads_at g k) i 0) (among_at (reads_at g k) i h))
+row_below g graph k i d h = subst (λ (x : ℕ). x < length g) (get_or_default (reads_at g k) i 0 d h) (graph.within k (get_or (reads_at g k) i 0) (among_at (reads_at g k) i 0 h))
 
 -- what a whole slice of a vector became is what the vector has
 pub whole_written : {A : Type 0} (n : ℕ) (new items : List A) → length new ≡ length items → n ≡ length items → take n (new ++ drop (length new) items) ≡ new

@@ -5,7 +5,7 @@ use Rattle.std.proofs.lemmas.Bool.{eqb-true}
 use Rattle.std.proofs.lemmas.Map.Steps.{length-le_from_distinct_below}
 use Rattle.lid_base.specs.Lists.{Among}
 use Rattle.lid_digraph.specs.Graphs.{reads_at, Walk, IsOnLoop, flag}
-use Rattle.lid_digraph.specs.Parts.{IsStuck}
+use Rattle.lid_digraph.specs.PartialOrders.{IsStuck}
 use Rattle.lid_digraph.proofs.Lists.{flag_within}
 use Rattle.lid_digraph.proofs.Walking.{walk_first}
 

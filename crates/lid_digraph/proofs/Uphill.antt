@@ -2,7 +2,7 @@
 use Rattle.std.proofs.Common.{◌≡◌, ℕ, zero, suc, ◌<◌, Bool, true, false, List, length, get_or, replicate, refl, sym, ◌∙◌, ap, subst, arith}
 use Rattle.lid_base.specs.Lists.{Among}
 use Rattle.lid_digraph.specs.Graphs.{reads_at, Walk, flag}
-use Rattle.lid_digraph.specs.Parts.{HoldsLoops, IsUphill}
+use Rattle.lid_digraph.specs.PartialOrders.{MarksLoops, IsUphill}
 use Rattle.lid_digraph.proofs.Orders.{reader_within, loop_within}
 
 module _ (g : List (List ℕ)) (marks : List Bool) (ranks : List ℕ) (up : (c : ℕ) → c < length g → IsUphill g marks ranks c) where
@@ -13,7 +13,7 @@ module _ (g : List (List ℕ)) (marks : List Bool) (ranks : List ℕ) (up : (c :
       let step = (up c (reader_within g c w.0 w.2) w.0 w.2).0 in
       omega arith
 
-  pub uphill_holds : HoldsLoops g marks
+  pub uphill_holds : MarksLoops g marks
   uphill_holds k on = by_flag (flag marks k) refl
     where
       by_flag : (b : Bool) → b ≡ flag marks k → flag marks k ≡ true
@@ -26,5 +26,5 @@ all_true (suc n) zero h = refl
 all_true (suc n) (suc k) h = all_true n k (omega arith)
 
 -- where all numbers are marked
-pub all_hold : (g : List (List ℕ)) (marks : List Bool) → marks ≡ replicate (length g) true → HoldsLoops g marks
+pub all_hold : (g : List (List ℕ)) (marks : List Bool) → marks ≡ replicate (length g) true → MarksLoops g marks
 all_hold g marks e k on = ap (λ (flags : List Bool). flag flags k) e ∙ all_true (length g) k (loop_within g k on)

@@ -2,7 +2,7 @@
 use Rattle.std.proofs.Common.{◌≡◌, ℕ, zero, suc, ◌↔◌, Bool, true, false, List, set, refl, ◌∙◌, subst}
 use Rattle.lid_base.specs.Lists.{Among}
 use Rattle.lid_digraph.specs.Graphs.{reads_at, Walk, IsOnLoop, flag, WalkPast}
-use Rattle.lid_digraph.specs.Parts.{SparesLoops}
+use Rattle.lid_digraph.specs.PartialOrders.{SparesLoops}
 use Rattle.lid_digraph.specs.Searches.{IsFeeding}
 use Rattle.lid_digraph.proofs.Lists.{flag_there}
 

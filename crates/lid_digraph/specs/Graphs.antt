@@ -1,5 +1,5 @@
 -- Graphs of numbers: what each number reads, walks, loops and orders.
-use Rattle.std.specs.Prelude.{◌≡◌, ℕ, zero, suc, ◌<◌, ◌^◌, Bool, true, false, List, [], ◌∷◌, take, length, slice_index, slice_index_or}
+use Rattle.std.specs.Prelude.{◌≡◌, ℕ, zero, suc, ◌<◌, ◌^◌, Bool, true, false, List, [], take, length, slice_index, slice_index_or}
 use Rattle.lid_base.specs.Lists.{Among}
 
 -- the numbers that k reads; none where there is no k

@@ -1,5 +1,5 @@
 pub mod Graphs
-pub mod Parts
-pub mod Rankings
+pub mod PartialOrders
+pub mod Traversals
 pub mod Searches
 pub mod Results

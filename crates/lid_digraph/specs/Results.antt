@@ -1,7 +1,7 @@
 -- What the search for an order finds.
 use Rattle.std.specs.Prelude.{ℕ, ◌<◌, List}
-use Rattle.lid_digraph.specs.declared.finding.Found.{Found}
-use Rattle.lid_digraph.specs.declared.finding.Found.TheVariants.{Order, Loop}
+use Rattle.lid_digraph.specs.declared.topological.Found.{Found}
+use Rattle.lid_digraph.specs.declared.topological.Found.TheVariants.{Order, Loop}
 use Rattle.lid_digraph.specs.Graphs.{IsOnLoop, HasNoLoop, IsOrder}
 
 -- the least number on a closed walk

@@ -1,8 +1,8 @@
--- The search back from a number.
+-- For the loops: the search back from a number.
 use Rattle.std.specs.Prelude.{◌≡◌, ℕ, suc, ◌+◌, ◌*◌, ◌≤◌, ◌⊎◌, Bool, true, false, List, length}
 use Rattle.lid_base.specs.Lists.{Among}
 use Rattle.lid_digraph.specs.Graphs.{reads_at, flag, WalkPast}
-use Rattle.lid_digraph.specs.Parts.{unmarked}
+use Rattle.lid_digraph.specs.PartialOrders.{unmarked}
 
 -- a walk past the cut with at least one edge leads from a to c
 abbrev pub IsFeeding : List (List ℕ) → List Bool → ℕ → ℕ → Type 0

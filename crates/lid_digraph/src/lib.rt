@@ -1,13 +1,14 @@
-//! Orders of numbers that read one another, closed walks, and what reaches what.
+//! Directed graphs of numbers that read one another: topological orders, closed walks, and what reaches
+//! what.
 #![tactic(auto)]
 
-mod finding;
-mod ranking;
-mod rows;
-mod searching;
-mod taking;
-mod visiting;
+mod adjacency;
+mod depth_first;
+mod partial_order;
+mod reachability;
+mod tarjan;
+mod topological;
 
-pub use finding::{Found, find_order};
-pub use rows::is_graph;
-pub use searching::{find_reached, find_reaching};
+pub use adjacency::{Digraph, is_graph};
+pub use reachability::{find_reached, find_reaching};
+pub use topological::{Found, find_order};

@@ -8,27 +8,28 @@ use Rattle.std.proofs.lemmas.Bool.Decides.{eqb_tells}
 use Rattle.std.proofs.lemmas.List.{length-map}
 use Rattle.std.proofs.lemmas.Option.{slice_get-map, slice_get_read}
 use Rattle.lid_base.proofs.Lists.{get_among}
-use Rattle.lid_rules.proofs.Subs.{position_below}
+use Rattle.lid_names.proofs.Numbers.{position_below}
 use Rattle.lid_design.specs.declared.Design.{Design}
 use Rattle.lid_design.specs.declared.Model.{Model}
 use Rattle.lid_design.specs.declared.Inst.{Inst}
 use Rattle.lid_design.specs.declared.Bind.{Bind}
-use Rattle.lid_design.specs.Models.{firsts, insts_of, number_named, number_from, instance_number, IsReached}
-use Rattle.lid_design.specs.Places.{model_nets}
+use Rattle.lid_design.specs.Models.{firsts, insts_of, number_named, number_from, instance_number, IsReached, formal_of, data_inputs_of}
+use Rattle.lid_design.specs.Elaboration.{model_nets}
 use Rattle.lid_names.specs.Names.{texts}
 use Rattle.lid_hierarchy.proofs.Fixpoints.{find_position}
 use Rattle.lid_hierarchy.proofs.Numbers.{bytes_eq_comm}
 use Rattle.lid_elab.specs.Numbers.{offset_of}
-use Rattle.lid_elab.specs.Locals.{of_net, first_name_of, actual_for}
+use Rattle.lid_wiring.specs.Locals.{of_net, first_name_of, actual_for, model_locals}
 use Rattle.lid_elab.specs.Templates.{place_in}
-use Rattle.lid_elab.specs.Parts.{formal_of, Shows, picks_among, places_bound, places_in_inst}
-use Rattle.lid_elab.specs.Writing.{IsJudged, IsTemplate, IsPicked, ArePicked, model_locals, model_inputs}
+use Rattle.lid_elab.specs.Parts.{Shows, picks_among, places_bound, places_in_inst, IsTemplate, IsPicked, ArePicked}
+use Rattle.lid_wiring.specs.Judged.{IsJudged}
 use Rattle.lid_elab.specs.declared.driven.Driven.{Driven}
 use Rattle.lid_elab.specs.declared.template.LocalDriver.{LocalDriver}
 use Rattle.lid_elab.specs.declared.template.Template.{Template}
-use Rattle.lid_elab.proofs.Passing.{IsSoundInst}
-use Rattle.lid_elab.proofs.Wired.{Sub, sub_of, sound}
-use Rattle.lid_elab.proofs.Picking.{once_firsts, picked_by}
+use Rattle.lid_wiring.proofs.Passing.{IsSoundInst}
+use Rattle.lid_wiring.proofs.Wired.{Sub, sub_of, sound}
+use Rattle.lid_wiring.proofs.Driven.{once_firsts}
+use Rattle.lid_elab.proofs.Picking.{picked_by}
 
 prefix_map : {A B : Type 0} (f : A → B) (p : B → Bool) (xs : List A) → prefix_len p (map f xs) ≡ prefix_len (λ x. p (f x)) xs
 prefix_map f p [] = refl
@@ -111,10 +112,10 @@ module _ (d : Design) (judged : IsJudged d) (k : ℕ) (reached : IsReached d k) 
       own = ap (λ (o : Option Model). slice_get (option_map_or (λ m. m.insts) o []) i) (sym here) ∙ at
 
       sub : Sub d inst
-      sub = sub_of d judged.formed judged.order judged.ordered judged.known judged.pass k reached m here i inst own
+      sub = sub_of d judged k reached m here i inst own
 
       judged_inst : IsSoundInst d sub.model inst
-      judged_inst = (sound d judged.formed judged.order judged.ordered judged.known judged.pass k reached m here).insts i inst sub.model own sub.named
+      judged_inst = (sound d judged k reached m here).insts i inst sub.model own sub.named
 
   -- the first places of the nets among those that are driven pick what drives them
   pub nets_picked : (all : List LocalDriver) (picks : List ℕ) (driven : Driven) → Shows d k (model_locals d k) driven → all ≡ driven.locals.items → picks ≡ picks_among d k (firsts (texts driven.nets.items)) → ArePicked d k all picks
@@ -135,20 +136,7 @@ module _ (d : Design) (judged : IsJudged d) (k : ℕ) (reached : IsReached d k) 
 
 -- the parts of a template make it
 pub template_whole : (d : Design) (k : ℕ) (t : Template) → ArePicked d k t.locals t.picks → length t.offsets ≡ length (insts_of d k) → ((i o : ℕ) → slice_get t.offsets i ≡ Some o → o ≡ offset_of d k i) → t.actuals ≡ map (places_in_inst d k) (insts_of d k) → IsTemplate d k t
-template_whole d k t picked few offset actuals = record {
-  long = picked.long;
-  each = picked.each;
-  few = few;
-  offset = offset;
-  actual = actual;
-}
-  where
-    actual : (i j : ℕ) (inst : Inst) → slice_get (insts_of d k) i ≡ Some inst → instance_number d i k ≡ Some j → slice_get t.actuals i ≡ Some (map (λ formal. place_in d k (actual_for inst formal)) (model_inputs d j))
-    actual i j inst at number =
-        ap (λ (rows : List (List ℕ)). slice_get rows i) actuals
-        ∙ slice_get-map (places_in_inst d k) (insts_of d k) i
-        ∙ ap (option_map (places_in_inst d k)) at
-        ∙ ap Some (bound_in d k i j inst at number)
+template_whole d k t picked few offset actuals = record { picked = picked; offsets = record { long = few; each = offset }; actuals = actuals }
 
 get_last : {A : Type 0} (xs : List A) (x : A) → slice_get (xs ++ x ∷ []) (length xs) ≡ Some x
 get_last [] x = refl

@@ -9,21 +9,16 @@ use Rattle.lid_base.proofs.Lists.{among_left, among_right, last_case}
 use Rattle.lid_design.specs.declared.Design.{Design}
 use Rattle.lid_design.specs.declared.Inst.{Inst}
 use Rattle.lid_design.specs.Models.{insts_of, instance_number, number_named, IsReached}
-use Rattle.lid_design.specs.Places.{model_nets}
+use Rattle.lid_design.specs.Elaboration.{model_nets}
 use Rattle.lid_hierarchy.specs.Surveys.{StandsAfterItsModels, IsModelOrder}
 use Rattle.lid_elab.specs.Numbers.{over_insts, size_of, offset_of}
 use Rattle.lid_elab.specs.Parts.{AreSizes, HasSizes}
-use Rattle.lid_elab.specs.Writing.{IsJudged}
-use Rattle.lid_elab.proofs.Judged.{shallow_of, few_columns, within}
-use Rattle.lid_elab.proofs.Stacking.{size_sum}
+use Rattle.lid_wiring.specs.Judged.{IsJudged}
+use Rattle.lid_wiring.proofs.Limits.{few_columns}
+use Rattle.lid_wiring.proofs.Shallow.{shallow_of}
+use Rattle.lid_elab.proofs.Numbering.{within}
+use Rattle.lid_elab.proofs.Stacking.{size_sum, over_step}
 use Rattle.lid_hierarchy.proofs.Walks.{reached_below}
-
--- one more instance of a list
-over_step : (d : Design) (f : ℕ → ℕ) (insts : List Inst) (i : ℕ) → over_insts d f (take (suc i) insts) ≡ over_insts d f (take i insts) + option_map_or f (option_and_then (λ inst. number_named d inst.model) (slice_get insts i)) 0
-over_step d f [] zero = refl
-over_step d f [] (suc i) = refl
-over_step d f (x ∷ insts) zero = omega arith
-over_step d f (x ∷ insts) (suc i) = let e = over_step d f insts i in omega arith
 
 over_some : (d : Design) (f : ℕ → ℕ) (insts : List Inst) (i : ℕ) → over_insts d f (take i insts) ≤ over_insts d f insts
 over_some d f insts zero = omega arith

@@ -5,21 +5,22 @@ use Rattle.std.specs.List.{flat_map, enumerate_from}
 use Rattle.std.proofs.lemmas.List.{map-append, append-nil, length-map}
 use Rattle.std.proofs.lemmas.Option.{slice_get-map, slice_get_read, slice_get_within}
 use Rattle.lid_names.specs.Names.{texts}
-use Rattle.lid_rules.proofs.Sets.{filter_same, is_among_firsts}
+use Rattle.lid_base.proofs.Lists.{filter_same}
+use Rattle.lid_names.proofs.Lists.{is_among_firsts}
 use Rattle.lid_design.specs.declared.Design.{Design}
 use Rattle.lid_design.specs.declared.Model.{Model}
 use Rattle.lid_design.specs.declared.Inst.{Inst}
 use Rattle.lid_design.specs.declared.Bind.{Bind}
 use Rattle.lid_design.specs.Columns.{is_clock, data_inputs}
-use Rattle.lid_design.specs.Models.{is_clock_of, firsts, insts_of, number_named, instance_number, IsReached}
-use Rattle.lid_elab.specs.Locals.{Local, NetLocal, inputs_from, local_input, local_connection, local_of, output_of, outputs_of, locals}
+use Rattle.lid_design.specs.Models.{is_clock_of, firsts, insts_of, number_named, instance_number, IsReached, data_inputs_of}
+use Rattle.lid_wiring.specs.Locals.{Local, NetLocal, inputs_from, local_input, local_connection, local_of, output_of, outputs_of, locals, model_locals}
 use Rattle.lid_elab.specs.Templates.{shown_local, numbered}
 use Rattle.lid_elab.specs.Parts.{net_of, numbered_local, Grows, Shows, data_of, output_sets}
-use Rattle.lid_elab.specs.Writing.{IsJudged, model_locals, model_inputs}
+use Rattle.lid_wiring.specs.Judged.{IsJudged}
 use Rattle.lid_elab.specs.declared.driven.Driven.{Driven}
 use Rattle.lid_elab.specs.declared.template.LocalDriver.{LocalDriver}
-use Rattle.lid_elab.proofs.Clocking.{named_model}
-use Rattle.lid_elab.proofs.Picking.{map_some}
+use Rattle.lid_wiring.proofs.Clocking.{named_model}
+use Rattle.lid_wiring.proofs.Names.{map_some}
 use Rattle.lid_elab.proofs.Outer.{get_of}
 use Rattle.lid_elab.proofs.Counting.{model_below}
 
@@ -188,7 +189,7 @@ module _ (d : Design) (k : ℕ) where
     unfolding data_inputs
     data_is = filter_same (λ net. not (is_clock_of d k net)) (λ net. not (is_clock d m net)) m.inputs (λ net. ap (λ (o : Option Model). not (option_map_or (λ m. is_clock d m net) o false)) here)
 
-    pub inputs_are : data_of d k m.inputs ≡ model_inputs d k
+    pub inputs_are : data_of d k m.inputs ≡ data_inputs_of d k
     inputs_are = data_is ∙ sym (ap (λ (o : Option Model). option_map_or (data_inputs d) o []) here)
 
     -- all that drives nets of a model

@@ -8,18 +8,18 @@ use Rattle.lid_design.specs.declared.Design.{Design}
 use Rattle.lid_design.specs.declared.Inst.{Inst}
 use Rattle.lid_design.specs.Columns.{column}
 use Rattle.lid_design.specs.Models.{insts_of, instance_number, number_from, IsReached}
-use Rattle.lid_design.specs.Places.{model_nets, columns, places}
+use Rattle.lid_design.specs.Elaboration.{model_nets, columns, instances}
 use Rattle.lid_elab.specs.Numbers.{over_insts, size_of, offset_of, start_of, weight_of, IsSpot}
-use Rattle.lid_elab.specs.Writing.{IsJudged, AreTemplates}
+use Rattle.lid_wiring.specs.Judged.{IsJudged}
+use Rattle.lid_elab.specs.Parts.{AreTemplates}
 use Rattle.lid_elab.specs.declared.template.Template.{Template}
-use Rattle.lid_elab.proofs.Shallow.{IsShallow}
+use Rattle.lid_wiring.proofs.Shallow.{IsShallow}
 use Rattle.lid_elab.proofs.Numbering.{columns_length, starts_at}
 use Rattle.lid_elab.proofs.Stacking.{size_sum, weight_sum, over_more}
-use Rattle.lid_elab.proofs.Judged.{shallow_of}
 
 module _ (d : Design) where
   pub root_spot : (number : ℕ) → number < length (columns d) → IsSpot d [] d.root number number
-  unfolding size_of columns places start_of number_from
+  unfolding size_of columns instances start_of number_from
   root_spot number below = record {
     leads = refl;
     sum = zero-add number;
@@ -90,10 +90,10 @@ offsets_are d ts all k reached t offsets same =
     let found = all k reached in
     let own : offsets ≡ found.0.offsets = same ∙ ap (λ (x : Template). x.offsets) (get_or_from_slice_get ts k found.0 t found.1) in
     record {
-      few = ap length own ∙ found.2.few;
-      each = λ i h. found.2.offset i (get_or offsets i 0) (ap (λ (os : List ℕ). slice_get os i) (sym own) ∙ slice_get-get_or offsets i 0 h);
+      few = ap length own ∙ found.2.offsets.long;
+      each = λ i h. found.2.offsets.each i (get_or offsets i 0) (ap (λ (os : List ℕ). slice_get os i) (sym own) ∙ slice_get-get_or offsets i 0 h);
     }
 
 -- the column of a net
 pub spot_column : (d : Design) → IsJudged d → (path : List ℕ) (k number total : ℕ) → IsSpot d path k number total → (net : List ℕ) → slice_get (model_nets d k) number ≡ Some net → slice_get (columns d) total ≡ Some (column path net)
-spot_column d judged path k number total is net here = ap (slice_get (columns d)) (sym is.sum) ∙ starts_at d (shallow_of d judged) path k number net is.leads here
+spot_column d judged path k number total is net here = ap (slice_get (columns d)) (sym is.sum) ∙ starts_at d judged path k number net is.leads here

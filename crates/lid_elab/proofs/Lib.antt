@@ -1,16 +1,8 @@
-pub mod Names
-pub mod Passing
-pub mod Shallow
 pub mod Numbering
-pub mod Locals
-pub mod Clocking
-pub mod Wired
-pub mod Single
 pub mod Located
 pub mod Every
 pub mod Steps
-pub mod Placing
-pub mod Judged
+pub mod Placed
 pub mod Outer
 pub mod Stacking
 pub mod Whole

@@ -11,9 +11,10 @@ use Rattle.lid_design.specs.declared.Model.{Model}
 use Rattle.lid_design.specs.declared.Inst.{Inst}
 use Rattle.lid_design.specs.Columns.{Column, column, is_clock}
 use Rattle.lid_design.specs.Models.{occurrences, firsts, nets, insts_of, number_named, instance_number, number_from, IsReached}
-use Rattle.lid_design.specs.Places.{place, places, model_nets, columns_at, columns}
+use Rattle.lid_design.specs.Elaboration.{instance, instances, model_nets, columns_at, columns}
 use Rattle.lid_elab.specs.Numbers.{over_insts, size_within, size_of, offset_of, start_of, columns_in}
-use Rattle.lid_elab.proofs.Shallow.{IsShallow, shallow_le}
+use Rattle.lid_wiring.specs.Judged.{IsJudged}
+use Rattle.lid_wiring.proofs.Shallow.{IsShallow, shallow_le, shallow_of}
 use Rattle.lid_elab.proofs.Numbering.{block, columns_step, columns_length, size_same, over_same, take_get, at_length}
 
 -- where an item of two joined lists stands
@@ -146,11 +147,11 @@ module _ (d : Design) where
           let last : suc (n + more) ≡ total = omega arith in
           by more (n + more) refl ∙ size_same d (n + more) k (shallow_le d n (n + more) k (omega arith) deep) ∙ ap (λ (x : ℕ). size_within x d k) last
 
-  module _ (shallow : (k : ℕ) → IsReached d k → IsShallow d (length d.models) k) where
+  module _ (judged : IsJudged d) where
     located_in : (n : ℕ) (path : List ℕ) (k : ℕ) → n ≤ length d.models → number_from d d.root path ≡ Some k → IsShallow d n k → (m : ℕ) (c : Column) → slice_get (columns_in n d path k) m ≡ Some c → Located d (start_of d path + m) c
     unfolding number_from start_of size_of
     located_in zero path k le leads none m c here = absurd none
-    located_in (suc n) path k le leads deep m c here = by (get_split (columns_at d (place path k)) (flat_map (block d n path) (enumerate_from 0 (insts_of d k))) m c (ap (λ (cs : List Column). slice_get cs m) (sym (columns_step d n path k)) ∙ here)) (λ i j m c inner leads sub. located_in n (i ∷ path) j (omega arith) leads sub m c inner)
+    located_in (suc n) path k le leads deep m c here = by (get_split (columns_at d (instance path k)) (flat_map (block d n path) (enumerate_from 0 (insts_of d k))) m c (ap (λ (cs : List Column). slice_get cs m) (sym (columns_step d n path k)) ∙ here)) (λ i j m c inner leads sub. located_in n (i ∷ path) j (omega arith) leads sub m c inner)
       where
         own : (o : Option (List ℕ)) → slice_get (model_nets d k) m ≡ o → option_map (column path) o ≡ Some c → Located d (start_of d path + m) c
         own None e none = absurd (let f : None ≡ Some c = none in cc)
@@ -158,7 +159,7 @@ module _ (d : Design) where
             let same : column path net ≡ c = (let f : Some (column path net) ≡ Some c = is in cc) in
             subst (Located d (start_of d path + m)) same (record { model = k; leads = leads; net = m; here = e; sum = refl })
 
-        by : (slice_get (columns_at d (place path k)) m ≡ Some c) ⊎ ((rest : ℕ) × (m ≡ length (columns_at d (place path k)) + rest) × (slice_get (flat_map (block d n path) (enumerate_from 0 (insts_of d k))) rest ≡ Some c)) → ((i j m : ℕ) (c : Column) → slice_get (columns_in n d (i ∷ path) j) m ≡ Some c → number_from d d.root (i ∷ path) ≡ Some j → IsShallow d n j → Located d (start_of d (i ∷ path) + m) c) → Located d (start_of d path + m) c
+        by : (slice_get (columns_at d (instance path k)) m ≡ Some c) ⊎ ((rest : ℕ) × (m ≡ length (columns_at d (instance path k)) + rest) × (slice_get (flat_map (block d n path) (enumerate_from 0 (insts_of d k))) rest ≡ Some c)) → ((i j m : ℕ) (c : Column) → slice_get (columns_in n d (i ∷ path) j) m ≡ Some c → number_from d d.root (i ∷ path) ≡ Some j → IsShallow d n j → Located d (start_of d (i ∷ path) + m) c) → Located d (start_of d path + m) c
         by (inl mine) next = own (slice_get (model_nets d k) m) refl (sym (slice_get-map (column path) (model_nets d k) m) ∙ mine)
         by (inr (rest, sum, later)) next =
             let found = in_block n path 0 (insts_of d k) rest c later in
@@ -175,8 +176,8 @@ module _ (d : Design) where
             subst (λ (x : ℕ). Located d x c) whole there
 
     pub located : (n : ℕ) (c : Column) → slice_get (columns d) n ≡ Some c → Located d n c
-    unfolding columns places start_of number_from
-    located n c here = subst (λ (x : ℕ). Located d x c) (zero-add n) (located_in (length d.models) [] d.root (omega arith) refl (shallow d.root ([], refl)) n c here)
+    unfolding columns instances start_of number_from
+    located n c here = subst (λ (x : ℕ). Located d x c) (zero-add n) (located_in (length d.models) [] d.root (omega arith) refl (shallow_of d judged d.root ([], refl)) n c here)
 
     -- each column has one number
     pub columns_once : (i j : ℕ) (c : Column) → slice_get (columns d) i ≡ Some c → slice_get (columns d) j ≡ Some c → i ≡ j

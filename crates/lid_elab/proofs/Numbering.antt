@@ -1,5 +1,5 @@
 -- Where the columns of a place stand among all columns.
-use Rattle.std.proofs.Common.{◌≡◌, ℕ, zero, suc, ◌+◌, List, [], ◌∷◌, ◌++◌, length, take, Option, Some, None, option_and_then, option_map, slice_get, refl, sym, ◌∙◌, ap, subst, arith, append_assoc, length-append, add-zero, zero-add}
+use Rattle.std.proofs.Common.{◌≡◌, ℕ, zero, suc, ◌+◌, List, [], ◌∷◌, ◌++◌, length, take, Option, Some, None, option_and_then, option_map, slice_get, refl, sym, ◌∙◌, ap, subst, arith, ◌≤◌, append_assoc, length-append, add-zero, zero-add}
 use Rattle.std.specs.Option.{option_map_or}
 use Rattle.std.specs.List.{flat_map, enumerate_from}
 use Rattle.std.proofs.lemmas.List.{length-map, append-nil}
@@ -10,10 +10,11 @@ use Rattle.lid_design.specs.declared.Design.{Design}
 use Rattle.lid_design.specs.declared.Inst.{Inst}
 use Rattle.lid_design.specs.Columns.{Column, column}
 use Rattle.lid_design.specs.Models.{insts_of, number_named, instance_number, number_from, IsReached}
-use Rattle.lid_design.specs.Places.{Place, place, places_in, places, model_nets, columns_at, columns}
+use Rattle.lid_design.specs.Elaboration.{Instance, instance, instances_in, instances, model_nets, columns_at, columns}
 use Rattle.lid_elab.specs.Numbers.{over_insts, size_within, size_of, offset_of, start_of, columns_in, StandsAt}
 use Rattle.lid_elab.specs.Elaborations.{StartsAt}
-use Rattle.lid_elab.proofs.Shallow.{IsShallow}
+use Rattle.lid_wiring.specs.Judged.{IsJudged}
+use Rattle.lid_wiring.proofs.Shallow.{IsShallow, shallow_of}
 
 -- a part of a part
 pub stands_left : {A : Type 0} (whole : List A) (start : ℕ) (xs ys : List A) → StandsAt whole start (xs ++ ys) → StandsAt whole start xs
@@ -55,22 +56,22 @@ module _ (d : Design) where
   abbrev pub block : ℕ → List ℕ → ℕ × Inst → List Column
   block n path q = option_map_or (columns_in n d (q.0 ∷ path)) (number_named d q.1.model) []
 
-  pub columns_step : (n : ℕ) (path : List ℕ) (k : ℕ) → columns_in (suc n) d path k ≡ columns_at d (place path k) ++ flat_map (block n path) (enumerate_from 0 (insts_of d k))
-  columns_step n path k = ap (λ (cs : List Column). columns_at d (place path k) ++ cs) (inner (enumerate_from 0 (insts_of d k)))
+  pub columns_step : (n : ℕ) (path : List ℕ) (k : ℕ) → columns_in (suc n) d path k ≡ columns_at d (instance path k) ++ flat_map (block n path) (enumerate_from 0 (insts_of d k))
+  columns_step n path k = ap (λ (cs : List Column). columns_at d (instance path k) ++ cs) (inner (enumerate_from 0 (insts_of d k)))
     where
-      at : (i : ℕ) (o : Option ℕ) → flat_map (columns_at d) (option_map_or (places_in n d (i ∷ path)) o []) ≡ option_map_or (columns_in n d (i ∷ path)) o []
+      at : (i : ℕ) (o : Option ℕ) → flat_map (columns_at d) (option_map_or (instances_in n d (i ∷ path)) o []) ≡ option_map_or (columns_in n d (i ∷ path)) o []
       at i None = refl
       at i (Some j) = refl
 
-      inner : (qs : List (ℕ × Inst)) → flat_map (columns_at d) (flat_map (λ p. option_map_or (places_in n d (p.0 ∷ path)) (number_named d p.1.model) []) qs) ≡ flat_map (block n path) qs
+      inner : (qs : List (ℕ × Inst)) → flat_map (columns_at d) (flat_map (λ p. option_map_or (instances_in n d (p.0 ∷ path)) (number_named d p.1.model) []) qs) ≡ flat_map (block n path) qs
       inner [] = refl
       inner (q ∷ qs) =
-          let rest : List Place = flat_map (λ p. option_map_or (places_in n d (p.0 ∷ path)) (number_named d p.1.model) []) qs in
-          flat_map-append (columns_at d) (option_map_or (places_in n d (q.0 ∷ path)) (number_named d q.1.model) []) rest
+          let rest : List Instance = flat_map (λ p. option_map_or (instances_in n d (p.0 ∷ path)) (number_named d p.1.model) []) qs in
+          flat_map-append (columns_at d) (option_map_or (instances_in n d (q.0 ∷ path)) (number_named d q.1.model) []) rest
           ∙ ap (λ (cs : List Column). cs ++ flat_map (columns_at d) rest) (at q.0 (number_named d q.1.model))
           ∙ ap (λ (cs : List Column). block n path q ++ cs) (inner qs)
 
-  pub at_length : (path : List ℕ) (k : ℕ) → length (columns_at d (place path k)) ≡ length (model_nets d k)
+  pub at_length : (path : List ℕ) (k : ℕ) → length (columns_at d (instance path k)) ≡ length (model_nets d k)
   at_length path k = length-map (model_nets d k) (column path)
 
   blocks_length : (n : ℕ) (path : List ℕ) → ((i j : ℕ) → length (columns_in n d (i ∷ path) j) ≡ size_within n d j) → (i : ℕ) (insts : List Inst) → length (flat_map (block n path) (enumerate_from i insts)) ≡ over_insts d (size_within n d) insts
@@ -86,11 +87,11 @@ module _ (d : Design) where
       one (Some j) = each i j
 
   pub columns_length : (n : ℕ) (path : List ℕ) (k : ℕ) → length (columns_in n d path k) ≡ size_within n d k
-  columns_length zero path k = ap length (append-nil (columns_at d (place path k))) ∙ at_length path k
+  columns_length zero path k = ap length (append-nil (columns_at d (instance path k))) ∙ at_length path k
   columns_length (suc n) path k =
       let subs = flat_map (block n path) (enumerate_from 0 (insts_of d k)) in
       ap length (columns_step n path k)
-      ∙ length-append (columns_at d (place path k)) subs
+      ∙ length-append (columns_at d (instance path k)) subs
       ∙ ap (λ (m : ℕ). m + length subs) (at_length path k)
       ∙ ap (λ (m : ℕ). length (model_nets d k) + m) (blocks_length n path (λ i j. columns_length n (i ∷ path) j) 0 (insts_of d k))
 
@@ -109,7 +110,7 @@ module _ (d : Design) where
   columns_same zero path k none = absurd none
   columns_same (suc n) path k shallow =
       columns_step n path k
-      ∙ ap (λ (cs : List Column). columns_at d (place path k) ++ cs) (blocks_same n path (λ i j sub. columns_same n (i ∷ path) j sub) 0 (insts_of d k) shallow)
+      ∙ ap (λ (cs : List Column). columns_at d (instance path k) ++ cs) (blocks_same n path (λ i j sub. columns_same n (i ∷ path) j sub) 0 (insts_of d k) shallow)
       ∙ sym (columns_step (suc n) path k)
 
   pub size_same : (n k : ℕ) → IsShallow d n k → size_within n d k ≡ size_within (suc n) d k
@@ -153,7 +154,7 @@ module _ (d : Design) where
   take_get (suc i) zero j (x ∷ insts) names = names
   take_get (suc i) (suc m) j (x ∷ insts) names = take_get i m j insts names
 
-  module _ (shallow : (k : ℕ) → IsReached d k → IsShallow d (length d.models) k) where
+  module _ (judged : IsJudged d) where
     abbrev Stands : List ℕ → ℕ → Type 0
     Stands path k = StandsAt (columns d) (start_of d path) (columns_in (length d.models) d path k)
 
@@ -163,26 +164,26 @@ module _ (d : Design) where
     sub_stands path k i j leads names stands = by (length d.models) refl
       where
         by : (n : ℕ) → length d.models ≡ n → Stands (i ∷ path) j
-        by zero e = absurd (subst (λ (n : ℕ). IsShallow d n k) e (shallow k (path, leads)))
+        by zero e = absurd (subst (λ (n : ℕ). IsShallow d n k) e (shallow_of d judged k (path, leads)))
         by (suc n) e =
-            let deep : IsShallow d (suc n) k = subst (λ (n : ℕ). IsShallow d n k) e (shallow k (path, leads)) in
+            let deep : IsShallow d (suc n) k = subst (λ (n : ℕ). IsShallow d n k) e (shallow_of d judged k (path, leads)) in
             let found = then_some (slice_get (insts_of d k) i) (λ inst. number_named d inst.model) j names in
-            let around : StandsAt (columns d) (start_of d path) (columns_at d (place path k) ++ flat_map (block n path) (enumerate_from 0 (insts_of d k))) =
+            let around : StandsAt (columns d) (start_of d path) (columns_at d (instance path k) ++ flat_map (block n path) (enumerate_from 0 (insts_of d k))) =
             subst (λ (cs : List Column). StandsAt (columns d) (start_of d path) cs) (ap (λ (m : ℕ). columns_in m d path k) e ∙ columns_step n path k) stands in
-            let right = stands_right (columns d) (start_of d path) (columns_at d (place path k)) (flat_map (block n path) (enumerate_from 0 (insts_of d k))) around in
-            let inner = inst_stands n path (columns d) (start_of d path + length (columns_at d (place path k))) 0 (insts_of d k) right i i j found.0 (zero-add i) found.1 found.2 in
+            let right = stands_right (columns d) (start_of d path) (columns_at d (instance path k)) (flat_map (block n path) (enumerate_from 0 (insts_of d k))) around in
+            let inner = inst_stands n path (columns d) (start_of d path + length (columns_at d (instance path k))) 0 (insts_of d k) right i i j found.0 (zero-add i) found.1 found.2 in
             let sizes : over_insts d (size_within n d) (take i (insts_of d k)) ≡ over_insts d (size_within (length d.models) d) (take i (insts_of d k)) =
             over_same (size_within n d) (size_within (length d.models) d) (take i (insts_of d k)) (λ m b named. size_same n b (deep m b (take_get i m b (insts_of d k) named)) ∙ ap (λ (l : ℕ). size_within l d b) (sym e)) in
             let first : start_of d (i ∷ path) ≡ start_of d path + offset_of d k i = ap (λ (o : Option ℕ). start_of d path + option_map_or (λ k. offset_of d k i) o 0) leads in
-            let start : (start_of d path + length (columns_at d (place path k))) + over_insts d (size_within n d) (take i (insts_of d k)) ≡ start_of d (i ∷ path) =
+            let start : (start_of d path + length (columns_at d (instance path k))) + over_insts d (size_within n d) (take i (insts_of d k)) ≡ start_of d (i ∷ path) =
             (let long = at_length path k in omega arith) in
             let whole : columns_in n d (i ∷ path) j ≡ columns_in (length d.models) d (i ∷ path) j =
             columns_same n (i ∷ path) j (deep i j names) ∙ ap (λ (m : ℕ). columns_in m d (i ∷ path) j) (sym e) in
             subst (λ (m : ℕ). StandsAt (columns d) m (columns_in (length d.models) d (i ∷ path) j)) start
-            (subst (λ (cs : List Column). StandsAt (columns d) ((start_of d path + length (columns_at d (place path k))) + over_insts d (size_within n d) (take i (insts_of d k))) cs) whole inner)
+            (subst (λ (cs : List Column). StandsAt (columns d) ((start_of d path + length (columns_at d (instance path k))) + over_insts d (size_within n d) (take i (insts_of d k))) cs) whole inner)
 
     pub numbering : (path : List ℕ) (k : ℕ) → number_from d d.root path ≡ Some k → Stands path k
-    unfolding number_from start_of columns places
+    unfolding number_from start_of columns instances
     numbering [] k leads =
         let root : d.root ≡ k = (let e : Some d.root ≡ Some k = leads in cc) in
         subst (Stands []) root (record { before = []; after = []; parts = sym (append-nil (columns d)); long = refl })
@@ -194,12 +195,24 @@ module _ (d : Design) where
     pub starts_at : (path : List ℕ) → StartsAt d path (start_of d path)
     starts_at path k j net leads here = by (length d.models) refl
       where
-        column-here : slice_get (columns_at d (place path k)) j ≡ Some (column path net)
+        column-here : slice_get (columns_at d (instance path k)) j ≡ Some (column path net)
         column-here = slice_get-map (column path) (model_nets d k) j ∙ ap (option_map (column path)) here
 
         by : (n : ℕ) → length d.models ≡ n → slice_get (columns d) (start_of d path + j) ≡ Some (column path net)
-        by zero e = absurd (subst (λ (n : ℕ). IsShallow d n k) e (shallow k (path, leads)))
+        by zero e = absurd (subst (λ (n : ℕ). IsShallow d n k) e (shallow_of d judged k (path, leads)))
         by (suc n) e =
             let around = subst (λ (cs : List Column). StandsAt (columns d) (start_of d path) cs) (ap (λ (m : ℕ). columns_in m d path k) e ∙ columns_step n path k) (numbering path k leads) in
-            let own = stands_left (columns d) (start_of d path) (columns_at d (place path k)) (flat_map (block n path) (enumerate_from 0 (insts_of d k))) around in
-            stands_get (columns d) (start_of d path) (columns_at d (place path k)) own j (column path net) column-here
+            let own = stands_left (columns d) (start_of d path) (columns_at d (instance path k)) (flat_map (block n path) (enumerate_from 0 (insts_of d k))) around in
+            stands_get (columns d) (start_of d path) (columns_at d (instance path k)) own j (column path net) column-here
+
+    -- the columns of a place and of the places in it are among all
+    pub within : (path : List ℕ) (k : ℕ) → number_from d d.root path ≡ Some k → start_of d path + size_of d k ≤ length (columns d)
+    unfolding size_of
+    within path k leads =
+        let stands = numbering path k leads in
+        let part = columns_in (length d.models) d path k in
+        let size = columns_length (length d.models) path k in
+        let whole : length (columns d) ≡ length stands.before + (length part + length stands.after) =
+        ap length stands.parts ∙ length-append stands.before (part ++ stands.after) ∙ ap (λ (n : ℕ). length stands.before + n) (length-append part stands.after) in
+        let first = stands.long in
+        omega arith

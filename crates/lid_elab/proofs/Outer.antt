@@ -1,4 +1,4 @@
--- The place around an instance, and its drivers.
+-- The scope around an instance, and its drivers.
 use Rattle.std.proofs.Common.{◌≡◌, ◌⊎◌, ℕ, zero, suc, ◌+◌, ◌<◌, List, [], ◌∷◌, ◌++◌, length, map, get_or, option_map, Option, Some, None, Result, Ok, Err, OnOk, option_and_then, slice_get, inl, inr, refl, sym, ◌∙◌, ap, subst, arith, length-append}
 use Rattle.std.specs.Prelude.{slice_index_or}
 use Rattle.std.specs.Option.{option_map_or}
@@ -11,22 +11,26 @@ use Rattle.lid_design.specs.declared.Model.{Model}
 use Rattle.lid_design.specs.declared.Inst.{Inst}
 use Rattle.lid_design.specs.Network.{Driver, from_input}
 use Rattle.lid_design.specs.Columns.{Column, column}
-use Rattle.lid_design.specs.Models.{nets, insts_of, instance_number, number_named, number_from, IsReached}
-use Rattle.lid_design.specs.Places.{model_nets, columns}
+use Rattle.lid_design.specs.Models.{nets, insts_of, instance_number, number_named, number_from, IsReached, data_inputs_of}
+use Rattle.lid_design.specs.Elaboration.{model_nets, columns}
 use Rattle.lid_elab.specs.Numbers.{start_of}
-use Rattle.lid_elab.specs.Locals.{locals, actual_for, of_net}
+use Rattle.lid_wiring.specs.Locals.{locals, actual_for, of_net}
 use Rattle.lid_elab.specs.Templates.{shown_local, place_in, placed, IsSmall}
-use Rattle.lid_elab.specs.Writing.{IsJudged, IsRight, AreWritten, model_inputs, IsPicked, IsTemplate, AreTemplates, IsAround, IsAt, IsOuter, picked, IsSmallAt}
+use Rattle.lid_wiring.specs.Judged.{IsJudged}
+use Rattle.lid_elab.specs.Scopes.{IsOnlyDriver, ArePlaced, IsAround, IsAt, IsOuter, picked, IsSmallAt}
+use Rattle.lid_elab.specs.Parts.{places_in_inst, IsPicked, IsTemplate, AreTemplates}
 use Rattle.lid_elab.specs.declared.template.LocalDriver.{LocalDriver}
 use Rattle.lid_elab.specs.declared.template.Template.{Template}
-use Rattle.lid_elab.specs.declared.writing.Place.{Place}
-use Rattle.lid_elab.specs.declared.writing.Around.{Around}
+use Rattle.lid_elab.specs.declared.placing.Scope.{Scope}
+use Rattle.lid_elab.specs.declared.placing.Around.{Around}
 use Rattle.lid_elab.proofs.Numbering.{starts_at}
+use Rattle.lid_wiring.proofs.Names.{map_some}
 use Rattle.lid_elab.proofs.Located.{get_split}
-use Rattle.lid_elab.proofs.Judged.{shallow_of, few_columns}
-use Rattle.lid_elab.proofs.Placing.{FitsAround, at_root, in_inst, net_right, net_small}
+use Rattle.lid_elab.proofs.Binding.{bound_in}
+use Rattle.lid_wiring.proofs.Limits.{few_columns}
+use Rattle.lid_elab.proofs.Placed.{FitsAround, at_root, in_inst, net_right, net_small}
 
--- the place around an instance by its template
+-- the scope around an instance by its template
 pub record OuterInst (d : Design) (ts : List Template) (path : List ℕ) (k : ℕ) (a : Around) : Type 0 where
   pub up : List ℕ
   pub is_path : path ≡ a.inst ∷ up
@@ -36,9 +40,9 @@ pub record OuterInst (d : Design) (ts : List Template) (path : List ℕ) (k : �
   pub here : slice_get ts a.model ≡ Some t
   pub inst : Inst
   pub at : slice_get (insts_of d a.model) a.inst ≡ Some inst
-  pub actuals : slice_get t.actuals a.inst ≡ Some (map (λ formal. place_in d a.model (actual_for inst formal)) (model_inputs d k))
+  pub actuals : slice_get t.actuals a.inst ≡ Some (map (λ formal. place_in d a.model (actual_for inst formal)) (data_inputs_of d k))
 
-pub outer_inst : (d : Design) (ts : List Template) → AreTemplates d ts → (path : List ℕ) (p : Place) (a : Around) → IsAt d path p → p.around ≡ Some a → OuterInst d ts path p.model a
+pub outer_inst : (d : Design) (ts : List Template) → AreTemplates d ts → (path : List ℕ) (p : Scope) (a : Around) → IsAt d path p → p.around ≡ Some a → OuterInst d ts path p.model a
 unfolding number_from
 outer_inst d ts all path p a at is =
     let outer : (up : List ℕ) × (path ≡ a.inst ∷ up) × (number_from d d.root up ≡ Some a.model) × (start_of d up ≡ a.start) = subst (IsAround d path) is at.outer in
@@ -55,32 +59,32 @@ outer_inst d ts all path p a at is =
       here = t.1;
       inst = found.0;
       at = found.1;
-      actuals = t.2.actual a.inst p.model found.0 found.1 names;
+      actuals =
+          ap (λ (rows : List (List ℕ)). slice_get rows a.inst) t.2.actuals
+          ∙ slice_get-map (places_in_inst d a.model) (insts_of d a.model) a.inst
+          ∙ ap (option_map (places_in_inst d a.model)) found.1
+          ∙ ap Some (bound_in d a.model a.inst p.model found.0 found.1 names);
     }
 
 -- what stands around fits
-pub fits : (d : Design) (path : List ℕ) (k : ℕ) (around : Option (ℕ × List ℕ)) → (judged : IsJudged d) → IsOuter d path k around → FitsAround d judged.formed judged.order judged.ordered judged.known judged.pass (shallow_of d judged) k path around
+pub fits : (d : Design) (path : List ℕ) (k : ℕ) (around : Option (ℕ × List ℕ)) → (judged : IsJudged d) → IsOuter d path k around → FitsAround d judged k path around
 fits d path k None judged outer = at_root outer
-fits d path k (Some around) judged (up, i, body, inst, is_path, leads, at, start, each) = by (slice_get d.models body) refl at
+fits d path k (Some around) judged w = by (slice_get d.models w.around) refl w.at
   where
-    by : (o : Option Model) → slice_get d.models body ≡ o → slice_get (option_map_or (λ m. m.insts) o []) i ≡ Some inst → FitsAround d judged.formed judged.order judged.ordered judged.known judged.pass (shallow_of d judged) k path (Some around)
-    by None e none = absurd (let f : None ≡ Some inst = none in cc)
-    by (Some m) e here = in_inst around.0 around.1 (record { up = up; i = i; around = body; body = m; inst = inst; is_path = is_path; leads = leads; there = e; at = here; is_start = start; each = each })
+    by : (o : Option Model) → slice_get d.models w.around ≡ o → slice_get (option_map_or (λ m. m.insts) o []) w.i ≡ Some w.inst → FitsAround d judged k path (Some around)
+    by None e none = absurd (let f : None ≡ Some w.inst = none in cc)
+    by (Some m) e here = in_inst around.0 around.1 (record { up = w.up; i = w.i; around = w.around; body = m; inst = w.inst; is_path = w.is_path; leads = w.leads; there = e; at = here; is_start = w.is_start; each = w.is_actuals })
 
--- the pick of a place among a list as long as another
+-- what stands at a place that is there
 pub get_of : {A : Type 0} (xs : List A) (i : ℕ) → i < length xs → (x : A) × (slice_get xs i ≡ Some x)
 get_of [] i less = absurd (omega arith)
 get_of (x ∷ xs) zero less = (x, refl)
 get_of (x ∷ xs) (suc i) less = get_of xs i (omega arith)
 
-some_of_map : {A B : Type 0} (f : A → B) (o : Option A) (b : B) → option_map f o ≡ Some b → (a : A) × (o ≡ Some a) × (f a ≡ b)
-some_of_map f None b h = absurd (let e : None ≡ Some b = h in cc)
-some_of_map f (Some a) b h = (a, refl, (let e : Some (f a) ≡ Some b = h in cc))
-
 module _ (d : Design) (judged : IsJudged d) (path : List ℕ) (k : ℕ) (leads : number_from d d.root path ≡ Some k) (t : Template) (is : IsTemplate d k t) (around : Option (ℕ × List ℕ)) (outer : IsOuter d path k around) where
   -- what a pick stands for
   record IsPlaced (net : List ℕ) (pick : ℕ) : Type 0 where
-    right : IsRight d (column path net) (picked (start_of d path) t.offsets around t.locals pick)
+    right : IsOnlyDriver d (column path net) (picked (start_of d path) t.offsets around t.locals pick)
     small : IsSmallAt t.offsets around (slice_get t.locals pick)
     there : pick < length t.locals
 
@@ -88,7 +92,7 @@ module _ (d : Design) (judged : IsJudged d) (path : List ℕ) (k : ℕ) (leads :
   at_net j pick net at named = by (slice_get d.models k) refl
     where
       p : IsPicked d k t.locals pick net
-      p = is.each j pick net at named
+      p = is.picked.each j pick net at named
 
       driver : Option LocalDriver → Driver ℕ
       driver o = option_map_or (λ x. placed (start_of d path) t.offsets around (shown_local x)) o (from_input 0)
@@ -99,19 +103,19 @@ module _ (d : Design) (judged : IsJudged d) (path : List ℕ) (k : ℕ) (leads :
           let names : model_nets d k ≡ nets d m = ap (λ (o : Option Model). option_map_or (nets d) o []) e in
           let among = get_among (nets d m) j net (ap (λ (ns : List (List ℕ)). slice_get ns j) (sym names) ∙ named) in
           let one : of_net net (locals d m) ≡ p.local ∷ [] = ap (λ (o : Option Model). of_net net (option_map_or (locals d) o [])) (sym e) ∙ p.only in
-          let insts : length t.offsets ≡ length m.insts = is.few ∙ ap (λ (o : Option Model). length (option_map_or (λ m. m.insts) o [])) e in
+          let insts : length t.offsets ≡ length m.insts = is.offsets.long ∙ ap (λ (o : Option Model). length (option_map_or (λ m. m.insts) o [])) e in
           let fit = fits d path k around judged outer in
-          let right = net_right d judged.formed judged.order judged.ordered judged.known judged.pass (shallow_of d judged) path k m leads e t.offsets is.offset insts around fit net among p.local one in
-          let small = net_small d judged.formed judged.order judged.ordered judged.known judged.pass (shallow_of d judged) path k m leads e t.offsets is.offset insts (few_columns d judged) around fit net p.local one in
+          let right = net_right d judged path k m leads e t.offsets is.offsets.each insts around fit net among p.local one in
+          let small = net_small d judged path k m leads e t.offsets is.offsets.each insts (few_columns d judged) around fit net p.local one in
           record {
-            right = subst (IsRight d (column path net)) (ap (placed (start_of d path) t.offsets around) (sym p.shown) ∙ sym (ap driver p.here)) right;
+            right = subst (IsOnlyDriver d (column path net)) (ap (placed (start_of d path) t.offsets around) (sym p.shown) ∙ sym (ap driver p.here)) right;
             small = subst (IsSmallAt t.offsets around) (sym p.here) (subst (IsSmall t.offsets around) (sym p.shown) small);
             there = slice_get_within t.locals pick p.driver p.here;
           }
 
   placed_at : (j e : ℕ) → j < length t.picks → (net : List ℕ) × (slice_get (model_nets d k) j ≡ Some net) × IsPlaced net (slice_index_or t.picks j e)
   placed_at j e less =
-      let named = get_of (model_nets d k) j (let l = is.long in omega arith) in
+      let named = get_of (model_nets d k) j (let l = is.picked.long in omega arith) in
       (named.0, named.1, at_net j (slice_index_or t.picks j e) named.0 (slice_get-get_or t.picks j e less) named.1)
 
   pub picks_within : All (λ pick. pick < length t.locals) t.picks
@@ -121,21 +125,21 @@ module _ (d : Design) (judged : IsJudged d) (path : List ℕ) (k : ℕ) (leads :
   picks_small j e less = (placed_at j e less).2.small
 
   -- what is written goes on with the columns of the place
-  pub written_more : (old new : List (Driver ℕ)) → start_of d path ≡ length old → AreWritten d old → new ≡ old ++ map (picked (start_of d path) t.offsets around t.locals) t.picks → AreWritten d new
-  written_more old new start before whole n c s at here = by (get_split old (map (picked (start_of d path) t.offsets around t.locals) t.picks) n s (ap (λ (ss : List (Driver ℕ)). slice_get ss n) (sym whole) ∙ here))
+  pub placed_more : (old new : List (Driver ℕ)) → start_of d path ≡ length old → ArePlaced d old → new ≡ old ++ map (picked (start_of d path) t.offsets around t.locals) t.picks → ArePlaced d new
+  placed_more old new start before whole n c s at here = by (get_split old (map (picked (start_of d path) t.offsets around t.locals) t.picks) n s (ap (λ (ss : List (Driver ℕ)). slice_get ss n) (sym whole) ∙ here))
     where
       driver : ℕ → Driver ℕ
       driver pick = picked (start_of d path) t.offsets around t.locals pick
 
-      by : (slice_get old n ≡ Some s) ⊎ ((j : ℕ) × (n ≡ length old + j) × (slice_get (map driver t.picks) j ≡ Some s)) → IsRight d c s
+      by : (slice_get old n ≡ Some s) ⊎ ((j : ℕ) × (n ≡ length old + j) × (slice_get (map driver t.picks) j ≡ Some s)) → IsOnlyDriver d c s
       by (inl first) = before n c s at first
       by (inr (j, sum, later)) =
-          let found = some_of_map driver (slice_get t.picks j) s (sym (slice_get-map driver t.picks j) ∙ later) in
-          let named = get_of (model_nets d k) j (let l = is.long in let w = slice_get_within t.picks j found.0 found.1 in omega arith) in
-          let column_here = starts_at d (shallow_of d judged) path k j named.0 leads named.1 in
+          let found = map_some driver (slice_get t.picks j) s (sym (slice_get-map driver t.picks j) ∙ later) in
+          let named = get_of (model_nets d k) j (let l = is.picked.long in let w = slice_get_within t.picks j found.0 found.1 in omega arith) in
+          let column_here = starts_at d judged path k j named.0 leads named.1 in
           let number : n ≡ start_of d path + j = omega arith in
           let same_column : column path named.0 ≡ c = (let f : Some (column path named.0) ≡ Some c = sym column_here ∙ ap (slice_get (columns d)) (sym number) ∙ at in cc) in
-          subst (λ (x : Column). IsRight d x s) same_column (subst (IsRight d (column path named.0)) found.2 (at_net j found.0 named.0 found.1 named.1).right)
+          subst (λ (x : Column). IsOnlyDriver d x s) same_column (subst (IsOnlyDriver d (column path named.0)) found.2 (at_net j found.0 named.0 found.1 named.1).right)
 
 pub same_network : (s r : ℕ) (os qs : List ℕ) (around : Option (ℕ × List ℕ)) (ls ms : List LocalDriver) (ps ns : List ℕ) → s ≡ r → os ≡ qs → ls ≡ ms → ps ≡ ns → map (picked s os around ls) ps ≡ map (picked r qs around ms) ns
 same_network s r os qs around ls ms ps ns a b e f =

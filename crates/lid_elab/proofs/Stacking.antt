@@ -8,11 +8,11 @@ use Rattle.lid_design.specs.declared.Model.{Model}
 use Rattle.lid_design.specs.declared.Inst.{Inst}
 use Rattle.lid_design.specs.WellFormed.{IsWellFormed}
 use Rattle.lid_design.specs.Models.{insts_of, instance_number, number_named, number_from}
-use Rattle.lid_design.specs.Places.{model_nets, columns, places}
+use Rattle.lid_design.specs.Elaboration.{model_nets, columns, instances}
 use Rattle.lid_elab.specs.Numbers.{over_insts, size_within, size_of, offset_of, start_of, weight_within, weight_of}
-use Rattle.lid_elab.specs.Writing.{IsAt, AreNext, weights}
-use Rattle.lid_elab.specs.declared.writing.Place.{Place}
-use Rattle.lid_elab.proofs.Shallow.{IsShallow}
+use Rattle.lid_elab.specs.Scopes.{IsAt, AreNext, weights}
+use Rattle.lid_elab.specs.declared.placing.Scope.{Scope}
+use Rattle.lid_wiring.proofs.Shallow.{IsShallow}
 use Rattle.lid_elab.proofs.Numbering.{over_same, size_same, columns_length}
 
 module _ (d : Design) where
@@ -43,20 +43,22 @@ module _ (d : Design) where
           ap (λ (m : ℕ). weight_within m d k) e
           ∙ ap (λ (s : ℕ). 1 + s) (over_same d (weight_within n d) (weight_within (length d.models) d) (insts_of d k) (λ i j names. weight_same n j (subs i j names) ∙ ap (λ (m : ℕ). weight_within m d j) (sym e)))
 
-  over_next : (f : ℕ → ℕ) (insts : List Inst) (i j : ℕ) → option_and_then (λ inst. number_named d inst.model) (slice_get insts i) ≡ Some j → over_insts d f (take (suc i) insts) ≡ over_insts d f (take i insts) + f j
-  over_next f [] i j names = absurd (let e : None ≡ Some j = names in cc)
-  over_next f (x ∷ insts) zero j names =
-      let e : option_map_or f (number_named d x.model) 0 ≡ f j = ap (λ (o : Option ℕ). option_map_or f o 0) names in
-      omega arith
-  over_next f (x ∷ insts) (suc i) j names = let e = over_next f insts i j names in omega arith
+  -- one more instance of a list
+  pub over_step : (f : ℕ → ℕ) (insts : List Inst) (i : ℕ) → over_insts d f (take (suc i) insts) ≡ over_insts d f (take i insts) + option_map_or f (option_and_then (λ inst. number_named d inst.model) (slice_get insts i)) 0
+  over_step f [] zero = refl
+  over_step f [] (suc i) = refl
+  over_step f (x ∷ insts) zero = omega arith
+  over_step f (x ∷ insts) (suc i) = let e = over_step f insts i in omega arith
 
   pub over_more : (f : ℕ → ℕ) (k i j : ℕ) → instance_number d i k ≡ Some j → over_insts d f (take (i + 1) (insts_of d k)) ≡ over_insts d f (take i (insts_of d k)) + f j
   over_more f k i j names =
       let next : i + 1 ≡ suc i = omega arith in
-      ap (λ (n : ℕ). over_insts d f (take n (insts_of d k))) next ∙ over_next f (insts_of d k) i j names
+      ap (λ (n : ℕ). over_insts d f (take n (insts_of d k))) next
+      ∙ over_step f (insts_of d k) i
+      ∙ ap (λ (o : Option ℕ). over_insts d f (take i (insts_of d k)) + option_map_or f o 0) names
 
-  -- the place of an instance
-  pub inst_at : (path : List ℕ) (p : Place) → IsAt d path p → (i j o : ℕ) → instance_number d i p.model ≡ Some j → o ≡ offset_of d p.model i → IsAt d (i ∷ path) (record { model = j; start = p.start + o; around = Some (record { model = p.model; start = p.start; inst = i }) })
+  -- the scope of an instance
+  pub inst_at : (path : List ℕ) (p : Scope) → IsAt d path p → (i j o : ℕ) → instance_number d i p.model ≡ Some j → o ≡ offset_of d p.model i → IsAt d (i ∷ path) (record { model = j; start = p.start + o; around = Some (record { model = p.model; start = p.start; inst = i }) })
   unfolding number_from start_of
   inst_at path p at i j o names off = record {
     leads = ap (option_and_then (instance_number d i)) at.leads ∙ names;
@@ -76,15 +78,15 @@ module _ (d : Design) where
       by (Some m) e = all_among (λ m. length m.insts < 2 ^ 32) d.models m formed.insts (get_among d.models k m e)
 
   -- a place is pushed before others
-  pub next_pushed : (old new : List Place) (p : Place) (path : List ℕ) (n m : ℕ) → new ≡ old ++ p ∷ [] → IsAt d path p → p.start ≡ n → m ≡ n + size_of d p.model → AreNext d m (reverse old) → AreNext d n (reverse new)
+  pub next_pushed : (old new : List Scope) (p : Scope) (path : List ℕ) (n m : ℕ) → new ≡ old ++ p ∷ [] → IsAt d path p → p.start ≡ n → m ≡ n + size_of d p.model → AreNext d m (reverse old) → AreNext d n (reverse new)
   next_pushed old new p path n m whole at start sum after =
-      subst (λ (ps : List Place). AreNext d n ps) (sym (ap reverse whole ∙ reverse-append old (p ∷ [])))
+      subst (λ (ps : List Scope). AreNext d n ps) (sym (ap reverse whole ∙ reverse-append old (p ∷ [])))
       ((path, at), start, subst (λ (x : ℕ). AreNext d x (reverse old)) sum after)
 
-  pub weight_pushed : (old new : List Place) (p : Place) → new ≡ old ++ p ∷ [] → weights d (reverse new) ≡ weight_of d p.model + weights d (reverse old)
+  pub weight_pushed : (old new : List Scope) (p : Scope) → new ≡ old ++ p ∷ [] → weights d (reverse new) ≡ weight_of d p.model + weights d (reverse old)
   weight_pushed old new p whole = ap (weights d) (ap reverse whole ∙ reverse-append old (p ∷ []))
 
   -- the root comes first
   pub root_first : AreNext d 0 (record { model = d.root; start = 0; around = None } ∷ [])
-  unfolding size_of columns places start_of number_from
+  unfolding size_of columns instances start_of number_from
   root_first = (([], record { leads = refl; start = refl; outer = refl }), refl, zero-add (size_within (length d.models) d d.root) ∙ sym (columns_length d (length d.models) [] d.root))

@@ -6,8 +6,9 @@ use Rattle.lid_design.specs.declared.Design.{Design}
 use Rattle.lid_design.specs.Network.{Driver, from_input, from_latch, from_cover, from_connection}
 use Rattle.lid_design.specs.Columns.{Column, column, drivers}
 use Rattle.lid_design.specs.Walks.{read_now, read_before, IsDriven}
-use Rattle.lid_design.specs.Models.{insts_of, number_from}
-use Rattle.lid_design.specs.Places.{columns, model_nets}
+use Rattle.lid_design.specs.Models.{insts_of, instance_number, number_from}
+use Rattle.lid_design.specs.Elaboration.{columns, model_nets}
+use Rattle.lid_elab.specs.Numbers.{columns_in, StandsAt}
 use Rattle.lid_elab.specs.declared.driver.ColumnDriver.{ColumnDriver}
 use Rattle.lid_elab.specs.declared.driver.ColumnDriver.TheVariants.{Input, Latch, Cover as OfCover, Connection}
 
@@ -44,8 +45,16 @@ StartsAt d path start =
     → slice_get (model_nets d k) j ≡ Some net
     → slice_get (columns d) (start + j) ≡ Some (column path net)
 
--- the network are those of the columns, in order; each driven column has one number; and the
--- columns of each instance of the root start at the number that is listed for it
+-- the columns of instance i of the root and of all instances in it are those from number `start` on to
+-- where those of the next instance start, or to the end
+pub record HasBlock (d : Design) (starts : List ℕ) (i start : ℕ) : Type 0 where
+  pub model : ℕ
+  pub names : instance_number d i d.root ≡ Some model
+  pub stands : StandsAt (columns d) start (columns_in (length d.models) d (i ∷ []) model)
+  pub next : start + length (columns_in (length d.models) d (i ∷ []) model) ≡ slice_index_or starts (i + 1) (length (columns d))
+
+-- the network has the drivers of the columns, in order; each driven column has one number; and the
+-- columns of each instance of the root, with those in it, start at the number that is listed for it
 pub record IsElaborated (d : Design) (network : List (Driver ℕ)) (starts : List ℕ) : Type 0 where
   pub whole : length network ≡ length (columns d)
   pub each : (k : ℕ) (c : Column) → slice_get (columns d) k ≡ Some c → IsDrivenBy d network k c
@@ -54,3 +63,4 @@ pub record IsElaborated (d : Design) (network : List (Driver ℕ)) (starts : Lis
   pub root : StartsAt d [] 0
   pub insts : length starts ≡ length (insts_of d d.root)
   pub start : (i start : ℕ) → slice_get starts i ≡ Some start → StartsAt d (i ∷ []) start
+  pub block : (i start : ℕ) → slice_get starts i ≡ Some start → HasBlock d starts i start

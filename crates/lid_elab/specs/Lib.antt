@@ -1,6 +1,5 @@
 pub mod Elaborations
 pub mod Numbers
-pub mod Locals
 pub mod Templates
-pub mod Writing
+pub mod Scopes
 pub mod Parts

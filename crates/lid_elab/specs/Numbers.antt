@@ -6,7 +6,7 @@ use Rattle.lid_design.specs.declared.Design.{Design}
 use Rattle.lid_design.specs.declared.Inst.{Inst}
 use Rattle.lid_design.specs.Columns.{Column}
 use Rattle.lid_design.specs.Models.{insts_of, number_named, number_from}
-use Rattle.lid_design.specs.Places.{places_in, model_nets, columns_at}
+use Rattle.lid_design.specs.Elaboration.{instances_in, model_nets, columns_at}
 
 -- the sum of a number for each of some instances, by the number of its model
 abbrev pub over_insts : Design → (ℕ → ℕ) → List Inst → ℕ
@@ -32,7 +32,7 @@ start_of d (i ∷ path) = start_of d path + option_map_or (λ k. offset_of d k i
 
 -- the columns of a place and of the places in it, by at most so many steps into instances
 abbrev pub columns_in : ℕ → Design → List ℕ → ℕ → List Column
-columns_in n d path k = flat_map (columns_at d) (places_in n d path k)
+columns_in n d path k = flat_map (columns_at d) (instances_in n d path k)
 
 -- a list stands in another, from a place on
 pub record StandsAt {A : Type 0} (whole : List A) (start : ℕ) (part : List A) : Type 0 where

@@ -1,5 +1,5 @@
 -- What a template is made of, part by part.
-use Rattle.std.specs.Prelude.{◌≡◌, ℕ, not, List, [], ◌++◌, length, map, filter, Option, Some, None, slice_index_or}
+use Rattle.std.specs.Prelude.{◌≡◌, ℕ, not, List, [], ◌∷◌, ◌++◌, length, map, filter, Option, Some, None, slice_get, slice_index_or}
 use Rattle.std.specs.Option.{option_map_or}
 use Rattle.std.specs.List.{position_or_len}
 use Rattle.std.specs.Str.{bytes_eq}
@@ -7,14 +7,15 @@ use Rattle.lid_design.specs.declared.Design.{Design}
 use Rattle.lid_design.specs.declared.Model.{Model}
 use Rattle.lid_design.specs.declared.Inst.{Inst}
 use Rattle.lid_design.specs.declared.Bind.{Bind}
-use Rattle.lid_design.specs.Models.{firsts, number_named, instance_number, is_clock_of}
-use Rattle.lid_design.specs.Places.{model_nets}
+use Rattle.lid_design.specs.Models.{firsts, insts_of, number_named, instance_number, is_clock_of, IsReached, data_inputs_of}
+use Rattle.lid_design.specs.Elaboration.{model_nets}
 use Rattle.lid_names.specs.Names.{texts}
-use Rattle.lid_elab.specs.Numbers.{size_of}
-use Rattle.lid_elab.specs.Locals.{Local, NetLocal, actual_for}
+use Rattle.lid_elab.specs.Numbers.{size_of, offset_of}
+use Rattle.lid_wiring.specs.Locals.{Local, NetLocal, of_net, actual_for, model_locals}
 use Rattle.lid_elab.specs.Templates.{shown_local, place_in, numbered}
-use Rattle.lid_elab.specs.Writing.{model_inputs}
 use Rattle.lid_elab.specs.declared.driven.Driven.{Driven}
+use Rattle.lid_elab.specs.declared.template.LocalDriver.{LocalDriver}
+use Rattle.lid_elab.specs.declared.template.Template.{Template}
 
 -- for each model of some, how many columns it and its instances have; nothing for the others
 pub record AreSizes (d : Design) (some : ℕ → Type 0) (sizes : List (Option ℕ)) : Type 0 where
@@ -47,9 +48,6 @@ pub record Shows (d : Design) (k : ℕ) (ps : List NetLocal) (driven : Driven) :
 abbrev pub data_of : Design → ℕ → List (List ℕ) → List (List ℕ)
 data_of d k names = filter (λ net. not (is_clock_of d k net)) names
 
-abbrev pub formal_of : Bind → List ℕ
-formal_of b = b.formal
-
 -- the set of the outputs of each model
 abbrev pub output_sets : List Model → List (List (List ℕ))
 output_sets ms = map (λ m. firsts m.outputs) ms
@@ -60,7 +58,35 @@ picks_among d k nets = map (λ net. position_or_len (bytes_eq net) nets) (model_
 
 -- the nets of model k that the data inputs of an instance are bound to, where its model has number j
 abbrev pub places_bound : Design → ℕ → ℕ → Inst → List ℕ
-places_bound d k j inst = map (λ formal. place_in d k (actual_for inst formal)) (model_inputs d j)
+places_bound d k j inst = map (λ formal. place_in d k (actual_for inst formal)) (data_inputs_of d j)
 
 abbrev pub places_in_inst : Design → ℕ → Inst → List ℕ
 places_in_inst d k inst = option_map_or (λ j. places_bound d k j inst) (number_named d inst.model) []
+
+-- what drives a net of a model, by the list of all that drive nets of it
+pub record IsPicked (d : Design) (k : ℕ) (all : List LocalDriver) (pick : ℕ) (net : List ℕ) : Type 0 where
+  pub local : Local (List ℕ)
+  pub only : of_net net (model_locals d k) ≡ local ∷ []
+  pub driver : LocalDriver
+  pub here : slice_get all pick ≡ Some driver
+  pub shown : shown_local driver ≡ numbered d k local
+
+-- for each net of a model, the place among some drivers of what drives it
+pub record ArePicked (d : Design) (k : ℕ) (all : List LocalDriver) (picks : List ℕ) : Type 0 where
+  pub long : length picks ≡ length (model_nets d k)
+  pub each : (j pick : ℕ) (net : List ℕ) → slice_get picks j ≡ Some pick → slice_get (model_nets d k) j ≡ Some net → IsPicked d k all pick net
+
+-- for each instance of model k, how many columns of the model and of earlier instances stand before it
+pub record HasOffsets (d : Design) (k : ℕ) (offsets : List ℕ) : Type 0 where
+  pub long : length offsets ≡ length (insts_of d k)
+  pub each : (i o : ℕ) → slice_get offsets i ≡ Some o → o ≡ offset_of d k i
+
+-- what is known of a model before it is placed: what drives its nets, where its instances start, and
+-- the nets that their data inputs are bound to
+pub record IsTemplate (d : Design) (k : ℕ) (t : Template) : Type 0 where
+  pub picked : ArePicked d k t.locals t.picks
+  pub offsets : HasOffsets d k t.offsets
+  pub actuals : t.actuals ≡ map (places_in_inst d k) (insts_of d k)
+
+abbrev pub AreTemplates : Design → List Template → Type 0
+AreTemplates d ts = (k : ℕ) → IsReached d k → (t : Template) × (slice_get ts k ≡ Some t) × IsTemplate d k t

@@ -1,15 +1,14 @@
--- What drives the nets of a model, by the places of nets, and what that is at a place of the
--- elaboration.
+-- What drives the nets of a model, by the places of nets, and what that is in a scope of the elaboration.
 use denote.Ref.{Bor}
 use Rattle.std.specs.Prelude.{ℕ, ◌+◌, ◌<◌, ◌≤◌, ⊤, List, length, map, Option, Some, None, slice_index}
 use Rattle.std.specs.Option.{option_map_or}
 use Rattle.std.specs.List.{All, position_or_len}
 use Rattle.std.specs.Str.{bytes_eq}
 use Rattle.lid_design.specs.declared.Design.{Design}
-use Rattle.lid_design.specs.Network.{Driver, from_input, from_latch, from_cover, from_connection}
+use Rattle.lid_design.specs.Network.{Driver, from_input, from_connection}
 use Rattle.lid_design.specs.Models.{instance_number}
-use Rattle.lid_design.specs.Places.{model_nets}
-use Rattle.lid_elab.specs.Locals.{Local, local_input, local_latch, local_cover, local_connection}
+use Rattle.lid_design.specs.Elaboration.{model_nets}
+use Rattle.lid_wiring.specs.Locals.{Local, resolved, local_input, local_latch, local_cover, local_connection}
 use Rattle.lid_elab.specs.declared.template.LocalDriver.{LocalDriver}
 use Rattle.lid_elab.specs.declared.template.LocalDriver.TheVariants.{Input, Latch, Cover as OfCover, Connection}
 
@@ -31,16 +30,18 @@ numbered d k (local_latch first input) = local_latch first (place_in d k input)
 numbered d k (local_cover cover inputs) = local_cover cover (map (place_in d k) inputs)
 numbered d k (local_connection i formal) = local_connection i (option_map_or (λ j. place_in d j formal) (instance_number d i k) 0)
 
--- what it is at a place whose columns start at a number. The offsets are those of the instances of its
--- model. In an instance, the place around starts at a number and binds inputs to its nets
-abbrev pub placed : ℕ → List ℕ → Option (ℕ × List ℕ) → Local ℕ → Driver ℕ
-placed start offsets None (local_input j) = from_input j
-placed start offsets (Some around) (local_input j) = from_connection (around.0 + slice_index around.1 j)
-placed start offsets around (local_latch first input) = from_latch first (start + input)
-placed start offsets around (local_cover cover inputs) = from_cover cover (map (λ net. start + net) inputs)
-placed start offsets around (local_connection i net) = from_connection (start + (slice_index offsets i + net))
+-- an input is given at the root. In an instance, the scope around starts at a number and binds inputs to
+-- its nets
+abbrev pub input_from : Option (ℕ × List ℕ) → ℕ → Driver ℕ
+input_from None j = from_input j
+input_from (Some around) j = from_connection (around.0 + slice_index around.1 j)
 
--- the place around, behind a reference
+-- what it is in a scope whose columns start at a number, where the offsets are those of the instances of
+-- its model
+abbrev pub placed : ℕ → List ℕ → Option (ℕ × List ℕ) → Local ℕ → Driver ℕ
+placed start offsets around = resolved (input_from around) (λ net. start + net) (λ i net. start + (slice_index offsets i + net))
+
+-- the scope around, behind a reference
 abbrev pub seen_around : Option (ℕ × Bor (List ℕ)) → Option (ℕ × List ℕ)
 seen_around None = None
 seen_around (Some around) = Some (around.0, around.1.now)

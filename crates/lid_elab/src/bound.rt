@@ -1,9 +1,9 @@
 ghost use Rattle.std.specs.Prelude.{◌≡◌, ◌++◌, ◌∷◌, [], Some, map, slice_get, IfOk, OnOk};
-ghost use Rattle.lid_design.specs.Models.{firsts, insts_of, IsReached};
-ghost use Rattle.lid_elab.specs.Locals.{actual_for};
-ghost use Rattle.lid_elab.specs.Parts.{formal_of, data_of, places_bound, places_in_inst};
+ghost use Rattle.lid_design.specs.Models.{firsts, insts_of, IsReached, formal_of};
+ghost use Rattle.lid_wiring.specs.Locals.{actual_for};
+ghost use Rattle.lid_elab.specs.Parts.{data_of, places_bound, places_in_inst};
 ghost use Rattle.lid_elab.specs.Templates.{place_in};
-ghost use Rattle.lid_elab.specs.Writing.{IsJudged};
+ghost use Rattle.lid_wiring.specs.Judged.{IsJudged};
 
 use crate::places::{insts_at, model_at, place_in};
 use lid_base::{Items, Name};

@@ -3,10 +3,10 @@ ghost use Rattle.lid_design.specs.Columns.{first_bit};
 ghost use Rattle.lid_design.specs.Models.{insts_of, instance_number, IsReached};
 ghost use Rattle.std.specs.List.{enumerate_from};
 ghost use Rattle.lid_names.specs.Names.{texts};
-ghost use Rattle.lid_elab.specs.Locals.{inputs_from, local_of, output_of, outputs_of};
+ghost use Rattle.lid_wiring.specs.Locals.{inputs_from, local_of, output_of, outputs_of, model_locals};
 ghost use Rattle.lid_elab.specs.Templates.{shown_local};
 ghost use Rattle.lid_elab.specs.Parts.{Grows, Shows, data_of, output_sets};
-ghost use Rattle.lid_elab.specs.Writing.{IsJudged, model_locals};
+ghost use Rattle.lid_wiring.specs.Judged.{IsJudged};
 
 use crate::places::{model_at, narrow, place_in, places_of};
 use crate::template::LocalDriver;

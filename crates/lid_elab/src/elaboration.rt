@@ -1,13 +1,14 @@
 ghost use Rattle.std.specs.Prelude.{◌≡◌, ◌≤◌, length, map, IfOk};
-ghost use Rattle.lid_rules.specs.Acceptance.{ModelsPass};
 ghost use Rattle.lid_elab.specs.Elaborations.{shown_driver, IsElaborated};
-ghost use Rattle.lid_elab.specs.Writing.{IsJudged, AreTemplates};
+ghost use Rattle.lid_wiring.specs.Judged.{IsJudged};
+ghost use Rattle.lid_elab.specs.Parts.{AreTemplates};
 
 use crate::driver::ColumnDriver;
 use crate::template::{Template, find_templates};
-use crate::writing::write_all;
+use crate::placing::place_all;
 use lid_base::Items;
 use lid_hierarchy::Survey;
+use lid_wiring::Judged;
 use std::alloc::{AllocError, Global};
 
 /// The columns of a design in order: by the paths of their models, a path before its extensions and
@@ -21,12 +22,11 @@ pub struct Elaboration<'d> {
 }
 
 /// Numbers the columns of a design that meets the conditions on models.
-pub fn elaborate<'d>(alloc: Global, survey: &Survey<'d>) -> Result<Elaboration<'d>, AllocError>
-    requires { ModelsPass survey.now }
-    ensures whole { IfOk result (λ e. IsElaborated survey.now (map shown_driver e.drivers) e.starts) }
+pub fn elaborate<'d>(alloc: Global, judged: &Judged<'d>) -> Result<Elaboration<'d>, AllocError>
+    ensures whole { IfOk result (λ e. IsElaborated judged.now (map shown_driver e.drivers) e.starts) }
     ensures few { IfOk result (λ e. length e.drivers ≤ 1048576) }
 {
-    judge(survey);
+    let survey = judged.survey();
     let templates = find_templates(alloc, survey)?;
     elaborate_by(alloc, survey, templates.as_slice())
 }
@@ -44,17 +44,8 @@ fn elaborate_by<'d>(
 {
     let root = &templates[survey.design().root as usize];
     let starts = copy_all(alloc, root.offsets.as_slice())?;
-    let drivers = write_all(alloc, survey, templates)?;
+    let drivers = place_all(alloc, survey, templates)?;
     Ok(Elaboration { drivers, starts })
-}
-
-/// What a survey tells of a design that meets the conditions on models.
-pub fn judge(survey: &Survey<'_>)
-    requires { ModelsPass survey.now }
-    ensures { IsJudged survey.now }
-{
-    let _ = survey.design();
-    let _ = survey.order();
 }
 
 /// Some numbers once more.

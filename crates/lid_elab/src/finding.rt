@@ -3,16 +3,15 @@
 ghost use Rattle.std.specs.Prelude.{◌≡◌, ◌≤◌, ◌<◌, ◌+◌, [], Some, length, reverse, slice_get, slice_index, IfOk};
 ghost use Rattle.lid_design.specs.Columns.{column};
 ghost use Rattle.lid_design.specs.Models.{IsReached, instance_number};
-ghost use Rattle.lid_design.specs.Places.{columns, model_nets};
-ghost use Rattle.lid_rules.specs.Acceptance.{ModelsPass};
+ghost use Rattle.lid_design.specs.Elaboration.{columns, model_nets};
 ghost use Rattle.lid_elab.specs.Numbers.{size_of, offset_of, IsSpot};
-ghost use Rattle.lid_elab.specs.Writing.{IsJudged, AreTemplates};
+ghost use Rattle.lid_wiring.specs.Judged.{IsJudged};
+ghost use Rattle.lid_elab.specs.Parts.{AreTemplates};
 
-use crate::elaboration::judge;
 use crate::template::{Template, find_templates};
-use lid_base::{Items, Name};
+use lid_base::{Items, Name, copy_name};
 use lid_hierarchy::Survey;
-use lid_names::copy_name;
+use lid_wiring::Judged;
 use std::alloc::{AllocError, Global};
 
 /// A column of a model or of the instances in it, by its number from the first column of the model
@@ -30,14 +29,13 @@ struct Spot {
 /// Where there is no memory.
 pub fn find_column(
     alloc: Global,
-    survey: &Survey<'_>,
+    judged: &Judged<'_>,
     number: u32,
 ) -> Result<(Items<u32>, Name), AllocError>
-    requires passed { ModelsPass survey.now }
-    requires exists { number < length (columns survey.now) }
-    ensures { IfOk result (λ found. slice_get (columns survey.now) number ≡ Some (column (reverse found.0) found.1)) }
+    requires { number < length (columns judged.now) }
+    ensures { IfOk result (λ found. slice_get (columns judged.now) number ≡ Some (column (reverse found.0) found.1)) }
 {
-    judge(survey);
+    let survey = judged.survey();
     let templates = find_templates(alloc, survey)?;
     find_by(alloc, survey, templates.as_slice(), number)
 }

@@ -8,10 +8,10 @@ mod elaboration;
 mod finding;
 mod picks;
 mod places;
+mod placing;
 mod reads;
 mod sizes;
 mod template;
-mod writing;
 
 pub use driver::ColumnDriver;
 pub use elaboration::{Elaboration, elaborate};

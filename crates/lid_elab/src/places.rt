@@ -1,8 +1,8 @@
 ghost use Rattle.std.specs.Prelude.{◌≡◌, ◌<◌, ◌^◌, Some, length, map, slice_get, IfOk};
 ghost use Rattle.lid_design.specs.Models.{insts_of, IsReached};
-ghost use Rattle.lid_design.specs.Places.{model_nets};
+ghost use Rattle.lid_design.specs.Elaboration.{model_nets};
 ghost use Rattle.lid_elab.specs.Templates.{place_in};
-ghost use Rattle.lid_elab.specs.Writing.{IsJudged};
+ghost use Rattle.lid_wiring.specs.Judged.{IsJudged};
 
 use lid_base::{Items, Name};
 use lid_design::{Inst, Model};

@@ -3,7 +3,7 @@ ghost use Rattle.std.specs.Option.{option_map_or};
 ghost use Rattle.lid_design.specs.Models.{insts_of, instance_number, IsReached};
 ghost use Rattle.lid_elab.specs.Numbers.{size_of, offset_of};
 ghost use Rattle.lid_elab.specs.Parts.{AreSizes, HasSizes};
-ghost use Rattle.lid_elab.specs.Writing.{IsJudged};
+ghost use Rattle.lid_wiring.specs.Judged.{IsJudged};
 
 use crate::places::{count_nets, insts_at};
 use lid_base::Items;

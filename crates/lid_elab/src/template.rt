@@ -3,9 +3,9 @@ ghost use Rattle.std.specs.List.{All};
 ghost use Rattle.lid_design.specs.Models.{insts_of, IsReached};
 ghost use Rattle.lid_elab.specs.Elaborations.{shown_driver};
 ghost use Rattle.lid_elab.specs.Numbers.{offset_of};
-ghost use Rattle.lid_elab.specs.Parts.{AreSizes, output_sets, places_in_inst};
+ghost use Rattle.lid_elab.specs.Parts.{AreSizes, output_sets, places_in_inst, ArePicked, IsTemplate, AreTemplates};
 ghost use Rattle.lid_elab.specs.Templates.{shown_local, placed, seen_around, IsSmall};
-ghost use Rattle.lid_elab.specs.Writing.{IsJudged, ArePicked, IsTemplate, AreTemplates};
+ghost use Rattle.lid_wiring.specs.Judged.{IsJudged};
 
 use crate::bound::actuals_of;
 use crate::driven::{collect_outputs, driven_of};

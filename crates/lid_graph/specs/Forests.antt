@@ -1,4 +1,5 @@
--- Forests of transitions: each has a parent, which is no greater, and roots are their own parents.
+-- For the loops: the forests of union-find. Each transition has a parent, which is no greater, and roots
+-- are their own parents.
 use Rattle.std.specs.Prelude.{◌≡◌, ℕ, ◌<◌, ◌≤◌, ◌==◌, min, max, if◌then◌else◌, List, length, slice_index}
 use Rattle.lid_graph.specs.declared.graph.Graph.{Graph}
 use Rattle.lid_graph.specs.Walks.{edge_at, IsJoined}

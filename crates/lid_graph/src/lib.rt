@@ -2,9 +2,9 @@
 #![tactic(auto)]
 
 mod graph;
-mod joining;
 mod pairing;
+mod union_find;
 
 pub use graph::{Edge, Graph};
-pub use joining::components;
 pub use pairing::is_paired;
+pub use union_find::components;

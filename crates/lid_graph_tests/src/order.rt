@@ -3,7 +3,7 @@
 
 use crate::designs::are;
 use lid_base::Items;
-use lid_digraph::{Found, find_order, find_reached, find_reaching, is_graph};
+use lid_digraph::{Digraph, Found, find_order, find_reached, find_reaching, is_graph};
 use std::alloc::{AllocError, Global};
 
 /// The row of a number: of so many numbers the first each read the next, and then come these rows.
@@ -53,9 +53,11 @@ fn outcome_of(alloc: Global, found: Found) -> Outcome {
 
 /// What is found of the rows after the chain.
 fn found_in(alloc: Global, chain: u32, rows: &[&[u32]]) -> Result<Outcome, AllocError> {
-    let reads = graph_of(alloc, chain, rows)?;
-    if is_graph(reads.as_slice()) {
-        return Ok(outcome_of(alloc, find_order(alloc, reads.as_slice())?));
+    let rows = graph_of(alloc, chain, rows)?;
+    let reads = rows.as_slice();
+    if is_graph(reads) {
+        let found = find_order(alloc, &Digraph { reads })?;
+        return Ok(outcome_of(alloc, found));
     }
     Ok(Outcome {
         graph: false,
@@ -233,10 +235,11 @@ fn reached_in(
     if !is_graph(reads) || cut.len() != reads.len() || starts.len() != reads.len() {
         return false;
     }
-    let Ok(Found::Order(order)) = find_order(alloc, reads) else {
+    let graph = Digraph { reads };
+    let Ok(Found::Order(order)) = find_order(alloc, &graph) else {
         return false;
     };
-    match find_reached(alloc, reads, order.as_slice(), cut, starts) {
+    match find_reached(alloc, &graph, order.as_slice(), cut, starts) {
         Ok(found) => are_flags(found.as_slice(), want),
         Err(_) => false,
     }
@@ -282,7 +285,7 @@ fn reaching_in(alloc: Global, reads: &[Items<u32>], cut: &[bool], end: u32, want
     if !is_graph(reads) || cut.len() != reads.len() || (end as usize) >= reads.len() {
         return false;
     }
-    match find_reaching(alloc, reads, cut, end) {
+    match find_reaching(alloc, &Digraph { reads }, cut, end) {
         Ok(found) => are_flags(found.as_slice(), want),
         Err(_) => false,
     }

@@ -5,7 +5,7 @@ use Rattle.std.specs.Str.{bytes_eq}
 use Rattle.std.proofs.lemmas.Bool.{eqb-true, eq-eqb}
 use Rattle.lid_names.specs.Names.{firsts}
 use Rattle.lid_hierarchy.proofs.Numbers.{bytes_eq_comm, firsts_distinct}
-use Rattle.lid_hierarchy.proofs.Listing.{differs}
+use Rattle.lid_names.proofs.Lists.{differs}
 
 filter-short : (p : List ℕ → Bool) (xs : List (List ℕ)) → length (filter p xs) ≤ length xs
 filter-short p [] = omega arith

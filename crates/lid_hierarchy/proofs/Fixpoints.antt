@@ -4,6 +4,7 @@ use Rattle.std.proofs.Common.{◌≡◌, ℕ, zero, suc, ◌+◌, ◌<◌, ◌�
 use Rattle.std.specs.Option.{option_map_or}
 use Rattle.std.specs.List.{list_any, prefix_len}
 use Rattle.std.specs.Str.{bytes_eq}
+use Rattle.std.proofs.Math.Bool.{and-false}
 use Rattle.std.proofs.lemmas.Bool.{lt-ltb, le-ltb, ltb-true, ltb-false}
 use Rattle.lid_base.specs.Lists.{Among}
 use Rattle.lid_design.specs.declared.Design.{Design}
@@ -38,10 +39,6 @@ find_position {A} p (x ∷ xs) = by (p x) (find_position p xs)
     by : (b : Bool) → find p xs ≡ option_and_then (slice_get xs) (position p xs) → cond b (Some x) (find p xs) ≡ option_and_then (slice_get (x ∷ xs)) (cond (nat_lt (cond (not b) (1 + prefix_len (λ y. not (p y)) xs) 0) (suc (length xs))) (Some (cond (not b) (1 + prefix_len (λ y. not (p y)) xs) 0)) None)
     by true later = ap (λ (b : Bool). option_and_then (slice_get (x ∷ xs)) (cond b (Some 0) None)) (sym (lt-ltb 0 (suc (length xs)) (omega arith)))
     by false later = later ∙ inner (prefix_len (λ y. not (p y)) xs)
-
-and_false : (a : Bool) → (a && false) ≡ false
-and_false true = refl
-and_false false = refl
 
 -- a test by fuel, of the model of a number
 abbrev pub within : Design → ℕ → ℕ → List ℕ → Bool
@@ -82,7 +79,7 @@ module _ (d : Design) where
         where
           none : (binds : List Bind) → false ≡ list_any (λ (b : Bind). bytes_eq b.actual net && false) binds
           none [] = refl
-          none (b ∷ binds) = none binds ∙ ap (λ (v : Bool). v || list_any (λ (c : Bind). bytes_eq c.actual net && false) binds) (sym (and_false (bytes_eq b.actual net)))
+          none (b ∷ binds) = none binds ∙ ap (λ (v : Bool). v || list_any (λ (c : Bind). bytes_eq c.actual net && false) binds) (sym (and-false (bytes_eq b.actual net)))
 
           of_model : (o : Option Model) → option_map_or (λ m. list_any (λ b. bytes_eq b.actual net && is_clock_within n d m b.formal) inst.binds) o false ≡ list_any (λ b. bytes_eq b.actual net && option_map_or (λ m. is_clock_within n d m b.formal) o false) inst.binds
           of_model None = none inst.binds

@@ -2,22 +2,15 @@
 use Rattle.std.proofs.Common.{◌≡◌, ℕ, ◌+◌, ◌<◌, Bool, true, false, ◌||◌, List, [], ◌∷◌, length, take, get_or, refl, sym, ◌∙◌, ap}
 use Rattle.std.specs.List.{list_any}
 use Rattle.std.specs.Str.{bytes_eq}
+use Rattle.std.proofs.Math.Bool.{or-false, or_assoc}
 use Rattle.std.proofs.lemmas.List.{take_more}
 use Rattle.std.proofs.lemmas.List.Folds.{list_any-append}
 use Rattle.lid_names.specs.Names.{is_among, with_name}
 use Rattle.lid_names.proofs.Lists.{is_among_with_name}
 use Rattle.lid_hierarchy.specs.Clocks.{GrowsBy}
 
-or_false : (a : Bool) → (a || false) ≡ a
-or_false true = refl
-or_false false = refl
-
-or_assoc : (a b c : Bool) → ((a || b) || c) ≡ (a || (b || c))
-or_assoc true b c = refl
-or_assoc false b c = refl
-
 pub grows_none : (set : List (List ℕ)) → GrowsBy (λ net. false) set set
-grows_none set net = sym (or_false (is_among net set))
+grows_none set net = sym (or-false (is_among net set))
 
 pub grows_name : (old new : List (List ℕ)) (name : List ℕ) → new ≡ with_name old name → GrowsBy (λ net. bytes_eq net name) old new
 grows_name old new name added net = ap (is_among net) added ∙ is_among_with_name net old name
@@ -34,7 +27,7 @@ pub grows_more : {A : Type 0} (p : List ℕ → A → Bool) (xs : List A) (i : �
 grows_more {A} p xs i d h old mid new first second =
     grows_like _ _ old new
     (λ net.
-    let one : list_any (p net) (get_or xs i d ∷ []) ≡ p net (get_or xs i d) = or_false (p net (get_or xs i d)) in
+    let one : list_any (p net) (get_or xs i d ∷ []) ≡ p net (get_or xs i d) = or-false (p net (get_or xs i d)) in
     ap (λ (b : Bool). list_any (p net) (take i xs) || b) (sym one)
     ∙ sym (list_any-append (p net) (take i xs) (get_or xs i d ∷ []))
     ∙ ap (list_any (p net)) (sym (take_more xs i d h)))

@@ -3,9 +3,7 @@ use Rattle.std.proofs.Common.{◌≡◌, ℕ, Bool, true, false, not, cond, List
 use Rattle.std.specs.Str.{bytes_eq}
 use Rattle.std.proofs.lemmas.Slice.Eq.{bytes_eq-Decides}
 use Rattle.lid_names.specs.Names.{firsts}
-
-abbrev pub differs : List ℕ → List ℕ → Bool
-differs x other = not (bytes_eq other x)
+use Rattle.lid_names.proofs.Lists.{differs}
 
 filters_commute : (p q : List ℕ → Bool) (xs : List (List ℕ)) → filter p (filter q xs) ≡ filter q (filter p xs)
 filters_commute p q [] = refl

@@ -6,6 +6,7 @@ use Rattle.std.proofs.lemmas.List.{length-map}
 use Rattle.std.proofs.lemmas.Slice.Eq.{bytes_eq-Decides}
 use Rattle.lid_base.specs.Lists.{Among}
 use Rattle.lid_names.specs.Names.{firsts}
+use Rattle.lid_names.proofs.Lists.{within}
 use Rattle.lid_digraph.specs.Graphs.{flag}
 use Rattle.lid_design.specs.declared.Design.{Design}
 use Rattle.lid_design.specs.declared.Model.{Model}
@@ -44,9 +45,6 @@ prefix_names n [] = refl
 prefix_names n (m ∷ ms) =
     ap (λ (k : ℕ). cond (not (bytes_eq n m.name)) (1 + k) 0) (prefix_names n ms)
     ∙ ap (λ (b : Bool). cond (not b) (1 + prefix_len (λ (m : Model). not (bytes_eq m.name n)) ms) 0) (bytes_eq_comm n m.name)
-
-abbrev pub within : ℕ → ℕ → Option ℕ
-within k len = cond (nat_lt k len) (Some k) None
 
 position_names : (n : List ℕ) (ms : List Model) → position (bytes_eq n) (map name_of ms) ≡ position (λ m. bytes_eq m.name n) ms
 position_names n ms =

@@ -4,8 +4,8 @@ use Rattle.lid_base.specs.Lists.{Among}
 use Rattle.lid_digraph.specs.Graphs.{reads_at, flag, Walk, IsOnLoop, HasNoLoop, IsOrder}
 use Rattle.lid_digraph.specs.Results.{IsLeastOnLoop}
 use Rattle.lid_design.specs.declared.Design.{Design}
-use Rattle.lid_design.specs.Models.{instance_number, number_from, IsReached, ReachesItself, HasNoRecursion}
-use Rattle.lid_hierarchy.specs.Surveys.{AreMarked, instance_numbers, IsFirstRecursive, StandsAfterItsModels, IsModelOrder}
+use Rattle.lid_design.specs.Models.{instance_number, number_from, IsReached, ReachesItself, HasNoRecursion, IsFirstRecursive}
+use Rattle.lid_hierarchy.specs.Surveys.{AreMarked, instance_numbers, StandsAfterItsModels, IsModelOrder}
 use Rattle.std.proofs.lemmas.List.{length-map}
 use Rattle.lid_base.proofs.Lists.{then_some, last_case}
 use Rattle.lid_hierarchy.specs.Graphs.{IsUsedGraph, kept, kept_row, some_of, graph_of}

@@ -1,5 +1,5 @@
 -- What a survey is made of.
-use Rattle.std.proofs.Common.{◌≡◌, ℕ, zero, suc, ◌<◌, Bool, false, not, cond, List, [], ◌∷◌, length, filter, get_or, Option, Some, None, slice_get, refl, sym, ◌∙◌, ap, subst, arith}
+use Rattle.std.proofs.Common.{◌≡◌, ℕ, zero, suc, ◌<◌, false, not, List, [], ◌∷◌, length, get_or, Option, Some, None, slice_get, refl, sym, ◌∙◌, ap, subst, arith}
 use Rattle.std.specs.Option.{option_map_or}
 use Rattle.lid_base.proofs.Lists.{filter_same}
 use Rattle.lid_digraph.specs.Graphs.{IsGraph}
@@ -8,7 +8,7 @@ use Rattle.lid_design.specs.declared.Model.{Model}
 use Rattle.lid_design.specs.WellFormed.{IsWellFormed}
 use Rattle.lid_design.specs.Columns.{is_among, is_clock}
 use Rattle.lid_design.specs.Models.{occurrences, firsts, nets, IsReached, is_clock_of}
-use Rattle.lid_design.specs.Places.{model_nets}
+use Rattle.lid_design.specs.Elaboration.{model_nets}
 use Rattle.lid_hierarchy.specs.Surveys.{AreNames, IsModelOrder}
 use Rattle.lid_hierarchy.specs.Graphs.{IsUsedGraph}
 use Rattle.lid_hierarchy.specs.Clocks.{HaveClocks}

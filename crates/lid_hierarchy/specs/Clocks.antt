@@ -1,4 +1,4 @@
--- The clock names of a model, from those of the models of its instances.
+-- How clock names are found: those of a model from those of the models of its instances.
 use Rattle.std.specs.Prelude.{◌≡◌, ℕ, Bool, false, ◌&&◌, ◌||◌, List, [], length, slice_get, slice_index_or}
 use Rattle.std.specs.Option.{option_map_or}
 use Rattle.std.specs.List.{list_any}

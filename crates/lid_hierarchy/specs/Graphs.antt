@@ -1,4 +1,4 @@
--- The graph of the models of a design: each reads the models of its instances.
+-- How models are ordered: their graph, in which each reads the models of its instances.
 use Rattle.std.specs.Prelude.{◌≡◌, Some, length, ℕ, ◌+◌, Bool, true, false, List, [], ◌∷◌, map, filter, filter_map, position, Option}
 use Rattle.std.specs.Str.{bytes_eq}
 use Rattle.lid_base.specs.Lists.{Among}

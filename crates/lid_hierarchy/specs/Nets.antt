@@ -1,4 +1,4 @@
--- The nets of models, by the sets of their clock names.
+-- How nets are found: those of each model by the set of its clock names.
 use Rattle.std.specs.Prelude.{ℕ, not, List, [], ◌∷◌, filter}
 use Rattle.lid_design.specs.declared.Model.{Model}
 use Rattle.lid_design.specs.Columns.{is_among}

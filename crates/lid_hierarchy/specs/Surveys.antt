@@ -1,4 +1,4 @@
--- What is found of the models of a design, model by model.
+-- How models are surveyed: what is found of the models of a design, model by model.
 use Rattle.std.specs.Prelude.{◌≡◌, ◌↔◌, Bool, true, false, ℕ, ◌<◌, ◌≤◌, List, [], ◌∷◌, length, map, Option, Some, IsSome, slice_index_or}
 use Rattle.lid_base.specs.Lists.{Among}
 use Rattle.lid_design.specs.declared.Design.{Design}
@@ -6,8 +6,8 @@ use Rattle.lid_hierarchy.specs.declared.survey.SurveyFault.{SurveyFault}
 use Rattle.lid_hierarchy.specs.declared.survey.SurveyFault.TheVariants.{Recursive, Memory}
 use Rattle.lid_design.specs.WellFormed.{IsWellFormed}
 use Rattle.lid_design.specs.Columns.{is_among}
-use Rattle.lid_design.specs.Places.{model_nets}
-use Rattle.lid_design.specs.Models.{number_named, insts_of, instance_number, is_clock_of, IsReached, ReachesItself, HasNoRecursion, AreReached}
+use Rattle.lid_design.specs.Elaboration.{model_nets}
+use Rattle.lid_design.specs.Models.{number_named, insts_of, instance_number, is_clock_of, IsReached, ReachesItself, HasNoRecursion, AreReached, IsFirstRecursive}
 
 -- for each model, the number of the model of each of its instances, where there is one
 abbrev pub instance_numbers : Design → List (List (Option ℕ))
@@ -28,12 +28,6 @@ pub record IsUses (d : Design) (numbers : List (List (Option ℕ))) (marks : Lis
 -- each instance of a reached model has a model
 abbrev pub AreKnown : Design → Type 0
 AreKnown d = (k i : ℕ) → IsReached d k → i < length (insts_of d k) → IsSome (instance_number d i k)
-
--- the first model in the order of the text that reaches itself
-pub record IsFirstRecursive (d : Design) (k : ℕ) : Type 0 where
-  pub reached : IsReached d k
-  pub itself : ReachesItself d k
-  pub first : (j : ℕ) → j < k → IsReached d j → ¬ ReachesItself d j
 
 -- each number stands after those of the models of its instances, among the earlier ones
 abbrev pub StandsAfterItsModels : Design → List ℕ → List ℕ → Type 0

@@ -2,7 +2,7 @@ ghost use Rattle.std.specs.Prelude.{◌≡◌, ◌⊎◌, ◌<◌, ◌^◌, ℕ,
 ghost use denote.Ref.{Bor};
 ghost use Rattle.std.specs.Str.{bytes_eq};
 ghost use Rattle.lid_design.specs.Models.{IsReached, HasNoRecursion, insts_of, instance_number, is_clock_of, AreReached};
-ghost use Rattle.lid_design.specs.Places.{model_nets};
+ghost use Rattle.lid_design.specs.Elaboration.{model_nets};
 ghost use Rattle.lid_design.specs.WellFormed.{IsWellFormed};
 ghost use Rattle.lid_hierarchy.specs.declared.survey.SurveyFault.TheVariants.{Memory};
 ghost use Rattle.lid_hierarchy.specs.Graphs.{IsKept};
@@ -13,8 +13,8 @@ use crate::nets::find_nets;
 use crate::uses::Uses;
 use lid_base::Items;
 use lid_design::Design;
+use lid_digraph::{Digraph, Found, find_order};
 use lid_names::NameSet;
-use lid_digraph::{Found, find_order};
 use std::alloc::{AllocError, Global};
 use std::marker::Model;
 
@@ -118,7 +118,10 @@ fn find_model_order(alloc: Global, uses: &Uses<'_>) -> Result<Items<u32>, Survey
     let Ok(graph) = uses.graph(alloc) else {
         return Err(SurveyFault::Memory);
     };
-    match find_order(alloc, graph.as_slice()) {
+    let graph = Digraph {
+        reads: graph.as_slice(),
+    };
+    match find_order(alloc, &graph) {
         Ok(Found::Order(all)) => keep_order(alloc, uses, all.as_slice()),
         Ok(Found::Loop(model)) => Err(SurveyFault::Recursive { model }),
         Err(_) => Err(SurveyFault::Memory),
@@ -177,13 +180,21 @@ impl<'d> Survey<'d> {
         self.names.clocks.as_slice()[model as usize].has(name)
     }
 
-    /// How many nets a reached model has: its names that are no clock names.
+    /// The nets of a reached model: its names that are no clock names.
+    fn nets_of(&self, model: u32) -> &NameSet<'d>
+        requires { IsReached self.now model }
+        ensures { result.now ≡ model_nets self.now model }
+    {
+        &self.names.nets.as_slice()[model as usize]
+    }
+
+    /// How many nets a reached model has.
     pub fn count_nets(&self, model: u32) -> usize
         requires { IsReached self.now model }
         ensures value { result ≡ length (model_nets self.now model) }
         ensures small { result < 2 ^ 63 }
     {
-        self.names.nets.as_slice()[model as usize].len()
+        self.nets_of(model).len()
     }
 
     /// The name of a net of a reached model, by its place among the nets.
@@ -191,7 +202,7 @@ impl<'d> Survey<'d> {
         requires { IsReached self.now model }
         ensures { option_map (λ (r : Bor (List ℕ)). r.now) result ≡ slice_get (model_nets self.now model) place }
     {
-        self.names.nets.as_slice()[model as usize].name_at(place)
+        self.nets_of(model).name_at(place)
     }
 
     /// The place of a net of a reached model, by its name.
@@ -199,6 +210,6 @@ impl<'d> Survey<'d> {
         requires { IsReached self.now model }
         ensures { result ≡ position (bytes_eq name.now) (model_nets self.now model) }
     {
-        self.names.nets.as_slice()[model as usize].place_of(name)
+        self.nets_of(model).place_of(name)
     }
 }

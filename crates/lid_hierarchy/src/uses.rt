@@ -9,8 +9,8 @@ ghost use Rattle.lid_design.specs.WellFormed.{IsWellFormed};
 
 use lid_base::Items;
 use lid_design::{Design, Inst};
+use lid_digraph::{Digraph, find_reaching};
 use lid_names::NameSet;
-use lid_digraph::find_reaching;
 use std::alloc::{AllocError, Global};
 use std::marker::Model;
 
@@ -152,7 +152,10 @@ fn mark_used(
 {
     let graph = graph_of(alloc, numbers)?;
     let cut = no_marks(alloc, graph.len())?;
-    find_reaching(alloc, graph.as_slice(), cut.as_slice(), design.root)
+    let graph = Digraph {
+        reads: graph.as_slice(),
+    };
+    find_reaching(alloc, &graph, cut.as_slice(), design.root)
 }
 
 /// Marks, none of which is set.

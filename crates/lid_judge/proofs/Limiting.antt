@@ -3,7 +3,7 @@ use Rattle.lid_rules.specs.Acceptance.{fault_after_recursion, ModelsPass}
 use Rattle.std.specs.Option.{option_map_or}
 use Rattle.lid_design.specs.declared.Model.{Model}
 use Rattle.lid_design.specs.declared.Cell.{Cell}
-use Rattle.lid_design.specs.Places.{count_latches, count_defaulted, cells_of, count_in, is_latch, is_defaulted, places, depth, count_cells, count_nets, over_places}
+use Rattle.lid_design.specs.Elaboration.{count_latches, count_defaulted, cells_of, count_in, is_latch, is_defaulted, instances, depth, count_cells, count_nets, over_instances}
 use Rattle.std.proofs.lemmas.Bool.{ltb-false}
 use Rattle.lid_rules.specs.declared.fault.CheckFault.TheVariants.{Limit}
 use Rattle.lid_counts.specs.declared.counts.Measure.TheVariants.{Latches, Defaulted, Depth, Cells, Nets}
@@ -46,9 +46,9 @@ cells_within p d k = by (slice_get d.models k)
     by None = omega arith
     by (Some m) = let e = counted_within p m.cells in omega arith
 
-pub within_cells : (p : Cell → Bool) (d : Design) → over_places (count_in p) d ≤ count_cells d
+pub within_cells : (p : Cell → Bool) (d : Design) → over_instances (count_in p) d ≤ count_cells d
 unfolding count_cells
-within_cells p d = sum_below (λ q. count_in p d q.model) (λ q. cells_of d q.model) (places d) (λ q. cells_within p d q.model)
+within_cells p d = sum_below (λ q. count_in p d q.model) (λ q. cells_of d q.model) (instances d) (λ q. cells_within p d q.model)
 
 passed : (greatest count : ℕ) (b : Bool) → nat_lt greatest count ≡ b → cond b (Some (Limit which.Cells (min count 4294967295))) None ≡ None → count ≤ greatest
 passed greatest count true e none = absurd (let f : Some (Limit which.Cells (min count 4294967295)) ≡ None = none in cc)
@@ -83,7 +83,7 @@ unfolding count_latches
 latches_are d pass =
     let few = few_cells d pass.ks pass.after in
     let within = within_cells is_latch d in
-    let is : over_places (count_in is_latch) d ≡ count_at_root Latches d = sum_is Latches d (λ x a. refl) in
+    let is : over_instances (count_in is_latch) d ≡ count_at_root Latches d = sum_is Latches d (λ x a. refl) in
     omega arith
 
 pub defaulted_are : (d : Design) → ModelsPass d → min (count_at_root Defaulted d) 4294967295 ≡ count_defaulted d
@@ -91,5 +91,5 @@ unfolding count_defaulted
 defaulted_are d pass =
     let few = few_cells d pass.ks pass.after in
     let within = within_cells is_defaulted d in
-    let is : over_places (count_in is_defaulted) d ≡ count_at_root Defaulted d = sum_is Defaulted d (λ x a. refl) in
+    let is : over_instances (count_in is_defaulted) d ≡ count_at_root Defaulted d = sum_is Defaulted d (λ x a. refl) in
     omega arith

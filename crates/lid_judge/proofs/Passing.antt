@@ -10,11 +10,11 @@ use Rattle.lid_ports.specs.declared.formals.InstRule.TheVariants.{UnknownFormal,
 use Rattle.lid_rules.specs.declared.names.NameRule.TheVariants.{TwoDrivers, Undriven, ClockUse}
 use Rattle.lid_rules.specs.declared.told.Told.{Told}
 use Rattle.lid_rules.specs.Conditions.{or_fault, unknown_model, duplicate_name, unknown_formal, formal_twice, unbound, two_drivers, undriven, clock_use, two_clocks, mixed_edges, root_logic, limits}
-use Rattle.lid_rules.specs.Acceptance.{fault_before_recursion, fault_after_recursion, IsModelFault, ModelsPass}
+use Rattle.lid_rules.specs.Acceptance.{fault_before_recursion, fault_after_recursion, IsModelFault, TellsRecursive, ModelsPass}
 use Rattle.lid_rules.specs.Rules.{inst_at, by_inst, by_insts}
 use Rattle.lid_rules.specs.Names.{name_at, by_name, by_names}
 use Rattle.lid_rules.specs.Early.{duplicates, unknowns, duplicate_at, unknown_in, TellsEarly, PassesEarly}
-use Rattle.lid_rules.specs.Told.{shown, shown_of, IsToldOf, IsToldRecursive}
+use Rattle.lid_rules.specs.Told.{shown, shown_of, IsToldOf}
 use Rattle.lid_rules.proofs.Faults.{none_both, or_assoc}
 use Rattle.lid_rules.proofs.Passing.{known_by}
 use Rattle.lid_judge.specs.Late.{after_insts, after_names, after_clocks, after_edges}
@@ -89,9 +89,8 @@ known_early d pass = known_by d pass.ks pass.reached (none_both (duplicate_name 
 pub early_told : (d : Design) (o : Option Told) (told : Told) → TellsEarly d (shown_of o) → o ≡ Some told → IsModelFault d (shown told)
 early_told d o told tells is = (tells.ks, tells.reached, inl (sym tells.tells ∙ ap shown_of is))
 
-pub recursive_told : (d : Design) (told : Told) → PassesEarly d → IsToldRecursive d told → IsToldOf d told
-recursive_told d told pass (inl memory) = inl memory
-recursive_told d told pass (inr tells) = inr (pass.ks, pass.reached, inr (inl (pass.before, tells)))
+pub recursive_told : (d : Design) (told : Told) → PassesEarly d → TellsRecursive d (shown told) → IsToldOf d told
+recursive_told d told pass tells = inr (pass.ks, pass.reached, inr (inl (pass.before, tells)))
 
 pub after_told : (d : Design) (o : Option Told) (told : Told) → PassesEarly d → HasNoRecursion d → ((ks : List ℕ) → AreReached d ks → shown_of o ≡ fault_after_recursion d ks) → o ≡ Some told → IsModelFault d (shown told)
 after_told d o told pass flat tells is = (pass.ks, pass.reached, inr (inr (pass.before, flat, sym (tells pass.ks pass.reached) ∙ ap shown_of is)))

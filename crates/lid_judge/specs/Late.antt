@@ -1,4 +1,4 @@
--- The conditions that come after recursion, group by group.
+-- How the conditions after recursion are tried: group by group.
 use Rattle.std.specs.Prelude.{ℕ, List, Option}
 use Rattle.lid_design.specs.declared.Design.{Design}
 use Rattle.lid_rules.specs.declared.fault.CheckFault.{CheckFault}

@@ -1,4 +1,4 @@
--- The limits on what is counted over all places.
+-- How limits are tried: what is counted over all instances.
 use Rattle.std.specs.Prelude.{ℕ, Option}
 use Rattle.lid_base.specs.declared.which.Which.{Which}
 use Rattle.lid_base.specs.declared.which.Which.TheVariants as which
@@ -9,7 +9,7 @@ use Rattle.lid_counts.specs.declared.counts.Measure.TheVariants as count
 use Rattle.lid_rules.specs.Conditions.{over, or_fault}
 use Rattle.lid_counts.specs.Counts.{count_at_root}
 
--- what is counted over all places, where it is more than the greatest
+-- what is counted over all instances, where it is more than the greatest
 unfoldable pub total_limit : ℕ → Which → Measure → Design → Option CheckFault
 total_limit greatest which what d = over greatest which (count_at_root what d)
 

@@ -1,10 +1,9 @@
 ghost use Rattle.std.specs.Prelude.{◌≡◌, ◌⊎◌, IfOk};
 ghost use Rattle.lid_rules.specs.declared.fault.CheckFault.TheVariants.{Memory};
-ghost use Rattle.lid_rules.specs.Told.{shown};
+ghost use Rattle.lid_rules.specs.Told.{shown, name_fault, inst_fault};
 
-use lid_base::Name;
-use lid_names::copy_name;
-use lid_rules::{CheckFault, Told};
+use lid_base::{Name, copy_name};
+use lid_rules::{CheckFault, InstFault, NameFault, Told};
 use std::alloc::{AllocError, Global};
 
 /// The fault that is told, with copies of its names.
@@ -22,78 +21,68 @@ fn copy_told(alloc: Global, told: Told<'_>) -> Result<CheckFault, AllocError>
     ensures { IfOk result (λ fault. fault ≡ shown told.entry) }
 {
     match told {
-        Told::DuplicateName { model, name } => {
+        Told::OfName { fault, model, name } => {
             let (model, name) = copy_two(alloc, model, name)?;
-            Ok(CheckFault::DuplicateName { model, name })
+            Ok(name_fault(fault, model, name))
         }
-        Told::UnknownModel { model, inst, name } => {
+        Told::OfInst {
+            fault,
+            model,
+            inst,
+            name,
+        } => {
             let (model, name) = copy_two(alloc, model, name)?;
-            Ok(CheckFault::UnknownModel { model, inst, name })
+            Ok(inst_fault(fault, model, inst, name))
         }
         Told::Recursive { model } => Ok(CheckFault::Recursive {
             model: copy_name(alloc, model)?,
         }),
-        Told::UnknownFormal {
-            model,
-            inst,
-            formal,
-        } => {
-            let (model, formal) = copy_two(alloc, model, formal)?;
-            Ok(CheckFault::UnknownFormal {
-                model,
-                inst,
-                formal,
-            })
-        }
-        Told::FormalTwice {
-            model,
-            inst,
-            formal,
-        } => {
-            let (model, formal) = copy_two(alloc, model, formal)?;
-            Ok(CheckFault::FormalTwice {
-                model,
-                inst,
-                formal,
-            })
-        }
-        Told::Unbound {
-            model,
-            inst,
-            formal,
-        } => {
-            let (model, formal) = copy_two(alloc, model, formal)?;
-            Ok(CheckFault::Unbound {
-                model,
-                inst,
-                formal,
-            })
-        }
-        Told::TwoDrivers { model, name } => {
-            let (model, name) = copy_two(alloc, model, name)?;
-            Ok(CheckFault::TwoDrivers { model, name })
-        }
-        Told::Undriven { model, name } => {
-            let (model, name) = copy_two(alloc, model, name)?;
-            Ok(CheckFault::Undriven { model, name })
-        }
-        Told::ClockUse { model, name } => {
-            let (model, name) = copy_two(alloc, model, name)?;
-            Ok(CheckFault::ClockUse { model, name })
-        }
         Told::TwoClocks { first, second } => {
             let (first, second) = copy_two(alloc, first, second)?;
             Ok(CheckFault::TwoClocks { first, second })
-        }
-        Told::MixedEdges { model, name } => {
-            let (model, name) = copy_two(alloc, model, name)?;
-            Ok(CheckFault::MixedEdges { model, name })
         }
         Told::RootLogic { name } => Ok(CheckFault::RootLogic {
             name: copy_name(alloc, name)?,
         }),
         Told::Limit { which, count } => Ok(CheckFault::Limit { which, count }),
         Told::Memory => Ok(CheckFault::Memory),
+    }
+}
+
+/// The fault of a condition that tells a name of a model.
+fn name_fault(fault: NameFault, model: Name, name: Name) -> CheckFault
+    ensures { result ≡ name_fault fault model name }
+{
+    match fault {
+        NameFault::DuplicateName => CheckFault::DuplicateName { model, name },
+        NameFault::TwoDrivers => CheckFault::TwoDrivers { model, name },
+        NameFault::Undriven => CheckFault::Undriven { model, name },
+        NameFault::ClockUse => CheckFault::ClockUse { model, name },
+        NameFault::MixedEdges => CheckFault::MixedEdges { model, name },
+    }
+}
+
+/// The fault of a condition that tells a name at an instance of a model.
+fn inst_fault(fault: InstFault, model: Name, inst: u32, name: Name) -> CheckFault
+    ensures { result ≡ inst_fault fault model inst name }
+{
+    match fault {
+        InstFault::UnknownModel => CheckFault::UnknownModel { model, inst, name },
+        InstFault::UnknownFormal => CheckFault::UnknownFormal {
+            model,
+            inst,
+            formal: name,
+        },
+        InstFault::FormalTwice => CheckFault::FormalTwice {
+            model,
+            inst,
+            formal: name,
+        },
+        InstFault::Unbound => CheckFault::Unbound {
+            model,
+            inst,
+            formal: name,
+        },
     }
 }
 

@@ -1,7 +1,7 @@
 ghost use Rattle.std.specs.Prelude.{◌≡◌, ◌<◌, ℕ, min, length, IfOk};
 ghost use Rattle.lid_base.specs.declared.which.Which.TheVariants.{RootInsts};
 ghost use Rattle.lid_design.specs.Models.{insts_of};
-ghost use Rattle.lid_design.specs.Places.{count_latches, count_defaulted};
+ghost use Rattle.lid_design.specs.Elaboration.{count_latches, count_defaulted};
 ghost use Rattle.lid_rules.specs.Acceptance.{ModelsPass};
 ghost use Rattle.lid_rules.specs.Conditions.{over, limits};
 ghost use Rattle.lid_judge.specs.Limits.{total_limit, wide_limits, deep_limits};
@@ -14,7 +14,7 @@ use lid_names::model_at;
 use lid_rules::Told;
 use std::alloc::{AllocError, Global};
 
-/// The latches of a design, over all places.
+/// The latches of a design, over all instances.
 #[derive(Clone, Copy, Debug, PartialEq, Eq)]
 pub struct Latches {
     /// All latches.
@@ -23,7 +23,7 @@ pub struct Latches {
     pub defaulted: u64,
 }
 
-/// Counts the latches of a design that is within the limits, over all places.
+/// Counts the latches of a design that is within the limits, over all instances.
 pub fn count_latches(alloc: Global, survey: &Survey<'_>) -> Result<Latches, AllocError>
     requires { ModelsPass survey.now }
     ensures { IfOk result (λ n. (n.all ≡ count_latches survey.now) × (n.defaulted ≡ count_defaulted survey.now)) }
@@ -37,7 +37,7 @@ pub fn count_latches(alloc: Global, survey: &Survey<'_>) -> Result<Latches, Allo
 pub fn find_limit<'d>(alloc: Global, survey: &Survey<'d>) -> Result<Option<Told<'d>>, AllocError>
     ensures { IfOk result (λ told. shown_of told ≡ limits survey.now) }
 {
-    match judge_root(survey) {
+    match find_root_insts(survey) {
         Some(told) => Ok(Some(told)),
         None => find_deep(alloc, survey),
     }
@@ -47,7 +47,7 @@ pub fn find_limit<'d>(alloc: Global, survey: &Survey<'d>) -> Result<Option<Told<
 fn find_deep<'d>(alloc: Global, survey: &Survey<'d>) -> Result<Option<Told<'d>>, AllocError>
     ensures { IfOk result (λ told. shown_of told ≡ deep_limits survey.now) }
 {
-    match judge_total(alloc, survey, Measure::Depth, Which::Depth, 64)? {
+    match find_total(alloc, survey, Measure::Depth, Which::Depth, 64)? {
         Some(told) => Ok(Some(told)),
         None => find_wide(alloc, survey),
     }
@@ -57,26 +57,26 @@ fn find_deep<'d>(alloc: Global, survey: &Survey<'d>) -> Result<Option<Told<'d>>,
 fn find_wide<'d>(alloc: Global, survey: &Survey<'d>) -> Result<Option<Told<'d>>, AllocError>
     ensures { IfOk result (λ told. shown_of told ≡ wide_limits survey.now) }
 {
-    match judge_total(alloc, survey, Measure::Cells, Which::Cells, 262_144)? {
+    match find_total(alloc, survey, Measure::Cells, Which::Cells, 262_144)? {
         Some(told) => Ok(Some(told)),
-        None => judge_total(alloc, survey, Measure::Nets, Which::Nets, 1_048_576),
+        None => find_total(alloc, survey, Measure::Nets, Which::Nets, 1_048_576),
     }
 }
 
 /// Tells of the instances of the root, where they are too many.
-fn judge_root<'d>(survey: &Survey<'d>) -> Option<Told<'d>>
+fn find_root_insts<'d>(survey: &Survey<'d>) -> Option<Told<'d>>
     ensures { shown_of result ≡ over 4096 RootInsts (length (insts_of survey.now survey.now.root)) }
 {
     let count = match model_at(survey.design(), survey.design().root) {
         Some(model) => model.insts.len() as u64,
         None => 0,
     };
-    judge_count(4096, Which::RootInsts, count.min(4_294_967_295))
+    tell_over(4096, Which::RootInsts, count.min(4_294_967_295))
 }
 
-/// Tells of what is counted over all places, where it is too much.
+/// Tells of what is counted over all instances, where it is too much.
 #[tactic(auto, unfolding(crate::specs::Limits::total_limit))]
-fn judge_total<'d>(
+fn find_total<'d>(
     alloc: Global,
     survey: &Survey<'d>,
     what: Measure,
@@ -87,11 +87,11 @@ fn judge_total<'d>(
     ensures { IfOk result (λ told. shown_of told ≡ total_limit greatest which what survey.now) }
 {
     let count = count_all(alloc, survey, what)?;
-    Ok(judge_count(greatest, which, count))
+    Ok(tell_over(greatest, which, count))
 }
 
 /// Tells of a count that is too much. The count may be cut at 4,294,967,295.
-fn judge_count<'d>(greatest: u64, which: Which, count: u64) -> Option<Told<'d>>
+fn tell_over<'d>(greatest: u64, which: Which, count: u64) -> Option<Told<'d>>
     requires { greatest < 4294967295 }
     ensures { (n : ℕ) → count ≡ min n 4294967295 → shown_of result ≡ over greatest which n }
 {

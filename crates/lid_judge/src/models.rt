@@ -1,11 +1,10 @@
 ghost use Rattle.std.specs.Prelude.{◌≡◌, ◌⊎◌, IfOk, OnOk, IfErr};
 ghost use Rattle.lid_design.specs.WellFormed.{IsWellFormed};
-ghost use Rattle.lid_design.specs.Models.{HasNoRecursion};
-ghost use Rattle.lid_hierarchy.specs.Surveys.{IsFirstRecursive};
+ghost use Rattle.lid_design.specs.Models.{HasNoRecursion, IsFirstRecursive};
 ghost use Rattle.lid_rules.specs.declared.fault.CheckFault.TheVariants.{Memory};
-ghost use Rattle.lid_rules.specs.Acceptance.{ModelsPass, IsModelFault};
+ghost use Rattle.lid_rules.specs.Acceptance.{ModelsPass, IsModelFault, TellsRecursive};
 ghost use Rattle.lid_rules.specs.Early.{TellsEarly, PassesEarly};
-ghost use Rattle.lid_rules.specs.Told.{shown_of, IsToldOf, IsToldRecursive};
+ghost use Rattle.lid_rules.specs.Told.{shown, shown_of, IsToldOf};
 
 use crate::copies::copy_fault;
 use crate::late::find_late;
@@ -79,14 +78,15 @@ fn judge_uses<'d>(alloc: Global, uses: Uses<'d>) -> Result<Survey<'d>, Told<'d>>
 
 /// Tells of a model that reaches itself.
 fn tell_recursive<'d>(design: &'d Design, number: u32) -> Told<'d>
-    requires { IsFirstRecursive design.now number }
-    ensures { IsToldRecursive design.now result }
+    requires formed { IsWellFormed design.now }
+    requires first { IsFirstRecursive design.now number }
+    ensures { TellsRecursive design.now (shown result) }
 {
     match model_at(design, number) {
         Some(model) => Told::Recursive {
             model: model.name.as_slice(),
         },
-        None => Told::Memory,
+        None => unreachable!(),
     }
 }
 

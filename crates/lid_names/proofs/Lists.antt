@@ -5,6 +5,7 @@ use Rattle.std.specs.List.{list_any, count_by, prefix_len}
 use Rattle.std.specs.Str.{bytes_eq}
 use Rattle.std.proofs.lemmas.List.{map-append, append-nil, take_more, length-map}
 use Rattle.std.proofs.lemmas.Bool.{lt-ltb}
+use Rattle.std.proofs.Math.Bool.{or-false, and-false}
 use Rattle.std.proofs.lemmas.List.Elements.{filter-append}
 use Rattle.std.proofs.lemmas.List.Folds.{list_any-append}
 use Rattle.std.proofs.lemmas.List.Sums.{sum_by-append}
@@ -111,21 +112,13 @@ is_among_append n xs ys = list_any-append (bytes_eq n) xs ys
 pub count_append : (n : List ℕ) (xs ys : List (List ℕ)) → count_by (bytes_eq n) (xs ++ ys) ≡ count_by (bytes_eq n) xs + count_by (bytes_eq n) ys
 count_append n xs ys = sum_by-append _ xs ys
 
-or_false : (a : Bool) → (a || false) ≡ a
-or_false true = refl
-or_false false = refl
-
-and_false : (a : Bool) → (a && false) ≡ false
-and_false true = refl
-and_false false = refl
-
 pub is_among_with_name : (n : List ℕ) (names : List (List ℕ)) (m : List ℕ) → is_among n (with_name names m) ≡ (is_among n names || bytes_eq n m)
 is_among_with_name n names m = by (is_among m names) refl (bytes_eq n m) refl
   where
     by : (a : Bool) → is_among m names ≡ a → (b : Bool) → bytes_eq n m ≡ b → is_among n (cond a names (names ++ m ∷ [])) ≡ (is_among n names || b)
     by true h true e = subst (λ (k : List ℕ). is_among k names ≡ (is_among k names || true)) (sym (same_bytes n m e)) (let i : is_among m names ≡ true = h in cc)
-    by true h false e = sym (or_false (is_among n names))
-    by false h b e = is_among_append n names (m ∷ []) ∙ ap (λ (c : Bool). is_among n names || c) (or_false (bytes_eq n m) ∙ e)
+    by true h false e = sym (or-false (is_among n names))
+    by false h b e = is_among_append n names (m ∷ []) ∙ ap (λ (c : Bool). is_among n names || c) (or-false (bytes_eq n m) ∙ e)
 
 -- a name stands in a list exactly where it stands there at least once
 pub among_counted : (n : List ℕ) (names : List (List ℕ)) → is_among n names ≡ nat_lt 0 (count_by (bytes_eq n) names)
@@ -155,7 +148,7 @@ module _ (all twice names : List (List ℕ)) (m : List ℕ) (came : (n : List �
       by true (suc k) =
           let left : nat_lt 0 (suc k) ≡ true = lt-ltb 0 (suc k) (omega arith) in
           ap (λ (a : Bool). a || true) left ∙ sym (lt-ltb 0 (suc k + 1) (omega arith))
-      by false k = or_false (nat_lt 0 k) ∙ ap (nat_lt 0) (sym (add-zero k))
+      by false k = or-false (nat_lt 0 k) ∙ ap (nat_lt 0) (sym (add-zero k))
 
   pub again_more : (n : List ℕ) → is_among n (if is_among m all then with_name twice m else twice) ≡ nat_lt 1 (count_by (bytes_eq n) (names ++ m ∷ []))
   again_more n =
@@ -167,7 +160,7 @@ module _ (all twice names : List (List ℕ)) (m : List ℕ) (came : (n : List �
     where
       split : (a : Bool) → is_among n (cond a (with_name twice m) twice) ≡ (is_among n twice || (a && bytes_eq n m))
       split true = is_among_with_name n twice m
-      split false = sym (or_false (is_among n twice))
+      split false = sym (or-false (is_among n twice))
 
       numbers : (k : ℕ) → (nat_lt 1 k || (nat_lt 0 k && true)) ≡ nat_lt 1 (k + 1)
       numbers zero = refl
@@ -182,6 +175,6 @@ module _ (all twice names : List (List ℕ)) (m : List ℕ) (came : (n : List �
           ap (λ (k : List ℕ). nat_lt 1 (count_by (bytes_eq n) names) || (nat_lt 0 (count_by (bytes_eq k) names) && true)) (sym (same_bytes n m e))
           ∙ numbers (count_by (bytes_eq n) names)
       by false e =
-          ap (λ (a : Bool). nat_lt 1 (count_by (bytes_eq n) names) || a) (and_false (nat_lt 0 (count_by (bytes_eq m) names)))
-          ∙ or_false (nat_lt 1 (count_by (bytes_eq n) names))
+          ap (λ (a : Bool). nat_lt 1 (count_by (bytes_eq n) names) || a) (and-false (nat_lt 0 (count_by (bytes_eq m) names)))
+          ∙ or-false (nat_lt 1 (count_by (bytes_eq n) names))
           ∙ ap (nat_lt 1) (sym (add-zero (count_by (bytes_eq n) names)))

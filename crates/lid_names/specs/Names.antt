@@ -1,5 +1,7 @@
--- Lists of names without a name twice.
+-- What sets of borrowed names stand for: lists of names without a name twice. For the contracts of
+-- this crate alone.
 use denote.Ref.{Bor}
+use Rattle.lid_design.specs.Models.{is_twice}
 use Rattle.std.specs.Prelude.{◌≡◌, ℕ, Bool, nat_lt, if◌then◌else◌, List, [], ◌∷◌, ◌++◌, map, count_by}
 use Rattle.std.specs.Str.{bytes_eq}
 use Rattle.indexmap.specs.IndexSet.{IndexSet}
@@ -19,15 +21,7 @@ names_of set = texts set.keys
 abbrev pub with_name : List (List ℕ) → List ℕ → List (List ℕ)
 with_name names name = if is_among name names then names else names ++ name ∷ []
 
--- whether a name stands in a list more than once
-abbrev pub is_twice : List (List ℕ) → List ℕ → Bool
-is_twice names name = nat_lt 1 (count_by (bytes_eq name) names)
-
 -- the names of a list, and those that stand in it more than once
 pub record IsTally (names all twice : List (List ℕ)) : Type 0 where
   pub each : (n : List ℕ) → is_among n all ≡ is_among n names
   pub again : (n : List ℕ) → is_among n twice ≡ is_twice names n
-
--- the formal of a binding
-abbrev pub formal_of : Bind → List ℕ
-formal_of b = b.formal

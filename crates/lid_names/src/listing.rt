@@ -3,8 +3,8 @@
 ghost use Rattle.std.specs.Prelude.{◌≡◌, [], ◌∷◌, ◌++◌, map, flat_map, option_map, slice_get, IfOk, OnOk};
 ghost use denote.Ref.{Bor};
 ghost use Rattle.lid_design.specs.declared.Model.{Model};
-ghost use Rattle.lid_design.specs.Models.{occurrences, cell_names, cell_out, cell_reads, actual_of, actual_names};
-ghost use Rattle.lid_names.specs.Names.{texts, firsts, formal_of, IsTally};
+ghost use Rattle.lid_design.specs.Models.{occurrences, cell_names, cell_out, cell_reads, actual_of, actual_names, formal_of};
+ghost use Rattle.lid_names.specs.Names.{texts, firsts, IsTally};
 
 use crate::set::{NameSet, Tally, tally_names};
 use lid_base::Name;
@@ -190,11 +190,4 @@ pub fn model_at<'d>(design: &'d Design, number: u32) -> Option<&'d Model>
     } else {
         None
     }
-}
-
-/// A copy of a name.
-pub fn copy_name(alloc: Global, name: &[u8]) -> Result<Name, AllocError>
-    ensures { IfOk result (λ copy. copy ≡ name.now) }
-{
-    Ok(Name::from_vec(name.to_vec(alloc)?))
 }

@@ -1,7 +1,8 @@
 ghost use Rattle.std.specs.Prelude.{◌≡◌, ℕ, List, ◌<◌, ◌^◌, [], ◌∷◌, ◌++◌, not, if◌then◌else◌, length, position, slice_get, option_map, IfOk, OnOk};
 ghost use denote.Ref.{Bor};
 ghost use Rattle.std.specs.Str.{bytes_eq};
-ghost use Rattle.lid_names.specs.Names.{is_among, firsts, with_name, texts, names_of, is_twice, IsTally};
+ghost use Rattle.lid_design.specs.Models.{is_twice};
+ghost use Rattle.lid_names.specs.Names.{is_among, firsts, with_name, texts, names_of, IsTally};
 
 use indexmap::IndexSet;
 use std::alloc::{AllocError, Global};

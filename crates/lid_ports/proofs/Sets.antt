@@ -1,12 +1,13 @@
 -- Sets of the names of lists, and lists by tests that agree.
-use Rattle.std.proofs.Common.{◌≡◌, ℕ, zero, suc, Bool, true, false, ◌||◌, ◌&&◌, cond, List, [], ◌∷◌, filter, find, Option, Some, slice_get, slice_index_or, refl, sym, ◌∙◌, ap}
+use Rattle.std.proofs.Common.{◌≡◌, ℕ, zero, suc, ◌+◌, nat_lt, count_by, ◌++◌, arith, Bool, true, false, ◌||◌, ◌&&◌, cond, List, [], ◌∷◌, filter, find, Option, Some, slice_get, slice_index_or, refl, sym, ◌∙◌, ap}
 use Rattle.std.specs.Option.{option_map_or}
+use Rattle.std.proofs.Math.Bool.{and-false, or_comm}
 use Rattle.std.specs.Str.{bytes_eq}
 use Rattle.lid_base.proofs.Lists.{same_bytes}
 use Rattle.lid_design.specs.declared.Design.{Design}
 use Rattle.lid_design.specs.declared.Model.{Model}
-use Rattle.lid_names.specs.Names.{is_among}
-use Rattle.lid_names.proofs.Lists.{is_among_firsts}
+use Rattle.lid_names.specs.Names.{is_among, IsTally}
+use Rattle.lid_names.proofs.Lists.{is_among_firsts, is_among_append, count_append}
 use Rattle.lid_ports.specs.declared.ports.Port.{Port}
 use Rattle.lid_ports.specs.Ports.{names_in, sets_in, is_in}
 
@@ -24,10 +25,6 @@ find_same p q [] same = refl
 find_same {A} p q (x ∷ xs) same =
     ap (λ (b : Bool). cond b (Some x) (find p xs)) (same x) ∙ ap (λ (o : Option A). cond (q x) (Some x) o) (find_same p q xs same)
 
-and_false : (a : Bool) → (a && false) ≡ false
-and_false true = refl
-and_false false = refl
-
 -- a name stands among those that a test takes exactly where it stands in the list and the test takes it
 pub is_among_filter : (p : List ℕ → Bool) (n : List ℕ) (names : List (List ℕ)) → is_among n (filter p names) ≡ (is_among n names && p n)
 is_among_filter p n [] = refl
@@ -40,5 +37,18 @@ is_among_filter p n (x ∷ xs) = by (p x) refl (bytes_eq n x) refl (is_among_fil
     by true e false h later = ap (λ (a : Bool). a || is_among n (filter p xs)) h ∙ later ∙ sym (ap (λ (a : Bool). (a || is_among n xs) && p n) h)
     by false e true h later =
         let left : p n ≡ false = ap p (same_bytes n x h) ∙ e in
-        later ∙ ap (λ (a : Bool). is_among n xs && a) left ∙ and_false (is_among n xs) ∙ sym (ap (λ (a : Bool). (a || is_among n xs) && p n) h ∙ left)
+        later ∙ ap (λ (a : Bool). is_among n xs && a) left ∙ and-false (is_among n xs) ∙ sym (ap (λ (a : Bool). (a || is_among n xs) && p n) h ∙ left)
     by false e false h later = later ∙ sym (ap (λ (a : Bool). (a || is_among n xs) && p n) h)
+
+-- names are tallied alike in whatever order two lists of them are joined
+pub tally_swapped : (xs ys all twice : List (List ℕ)) → IsTally (xs ++ ys) all twice → IsTally (ys ++ xs) all twice
+tally_swapped xs ys all twice tally = record { each = λ n. tally.each n ∙ among n; again = λ n. tally.again n ∙ ap (nat_lt 1) (counted n) }
+  where
+    among : (n : List ℕ) → is_among n (xs ++ ys) ≡ is_among n (ys ++ xs)
+    among n = is_among_append n xs ys ∙ or_comm (is_among n xs) (is_among n ys) ∙ sym (is_among_append n ys xs)
+
+    counted : (n : List ℕ) → count_by (bytes_eq n) (xs ++ ys) ≡ count_by (bytes_eq n) (ys ++ xs)
+    counted n =
+        let left = count_append n xs ys in
+        let right = count_append n ys xs in
+        omega arith

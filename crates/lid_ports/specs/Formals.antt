@@ -1,18 +1,14 @@
--- The formals that an instance binds.
+-- How the conditions on instances are tried: the first formal that breaks one.
 use denote.Ref.{Bor}
 use Rattle.std.specs.Prelude.{ℕ, Bool, not, ◌||◌, List, map, find, Option, option_map, option_and_then, slice_get}
 use Rattle.lid_design.specs.declared.Design.{Design}
 use Rattle.lid_design.specs.declared.Inst.{Inst}
 use Rattle.lid_design.specs.Columns.{is_among, model_named, data_inputs}
-use Rattle.lid_design.specs.Models.{is_port}
-use Rattle.lid_names.specs.Names.{is_twice, formal_of}
+use Rattle.lid_design.specs.Models.{is_port, is_twice, formals}
 use Rattle.lid_ports.specs.declared.ports.Port.TheVariants.{Input, Output, Clock}
 use Rattle.lid_ports.specs.declared.formals.InstRule.{InstRule}
 use Rattle.lid_ports.specs.declared.formals.InstRule.TheVariants.{UnknownFormal, FormalTwice, Unbound}
 use Rattle.lid_ports.specs.Ports.{is_in}
-
-abbrev pub formals : Inst → List (List ℕ)
-formals inst = map formal_of inst.binds
 
 -- whether a name may be bound as a formal of the model of a number
 abbrev pub is_port_of : Design → ℕ → List ℕ → Bool

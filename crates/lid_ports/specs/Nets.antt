@@ -1,13 +1,12 @@
--- The nets that are driven and read in a model.
-use Rattle.std.specs.Prelude.{◌≡◌, ℕ, Bool, not, ◌&&◌, List, map, filter}
+-- How what is driven and read in a model is found, as sets of names.
+use Rattle.std.specs.Prelude.{◌≡◌, ℕ, Bool, not, ◌&&◌, List, map, filter, Some, slice_get}
 use Rattle.lid_design.specs.declared.Design.{Design}
-use Rattle.lid_design.specs.declared.Model.{Model}
 use Rattle.lid_design.specs.declared.Inst.{Inst}
 use Rattle.lid_design.specs.declared.Bind.{Bind}
 use Rattle.lid_design.specs.Columns.{is_among}
-use Rattle.lid_design.specs.Models.{is_clock_of, actual_of, driven_by, read_by, driver_names, inner_drivers, read_names}
-use Rattle.lid_names.specs.Names.{is_twice}
+use Rattle.lid_design.specs.Models.{is_clock_of, actual_of, driven_by, read_by, driver_names, inner_drivers, read_names, is_twice}
 use Rattle.lid_ports.specs.declared.ports.Port.TheVariants.{Input, Output}
+use Rattle.lid_ports.specs.declared.nets.Nets.{Nets}
 use Rattle.lid_ports.specs.declared.nets.Side.{Side}
 use Rattle.lid_ports.specs.declared.nets.Side.TheVariants.{Driven, Read}
 use Rattle.lid_ports.specs.Ports.{is_in}
@@ -26,9 +25,10 @@ abbrev pub nets_on : Side → Design → Inst → List (List ℕ)
 nets_on Driven d inst = driven_by d inst
 nets_on Read d inst = read_by d inst
 
--- the sets of the nets that are driven, driven more than once, driven inside, and read
-pub record AreNets (d : Design) (m : Model) (drivers twice inner reads : List (List ℕ)) : Type 0 where
-  pub driven : (net : List ℕ) → is_among net drivers ≡ is_among net (driver_names d m)
-  pub again : (net : List ℕ) → is_among net twice ≡ is_twice (driver_names d m) net
-  pub within : (net : List ℕ) → is_among net inner ≡ is_among net (inner_drivers d m)
-  pub read : (net : List ℕ) → is_among net reads ≡ is_among net (read_names d m)
+-- what is driven and read in the model of a number
+pub record AreNets (d : Design) (k : ℕ) (nets : Nets) : Type 0 where
+  pub here : slice_get d.models k ≡ Some nets.model.now
+  pub driven : (net : List ℕ) → is_among net nets.drivers.all.all ≡ is_among net (driver_names d nets.model.now)
+  pub again : (net : List ℕ) → is_among net nets.drivers.all.twice ≡ is_twice (driver_names d nets.model.now) net
+  pub within : (net : List ℕ) → is_among net nets.drivers.inner ≡ is_among net (inner_drivers d nets.model.now)
+  pub read : (net : List ℕ) → is_among net nets.reads ≡ is_among net (read_names d nets.model.now)

@@ -1,4 +1,4 @@
--- The lists of the models of a design, as sets of names.
+-- How names are looked up: the lists of the models of a design, as sets.
 use Rattle.std.specs.Prelude.{◌≡◌, ℕ, Bool, false, List, map, slice_get}
 use Rattle.std.specs.Option.{option_map_or}
 use Rattle.lid_design.specs.declared.Design.{Design}

@@ -1,9 +1,9 @@
 ghost use Rattle.std.specs.Prelude.{◌≡◌, Some, not, map, filter, find, slice_get, IfOk};
 ghost use Rattle.lid_design.specs.Columns.{is_among};
-ghost use Rattle.lid_design.specs.Models.{IsReached, insts_of, is_clock_of};
-ghost use Rattle.lid_names.specs.Names.{texts, is_twice, formal_of, firsts};
+ghost use Rattle.lid_design.specs.Models.{IsReached, insts_of, is_clock_of, is_twice, formal_of, formals};
+ghost use Rattle.lid_names.specs.Names.{texts, firsts};
 ghost use Rattle.lid_ports.specs.declared.formals.InstRule.TheVariants.{UnknownFormal, Unbound};
-ghost use Rattle.lid_ports.specs.Formals.{formals, faulty_formal, name_behind, is_port_of, first_unbound_of};
+ghost use Rattle.lid_ports.specs.Formals.{faulty_formal, name_behind, is_port_of, first_unbound_of};
 
 use crate::ports::{Port, Ports};
 use lid_base::Name;

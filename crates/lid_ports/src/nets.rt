@@ -23,12 +23,19 @@ pub enum Side {
 /// What is driven and read in a model.
 #[derive(Drop)]
 pub struct Nets<'d> {
-    /// The nets that are driven, and those that are driven more than once.
-    pub drivers: Tally<'d>,
-    /// The nets that cells and instances drive.
-    pub inner: NameSet<'d>,
+    pub model: &'d Model,
+    pub drivers: Drivers<'d>,
     /// The nets that are read.
     pub reads: NameSet<'d>,
+}
+
+/// What is driven in a model.
+#[derive(Drop)]
+pub struct Drivers<'d> {
+    /// The nets that are driven, and those that are driven more than once.
+    pub all: Tally<'d>,
+    /// The nets that cells and instances drive.
+    pub inner: NameSet<'d>,
 }
 
 /// Finds what is driven and read in a model.
@@ -41,52 +48,37 @@ pub fn collect_nets<'d>(
     requires reached { IsReached ports.now k }
     requires model { slice_get ports.now.models k ≡ Some model.now }
     requires few { length model.now.insts < 2 ^ 32 }
-    ensures { IfOk result (λ nets. AreNets ports.now model.now nets.drivers.all nets.drivers.twice nets.inner nets.reads) }
+    ensures { IfOk result (λ nets. (nets.model.now ≡ model.now) × AreNets ports.now k nets) }
 {
-    let drivers = tally_drivers(alloc, ports, k, model)?;
-    let inner = collect_inner(alloc, ports, k, model)?;
+    let drivers = collect_drivers(alloc, ports, k, model)?;
     let reads = collect_reads(alloc, ports, k, model)?;
     Ok(Nets {
+        model,
         drivers,
-        inner,
         reads,
     })
 }
 
-/// The nets that are driven in a model, and those that are driven more than once.
+/// The nets that are driven in a model.
 #[tactic(auto, unfolding(lid_design::specs::Models::driver_names))]
-fn tally_drivers<'d>(
+fn collect_drivers<'d>(
     alloc: Global,
     ports: &Ports<'d>,
     k: u32,
     model: &'d Model,
-) -> Result<Tally<'d>, AllocError>
+) -> Result<Drivers<'d>, AllocError>
     requires reached { IsReached ports.now k }
     requires model { slice_get ports.now.models k ≡ Some model.now }
     requires few { length model.now.insts < 2 ^ 32 }
-    ensures { IfOk result (λ tally. IsTally (driver_names ports.now model.now) tally.all tally.twice) }
+    ensures all { IfOk result (λ drivers. IsTally (driver_names ports.now model.now) drivers.all.all drivers.all.twice) }
+    ensures inner { IfOk result (λ drivers. drivers.inner ≡ firsts (inner_drivers ports.now model.now)) }
 {
     let mut list = Vec::new(alloc);
+    push_inner(&mut list, ports, k, model)?;
+    let inner = NameSet::collect(alloc, list.as_slice())?;
     push_port_drivers(&mut list, ports, k, model)?;
-    push_inner(&mut list, ports, k, model)?;
-    tally_names(alloc, list.as_slice())
-}
-
-/// The nets that cells and instances of a model drive.
-fn collect_inner<'d>(
-    alloc: Global,
-    ports: &Ports<'d>,
-    k: u32,
-    model: &'d Model,
-) -> Result<NameSet<'d>, AllocError>
-    requires reached { IsReached ports.now k }
-    requires model { slice_get ports.now.models k ≡ Some model.now }
-    requires few { length model.now.insts < 2 ^ 32 }
-    ensures { IfOk result (λ set. set ≡ firsts (inner_drivers ports.now model.now)) }
-{
-    let mut list = Vec::new(alloc);
-    push_inner(&mut list, ports, k, model)?;
-    NameSet::collect(alloc, list.as_slice())
+    let all = tally_names(alloc, list.as_slice())?;
+    Ok(Drivers { all, inner })
 }
 
 /// The nets that are read in a model.

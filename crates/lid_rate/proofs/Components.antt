@@ -13,14 +13,14 @@ use Rattle.lid_graph.proofs.Journeys.{joined_step, joined_back}
 use Rattle.lid_cert.specs.declared.cert.Part.{Part}
 use Rattle.lid_cert.specs.Certificates.{has_node, lag_of, lead_of, depth_of, via_of, AreLists, IsEdgeMet, IsStartMet, IsVia, IsNodeMet, IsPart, ascends}
 use Rattle.lid_cert.proofs.Parts.{lag_along, stays_back}
-use Rattle.lid_rate.specs.Chains.{IsChain, MeetsOnce}
-use Rattle.lid_rate.specs.Raising.{AreEdges}
-use Rattle.lid_rate.specs.Rating.{IsRate}
-use Rattle.lid_rate.specs.Spreading.{is_reached, IsTree, IsClosed}
-use Rattle.lid_rate.specs.Rates.{IsRateable, those, AreLabels, is_labelled, edges_of, IsPartOf}
+use Rattle.lid_rate.specs.WalksBack.{IsWalkBack, MeetsOnce}
+use Rattle.lid_rate.specs.Relaxation.{AreEdges}
+use Rattle.lid_rate.specs.CycleRatios.{IsRate}
+use Rattle.lid_rate.specs.SpanningTrees.{is_reached, IsTree, IsSpanning}
+use Rattle.lid_rate.specs.Rates.{IsRateable, numbers_where, AreLabels, is_labelled, edges_of, IsPartOf}
 use Rattle.lid_rate.proofs.Backward.{tokens_reverse, chain_walk}
 use Rattle.lid_rate.proofs.Settles.{contains_within}
-use Rattle.lid_rate.proofs.Those.{Stands, those_only, those_all, those_ascends, those_has, those_has_not, those_few, column_at}
+use Rattle.lid_rate.proofs.NumbersWhere.{Stands, those_only, those_all, those_ascends, those_has, those_has_not, those_few, column_at}
 
 pub start_of : (g : Graph) (ks : List ℕ) (u v : ℕ) → IsWalk g u ks v → 0 < length ks → walk_start g ks ≡ u
 start_of g [] u v walk some = absurd (omega arith)
@@ -87,46 +87,46 @@ module _ (g : Graph) (ok : IsRateable g) (least : List ℕ) (labels : AreLabels 
 
     module _ (p q : ℕ) (walk lags : List ℕ) (rate : IsRate g (edges_of g least r) p q walk lags) where
       abbrev at : ℕ
-      at = rate.rated.at
+      at = rate.rated.cycle.at
 
-      pub walk_long : length walk ≡ length rate.rated.chain
-      walk_long = ap length rate.rated.walk_is ∙ length-reverse rate.rated.chain
+      pub walk_long : length walk ≡ length rate.rated.cycle.chain
+      walk_long = ap length rate.rated.cycle.walk_is ∙ length-reverse rate.rated.cycle.chain
 
-      closed : IsWalk g rate.rated.at walk rate.rated.at
-      closed = subst (λ (l : List ℕ). IsWalk g rate.rated.at l rate.rated.at) (sym rate.rated.walk_is) (chain_walk g (edges_of g least r) are_edges rate.rated.chain rate.rated.at rate.rated.at rate.rated.chained)
+      closed : IsWalk g rate.rated.cycle.at walk rate.rated.cycle.at
+      closed = subst (λ (l : List ℕ). IsWalk g rate.rated.cycle.at l rate.rated.cycle.at) (sym rate.rated.cycle.walk_is) (chain_walk g (edges_of g least r) are_edges rate.rated.cycle.chain rate.rated.cycle.at rate.rated.cycle.at rate.rated.cycle.chained)
 
       pub walk_some : 0 < length walk
-      walk_some = let l = walk_long in let s = rate.rated.some in omega arith
+      walk_some = let l = walk_long in let s = rate.rated.cycle.some in omega arith
 
-      pub starts : walk_start g walk ≡ rate.rated.at
-      starts = start_of g walk rate.rated.at rate.rated.at closed walk_some
+      pub starts : walk_start g walk ≡ rate.rated.cycle.at
+      starts = start_of g walk rate.rated.cycle.at rate.rated.cycle.at closed walk_some
 
       pub is_closed_walk : IsClosedWalk g walk
       is_closed_walk = record { some = walk_some; closed = subst (λ (n : ℕ). IsWalk g n walk n) (sym starts) closed }
 
-      tokens_same : walk_tokens g walk ≡ walk_tokens g rate.rated.chain
-      tokens_same = ap (walk_tokens g) rate.rated.walk_is ∙ tokens_reverse g rate.rated.chain
+      tokens_same : walk_tokens g walk ≡ walk_tokens g rate.rated.cycle.chain
+      tokens_same = ap (walk_tokens g) rate.rated.cycle.walk_is ∙ tokens_reverse g rate.rated.cycle.chain
 
       ratio_same : walk_tokens g walk * q ≡ p * length walk
       ratio_same =
           let same = rate.rated.lowest.same in
-          let tokens : walk_tokens g walk * q ≡ walk_tokens g rate.rated.chain * q = ap (λ (n : ℕ). n * q) tokens_same in
-          let long : p * length walk ≡ p * length rate.rated.chain = ap (λ (n : ℕ). p * n) walk_long in
+          let tokens : walk_tokens g walk * q ≡ walk_tokens g rate.rated.cycle.chain * q = ap (λ (n : ℕ). n * q) tokens_same in
+          let long : p * length walk ≡ p * length rate.rated.cycle.chain = ap (λ (n : ℕ). p * n) walk_long in
           omega arith
 
       once_walk : MeetsOnce g walk
-      once_walk = subst (MeetsOnce g) (sym rate.rated.walk_is) (once_back g rate.rated.chain rate.rated.once)
+      once_walk = subst (MeetsOnce g) (sym rate.rated.cycle.walk_is) (once_back g rate.rated.cycle.chain rate.rated.cycle.once)
 
-      at_of : (ks : List ℕ) (v u : ℕ) → 0 < length ks → IsChain g (edges_of g least r) v ks u → (v < g.nodes) × Inside v
+      at_of : (ks : List ℕ) (v u : ℕ) → 0 < length ks → IsWalkBack g (edges_of g least r) v ks u → (v < g.nodes) × Inside v
       at_of [] v u some chain = absurd (omega arith)
       at_of (k ∷ ks) v u some chain =
           let h : k < length g.edges = contains_within g (edges_of g least r) k are_edges chain.0 in
           (subst (λ (n : ℕ). n < g.nodes) chain.1 ((ok.paired.ends k h).to), ap (λ (n : ℕ). get_or least n 0) (sym chain.1) ∙ (sym (edge_label k h) ∙ listed_inside k chain.0))
 
-      pub at_inside : (rate.rated.at < g.nodes) × Inside rate.rated.at
-      at_inside = at_of rate.rated.chain rate.rated.at rate.rated.at rate.rated.some rate.rated.chained
+      pub at_inside : (rate.rated.cycle.at < g.nodes) × Inside rate.rated.cycle.at
+      at_inside = at_of rate.rated.cycle.chain rate.rated.cycle.at rate.rated.cycle.at rate.rated.cycle.some rate.rated.cycle.chained
 
-      module _ (via : List (Option ℕ)) (lead depth : List ℕ) (first : ℕ) (tree : IsTree g (edges_of g least r) rate.rated.at q first via lead depth) (all : IsClosed g (edges_of g least r) rate.rated.at (length (edges_of g least r)) via) (first_is : q * (length walk - 1) ≤ first + p * (length walk - 1)) (first_low : first ≤ 2 ^ 40) (part : Part) (nodes_are : part.nodes ≡ those (is_labelled least r) (length least)) (p_is : part.p ≡ p) (q_is : part.q ≡ q) (cycle_is : part.cycle ≡ walk) (lag_is : part.lag ≡ map (λ v. get_or lags v 0) part.nodes) (lead_is : part.lead ≡ map (λ v. get_or lead v 0) part.nodes) (via_is : part.via ≡ map (λ v. get_or via v None) part.nodes) (depth_is : part.depth ≡ map (λ v. get_or depth v 0) part.nodes) where
+      module _ (via : List (Option ℕ)) (lead depth : List ℕ) (first : ℕ) (tree : IsTree g (edges_of g least r) rate.rated.cycle.at q first via lead depth) (all : IsSpanning g (edges_of g least r) rate.rated.cycle.at (length (edges_of g least r)) via) (first_is : q * (length walk - 1) ≤ first + p * (length walk - 1)) (first_low : first ≤ 2 ^ 40) (part : Part) (nodes_are : part.nodes ≡ numbers_where (is_labelled least r) (length least)) (p_is : part.p ≡ p) (q_is : part.q ≡ q) (cycle_is : part.cycle ≡ walk) (lag_is : part.lag ≡ map (λ v. get_or lags v 0) part.nodes) (lead_is : part.lead ≡ map (λ v. get_or lead v 0) part.nodes) (via_is : part.via ≡ map (λ v. get_or via v None) part.nodes) (depth_is : part.depth ≡ map (λ v. get_or depth v 0) part.nodes) where
         has : (v : ℕ) → v < g.nodes → has_node part v ≡ is_labelled least r v
         has v h = ap (λ (l : List ℕ). is_some (position (λ n. n == v) l)) nodes_are ∙ those_has (is_labelled least r) (length least) v (let c = labels.count in omega arith)
 
@@ -154,7 +154,7 @@ module _ (g : Graph) (ok : IsRateable g) (least : List ℕ) (labels : AreLabels 
         own_via : (v : ℕ) → v < g.nodes → Inside v → via_of part v ≡ get_or via v None
         own_via v h inside = subst (λ (l : List ℕ). part.via ≡ map (λ w. get_or via w None) l → via_of (record part { nodes = l }) v ≡ get_or via v None) (sym nodes_are) (λ is. column_at (is_labelled least r) (length least) v (λ w. get_or via w None) None part.via is (let c = labels.count in omega arith) (eq-eqb (get_or least v 0) r inside)) via_is
 
-        r_stands : Stands (those (is_labelled least r) (length least)) r
+        r_stands : Stands (numbers_where (is_labelled least r) (length least)) r
         r_stands = those_all (is_labelled least r) (length least) r (let c = labels.count in omega arith) (eq-eqb (get_or least r 0) r own)
 
         lists : AreLists part
@@ -168,10 +168,10 @@ module _ (g : Graph) (ok : IsRateable g) (least : List ℕ) (labels : AreLabels 
         node_at : (i d : ℕ) → i < length part.nodes → (get_or part.nodes i d < g.nodes) × Inside (get_or part.nodes i d)
         node_at i d h =
             let count = labels.count in
-            let l : i < length (those (is_labelled least r) (length least)) = subst (λ (xs : List ℕ). i < length xs) nodes_are h in
-            let is : get_or part.nodes i d ≡ get_or (those (is_labelled least r) (length least)) i 0 = get_or_default part.nodes i d 0 h ∙ ap (λ (xs : List ℕ). get_or xs i 0) nodes_are in
+            let l : i < length (numbers_where (is_labelled least r) (length least)) = subst (λ (xs : List ℕ). i < length xs) nodes_are h in
+            let is : get_or part.nodes i d ≡ get_or (numbers_where (is_labelled least r) (length least)) i 0 = get_or_default part.nodes i d 0 h ∙ ap (λ (xs : List ℕ). get_or xs i 0) nodes_are in
             let only = those_only (is_labelled least r) (length least) i l in
-            (omega (arith, only.0), ap (λ (n : ℕ). get_or least n 0) is ∙ eqb-true (get_or least (get_or (those (is_labelled least r) (length least)) i 0) 0) r only.1)
+            (omega (arith, only.0), ap (λ (n : ℕ). get_or least n 0) is ∙ eqb-true (get_or least (get_or (numbers_where (is_labelled least r) (length least)) i 0) 0) r only.1)
 
         edge_met : (k : ℕ) → k < length g.edges → IsEdgeMet part (edge_at g k)
         edge_met k h = record {
@@ -190,32 +190,32 @@ module _ (g : Graph) (ok : IsRateable g) (least : List ℕ) (labels : AreLabels 
                 omega arith
 
         -- all that edges of the component lead to is reached
-        reached_along : (ks : List ℕ) (u v : ℕ) → IsWalk g u ks v → Inside u → is_reached rate.rated.at via u ≡ true → is_reached rate.rated.at via v ≡ true
-        reached_along [] u v walk_is inside reached = subst (λ (n : ℕ). is_reached rate.rated.at via n ≡ true) walk_is reached
+        reached_along : (ks : List ℕ) (u v : ℕ) → IsWalk g u ks v → Inside u → is_reached rate.rated.cycle.at via u ≡ true → is_reached rate.rated.cycle.at via v ≡ true
+        reached_along [] u v walk_is inside reached = subst (λ (n : ℕ). is_reached rate.rated.cycle.at via n ≡ true) walk_is reached
         reached_along (k ∷ ks) u v walk_is inside reached =
             let from : Inside (edge_at g k).from = ap (λ (n : ℕ). get_or least n 0) walk_is.1 ∙ inside in
             let to : Inside (edge_at g k).to = sym (edge_label k walk_is.0) ∙ from in
             let stands = edge_listed k walk_is.0 from in
-            let here : is_reached rate.rated.at via (edge_at g k).from ≡ true = ap (is_reached rate.rated.at via) walk_is.1 ∙ reached in
-            let on : is_reached rate.rated.at via (edge_at g k).from ≡ true → is_reached rate.rated.at via (edge_at g k).to ≡ true = subst (λ (l : ℕ). is_reached rate.rated.at via (edge_at g l).from ≡ true → is_reached rate.rated.at via (edge_at g l).to ≡ true) stands.is (all stands.place stands.within) in
+            let here : is_reached rate.rated.cycle.at via (edge_at g k).from ≡ true = ap (is_reached rate.rated.cycle.at via) walk_is.1 ∙ reached in
+            let on : is_reached rate.rated.cycle.at via (edge_at g k).from ≡ true → is_reached rate.rated.cycle.at via (edge_at g k).to ≡ true = subst (λ (l : ℕ). is_reached rate.rated.cycle.at via (edge_at g l).from ≡ true → is_reached rate.rated.cycle.at via (edge_at g l).to ≡ true) stands.is (all stands.place stands.within) in
             reached_along ks (edge_at g k).to v walk_is.2 to (on here)
 
-        at_reached : is_reached rate.rated.at via rate.rated.at ≡ true
-        at_reached = let e : rate.rated.at == rate.rated.at ≡ true = eq-eqb rate.rated.at rate.rated.at refl in rw e refl
+        at_reached : is_reached rate.rated.cycle.at via rate.rated.cycle.at ≡ true
+        at_reached = let e : rate.rated.cycle.at == rate.rated.cycle.at ≡ true = eq-eqb rate.rated.cycle.at rate.rated.cycle.at refl in rw e refl
 
-        reached : (v : ℕ) → v < g.nodes → Inside v → is_reached rate.rated.at via v ≡ true
+        reached : (v : ℕ) → v < g.nodes → Inside v → is_reached rate.rated.cycle.at via v ≡ true
         reached v h inside =
-            let way = joined_by rate.rated.at v at_inside.0 h (at_inside.1 ∙ sym inside) in
-            reached_along way.0 rate.rated.at v way.1 at_inside.1 at_reached
+            let way = joined_by rate.rated.cycle.at v at_inside.0 h (at_inside.1 ∙ sym inside) in
+            reached_along way.0 rate.rated.cycle.at v way.1 at_inside.1 at_reached
 
         is_via : (v k : ℕ) → v < g.nodes → Inside v → get_or via v None ≡ Some k → IsVia g part v k
         is_via v k h inside e =
-            let listed = tree.listed v k e in
+            let listed = (tree.edges v k e).listed in
             let within : k < length g.edges = contains_within g (edges_of g least r) k are_edges listed in
             let from : Inside (edge_at g k).from = listed_inside k listed in
             let from_within = (ok.paired.ends k within).from in
-            let deep = tree.deeper v k e in
-            let leads = tree.leads v k e in
+            let deep = (tree.edges v k e).deeper in
+            let leads = (tree.edges v k e).leads in
             let depth_v = own_depth v h inside in
             let depth_u = own_depth (edge_at g k).from from_within from in
             let lead_v = own_lead v h inside in
@@ -223,7 +223,7 @@ module _ (g : Graph) (ok : IsRateable g) (least : List ℕ) (labels : AreLabels 
             let scaled : part.q * (edge_at g k).tokens ≡ q * (edge_at g k).tokens = ap (λ (n : ℕ). n * (edge_at g k).tokens) q_is in
             record {
               within = within;
-              ends = tree.ends v k e;
+              ends = (tree.edges v k e).ends;
               begins = has_inside (edge_at g k).from from_within from;
               depth = omega arith;
               lead = omega arith;
@@ -232,30 +232,30 @@ module _ (g : Graph) (ok : IsRateable g) (least : List ℕ) (labels : AreLabels 
         node_met : (v : ℕ) → v < g.nodes → Inside v → IsNodeMet g part (walk_start g part.cycle) v
         node_met v h inside other = subst (λ (o : Option ℕ). MatchOption o ⊥ (IsVia g part v)) (sym (own_via v h inside)) (by_via (get_or via v None) refl)
           where
-            start_is : walk_start g part.cycle ≡ rate.rated.at
+            start_is : walk_start g part.cycle ≡ rate.rated.cycle.at
             start_is = ap (walk_start g) cycle_is ∙ starts
 
-            not_start : v == rate.rated.at ≡ false
-            not_start = ne_eqb v rate.rated.at (λ same. other (same ∙ sym start_is))
+            not_start : v == rate.rated.cycle.at ≡ false
+            not_start = ne_eqb v rate.rated.cycle.at (λ same. other (same ∙ sym start_is))
 
             by_via : (o : Option ℕ) → get_or via v None ≡ o → MatchOption o ⊥ (IsVia g part v)
             by_via None e =
                 let yes_reached = reached v h inside in
-                let no_reached : is_reached rate.rated.at via v ≡ false = ap (λ (b : Bool). b || is_some (get_or via v None)) not_start ∙ ap is_some e in
+                let no_reached : is_reached rate.rated.cycle.at via v ≡ false = ap (λ (b : Bool). b || is_some (get_or via v None)) not_start ∙ ap is_some e in
                 absurd (cc)
             by_via (Some k) e = is_via v k h inside e
 
         start_met : IsStartMet part (walk_start g part.cycle)
         start_met = subst (IsStartMet part) (sym (ap (walk_start g) cycle_is ∙ starts)) (record {
-          inside = has_inside rate.rated.at at_inside.0 at_inside.1;
-          depth = own_depth rate.rated.at at_inside.0 at_inside.1 ∙ tree.root_depth;
-          via = own_via rate.rated.at at_inside.0 at_inside.1 ∙ tree.root;
+          inside = has_inside rate.rated.cycle.at at_inside.0 at_inside.1;
+          depth = own_depth rate.rated.cycle.at at_inside.0 at_inside.1 ∙ tree.root.no_depth;
+          via = own_via rate.rated.cycle.at at_inside.0 at_inside.1 ∙ tree.root.no_edge;
           lead = start_lead;
         })
           where
-            start_lead : part.q * (length part.cycle - 1) ≤ lead_of part rate.rated.at + part.p * (length part.cycle - 1)
+            start_lead : part.q * (length part.cycle - 1) ≤ lead_of part rate.rated.cycle.at + part.p * (length part.cycle - 1)
             start_lead =
-                let is = own_lead rate.rated.at at_inside.0 at_inside.1 ∙ tree.root_lead in
+                let is = own_lead rate.rated.cycle.at at_inside.0 at_inside.1 ∙ tree.root.first_lead in
                 let long : length part.cycle ≡ length walk = ap length cycle_is in
                 let a : part.q * (length part.cycle - 1) ≡ q * (length walk - 1) = ap (λ (n : ℕ). n * (length part.cycle - 1)) q_is ∙ ap (λ (n : ℕ). q * (n - 1)) long in
                 let b : part.p * (length part.cycle - 1) ≡ p * (length walk - 1) = ap (λ (n : ℕ). n * (length part.cycle - 1)) p_is ∙ ap (λ (n : ℕ). p * (n - 1)) long in
@@ -314,7 +314,7 @@ module _ (g : Graph) (ok : IsRateable g) (least : List ℕ) (labels : AreLabels 
             let shallow = tree.shallow (get_or part.nodes i 0) in
             let nodes = ok.nodes in
             let least_q = rate.rated.lowest.least_q in
-            let short = rate.rated.short in
+            let short = rate.rated.cycle.short in
             let scaled : q * get_or depth (get_or part.nodes i 0) 0 ≤ 2 ^ 18 * get_or depth (get_or part.nodes i 0) 0 = mul-le-mul_right (get_or depth (get_or part.nodes i 0) 0) (omega arith) in
             omega arith
 
@@ -324,8 +324,8 @@ module _ (g : Graph) (ok : IsRateable g) (least : List ℕ) (labels : AreLabels 
           meets = is_part;
           once = subst (MeetsOnce g) (sym cycle_is) once_walk;
           in_range = record {
-            p = (let a = rate.rated.few in let b = rate.rated.short in let n = ok.nodes in omega arith);
-            q = (let a = rate.rated.lowest.least_q in let b = rate.rated.short in let n = ok.nodes in omega arith);
+            p = (let a = rate.rated.few in let b = rate.rated.cycle.short in let n = ok.nodes in omega arith);
+            q = (let a = rate.rated.lowest.least_q in let b = rate.rated.cycle.short in let n = ok.nodes in omega arith);
             lag = lags_low;
             lead = leads_low;
           };

@@ -11,8 +11,8 @@ use Rattle.lid_cert.specs.declared.cert.Cert.{Cert}
 use Rattle.lid_cert.specs.Certificates.{has_node, least_node, parts_with, ascends, Certifies, IsInRange}
 use Rattle.lid_cert.proofs.Ascending.{rises_pair}
 use Rattle.lid_cert.proofs.Consequences.{ratio_is_shown}
-use Rattle.lid_rate.specs.Rates.{IsRateable, those, AreLabels, is_labelled, IsPartOf, IsExact, is_own, AreParts}
-use Rattle.lid_rate.proofs.Those.{Stands, those_only, those_all, those_ascends, those_has}
+use Rattle.lid_rate.specs.Rates.{IsRateable, numbers_where, AreLabels, is_labelled, IsPartOf, IsExact, is_own, AreParts}
+use Rattle.lid_rate.proofs.NumbersWhere.{Stands, those_only, those_all, those_ascends, those_has}
 use Rattle.lid_rate.proofs.Components.{same_label}
 
 abbrev bit : Bool → ℕ
@@ -50,19 +50,19 @@ module _ (g : Graph) (ok : IsRateable g) (least : List ℕ) (labels : AreLabels 
   head_is r part h own of = ap (λ (l : List ℕ). get_or l 0 0) of.nodes_are ∙ by_place at.place at.within at.is
     where
       xs : List ℕ
-      xs = those (is_labelled least r) (length least)
+      xs = numbers_where (is_labelled least r) (length least)
 
-      at : Stands (those (is_labelled least r) (length least)) r
+      at : Stands (numbers_where (is_labelled least r) (length least)) r
       at = those_all (is_labelled least r) (length least) r (let c = labels.count in omega arith) (eq-eqb (get_or least r 0) r own)
 
-      by_place : (j : ℕ) → j < length (those (is_labelled least r) (length least)) → get_or (those (is_labelled least r) (length least)) j 0 ≡ r → get_or (those (is_labelled least r) (length least)) 0 0 ≡ r
+      by_place : (j : ℕ) → j < length (numbers_where (is_labelled least r) (length least)) → get_or (numbers_where (is_labelled least r) (length least)) j 0 ≡ r → get_or (numbers_where (is_labelled least r) (length least)) 0 0 ≡ r
       by_place zero l is = is
       by_place (suc j) l is =
-          let less : get_or (those (is_labelled least r) (length least)) 0 0 < get_or (those (is_labelled least r) (length least)) (suc j) 0 = rises_pair (those (is_labelled least r) (length least)) 0 0 (suc j) (those_ascends (is_labelled least r) (length least)) (omega arith) l in
+          let less : get_or (numbers_where (is_labelled least r) (length least)) 0 0 < get_or (numbers_where (is_labelled least r) (length least)) (suc j) 0 = rises_pair (numbers_where (is_labelled least r) (length least)) 0 0 (suc j) (those_ascends (is_labelled least r) (length least)) (omega arith) l in
           let only = those_only (is_labelled least r) (length least) 0 (omega arith) in
           let count = labels.count in
-          let label : get_or least (get_or (those (is_labelled least r) (length least)) 0 0) 0 ≡ r = eqb-true (get_or least (get_or (those (is_labelled least r) (length least)) 0 0) 0) r only.1 in
-          let low = least_le (get_or (those (is_labelled least r) (length least)) 0 0) (omega (arith, only.0)) in
+          let label : get_or least (get_or (numbers_where (is_labelled least r) (length least)) 0 0) 0 ≡ r = eqb-true (get_or least (get_or (numbers_where (is_labelled least r) (length least)) 0 0) 0) r only.1 in
+          let low = least_le (get_or (numbers_where (is_labelled least r) (length least)) 0 0) (omega (arith, only.0)) in
           absurd (omega arith)
 
   pub parts_start : AreParts g least 0 []
@@ -84,11 +84,11 @@ module _ (g : Graph) (ok : IsRateable g) (least : List ℕ) (labels : AreLabels 
       head : least_node part ≡ v
       head = head_is v part h own of
 
-      heads : map least_node (parts ++ part ∷ []) ≡ those (is_own least) (v + 1)
+      heads : map least_node (parts ++ part ∷ []) ≡ numbers_where (is_own least) (v + 1)
       heads =
           let pass : is_own least v ≡ true = eq-eqb (get_or least v 0) v own in
-          let more : those (is_own least) (v + 1) ≡ those (is_own least) v ++ v ∷ [] = ap (those (is_own least)) (add-one v) ∙ ap (λ (b : Bool). cond b (those (is_own least) v ++ v ∷ []) (those (is_own least) v)) pass in
-          map-append least_node parts (part ∷ []) ∙ (ap (λ (l : List ℕ). l ++ least_node part ∷ []) so.heads ∙ (ap (λ (n : ℕ). those (is_own least) v ++ n ∷ []) head ∙ sym more))
+          let more : numbers_where (is_own least) (v + 1) ≡ numbers_where (is_own least) v ++ v ∷ [] = ap (numbers_where (is_own least)) (add-one v) ∙ ap (λ (b : Bool). cond b (numbers_where (is_own least) v ++ v ∷ []) (numbers_where (is_own least) v)) pass in
+          map-append least_node parts (part ∷ []) ∙ (ap (λ (l : List ℕ). l ++ least_node part ∷ []) so.heads ∙ (ap (λ (n : ℕ). numbers_where (is_own least) v ++ n ∷ []) head ∙ sym more))
 
       has_here : (w : ℕ) → w < g.nodes → has_node part w ≡ is_labelled least v w
       has_here w l = ap (λ (xs : List ℕ). is_some (position (λ n. n == w) xs)) of.nodes_are ∙ those_has (is_labelled least v) (length least) w (let c = labels.count in omega arith)
@@ -114,8 +114,8 @@ module _ (g : Graph) (ok : IsRateable g) (least : List ℕ) (labels : AreLabels 
       none : (w : ℕ) → w < g.nodes → get_or least w 0 ≢ v
       none w l is = other (subst (λ (n : ℕ). get_or least n 0 ≡ n) is (least_own w l))
 
-      same : those (is_own least) (v + 1) ≡ those (is_own least) v
-      same = ap (those (is_own least)) (add-one v) ∙ ap (λ (b : Bool). cond b (those (is_own least) v ++ v ∷ []) (those (is_own least) v)) (ne_eqb (get_or least v 0) v other)
+      same : numbers_where (is_own least) (v + 1) ≡ numbers_where (is_own least) v
+      same = ap (numbers_where (is_own least)) (add-one v) ∙ ap (λ (b : Bool). cond b (numbers_where (is_own least) v ++ v ∷ []) (numbers_where (is_own least) v)) (ne_eqb (get_or least v 0) v other)
 
   module _ (cert : Cert) (so : AreParts g least g.nodes cert.parts) where
     once : (v : ℕ) → v < g.nodes → parts_with cert v ≡ 1

@@ -1,11 +1,11 @@
-pub mod Raises
+pub mod Relaxing
 pub mod Traces
 pub mod Settles
 pub mod Ratios
 pub mod Backward
 pub mod Rates
-pub mod Spreads
-pub mod Those
+pub mod Growing
+pub mod NumbersWhere
 pub mod Components
 pub mod Finishing
 pub mod Found

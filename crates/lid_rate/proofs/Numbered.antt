@@ -10,10 +10,10 @@ use Rattle.lid_cert.specs.Certificates.{IsPart, Certifies}
 use Rattle.lid_rate.specs.Rates.{WalksHaveTokens}
 
 -- a number for each transition that rises along each edge without tokens
-abbrev pub Rises : Graph → (ℕ → ℕ) → Type 0
-Rises g number = (k : ℕ) → k < length g.edges → (edge_at g k).tokens ≡ 0 → number (edge_at g k).from < number (edge_at g k).to
+abbrev pub LeadsUp : Graph → (ℕ → ℕ) → Type 0
+LeadsUp g number = (k : ℕ) → k < length g.edges → (edge_at g k).tokens ≡ 0 → number (edge_at g k).from < number (edge_at g k).to
 
-rises_along : (g : Graph) (number : ℕ → ℕ) → Rises g number → (ks : List ℕ) (u v : ℕ) → IsWalk g u ks v → walk_tokens g ks ≡ 0 → number u + length ks ≤ number v
+rises_along : (g : Graph) (number : ℕ → ℕ) → LeadsUp g number → (ks : List ℕ) (u v : ℕ) → IsWalk g u ks v → walk_tokens g ks ≡ 0 → number u + length ks ≤ number v
 rises_along g number up [] u v walk none = let same : number u ≡ number v = ap number walk in omega arith
 rises_along g number up (k ∷ ks) u v walk none =
     let here : number (edge_at g k).from < number (edge_at g k).to = up k walk.0 (omega arith) in
@@ -22,7 +22,7 @@ rises_along g number up (k ∷ ks) u v walk none =
     omega arith
 
 -- where such numbers are, each closed walk has a token
-pub walks_have_tokens : (g : Graph) (number : ℕ → ℕ) → Rises g number → WalksHaveTokens g
+pub walks_have_tokens : (g : Graph) (number : ℕ → ℕ) → LeadsUp g number → WalksHaveTokens g
 walks_have_tokens g number up ks closed = by_order (cases_lt 0 (walk_tokens g ks))
   where
     by_order : (0 < walk_tokens g ks) ⊎ (walk_tokens g ks ≤ 0) → 0 < walk_tokens g ks

@@ -3,7 +3,7 @@ use Rattle.std.proofs.Common.{◌≡◌, ℕ, zero, suc, ◌+◌, ◌*◌, ◌/�
 use Rattle.std.specs.Int.{◌∣◌, IsGcd}
 use Rattle.std.proofs.lemmas.Bool.{cases_lt}
 use Rattle.std.proofs.Math.Nat.{mul-le-mul_left, mul-le-mul_right, div-mul_cancel, dvd-mul_left, mul-div_left, div-le_self, le-div_iff_mul-le, div-mul-le_self}
-use Rattle.lid_rate.specs.Rating.{IsLowest}
+use Rattle.lid_rate.specs.CycleRatios.{IsLowest}
 
 -- p and q have no common divisor where they are quotients by the greatest one
 coprime : (t e g p q : ℕ) → 0 < g → IsGcd t e g → p * g ≡ t → q * g ≡ e → IsGcd p q 1

@@ -6,19 +6,19 @@ use Rattle.std.proofs.Math.Seq.{get_or-append_seam}
 use Rattle.std.proofs.lemmas.List.Sums.{sum_by-set}
 use Rattle.lid_graph.specs.declared.graph.Graph.{Graph}
 use Rattle.lid_graph.specs.Walks.{edge_at}
-use Rattle.lid_rate.specs.Chains.{IsLastChain, last_of}
-use Rattle.lid_rate.specs.Following.{AreLasts, IsTrace, unplaced, ClosesUp}
+use Rattle.lid_rate.specs.WalksBack.{IsPredecessorWalk, predecessor_of}
+use Rattle.lid_rate.specs.Cycles.{ArePredecessors, IsTrace, unplaced, ClosesUp}
 
-last_chain_more : (g : Graph) (last : List (Option ℕ)) (ks : List ℕ) (v u k : ℕ) → IsLastChain g last v ks u → last_of last u ≡ Some k → IsLastChain g last v (ks ++ k ∷ []) (edge_at g k).from
+last_chain_more : (g : Graph) (last : List (Option ℕ)) (ks : List ℕ) (v u k : ℕ) → IsPredecessorWalk g last v ks u → predecessor_of last u ≡ Some k → IsPredecessorWalk g last v (ks ++ k ∷ []) (edge_at g k).from
 last_chain_more g last [] v u k chain e = (ap (λ (n : ℕ). get_or last n None) chain ∙ e, refl)
 last_chain_more g last (l ∷ ks) v u k chain e = (chain.0, last_chain_more g last ks (edge_at g l).from u k chain.1 e)
 
-last_chain_drop : (g : Graph) (last : List (Option ℕ)) → AreLasts g last → (ks : List ℕ) (i v u : ℕ) → IsLastChain g last v ks u → i < length ks → IsLastChain g last (edge_at g (get_or ks i 0)).to (drop i ks) u
+last_chain_drop : (g : Graph) (last : List (Option ℕ)) → ArePredecessors g last → (ks : List ℕ) (i v u : ℕ) → IsPredecessorWalk g last v ks u → i < length ks → IsPredecessorWalk g last (edge_at g (get_or ks i 0)).to (drop i ks) u
 last_chain_drop g last lasts [] i v u chain h = absurd (omega arith)
-last_chain_drop g last lasts (k ∷ ks) zero v u chain h = subst (λ (n : ℕ). IsLastChain g last n (k ∷ ks) u) (sym (lasts.ends v k chain.0)) chain
+last_chain_drop g last lasts (k ∷ ks) zero v u chain h = subst (λ (n : ℕ). IsPredecessorWalk g last n (k ∷ ks) u) (sym (lasts.ends v k chain.0)) chain
 last_chain_drop g last lasts (k ∷ ks) (suc i) v u chain h = last_chain_drop g last lasts ks i (edge_at g k).from u chain.1 (omega arith)
 
-module _ (g : Graph) (last : List (Option ℕ)) (lasts : AreLasts g last) (start : ℕ) (chain places : List ℕ) (at k : ℕ) (trace : IsTrace g last start chain places at) (new : get_or places at 0 ≡ 0) (stands : last_of last at ≡ Some k) where
+module _ (g : Graph) (last : List (Option ℕ)) (lasts : ArePredecessors g last) (start : ℕ) (chain places : List ℕ) (at k : ℕ) (trace : IsTrace g last start chain places at) (new : get_or places at 0 ≡ 0) (stands : predecessor_of last at ≡ Some k) where
   abbrev more : List ℕ
   more = chain ++ k ∷ []
 
@@ -92,7 +92,7 @@ module _ (g : Graph) (last : List (Option ℕ)) (lasts : AreLasts g last) (start
     counted = counted;
   }
 
-module _ (g : Graph) (last : List (Option ℕ)) (lasts : AreLasts g last) (start : ℕ) (chain places : List ℕ) (at : ℕ) (trace : IsTrace g last start chain places at) where
+module _ (g : Graph) (last : List (Option ℕ)) (lasts : ArePredecessors g last) (start : ℕ) (chain places : List ℕ) (at : ℕ) (trace : IsTrace g last start chain places at) where
   -- where there is no place the chain is short
   pub short_of_new : get_or places at 0 ≡ 0 → length chain < g.nodes
   short_of_new new =
@@ -112,7 +112,7 @@ module _ (g : Graph) (last : List (Option ℕ)) (lasts : AreLasts g last) (start
       record {
         at = at;
         chain = drop first chain;
-        chained = subst (λ (n : ℕ). IsLastChain g last n (drop first chain) at) ends (last_chain_drop g last lasts chain first start at trace.chained within);
+        chained = subst (λ (n : ℕ). IsPredecessorWalk g last n (drop first chain) at) ends (last_chain_drop g last lasts chain first start at trace.chained within);
         some = omega arith;
         short = omega arith;
         once = λ i j hi hj e. once i j hi hj long e;
@@ -130,7 +130,7 @@ module _ (g : Graph) (last : List (Option ℕ)) (lasts : AreLasts g last) (start
           omega arith
 
 -- one edge on, as the program writes it
-pub went_on : (g : Graph) (last : List (Option ℕ)) (lasts : AreLasts g last) (start : ℕ) (chain places : List ℕ) (at k : ℕ) → IsTrace g last start chain places at → get_or places at 0 ≡ 0 → last_of last at ≡ Some k → (later : List ℕ) (place from : ℕ) → later ≡ chain ++ k ∷ [] → place ≡ length later → from ≡ (edge_at g k).from → IsTrace g last start later (set places at place) from × (length later ≡ length chain + 1)
+pub went_on : (g : Graph) (last : List (Option ℕ)) (lasts : ArePredecessors g last) (start : ℕ) (chain places : List ℕ) (at k : ℕ) → IsTrace g last start chain places at → get_or places at 0 ≡ 0 → predecessor_of last at ≡ Some k → (later : List ℕ) (place from : ℕ) → later ≡ chain ++ k ∷ [] → place ≡ length later → from ≡ (edge_at g k).from → IsTrace g last start later (set places at place) from × (length later ≡ length chain + 1)
 went_on g last lasts start chain places at k trace new stands later place from later_is place_is from_is =
     let size : length later ≡ length chain + 1 = ap length later_is ∙ length-append chain (k ∷ []) in
     let step = trace_on g last lasts start chain places at k trace new stands (lasts.from k (lasts.within at k stands)) in

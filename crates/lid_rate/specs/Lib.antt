@@ -1,9 +1,9 @@
-pub mod Chains
-pub mod Raising
-pub mod Following
-pub mod Settling
-pub mod Rating
-pub mod Spreading
+pub mod WalksBack
+pub mod Relaxation
+pub mod Cycles
+pub mod BellmanFord
+pub mod CycleRatios
+pub mod SpanningTrees
 pub mod Rates
 pub mod Grouping
 pub mod Shown

@@ -7,7 +7,7 @@ use Rattle.lid_graph.specs.Walks.{edge_at, IsPaired, IsClosedWalk, IsLeastJoined
 use Rattle.lid_graph.specs.Ratios.{IsRatio, IsLag}
 use Rattle.lid_cert.specs.declared.cert.Part.{Part}
 use Rattle.lid_cert.specs.Certificates.{has_node, lag_of, least_node, IsPart, IsPartInRange}
-use Rattle.lid_rate.specs.Chains.{MeetsOnce}
+use Rattle.lid_rate.specs.WalksBack.{MeetsOnce}
 
 -- each closed walk has a token
 abbrev pub WalksHaveTokens : Graph → Type 0
@@ -22,10 +22,10 @@ pub record IsRateable (g : Graph) : Type 0 where
   pub edges : length g.edges < 2 ^ 19
   pub tokens : (k : ℕ) → k < length g.edges → (edge_at g k).tokens ≤ 16
 
--- the numbers below n that pass a test, in order
-abbrev pub those : (ℕ → Bool) → ℕ → List ℕ
-those p zero = []
-those p (suc n) = if p n then those p n ++ n ∷ [] else those p n
+-- a filter of the numbers below n: those that pass a test, in order
+abbrev pub numbers_where : (ℕ → Bool) → ℕ → List ℕ
+numbers_where p zero = []
+numbers_where p (suc n) = if p n then numbers_where p n ++ n ∷ [] else numbers_where p n
 
 -- for each transition the least that is joined to it
 pub record AreLabels (g : Graph) (least : List ℕ) : Type 0 where
@@ -38,11 +38,11 @@ is_labelled least r v = slice_index least v == r
 
 -- the edges that begin at a transition with this label
 abbrev pub edges_of : Graph → List ℕ → ℕ → List ℕ
-edges_of g least r = those (λ k. is_labelled least r (edge_at g k).from) (length g.edges)
+edges_of g least r = numbers_where (λ k. is_labelled least r (edge_at g k).from) (length g.edges)
 
 -- the part of a label
 pub record IsPartOf (g : Graph) (least : List ℕ) (r : ℕ) (part : Part) : Type 0 where
-  pub nodes_are : part.nodes ≡ those (is_labelled least r) (length least)
+  pub nodes_are : part.nodes ≡ numbers_where (is_labelled least r) (length least)
   pub meets : IsPart g part
   pub once : MeetsOnce g part.cycle
   pub in_range : IsPartInRange part
@@ -83,7 +83,7 @@ is_own least v = slice_index least v == v
 
 -- the parts of the labels below n
 pub record AreParts (g : Graph) (least : List ℕ) (n : ℕ) (parts : List Part) : Type 0 where
-  pub heads : map least_node parts ≡ those (is_own least) n
+  pub heads : map least_node parts ≡ numbers_where (is_own least) n
   pub each : All (λ part. IsPartOf g least (least_node part) part) parts
   pub counted : (w : ℕ) → w < g.nodes → slice_index least w < n → count_by (λ part. has_node part w) parts ≡ 1
   pub uncounted : (w : ℕ) → w < g.nodes → n ≤ slice_index least w → count_by (λ part. has_node part w) parts ≡ 0

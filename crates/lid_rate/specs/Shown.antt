@@ -11,8 +11,8 @@ pub record IsBack (g : Graph) (k back : ℕ) : Type 0 where
   pub to : (edge_at g back).to ≡ (edge_at g k).from
 
 -- an edge without tokens leads to a greater number
-abbrev pub Rises : Graph → List ℕ → ℕ → Type 0
-Rises g numbers k =
+abbrev pub LeadsUp : Graph → List ℕ → ℕ → Type 0
+LeadsUp g numbers k =
     (edge_at g k).tokens ≡ 0 → slice_index numbers (edge_at g k).from < slice_index numbers (edge_at g k).to
 
 -- what is asked of one edge, its ends lying below the number of transitions
@@ -21,7 +21,7 @@ pub record IsEdgeShown (g : Graph) (k back : ℕ) (numbers : List ℕ) : Type 0 
   pub to : (edge_at g k).to < g.nodes
   pub tokens : (edge_at g k).tokens ≤ 16
   pub leads_back : IsBack g k back
-  pub rises : Rises g numbers k
+  pub rises : LeadsUp g numbers k
 
 -- for each edge one that leads back, for each transition an edge to itself with one token, and for each
 -- transition a number that rises along every edge without tokens
@@ -31,7 +31,7 @@ pub record AreSigns (g : Graph) (backs loops numbers : List ℕ) : Type 0 where
   pub number_count : length numbers ≡ g.nodes
   pub each_back : (k : ℕ) → k < length g.edges → IsBack g k (slice_index backs k)
   pub each_loop : (v : ℕ) → v < g.nodes → IsLoopAt g v (slice_index loops v)
-  pub each_rises : (k : ℕ) → k < length g.edges → Rises g numbers k
+  pub each_rises : (k : ℕ) → k < length g.edges → LeadsUp g numbers k
 
 -- the graph has a certificate, and the lists show it
 pub record IsShown (g : Graph) (backs loops numbers : List ℕ) : Type 0 where

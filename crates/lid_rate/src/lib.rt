@@ -1,17 +1,17 @@
 //! The search for a certificate of the ratio of each component of a marked graph.
 #![tactic(auto)]
 
+mod bellman_ford;
+mod cycle_ratio;
+mod cycles;
 mod finding;
-mod following;
 mod grouping;
 mod laws;
-mod lowest;
+mod lowest_terms;
 mod parts;
-mod raising;
-mod rating;
-mod settling;
+mod relaxation;
 mod showing;
-mod spreading;
+mod spanning_tree;
 
 pub use finding::find;
 pub use laws::lag_rule_bounds_firings;

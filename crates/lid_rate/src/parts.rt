@@ -3,12 +3,12 @@
 ghost use Rattle.std.specs.Prelude.{◌≡◌, ℕ, ◌+◌, ◌-◌, ◌*◌, ◌<◌, ◌≤◌, ◌^◌, length, map, slice_index, slice_index_or, None, IfOk};
 ghost use Rattle.std.specs.List.{All};
 ghost use Rattle.lid_graph.specs.Walks.{edge_at, IsPaired};
-ghost use Rattle.lid_rate.specs.Rates.{IsRateable, AreLabels, IsPartOf, IsLoopAt, is_loop_edge, Assembles, those, is_labelled, edges_of};
+ghost use Rattle.lid_rate.specs.Rates.{IsRateable, AreLabels, IsPartOf, IsLoopAt, is_loop_edge, Assembles, numbers_where, is_labelled, edges_of};
 
-use crate::lowest::Ratio;
-use crate::raising::edge;
-use crate::rating::{Rate, least_rate};
-use crate::spreading::{Tree, reach};
+use crate::cycle_ratio::{Rate, least_ratio};
+use crate::lowest_terms::Ratio;
+use crate::relaxation::edge;
+use crate::spanning_tree::{Tree, span};
 use lid_base::Items;
 use lid_cert::Part;
 use lid_graph::Graph;
@@ -111,18 +111,18 @@ pub(crate) fn part_of(
     requires labels { AreLabels graph.now least.now }
     requires within { label < graph.now.nodes }
     requires own { slice_index least.now label ≡ label }
-    requires nodes { inside.now ≡ those (is_labelled least.now label) (length least.now) }
+    requires nodes { inside.now ≡ numbers_where (is_labelled least.now label) (length least.now) }
     requires edges { edges.now ≡ edges_of graph.now least.now label }
     requires first { IsLoopAt graph.now label first }
     ensures { IfOk result (IsPartOf graph.now least.now label) }
 {
     let _ = least;
     let _ = label;
-    let rate = least_rate(alloc, graph, edges, first)?;
+    let rate = least_ratio(alloc, graph, edges, first)?;
     let walk = rate.walk.as_slice();
     let start = edge(graph, walk[0]).from;
     let lead = first_lead(rate.ratio, walk.len());
-    let tree = reach(alloc, graph, edges, start, rate.ratio.q, lead)?;
+    let tree = span(alloc, graph, edges, start, rate.ratio.q, lead)?;
     let nodes = copy(alloc, inside)?;
     assemble(alloc, nodes, rate, &tree)
 }

@@ -4,9 +4,9 @@ ghost use Rattle.std.specs.Prelude.{◌≡◌, ℕ, ◌<◌, ◌≤◌, ◌^◌,
 ghost use Rattle.lid_graph.specs.declared.graph.Edge.{Edge};
 ghost use Rattle.lid_graph.specs.Walks.{edge_at};
 ghost use Rattle.lid_rate.specs.Rates.{IsLoopAt, WalksHaveTokens, is_loop_edge};
-ghost use Rattle.lid_rate.specs.Shown.{IsBack, Rises, IsEdgeShown, IsShown};
+ghost use Rattle.lid_rate.specs.Shown.{IsBack, LeadsUp, IsEdgeShown, IsShown};
 
-use crate::raising::edge;
+use crate::relaxation::edge;
 use lid_graph::Graph;
 
 /// Whether `back` is an edge from the end of another edge to its beginning.
@@ -27,7 +27,7 @@ fn rises(graph: &Graph, k: u32, numbers: &[u32]) -> bool
     requires within { k < length graph.now.edges }
     requires from { (edge_at graph.now k).from < length numbers.now }
     requires to { (edge_at graph.now k).to < length numbers.now }
-    ensures { IsTrue result ↔ Rises graph.now numbers.now k }
+    ensures { IsTrue result ↔ LeadsUp graph.now numbers.now k }
 {
     let along = edge(graph, k);
     along.tokens > 0 || numbers[along.from as usize] < numbers[along.to as usize]

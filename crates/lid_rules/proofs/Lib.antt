@@ -1,5 +1,4 @@
 pub mod Sets
-pub mod Subs
 pub mod Telling
 pub mod Roots
 pub mod Faults

@@ -1,7 +1,5 @@
--- First items of lists, and the laws of sets that the crates above cite.
+-- First items of lists.
 use Rattle.std.proofs.Common.{◌≡◌, Bool, true, false, cond, List, [], ◌∷◌, map, find, Some, option_map, refl}
-use Rattle.lid_base.proofs.Lists.{filter_same}
-pub use Rattle.lid_names.proofs.Lists.{is_among_firsts}
 
 pub find_map : {A B C : Type 0} (f : B → C) (p : B → Bool) (g : A → B) (xs : List A) → option_map (λ a. f (g a)) (find (λ a. p (g a)) xs) ≡ option_map f (find p (map g xs))
 find_map f p g [] = refl

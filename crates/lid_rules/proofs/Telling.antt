@@ -4,13 +4,13 @@ use Rattle.lid_design.specs.declared.Design.{Design}
 use Rattle.lid_design.specs.declared.Model.{Model}
 use Rattle.lid_design.specs.declared.Inst.{Inst}
 use Rattle.lid_design.specs.Columns.{is_among, model_named, data_inputs}
-use Rattle.lid_design.specs.Models.{is_port}
+use Rattle.lid_design.specs.Models.{is_port, formal_of, formals}
 use Rattle.lid_rules.specs.declared.fault.CheckFault.TheVariants as fault
 use Rattle.lid_ports.specs.declared.formals.InstRule.{InstRule}
 use Rattle.lid_ports.specs.declared.formals.InstRule.TheVariants.{UnknownFormal, FormalTwice, Unbound}
 use Rattle.lid_rules.specs.declared.names.NameRule.{NameRule}
 use Rattle.lid_rules.specs.declared.names.NameRule.TheVariants.{TwoDrivers, Undriven, ClockUse}
-use Rattle.lid_rules.specs.Conditions.{formal_of, formals, first_name}
+use Rattle.lid_rules.specs.Conditions.{first_name}
 use Rattle.lid_rules.specs.Rules.{inst_rule, told_formal}
 use Rattle.lid_ports.specs.Formals.{faulty_formal}
 use Rattle.lid_rules.specs.Names.{name_rule, name_at, by_names, told_by, first_by_rules, is_faulty, told_name}

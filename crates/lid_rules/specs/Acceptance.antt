@@ -1,8 +1,7 @@
 -- Which of the conditions on models is the first that applies.
 use Rattle.std.specs.Prelude.{◌≡◌, ℕ, List, Option, Some, None, option_map, slice_get, ◌⊎◌}
 use Rattle.lid_design.specs.declared.Design.{Design}
-use Rattle.lid_design.specs.Models.{HasNoRecursion, AreReached}
-use Rattle.lid_hierarchy.specs.Surveys.{IsFirstRecursive}
+use Rattle.lid_design.specs.Models.{HasNoRecursion, AreReached, IsFirstRecursive}
 use Rattle.lid_rules.specs.declared.fault.CheckFault.{CheckFault}
 use Rattle.lid_rules.specs.declared.fault.CheckFault.TheVariants.{Recursive}
 use Rattle.lid_rules.specs.Conditions.{or_fault, duplicate_name, unknown_model, unknown_formal, formal_twice, unbound, two_drivers, undriven, clock_use, two_clocks, mixed_edges, root_logic, limits}

@@ -12,11 +12,9 @@ use Rattle.lid_design.specs.declared.Cell.TheVariants.{Names, Latch}
 use Rattle.lid_design.specs.declared.LatchKind.{LatchKind}
 use Rattle.lid_design.specs.declared.LatchKind.TheVariants.{Plain, Rise, Fall}
 use Rattle.lid_design.specs.declared.Inst.{Inst}
-pub use Rattle.lid_names.specs.Names.{is_twice, formal_of}
-pub use Rattle.lid_ports.specs.Formals.{formals}
 use Rattle.lid_design.specs.Columns.{is_among, model_named, is_clock, data_inputs}
-use Rattle.lid_design.specs.Models.{occurrences, is_port, port_drivers, inner_drivers, driver_names, read_names, cell_out, is_buffer, is_constant, number_named, insts_of}
-use Rattle.lid_design.specs.Places.{depth, count_cells, count_nets}
+use Rattle.lid_design.specs.Models.{occurrences, is_port, port_drivers, inner_drivers, driver_names, read_names, cell_out, is_buffer, is_constant, number_named, insts_of, is_twice, formals}
+use Rattle.lid_design.specs.Elaboration.{depth, count_cells, count_nets}
 use Rattle.lid_rules.specs.declared.fault.CheckFault.{CheckFault}
 use Rattle.lid_rules.specs.declared.fault.CheckFault.TheVariants.{DuplicateName, UnknownModel, UnknownFormal, FormalTwice, Unbound, TwoDrivers, Undriven, ClockUse, TwoClocks, MixedEdges, RootLogic, Limit}
 

@@ -1,4 +1,4 @@
--- The conditions that come before recursion, model by model.
+-- How the conditions before recursion are tried: model by model.
 use Rattle.std.specs.Prelude.{◌≡◌, ℕ, ◌==◌, List, Option, None, option_and_then, slice_get}
 use Rattle.lid_design.specs.Models.{AreReached}
 use Rattle.lid_rules.specs.Acceptance.{fault_before_recursion}

@@ -1,4 +1,4 @@
--- The latches that have a type, model by model.
+-- How the edges of latches are tried: the latches that have a type, model by model.
 use Rattle.std.specs.Prelude.{ℕ, List, [], flat_map, slice_get}
 use Rattle.std.specs.Option.{option_map_or}
 use Rattle.lid_design.specs.declared.Design.{Design}

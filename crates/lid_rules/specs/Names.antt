@@ -1,14 +1,14 @@
--- The conditions that speak of the names of one model.
+-- How the conditions on names are tried: all three in one model before the next.
 use Rattle.std.specs.Prelude.{ℕ, Bool, List, Option, option_and_then, slice_get}
 use Rattle.lid_design.specs.declared.Design.{Design}
 use Rattle.lid_design.specs.declared.Model.{Model}
-use Rattle.lid_design.specs.Models.{driver_names}
+use Rattle.lid_design.specs.Models.{driver_names, is_twice}
 use Rattle.lid_rules.specs.declared.fault.CheckFault.{CheckFault}
 use Rattle.lid_rules.specs.declared.fault.CheckFault.TheVariants.{TwoDrivers, Undriven, ClockUse}
 use Rattle.lid_rules.specs.declared.names.NameRule.{NameRule}
 use Rattle.lid_rules.specs.declared.names.NameRule.TheVariants as name
 use Rattle.lid_rules.specs.declared.names.Findings.{Findings}
-use Rattle.lid_rules.specs.Conditions.{or_fault, first_told, two_drivers_in, undriven_in, clock_use_in, is_twice, is_undriven, is_misused}
+use Rattle.lid_rules.specs.Conditions.{or_fault, first_told, two_drivers_in, undriven_in, clock_use_in, is_undriven, is_misused}
 use Rattle.lid_rules.specs.Told.{shown_of}
 
 -- whether a condition is broken at a name of a model

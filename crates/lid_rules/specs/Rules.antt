@@ -1,4 +1,4 @@
--- The conditions that speak of one instance.
+-- How the conditions on instances are tried: one after the other, over all models.
 use Rattle.std.specs.Prelude.{ℕ, List, Option, option_and_then, slice_get}
 use Rattle.lid_design.specs.declared.Design.{Design}
 use Rattle.lid_design.specs.declared.Model.{Model}

@@ -1,14 +1,26 @@
-ghost use Rattle.std.specs.Prelude.{◌≡◌, find, IfOk};
-ghost use Rattle.lid_names.specs.Names.{texts, IsTally};
+ghost use Rattle.std.specs.Prelude.{◌≡◌, ◌&&◌, ◌||◌, find, IfOk};
+ghost use Rattle.lid_names.specs.Names.{is_among, texts, IsTally};
 ghost use Rattle.lid_rules.specs.Conditions.{is_duplicate, duplicate_in, first_name};
 ghost use Rattle.lid_rules.specs.Early.{duplicate_at, duplicates};
 ghost use Rattle.lid_ports.specs.Formals.{name_behind};
 ghost use Rattle.lid_rules.specs.Told.{shown_of};
 
-use crate::told::Told;
+use crate::told::{NameFault, Told};
 use lid_design::{Design, Model};
 use lid_names::{Tally, list_occurrences, model_at, tally_of};
 use std::alloc::{AllocError, Global};
+
+/// The names of each list of a model, with those that stand in it more than once.
+#[derive(Drop)]
+struct Lists<'d> {
+    model: &'d Model,
+    inputs: Tally<'d>,
+    outputs: Tally<'d>,
+    clocks: Tally<'d>,
+    ghost of_inputs: { IsTally model.now.inputs inputs.all inputs.twice },
+    ghost of_outputs: { IsTally model.now.outputs outputs.all outputs.twice },
+    ghost of_clocks: { IsTally model.now.clocks clocks.all clocks.twice },
+}
 
 /// Tells of the first reached model in whose lists a name stands twice.
 pub fn find_duplicate<'d>(
@@ -19,7 +31,7 @@ pub fn find_duplicate<'d>(
     ensures { IfOk result (λ told. shown_of told ≡ duplicates design.now reached.now) }
 {
     for k in reached {
-        let told = judge_lists(alloc, design, *k)?;
+        let told = find_duplicate_at(alloc, design, *k)?;
         if told.is_some() {
             return Ok(told);
         }
@@ -29,7 +41,7 @@ pub fn find_duplicate<'d>(
 
 /// Tells of a name that stands twice in the lists of the model of a number.
 #[tactic(auto, unfolding(crate::specs::Early::duplicate_at))]
-fn judge_lists<'d>(
+fn find_duplicate_at<'d>(
     alloc: Global,
     design: &'d Design,
     k: u32,
@@ -37,21 +49,22 @@ fn judge_lists<'d>(
     ensures { IfOk result (λ told. shown_of told ≡ duplicate_at design.now k) }
 {
     match model_at(design, k) {
-        Some(model) => judge_model(alloc, k == design.root, model),
+        Some(model) => find_duplicate_in(alloc, k == design.root, model),
         None => Ok(None),
     }
 }
 
 /// Tells of a name that stands twice in the lists of a model.
-fn judge_model<'d>(
+fn find_duplicate_in<'d>(
     alloc: Global,
     is_root: bool,
     model: &'d Model,
 ) -> Result<Option<Told<'d>>, AllocError>
     ensures { IfOk result (λ told. shown_of told ≡ duplicate_in is_root model.now) }
 {
-    match find_doubled(alloc, is_root, model)? {
-        Some(name) => Ok(Some(Told::DuplicateName {
+    match first_duplicate(alloc, is_root, model)? {
+        Some(name) => Ok(Some(Told::OfName {
+            fault: NameFault::DuplicateName,
             model: model.name.as_slice(),
             name,
         })),
@@ -60,82 +73,50 @@ fn judge_model<'d>(
 }
 
 /// The first name of a model that stands twice in its lists.
-fn find_doubled<'d>(
+fn first_duplicate<'d>(
     alloc: Global,
     is_root: bool,
     model: &'d Model,
 ) -> Result<Option<&'d [u8]>, AllocError>
     ensures { IfOk result (λ name. name_behind name ≡ first_name (is_duplicate is_root model.now) model.now) }
 {
-    let inputs = tally_of(alloc, model.inputs.as_slice())?;
-    find_by_inputs(alloc, is_root, model, &inputs)
-}
-
-/// The first name of a model that stands twice in its lists, by the names of its inputs.
-fn find_by_inputs<'d>(
-    alloc: Global,
-    is_root: bool,
-    model: &'d Model,
-    inputs: &Tally<'d>,
-) -> Result<Option<&'d [u8]>, AllocError>
-    requires inputs { IsTally model.now.inputs inputs.now.all inputs.now.twice }
-    ensures { IfOk result (λ name. name_behind name ≡ first_name (is_duplicate is_root model.now) model.now) }
-{
-    let outputs = tally_of(alloc, model.outputs.as_slice())?;
-    find_by_ports(alloc, is_root, model, inputs, &outputs)
-}
-
-/// The first name of a model that stands twice in its lists, by the names of its inputs and
-/// outputs.
-fn find_by_ports<'d>(
-    alloc: Global,
-    is_root: bool,
-    model: &'d Model,
-    inputs: &Tally<'d>,
-    outputs: &Tally<'d>,
-) -> Result<Option<&'d [u8]>, AllocError>
-    requires inputs { IsTally model.now.inputs inputs.now.all inputs.now.twice }
-    requires outputs { IsTally model.now.outputs outputs.now.all outputs.now.twice }
-    ensures { IfOk result (λ name. name_behind name ≡ first_name (is_duplicate is_root model.now) model.now) }
-{
-    let clocks = tally_of(alloc, model.clocks.as_slice())?;
-    find_by_lists(alloc, is_root, model, inputs, outputs, &clocks)
+    let lists = tally_lists(alloc, model)?;
+    first_in_lists(alloc, is_root, &lists)
 }
 
 /// The first name of a model that stands twice in its lists, by the names of each.
-fn find_by_lists<'d>(
+fn first_in_lists<'d>(
     alloc: Global,
     is_root: bool,
-    model: &'d Model,
-    inputs: &Tally<'d>,
-    outputs: &Tally<'d>,
-    clocks: &Tally<'d>,
+    lists: &Lists<'d>,
 ) -> Result<Option<&'d [u8]>, AllocError>
-    requires inputs { IsTally model.now.inputs inputs.now.all inputs.now.twice }
-    requires outputs { IsTally model.now.outputs outputs.now.all outputs.now.twice }
-    requires clocks { IsTally model.now.clocks clocks.now.all clocks.now.twice }
-    ensures { IfOk result (λ name. name_behind name ≡ first_name (is_duplicate is_root model.now) model.now) }
+    ensures { IfOk result (λ name. name_behind name ≡ first_name (is_duplicate is_root lists.now.model.now) lists.now.model.now) }
 {
-    let names = list_occurrences(alloc, model)?;
-    Ok(first_doubled(is_root, model, inputs, outputs, clocks, names.as_slice()))
+    let names = list_occurrences(alloc, lists.model)?;
+    Ok(first_among(is_root, lists, names.as_slice()))
+}
+
+/// Collects the names of each list of a model.
+fn tally_lists<'d>(alloc: Global, model: &'d Model) -> Result<Lists<'d>, AllocError>
+    ensures { IfOk result (λ lists. lists.model.now ≡ model.now) }
+{
+    let inputs = tally_of(alloc, model.inputs.as_slice())?;
+    let outputs = tally_of(alloc, model.outputs.as_slice())?;
+    let clocks = tally_of(alloc, model.clocks.as_slice())?;
+    Ok(Lists {
+        model,
+        inputs,
+        outputs,
+        clocks,
+    })
 }
 
 /// The first of some names that stands twice in the lists of a model.
-fn first_doubled<'d>(
-    is_root: bool,
-    model: &Model,
-    inputs: &Tally<'d>,
-    outputs: &Tally<'d>,
-    clocks: &Tally<'d>,
-    names: &[&'d [u8]],
-) -> Option<&'d [u8]>
-    requires inputs { IsTally model.now.inputs inputs.now.all inputs.now.twice }
-    requires outputs { IsTally model.now.outputs outputs.now.all outputs.now.twice }
-    requires clocks { IsTally model.now.clocks clocks.now.all clocks.now.twice }
-    ensures { name_behind result ≡ find (is_duplicate is_root model.now) (texts names.now) }
+fn first_among<'d>(is_root: bool, lists: &Lists<'d>, names: &[&'d [u8]]) -> Option<&'d [u8]>
+    ensures { name_behind result ≡ find (is_duplicate is_root lists.now.model.now) (texts names.now) }
 {
     for name in names {
-        if is_doubled(is_root, model, inputs, outputs, clocks, name) {
+        if is_duplicate(is_root, lists, name) {
             return Some(*name);
         }
     }
@@ -143,23 +124,17 @@ fn first_doubled<'d>(
 }
 
 /// Whether a name stands twice in the lists of a model.
-fn is_doubled(
-    is_root: bool,
-    model: &Model,
-    inputs: &Tally<'_>,
-    outputs: &Tally<'_>,
-    clocks: &Tally<'_>,
-    name: &[u8],
-) -> bool
-    requires inputs { IsTally model.now.inputs inputs.now.all inputs.now.twice }
-    requires outputs { IsTally model.now.outputs outputs.now.all outputs.now.twice }
-    requires clocks { IsTally model.now.clocks clocks.now.all clocks.now.twice }
-    ensures { result ≡ is_duplicate is_root model.now name.now }
+fn is_duplicate(is_root: bool, lists: &Lists<'_>, name: &[u8]) -> bool
+    ensures { result ≡ is_duplicate is_root lists.now.model.now name.now }
 {
-    let _ = model;
-    inputs.twice.has(name)
-        || (outputs.twice.has(name)
-            || (clocks.twice.has(name)
-                || (!is_root
-                    && (outputs.all.has(name) && (inputs.all.has(name) || clocks.all.has(name))))))
+    lists.inputs.twice.has(name)
+        || (lists.outputs.twice.has(name)
+            || (lists.clocks.twice.has(name) || (!is_root && is_both_ways(lists, name))))
+}
+
+/// Whether a name stands among the outputs of a model, and among its inputs or clocks.
+fn is_both_ways(lists: &Lists<'_>, name: &[u8]) -> bool
+    ensures { result ≡ (is_among name.now lists.now.model.now.outputs && (is_among name.now lists.now.model.now.inputs || is_among name.now lists.now.model.now.clocks)) }
+{
+    lists.outputs.all.has(name) && (lists.inputs.all.has(name) || lists.clocks.all.has(name))
 }

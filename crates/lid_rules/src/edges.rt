@@ -5,7 +5,7 @@ ghost use Rattle.lid_rules.specs.Conditions.{typed_cell, typed_latches, same_edg
 ghost use Rattle.lid_rules.specs.Edges.{seen, typed_in, typed_of};
 ghost use Rattle.lid_rules.specs.Told.{shown_of};
 
-use crate::told::Told;
+use crate::told::{NameFault, Told};
 use lid_design::{Cell, Design, LatchKind, Model};
 use lid_names::model_at;
 use std::alloc::{AllocError, Global};
@@ -102,7 +102,8 @@ fn tell_other<'d>(latches: &[Typed<'d>]) -> Option<Told<'d>>
         return None;
     }
     match find_other(latches[0].rises, &latches[1..]) {
-        Some(latch) => Some(Told::MixedEdges {
+        Some(latch) => Some(Told::OfName {
+            fault: NameFault::MixedEdges,
             model: latch.model,
             name: latch.out,
         }),

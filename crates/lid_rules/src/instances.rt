@@ -4,7 +4,7 @@ ghost use Rattle.lid_rules.specs.Conditions.{in_insts};
 ghost use Rattle.lid_rules.specs.Rules.{inst_rule, inst_at, by_inst, by_insts, told_formal};
 ghost use Rattle.lid_rules.specs.Told.{shown, shown_of};
 
-use crate::told::Told;
+use crate::told::{InstFault, Told};
 use lid_design::{Inst, Model};
 use lid_ports::{InstRule, Ports, find_formal};
 use std::alloc::{AllocError, Global};
@@ -20,7 +20,7 @@ pub fn find_by_rules<'d>(
     ensures { IfOk result (λ told. shown_of told ≡ by_insts ports.now reached.now rules.now) }
 {
     for rule in rules {
-        let told = find_at_insts(alloc, ports, reached, *rule)?;
+        let told = find_by_rule(alloc, ports, reached, *rule)?;
         if told.is_some() {
             return Ok(told);
         }
@@ -29,7 +29,7 @@ pub fn find_by_rules<'d>(
 }
 
 /// Tells of the first instance of a reached model that breaks a condition.
-fn find_at_insts<'d>(
+fn find_by_rule<'d>(
     alloc: Global,
     ports: &Ports<'d>,
     reached: &[u32],
@@ -39,7 +39,7 @@ fn find_at_insts<'d>(
     ensures { IfOk result (λ told. shown_of told ≡ by_inst rule ports.now reached.now) }
 {
     for k in reached {
-        let told = judge_model(alloc, ports, rule, *k)?;
+        let told = find_by_rule_at(alloc, ports, rule, *k)?;
         if told.is_some() {
             return Ok(told);
         }
@@ -48,7 +48,7 @@ fn find_at_insts<'d>(
 }
 
 /// Tells of the first instance of the model of a number that breaks a condition.
-fn judge_model<'d>(
+fn find_by_rule_at<'d>(
     alloc: Global,
     ports: &Ports<'d>,
     rule: InstRule,
@@ -58,13 +58,13 @@ fn judge_model<'d>(
     ensures { IfOk result (λ told. shown_of told ≡ inst_at rule ports.now k) }
 {
     match ports.model(k) {
-        Some(model) => judge_insts(alloc, ports, rule, k, model),
+        Some(model) => find_by_rule_in(alloc, ports, rule, k, model),
         None => Ok(None),
     }
 }
 
 /// Tells of the first instance of a model that breaks a condition.
-fn judge_insts<'d>(
+fn find_by_rule_in<'d>(
     alloc: Global,
     ports: &Ports<'d>,
     rule: InstRule,
@@ -78,7 +78,7 @@ fn judge_insts<'d>(
 {
     let insts = model.insts.as_slice();
     for i in 0..insts.len() {
-        let told = judge_inst(alloc, ports, rule, k, i as u32, model, &insts[i])?;
+        let told = find_by_rule_of(alloc, ports, rule, k, i as u32, model, &insts[i])?;
         if told.is_some() {
             return Ok(told);
         }
@@ -87,7 +87,7 @@ fn judge_insts<'d>(
 }
 
 /// What a condition tells of an instance.
-fn judge_inst<'d>(
+fn find_by_rule_of<'d>(
     alloc: Global,
     ports: &Ports<'d>,
     rule: InstRule,
@@ -110,21 +110,15 @@ fn judge_inst<'d>(
 fn tell_formal<'d>(rule: InstRule, model: &'d [u8], inst: u32, formal: &'d [u8]) -> Told<'d>
     ensures { shown result ≡ told_formal rule model.now inst formal.now }
 {
-    match rule {
-        InstRule::UnknownFormal => Told::UnknownFormal {
-            model,
-            inst,
-            formal,
-        },
-        InstRule::FormalTwice => Told::FormalTwice {
-            model,
-            inst,
-            formal,
-        },
-        InstRule::Unbound => Told::Unbound {
-            model,
-            inst,
-            formal,
-        },
+    let fault = match rule {
+        InstRule::UnknownFormal => InstFault::UnknownFormal,
+        InstRule::FormalTwice => InstFault::FormalTwice,
+        InstRule::Unbound => InstFault::Unbound,
+    };
+    Told::OfInst {
+        fault,
+        model,
+        inst,
+        name: formal,
     }
 }

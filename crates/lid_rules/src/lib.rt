@@ -16,5 +16,5 @@ pub use fault::CheckFault;
 pub use instances::find_by_rules;
 pub use names::find_by_names;
 pub use root::{find_root_logic, find_two_clocks};
-pub use told::Told;
+pub use told::{InstFault, NameFault, Told};
 pub use unknown::find_unknown_model;

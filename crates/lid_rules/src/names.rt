@@ -8,7 +8,7 @@ ghost use Rattle.lid_rules.specs.Names.{told_by, first_by_rules, name_rule, name
 ghost use Rattle.lid_ports.specs.Formals.{name_behind};
 ghost use Rattle.lid_rules.specs.Told.{shown, shown_of};
 
-use crate::told::{Told, first_of};
+use crate::told::{NameFault, Told, first_of};
 use lid_design::Model;
 use lid_names::list_occurrences;
 use lid_ports::{Nets, Port, Ports, collect_nets};
@@ -58,7 +58,7 @@ fn list_findings<'d>(
 {
     let mut list = Vec::new(alloc);
     for k in reached {
-        list.push(judge_model(alloc, ports, *k)?)?;
+        list.push(findings_at(alloc, ports, *k)?)?;
     }
     Ok(list)
 }
@@ -109,18 +109,18 @@ fn no_findings<'d>() -> Findings<'d>
 }
 
 /// What each condition on names tells of the model of a number.
-fn judge_model<'d>(alloc: Global, ports: &Ports<'d>, k: u32) -> Result<Findings<'d>, AllocError>
+fn findings_at<'d>(alloc: Global, ports: &Ports<'d>, k: u32) -> Result<Findings<'d>, AllocError>
     requires { IsReached ports.now k }
     ensures { IfOk result (λ found. (rule : NameRule) → told_by rule found ≡ name_at rule ports.now k) }
 {
     match ports.model(k) {
-        Some(model) => judge_names(alloc, ports, k, model),
+        Some(model) => findings_in(alloc, ports, k, model),
         None => Ok(no_findings()),
     }
 }
 
 /// What each condition on names tells of a model.
-fn judge_names<'d>(
+fn findings_in<'d>(
     alloc: Global,
     ports: &Ports<'d>,
     k: u32,
@@ -132,45 +132,21 @@ fn judge_names<'d>(
     ensures { IfOk result (λ found. (rule : NameRule) → told_by rule found ≡ name_rule rule ports.now model.now) }
 {
     let names = list_occurrences(alloc, model)?;
-    judge_listed(alloc, ports, k, model, names.as_slice())
-}
-
-/// What each condition on names tells of a model, by its names.
-fn judge_listed<'d>(
-    alloc: Global,
-    ports: &Ports<'d>,
-    k: u32,
-    model: &'d Model,
-    names: &[&'d [u8]],
-) -> Result<Findings<'d>, AllocError>
-    requires reached { IsReached ports.now k }
-    requires model { slice_get ports.now.models k ≡ Some model.now }
-    requires few { length model.now.insts < 2 ^ 32 }
-    requires names { texts names.now ≡ occurrences model.now }
-    ensures { IfOk result (λ found. (rule : NameRule) → told_by rule found ≡ name_rule rule ports.now model.now) }
-{
     let nets = collect_nets(alloc, ports, k, model)?;
-    Ok(tell_each(ports, k, model, &nets, names))
+    Ok(tell_each(ports, k, &nets, names.as_slice()))
 }
 
 /// What each condition on names tells of a model, by its names and what is driven and read in it.
-fn tell_each<'d>(
-    ports: &Ports<'d>,
-    k: u32,
-    model: &'d Model,
-    nets: &Nets<'d>,
-    names: &[&'d [u8]],
-) -> Findings<'d>
+fn tell_each<'d>(ports: &Ports<'d>, k: u32, nets: &Nets<'d>, names: &[&'d [u8]]) -> Findings<'d>
     requires reached { IsReached ports.now k }
-    requires model { slice_get ports.now.models k ≡ Some model.now }
-    requires nets { AreNets ports.now model.now nets.now.drivers.all nets.now.drivers.twice nets.now.inner nets.now.reads }
-    requires names { texts names.now ≡ occurrences model.now }
-    ensures { (rule : NameRule) → told_by rule result ≡ name_rule rule ports.now model.now }
+    requires nets { AreNets ports.now k nets.now }
+    requires names { texts names.now ≡ occurrences nets.now.model.now }
+    ensures { (rule : NameRule) → told_by rule result ≡ name_rule rule ports.now nets.now.model.now }
 {
     Findings {
-        two_drivers: tell_first(ports, NameRule::TwoDrivers, k, model, nets, names),
-        undriven: tell_first(ports, NameRule::Undriven, k, model, nets, names),
-        clock_use: tell_first(ports, NameRule::ClockUse, k, model, nets, names),
+        two_drivers: tell_first(ports, NameRule::TwoDrivers, k, nets, names),
+        undriven: tell_first(ports, NameRule::Undriven, k, nets, names),
+        clock_use: tell_first(ports, NameRule::ClockUse, k, nets, names),
     }
 }
 
@@ -179,18 +155,16 @@ fn tell_first<'d>(
     ports: &Ports<'d>,
     rule: NameRule,
     k: u32,
-    model: &'d Model,
     nets: &Nets<'d>,
     names: &[&'d [u8]],
 ) -> Option<Told<'d>>
     requires reached { IsReached ports.now k }
-    requires model { slice_get ports.now.models k ≡ Some model.now }
-    requires nets { AreNets ports.now model.now nets.now.drivers.all nets.now.drivers.twice nets.now.inner nets.now.reads }
-    requires names { texts names.now ≡ occurrences model.now }
-    ensures { shown_of result ≡ name_rule rule ports.now model.now }
+    requires nets { AreNets ports.now k nets.now }
+    requires names { texts names.now ≡ occurrences nets.now.model.now }
+    ensures { shown_of result ≡ name_rule rule ports.now nets.now.model.now }
 {
-    match first_faulty(ports, rule, k, model, nets, names) {
-        Some(name) => Some(tell_name(rule, model.name.as_slice(), name)),
+    match first_faulty(ports, rule, k, nets, names) {
+        Some(name) => Some(tell_name(rule, nets.model.name.as_slice(), name)),
         None => None,
     }
 }
@@ -199,11 +173,12 @@ fn tell_first<'d>(
 fn tell_name<'d>(rule: NameRule, model: &'d [u8], name: &'d [u8]) -> Told<'d>
     ensures { shown result ≡ told_name rule model.now name.now }
 {
-    match rule {
-        NameRule::TwoDrivers => Told::TwoDrivers { model, name },
-        NameRule::Undriven => Told::Undriven { model, name },
-        NameRule::ClockUse => Told::ClockUse { model, name },
-    }
+    let fault = match rule {
+        NameRule::TwoDrivers => NameFault::TwoDrivers,
+        NameRule::Undriven => NameFault::Undriven,
+        NameRule::ClockUse => NameFault::ClockUse,
+    };
+    Told::OfName { fault, model, name }
 }
 
 /// The first of some names of a model at which a condition is broken.
@@ -211,17 +186,15 @@ fn first_faulty<'d>(
     ports: &Ports<'d>,
     rule: NameRule,
     k: u32,
-    model: &'d Model,
     nets: &Nets<'d>,
     names: &[&'d [u8]],
 ) -> Option<&'d [u8]>
     requires reached { IsReached ports.now k }
-    requires model { slice_get ports.now.models k ≡ Some model.now }
-    requires nets { AreNets ports.now model.now nets.now.drivers.all nets.now.drivers.twice nets.now.inner nets.now.reads }
-    ensures { name_behind result ≡ find (is_faulty rule ports.now model.now) (texts names.now) }
+    requires nets { AreNets ports.now k nets.now }
+    ensures { name_behind result ≡ find (is_faulty rule ports.now nets.now.model.now) (texts names.now) }
 {
     for name in names {
-        if is_faulty(ports, rule, k, model, nets, name) {
+        if is_faulty(ports, rule, k, nets, name) {
             return Some(*name);
         }
     }
@@ -229,27 +202,18 @@ fn first_faulty<'d>(
 }
 
 /// Whether a condition is broken at a name of a model.
-fn is_faulty(
-    ports: &Ports<'_>,
-    rule: NameRule,
-    k: u32,
-    model: &Model,
-    nets: &Nets<'_>,
-    name: &[u8],
-) -> bool
+fn is_faulty(ports: &Ports<'_>, rule: NameRule, k: u32, nets: &Nets<'_>, name: &[u8]) -> bool
     requires reached { IsReached ports.now k }
-    requires model { slice_get ports.now.models k ≡ Some model.now }
-    requires nets { AreNets ports.now model.now nets.now.drivers.all nets.now.drivers.twice nets.now.inner nets.now.reads }
-    ensures { result ≡ is_faulty rule ports.now model.now name.now }
+    requires nets { AreNets ports.now k nets.now }
+    ensures { result ≡ is_faulty rule ports.now nets.now.model.now name.now }
 {
-    let _ = model;
     match rule {
-        NameRule::TwoDrivers => nets.drivers.twice.has(name),
-        NameRule::Undriven => nets.reads.has(name) && !nets.drivers.all.has(name),
+        NameRule::TwoDrivers => nets.drivers.all.twice.has(name),
+        NameRule::Undriven => nets.reads.has(name) && !nets.drivers.all.all.has(name),
         NameRule::ClockUse => {
             ports.survey().is_clock(k, name)
                 && (!(ports.has(Port::Input, k, name) || ports.has(Port::Clock, k, name))
-                    || (nets.reads.has(name) || nets.inner.has(name)))
+                    || (nets.reads.has(name) || nets.drivers.inner.has(name)))
         }
     }
 }

@@ -24,13 +24,13 @@ pub fn find_two_clocks<'d>(alloc: Global, ports: &Ports<'d>) -> Result<Option<To
 {
     let root = ports.survey().design().root;
     match ports.model(root) {
-        Some(model) => judge_clocks(alloc, ports, root, model),
+        Some(model) => find_two_clocks_in(alloc, ports, root, model),
         None => Ok(None),
     }
 }
 
 /// Tells of the first two clock names of a model, where it has more than one.
-fn judge_clocks<'d>(
+fn find_two_clocks_in<'d>(
     alloc: Global,
     ports: &Ports<'d>,
     k: u32,
@@ -83,13 +83,13 @@ pub fn find_root_logic<'d>(ports: &Ports<'d>) -> Option<Told<'d>>
     ensures { shown_of result ≡ root_logic ports.now }
 {
     match ports.model(ports.survey().design().root) {
-        Some(model) => judge_logic(model),
+        Some(model) => find_root_logic_in(model),
         None => None,
     }
 }
 
 /// Tells of a model with instances that has a cell which is neither a buffer nor a constant.
-fn judge_logic<'d>(model: &'d Model) -> Option<Told<'d>>
+fn find_root_logic_in<'d>(model: &'d Model) -> Option<Told<'d>>
     requires { AllByRecursion IsWellFormedCell model.now.cells }
     ensures { shown_of result ≡ logic_in model.now }
 {

@@ -4,15 +4,37 @@ ghost use Rattle.lid_rules.specs.Conditions.{or_fault};
 
 use lid_base::Which;
 
-/// What a condition tells, by names that lie in the design. Each variant stands for that of
-/// `CheckFault` which has copies of the names.
+/// A condition that tells a name of a model. Each variant stands for that of `CheckFault`.
+#[derive(Clone, Copy)]
+pub enum NameFault {
+    DuplicateName,
+    TwoDrivers,
+    Undriven,
+    ClockUse,
+    MixedEdges,
+}
+
+/// A condition that tells an instance of a model, and a name at it. Each variant stands for that of
+/// `CheckFault`.
+#[derive(Clone, Copy)]
+pub enum InstFault {
+    UnknownModel,
+    UnknownFormal,
+    FormalTwice,
+    Unbound,
+}
+
+/// What a condition tells, by names that lie in the design. It stands for a `CheckFault`, which has
+/// copies of the names.
 #[derive(Clone, Copy)]
 pub enum Told<'d> {
-    DuplicateName {
+    OfName {
+        fault: NameFault,
         model: &'d [u8],
         name: &'d [u8],
     },
-    UnknownModel {
+    OfInst {
+        fault: InstFault,
         model: &'d [u8],
         inst: u32,
         name: &'d [u8],
@@ -20,40 +42,9 @@ pub enum Told<'d> {
     Recursive {
         model: &'d [u8],
     },
-    UnknownFormal {
-        model: &'d [u8],
-        inst: u32,
-        formal: &'d [u8],
-    },
-    FormalTwice {
-        model: &'d [u8],
-        inst: u32,
-        formal: &'d [u8],
-    },
-    Unbound {
-        model: &'d [u8],
-        inst: u32,
-        formal: &'d [u8],
-    },
-    TwoDrivers {
-        model: &'d [u8],
-        name: &'d [u8],
-    },
-    Undriven {
-        model: &'d [u8],
-        name: &'d [u8],
-    },
-    ClockUse {
-        model: &'d [u8],
-        name: &'d [u8],
-    },
     TwoClocks {
         first: &'d [u8],
         second: &'d [u8],
-    },
-    MixedEdges {
-        model: &'d [u8],
-        name: &'d [u8],
     },
     RootLogic {
         name: &'d [u8],

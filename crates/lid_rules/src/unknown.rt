@@ -4,7 +4,7 @@ ghost use Rattle.lid_rules.specs.Conditions.{in_insts, unknown_at};
 ghost use Rattle.lid_rules.specs.Early.{unknown_in, unknowns};
 ghost use Rattle.lid_rules.specs.Told.{shown_of};
 
-use crate::told::Told;
+use crate::told::{InstFault, Told};
 use lid_design::{Inst, Model};
 use lid_hierarchy::Uses;
 use lid_names::model_at;
@@ -14,7 +14,7 @@ pub fn find_unknown_model<'d>(uses: &Uses<'d>, reached: &[u32]) -> Option<Told<'
     ensures { shown_of result ≡ unknowns uses.now reached.now }
 {
     for k in reached {
-        let told = judge_model(uses, *k);
+        let told = find_unknown_at(uses, *k);
         if told.is_some() {
             return told;
         }
@@ -24,24 +24,24 @@ pub fn find_unknown_model<'d>(uses: &Uses<'d>, reached: &[u32]) -> Option<Told<'
 
 /// Tells of the first instance of the model of a number that names no model.
 #[tactic(auto, unfolding(crate::specs::Early::unknown_in))]
-fn judge_model<'d>(uses: &Uses<'d>, k: u32) -> Option<Told<'d>>
+fn find_unknown_at<'d>(uses: &Uses<'d>, k: u32) -> Option<Told<'d>>
     ensures { shown_of result ≡ unknown_in uses.now k }
 {
     match model_at(uses.design(), k) {
-        Some(model) => judge_insts(uses, k, model),
+        Some(model) => find_unknown_in(uses, k, model),
         None => None,
     }
 }
 
 /// Tells of the first instance of a model that names no model.
-fn judge_insts<'d>(uses: &Uses<'d>, k: u32, model: &'d Model) -> Option<Told<'d>>
+fn find_unknown_in<'d>(uses: &Uses<'d>, k: u32, model: &'d Model) -> Option<Told<'d>>
     requires model { slice_get uses.now.models k ≡ Some model.now }
     requires few { length model.now.insts < 2 ^ 32 }
     ensures { shown_of result ≡ in_insts (unknown_at uses.now model.now) model.now }
 {
     let insts = model.insts.as_slice();
     for i in 0..insts.len() {
-        let told = judge_inst(uses, k, i as u32, model, &insts[i]);
+        let told = find_unknown_of(uses, k, i as u32, model, &insts[i]);
         if told.is_some() {
             return told;
         }
@@ -50,7 +50,7 @@ fn judge_insts<'d>(uses: &Uses<'d>, k: u32, model: &'d Model) -> Option<Told<'d>
 }
 
 /// Tells of an instance that names no model.
-fn judge_inst<'d>(
+fn find_unknown_of<'d>(
     uses: &Uses<'d>,
     k: u32,
     i: u32,
@@ -62,7 +62,8 @@ fn judge_inst<'d>(
 {
     match uses.model_of(k, i) {
         Some(_) => None,
-        None => Some(Told::UnknownModel {
+        None => Some(Told::OfInst {
+            fault: InstFault::UnknownModel,
             model: model.name.as_slice(),
             inst: i,
             name: inst.model.as_slice(),

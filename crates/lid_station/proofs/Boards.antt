@@ -1,11 +1,11 @@
 -- What a change at one end says of it and of the others.
-use Rattle.std.proofs.Common.{◌≡◌, ℕ, refl, sym, ◌∙◌, ap, arith, eq-eqb, ne_eqb}
+use Rattle.std.proofs.Common.{◌≡◌, ℕ, ◌<◌, refl, sym, ◌∙◌, ap, arith, eq-eqb, ne_eqb}
 use Rattle.std.specs.Prelude.{List, Some, option_map, slice_get}
 use Rattle.lid_station.specs.declared.looks.InLook.{InLook}
 use Rattle.lid_station.specs.declared.looks.InLook.TheVariants.{Token, Void}
 use Rattle.lid_station.specs.declared.looks.OutLook.{OutLook}
 use Rattle.lid_station.specs.declared.looks.OutLook.TheVariants.{Room, Stop}
-use Rattle.lid_station.specs.Boards.{Facts, Ends, Changes, fill, drain, looked_in, looked_out, advanced}
+use Rattle.lid_station.specs.Boards.{Facts, Ends, Changes, fill, drain, looked_in, looked_out, advanced, HasDrained, IsToken}
 use Rattle.lid_station.specs.Movers.{IsJoined}
 
 -- what is known of the end that changed
@@ -34,6 +34,20 @@ looked_in_passed (Void told) f = refl
 pub looked_out_passed : (x : OutLook) (f : Facts) → (looked_out x f).passed ≡ f.passed
 looked_out_passed Room f = refl
 looked_out_passed (Stop told) f = refl
+
+-- no look changes a start count
+pub looked_in_start : (x : InLook) (f : Facts) → (looked_in x f).start ≡ f.start
+looked_in_start (Token token) f = refl
+looked_in_start (Void told) f = refl
+
+pub looked_out_start : (x : OutLook) (f : Facts) → (looked_out x f).start ≡ f.start
+looked_out_start Room f = refl
+looked_out_start (Stop told) f = refl
+
+-- a look where not all tokens were taken that the station started with finds one
+pub token_below_start : (x : InLook) (f : Facts) → HasDrained x f → f.passed < f.start → IsToken x
+token_below_start (Token token) f drained below = tt
+token_below_start (Void told) f drained below = absurd (omega arith)
 
 -- the next token at the filled end of a mover, once a token was taken at the drained one
 pub record NextAt (ends : Ends) (to : ℕ) (stream : List ℕ) (token : ℕ) : Type 0 where

@@ -2,29 +2,30 @@
 use Rattle.std.proofs.Common.{◌≡◌, ℕ, zero, suc, ◌+◌, ◌-◌, ◌*◌, ◌/◌, ◌%◌, ◌^◌, ◌<◌, ◌≤◌, ◌==◌, cond, true, false, List, [], ◌∷◌, length, get_or, take, set, refl, sym, ◌∙◌, ap, subst, arith, nat_lt, lt_of_not-le, lt-ltb, le-ltb, length-set, eq-eqb, ne_eqb}
 use Rattle.std.specs.Prelude.{Option, Some, option_map, slice_get}
 use Rattle.std.proofs.lemmas.Option.{slice_get_within, same_Some, get_or_from_slice_get, slice_get-get_or, slice_get_read}
+use Rattle.std.proofs.lemmas.List.Elements.{All-get_or}
 use Rattle.std.proofs.lemmas.List.{length-take-le, get_or-take, get_or-set_same, get_or-set_other}
 use Rattle.lid_station.specs.declared.pair.Pair.{Pair}
-use Rattle.lid_station.specs.Boards.{Changes, Facts, IsServed, drain, fill, looked_out}
+use Rattle.lid_station.specs.Boards.{Changes, Facts, IsServed, drain, fill, looked_out, HasFullBits}
 use Rattle.lid_station.specs.Plain.{end_facts, plain_ends, Holds, PlainStands, PlainAdmits}
-use Rattle.lid_station.specs.PlainLaws.{at-drain, at-fill, ends-even, ends-odd, mapped}
+use Rattle.lid_station.specs.PlainLaws.{at_drain, at_fill, ends_even, ends_odd, mapped}
 use Rattle.lid_station.specs.Words.{half, half_of, word}
 use Rattle.lid_station.specs.declared.looks.OutLook.{OutLook}
 use Rattle.lid_station.proofs.Boards.{changed_at, looked_out_passed}
-use Rattle.lid_station.proofs.Words.{one_turn, reach, half_token, half_past}
+use Rattle.lid_station.proofs.Words.{one_turn, reach, half_token, half_past, low_bit, high_bit}
 use mathlib.Core.Logic.{dite}
 use native.Mathlib.Decide.{dec_le, ℕ_discrete}
 
 -- the station that was read is the one that its fill end is of
 pub here_fill : (pairs : List Pair) (station : ℕ) (p : Pair) (f : Facts) → p ≡ get_or pairs station p → plain_ends pairs (fill station) ≡ Some f → (slice_get pairs station ≡ Some p) × (f ≡ end_facts true p)
 here_fill pairs station p f is at =
-    let there = at-fill pairs station f at in
+    let there = at_fill pairs station f at in
     let same : there.0 ≡ p = sym (is ∙ get_or_from_slice_get pairs station there.0 p there.1) in
     (there.1 ∙ ap (λ (q : Pair). Some q) same, there.2 ∙ ap (end_facts true) same)
 
 -- the station that was read is the one that its drain end is of
 pub here_drain : (pairs : List Pair) (station : ℕ) (p : Pair) (f : Facts) → p ≡ get_or pairs station p → plain_ends pairs (drain station) ≡ Some f → (slice_get pairs station ≡ Some p) × (f ≡ end_facts false p)
 here_drain pairs station p f is at =
-    let there = at-drain pairs station f at in
+    let there = at_drain pairs station f at in
     let same : there.0 ≡ p = sym (is ∙ get_or_from_slice_get pairs station there.0 p there.1) in
     (there.1 ∙ ap (λ (q : Pair). Some q) same, there.2 ∙ ap (end_facts false) same)
 
@@ -35,13 +36,13 @@ set_at (x ∷ xs) zero q p e = refl
 set_at (x ∷ xs) (suc i) q p e = set_at xs i q p e
 
 -- the element that was written
-set-here : (pairs : List Pair) (i : ℕ) (q p : Pair) → slice_get (set pairs i q) i ≡ Some p → q ≡ p
-set-here [] i q p e = absurd (cc)
-set-here (x ∷ xs) zero q p e = same_Some q p e
-set-here (x ∷ xs) (suc i) q p e = set-here xs i q p e
+pub set_here : (pairs : List Pair) (i : ℕ) (q p : Pair) → slice_get (set pairs i q) i ≡ Some p → q ≡ p
+set_here [] i q p e = absurd (cc)
+set_here (x ∷ xs) zero q p e = same_Some q p e
+set_here (x ∷ xs) (suc i) q p e = set_here xs i q p e
 
 -- the elements that were not written
-set_there : (pairs : List Pair) (i j : ℕ) (q : Pair) → (j ≡ i → ⊥) → slice_get (set pairs i q) j ≡ slice_get pairs j
+pub set_there : (pairs : List Pair) (i j : ℕ) (q : Pair) → (j ≡ i → ⊥) → slice_get (set pairs i q) j ≡ slice_get pairs j
 set_there [] i j q other = refl
 set_there (x ∷ xs) zero zero q other = absurd (other refl)
 set_there (x ∷ xs) zero (suc j) q other = refl
@@ -53,20 +54,20 @@ pub changes_drain : (pairs : List Pair) (station : ℕ) (p q : Pair) (step : Fac
 changes_drain pairs station p q step at here there k =
     dite (ℕ_discrete k (drain station))
     (λ same. rw (eq-eqb k (drain station) same)
-    (ends-odd (set pairs station q) k station same
+    (ends_odd (set pairs station q) k station same
     ∙ ap (option_map (end_facts false)) (set_at pairs station q p at)
     ∙ ap (λ (f : Facts). Some f) here
     ∙ ap (λ (o : Option Pair). option_map step (option_map (end_facts false) o)) (sym at)
-    ∙ ap (option_map step) (sym (ends-odd pairs k station same))))
+    ∙ ap (option_map step) (sym (ends_odd pairs k station same))))
     (λ other. rw (ne_eqb k (drain station) other)
     (dite (ℕ_discrete (k / 2) station)
     (λ beside.
     let even : k ≡ 2 * station = omega arith in
-    ends-even (set pairs station q) k station even
+    ends_even (set pairs station q) k station even
     ∙ ap (option_map (end_facts true)) (set_at pairs station q p at)
     ∙ ap (λ (f : Facts). Some f) there
     ∙ ap (option_map (end_facts true)) (sym at)
-    ∙ sym (ends-even pairs k station even))
+    ∙ sym (ends_even pairs k station even))
     (λ apart. ap (option_map (end_facts (k % 2 == 0))) (set_there pairs station (k / 2) q apart))))
 
 -- one station changed and still stands for its stream
@@ -75,7 +76,7 @@ stands_set pairs station q streams stands holds i p at =
     dite (ℕ_discrete i station)
     (λ same.
     let here : slice_get (set pairs station q) station ≡ Some p = ap (λ (k : ℕ). slice_get (set pairs station q) k) (sym same) ∙ at in
-    let is : q ≡ p = set-here pairs station q p here in
+    let is : q ≡ p = set_here pairs station q p here in
     let here_holds : Holds p (streams station) = subst (λ (r : Pair). Holds r (streams station)) is holds in
     subst (λ (k : ℕ). Holds p (streams k)) (sym same) here_holds)
     (λ other. stands i p (sym (set_there pairs station i q other) ∙ at))
@@ -178,6 +179,30 @@ told_word p stream number even odd low high holds full is_even is_odd is_low is_
     let above = is_high ∙ shown_half p stream odd holds full ∙ ap (λ (k : ℕ). half_of (length p.places.items) (take p.put stream) (take (p.put - length p.places.items) stream) k) is_odd in
     ap (λ (x : ℕ). x + 4294967296 * high) below ∙ ap (λ (y : ℕ). half_of (length p.places.items) (take p.put stream) (take (p.put - length p.places.items) stream) (2 * number) + 4294967296 * y) above
 
+-- what a place shows that is there
+shown_there : (p : Pair) (place shown : ℕ) → place < length p.places.items → shown ≡ cond (nat_lt place (length p.places.items)) (2147483648 + get_or p.places.items place 0) 0 → (2147483648 ≤ shown) × (shown < 4294967296)
+shown_there p place shown within is =
+    let small : get_or p.places.items place 0 < 2 ^ 31 = All-get_or (λ (token : ℕ). token < 2 ^ 31) p.places.items place 0 within p.small in
+    let here : shown ≡ 2147483648 + get_or p.places.items place 0 = is ∙ rw (lt-ltb place (length p.places.items) within) refl in
+    (omega arith, omega arith)
+
+-- the word that is told has the full bits of its places
+pub told_bits : (p : Pair) (number even odd low high : ℕ) → number ≡ (p.put % length p.places.items) / 2
+    → even ≡ 2 * number → odd ≡ 2 * number + 1
+    → low ≡ cond (nat_lt even (length p.places.items)) (2147483648 + get_or p.places.items even 0) 0
+    → high ≡ cond (nat_lt odd (length p.places.items)) (2147483648 + get_or p.places.items odd 0) 0
+    → HasFullBits (length p.places.items) number (low + 4294967296 * high)
+told_bits p number even odd low high is is_even is_odd is_low is_high =
+    let two : 2 ≤ length p.places.items = p.two in
+    let below : p.put % length p.places.items < length p.places.items = omega arith in
+    let lower = shown_there p even low (omega arith) is_low in
+    record {
+      even = low_bit low high lower.0 lower.1;
+      odd = λ within.
+          let upper = shown_there p odd high (omega arith) is_high in
+          high_bit low high lower.1 upper.0 upper.1;
+    }
+
 -- each number below how many there are is that of a station
 pub station_there : (pairs : List Pair) (station : ℕ) → station < length pairs → (p : Pair) × (slice_get pairs station ≡ Some p)
 station_there [] station within = absurd (omega arith)
@@ -188,13 +213,13 @@ station_there (x ∷ xs) (suc station) within = station_there xs station (omega 
 pub serves_fill : (pairs : List Pair) (station : ℕ) → station < length pairs → IsServed (plain_ends pairs) (fill station)
 serves_fill pairs station within =
     let there = station_there pairs station within in
-    (end_facts true there.0, ends-even pairs (fill station) station refl ∙ ap (option_map (end_facts true)) there.1)
+    (end_facts true there.0, ends_even pairs (fill station) station refl ∙ ap (option_map (end_facts true)) there.1)
 
 -- plain stations serve each drained end
 pub serves_drain : (pairs : List Pair) (station : ℕ) → station < length pairs → IsServed (plain_ends pairs) (drain station)
 serves_drain pairs station within =
     let there = station_there pairs station within in
-    (end_facts false there.0, ends-odd pairs (drain station) station refl ∙ ap (option_map (end_facts false)) there.1)
+    (end_facts false there.0, ends_odd pairs (drain station) station refl ∙ ap (option_map (end_facts false)) there.1)
 
 -- a token is admitted after a look where it was before
 pub admits_looked : (old new : List Pair) (station token : ℕ) (x : OutLook) → PlainAdmits old station token → Changes (plain_ends old) (fill station) (looked_out x) (plain_ends new) → PlainAdmits new station token
@@ -202,9 +227,9 @@ admits_looked old new station token x before changes =
     record {
       small = before.small;
       counted = λ p at.
-          let now : plain_ends new (fill station) ≡ Some (end_facts true p) = ends-even new (fill station) station refl ∙ ap (option_map (end_facts true)) at in
+          let now : plain_ends new (fill station) ≡ Some (end_facts true p) = ends_even new (fill station) station refl ∙ ap (option_map (end_facts true)) at in
           let earlier = mapped (looked_out x) (plain_ends old (fill station)) (end_facts true p) (sym (changed_at (plain_ends old) (plain_ends new) (fill station) (looked_out x) changes) ∙ now) in
-          let was = at-fill old station earlier.0 earlier.1 in
+          let was = at_fill old station earlier.0 earlier.1 in
           let put : p.put ≡ was.0.put = ap (λ (f : Facts). f.passed) earlier.2 ∙ looked_out_passed x earlier.0 ∙ ap (λ (f : Facts). f.passed) was.2 in
           let room : was.0.put + 1 < 2 ^ 64 = before.counted was.0 was.1 in
           omega arith;

@@ -5,7 +5,7 @@ use Rattle.std.proofs.lemmas.List.{length-take, length-take-le, take-take, take_
 use Rattle.lid_station.specs.declared.pair.Pair.{Pair}
 use Rattle.lid_station.specs.Boards.{Facts, fill, drain}
 use Rattle.lid_station.specs.Plain.{plain_ends, Holds, PlainStands}
-use Rattle.lid_station.specs.PlainLaws.{at-fill, at-drain}
+use Rattle.lid_station.specs.PlainLaws.{at_fill, at_drain}
 use Rattle.lid_station.specs.Prefixes.{IsPrefix, Prefix}
 use Rattle.std.proofs.lemmas.Option.{same_Some}
 
@@ -48,9 +48,9 @@ passed_prefix cap drained filled stream ordered within room =
 -- what passed a plain station whose stream it carries
 pub plain_prefix : (pairs : List Pair) (streams : ℕ → List ℕ) (station : ℕ) (f d : Facts) → PlainStands pairs streams → plain_ends pairs (fill station) ≡ Some f → plain_ends pairs (drain station) ≡ Some d
     → Prefix f.cap (take f.passed (streams station)) (take d.passed (streams station)) (streams station)
-plain_prefix pairs streams station f d stands at_fill at_drain =
-    let filled = at-fill pairs station f at_fill in
-    let drained = at-drain pairs station d at_drain in
+plain_prefix pairs streams station f d stands fill_is drain_is =
+    let filled = at_fill pairs station f fill_is in
+    let drained = at_drain pairs station d drain_is in
     let one : filled.0 ≡ drained.0 = same_Some filled.0 drained.0 (sym filled.1 ∙ drained.1) in
     let holds : Holds filled.0 (streams station) = stands station filled.0 filled.1 in
     let within : filled.0.put ≤ length (streams station) = holds.filled in

@@ -101,13 +101,13 @@ word_nothing cap filled drained number nothing =
     (word_zero cap filled drained number).1 (empty (2 * number), empty (2 * number + 1))
 
 -- bit 31 of two halves of which the lower has it
-low-bit : (low high : ℕ) → 2147483648 ≤ low → low < 4294967296 → ((low + 4294967296 * high) / 2147483648) % 2 ≡ 1
-low-bit low high least most =
+pub low_bit : (low high : ℕ) → 2147483648 ≤ low → low < 4294967296 → ((low + 4294967296 * high) / 2147483648) % 2 ≡ 1
+low_bit low high least most =
     let rest : (low + 4294967296 * high) / 2147483648 ≡ 1 + 2 * high = omega arith in
     omega arith
 
 -- bit 63 of two halves of which the higher has it
-high_bit : (low high : ℕ) → low < 4294967296 → 2147483648 ≤ high → high < 4294967296 → ((low + 4294967296 * high) / 9223372036854775808) % 2 ≡ 1
+pub high_bit : (low high : ℕ) → low < 4294967296 → 2147483648 ≤ high → high < 4294967296 → ((low + 4294967296 * high) / 9223372036854775808) % 2 ≡ 1
 high_bit low high low_most least most =
     let one : (low + 4294967296 * high) / 9223372036854775808 ≡ 1 = omega arith in
     omega arith
@@ -142,7 +142,7 @@ unfolding word
 word_full_even cap filled drained number small full within =
     let even = half_of_full cap filled drained (2 * number) full within in
     let fits : half_of cap filled drained (2 * number) < 4294967296 = half_small cap filled (length drained) (length filled - length drained) (2 * number) small in
-    low-bit (half_of cap filled drained (2 * number)) (half_of cap filled drained (2 * number + 1)) even fits
+    low_bit (half_of cap filled drained (2 * number)) (half_of cap filled drained (2 * number + 1)) even fits
 
 -- the full bit of the odd place of a word of a station that holds its capacity
 pub word_full_odd : (cap : ℕ) (filled drained : List ℕ) (number : ℕ) → All (λ token. token < 2147483648) filled → length filled ≡ length drained + cap → 2 * number + 1 < cap

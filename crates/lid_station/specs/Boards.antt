@@ -1,16 +1,18 @@
 -- What the clauses on stations say: what is known of an end, how a call changes it, and what a look
 -- finds.
-use Rattle.std.specs.Prelude.{◌≡◌, ℕ, ◌+◌, ◌-◌, ◌*◌, ◌≤◌, ◌==◌, cond, Bool, true, false, List, take, Option, Some, option_map, slice_get}
+use Rattle.std.specs.Prelude.{◌≡◌, ℕ, ◌+◌, ◌-◌, ◌*◌, ◌/◌, ◌%◌, ◌<◌, ◌≤◌, ◌==◌, cond, Bool, true, false, List, take, Option, Some, option_map, slice_get}
 use Rattle.lid_station.specs.declared.looks.InLook.{InLook}
 use Rattle.lid_station.specs.declared.looks.InLook.TheVariants.{Token, Void}
 use Rattle.lid_station.specs.declared.looks.OutLook.{OutLook}
 use Rattle.lid_station.specs.declared.looks.OutLook.TheVariants.{Room, Stop}
 use Rattle.lid_station.specs.Words.{word, word_number}
 
--- what is known of an end: the capacity of its station, how many tokens passed it, whether a token
--- or room was seen there and not used, and how many looks found none, where that is counted
+-- what is known of an end: the capacity of its station, how many tokens the station started with
+-- (0 where that is not known), how many tokens passed the end, whether a token or room was seen
+-- there and not used, and how many looks found none, where that is counted
 pub record Facts : Type 0 where
   pub cap : ℕ
+  pub start : ℕ
   pub passed : ℕ
   pub mark : Bool
   pub misses : Option ℕ
@@ -103,3 +105,19 @@ TellsNothing (Void told) = told ≡ 0
 abbrev pub HasFilled : OutLook → Facts → Type 0
 HasFilled Room f = Unit {0}
 HasFilled (Stop told) f = f.cap ≤ f.passed
+
+-- a station that holds nothing was left by all tokens that it started with
+abbrev pub HasDrained : InLook → Facts → Type 0
+HasDrained (Token token) f = Unit {0}
+HasDrained (Void told) f = f.start ≤ f.passed
+
+-- each place of a station's word of this number has its full bit there: bit 31 of an even place,
+-- and bit 63 of an odd one, which the last word of an odd capacity has not
+pub record HasFullBits (cap number told : ℕ) : Type 0 where
+  pub even : told / 2147483648 % 2 ≡ 1
+  pub odd : 2 * number + 1 < cap → told / 9223372036854775808 % 2 ≡ 1
+
+-- the word that is told of a station that holds its capacity has the full bit of each of its places
+abbrev pub TellsFull : OutLook → Facts → Type 0
+TellsFull Room f = Unit {0}
+TellsFull (Stop told) f = HasFullBits f.cap (word_number f.cap f.passed) told

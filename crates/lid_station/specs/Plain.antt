@@ -4,13 +4,13 @@ use Rattle.std.specs.List.{All}
 use Rattle.lid_station.specs.declared.pair.Pair.{Pair}
 use Rattle.lid_station.specs.Boards.{Facts}
 
--- what is known of one end of a plain station: its filled one, or else its drained one. Misses are
--- not counted
+-- what is known of one end of a plain station: its filled one, or else its drained one. With how
+-- many tokens it started is not known, and misses are not counted
 abbrev pub end_facts : Bool → Pair → Facts
 end_facts true p =
-    record { cap = length p.places.items; passed = p.put; mark = p.room_seen; misses = None }
+    record { cap = length p.places.items; start = 0; passed = p.put; mark = p.room_seen; misses = None }
 end_facts false p =
-    record { cap = length p.places.items; passed = p.taken; mark = p.token_seen; misses = None }
+    record { cap = length p.places.items; start = 0; passed = p.taken; mark = p.token_seen; misses = None }
 
 -- the ends of plain stations: all of them
 abbrev pub plain_ends : List Pair → ℕ → Option Facts

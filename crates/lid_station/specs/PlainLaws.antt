@@ -8,16 +8,16 @@ use Rattle.lid_station.specs.Boards.{Facts, fill, drain}
 use Rattle.lid_station.specs.Plain.{end_facts, plain_ends, Holds, PlainStands, PlainAdmits}
 
 -- an end of the filled side is that of a station with half its number
-pub ends-even : (pairs : List Pair) (end station : ℕ) → end ≡ 2 * station → plain_ends pairs end ≡ option_map (end_facts true) (slice_get pairs station)
-ends-even pairs end station e =
+pub ends_even : (pairs : List Pair) (end station : ℕ) → end ≡ 2 * station → plain_ends pairs end ≡ option_map (end_facts true) (slice_get pairs station)
+ends_even pairs end station e =
     let half : end / 2 ≡ station = omega arith in
     let even : (end % 2 == 0) ≡ true = eq-eqb (end % 2) 0 (omega arith) in
     ap (λ (side : Bool). option_map (end_facts side) (slice_get pairs (end / 2))) even
     ∙ ap (λ (i : ℕ). option_map (end_facts true) (slice_get pairs i)) half
 
 -- an end of the drained side is that of a station with half its number
-pub ends-odd : (pairs : List Pair) (end station : ℕ) → end ≡ 2 * station + 1 → plain_ends pairs end ≡ option_map (end_facts false) (slice_get pairs station)
-ends-odd pairs end station e =
+pub ends_odd : (pairs : List Pair) (end station : ℕ) → end ≡ 2 * station + 1 → plain_ends pairs end ≡ option_map (end_facts false) (slice_get pairs station)
+ends_odd pairs end station e =
     let half : end / 2 ≡ station = omega arith in
     let odd : (end % 2 == 0) ≡ false = ne_eqb (end % 2) 0 (λ h. omega arith) in
     ap (λ (side : Bool). option_map (end_facts side) (slice_get pairs (end / 2))) odd
@@ -29,17 +29,17 @@ mapped f None y e = absurd (cc)
 mapped f (Some x) y e = (x, refl, sym (same_Some (f x) y e))
 
 -- a served fill end is that of a station
-pub at-fill : (pairs : List Pair) (station : ℕ) (f : Facts) → plain_ends pairs (fill station) ≡ Some f → (p : Pair) × (slice_get pairs station ≡ Some p) × (f ≡ end_facts true p)
-at-fill pairs station f e = mapped (end_facts true) (slice_get pairs station) f (sym (ends-even pairs (fill station) station refl) ∙ e)
+pub at_fill : (pairs : List Pair) (station : ℕ) (f : Facts) → plain_ends pairs (fill station) ≡ Some f → (p : Pair) × (slice_get pairs station ≡ Some p) × (f ≡ end_facts true p)
+at_fill pairs station f e = mapped (end_facts true) (slice_get pairs station) f (sym (ends_even pairs (fill station) station refl) ∙ e)
 
 -- a served drain end is that of a station
-pub at-drain : (pairs : List Pair) (station : ℕ) (f : Facts) → plain_ends pairs (drain station) ≡ Some f → (p : Pair) × (slice_get pairs station ≡ Some p) × (f ≡ end_facts false p)
-at-drain pairs station f e = mapped (end_facts false) (slice_get pairs station) f (sym (ends-odd pairs (drain station) station refl) ∙ e)
+pub at_drain : (pairs : List Pair) (station : ℕ) (f : Facts) → plain_ends pairs (drain station) ≡ Some f → (p : Pair) × (slice_get pairs station ≡ Some p) × (f ≡ end_facts false p)
+at_drain pairs station f e = mapped (end_facts false) (slice_get pairs station) f (sym (ends_odd pairs (drain station) station refl) ∙ e)
 
 -- the next token of a stream for which plain stations stand is admitted
-pub plain-next : (pairs : List Pair) (streams : ℕ → List ℕ) (station token : ℕ) (f : Facts) → PlainStands pairs streams → plain_ends pairs (fill station) ≡ Some f → slice_get (streams station) f.passed ≡ Some token → PlainAdmits pairs station token
-plain-next pairs streams station token f stands at next =
-    let there = at-fill pairs station f at in
+pub plain_next : (pairs : List Pair) (streams : ℕ → List ℕ) (station token : ℕ) (f : Facts) → PlainStands pairs streams → plain_ends pairs (fill station) ≡ Some f → slice_get (streams station) f.passed ≡ Some token → PlainAdmits pairs station token
+plain_next pairs streams station token f stands at next =
+    let there = at_fill pairs station f at in
     let holds : Holds there.0 (streams station) = stands station there.0 there.1 in
     let within : f.passed < length (streams station) = slice_get_within (streams station) f.passed token next in
     let read = get_or_from_slice_get (streams station) f.passed token 0 next in

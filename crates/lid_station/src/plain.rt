@@ -3,7 +3,7 @@
 ghost use Rattle.std.specs.Prelude.{◌≡◌, ℕ, ◌+◌, ◌*◌, ◌%◌, ◌/◌, ◌^◌, ◌<◌, ◌≤◌, ◌-◌, cond, nat_lt, List, length, get_or, IfSome, IfOk};
 ghost use base.Stored.{gnil};
 ghost use Rattle.lid_station.specs.Plain.{plain_ends, PlainStands, PlainAdmits};
-ghost use Rattle.lid_station.specs.PlainLaws.{plain-next};
+ghost use Rattle.lid_station.specs.PlainLaws.{plain_next};
 ghost use Rattle.std.specs.List.{All};
 ghost use Rattle.lid_station.specs.Starts.{IsStart, AreStarts, Begin};
 
@@ -143,5 +143,5 @@ impl Stations for PlainBoard {
         pair.room_seen = false;
     }
 
-    ghost next_is_admitted = { λ board. plain-next board.pairs.items };
+    ghost next_is_admitted = { λ board. plain_next board.pairs.items };
 }

@@ -2,23 +2,24 @@
 
 ghost use Rattle.std.specs.Prelude.{◌≡◌, ℕ, ◌+◌, ◌^◌, ◌<◌, ◌≤◌, List, Some, Option, slice_get, ◌↔◌};
 ghost use base.Stored.{Gv};
-ghost use Rattle.lid_station.specs.Boards.{Facts, fill, drain, IsServed, IsMarked, advanced, Changes, looked_in, looked_out, IsToken, IsVoid, IsRoom, IsStop, FindsIn, FindsOut, TellsNothing, HasFilled};
+ghost use Rattle.lid_station.specs.Boards.{Facts, fill, drain, IsServed, IsMarked, advanced, Changes, looked_in, looked_out, IsToken, IsVoid, IsRoom, IsStop, FindsIn, FindsOut, TellsNothing, TellsFull, HasFilled, HasDrained};
 
 use crate::looks::{InLook, OutLook};
 
 /// Stations, of which some ends are served here.
 ///
 /// `ends` has what is known of each served end, by its number: the capacity of its station, how
-/// many tokens passed it, whether a token or room was seen there and not used, and how many looks
-/// found none, where that is counted. The end of a station that is filled has twice the station's
-/// number, the one that is drained one more.
+/// many tokens the station started with, how many passed the end, whether a token or room was seen
+/// there and not used, and how many looks found none, where that is counted. A start count that is
+/// not known is 0. The end of a station that is filled has twice the station's number, the one that
+/// is drained one more.
 ///
 /// `stands` tells whether the stations carry given streams, one for each station. The tokens that
 /// passed an end are then the first of the station's stream. `admits` tells whether a token may be
 /// put in a station. `identity` is what the stations are made of: a call on a part of them that was
 /// lent is a call on the same stations.
 ///
-/// No call takes memory, and none changes which ends are served.
+/// No call takes memory, and none changes which ends are served, a capacity or a start count.
 pub trait Stations {
     ghost ends: { Self → ℕ → Option Facts };
 
@@ -32,12 +33,14 @@ pub trait Stations {
     /// is one miss, where misses are counted. Where a token was seen before and not taken, it is
     /// found again.
     ///
-    /// Where the filled end is served too, `Void` comes exactly where the station holds nothing.
+    /// `Void` comes only once all tokens that the station started with were taken. Where the filled
+    /// end is served too, it comes exactly where the station holds nothing.
     fn look_in(&mut self, station: u32) -> InLook
         requires { IsServed (ends self.old) (drain station) }
         ensures changed { Changes (ends self.old) (drain station) (looked_in result) (ends self.new) }
         ensures found { (streams : ℕ → List ℕ) → (f : Facts) → stands self.old streams → ends self.old (drain station) ≡ Some f → FindsIn result f (streams station) }
         ensures nothing { TellsNothing result }
+        ensures drained { (f : Facts) → ends self.old (drain station) ≡ Some f → HasDrained result f }
         ensures again { IsMarked (ends self.old) (drain station) → IsToken result }
         ensures exact { (f : Facts) → (d : Facts) → ends self.old (fill station) ≡ Some f → ends self.old (drain station) ≡ Some d → (IsVoid result ↔ f.passed ≡ d.passed) }
         ensures kept { (streams : ℕ → List ℕ) → stands self.old streams → stands self.new streams }
@@ -45,6 +48,7 @@ pub trait Stations {
 
     /// Looks for room at a station whose filled end is served. Room is then seen; `Stop` is one
     /// miss, where misses are counted. Where room was seen before and not used, it is found again.
+    /// The word that `Stop` tells has the full bit of each place.
     ///
     /// Where the drained end is served too, `Stop` comes exactly where the station holds as many
     /// tokens as its capacity.
@@ -53,6 +57,7 @@ pub trait Stations {
         ensures changed { Changes (ends self.old) (fill station) (looked_out result) (ends self.new) }
         ensures found { (streams : ℕ → List ℕ) → (f : Facts) → stands self.old streams → ends self.old (fill station) ≡ Some f → FindsOut result f (streams station) }
         ensures filled { (f : Facts) → ends self.old (fill station) ≡ Some f → HasFilled result f }
+        ensures full { (f : Facts) → ends self.old (fill station) ≡ Some f → TellsFull result f }
         ensures again { IsMarked (ends self.old) (fill station) → IsRoom result }
         ensures exact { (f : Facts) → (d : Facts) → ends self.old (fill station) ≡ Some f → ends self.old (drain station) ≡ Some d → (IsStop result ↔ f.passed ≡ d.passed + f.cap) }
         ensures kept { (streams : ℕ → List ℕ) → stands self.old streams → stands self.new streams }

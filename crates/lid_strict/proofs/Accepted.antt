@@ -10,8 +10,8 @@ use Rattle.lid_design.specs.WellFormed.{IsWellFormed}
 use Rattle.lid_design.specs.Network.{Driver, from_input, from_latch, from_cover, from_connection, from_each}
 use Rattle.lid_design.specs.Columns.{Column, column, drivers}
 use Rattle.lid_design.specs.Walks.{read_now, read_before, IsDriven, IsDrivenOnce, AreReadsDriven, WalksEnd, HasTable, HasOneTable}
-use Rattle.lid_design.specs.Models.{nets, insts_of, number_named, instance_number, number_from}
-use Rattle.lid_design.specs.Places.{columns, model_nets}
+use Rattle.lid_design.specs.Models.{nets, insts_of, number_named, instance_number, number_from, data_inputs_of}
+use Rattle.lid_design.specs.Elaboration.{columns, model_nets}
 use Rattle.lid_design.specs.Loops.{HasNoLoop}
 use Rattle.lid_design.proofs.Tables.{has_table, has_one_table}
 use Rattle.lid_hierarchy.specs.Surveys.{AreKnown}
@@ -20,19 +20,21 @@ use Rattle.lid_rules.specs.Acceptance.{ModelsPass, fault_before_recursion}
 use Rattle.lid_rules.proofs.Passing.{known_by}
 use Rattle.lid_elab.specs.Elaborations.{map_driver, column_at}
 use Rattle.lid_elab.specs.Numbers.{offset_of, start_of}
-use Rattle.lid_elab.specs.Locals.{actual_for}
+use Rattle.lid_wiring.specs.Locals.{actual_for}
 use Rattle.lid_elab.specs.Templates.{place_in, numbered, placed}
-use Rattle.lid_elab.specs.Writing.{IsJudged, IsRight, model_inputs, IsOuter}
-use Rattle.lid_elab.proofs.Passing.{or_none}
+use Rattle.lid_wiring.specs.Judged.{IsJudged}
+use Rattle.lid_elab.specs.Scopes.{IsOnlyDriver, IsOuter}
+use Rattle.lid_wiring.proofs.Passing.{or_none}
 use Rattle.lid_elab.proofs.Located.{Located, located}
-use Rattle.lid_elab.proofs.Judged.{shallow_of}
 use Rattle.lid_elab.proofs.Outer.{fits}
-use Rattle.lid_elab.proofs.Single.{exactly_one}
-use Rattle.lid_elab.proofs.Placing.{net_right}
+use Rattle.lid_wiring.proofs.Single.{exactly_one}
+use Rattle.lid_elab.proofs.Placed.{net_right}
 use Rattle.lid_elab.proofs.Every.{driven_column}
 use Rattle.lid_strict.proofs.Descent.{walks_end}
 use Rattle.lid_strict.proofs.Levels.{model_order}
+use Rattle.lid_wiring.proofs.Told.{told_by_model}
 use Rattle.lid_strict.proofs.Outputs.{from_each_long}
+use Rattle.lid_strict.proofs.Tables.{once_by}
 
 known_of : (d : Design) → ModelsPass d → AreKnown d
 unfolding fault_before_recursion
@@ -71,31 +73,31 @@ module _ (d : Design) (judged : IsJudged d) where
   around_at (i ∷ up) k leads =
       let body = then_some (number_from d d.root up) (instance_number d i) k leads in
       let inst = then_some (slice_get (insts_of d body.0) i) (λ inst. number_named d inst.model) k body.2 in
-      (Some (start_of d up, map (λ formal. place_in d body.0 (actual_for inst.0 formal)) (model_inputs d k)), (up, i, body.0, inst.0, refl, body.1, inst.1, refl, refl))
+      (Some (start_of d up, map (λ formal. place_in d body.0 (actual_for inst.0 formal)) (data_inputs_of d k)), record { up = up; i = i; around = body.0; inst = inst.0; is_path = refl; leads = body.1; at = inst.1; is_start = refl; is_actuals = refl })
 
   -- each column has one driver
-  right_at : (n : ℕ) (c : Column) → slice_get (columns d) n ≡ Some c → (s : Driver ℕ) × IsRight d c s
-  right_at n c here = by (located d (shallow_of d judged) n c here)
+  right_at : (n : ℕ) (c : Column) → slice_get (columns d) n ≡ Some c → (s : Driver ℕ) × IsOnlyDriver d c s
+  right_at n c here = by (located d judged n c here)
     where
-      in_model : (at : Located d n c) (o : Option Model) → slice_get d.models at.model ≡ o → (s : Driver ℕ) × IsRight d c s
+      in_model : (at : Located d n c) (o : Option Model) → slice_get d.models at.model ≡ o → (s : Driver ℕ) × IsOnlyDriver d c s
       in_model at None e = absurd (let none : None ≡ Some c.net = ap (λ (o : Option Model). slice_get (option_map_or (nets d) o []) at.net) (sym e) ∙ at.here in cc)
       in_model at (Some m) e =
           let names : model_nets d at.model ≡ nets d m = ap (λ (o : Option Model). option_map_or (nets d) o []) e in
           let among = get_among (nets d m) at.net c.net (ap (λ (ns : List (List ℕ)). slice_get ns at.net) (sym names) ∙ at.here) in
-          let one = exactly_one d judged.formed judged.order judged.ordered judged.known judged.pass at.model (c.path, at.leads) m e c.net among in
+          let one = exactly_one d judged at.model (c.path, at.leads) m e c.net among in
           let around = around_at c.path at.model at.leads in
           let count = length m.insts in (
             placed (start_of d c.path) (from_each (offset_of d at.model) 0 count) around.0 (numbered d at.model one.0),
-            net_right d judged.formed judged.order judged.ordered judged.known judged.pass (shallow_of d judged) c.path at.model m at.leads e (from_each (offset_of d at.model) 0 count)
+            net_right d judged c.path at.model m at.leads e (from_each (offset_of d at.model) 0 count)
                 (λ i o is. from_each_at (offset_of d at.model) 0 count i o is ∙ ap (offset_of d at.model) (zero-add i))
                 (from_each_long (offset_of d at.model) 0 count)
                 around.0 (fits d c.path at.model around.0 judged around.1) c.net among one.0 one.1,
           )
 
-      by : Located d n c → (s : Driver ℕ) × IsRight d c s
+      by : Located d n c → (s : Driver ℕ) × IsOnlyDriver d c s
       by at = in_model at (slice_get d.models at.model) refl
 
-  right_of : (c : Column) → Among c (columns d) → (s : Driver ℕ) × IsRight d c s
+  right_of : (c : Column) → Among c (columns d) → (s : Driver ℕ) × IsOnlyDriver d c s
   right_of c among = let at = among_get (columns d) c among in right_at at.0 c at.1
 
   pub driven_of : (c : Column) → Among c (columns d) → IsDriven (drivers d) c
@@ -104,18 +106,10 @@ module _ (d : Design) (judged : IsJudged d) where
       subst (λ (ss : List (Driver Column)). 0 < length ss) (sym right.1.only) (omega arith)
 
   pub column_of : (c : Column) → IsDriven (drivers d) c → Among c (columns d)
-  column_of = driven_column d judged.formed judged.order judged.ordered judged.known judged.pass (shallow_of d judged)
+  column_of = driven_column d judged
 
   driven_once : IsDrivenOnce (drivers d)
-  driven_once c = by (drivers d c) refl
-    where
-      by : (ss : List (Driver Column)) → drivers d c ≡ ss → length ss ≤ 1
-      by [] e = omega arith
-      by (s ∷ ss) e =
-          let some : IsDriven (drivers d) c = subst (λ (rs : List (Driver Column)). 0 < length rs) (sym e) (omega arith) in
-          let right = right_of c (column_of c some) in
-          let long = ap length (sym e ∙ right.1.only) in
-          omega arith
+  driven_once = once_by (drivers d) (λ c driven. let told = told_by_model d judged c driven in (told.driver, told.only))
 
   reads_driven : AreReadsDriven (drivers d)
   reads_driven c s a among read =

@@ -6,7 +6,8 @@ use Rattle.lid_cover.specs.declared.Cube.{Cube}
 use Rattle.lid_strict.specs.declared.program.Part.{Part}
 use Rattle.lid_strict.specs.declared.program.Step.{Step}
 use Rattle.lid_strict.specs.declared.program.Step.TheVariants.{Input, Latch, Cover as OfCover, Connection}
-use Rattle.lid_strict.specs.Programs.{part_of, IsPart, shown_step, IsThere, Extends}
+use Rattle.lid_base.specs.Lists.{Extends}
+use Rattle.lid_strict.specs.Programs.{part_of, IsPart, shown_step, IsThere}
 
 part_more : {A : Type 0} (xs ys : List A) → Extends xs ys → (part : Part) → IsPart xs part → part_of ys part ≡ part_of xs part
 part_more xs ys more part there =

@@ -17,12 +17,11 @@ use Rattle.lid_design.specs.Network.{Driver}
 use Rattle.lid_design.specs.Columns.{Column, column, root_outputs}
 use Rattle.lid_design.specs.WellFormed.{IsWellFormed}
 use Rattle.lid_design.specs.Models.{nets, number_from, IsReached}
-use Rattle.lid_design.specs.Places.{columns, model_nets}
-use Rattle.lid_hierarchy.specs.Surveys.{IsModelOrder, AreKnown}
-use Rattle.lid_rules.specs.Acceptance.{ModelsPass}
+use Rattle.lid_design.specs.Elaboration.{columns, model_nets}
+use Rattle.lid_wiring.specs.Judged.{IsJudged}
 use Rattle.lid_elab.specs.Elaborations.{column_at, IsElaborated}
-use Rattle.lid_elab.proofs.Placing.{position_get}
-use Rattle.lid_elab.proofs.Wired.{output_read, read_is_net}
+use Rattle.lid_wiring.proofs.Names.{position_get}
+use Rattle.lid_wiring.proofs.Wired.{output_read, read_is_net}
 use Rattle.lid_check.proofs.Numbered.{column_is, within}
 use Rattle.lid_strict.proofs.Covered.{got_among}
 
@@ -54,14 +53,14 @@ pub item_among : (names : List (List ℕ)) (i : ℕ) (name : List ℕ) → i < l
 item_among names i name h at = got_among names i name (slice_get_read names (length names) i name refl h at)
 
 -- an output of the root is a net of the root
-output_net : (d : Design) → IsWellFormed d → (order : List ℕ) → IsModelOrder d order → AreKnown d → ModelsPass d → (name : List ℕ) → Among name (root_outputs d) → Among name (model_nets d d.root)
-output_net d formed order ordered known pass name among = by (slice_get d.models d.root) refl among
+output_net : (d : Design) → IsJudged d → (name : List ℕ) → Among name (root_outputs d) → Among name (model_nets d d.root)
+output_net d judged name among = by (slice_get d.models d.root) refl among
   where
     by : (o : Option Model) → slice_get d.models d.root ≡ o → Among name (option_map_or (λ m. m.outputs) o []) → Among name (model_nets d d.root)
     by None e none = absurd none
     by (Some m) e out =
-        let read = output_read d formed order ordered known pass d.root (root_reached d) m e name out in
-        subst (λ (o : Option Model). Among name (option_map_or (nets d) o [])) (sym e) (read_is_net d formed order ordered known pass d.root (root_reached d) m e name read)
+        let read = output_read d judged d.root (root_reached d) m e name out in
+        subst (λ (o : Option Model). Among name (option_map_or (nets d) o [])) (sym e) (read_is_net d judged d.root (root_reached d) m e name read)
 
 has_place : (name : List ℕ) (names : List (List ℕ)) → Among name names → position (bytes_eq name) names ≡ None → ⊥
 has_place name names among = by (nat_lt (position_or_len (bytes_eq name) names) (length names)) refl
@@ -74,8 +73,8 @@ has_place name names among = by (nat_lt (position_or_len (bytes_eq name) names) 
         absurd (omega arith)
 
 -- an output of the root has a place
-pub output_placed : (d : Design) → IsWellFormed d → (order : List ℕ) → IsModelOrder d order → AreKnown d → ModelsPass d → (name : List ℕ) → Among name (root_outputs d) → position (bytes_eq name) (model_nets d d.root) ≡ None → ⊥
-output_placed d formed order ordered known pass name among = has_place name (model_nets d d.root) (output_net d formed order ordered known pass name among)
+pub output_placed : (d : Design) → IsJudged d → (name : List ℕ) → Among name (root_outputs d) → position (bytes_eq name) (model_nets d d.root) ≡ None → ⊥
+output_placed d judged name among = has_place name (model_nets d d.root) (output_net d judged name among)
 
 -- one more number, of one more name
 pub numbers_more : (d : Design) (count : ℕ) (names : List (List ℕ)) (i : ℕ) (name : List ℕ) (numbers new : List ℕ) (place : ℕ) → i < length names → name ≡ get_or names i name → AllByRecursion (λ k. k < count) numbers → map (column_at d) numbers ≡ map (column []) (take i names) → new ≡ numbers ++ place ∷ [] → place < count → column_at d place ≡ column [] name → AllByRecursion (λ k. k < count) new × (map (column_at d) new ≡ map (column []) (take (i + 1) names))

@@ -56,4 +56,3 @@ pub among-at : (xs : List ℕ) (i : ℕ) → i < length xs → Among (slice_inde
 among-at [] i h = absurd (omega arith)
 among-at (x ∷ xs) zero h = inl refl
 among-at (x ∷ xs) (suc i) h = inr (among-at xs i (omega arith))
-

@@ -7,7 +7,7 @@ use Rattle.lid_cover.specs.Cover.{cover_value}
 use Rattle.lid_design.specs.declared.Design.{Design}
 use Rattle.lid_design.specs.Network.{Driver, from_input, from_latch, from_cover, from_connection, Table, IsStrict, bit_of}
 use Rattle.lid_design.specs.Columns.{Column, drivers}
-use Rattle.lid_design.specs.Places.{columns}
+use Rattle.lid_design.specs.Elaboration.{columns}
 use Rattle.lid_design.specs.Walks.{Walk, WalksEnd, IsDriven, IsDrivenOnce, HasTable}
 use Rattle.lid_design.proofs.Tables.{has_table}
 use Rattle.lid_digraph.specs.Graphs.{IsOrder}
@@ -28,6 +28,17 @@ numbered_bit rows b col (suc t) (from_latch first input) = refl
 numbered_bit rows b col t (from_cover cover inputs) = ap (cover_value cover) (map_map (b t) col inputs)
 numbered_bit rows b col t (from_connection other) = refl
 
+-- where each driven column has one driver, none is driven twice
+pub once_by : {C : Type 0} (drivers : C → List (Driver C)) → ((c : C) → IsDriven drivers c → (s : Driver C) × (drivers c ≡ s ∷ [])) → IsDrivenOnce drivers
+once_by {C} drivers one c = by (drivers c) refl
+  where
+    by : (ss : List (Driver C)) → drivers c ≡ ss → length ss ≤ 1
+    by [] e = omega arith
+    by (s ∷ ss) e =
+        let driven : IsDriven drivers c = subst (λ (rs : List (Driver C)). 0 < length rs) (sym e) (omega arith) in
+        let long = ap length (sym e ∙ (one c driven).1) in
+        omega arith
+
 module _ (d : Design) (network : List (Driver ℕ)) (starts : List ℕ) (is : IsElaborated d network starts) where
   -- a strict table of the design is one of the numbered columns
   pub numbered : (rows : List (List Bool)) (b : Table Column) → IsStrict (drivers d) rows b → IsStrict (driver_of network) rows (λ t k. b t (column_at d k))
@@ -46,17 +57,10 @@ module _ (d : Design) (network : List (Driver ℕ)) (starts : List ℕ) (is : Is
       by (Some s) here = (one s here, tt)
 
   pub once : IsDrivenOnce (drivers d)
-  once c = by (drivers d c) refl
-    where
-      by : (ss : List (Driver Column)) → drivers d c ≡ ss → length ss ≤ 1
-      by [] e = omega arith
-      by (s ∷ ss) e =
-          let driven : IsDriven (drivers d) c = subst (λ (rs : List (Driver Column)). 0 < length rs) (sym e) (omega arith) in
-          let number = among_get (columns d) c (is.every c driven) in
-          let found = is.each number.0 c number.1 in
-          let same_list = sym e ∙ found.only in
-          let long = ap length same_list in
-          omega arith
+  once = once_by (drivers d) (λ c driven.
+      let number = among_get (columns d) c (is.every c driven) in
+      let found = is.each number.0 c number.1 in
+      (map_driver (column_at d) found.driver, found.only))
 
   pub ends : (order : List ℕ) → IsOrder (graph d network starts is) order → WalksEnd (drivers d) (suc (length network))
   ends order ordered c a w =

@@ -49,10 +49,6 @@ IsWhole p = AllByRecursion (IsThere p.reads.items p.cubes.items) p.steps.items
 abbrev pub in_order : List (Driver ℕ) → List ℕ → List (Driver ℕ)
 in_order network order = map (λ k. slice_index_or network k (from_input 0)) order
 
--- a list with items appended
-abbrev pub Extends : {A : Type 0} → List A → List A → Type 0
-Extends {A} xs ys = (more : List A) × (ys ≡ xs ++ more)
-
 -- a program gives what some network give, in an order in which each number stands after all that it
 -- reads
 pub record IsLaidOut (network : List (Driver ℕ)) (order : List ℕ) (p : Program) : Type 0 where

@@ -3,7 +3,7 @@
 ghost use Rattle.lid_base.specs.Lists.{Among};
 ghost use Rattle.lid_design.specs.declared.Design.{Design};
 ghost use Rattle.lid_design.specs.Columns.{Column, drivers};
-ghost use Rattle.lid_design.specs.Places.{columns};
+ghost use Rattle.lid_design.specs.Elaboration.{columns};
 ghost use Rattle.lid_design.specs.Walks.{IsDriven, HasTable, HasOneTable};
 ghost use Rattle.lid_design.specs.WellFormed.{IsWellFormed};
 ghost use Rattle.lid_check.specs.Acceptance.{IsAccepted};

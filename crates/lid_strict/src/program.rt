@@ -4,11 +4,12 @@
 ghost use Rattle.std.specs.Prelude.{◌≡◌, ◌<◌, ◌++◌, ◌∷◌, [], length, map, IfOk, OnOk};
 ghost use Rattle.std.specs.List.{AllByRecursion};
 ghost use Rattle.lid_elab.specs.Elaborations.{shown_driver};
+ghost use Rattle.lid_base.specs.Lists.{Extends};
 ghost use Rattle.lid_strict.specs.Networks.{HasCover};
-ghost use Rattle.lid_strict.specs.Programs.{shown_step, shown_program, in_order, Extends, IsThere, IsWhole};
+ghost use Rattle.lid_strict.specs.Programs.{shown_step, shown_program, in_order, IsThere, IsWhole};
 
-use lid_elab::ColumnDriver;
 use lid_cover::Cube;
+use lid_elab::ColumnDriver;
 use std::alloc::{AllocError, Global};
 
 /// Consecutive items of a flat array.
@@ -44,7 +45,11 @@ pub struct Program {
 }
 
 /// Lays out the drivers of some numbers, in their order.
-pub fn lay_out(alloc: Global, drivers: &[ColumnDriver<'_>], order: &[u32]) -> Result<Program, AllocError>
+pub fn lay_out(
+    alloc: Global,
+    drivers: &[ColumnDriver<'_>],
+    order: &[u32],
+) -> Result<Program, AllocError>
     requires covers { AllByRecursion (λ driver. HasCover (shown_driver driver)) drivers.now }
     requires below { AllByRecursion (λ k. k < length drivers.now) order.now }
     ensures whole { IfOk result IsWhole }

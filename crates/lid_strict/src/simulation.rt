@@ -13,8 +13,8 @@ ghost use Rattle.lid_strict.specs.Programs.{cover_of, shown_step, shown_program,
 
 use crate::program::{Program, Step, lay_out};
 use lid_base::Items;
-use lid_elab::ColumnDriver;
 use lid_cover::Cube;
+use lid_elab::ColumnDriver;
 use std::alloc::{AllocError, Global};
 use std::mem::swap;
 

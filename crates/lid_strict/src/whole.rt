@@ -3,7 +3,7 @@ ghost use Rattle.std.specs.List.{AllByRecursion};
 ghost use Rattle.std.specs.Str.{bytes_eq};
 ghost use Rattle.lid_base.specs.Lists.{Among};
 ghost use Rattle.lid_design.specs.Columns.{column, root_outputs, IsStrictOutput};
-ghost use Rattle.lid_design.specs.Places.{model_nets};
+ghost use Rattle.lid_design.specs.Elaboration.{model_nets};
 ghost use Rattle.lid_design.specs.WellFormed.{IsWellFormed};
 ghost use Rattle.lid_elab.specs.Elaborations.{shown_driver, column_at, IsElaborated};
 ghost use Rattle.lid_rules.specs.Acceptance.{ModelsPass};
@@ -13,11 +13,12 @@ ghost use Rattle.lid_strict.specs.Networks.{AreNumbersOf};
 use crate::simulation::simulate;
 use lid_base::{Items, Name, copy_names};
 use lid_check::Checked;
-use lid_elab::{Elaboration, elaborate, find_reads};
 use lid_design::Design;
+use lid_digraph::{Digraph, Found, find_order};
+use lid_elab::{Elaboration, elaborate, find_reads};
 use lid_hierarchy::{Survey, SurveyFault, find_uses, survey_models};
-use lid_digraph::{Found, find_order};
 use lid_texts::Rows;
+use lid_wiring::{Judged, judge};
 use std::alloc::{AllocError, Global};
 
 /// The strict outputs of an accepted design for input rows, by a plain simulation of all its
@@ -47,7 +48,8 @@ fn run(
     ensures { IfOk result (IsStrictOutput design.now rows.now) }
 {
     let survey = survey_passed(alloc, design)?;
-    run_survey(alloc, &survey, rows)
+    let judged = judge(survey);
+    run_judged(alloc, &judged, rows)
 }
 
 /// What is found of the models of a design that meets the conditions on models.
@@ -65,17 +67,18 @@ fn survey_passed<'d>(alloc: Global, design: &'d Design) -> Result<Survey<'d>, Al
 }
 
 /// The strict outputs of an accepted design for input rows, by what is found of its models.
-fn run_survey(
+fn run_judged(
     alloc: Global,
-    survey: &Survey<'_>,
+    judged: &Judged<'_>,
     rows: &[Items<bool>],
 ) -> Result<Items<Items<bool>>, AllocError>
-    requires { IsAccepted survey.now }
-    ensures { IfOk result (IsStrictOutput survey.now rows.now) }
+    requires { IsAccepted judged.now }
+    ensures { IfOk result (IsStrictOutput judged.now rows.now) }
 {
-    let columns = elaborate(alloc, survey)?;
-    let outs = number_outputs(alloc, survey, &columns)?;
-    run_columns(alloc, survey.design(), &columns, outs.as_slice(), rows)
+    let columns = elaborate(alloc, judged)?;
+    let outs = number_outputs(alloc, judged, &columns)?;
+    let design = judged.survey().design();
+    run_columns(alloc, design, &columns, outs.as_slice(), rows)
 }
 
 /// Runs the columns of an accepted design.
@@ -95,7 +98,10 @@ fn run_columns(
 {
     let drivers = columns.drivers.as_slice();
     let reads = find_reads(alloc, drivers)?;
-    match find_order(alloc, reads.as_slice())? {
+    let graph = Digraph {
+        reads: reads.as_slice(),
+    };
+    match find_order(alloc, &graph)? {
         Found::Order(order) => simulate(alloc, drivers, order.as_slice(), outs, rows),
         Found::Loop(_) => unreachable!(),
     }
@@ -104,30 +110,35 @@ fn run_columns(
 /// The numbers of the columns of the root's outputs, in order.
 fn number_outputs(
     alloc: Global,
-    survey: &Survey<'_>,
+    judged: &Judged<'_>,
     columns: &Elaboration<'_>,
 ) -> Result<Items<u32>, AllocError>
-    requires passed { ModelsPass survey.now }
-    requires elaborated { IsElaborated survey.now (map shown_driver columns.now.drivers) columns.now.starts }
+    requires elaborated { IsElaborated judged.now (map shown_driver columns.now.drivers) columns.now.starts }
     requires few { length columns.now.drivers ≤ 1048576 }
-    ensures { IfOk result (AreNumbersOf survey.now (length columns.now.drivers)) }
+    ensures { IfOk result (AreNumbersOf judged.now (length columns.now.drivers)) }
 {
-    let design = survey.design();
-    let root = &design.models.as_slice()[design.root as usize];
-    let mut numbers = Vec::with_capacity(alloc, root.outputs.len())?;
-    for name in root.outputs.as_slice() {
-        numbers.push(place_of(survey, name) as u32)?;
+    let outputs = outputs_of(judged);
+    let mut numbers = Vec::with_capacity(alloc, outputs.len())?;
+    for name in outputs {
+        numbers.push(place_of(judged, name) as u32)?;
     }
     Ok(Items::from_vec(numbers))
 }
 
-/// The place of an output of the root among the nets of the root.
-fn place_of(survey: &Survey<'_>, name: &Name) -> usize
-    requires passed { ModelsPass survey.now }
-    requires output { Among name.now (root_outputs survey.now) }
-    ensures { position (bytes_eq name.now) (model_nets survey.now survey.now.root) ≡ Some result }
+/// The outputs of the root.
+fn outputs_of<'j>(judged: &'j Judged<'_>) -> &'j [Name]
+    ensures { result.now ≡ root_outputs judged.now }
 {
-    let _ = survey.order();
+    let design = judged.survey().design();
+    design.models.as_slice()[design.root as usize].outputs.as_slice()
+}
+
+/// The place of an output of the root among the nets of the root.
+fn place_of(judged: &Judged<'_>, name: &Name) -> usize
+    requires { Among name.now (root_outputs judged.now) }
+    ensures { position (bytes_eq name.now) (model_nets judged.now judged.now.root) ≡ Some result }
+{
+    let survey = judged.survey();
     match survey.place_of(survey.design().root, name.as_slice()) {
         Some(place) => place,
         None => unreachable!(),

@@ -1,15 +1,16 @@
 -- What is read keeps within the limits, and each row is as wide as the columns.
-use Rattle.std.proofs.Common.{◌≡◌, ℕ, suc, ◌+◌, ◌*◌, ◌≤◌, ◌==◌, nat_lt, Bool, true, false, not, ◌||◌, if◌then◌else◌, List, [], ◌∷◌, ◌++◌, map, length, Option, Some, None, Result, Ok, refl, ◌∙◌, subst, add-one, length-append, arith}
+use Rattle.std.proofs.Common.{◌≡◌, ℕ, ◌+◌, ◌*◌, ◌<◌, ◌≤◌, ◌==◌, nat_lt, Bool, true, false, not, ◌||◌, if◌then◌else◌, List, [], ◌∷◌, ◌++◌, map, length, Option, Some, None, Result, Ok, Err, refl, sym, append_assoc, ap, ◌∙◌, subst, length-append, arith}
 use borrow.Author.Tests.{ltb-false, eqb-true}
-use Rattle.std.specs.List.{All, concat}
+use Rattle.std.specs.List.{All, AllByRecursion, concat, enumerate_from}
 use Rattle.std.proofs.lemmas.List.Elements.{All-push}
 use Rattle.std.proofs.Math.Nat.{mul-le-mul_right}
-use Rattle.std.proofs.lemmas.List.{length-map}
-use Rattle.lid_base.specs.Lines.{joins_of, physical_lines}
+use Rattle.std.proofs.lemmas.List.{length-map, append-nil}
+use Rattle.lid_base.specs.declared.which.Which.TheVariants.{FileBytes}
+use Rattle.lid_texts.specs.declared.rows.Rows.{Rows}
 use Rattle.lid_texts.specs.declared.rows.VecFault.{VecFault}
-use Rattle.lid_texts.specs.Rows.{RowsLine, has_words, rows_line, has_long_word, row_width, header_fault, row_fault, row_bits, bits_reading, rows_lines}
-use Rattle.lid_texts.specs.RowsWalk.{bits_after, or_refuse}
-use Rattle.lid_texts.proofs.Walking.{bits_after_first, not_zero}
+use Rattle.lid_texts.specs.declared.rows.VecFault.TheVariants.{Limit}
+use Rattle.lid_texts.specs.Rows.{RowsLine, has_long_word, row_width, row_fault, row_bits, first_some, line_faults, lines_fault, ok_unless, bits_reading, under_columns, rows_lines, rows_reading}
+use Rattle.lid_texts.proofs.Faulted.{IsFine, fine_of_none}
 
 -- what holds of the bits of rows
 pub record IsWithin (columns : List (List ℕ)) (outs : ℕ) (bits : List (List Bool)) : Type 0 where
@@ -50,58 +51,53 @@ row_fault_None columns outs k line h =
       wide = row_bits_width columns line (eqb-true (length (concat line.words)) (row_width columns) (or_false_both _ _ wide.0));
     }
 
-accepted : {A : Type 0} (fault : Option VecFault) (later : Result A VecFault) (a : A) → or_refuse fault later ≡ Ok a → (fault ≡ None) × (later ≡ Ok a)
-accepted None later a h = (refl, h)
-accepted (Some fault) later a h = cc
-
 Ok_inj : {A : Type 0} (a b : A) → ◌≡◌ {A = Result A VecFault} (Ok a) (Ok b) → a ≡ b
 Ok_inj a b h = cc
 
 module _ (columns : List (List ℕ)) (outs : ℕ) where
-  none-within : IsWithin columns outs []
-  none-within = record { wide = λ k d h. absurd (omega arith); few = omega arith; few_out_bits = omega arith }
+  none_within : IsWithin columns outs []
+  none_within = record { wide = λ k d h. absurd (omega arith); few = omega arith; few_out_bits = omega arith }
 
-  push_within : (k : ℕ) (done : List (List Bool)) (line : RowsLine) → length done ≤ k → IsWithin columns outs done →
-      IsSound columns outs (suc k) line → IsWithin columns outs (done ++ row_bits columns line ∷ [])
+  push_within : (k : ℕ) (done : List (List Bool)) (line : RowsLine) → length done < k → IsWithin columns outs done →
+      IsSound columns outs k line → IsWithin columns outs (done ++ row_bits columns line ∷ [])
   push_within k done line d w s =
-      let fits : length (done ++ row_bits columns line ∷ []) ≤ suc k = simp length-append (omega arith) in
+      let fits : length (done ++ row_bits columns line ∷ []) ≤ k = simp length-append (omega arith) in
       record {
         wide = All-push (λ row. length row ≡ length columns) done (row_bits columns line) w.wide s.wide;
         few = omega (arith, s.few);
         few_out_bits = omega (arith, mul-le-mul_right outs fits, s.few_out_bits);
       }
 
-  rows_within : (k : ℕ) (done : List (List Bool)) (lines : List RowsLine) (bits : List (List Bool)) →
-      length done ≤ k → IsWithin columns outs done → bits_after columns outs (suc k) done lines ≡ Ok bits → IsWithin columns outs bits
-  rows_within k done [] bits d w h =
-      subst (λ b. IsWithin columns outs b) (Ok_inj done bits (rw (not_zero (suc k) (omega arith)) at h)) w
-  rows_within k done (line ∷ lines) bits d w h =
+  -- rows from the k-th on, none of which is at fault
+  rows_within : (k : ℕ) (done : List (List Bool)) (lines : List RowsLine) → length done < k → IsWithin columns outs done →
+      AllByRecursion IsFine (map (λ (p : ℕ × RowsLine). row_fault columns outs p.0 p.1) (enumerate_from k lines)) → IsWithin columns outs (done ++ map (row_bits columns) lines)
+  rows_within k done [] d w all = subst (IsWithin columns outs) (sym (append-nil done)) w
+  rows_within k done (line ∷ lines) d w all =
       let row = row_bits columns line in
-      let later = bits_after columns outs (suc k + 1) (done ++ row ∷ []) lines in
-      elim (has_words line) as (λ b.
-      (if b then or_refuse (row_fault columns outs (suc k) line) later else bits_after columns outs (suc k) done lines) ≡ Ok bits
-      → IsWithin columns outs bits) [
-        | true ↦ λ t.
-            let a = accepted (row_fault columns outs (suc k) line) later bits t in
-            rows_within (suc k) (done ++ row ∷ []) lines bits (simp length-append (omega arith))
-            (push_within k done line d w (row_fault_None columns outs (suc k) line a.0)) (rw (add-one (suc k)) at a.1)
-        | false ↦ rows_within k done lines bits d w
-      ]
-      h
+      let more = push_within k done line d w (row_fault_None columns outs k line all.0) in
+      subst (IsWithin columns outs) (append_assoc done (row ∷ []) (map (row_bits columns) lines))
+      (rows_within (k + 1) (done ++ row ∷ []) lines (simp length-append (omega arith)) more all.1)
 
-  lines_within : (lines : List RowsLine) (bits : List (List Bool)) → bits_after columns outs 0 [] lines ≡ Ok bits → IsWithin columns outs bits
-  lines_within [] bits h = cc
-  lines_within (line ∷ lines) bits h =
-      elim (has_words line) as (λ b.
-      (if b then or_refuse (header_fault columns line) (bits_after columns outs 1 [] lines) else bits_after columns outs 0 [] lines) ≡ Ok bits
-      → IsWithin columns outs bits) [
-        | true ↦ λ t. rows_within 0 [] lines bits (omega arith) none-within (accepted (header_fault columns line) _ bits t).1
-        | false ↦ lines_within lines bits
-      ]
-      h
+  lines_within : (lines : List RowsLine) (bits : List (List Bool)) → bits_reading columns outs lines ≡ Ok bits → IsWithin columns outs bits
+  unfolding bits_reading
+  lines_within [] bits h = absurd (cc)
+  lines_within (line ∷ lines) bits h = by (lines_fault columns outs (line ∷ lines)) refl h
+    where
+      by : (o : Option VecFault) → lines_fault columns outs (line ∷ lines) ≡ o → ok_unless o (map (row_bits columns) lines) ≡ Ok bits → IsWithin columns outs bits
+      by (Some fault) e h = absurd (cc)
+      by None e h =
+          let all = fine_of_none (line_faults columns outs (line ∷ lines)) e in
+          subst (IsWithin columns outs) (Ok_inj (map (row_bits columns) lines) bits h) (rows_within 1 [] lines (omega arith) none_within all.1)
 
-  pub reading_within : (bytes : List ℕ) (bits : List (List Bool)) → bits_reading columns outs (rows_lines bytes) ≡ Ok bits → IsWithin columns outs bits
-  unfolding rows_lines
-  reading_within bytes bits h =
-      let lines = map rows_line (joins_of (physical_lines bytes)) in
-      lines_within lines bits (bits_after_first columns outs lines ∙ h)
+  pub reading_within : (bytes : List ℕ) (bits : List (List Bool)) → rows_reading columns outs bytes ≡ Ok (record { columns = columns; bits = bits }) → IsWithin columns outs bits
+  unfolding rows_reading
+  reading_within bytes bits h = by (nat_lt 67108864 (length bytes)) (bits_reading columns outs (rows_lines bytes)) refl h
+    where
+      bits_in : Result Rows VecFault → List (List Bool)
+      bits_in (Ok rows) = rows.bits
+      bits_in (Err fault) = []
+
+      by : (b : Bool) (r : Result (List (List Bool)) VecFault) → bits_reading columns outs (rows_lines bytes) ≡ r → (if b then Err (Limit FileBytes (length bytes)) else under_columns columns r) ≡ Ok (record { columns = columns; bits = bits }) → IsWithin columns outs bits
+      by true r e h = absurd (cc)
+      by false (Err fault) e h = absurd (cc)
+      by false (Ok all) e h = let same : all ≡ bits = (ap (λ (r : Result Rows VecFault). bits_in r) h) in lines_within (rows_lines bytes) bits (e ∙ ap Ok same)

@@ -90,11 +90,15 @@ first_some [] = None
 first_some (None ∷ options) = first_some options
 first_some (Some a ∷ options) = Some a
 
--- the fault of some logical lines, where they have one: the first is the header, the others are the rows
+-- what is at fault in each logical line: the first is the header, the others are the rows
+abbrev pub line_faults : List (List ℕ) → ℕ → List RowsLine → List (Option VecFault)
+line_faults columns outs [] = []
+line_faults columns outs (header ∷ rows) = header_fault columns header ∷ map (λ p. row_fault columns outs p.0 p.1) (enumerate_from 1 rows)
+
+-- the fault of some logical lines, where they have one; there is a header
 abbrev pub lines_fault : List (List ℕ) → ℕ → List RowsLine → Option VecFault
 lines_fault columns outs [] = Some Header
-lines_fault columns outs (header ∷ rows) =
-    first_some (header_fault columns header ∷ map (λ p. row_fault columns outs p.0 p.1) (enumerate_from 1 rows))
+lines_fault columns outs (header ∷ rows) = first_some (line_faults columns outs (header ∷ rows))
 
 abbrev pub ok_unless : {A : Type 0} → Option VecFault → A → Result A VecFault
 ok_unless None a = Ok a

@@ -1,37 +1,22 @@
--- The reading of a rows text from a line on, where the lines before it were read.
-use Rattle.std.specs.Prelude.{ℕ, zero, suc, ◌+◌, ◌==◌, Bool, false, ◌||◌, if◌then◌else◌, List, [], ◌∷◌, ◌++◌, length, map, Option, Some, None, Result, Ok, Err}
-use Rattle.std.specs.List.{enumerate_from}
-use Rattle.lid_base.specs.Lines.{joins_of, words_of, has_bad_byte, goes_on}
-use Rattle.lid_texts.specs.declared.walk.RowWalk.{RowWalk}
+-- What a scan of rows keeps, where these physical lines were read. This serves the scan alone.
+use Rattle.std.specs.Prelude.{◌≡◌, ◌≤◌, ◌<◌, ◌⊎◌, ◌^◌, ℕ, zero, suc, ◌+◌, ◌==◌, Bool, true, false, ◌||◌, if◌then◌else◌, List, [], ◌∷◌, ◌++◌, length, map, filter, Option, Some, None, is_some, Result, Ok, Err}
+use Rattle.std.specs.List.{AllByRecursion, enumerate_from}
+use Rattle.lid_base.specs.Lines.{words_of, has_bad_byte}
 use Rattle.lid_texts.specs.declared.rows.VecFault.{VecFault}
 use Rattle.lid_texts.specs.declared.rows.VecFault.TheVariants.{Header}
-use Rattle.lid_texts.specs.Rows.{RowsLine, rows_line, has_words, header_fault, row_fault, row_bits}
+use Rattle.lid_texts.specs.declared.walk.RowWalk.{RowWalk}
+use Rattle.lid_texts.specs.Rows.{RowsLine, rows_line, has_words, first_some, header_fault, row_fault, line_faults}
+use Rattle.lid_texts.specs.Scans.{split_joins, logical_of, sound_rows}
 
--- what is at fault in a logical line, where it comes after `judged` others
+-- what is at fault in a logical line, where it comes after so many others
 abbrev pub line_fault : List (List ℕ) → ℕ → ℕ → RowsLine → Option VecFault
 line_fault columns outs zero line = header_fault columns line
 line_fault columns outs (suc k) line = row_fault columns outs (suc k) line
 
--- the rows of a logical line: none of the first, one of each other
-abbrev pub line_rows : List (List ℕ) → ℕ → RowsLine → List (List Bool)
-line_rows columns zero line = []
-line_rows columns (suc k) line = row_bits columns line ∷ []
-
--- the rows of a join, which is no logical line where it has no words
-abbrev pub ended_rows : List (List ℕ) → ℕ → RowsLine → List (List Bool)
-ended_rows columns judged line = if has_words line then line_rows columns judged line else []
-
-abbrev pub or_refuse : {A : Type 0} → Option VecFault → Result A VecFault → Result A VecFault
-or_refuse None later = later
-or_refuse (Some fault) later = Err fault
-
--- what is read, where `judged` logical lines gave the rows `done`, and these lines are left
-abbrev pub bits_after : List (List ℕ) → ℕ → ℕ → List (List Bool) → List RowsLine → Result (List (List Bool)) VecFault
-bits_after columns outs judged done [] = if judged == 0 then Err Header else Ok done
-bits_after columns outs judged done (line ∷ lines) =
-    if has_words line
-    then or_refuse (line_fault columns outs judged line) (bits_after columns outs (judged + 1) (done ++ line_rows columns judged line) lines)
-    else bits_after columns outs judged done lines
+-- a fault as it is kept: it is the fault where a u32 has the number of its line
+pub record IsKept (line : ℕ) (kept fault : Option VecFault) : Type 0 where
+  pub some : is_some kept ≡ is_some fault
+  pub same : line < 2 ^ 32 → kept ≡ fault
 
 -- a line and its continuation; the number 0 stands for no line yet
 abbrev pub joined : RowsLine → RowsLine → RowsLine
@@ -41,11 +26,6 @@ joined line more = record {
   bad = line.bad || more.bad;
 }
 
--- the first of the lines continues this one
-abbrev pub continued : RowsLine → List RowsLine → List RowsLine
-continued line [] = line ∷ []
-continued line (more ∷ lines) = joined line more ∷ lines
-
 -- a physical line as a logical line of its own
 abbrev pub alone : ℕ → List ℕ → RowsLine
 alone number line = record { number = number; words = words_of line; bad = has_bad_byte line }
@@ -53,17 +33,50 @@ alone number line = record { number = number; words = words_of line; bad = has_b
 abbrev pub no_line : RowsLine
 no_line = record { number = 0; words = []; bad = false }
 
--- what is read, where the lines of the walk were read and gave the rows `done`, and these physical lines are left
-unfoldable pub walk_after : List (List ℕ) → ℕ → RowWalk → List (List Bool) → List (List ℕ) → Result (List (List Bool)) VecFault
-walk_after columns outs walk done rest =
-    bits_after columns outs walk.judged done (continued walk.begun (map rows_line (joins_of (enumerate_from walk.number rest))))
+-- a join as a logical line, which it is only where it has words
+abbrev pub if_logical : RowsLine → List RowsLine
+if_logical line = filter has_words (line ∷ [])
 
--- the rows that end with this physical line
-abbrev pub taken_rows : List (List ℕ) → RowWalk → List ℕ → List (List Bool)
-taken_rows columns walk line =
-    if goes_on line then [] else ended_rows columns walk.judged (joined walk.begun (alone walk.number line))
+-- the logical line that still goes on
+abbrev pub begun_of : List (List ℕ) → RowsLine
+begun_of lines = rows_line (split_joins (enumerate_from 1 lines)).begun
 
--- the most lines that are left
-abbrev pub lines_at_most : Option (List ℕ) → ℕ
-lines_at_most None = 0
-lines_at_most (Some rest) = length rest + 1
+-- the logical lines of physical lines, where this is the last
+abbrev pub with_last : List (List ℕ) → List ℕ → List RowsLine
+with_last lines line = logical_of lines ++ if_logical (joined (begun_of lines) (alone (length lines + 1) line))
+
+-- the rows of some logical lines were appended, where those of the first of them had been
+pub record RowsGrow (columns : List (List ℕ)) (outs : ℕ) (lines more : List RowsLine) (old new : List (List Bool)) : Type 0 where
+  pub rows : List (List Bool)
+  pub appended : new ≡ old ++ rows
+  pub all : sound_rows columns outs more ≡ sound_rows columns outs lines ++ rows
+
+-- these logical lines were judged, and none is at fault
+pub record AreSound (columns : List (List ℕ)) (outs : ℕ) (lines : List RowsLine) (walk : RowWalk) : Type 0 where
+  pub none : walk.fault ≡ None
+  pub judged : walk.judged ≡ length lines
+  pub few : length lines ≤ 1000001
+  pub sound : AllByRecursion (λ fault. fault ≡ None) (line_faults columns outs lines)
+
+-- one of these logical lines is at fault, and stands among the first `number` physical lines
+pub record IsFaulty (columns : List (List ℕ)) (outs number : ℕ) (lines : List RowsLine) (walk : RowWalk) : Type 0 where
+  pub some : is_some walk.fault ≡ true
+  pub kept : IsKept number walk.fault (first_some (line_faults columns outs lines))
+
+abbrev pub AreJudged : List (List ℕ) → ℕ → ℕ → List RowsLine → RowWalk → Type 0
+AreJudged columns outs number lines walk = AreSound columns outs lines walk ⊎ IsFaulty columns outs number lines walk
+
+-- these physical lines were read, and no logical line that has ended is at fault
+pub record Goes (columns : List (List ℕ)) (outs : ℕ) (lines : List (List ℕ)) (walk : RowWalk) : Type 0 where
+  pub number : walk.number ≡ length lines
+  pub begun : walk.begun ≡ begun_of lines
+  pub sound : AreSound columns outs (logical_of lines) walk
+
+abbrev pub IsWalked : List (List ℕ) → ℕ → List (List ℕ) → RowWalk → Type 0
+IsWalked columns outs lines walk = Goes columns outs lines walk ⊎ IsFaulty columns outs (length lines) (logical_of lines) walk
+
+-- how many rows there are, where so many logical lines were judged and this fault was found
+abbrev pub counted : Option VecFault → ℕ → Result ℕ VecFault
+counted (Some fault) judged = Err fault
+counted None zero = Err Header
+counted None (suc rows) = Ok rows

@@ -4,9 +4,11 @@
 mod line;
 mod reader;
 mod rows;
+mod scan;
 mod walk;
 mod writer;
 
 pub use reader::read_rows;
 pub use rows::{Rows, VecFault};
+pub use scan::RowScan;
 pub use writer::print_rows;

@@ -1,10 +1,10 @@
 //! The logical lines of a rows text: what is at fault in one, and the bits of one.
 
-ghost use Rattle.std.specs.Prelude.{◌≡◌, ◌==◌, nat_eq, length, map, IfOk, OnOk, ◌++◌, ◌∷◌, []};
+ghost use Rattle.std.specs.Prelude.{◌≡◌, ◌==◌, ◌<◌, ◌^◌, nat_eq, ◌≤◌, None, length, map, IfOk, OnOk, ◌++◌, ◌∷◌, []};
 ghost use Rattle.std.specs.List.{concat, list_any};
 ghost use Rattle.std.specs.Cmp.Lexicographic.{pointwise};
-ghost use Rattle.lid_texts.specs.Rows.{is_any, is_header, has_long_word, is_row_char, is_stray_word, row_width, header_fault, row_fault, row_bits};
-ghost use Rattle.lid_texts.specs.RowsWalk.{line_fault, joined, alone, no_line};
+ghost use Rattle.lid_texts.specs.Rows.{has_words, is_any, is_header, has_long_word, is_row_char, is_stray_word, row_width, header_fault, row_fault, row_bits};
+ghost use Rattle.lid_texts.specs.RowsWalk.{line_fault, joined, alone, no_line, IsKept};
 
 use crate::rows::VecFault;
 use lid_base::{Items, Name, Which, has_bad_byte, push_words};
@@ -24,7 +24,7 @@ const MOST_WORD_BYTES: usize = 1_048_576;
 /// is none yet, its words so far, and whether it has a bad byte.
 #[derive(Drop)]
 pub(crate) struct BegunLine {
-    pub(crate) number: u32,
+    pub(crate) number: u64,
     pub(crate) words: Vec<Name>,
     pub(crate) bad: bool,
 }
@@ -49,8 +49,16 @@ impl BegunLine {
         }
     }
 
+    /// Whether it has a word; else it is no logical line.
+    pub(crate) fn has_words(&self) -> bool
+        ensures { result ≡ has_words self.now }
+    {
+        let words = self.words.as_slice();
+        words.len() > 0
+    }
+
     /// Adds a physical line.
-    pub(crate) fn add(&mut self, alloc: Global, number: u32, line: &[u8]) -> Result<(), AllocError>
+    pub(crate) fn add(&mut self, alloc: Global, number: u64, line: &[u8]) -> Result<(), AllocError>
         ensures { OnOk result (self.new ≡ joined self.old (alone number line.now)) }
     {
         push_words(alloc, line, &mut self.words)?;
@@ -165,14 +173,28 @@ fn has_stray_char(columns: &[Name], words: &[Name]) -> bool
         .any(|word| is_stray_word(columns, word.as_slice()))
 }
 
+/// The number of a line, as it is told. A text with so many lines that this is another one is too
+/// long, and its lines are not told.
+fn told_number(number: u64) -> u32
+    ensures { number < 2 ^ 32 → result ≡ number }
+{
+    if number > u64::from(u32::MAX) {
+        u32::MAX
+    } else {
+        number as u32
+    }
+}
+
 /// What is at fault in the header.
 #[tactic(auto, unfolding(crate::specs::Rows::header_fault))]
 fn header_fault(columns: &[Name], line: &BegunLine) -> Option<VecFault>
-    ensures { result ≡ header_fault columns.now line.now }
+    ensures { IsKept line.now.number result (header_fault columns.now line.now) }
 {
     let words = line.words.as_slice();
     if line.bad {
-        return Some(VecFault::Char { line: line.number });
+        return Some(VecFault::Char {
+            line: told_number(line.number),
+        });
     }
     if has_long_word(words) || !is_header(columns, words) {
         return Some(VecFault::Header);
@@ -183,12 +205,15 @@ fn header_fault(columns: &[Name], line: &BegunLine) -> Option<VecFault>
 /// What is at fault in a row, the k-th, counted from 1.
 #[tactic(auto, unfolding(crate::specs::Rows::row_fault))]
 fn row_fault(columns: &[Name], outs: u32, k: u32, line: &BegunLine) -> Option<VecFault>
-    ensures { result ≡ row_fault columns.now outs k line.now }
+    ensures kept { IsKept line.now.number result (row_fault columns.now outs k line.now) }
+    ensures few { result ≡ None → k ≤ 1000000 }
 {
     let words = line.words.as_slice();
     let out_bits = u64::from(k) * u64::from(outs);
     if line.bad {
-        return Some(VecFault::Char { line: line.number });
+        return Some(VecFault::Char {
+            line: told_number(line.number),
+        });
     }
     if k > MOST_ROWS {
         return Some(VecFault::Limit {
@@ -203,10 +228,14 @@ fn row_fault(columns: &[Name], outs: u32, k: u32, line: &BegunLine) -> Option<Ve
         });
     }
     if has_long_word(words) || !has_width(words, row_width(columns)) {
-        return Some(VecFault::Width { line: line.number });
+        return Some(VecFault::Width {
+            line: told_number(line.number),
+        });
     }
     if has_stray_char(columns, words) {
-        return Some(VecFault::Char { line: line.number });
+        return Some(VecFault::Char {
+            line: told_number(line.number),
+        });
     }
     None
 }
@@ -218,7 +247,8 @@ pub(crate) fn line_fault(
     judged: u32,
     line: &BegunLine,
 ) -> Option<VecFault>
-    ensures { result ≡ line_fault columns.now outs judged line.now }
+    ensures kept { IsKept line.now.number result (line_fault columns.now outs judged line.now) }
+    ensures few { result ≡ None → judged ≤ 1000000 }
 {
     if judged == 0 {
         header_fault(columns, line)

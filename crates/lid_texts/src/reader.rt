@@ -1,38 +1,45 @@
 //! The reading of a rows text.
 
-ghost use Rattle.std.specs.Prelude.{◌≡◌, ◌*◌, ◌≤◌, ◌⊎◌, length, IfOk, IfErr};
-ghost use Rattle.lid_texts.specs.Rows.{IsWide, bits_reading, rows_lines, rows_reading};
+ghost use Rattle.std.specs.Prelude.{◌≡◌, ◌*◌, ◌≤◌, ◌⊎◌, Ok, Err, List, ℕ, [], length, IfOk, IfErr, OnOk};
+ghost use Rattle.lid_texts.specs.Rows.{IsWide, rows_reading};
+ghost use Rattle.lid_texts.specs.Scanned.{HasRead};
 
 use crate::rows::{Rows, VecFault};
-use crate::walk::RowWalk;
-use lid_base::{Items, Name, Which, copy_names, cut_line};
+use crate::scan::RowScan;
+use lid_base::{Items, Name, copy_names};
 use std::alloc::Global;
 
-/// The most bytes of a rows text.
-const MOST_BYTES: usize = 67_108_864;
+/// Reads the bits of a text in one piece.
+fn scan_all(scan: &mut RowScan, bytes: &[u8], into: &mut Vec<Items<bool>>) -> Result<(), VecFault>
+    requires read { HasRead scan.old [] }
+    requires none { into.old.items ≡ [] }
+    ensures ok { OnOk result (rows_reading scan.old.columns scan.old.outs bytes.now ≡ Ok (record { columns = scan.old.columns; bits = into.new.items })) }
+    ensures err { IfErr result (λ e. (e ≡ VecFault.Memory) ⊎ (rows_reading scan.old.columns scan.old.outs bytes.now ≡ Err e)) }
+{
+    let Ok(()) = scan.feed(bytes, into) else {
+        return Err(VecFault::Memory);
+    };
+    match scan.finish(into) {
+        Ok(_) => Ok(()),
+        Err(fault) => Err(fault),
+    }
+}
 
-/// The bits of the rows of a text that is not too long.
+/// The bits of the rows of a text.
 fn read_bits(
     alloc: Global,
     bytes: &[u8],
     columns: &[Name],
     outs: u32,
 ) -> Result<Items<Items<bool>>, VecFault>
-    requires { length bytes.now ≤ 67108864 }
-    ensures ok { IfOk result (λ bits. bits_reading columns.now outs (rows_lines bytes.now) ≡ Ok bits) }
-    ensures err { IfErr result (λ e. (e ≡ VecFault.Memory) ⊎ (bits_reading columns.now outs (rows_lines bytes.now) ≡ Err e)) }
+    ensures ok { IfOk result (λ bits. rows_reading columns.now outs bytes.now ≡ Ok (record { columns = columns.now; bits = bits })) }
+    ensures err { IfErr result (λ e. (e ≡ VecFault.Memory) ⊎ (rows_reading columns.now outs bytes.now ≡ Err e)) }
 {
-    let mut walk = RowWalk::new(alloc);
+    let Ok(mut scan) = RowScan::start(alloc, columns, outs) else {
+        return Err(VecFault::Memory);
+    };
     let mut bits = Vec::new(alloc);
-    let mut left = Some(bytes);
-    while let Some(rest) = left {
-        let (line, after) = cut_line(rest);
-        if let Err(fault) = walk.take_line(alloc, columns, outs, line, &mut bits) {
-            return Err(fault);
-        }
-        left = after;
-    }
-    match walk.finish(alloc, columns, outs, &mut bits) {
+    match scan_all(&mut scan, bytes, &mut bits) {
         Ok(()) => Ok(Items::from_vec(bits)),
         Err(fault) => Err(fault),
     }
@@ -48,22 +55,14 @@ fn read_bits(
 /// `Limit` of `FileBytes`, with the length of the text, comes first of all. Then the first logical
 /// line that is at fault is told; on one line a bad byte comes first, as `Char`. A text without
 /// logical lines is `Header`. `Memory` may come at any text.
-#[tactic(auto, unfolding(crate::specs::Rows::rows_reading))]
 pub fn read_rows(alloc: Global, bytes: &[u8], columns: &[Name], outs: u32) -> Result<Rows, VecFault>
     ensures ok { IfOk result (λ rows. rows_reading columns.now outs bytes.now ≡ Ok rows) }
     ensures err { IfErr result (λ e. (e ≡ VecFault.Memory) ⊎ (rows_reading columns.now outs bytes.now ≡ Err e)) }
-
     ensures columns { IfOk result (λ rows. rows.columns ≡ columns.now) }
     ensures wide { IfOk result IsWide }
     ensures few { IfOk result (λ rows. length rows.bits ≤ 1000000) }
     ensures few_out_bits { IfOk result (λ rows. length rows.bits * outs ≤ 67108864) }
 {
-    if bytes.len() > MOST_BYTES {
-        return Err(VecFault::Limit {
-            which: Which::FileBytes,
-            count: bytes.len() as u64,
-        });
-    }
     let bits = match read_bits(alloc, bytes, columns, outs) {
         Ok(bits) => bits,
         Err(fault) => return Err(fault),

@@ -1,8 +1,9 @@
 //! The reading of rows, one physical line after another.
 
-ghost use Rattle.std.specs.Prelude.{◌≡◌, ◌+◌, ◌≤◌, ◌<◌, ◌⊎◌, ◌++◌, ◌∷◌, [], List, ℕ, IfOk, OnOk, OnErr, IfErr};
+ghost use Rattle.std.specs.Prelude.{◌≡◌, ◌+◌, ◌≤◌, ◌<◌, ◌^◌, ◌++◌, ◌∷◌, ◌⊎◌, ℕ, List, [], true, None, is_some, length, OnOk, OnErr};
 ghost use Rattle.lid_texts.specs.Rows.{RowsLine, row_bits};
-ghost use Rattle.lid_texts.specs.RowsWalk.{bits_after, walk_after, ended_rows, taken_rows, no_line};
+ghost use Rattle.lid_texts.specs.Scans.{logical_of};
+ghost use Rattle.lid_texts.specs.RowsWalk.{if_logical, with_last, no_line, RowsGrow, AreSound, AreJudged, Goes, IsWalked, counted};
 
 use crate::line::{BegunLine, line_fault, row_bits};
 use crate::rows::VecFault;
@@ -10,70 +11,76 @@ use lid_base::{Items, Name, goes_on};
 use std::alloc::{AllocError, Global};
 use std::mem;
 
-/// What is known of the lines read so far: the number of the next physical line, how many logical
-/// lines were judged, and the logical line that was begun.
+/// What is known of the physical lines so far: how many there are, how many logical lines were judged, the logical line that was begun, and the fault of the first that is at fault. After
+/// a fault no further line is looked at.
 #[derive(Drop)]
 pub(crate) struct RowWalk {
-    number: u32,
-    judged: u32,
-    begun: BegunLine,
+    pub(crate) number: u64,
+    pub(crate) judged: u32,
+    pub(crate) begun: BegunLine,
+    pub(crate) fault: Option<VecFault>,
 }
 
-/// Appends the row of a line.
+/// Appends the row of a line; the first line has none.
 fn push_row(
     alloc: Global,
     columns: &[Name],
-    line: &BegunLine,
-    into: &mut Vec<Items<bool>>,
-) -> Result<(), AllocError>
-    ensures ok { OnOk result (into.new.items ≡ into.old.items ++ row_bits columns.now line.now ∷ []) }
-    ensures err { OnErr result (into.new.items ≡ into.old.items) }
-{
-    into.push(row_bits(alloc, columns, line)?)?;
-    Ok(())
-}
-
-/// Judges a line that has ended, where it comes after `judged` others, and appends its row. It
-/// answers how many lines are judged then.
-fn judge_line(
-    alloc: Global,
-    columns: &[Name],
-    outs: u32,
     judged: u32,
     line: &BegunLine,
     into: &mut Vec<Items<bool>>,
-) -> Result<u32, VecFault>
-    requires { judged < 4294967295 }
-    ensures ok { IfOk result (λ n. (lines : List RowsLine) →
-        bits_after columns.now outs n into.new.items lines ≡ bits_after columns.now outs judged into.old.items (line.now ∷ lines)) }
-    ensures err { IfErr result (λ e. (e ≡ VecFault.Memory)
-        ⊎ ((lines : List RowsLine) → bits_after columns.now outs judged into.old.items (line.now ∷ lines) ≡ Err e)) }
-    ensures most { IfOk result (λ n. n ≤ judged + 1) }
-    ensures appends { OnOk result (into.new.items ≡ into.old.items ++ ended_rows columns.now judged line.now) }
+) -> Result<(), AllocError>
+    ensures first { judged ≡ 0 → into.new.items ≡ into.old.items }
+    ensures row { 0 < judged → OnOk result (into.new.items ≡ into.old.items ++ row_bits columns.now line.now ∷ []) }
     ensures kept { OnErr result (into.new.items ≡ into.old.items) }
 {
-    if line.words.is_empty() {
-        return Ok(judged);
+    if judged == 0 {
+        return Ok(());
     }
-    if let Some(fault) = line_fault(columns, outs, judged, line) {
-        return Err(fault);
-    }
-    if judged > 0 && push_row(alloc, columns, line, into).is_err() {
-        return Err(VecFault::Memory);
-    }
-    Ok(judged + 1)
+    into.push(row_bits(alloc, columns, line)?)?;
+    Ok(())
 }
 
 impl RowWalk {
     /// Before the first line.
     pub(crate) fn new(alloc: Global) -> RowWalk
-        ensures { result ≡ record { number = 1; judged = 0; begun = no_line } }
+        ensures { result ≡ record { number = 0; judged = 0; begun = no_line; fault = None } }
     {
         RowWalk {
-            number: 1,
+            number: 0,
             judged: 0,
             begun: BegunLine::new(alloc),
+            fault: None,
         }
+    }
+
+    /// Judges a line that has ended, and appends its row or keeps its fault.
+    fn judge(
+        &mut self,
+        alloc: Global,
+        columns: &[Name],
+        outs: u32,
+        line: &BegunLine,
+        into: &mut Vec<Items<bool>>,
+    ) -> Result<(), AllocError>
+        ensures judged { (lines : List RowsLine) → AreSound columns.now outs lines self.old
+            → OnOk result (AreJudged columns.now outs line.now.number (lines ++ if_logical line.now) self.new) }
+        ensures rows { (lines : List RowsLine) → AreSound columns.now outs lines self.old
+            → OnOk result (RowsGrow columns.now outs lines (lines ++ if_logical line.now) into.old.items into.new.items) }
+        ensures kept { OnErr result (into.new.items ≡ into.old.items) }
+        ensures refused { (is_some self.new.fault ≡ true) ⊎ (self.new.judged ≡ 0) → into.new.items ≡ into.old.items }
+        ensures number { self.new.number ≡ self.old.number }
+        ensures begun { self.new.begun ≡ self.old.begun }
+    {
+        if !line.has_words() {
+            return Ok(());
+        }
+        self.fault = line_fault(columns, outs, self.judged, line);
+        if self.fault.is_some() {
+            return Ok(());
+        }
+        push_row(alloc, columns, self.judged, line, into)?;
+        self.judged = self.judged.saturating_add(1);
+        Ok(())
     }
 
     /// Ends the line that was begun.
@@ -83,28 +90,18 @@ impl RowWalk {
         columns: &[Name],
         outs: u32,
         into: &mut Vec<Items<bool>>,
-    ) -> Result<(), VecFault>
-        requires { self.old.judged < 4294967295 }
-        ensures ok { OnOk result ((lines : List RowsLine) →
-            bits_after columns.now outs self.new.judged into.new.items lines
-            ≡ bits_after columns.now outs self.old.judged into.old.items (self.old.begun ∷ lines)) }
-        ensures err { IfErr result (λ e. (e ≡ VecFault.Memory)
-            ⊎ ((lines : List RowsLine) →
-            bits_after columns.now outs self.old.judged into.old.items (self.old.begun ∷ lines) ≡ Err e)) }
-        ensures most { self.new.judged ≤ self.old.judged + 1 }
-        ensures begun { self.new.begun ≡ no_line }
-        ensures number { self.new.number ≡ self.old.number }
-        ensures appends { OnOk result (into.new.items ≡ into.old.items ++ ended_rows columns.now self.old.judged self.old.begun) }
+    ) -> Result<(), AllocError>
+        ensures judged { (lines : List RowsLine) → AreSound columns.now outs lines self.old
+            → OnOk result (AreJudged columns.now outs self.old.begun.number (lines ++ if_logical self.old.begun) self.new) }
+        ensures rows { (lines : List RowsLine) → AreSound columns.now outs lines self.old
+            → OnOk result (RowsGrow columns.now outs lines (lines ++ if_logical self.old.begun) into.old.items into.new.items) }
         ensures kept { OnErr result (into.new.items ≡ into.old.items) }
+        ensures refused { (is_some self.new.fault ≡ true) ⊎ (self.new.judged ≡ 0) → into.new.items ≡ into.old.items }
+        ensures number { self.new.number ≡ self.old.number }
+        ensures begun { self.new.begun ≡ no_line }
     {
         let line = mem::replace(&mut self.begun, BegunLine::new(alloc));
-        match judge_line(alloc, columns, outs, self.judged, &line, into) {
-            Ok(judged) => {
-                self.judged = judged;
-                Ok(())
-            }
-            Err(fault) => Err(fault),
-        }
+        self.judge(alloc, columns, outs, &line, into)
     }
 
     /// Takes the next physical line, and appends the row that ends with it.
@@ -115,52 +112,52 @@ impl RowWalk {
         outs: u32,
         line: &[u8],
         into: &mut Vec<Items<bool>>,
-    ) -> Result<(), VecFault>
-        requires numbered { 1 ≤ self.old.number }
-        requires fits { self.old.number < 4294967295 }
-        requires judged { self.old.judged < self.old.number }
-        ensures ok { OnOk result ((rest : List (List ℕ)) →
-            walk_after columns.now outs self.new into.new.items rest
-            ≡ walk_after columns.now outs self.old into.old.items (line.now ∷ rest)) }
-        ensures err { IfErr result (λ e. (e ≡ VecFault.Memory)
-            ⊎ ((rest : List (List ℕ)) →
-            walk_after columns.now outs self.old into.old.items (line.now ∷ rest) ≡ Err e)) }
-        ensures number { OnOk result (self.new.number ≡ self.old.number + 1) }
-        ensures judged { OnOk result (self.new.judged ≤ self.old.judged + 1) }
-        ensures appends { OnOk result (into.new.items ≡ into.old.items ++ taken_rows columns.now self.old line.now) }
+    ) -> Result<(), AllocError>
+        ensures walked { (lines : List (List ℕ)) → length lines + 1 < 2 ^ 64 → Goes columns.now outs lines self.old
+            → OnOk result (IsWalked columns.now outs (lines ++ line.now ∷ []) self.new) }
+        ensures rows { (lines : List (List ℕ)) → length lines + 1 < 2 ^ 64 → Goes columns.now outs lines self.old
+            → OnOk result (RowsGrow columns.now outs (logical_of lines) (logical_of (lines ++ line.now ∷ [])) into.old.items into.new.items) }
         ensures kept { OnErr result (into.new.items ≡ into.old.items) }
     {
-        let Ok(()) = self.begun.add(alloc, self.number, line) else {
-            return Err(VecFault::Memory);
-        };
-        self.number += 1;
+        self.number = self.number.saturating_add(1);
+        self.begun.add(alloc, self.number, line)?;
         if goes_on(line) {
             return Ok(());
         }
         self.end_line(alloc, columns, outs, into)
     }
 
-    /// Takes the end of the text, and appends the row that ends with it.
-    pub(crate) fn finish(
+    /// Takes the last physical line, with which its logical line ends, and appends its row.
+    pub(crate) fn take_last(
         &mut self,
         alloc: Global,
         columns: &[Name],
         outs: u32,
+        line: &[u8],
         into: &mut Vec<Items<bool>>,
-    ) -> Result<(), VecFault>
-        requires { self.old.judged < 4294967295 }
-        ensures ok { OnOk result (walk_after columns.now outs self.old into.old.items [] ≡ Ok into.new.items) }
-        ensures err { IfErr result (λ e. (e ≡ VecFault.Memory) ⊎ (walk_after columns.now outs self.old into.old.items [] ≡ Err e)) }
+    ) -> Result<(), AllocError>
+        ensures judged { (lines : List (List ℕ)) → length lines + 1 < 2 ^ 64 → Goes columns.now outs lines self.old
+            → OnOk result (AreJudged columns.now outs (length lines + 1) (with_last lines line.now) self.new) }
+        ensures rows { (lines : List (List ℕ)) → length lines + 1 < 2 ^ 64 → Goes columns.now outs lines self.old
+            → OnOk result (RowsGrow columns.now outs (logical_of lines) (with_last lines line.now) into.old.items into.new.items) }
+        ensures kept { OnErr result (into.new.items ≡ into.old.items) }
+        ensures refused { (is_some self.new.fault ≡ true) ⊎ (self.new.judged ≡ 0) → into.new.items ≡ into.old.items }
     {
-        match self.end_line(alloc, columns, outs, into) {
-            Err(fault) => Err(fault),
-            Ok(()) => {
-                if self.judged == 0 {
-                    Err(VecFault::Header)
-                } else {
-                    Ok(())
-                }
-            }
+        self.number = self.number.saturating_add(1);
+        self.begun.add(alloc, self.number, line)?;
+        self.end_line(alloc, columns, outs, into)
+    }
+
+    /// How many rows there are at the end of the text, or the fault of the first line that has one.
+    pub(crate) fn count(&self) -> Result<u64, VecFault>
+        ensures { result ≡ counted self.now.fault self.now.judged }
+    {
+        if let Some(fault) = self.fault {
+            return Err(fault);
         }
+        if self.judged == 0 {
+            return Err(VecFault::Header);
+        }
+        Ok(u64::from(self.judged) - 1)
     }
 }

@@ -7,3 +7,5 @@ mod base;
 mod numbers;
 #[cfg(test)]
 mod rows;
+#[cfg(test)]
+mod scan;

@@ -5,9 +5,9 @@ use lid_texts::{Rows, VecFault, print_rows, read_rows};
 use std::alloc::{AllocError, Global};
 
 /// What is told of a text: the name of its fault, with the line or the count.
-type Told = (&'static str, u64);
+pub(crate) type Told = (&'static str, u64);
 
-const NO_FAULT: Told = ("", 0);
+pub(crate) const NO_FAULT: Told = ("", 0);
 
 fn told_limit(which: Which, count: u64) -> Told {
     match which {
@@ -18,7 +18,7 @@ fn told_limit(which: Which, count: u64) -> Told {
     }
 }
 
-fn told(fault: VecFault) -> Told {
+pub(crate) fn told(fault: VecFault) -> Told {
     match fault {
         VecFault::Header => ("Header", 0),
         VecFault::Width { line } => ("Width", u64::from(line)),
@@ -30,7 +30,7 @@ fn told(fault: VecFault) -> Told {
 }
 
 /// The names of these one-letter columns.
-fn columns(alloc: Global, letters: &[u8]) -> Result<Vec<Name>, AllocError> {
+pub(crate) fn columns(alloc: Global, letters: &[u8]) -> Result<Vec<Name>, AllocError> {
     let mut names = Vec::new(alloc);
     for letter in letters {
         let name = Vec::from_slice(alloc, &[*letter])?;
@@ -137,7 +137,7 @@ fn faults_are_told(rt: HostRuntime) {
 }
 
 /// A text that has a header `-` and rows `-`.
-fn rows_without_columns(alloc: Global, rows: u32) -> Result<Vec<u8>, AllocError> {
+pub(crate) fn rows_without_columns(alloc: Global, rows: u32) -> Result<Vec<u8>, AllocError> {
     let mut text = Vec::from_slice(alloc, b"-\n")?;
     for _ in 0..rows {
         text.extend_from_slice(b"-\n")?;

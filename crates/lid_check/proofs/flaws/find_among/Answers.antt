@@ -2,25 +2,19 @@ use Rattle.std.proofs.Common.{◌≡◌, List, ℕ, Option, map, length, sym, su
 use Rattle.std.proofs.lemmas.List.{length-map}
 use Rattle.lid_digraph.specs.Graphs.{IsGraph, HasNoLoop}
 use Rattle.lid_digraph.specs.Results.{IsFound, IsLeastOnLoop}
-use Rattle.lid_digraph.specs.declared.finding.Found.{Found}
-use Rattle.lid_digraph.specs.declared.finding.Found.TheVariants.{Order, Loop}
+use Rattle.lid_digraph.specs.declared.topological.Found.{Found}
+use Rattle.lid_digraph.specs.declared.topological.Found.TheVariants.{Order, Loop}
 use Rattle.lid_elab.specs.Elaborations.{shown_driver}
 use Rattle.lid_check.specs.declared.outputs.Lead.{Lead}
 use Rattle.lid_check.specs.Flaws.{FindsDependence}
 use Rattle.lid_check.proofs.Numbered.{is_graph, no_loop, first_loop}
 use Rattle.lid_check.proofs.flaws.find_among.Goals as goal
 
-pub find_order-requires : goal.find_order-requires
-find_order-requires c =
+pub invariant_of-graph : goal.invariant_of-graph
+invariant_of-graph c =
     let network = map shown_driver c.args.columns.now.drivers in
     let long : length network ≡ length c.args.columns.now.drivers = length-map c.args.columns.now.drivers shown_driver in
-    subst (λ (g : List (List ℕ)). IsGraph g) (sym c.requires.reads) (is_graph c.args.survey.now network c.args.columns.now.starts c.requires.elaborated (let few = c.requires.few in omega arith))
-
-pub find_dependence-requires-clause-graph : goal.find_dependence-requires-clause-graph
-find_dependence-requires-clause-graph c =
-    let network = map shown_driver c.args.columns.now.drivers in
-    let long : length network ≡ length c.args.columns.now.drivers = length-map c.args.columns.now.drivers shown_driver in
-    subst (λ (g : List (List ℕ)). IsGraph g) (sym c.requires.reads) (is_graph c.args.survey.now network c.args.columns.now.starts c.requires.elaborated (let few = c.requires.few in omega arith))
+    record { is_graph = subst (λ (g : List (List ℕ)). IsGraph g) (sym c.requires.reads) (is_graph c.args.survey.now network c.args.columns.now.starts c.requires.elaborated (let few = c.requires.few in omega arith)) }
 
 pub returns-in-Some : goal.returns-in-Some
 returns-in-Some c =

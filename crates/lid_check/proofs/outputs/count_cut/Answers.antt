@@ -4,7 +4,7 @@ use Rattle.lid_design.specs.declared.Design.{Design}
 use Rattle.lid_design.specs.declared.Inst.{Inst}
 use Rattle.lid_design.specs.declared.Model.{Model}
 use Rattle.lid_design.specs.Models.{IsReached, insts_of}
-use Rattle.lid_design.specs.Places.{model_nets}
+use Rattle.lid_design.specs.Elaboration.{model_nets}
 use Rattle.lid_check.proofs.Assembly.{root_insts, cut_some}
 use Rattle.lid_check.proofs.outputs.count_cut.Goals as goal
 

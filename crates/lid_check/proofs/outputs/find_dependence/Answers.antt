@@ -14,7 +14,7 @@ mark_first-requires c =
     let network = map shown_driver c.args.columns.now.drivers in
     let are : ArePearls d c.args.columns.now.starts c.in_ok-pearls.pearls = subst (λ (xs : List ℕ). ArePearls d xs c.in_ok-pearls.pearls) c.as_slice.ensures c.in_ok-pearls.ensures in
     let within = cut_within d network c.args.columns.now.starts c.requires.elaborated c.in_ok-pearls.pearls are in
-    subst (λ (n : ℕ). n ≤ length c.args.reads.now) (sym c.count_cut.ensures) (subst (λ (g : List (List ℕ)). count_cut d ≤ length g) (sym c.requires.reads) within)
+    subst (λ (n : ℕ). n ≤ length c.args.graph.now.reads.now) (sym c.count_cut.ensures) (subst (λ (g : List (List ℕ)). count_cut d ≤ length g) (sym c.requires.reads) within)
 
 pub find_past-requires-clause-fit : goal.find_past-requires-clause-fit
 find_past-requires-clause-fit c =
@@ -23,7 +23,7 @@ find_past-requires-clause-fit c =
     let are : ArePearls d c.args.columns.now.starts c.in_ok-pearls.pearls = subst (λ (xs : List ℕ). ArePearls d xs c.in_ok-pearls.pearls) c.as_slice.ensures c.in_ok-pearls.ensures in
     let fit = pearls_fit d network c.args.columns.now.starts c.requires.elaborated c.in_ok-pearls.pearls are in
     let there = subst (λ (g : List (List ℕ)). AllByRecursion (Fits d (length g)) c.in_ok-pearls.pearls) (sym c.requires.reads) fit in
-    subst (λ (ps : List Pearl). AllByRecursion (Fits d (length c.args.reads.now)) ps) (sym c.as_slice-2.ensures) there
+    subst (λ (ps : List Pearl). AllByRecursion (Fits d (length c.args.graph.now.reads.now)) ps) (sym c.as_slice-2.ensures) there
 
 pub find_past-requires-clause-apart : goal.find_past-requires-clause-apart
 find_past-requires-clause-apart c =
@@ -34,5 +34,5 @@ find_past-requires-clause-apart c =
     let cut_are = subst (λ (n : ℕ). (k : ℕ) → (flag c.in_ok-cut.cut k ≡ true) ↔ (k < n)) c.count_cut.ensures c.in_ok-cut.ensures.exact in
     let cuts : CutsOff d (map read_now network) c.in_ok-cut.cut ps = (λ led are_led. all_cut_off d network c.args.columns.now.starts c.requires.elaborated ps are c.in_ok-cut.cut are_led.0 led cut_are are_led.1 are_led.2) in
     let at_reads = subst (λ (g : List (List ℕ)). CutsOff d g c.in_ok-cut.cut ps) (sym c.requires.reads) cuts in
-    let at_ps = subst (λ (qs : List Pearl). CutsOff d c.args.reads.now c.in_ok-cut.cut qs) (sym c.as_slice-2.ensures) at_reads in
-    subst (λ (x : List Bool). CutsOff d c.args.reads.now x c.as_slice-2.result.now) (sym c.as_slice-3.ensures) at_ps
+    let at_ps = subst (λ (qs : List Pearl). CutsOff d c.args.graph.now.reads.now c.in_ok-cut.cut qs) (sym c.as_slice-2.ensures) at_reads in
+    subst (λ (x : List Bool). CutsOff d c.args.graph.now.reads.now x c.as_slice-2.result.now) (sym c.as_slice-3.ensures) at_ps

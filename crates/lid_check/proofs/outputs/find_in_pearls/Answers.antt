@@ -9,7 +9,7 @@ pub find_lead-requires-clause-fits : goal.find_lead-requires-clause-fits
 find_lead-requires-clause-fits c =
     let p = c.loop-p.p in
     let ps = c.args.pearls.now in
-    fits_at c.args.survey.now c.args.reads.now c.args.cut.now c.args.reached.now ps c.requires.apart p (get_or ps p (record { model = 0; start = 0 })) (slice_get-get_or ps p (record { model = 0; start = 0 }) c.loop-p-test.true)
+    fits_at c.args.survey.now c.args.graph.now.reads.now c.args.cut.now c.args.reached.now ps c.requires.apart p (get_or ps p (record { model = 0; start = 0 })) (slice_get-get_or ps p (record { model = 0; start = 0 }) c.loop-p-test.true)
 
 pub find_lead-requires-clause-marks : goal.find_lead-requires-clause-marks
 find_lead-requires-clause-marks c =
@@ -22,20 +22,20 @@ loop-p-preserved c =
     let p = c.loop-p.p in
     let ps = c.args.pearls.now in
     let pearl = get_or ps p (record { model = 0; start = 0 }) in
-    let none = subst (λ (o : Option Lead). FindsLead c.args.survey.now c.args.reads.now c.args.cut.now pearl o) c.in-None.is c.in_ok-lead.ensures in
-    none_more c.args.survey.now c.args.reads.now c.args.cut.now c.args.reached.now ps c.requires.apart p pearl (slice_get-get_or ps p (record { model = 0; start = 0 }) c.loop-p-test.true) c.loop-p.invariant none
+    let none = subst (λ (o : Option Lead). FindsLead c.args.survey.now c.args.graph.now.reads.now c.args.cut.now pearl o) c.in-None.is c.in_ok-lead.ensures in
+    none_more c.args.survey.now c.args.graph.now.reads.now c.args.cut.now c.args.reached.now ps c.requires.apart p pearl (slice_get-get_or ps p (record { model = 0; start = 0 }) c.loop-p-test.true) c.loop-p.invariant none
 
 pub returns-in-Some : goal.returns-in-Some
 returns-in-Some c =
     let p = c.loop-p.p in
     let ps = c.args.pearls.now in
     let pearl = get_or ps p (record { model = 0; start = 0 }) in
-    let lead = subst (λ (o : Option Lead). FindsLead c.args.survey.now c.args.reads.now c.args.cut.now pearl o) c.in-Some.is c.in_ok-lead.ensures in
-    first_dependence c.args.survey.now c.args.reads.now c.args.cut.now c.args.reached.now ps c.requires.apart p pearl (slice_get-get_or ps p (record { model = 0; start = 0 }) c.loop-p-test.true) c.loop-p.invariant c.in-Some.lead lead
+    let lead = subst (λ (o : Option Lead). FindsLead c.args.survey.now c.args.graph.now.reads.now c.args.cut.now pearl o) c.in-Some.is c.in_ok-lead.ensures in
+    first_dependence c.args.survey.now c.args.graph.now.reads.now c.args.cut.now c.args.reached.now ps c.requires.apart p pearl (slice_get-get_or ps p (record { model = 0; start = 0 }) c.loop-p-test.true) c.loop-p.invariant c.in-Some.lead lead
 
 pub returns : goal.returns
 returns c =
     let ps = c.args.pearls.now in
     let end = c.loop-p-test.false in
-    none_depends c.args.survey.now c.args.reads.now c.args.cut.now c.args.reached.now ps c.requires.apart
+    none_depends c.args.survey.now c.args.graph.now.reads.now c.args.cut.now c.args.reached.now ps c.requires.apart
     (λ p pearl here. let within : p < length ps = slice_get_within ps p pearl here in let below : p < c.loop-p.p = omega arith in c.loop-p.invariant p pearl below here)

@@ -34,7 +34,7 @@ returns-in-None c =
     let d = c.args.survey.now in
     let body = c.index-as_slice-pearl.result in
     let here = model_read d c.as_slice.result.now c.args.pearl.model body c.design.result.now c.design.ensures.same c.as_slice.ensures c.index-as_slice-pearl.is (reached_below d c.design.ensures.formed c.args.pearl.model c.requires.fits.reached) in
-    unmarked_none d c.args.reads.now c.args.cut.now c.args.pearl c.args.reached.now c.requires.marks body here (subst (λ (xs : List (List ℕ)). AreUnmarked d c.args.pearl c.args.reached.now xs) c.as_slice-outputs.ensures c.in-None.ensures)
+    unmarked_none d c.args.graph.now.reads.now c.args.cut.now c.args.pearl c.args.reached.now c.requires.marks body here (subst (λ (xs : List (List ℕ)). AreUnmarked d c.args.pearl c.args.reached.now xs) c.as_slice-outputs.ensures c.in-None.ensures)
 
 pub returns-in_ok-input-in-Some : goal.returns-in_ok-input-in-Some
 returns-in_ok-input-in-Some c =
@@ -54,6 +54,6 @@ returns-in_ok-input-in-Some c =
       output = c.as_slice-name.result.now;
       here = here;
       out = out ∙ ap Some (sym c.as_slice-name.ensures);
-      first = unmarked_before d c.args.reads.now c.args.cut.now pearl c.args.reached.now c.requires.marks m o first;
+      first = unmarked_before d c.args.graph.now.reads.now c.args.cut.now pearl c.args.reached.now c.requires.marks m o first;
       leads = c.in_ok-input-in-Some.ensures;
     }

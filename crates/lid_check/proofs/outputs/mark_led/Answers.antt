@@ -6,7 +6,7 @@ use Rattle.lid_check.proofs.outputs.mark_led.Goals as goal
 
 pub returns-clause-exact : goal.returns-clause-exact
 returns-clause-exact c =
-    let g = c.args.reads.now in
+    let g = c.args.graph.now.reads.now in
     let cut = c.args.cut.now in
     let starts = c.in_ok-starts.starts in
     IfOk-weaker c.find_reached.result

@@ -3,8 +3,7 @@ use Rattle.std.proofs.lemmas.Result.{IfOk-weaker}
 use Rattle.std.proofs.lemmas.Option.{slice_get_read, slice_get_past}
 use Rattle.lid_design.specs.declared.Design.{Design}
 use Rattle.lid_design.specs.declared.Model.{Model}
-use Rattle.lid_design.specs.Models.{is_clock_of}
-use Rattle.lid_check.specs.Pearls.{inputs_of}
+use Rattle.lid_design.specs.Models.{is_clock_of, data_inputs_of}
 use Rattle.lid_check.proofs.Marking.{inputs_some, inputs_none}
 use Rattle.lid_check.proofs.pearls.find_inputs.Goals as goal
 
@@ -17,7 +16,7 @@ returns-in-Some c =
     ∙ slice_get_read c.as_slice.result.now (length c.as_slice.result.now) c.args.model c.in-Some.body.now refl found.3.0 found.1 in
     IfOk-weaker c.without_clocks.result
     (λ names. names ≡ filter (λ net. not (is_clock_of c.args.survey.now c.args.model net)) c.as_slice-in-Some.result.now)
-    (λ names. names ≡ inputs_of c.args.survey.now c.args.model)
+    (λ names. names ≡ data_inputs_of c.args.survey.now c.args.model)
     (λ names told. told ∙ ap (filter (λ net. not (is_clock_of c.args.survey.now c.args.model net))) c.as_slice-in-Some.ensures ∙ inputs_some c.args.survey.now c.args.model c.in-Some.body.now here)
     c.without_clocks.ensures
 

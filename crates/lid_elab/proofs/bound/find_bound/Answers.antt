@@ -1,7 +1,7 @@
 use Rattle.std.proofs.Common.{◌≡◌, ℕ, List, Some, map, sym, ◌∙◌, ap}
 use Rattle.std.proofs.lemmas.Result.{IfOk-weaker}
 use Rattle.lid_design.specs.Models.{instance_number}
-use Rattle.lid_elab.specs.Locals.{actual_for}
+use Rattle.lid_wiring.specs.Locals.{actual_for}
 use Rattle.lid_elab.specs.Templates.{place_in}
 use Rattle.lid_elab.specs.Parts.{data_of}
 use Rattle.lid_elab.proofs.Binding.{sub_reached, bound_in, formals_once}

@@ -1,6 +1,6 @@
 use Rattle.std.proofs.Common.{sym, ◌∙◌, ap}
 use Rattle.lid_design.specs.Models.{is_clock_of}
-use Rattle.lid_elab.specs.Locals.{actual_for}
+use Rattle.lid_wiring.specs.Locals.{actual_for}
 use Rattle.lid_elab.specs.Templates.{place_in}
 use Rattle.lid_elab.proofs.Driving.{placed_one}
 use Rattle.lid_elab.proofs.bound.push_place.Goals as goal

@@ -1,5 +1,5 @@
 use Rattle.std.proofs.Common.{◌≡◌, ◌++◌, drop, map}
-use Rattle.lid_elab.specs.Locals.{actual_for}
+use Rattle.lid_wiring.specs.Locals.{actual_for}
 use Rattle.lid_elab.specs.Templates.{place_in}
 use Rattle.lid_elab.specs.Parts.{data_of}
 use Rattle.lid_elab.proofs.bound.push_places.Given as goal

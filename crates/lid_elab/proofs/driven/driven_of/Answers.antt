@@ -3,7 +3,7 @@ use Rattle.std.specs.List.{flat_map, enumerate_from}
 use Rattle.lid_names.specs.Names.{texts}
 use Rattle.lid_design.specs.declared.Cell.{Cell}
 use Rattle.lid_design.specs.declared.Inst.{Inst}
-use Rattle.lid_elab.specs.Locals.{inputs_from, local_of, outputs_of}
+use Rattle.lid_wiring.specs.Locals.{inputs_from, local_of, outputs_of}
 use Rattle.lid_elab.specs.Templates.{shown_local}
 use Rattle.lid_elab.specs.Parts.{Grows, data_of}
 use Rattle.lid_elab.specs.declared.driven.Driven.{Driven}

@@ -1,6 +1,6 @@
 use Rattle.std.proofs.Common.{◌<◌, length, refl, arith}
 use Rattle.std.specs.List.{flat_map}
-use Rattle.lid_elab.specs.Locals.{output_of}
+use Rattle.lid_wiring.specs.Locals.{output_of}
 use Rattle.lid_elab.proofs.Driving.{left_start, left_item}
 use Rattle.lid_elab.proofs.driven.push_binds.Goals as goal
 

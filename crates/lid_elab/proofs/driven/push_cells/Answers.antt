@@ -1,5 +1,5 @@
 use Rattle.std.proofs.Common.{◌<◌, ◌∷◌, [], length, map, refl, arith}
-use Rattle.lid_elab.specs.Locals.{local_of}
+use Rattle.lid_wiring.specs.Locals.{local_of}
 use Rattle.lid_elab.proofs.Driving.{left_start, left_item}
 use Rattle.lid_elab.proofs.driven.push_cells.Goals as goal
 

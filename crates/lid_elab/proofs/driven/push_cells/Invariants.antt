@@ -1,5 +1,5 @@
 use Rattle.std.proofs.Common.{drop, map}
-use Rattle.lid_elab.specs.Locals.{local_of}
+use Rattle.lid_wiring.specs.Locals.{local_of}
 use Rattle.lid_elab.proofs.Driving.{Left}
 use Rattle.lid_elab.proofs.driven.push_cells.Given as goal
 

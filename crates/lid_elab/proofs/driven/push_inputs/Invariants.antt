@@ -1,5 +1,5 @@
 use Rattle.std.proofs.Common.{drop}
-use Rattle.lid_elab.specs.Locals.{inputs_from}
+use Rattle.lid_wiring.specs.Locals.{inputs_from}
 use Rattle.lid_elab.specs.Parts.{data_of}
 use Rattle.lid_elab.proofs.Driving.{Left}
 use Rattle.lid_elab.proofs.driven.push_inputs.Given as goal

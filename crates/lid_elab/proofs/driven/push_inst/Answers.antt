@@ -2,7 +2,7 @@ use Rattle.std.proofs.Common.{◌≡◌, List, Some, OnOk, sym, ◌∙◌, ap, s
 use Rattle.std.specs.List.{flat_map}
 use Rattle.lid_design.specs.declared.Bind.{Bind}
 use Rattle.lid_design.specs.Models.{instance_number}
-use Rattle.lid_elab.specs.Locals.{NetLocal, output_of}
+use Rattle.lid_wiring.specs.Locals.{NetLocal, output_of}
 use Rattle.lid_elab.specs.Parts.{Grows}
 use Rattle.lid_elab.proofs.Counting.{model_below}
 use Rattle.lid_elab.proofs.Binding.{sub_reached}

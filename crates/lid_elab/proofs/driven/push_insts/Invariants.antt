@@ -1,6 +1,6 @@
 use Rattle.std.proofs.Common.{drop}
 use Rattle.std.specs.List.{flat_map, enumerate_from}
-use Rattle.lid_elab.specs.Locals.{outputs_of}
+use Rattle.lid_wiring.specs.Locals.{outputs_of}
 use Rattle.lid_elab.proofs.Driving.{Left}
 use Rattle.lid_elab.proofs.driven.push_insts.Given as goal
 

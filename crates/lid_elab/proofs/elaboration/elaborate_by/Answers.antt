@@ -3,7 +3,7 @@ use Rattle.std.proofs.lemmas.List.{length-map}
 use Rattle.lid_design.proofs.Reached.{root_reached}
 use Rattle.lid_design.specs.declared.Design.{Design}
 use Rattle.lid_elab.specs.Elaborations.{shown_driver}
-use Rattle.lid_elab.proofs.Judged.{few_columns}
+use Rattle.lid_wiring.proofs.Limits.{few_columns}
 use Rattle.lid_elab.proofs.Outer.{template_at, template_within}
 use Rattle.lid_elab.proofs.Whole.{elaborated}
 use Rattle.lid_elab.proofs.elaboration.elaborate_by.Goals as goal
@@ -23,9 +23,9 @@ returns-clause-whole c =
     let starts : c.in_ok-starts.starts ≡ t.offsets = c.in_ok-starts.ensures ∙ c.as_slice.ensures in
     let drivers = c.in_ok-drivers.drivers in
     let whole = length-map drivers shown_driver ∙ c.in_ok-drivers.ensures.whole in
-    elaborated d c.requires.judged (map shown_driver drivers) c.in_ok-starts.starts c.in_ok-drivers.ensures.written whole
-    (ap length starts ∙ is.few)
-    (λ i o at. is.offset i o (ap (λ (os : List ℕ). slice_get os i) (sym starts) ∙ at))
+    elaborated d c.requires.judged c.in_ok-starts.starts (ap length starts ∙ is.offsets.long)
+    (λ i o at. is.offsets.each i o (ap (λ (os : List ℕ). slice_get os i) (sym starts) ∙ at))
+    (map shown_driver drivers) c.in_ok-drivers.ensures.written whole
 
 pub returns-clause-few : goal.returns-clause-few
 returns-clause-few c =

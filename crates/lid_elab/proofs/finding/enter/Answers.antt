@@ -1,6 +1,6 @@
 use Rattle.std.proofs.Common.{◌≡◌, ◌<◌, ◌+◌, Some, length, sym, ◌∙◌, arith}
 use Rattle.lid_design.specs.Models.{instance_number, insts_of}
-use Rattle.lid_elab.proofs.Judged.{shallow_of}
+use Rattle.lid_wiring.proofs.Shallow.{shallow_of}
 use Rattle.lid_elab.proofs.Outer.{template_within}
 use Rattle.lid_elab.proofs.Stacking.{few_insts}
 use Rattle.lid_elab.proofs.Entering.{not_none, offsets_are, some_inst, in_inst}

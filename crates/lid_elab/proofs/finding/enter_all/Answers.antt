@@ -2,7 +2,7 @@ use Rattle.std.proofs.Common.{◌≡◌, ℕ, List, [], ◌∷◌, reverse, sym,
 use Rattle.std.proofs.lemmas.List.{reverse-append}
 use Rattle.lid_design.specs.declared.Design.{Design}
 use Rattle.lid_elab.specs.Numbers.{IsSpot}
-use Rattle.lid_elab.proofs.Judged.{shallow_of}
+use Rattle.lid_wiring.proofs.Shallow.{shallow_of}
 use Rattle.lid_elab.proofs.Entering.{root_spot, inner_spot, lighter}
 use Rattle.lid_elab.proofs.finding.enter_all.Goals as goal
 

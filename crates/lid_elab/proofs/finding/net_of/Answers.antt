@@ -1,6 +1,6 @@
 use Rattle.std.proofs.Common.{◌≡◌, ℕ, List, Some, None, option_map, slice_get, sym, ◌∙◌, ap}
 use denote.Ref.{Bor}
-use Rattle.lid_design.specs.Places.{model_nets}
+use Rattle.lid_design.specs.Elaboration.{model_nets}
 use Rattle.lid_elab.proofs.Outer.{get_of}
 use Rattle.lid_elab.proofs.finding.net_of.Goals as goal
 

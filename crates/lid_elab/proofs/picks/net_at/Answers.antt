@@ -1,6 +1,6 @@
 use Rattle.std.proofs.Common.{ℕ, List, [], option_map, sym, ◌∙◌, ap}
 use denote.Ref.{Bor}
-use Rattle.lid_design.specs.Places.{model_nets}
+use Rattle.lid_design.specs.Elaboration.{model_nets}
 use Rattle.lid_elab.proofs.Driving.{get_none}
 use Rattle.lid_elab.proofs.picks.net_at.Goals as goal
 

@@ -1,7 +1,7 @@
 use Rattle.std.proofs.Common.{sym, ◌∙◌, arith}
 use Rattle.std.specs.Str.{bytes_eq}
-use Rattle.lid_design.specs.Places.{model_nets}
-use Rattle.lid_rules.proofs.Subs.{position_below}
+use Rattle.lid_design.specs.Elaboration.{model_nets}
+use Rattle.lid_names.proofs.Numbers.{position_below}
 use Rattle.lid_elab.proofs.Counting.{nets_small}
 use Rattle.lid_elab.proofs.Binding.{position_past}
 use Rattle.lid_elab.proofs.places.place_in.Goals as goal

@@ -1,6 +1,6 @@
 use Rattle.std.proofs.Common.{List, sym, subst}
 use Rattle.lid_elab.specs.declared.template.Template.{Template}
-use Rattle.lid_elab.specs.Writing.{AreTemplates}
+use Rattle.lid_elab.specs.Parts.{AreTemplates}
 use Rattle.lid_elab.proofs.template.find_templates.Goals as goal
 
 pub returns : goal.returns

@@ -1,6 +1,6 @@
 use Rattle.std.proofs.Common.{◌≡◌, ◌<◌, ℕ, Some, length, slice_get}
 use Rattle.lid_design.specs.Models.{IsReached}
-use Rattle.lid_elab.specs.Writing.{IsTemplate}
+use Rattle.lid_elab.specs.Parts.{IsTemplate}
 use Rattle.lid_elab.specs.declared.template.Template.{Template}
 use Rattle.lid_elab.proofs.template.push_templates.Given as goal
 

@@ -3,14 +3,14 @@ use Rattle.lid_digraph.specs.Graphs.{IsGraph, IsReaching, flag}
 use Rattle.lid_hierarchy.specs.Surveys.{AreMarked}
 use Rattle.lid_hierarchy.specs.Graphs.{some_of, graph_of}
 use Rattle.lid_hierarchy.proofs.Walks.{models_are_graph, marks_reached, flag_none, reached_from, long_graph}
-use Rattle.lid_hierarchy.proofs.Steps.{if_both_ok}
+use Rattle.lid_base.proofs.Results.{if_both_ok}
 use Rattle.lid_hierarchy.proofs.uses.mark_used.Goals as goal
 
-pub find_reaching-requires-clause-graph : goal.find_reaching-requires-clause-graph
+pub invariant_of-graph : goal.invariant_of-graph
 unfolding graph_of
-find_reaching-requires-clause-graph c =
+invariant_of-graph c =
     let whole : c.as_slice.result.now ≡ graph_of c.args.design.now = c.as_slice.ensures ∙ c.in_ok-graph.ensures ∙ ap (map some_of) c.requires.numbers in
-    subst IsGraph (sym whole) (models_are_graph c.args.design.now c.requires.formed)
+    record { is_graph = subst IsGraph (sym whole) (models_are_graph c.args.design.now c.requires.formed) }
 
 pub returns : goal.returns
 unfolding graph_of
@@ -18,11 +18,12 @@ returns c =
     let whole : c.as_slice.result.now ≡ graph_of c.args.design.now = c.as_slice.ensures ∙ c.in_ok-graph.ensures ∙ ap (map some_of) c.requires.numbers in
     let cut = c.as_slice-2.ensures.value ∙ c.in_ok-cut.ensures in
     if_both_ok
-    (λ (marks : List Bool). length marks ≡ length c.as_slice.result.now)
-    (λ (marks : List Bool). (a : ℕ) → IsTrue (flag marks a) ↔ IsReaching c.as_slice.result.now c.as_slice-2.result.now a c.args.design.now.root)
-    (AreMarked c.args.design.now)
+    {P = λ (marks : List Bool). length marks ≡ length c.as_slice.result.now}
+    {Q = λ (marks : List Bool). (a : ℕ) → IsTrue (flag marks a) ↔ IsReaching c.as_slice.result.now c.as_slice-2.result.now a c.args.design.now.root}
+    {R = AreMarked c.args.design.now}
+    c.find_reaching.result
     (λ marks size exact. record {
       size = size ∙ ap length whole ∙ long_graph c.args.design.now;
       exact = marks_reached c.args.design.now c.as_slice-2.result.now (flag_none _ _ cut) marks (reached_from c.args.design.now _ whole c.as_slice-2.result.now marks exact);
     })
-    c.find_reaching.result c.find_reaching.ensures.count c.find_reaching.ensures.exact
+    c.find_reaching.ensures.count c.find_reaching.ensures.exact

@@ -1,5 +1,5 @@
 use Rattle.std.proofs.Common.{◌∙◌, sym}
-use Rattle.lid_hierarchy.proofs.Steps.{if_ok}
+use Rattle.lid_base.proofs.Results.{if_ok}
 use Rattle.lid_judge.specs.Late.{after_insts}
 use Rattle.lid_rules.specs.Rules.{by_insts}
 use Rattle.lid_rules.proofs.Faults.{told_first, told_later}
@@ -14,4 +14,4 @@ returns-in-Some c =
 pub returns-in-None : goal.returns-in-None
 returns-in-None c =
     let rest = told_later (by_insts c.args.ports.now c.args.reached.now three) (after_insts c.args.ports.now c.args.reached.now) _ c.in-None.is c.in_ok-told.ensures in
-    if_ok _ _ (λ told e. e ∙ rest ∙ sym (late_are c.args.ports.now c.args.reached.now)) c.find_after_insts.result c.find_after_insts.ensures
+    if_ok c.find_after_insts.result (λ told e. e ∙ rest ∙ sym (late_are c.args.ports.now c.args.reached.now)) c.find_after_insts.ensures

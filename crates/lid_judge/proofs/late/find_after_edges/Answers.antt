@@ -1,5 +1,5 @@
 use Rattle.std.proofs.Common.{◌∙◌, ap}
-use Rattle.lid_hierarchy.proofs.Steps.{if_ok}
+use Rattle.lid_base.proofs.Results.{if_ok}
 use Rattle.lid_rules.specs.Conditions.{root_logic, limits}
 use Rattle.lid_judge.specs.Late.{after_edges}
 use Rattle.lid_rules.proofs.Faults.{told_first, told_later}
@@ -11,4 +11,4 @@ returns-in-Some c = told_first (root_logic c.args.ports.now) (limits c.args.port
 
 pub returns-in-None : goal.returns-in-None
 unfolding after_edges
-returns-in-None c = if_ok _ _ (λ told e. e ∙ ap limits c.survey.ensures ∙ told_later (root_logic c.args.ports.now) (limits c.args.ports.now) _ c.in-None.is c.find_root_logic.ensures) c.find_limit.result c.find_limit.ensures
+returns-in-None c = if_ok c.find_limit.result (λ told e. e ∙ ap limits c.survey.ensures ∙ told_later (root_logic c.args.ports.now) (limits c.args.ports.now) _ c.in-None.is c.find_root_logic.ensures) c.find_limit.ensures

@@ -1,5 +1,5 @@
 use Rattle.std.proofs.Common.{◌∙◌}
-use Rattle.lid_hierarchy.proofs.Steps.{if_ok}
+use Rattle.lid_base.proofs.Results.{if_ok}
 use Rattle.lid_judge.specs.Limits.{wide_limits}
 use Rattle.lid_rules.proofs.Faults.{told_first, told_later}
 use Rattle.lid_judge.proofs.limits.find_wide.Goals as goal
@@ -10,4 +10,4 @@ returns-in-Some c = told_first _ _ _ _ c.in-Some.is c.in_ok-told.ensures
 
 pub returns-in-None : goal.returns-in-None
 unfolding wide_limits
-returns-in-None c = if_ok _ _ (λ told e. e ∙ told_later _ _ _ c.in-None.is c.in_ok-told.ensures) c.judge_total-in-None.result c.judge_total-in-None.ensures
+returns-in-None c = if_ok c.find_total-in-None.result (λ told e. e ∙ told_later _ _ _ c.in-None.is c.in_ok-told.ensures) c.find_total-in-None.ensures

@@ -1,5 +1,6 @@
 use Rattle.std.proofs.Common.{◌∙◌}
-use Rattle.lid_names.specs.Names.{is_among, is_twice, texts}
+use Rattle.lid_design.specs.Models.{is_twice}
+use Rattle.lid_names.specs.Names.{is_among, texts}
 use Rattle.lid_ports.proofs.Sets.{find_same}
 use Rattle.lid_ports.proofs.formals.find_repeated.Goals as goal
 

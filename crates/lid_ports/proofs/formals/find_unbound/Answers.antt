@@ -1,7 +1,6 @@
 use Rattle.std.proofs.Common.{◌≡◌, Some, None, sym, ◌∙◌, ap}
 use Rattle.lid_design.specs.declared.Design.{Design}
-use Rattle.lid_design.specs.Models.{instance_number}
-use Rattle.lid_ports.specs.Formals.{formals}
+use Rattle.lid_design.specs.Models.{instance_number, formals}
 use Rattle.lid_ports.proofs.Unbound.{unbound_by}
 use Rattle.lid_ports.proofs.Subs.{sub_reached, none_by}
 use Rattle.lid_ports.proofs.formals.find_unbound.Goals as goal

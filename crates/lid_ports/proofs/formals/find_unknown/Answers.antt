@@ -1,9 +1,7 @@
 use Rattle.std.proofs.Common.{◌≡◌, List, not, map, find, Some, None, sym, ◌∙◌, ap}
 use Rattle.lid_design.specs.declared.Design.{Design}
-use Rattle.lid_design.specs.Models.{instance_number}
+use Rattle.lid_design.specs.Models.{instance_number, formal_of, formals}
 use Rattle.lid_design.specs.declared.Bind.{Bind}
-use Rattle.lid_names.specs.Names.{formal_of}
-use Rattle.lid_ports.specs.Formals.{formals}
 use Rattle.lid_ports.specs.Formals.{is_port_of}
 use Rattle.lid_ports.proofs.Subs.{none_by}
 use Rattle.lid_ports.proofs.Unbound.{unknown_by}

@@ -1,5 +1,5 @@
 use Rattle.std.proofs.Common.{◌≡◌, not, map, find, drop}
-use Rattle.lid_names.specs.Names.{formal_of}
+use Rattle.lid_design.specs.Models.{formal_of}
 use Rattle.lid_ports.specs.Formals.{is_port_of}
 use Rattle.lid_ports.proofs.formals.first_unknown.Given as goal
 

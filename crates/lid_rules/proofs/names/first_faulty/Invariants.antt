@@ -4,4 +4,4 @@ use Rattle.lid_rules.specs.Names.{is_faulty}
 use Rattle.lid_rules.proofs.names.first_faulty.Given as goal
 
 abbrev pub invariant-loop-name : goal.invariant-loop-name
-invariant-loop-name l = find (is_faulty l.rule l.ports l.model) (texts (drop l.name-index l.names)) ≡ find (is_faulty l.rule l.ports l.model) (texts l.names)
+invariant-loop-name l = find (is_faulty l.rule l.ports l.nets.model.now) (texts (drop l.name-index l.names)) ≡ find (is_faulty l.rule l.ports l.nets.model.now) (texts l.names)

@@ -9,7 +9,7 @@ unfolding root_logic
 returns-in-Some c =
     let root = ap (λ (d : Design). d.root) (c.design.ensures.same ∙ c.survey.ensures) in
     let here = sym (ap (slice_get c.args.ports.now.models) root) ∙ here_is _ _ _ c.model.ensures.here c.in-Some.is in
-    c.judge_logic.ensures ∙ sym (ap (option_and_then logic_in) here)
+    c.find_root_logic_in.ensures ∙ sym (ap (option_and_then logic_in) here)
 
 pub returns-in-None : goal.returns-in-None
 unfolding root_logic

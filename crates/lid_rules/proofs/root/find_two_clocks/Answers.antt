@@ -2,14 +2,14 @@ use Rattle.std.proofs.Common.{[], Some, filter, option_and_then, slice_get, sym,
 use Rattle.lid_design.specs.declared.Design.{Design}
 use Rattle.lid_design.specs.Columns.{is_clock}
 use Rattle.lid_design.specs.Models.{port_drivers, number_from}
-use Rattle.lid_hierarchy.proofs.Steps.{if_ok}
+use Rattle.lid_base.proofs.Results.{if_ok}
 use Rattle.lid_rules.specs.Conditions.{first_two, two_clocks}
 use Rattle.lid_names.proofs.Numbers.{here_is}
 use Rattle.lid_rules.proofs.root.find_two_clocks.Goals as goal
 
-pub judge_clocks-requires-clause-reached : goal.judge_clocks-requires-clause-reached
+pub find_two_clocks_in-requires-clause-reached : goal.find_two_clocks_in-requires-clause-reached
 unfolding number_from
-judge_clocks-requires-clause-reached c = ([], sym (ap (λ (d : Design). Some d.root) (c.design.ensures.same ∙ c.survey.ensures)))
+find_two_clocks_in-requires-clause-reached c = ([], sym (ap (λ (d : Design). Some d.root) (c.design.ensures.same ∙ c.survey.ensures)))
 
 pub returns-in-Some : goal.returns-in-Some
 unfolding two_clocks
@@ -17,7 +17,7 @@ returns-in-Some c =
     let d = c.args.ports.now in
     let root = ap (λ (d : Design). d.root) (c.design.ensures.same ∙ c.survey.ensures) in
     let here = sym (ap (slice_get d.models) root) ∙ here_is _ _ _ c.model.ensures.here c.in-Some.is in
-    if_ok _ _ (λ told e. e ∙ sym (ap (option_and_then (λ m. first_two (filter (is_clock d m) (port_drivers m)))) here)) c.judge_clocks.result c.judge_clocks.ensures
+    if_ok c.find_two_clocks_in.result (λ told e. e ∙ sym (ap (option_and_then (λ m. first_two (filter (is_clock d m) (port_drivers m)))) here)) c.find_two_clocks_in.ensures
 
 pub returns-in-None : goal.returns-in-None
 unfolding two_clocks

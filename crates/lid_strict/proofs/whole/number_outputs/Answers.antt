@@ -4,20 +4,18 @@ use Rattle.std.proofs.lemmas.List.{length-map, take_all}
 use Rattle.lid_base.specs.Lists.{Among}
 use Rattle.lid_design.specs.Columns.{column}
 use Rattle.lid_elab.specs.Elaborations.{shown_driver, column_at}
-use Rattle.lid_strict.proofs.Placing.{outputs_are, item_among, place_below, place_column, numbers_more}
+use Rattle.lid_strict.proofs.Placing.{item_among, place_below, place_column, numbers_more}
 use Rattle.lid_strict.proofs.whole.number_outputs.Goals as goal
 
-pub place_of-requires-clause-output : goal.place_of-requires-clause-output
-place_of-requires-clause-output c =
-    let d = c.args.survey.now in
+pub place_of-requires : goal.place_of-requires
+place_of-requires c =
     let name = c.name-item.result in
-    let names = c.as_slice-name-items.result.now in
-    let all = outputs_are d c.design-design.result.now c.as_slice.result.now c.index-as_slice-design.result c.design-design.ensures.formed c.design-design.ensures.same c.as_slice.ensures c.index-as_slice-design.is in
-    subst (λ (ns : List (List ℕ)). Among name ns) (c.as_slice-name-items.ensures ∙ sym all) (item_among names c.loop-name.name-index name c.loop-name-test.true c.name-item.is)
+    let names = c.outputs_of-outputs.result.now in
+    subst (λ (ns : List (List ℕ)). Among name ns) c.outputs_of-outputs.ensures (item_among names c.loop-name.name-index name c.loop-name-test.true c.name-item.is)
 
 pub overflow_cast-place_of : goal.overflow_cast-place_of
 overflow_cast-place_of c =
-    let d = c.args.survey.now in
+    let d = c.args.judged.now in
     let below = place_below d (map shown_driver c.args.columns.now.drivers) c.args.columns.now.starts c.requires.elaborated c.name-item.result c.place_of.result c.place_of.ensures in
     let long = length-map c.args.columns.now.drivers shown_driver in
     let few = c.requires.few in
@@ -25,9 +23,9 @@ overflow_cast-place_of c =
 
 pub loop-name-preserved : goal.loop-name-preserved
 loop-name-preserved c =
-    let d = c.args.survey.now in
+    let d = c.args.judged.now in
     let name = c.name-item.result in
-    let names = c.as_slice-name-items.result.now in
+    let names = c.outputs_of-outputs.result.now in
     let place = c.place_of.result in
     let network = map shown_driver c.args.columns.now.drivers in
     let starts = c.args.columns.now.starts in
@@ -38,13 +36,12 @@ loop-name-preserved c =
 
 pub returns : goal.returns
 returns c =
-    let d = c.args.survey.now in
-    let names = c.as_slice-name-items.result.now in
-    let all = outputs_are d c.design-design.result.now c.as_slice.result.now c.index-as_slice-design.result c.design-design.ensures.formed c.design-design.ensures.same c.as_slice.ensures c.index-as_slice-design.is in
+    let d = c.args.judged.now in
+    let names = c.outputs_of-outputs.result.now in
     record {
       below = subst (AllByRecursion (λ (k : ℕ). k < length c.args.columns.now.drivers)) (sym c.from_vec.ensures) c.loop-name.invariant.0;
       outputs =
           ap (map (column_at d)) c.from_vec.ensures
           ∙ c.loop-name.invariant.1
-          ∙ ap (map (column [])) (take_all c.loop-name.name-index names c.loop-name-test.false ∙ c.as_slice-name-items.ensures ∙ sym all);
+          ∙ ap (map (column [])) (take_all c.loop-name.name-index names c.loop-name-test.false ∙ c.outputs_of-outputs.ensures);
     }

@@ -6,7 +6,7 @@ use Rattle.lid_design.specs.Network.{Table, IsStrict}
 use Rattle.lid_design.specs.Columns.{IsStrictOutput}
 use Rattle.lid_digraph.specs.Graphs.{IsGraph, IsOrder}
 use Rattle.lid_digraph.specs.Results.{IsFound, IsLeastOnLoop}
-use Rattle.lid_digraph.specs.declared.finding.Found.TheVariants.{Order, Loop}
+use Rattle.lid_digraph.specs.declared.topological.Found.TheVariants.{Order, Loop}
 use Rattle.lid_elab.specs.declared.driver.ColumnDriver.{ColumnDriver}
 use Rattle.lid_elab.specs.Elaborations.{shown_driver, column_at}
 use Rattle.lid_check.proofs.Numbered.{is_graph, loop_down}
@@ -15,13 +15,13 @@ use Rattle.lid_strict.proofs.Outputs.{covers, held_below, strict_output}
 use Rattle.lid_strict.proofs.Running.{if_ok}
 use Rattle.lid_strict.proofs.whole.run_columns.Goals as goal
 
-pub find_order-requires : goal.find_order-requires
-find_order-requires c =
+pub invariant_of-graph : goal.invariant_of-graph
+invariant_of-graph c =
     let list = c.args.columns.now.drivers in
     let whole = c.as_slice.ensures ∙ c.in_ok-reads.ensures ∙ ap (λ (ds : List ColumnDriver). map read_now (map shown_driver ds)) c.as_slice-drivers.ensures in
     let long = length-map list shown_driver in
     let few = c.requires.few in
-    subst IsGraph (sym whole) (is_graph c.args.design.now (map shown_driver list) c.args.columns.now.starts c.requires.elaborated (omega arith))
+    record { is_graph = subst IsGraph (sym whole) (is_graph c.args.design.now (map shown_driver list) c.args.columns.now.starts c.requires.elaborated (omega arith)) }
 
 pub simulate-requires-clause-covers : goal.simulate-requires-clause-covers
 simulate-requires-clause-covers c =

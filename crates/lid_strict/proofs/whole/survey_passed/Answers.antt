@@ -1,11 +1,12 @@
 use Rattle.std.proofs.Common.{sym, subst}
 use Rattle.lid_design.specs.declared.Design.{Design}
 use Rattle.lid_hierarchy.specs.declared.survey.SurveyFault.{SurveyFault}
-use Rattle.lid_hierarchy.specs.Surveys.{AreKnown, IsFirstRecursive, IsSurveyFault}
+use Rattle.lid_design.specs.Models.{IsFirstRecursive}
+use Rattle.lid_hierarchy.specs.Surveys.{AreKnown, IsSurveyFault}
 use Rattle.lid_rules.specs.Acceptance.{fault_before_recursion}
 use Rattle.lid_rules.specs.Conditions.{duplicate_name, unknown_model}
 use Rattle.lid_rules.proofs.Passing.{known_by}
-use Rattle.lid_elab.proofs.Passing.{or_none}
+use Rattle.lid_wiring.proofs.Passing.{or_none}
 use Rattle.lid_strict.proofs.whole.survey_passed.Goals as goal
 
 pub survey_models-requires : goal.survey_models-requires

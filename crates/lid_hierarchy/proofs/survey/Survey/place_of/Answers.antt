@@ -1,24 +1,6 @@
-use Rattle.std.proofs.Common.{[], ◌<◌, length, position, subst, sym, arith, ap, ◌∙◌}
+use Rattle.std.proofs.Common.{position, ◌∙◌, ap}
 use Rattle.std.specs.Str.{bytes_eq}
-use Rattle.lid_design.specs.declared.Design.{Design}
-use Rattle.lid_design.specs.Models.{IsReached}
-use Rattle.lid_design.specs.Places.{model_nets}
-use Rattle.lid_hierarchy.proofs.Fields.{field_at}
 use Rattle.lid_hierarchy.proofs.survey.Survey.place_of.Goals as goal
 
-pub bounds-as_slice-model : goal.bounds-as_slice-model
-bounds-as_slice-model c =
-    let reached = subst (λ (d : Design). IsReached d c.args.model) (sym c.self.view_is) c.requires in
-    let below = c.self.invariant.names.inside c.args.model reached in
-    let size = c.self.invariant.names.each_nets in
-    omega (arith, ap length c.as_slice.ensures)
-
 pub returns : goal.returns
-returns c =
-    let reached = subst (λ (d : Design). IsReached d c.args.model) (sym c.self.view_is) c.requires in
-    let below = c.self.invariant.names.inside c.args.model reached in
-    let size = c.self.invariant.names.each_nets in
-    let here : c.args.model < length c.as_slice.result.now = omega (arith, ap length c.as_slice.ensures) in
-    let field = field_at c.self.inside.names.nets c.as_slice.result.now c.args.model [] c.index-as_slice-model.result c.as_slice.ensures c.index-as_slice-model.is here in
-    c.place_of.ensures
-    ∙ ap (position (bytes_eq c.args.name.now)) (field ∙ c.self.invariant.names.nets c.args.model reached ∙ ap (λ (d : Design). model_nets d c.args.model) c.self.view_is)
+returns c = c.place_of.ensures ∙ ap (position (bytes_eq c.args.name.now)) c.nets_of.ensures

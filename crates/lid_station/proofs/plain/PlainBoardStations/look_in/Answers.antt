@@ -25,3 +25,9 @@ pub returns-else-pair-clause-kept : goal.returns-else-pair-clause-kept
 returns-else-pair-clause-kept c streams stands =
     let here = here_drain c.args.self.now.pairs.items c.args.station c.index_mut-pair.result.now c.requires.0 c.index_mut-pair.ensures.value c.requires.1 in
     stands_set c.args.self.now.pairs.items c.args.station c.index_mut-pair.result.now streams stands (stands c.args.station c.index_mut-pair.result.now here.0)
+
+pub returns-else-pair-clause-drained : goal.returns-else-pair-clause-drained
+returns-else-pair-clause-drained c f at =
+    let here = here_drain c.args.self.now.pairs.items c.args.station c.index_mut-pair.result.now f c.index_mut-pair.ensures.value at in
+    let start = ap (λ (f : Facts). f.start) here.1 in
+    omega arith

@@ -1,7 +1,7 @@
-use Rattle.std.proofs.Common.{◌≡◌, ℕ, ◌+◌, ◌*◌, ◌-◌, ◌/◌, ◌%◌, length, take, sym, ◌∙◌, ap, subst, arith}
-use Rattle.lid_station.specs.Boards.{Facts}
+use Rattle.std.proofs.Common.{◌≡◌, ℕ, ◌+◌, ◌*◌, ◌-◌, ◌/◌, ◌%◌, length, take, refl, sym, ◌∙◌, ap, subst, arith}
+use Rattle.lid_station.specs.Boards.{Facts, HasFullBits}
 use Rattle.lid_station.specs.Words.{word, word_number}
-use Rattle.lid_station.proofs.PlainStations.{here_fill, here_drain, stands_set, told_word}
+use Rattle.lid_station.proofs.PlainStations.{here_fill, here_drain, stands_set, told_word, told_bits}
 use Rattle.lid_station.proofs.plain.PlainBoardStations.look_out.Goals as goal
 
 pub returns-else-pair-len-clause-found : goal.returns-else-pair-len-clause-found
@@ -19,6 +19,18 @@ returns-else-pair-len-clause-found c streams f stands at =
     holds full even (ap (λ (k : ℕ). k + 1) even) c.shown.ensures c.shown-else-pair-len.ensures in
     let P : Facts → Type 0 = λ (g : Facts). c.shown.result + 4294967296 * c.shown-else-pair-len.result ≡ word g.cap (take g.passed (streams c.args.station)) (take (g.passed - g.cap) (streams c.args.station)) (word_number g.cap g.passed) in
     subst P (sym here.1) told
+
+pub returns-else-pair-len-clause-full : goal.returns-else-pair-len-clause-full
+returns-else-pair-len-clause-full c f at =
+    let here = here_fill c.args.self.now.pairs.items c.args.station c.index_mut-pair.result.now f c.index_mut-pair.ensures.value at in
+    let spot = c.place_of.ensures in
+    let even : c.place_of.result / 2 * 2 ≡ 2 * ((c.index_mut-pair.result.now.put % length c.index_mut-pair.result.now.places.items) / 2) =
+    ap (λ (k : ℕ). k / 2 * 2) spot ∙ omega arith in
+    let bits = told_bits c.index_mut-pair.result.now ((c.index_mut-pair.result.now.put % length c.index_mut-pair.result.now.places.items) / 2)
+    (c.place_of.result / 2 * 2) (c.place_of.result / 2 * 2 + 1) c.shown.result c.shown-else-pair-len.result
+    refl even (ap (λ (k : ℕ). k + 1) even) c.shown.ensures c.shown-else-pair-len.ensures in
+    let P : Facts → Type 0 = λ (g : Facts). HasFullBits g.cap (word_number g.cap g.passed) (c.shown.result + 4294967296 * c.shown-else-pair-len.result) in
+    subst P (sym here.1) bits
 
 pub returns-else-pair-len-clause-filled : goal.returns-else-pair-len-clause-filled
 returns-else-pair-len-clause-filled c f at =

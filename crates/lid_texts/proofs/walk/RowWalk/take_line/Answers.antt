@@ -1,34 +1,27 @@
-use Rattle.std.proofs.Common.{◌≡◌, ◌+◌, ℕ, true, false, List, map, sym, ◌∙◌, inl, inr, ⊎_elim, arith}
-use Rattle.std.specs.List.{enumerate_from}
-use Rattle.lid_base.specs.Lines.{goes_on, joins_of}
-use Rattle.lid_texts.specs.Rows.{rows_line}
-use Rattle.lid_texts.proofs.Walking.{walk_goes_on, walk_ends, walk_fresh, OnOk_along, IfErr_along}
+use Rattle.std.proofs.Common.{◌∙◌, sym, refl}
+use Rattle.lid_base.proofs.Results.{on_ok}
+use Rattle.lid_texts.specs.Scans.{logical_of}
+use Rattle.lid_texts.proofs.Walking.{sound_with, last_judged, last_rows, goes_on_walked, goes_on_rows, ends_walked, ends_rows}
 use Rattle.lid_texts.proofs.walk.RowWalk.take_line.Goals as goal
 
-pub returns-then-goes_on-clause-ok : goal.returns-then-goes_on-clause-ok
-returns-then-goes_on-clause-ok c = λ rest.
-    let more : goes_on c.args.line.now ≡ true = sym c.goes_on.ensures ∙ c.if-goes_on.true in
-    rw c.in-Ok.ensures
-    (walk_goes_on c.args.columns.now c.args.outs c.args.self.now c.args.into.now.items c.args.line.now rest (omega arith) more)
+pub returns-then-goes_on-clause-walked : goal.returns-then-goes_on-clause-walked
+returns-then-goes_on-clause-walked c = λ lines few goes.
+    goes_on_walked c.args.columns.now c.args.outs lines c.args.line.now c.args.self.now _ few (sym c.if-goes_on.ensures) goes c.in_ok-add.ensures c.saturating_add-self.ensures refl refl
 
-pub returns-clause-ok : goal.returns-clause-ok
-returns-clause-ok c =
-    let last : goes_on c.args.line.now ≡ false = sym c.goes_on.ensures ∙ c.if-goes_on.false in
-    let walk = c.args.self.now in
-    OnOk_along c.end_line.result
-    (λ h (rest : List (List ℕ)).
-    walk_fresh c.args.columns.now c.args.outs c.end_line.new.self (walk.number + 1) c.end_line.new.into.items rest
-    c.end_line.ensures.begun c.end_line.ensures.number
-    ∙ h (map rows_line (joins_of (enumerate_from (walk.number + 1) rest)))
-    ∙ sym (walk_ends c.args.columns.now c.args.outs walk c.args.into.now.items c.args.line.now c.add.new.self rest c.in-Ok.ensures last))
-    c.end_line.ensures.ok
+pub returns-then-goes_on-clause-rows : goal.returns-then-goes_on-clause-rows
+returns-then-goes_on-clause-rows c = λ lines few goes.
+    goes_on_rows c.args.columns.now c.args.outs lines c.args.line.now c.args.into.now.items (sym c.if-goes_on.ensures)
 
-pub returns-clause-err : goal.returns-clause-err
-returns-clause-err c =
-    let last : goes_on c.args.line.now ≡ false = sym c.goes_on.ensures ∙ c.if-goes_on.false in
-    let walk = c.args.self.now in
-    IfErr_along c.end_line.result _ _
-    (λ e. ⊎_elim inl (λ h. inr (λ (rest : List (List ℕ)).
-    walk_ends c.args.columns.now c.args.outs walk c.args.into.now.items c.args.line.now c.add.new.self rest c.in-Ok.ensures last
-    ∙ h (map rows_line (joins_of (enumerate_from (walk.number + 1) rest))))))
-    c.end_line.ensures.err
+pub returns-clause-walked : goal.returns-clause-walked
+returns-clause-walked c = λ lines few goes.
+    on_ok c.end_line.result
+    (λ judged. ends_walked c.args.columns.now c.args.outs lines c.args.line.now c.args.self.now c.end_line.new.self few (sym c.if-goes_on.ensures) goes c.end_line.ensures.begun (c.end_line.ensures.number ∙ c.saturating_add-self.ensures)
+    (last_judged c.args.columns.now c.args.outs lines c.args.line.now c.args.self.now c.end_line.new.self c.saturating_add-self.result c.add.new.self few goes c.saturating_add-self.ensures c.in_ok-add.ensures judged))
+    (c.end_line.ensures.judged (logical_of lines) (sound_with c.args.columns.now c.args.outs lines c.args.line.now c.args.self.now _ goes refl refl))
+
+pub returns-clause-rows : goal.returns-clause-rows
+returns-clause-rows c = λ lines few goes.
+    on_ok c.end_line.result
+    (λ grow. ends_rows c.args.columns.now c.args.outs lines c.args.line.now c.args.into.now.items c.end_line.new.into.items (sym c.if-goes_on.ensures)
+    (last_rows c.args.columns.now c.args.outs lines c.args.line.now c.args.self.now c.saturating_add-self.result c.add.new.self c.args.into.now.items c.end_line.new.into.items few goes c.saturating_add-self.ensures c.in_ok-add.ensures grow))
+    (c.end_line.ensures.rows (logical_of lines) (sound_with c.args.columns.now c.args.outs lines c.args.line.now c.args.self.now _ goes refl refl))

@@ -1,6 +1,0 @@
-use Rattle.std.proofs.Common.{ℕ, ◌<◌}
-use Rattle.lid_digraph.specs.Parts.{IsUphill}
-use Rattle.lid_digraph.proofs.ranking.is_uphill.Given as goal
-
-abbrev pub invariant-loop-c : goal.invariant-loop-c
-invariant-loop-c l = (c : ℕ) → c < l.c → IsUphill l.reads l.marks l.ranks c

@@ -1,8 +1,0 @@
-use Rattle.std.proofs.Common.{List, map, sym, subst}
-use Rattle.lid_elab.specs.declared.driver.ColumnDriver.{ColumnDriver}
-use Rattle.lid_elab.specs.Elaborations.{shown_driver}
-use Rattle.lid_elab.specs.Writing.{AreWritten}
-use Rattle.lid_elab.proofs.writing.write_all.Goals as goal
-
-pub returns-clause-written : goal.returns-clause-written
-returns-clause-written c = subst (λ (ds : List ColumnDriver). AreWritten c.args.survey.now (map shown_driver ds)) (sym c.from_vec.ensures) c.in_ok-push_all.ensures.written

@@ -1,0 +1,13 @@
+use Rattle.std.proofs.Common.{◌≡◌, Some, None, slice_get, option_map, sym, ◌∙◌, ap}
+use Rattle.lid_design.specs.declared.Design.{Design}
+use Rattle.lid_design.specs.declared.Model.{Model}
+use Rattle.lid_hierarchy.proofs.Walks.{reached_below}
+use Rattle.lid_names.proofs.Numbers.{here_is, there}
+use Rattle.lid_judge.proofs.models.tell_recursive.Goals as goal
+
+pub unreachable-requires : goal.unreachable-requires
+unreachable-requires c =
+    let d = c.args.design.now in
+    let none : slice_get d.models c.args.number ≡ None = here_is _ _ _ c.model_at.ensures c.in-None.is in
+    let some = there d.models c.args.number (reached_below d c.requires.formed c.args.number c.requires.first.reached) in
+    absurd (let e : Some some.0 ≡ None = sym some.1 ∙ none in cc)

@@ -1,0 +1,38 @@
+-- Walks that are told from their end.
+use Rattle.std.specs.Prelude.{◌≡◌, ℕ, ◌<◌, ◌≤◌, List, [], ◌∷◌, length, reverse, slice_index, slice_index_or, Option, Some, None}
+use Rattle.std.specs.List.{Contains}
+use Rattle.lid_graph.specs.declared.graph.Graph.{Graph}
+use Rattle.lid_graph.specs.Walks.{edge_at}
+
+-- edges of the list, each ending where the one before begins, the first at v; the last begins at u
+abbrev pub IsWalkBack : Graph → List ℕ → ℕ → List ℕ → ℕ → Type 0
+IsWalkBack g es v [] u = v ≡ u
+IsWalkBack g es v (k ∷ ks) u = Contains es k × ((edge_at g k).to ≡ v) × IsWalkBack g es (edge_at g k).from ks u
+
+-- the edge from the predecessor of a transition, if it has one
+abbrev pub predecessor_of : List (Option ℕ) → ℕ → Option ℕ
+predecessor_of predecessors v = slice_index_or predecessors v None
+
+-- a walk of edges from predecessors
+abbrev pub IsPredecessorWalk : Graph → List (Option ℕ) → ℕ → List ℕ → ℕ → Type 0
+IsPredecessorWalk g predecessors v [] u = v ≡ u
+IsPredecessorWalk g predecessors v (k ∷ ks) u = (predecessor_of predecessors v ≡ Some k) × IsPredecessorWalk g predecessors (edge_at g k).from ks u
+
+-- no two of the edges end at the same transition
+abbrev pub MeetsOnce : Graph → List ℕ → Type 0
+MeetsOnce g ks =
+    (i j : ℕ)
+    → i < length ks
+    → j < length ks
+    → (edge_at g (slice_index ks i)).to ≡ (edge_at g (slice_index ks j)).to
+    → i ≡ j
+
+-- a closed walk on edges of the list that meets no transition twice. It is found from its end
+pub record IsCycleOn (g : Graph) (es walk : List ℕ) : Type 0 where
+  pub at : ℕ
+  pub chain : List ℕ
+  pub chained : IsWalkBack g es at chain at
+  pub some : 0 < length chain
+  pub short : length chain ≤ g.nodes
+  pub once : MeetsOnce g chain
+  pub walk_is : walk ≡ reverse chain

@@ -1,2 +1,0 @@
--- The law of numbers of models that the crates above cite.
-pub use Rattle.lid_names.proofs.Numbers.{position_below}

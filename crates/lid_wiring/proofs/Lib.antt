@@ -1,0 +1,10 @@
+pub mod Names
+pub mod Clocking
+pub mod Passing
+pub mod Shallow
+pub mod Locals
+pub mod Wired
+pub mod Single
+pub mod Limits
+pub mod Driven
+pub mod Told
