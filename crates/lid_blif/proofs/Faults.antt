@@ -35,22 +35,23 @@ first_fault_none before l ls h = cases (line_fault (context_of before) (model_na
 abbrev pub IsNarrow : Line → Type 0
 IsNarrow l = Names ≡ keyword_of l.words → inputs_of l.words ≤ 64
 
-pub line_fault_narrow : (context : Context) (names : List (List ℕ)) (l : Line) → line_fault context names l ≡ None → IsNarrow l
+-- a cover line without fault has its output, and at most 64 inputs
+pub names_clear : (context : Context) (names : List (List ℕ)) (l : Line) → line_fault context names l ≡ None → Names ≡ keyword_of l.words → (2 ≤ length l.words) × (inputs_of l.words ≤ 64)
 unfolding line_fault
-line_fault_narrow context names l h e =
+names_clear context names l h e =
     let clear = rw (← e) at h in
     let wide : List Case = (nat_lt 64 (inputs_of l.words), TooManyInputs l.number) ∷ [] in
     let short : List Case = (nat_lt (length l.words) 2, Arity l.number) ∷ wide in
     let inside = told-none (outside context l.number) short clear in
     let long = told-none (nat_lt (length l.words) 2, Arity l.number) wide inside.1 in
     let few = told-none (nat_lt 64 (inputs_of l.words), TooManyInputs l.number) [] long.1 in
-    ltb-false 64 (inputs_of l.words) few.0
+    (ltb-false (length l.words) 2 long.0, ltb-false 64 (inputs_of l.words) few.0)
 
 pub narrow_lines : (before ls : List Line) → first_fault before ls ≡ None → AllByRecursion IsNarrow ls
 narrow_lines before [] h = tt
 narrow_lines before (l ∷ ls) h =
     let parts = first_fault_none before l ls h in
-    (line_fault_narrow _ _ l parts.0, narrow_lines (l ∷ before) ls parts.1)
+    (λ e. (names_clear (context_of before) (model_names before) l parts.0 e).1, narrow_lines (l ∷ before) ls parts.1)
 
 -- a line outside a model, without fault, opens one
 pub line_fault_opens : (k : Keyword) (l : Line) (context : Context) (names : List (List ℕ)) → k ≡ keyword_of l.words → context.inside ≡ false → line_fault context names l ≡ None → k ≡ Model

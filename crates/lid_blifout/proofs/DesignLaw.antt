@@ -178,7 +178,7 @@ cover_back inputs out cover n w =
     let names : take (inputs_of words) (drop 1 words) ≡ inputs = ap (λ (k : ℕ). take k (inputs ++ out ∷ [])) count ∙ take_front inputs (out ∷ []) in
     let last : last_word words ≡ out = last_word_after (codes ".names" ∷ inputs) out in
     let on : not (list_any ends_in_zero rows) ≡ cover.on = on_back cover.inputs n cover.on cover.cubes w.constant in
-    let cubes : map (cube_of (width_of words)) rows ≡ cover.cubes = ap (λ (k : ℕ). map (cube_of k) rows) width ∙ cubes_back cover.inputs n cover.on cover.cubes w.rules.rows in
+    let cubes : map (cube_of (width_of words)) rows ≡ cover.cubes = ap (λ (k : ℕ). map (cube_of k) rows) width ∙ cubes_back cover.inputs n cover.on cover.cubes w.rules.cubes in
     ap (λ (ns : Words). NamesCell ns (last_word words) (cover_of words rows)) names
     ∙ ap (λ (o : List ℕ). NamesCell inputs o (cover_of words rows)) last
     ∙ ap (λ (c : Cover). NamesCell inputs out c) (all width on cubes)

@@ -15,7 +15,7 @@ use Rattle.lid_design.specs.declared.Cell.TheVariants.{Names as NamesCell, Latch
 use Rattle.lid_design.specs.declared.LatchKind.TheVariants.{Plain, Rise, Fall}
 use Rattle.lid_design.specs.declared.Inst.{Inst}
 use Rattle.lid_design.specs.declared.Bind.{Bind}
-use Rattle.lid_blif.specs.declared.fault.BlifFault.TheVariants.{Arity, RowOutside, RowShape, MixedRows, LatchType, LatchInit, BindShape, DuplicateModel, TooManyInputs, Limit}
+use Rattle.lid_blif.specs.declared.fault.BlifFault.TheVariants.{Arity, RowOutside, RowShape, MixedRows, LatchType, LatchInit, BindShape, DuplicateModel, Limit}
 use Rattle.lid_blif.specs.declared.keyword.Keyword.{Keyword}
 use Rattle.lid_blif.specs.declared.keyword.Keyword.TheVariants.{Model, Inputs, Outputs, Clock, Names, Latch, Subckt, End, Unknown, Row}
 use Rattle.lid_blif.specs.declared.context.Context.{Context}
@@ -24,7 +24,7 @@ use Rattle.lid_blif.specs.Words.{keyword_of, same_keyword, is_line, is_inner, le
 use Rattle.lid_blif.specs.Faults.{context_of, model_names, row_count, ends_in_zero, Case, outside, is_mixed, line_fault, first_fault}
 use Rattle.lid_blif.specs.Designs.{cube_of, width_of, names_of, kind_named, control_named, kind_of, control_of, bind_of, inst_of, latch_cell, names_cell, cell_before, cells_of, insts_of, model_of, models_of}
 use Rattle.lid_design.specs.WellFormed.{IsWellFormedCell}
-use Rattle.lid_blif.proofs.Faults.{told-none, first_fault_none, same_model}
+use Rattle.lid_blif.proofs.Faults.{told-none, first_fault_none, same_model, names_clear}
 use Rattle.lid_lines.specs.Texts.{Words}
 use Rattle.lid_blifout.specs.Canonical.{bind_word}
 use Rattle.lid_blifout.specs.Writable.{IsControl, IsWritableLatch, IsWritableBind, IsWritableInst, IsWritableCell, IsWritableModel, cell_rows, cells_rows, model_rows}
@@ -50,16 +50,6 @@ model_shape context names l h e =
     let later : List Case = (list_any (λ name. bytes_eq name (word_at l.words 1)) names, DuplicateModel l.number) ∷ (nat_lt 4096 (context.models + 1), Limit Models (context.models + 1)) ∷ [] in
     let first = told-none (not (length l.words == 2), Arity l.number) later clear in
     eqb-true (length l.words) 2 (not-false (length l.words == 2) first.0)
-
-names_shape : (context : Context) (names : Words) (l : Line) → line_fault context names l ≡ None → Names ≡ keyword_of l.words → 2 ≤ length l.words
-unfolding line_fault
-names_shape context names l h e =
-    let clear = rw (← e) at h in
-    let wide : List Case = (nat_lt 64 (inputs_of l.words), TooManyInputs l.number) ∷ [] in
-    let short : List Case = (nat_lt (length l.words) 2, Arity l.number) ∷ wide in
-    let inside = told-none (outside context l.number) short clear in
-    let long = told-none (nat_lt (length l.words) 2, Arity l.number) wide inside.1 in
-    ltb-false (length l.words) 2 long.0
 
 latch_shape : (context : Context) (names : Words) (l : Line) → line_fault context names l ≡ None → Latch ≡ keyword_of l.words → 3 ≤ length l.words
 unfolding line_fault
@@ -90,7 +80,7 @@ lines_shaped before (l ∷ ls) h =
     let names = model_names before in (
       record {
         model = model_shape context names l parts.0;
-        names = names_shape context names l parts.0;
+        names = λ e. (names_clear context names l parts.0 e).0;
         latch = latch_shape context names l parts.0;
         inst = λ e. (inst_shape context names l parts.0 e).0;
         binds = λ e. (inst_shape context names l parts.0 e).1;

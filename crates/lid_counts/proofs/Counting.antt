@@ -4,18 +4,17 @@ use Rattle.std.proofs.lemmas.Bool.{ltb-true, ltb-false}
 use Rattle.std.proofs.lemmas.List.{get_or-set_other}
 use Rattle.std.proofs.lemmas.Grind.{get_or-set_at}
 use Rattle.std.specs.Option.{option_map_or}
-use Rattle.std.specs.Str.{bytes_eq}
 use Rattle.lid_base.specs.Lists.{Among}
 use Rattle.lid_base.proofs.Lists.{among_at}
 use Rattle.lid_design.specs.declared.Design.{Design}
 use Rattle.lid_design.specs.declared.Inst.{Inst}
 use Rattle.lid_design.specs.WellFormed.{IsWellFormed}
-use Rattle.lid_design.specs.Models.{number_named, insts_of, instance_number, number_from, IsReached}
+use Rattle.lid_design.specs.Models.{number_named, insts_of, instance_number, IsReached}
 use Rattle.lid_hierarchy.specs.Surveys.{StandsAfterItsModels, IsModelOrder}
 use Rattle.lid_counts.specs.declared.counts.Measure.{Measure}
 use Rattle.lid_counts.specs.declared.counts.Measure.TheVariants.{Depth, Cells, Nets, Latches, Defaulted}
 use Rattle.lid_counts.specs.Counts.{own, joined, with_inst, with_insts, count_by_subs, count_within, count_of}
-use Rattle.lid_names.proofs.Numbers.{position_below, there}
+use Rattle.lid_names.proofs.Numbers.{there}
 use Rattle.lid_hierarchy.proofs.Walks.{reached_below}
 
 abbrev pub cut : ℕ → ℕ

@@ -74,14 +74,7 @@ fn count_model(survey: &Survey<'_>, what: Measure, k: u32, model: &Model, counts
 }
 
 /// Adds the count of the model of an instance.
-fn join_inst(
-    survey: &Survey<'_>,
-    what: Measure,
-    k: u32,
-    i: u32,
-    count: u64,
-    counts: &[u64],
-) -> u64
+fn join_inst(survey: &Survey<'_>, what: Measure, k: u32, i: u32, count: u64, counts: &[u64]) -> u64
     requires { count ≤ 4294967295 }
     ensures { (inst : Inst) → slice_get (insts_of survey.now k) i ≡ Some inst → result ≡ min (with_inst what survey.now (λ j. slice_index_or counts.now j 0) count inst) 4294967295 }
 {

@@ -7,7 +7,7 @@ use Rattle.lid_cover.specs.declared.Cover.{Cover}
 use Rattle.lid_design.specs.declared.Flat.{Flat}
 use Rattle.lid_design.specs.Network.{Driver, from_input, from_latch, from_cover}
 use Rattle.lid_design.specs.Walks.{read_now, Walk, IsDriven, IsDrivenOnce}
-use Rattle.lid_design.specs.Flat.{flat_drivers, AreNets, IsFlatCover, IsFlat}
+use Rattle.lid_design.specs.Flat.{flat_drivers, IsNumbered, IsFlatCover, IsFlat}
 
 abbrev both : Cover
 both = record { inputs = 2; on = true; cubes = record { care = 3; value = 3 } ∷ [] }
@@ -53,7 +53,7 @@ apart n input output (inl zeroth) (inr none) w = absurd none
 pub part_meets : (f : Flat) × IsFlat f × (length f.ins ≡ 1) × (length f.latches ≡ 1) × (length f.covers ≡ 1) × (length f.outs ≡ 1)
 part_meets = (part, record { below = below; once = once; driven = driven; earlier = ((inl refl, (inr (inl refl), tt)), tt); apart = apart; covers = (cover, tt) }, refl, refl, refl, refl)
   where
-    below : AreNets part
+    below : IsNumbered part
     below = record { ins = (omega arith, tt); outs = (omega arith, tt); latches = ((omega arith, omega arith), tt); covers = (((omega arith, (omega arith, tt)), omega arith), tt) }
 
     cover : IsFlatCover (record { ins = 0 ∷ 1 ∷ []; out = 2; cover = both })

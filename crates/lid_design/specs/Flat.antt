@@ -35,7 +35,7 @@ abbrev pub latch_init : FlatLatch → Bool
 latch_init latch = latch.init
 
 -- each net that a part names lies below the number of its nets
-pub record AreNets (f : Flat) : Type 0 where
+pub record IsNumbered (f : Flat) : Type 0 where
   pub ins : AllByRecursion (λ k. k < f.nets) f.ins
   pub outs : AllByRecursion (λ k. k < f.nets) f.outs
   pub latches : AllByRecursion (λ latch. (latch.input < f.nets) × (latch.out < f.nets)) f.latches
@@ -54,7 +54,7 @@ IsFlatCover c = IsCover c.cover × (c.cover.inputs ≡ length c.ins)
 -- that of a cover, and is so once; and no walk through covers, also none of no edges, leads from an
 -- input to an output
 pub record IsFlat (f : Flat) : Type 0 where
-  pub below : AreNets f
+  pub below : IsNumbered f
   pub once : IsDrivenOnce (flat_drivers f)
   pub driven : (k : ℕ) → k < f.nets → IsDriven (flat_drivers f) k
   pub earlier : ReadEarlier (f.ins ++ map latch_out f.latches) f.covers

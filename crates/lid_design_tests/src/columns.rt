@@ -3,10 +3,10 @@
 ghost use Rattle.lid_design.specs.WellFormed.{IsWellFormed};
 
 use crate::told::design_of;
-use lid_elab::{ColumnDriver, Elaboration, elaborate};
 use lid_design::Design;
-use lid_judge::check_models;
+use lid_elab::{ColumnDriver, Elaboration, elaborate};
 use lid_hierarchy::is_well_formed;
+use lid_judge::check_models;
 use lid_wiring::{Judged, judge};
 use std::alloc::{AllocError, Global};
 use std::process::Abort;

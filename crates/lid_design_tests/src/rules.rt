@@ -6,8 +6,8 @@ ghost use Rattle.lid_rules.specs.Acceptance.{ModelsPass};
 
 use crate::told::{Told, design_of, tells};
 use lid_design::Design;
-use lid_judge::{check_models, count_latches};
 use lid_hierarchy::Survey;
+use lid_judge::{check_models, count_latches};
 use std::alloc::{AllocError, Global};
 use std::fmt::Write;
 use std::process::Abort;

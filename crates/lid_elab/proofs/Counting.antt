@@ -1,5 +1,5 @@
 -- Sizes of models and offsets of their instances.
-use Rattle.std.proofs.Common.{◌≡◌, ◌≢◌, ◌⊎◌, ℕ, zero, suc, ◌+◌, ◌<◌, ◌≤◌, true, false, List, [], ◌∷◌, ◌++◌, length, take, set, replicate, get_or, eqb, Option, Some, None, option_and_then, slice_get, inl, inr, refl, sym, ◌∙◌, ap, subst, arith, add-zero}
+use Rattle.std.proofs.Common.{◌≡◌, ◌≢◌, ◌⊎◌, ℕ, zero, suc, ◌+◌, ◌<◌, ◌≤◌, true, false, List, [], ◌∷◌, ◌++◌, length, take, set, replicate, get_or, eqb, Option, Some, None, inl, inr, refl, sym, ◌∙◌, ap, subst, arith, add-zero}
 use Rattle.std.specs.Option.{option_map_or}
 use Rattle.std.proofs.lemmas.List.{take_all, take_more, get_or-set_same, get_or-set_other, length-set, length-replicate}
 use Rattle.std.proofs.lemmas.Option.{slice_get_read, get_or_from_slice_get}
@@ -31,6 +31,10 @@ offset_next d k i =
     let next : i + 1 ≡ suc i = omega arith in
     let step = over_step d (size_of d) (insts_of d k) i in
     ap (λ (n : ℕ). length (model_nets d k) + over_insts d (size_of d) (take n (insts_of d k))) next ∙ omega arith
+
+-- an offset and the size of its instance
+pub offset_after : (d : Design) (k i offset size : ℕ) → offset ≡ offset_of d k i → size ≡ option_map_or (size_of d) (instance_number d i k) 0 → offset + size ≡ offset_of d k (i + 1)
+offset_after d k i offset size here one = let next = offset_next d k i in omega arith
 
 module _ (d : Design) (judged : IsJudged d) (k : ℕ) (reached : IsReached d k) where
   pub size_is : size_of d k ≡ length (model_nets d k) + over_insts d (size_of d) (insts_of d k)

@@ -5,7 +5,7 @@ use Rattle.lid_base.proofs.Lists.{get_among, among_get}
 use Rattle.std.specs.Option.{option_map_or}
 use Rattle.lid_design.specs.declared.Design.{Design}
 use Rattle.lid_design.specs.declared.Model.{Model}
-use Rattle.lid_design.specs.Columns.{Column, column, drivers}
+use Rattle.lid_design.specs.Columns.{Column, drivers}
 use Rattle.lid_design.specs.Walks.{IsDriven}
 use Rattle.lid_design.specs.Models.{nets}
 use Rattle.lid_design.specs.Elaboration.{model_nets, columns}

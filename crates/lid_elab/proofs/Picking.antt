@@ -1,12 +1,11 @@
 -- What drives a net stands at the net's place among the driven nets.
-use Rattle.std.proofs.Common.{◌≡◌, ◌⊎◌, ℕ, ◌+◌, ◌≤◌, Bool, true, false, not, cond, List, [], ◌∷◌, ◌++◌, map, filter, Option, Some, None, option_map, slice_get, inl, inr, refl, sym, ◌∙◌, ap, subst, arith}
+use Rattle.std.proofs.Common.{◌≡◌, ◌⊎◌, ℕ, List, [], ◌∷◌, map, Option, Some, option_map, slice_get, inl, inr, refl, sym, ◌∙◌, ap, subst}
 use Rattle.std.specs.Option.{option_map_or}
-use Rattle.std.specs.List.{AllByRecursion, IsDistinct, flat_map, count_by, position_or_len}
+use Rattle.std.specs.List.{position_or_len}
 use Rattle.std.specs.Str.{bytes_eq}
-use Rattle.std.proofs.lemmas.Bool.{ltb-false}
 use Rattle.std.proofs.lemmas.Option.{slice_get-map}
 use Rattle.lid_base.specs.Lists.{Among}
-use Rattle.lid_base.proofs.Lists.{among_right, among_append, filter_among, among_map, map_among, among_flat, flat_among, get_among, bytes_same}
+use Rattle.lid_base.proofs.Lists.{among_map, get_among}
 use Rattle.lid_design.specs.declared.Design.{Design}
 use Rattle.lid_design.specs.declared.Model.{Model}
 use Rattle.lid_design.specs.declared.Cell.{Cell}
@@ -16,8 +15,6 @@ use Rattle.lid_design.specs.Columns.{is_among, is_clock, data_inputs, model_name
 use Rattle.lid_design.specs.Models.{firsts, nets, cell_out, control_names, driven_by, actuals_bound_to, inner_drivers, port_drivers, driver_names, IsReached}
 use Rattle.lid_design.specs.Elaboration.{model_nets}
 use Rattle.lid_names.specs.Names.{texts}
-use Rattle.lid_names.proofs.Lists.{count_append}
-use Rattle.lid_hierarchy.proofs.Numbers.{firsts_distinct}
 use Rattle.lid_wiring.specs.Locals.{Local, NetLocal, locals, of_net, model_locals}
 use Rattle.lid_elab.specs.Templates.{shown_local, numbered}
 use Rattle.lid_elab.specs.Parts.{net_of, numbered_local, Shows, IsPicked}
@@ -25,9 +22,7 @@ use Rattle.lid_wiring.specs.Judged.{IsJudged}
 use Rattle.lid_elab.specs.declared.driven.Driven.{Driven}
 use Rattle.lid_elab.specs.declared.template.LocalDriver.{LocalDriver}
 use Rattle.lid_wiring.proofs.Names.{position_get, map_some}
-use Rattle.lid_wiring.proofs.Locals.{locals_named}
-use Rattle.lid_wiring.proofs.Wired.{Spot, spot_input, spot_cell, spot_bind, occurs, among_bound, sound}
-use Rattle.lid_wiring.proofs.Single.{inputs_fewer, exactly_one, of_net_among}
+use Rattle.lid_wiring.proofs.Single.{exactly_one, of_net_among}
 use Rattle.lid_wiring.proofs.Driven.{once_firsts, among_of_net, driven_once}
 
 module _ (d : Design) (judged : IsJudged d) (k : ℕ) (reached : IsReached d k) (m : Model) (here : slice_get d.models k ≡ Some m) where

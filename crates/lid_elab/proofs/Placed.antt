@@ -1,12 +1,11 @@
 -- What is placed is the driver of its column.
-use Rattle.std.proofs.Common.{◌≡◌, ◌⊎◌, ℕ, zero, suc, ◌+◌, ◌<◌, ◌≤◌, Bool, true, false, not, cond, List, [], ◌∷◌, ◌++◌, length, map, Option, Some, None, option_and_then, option_map, slice_get, slice_index, inl, inr, refl, sym, ◌∙◌, ap, subst, arith, one-add}
+use Rattle.std.proofs.Common.{◌≡◌, ℕ, zero, suc, ◌+◌, ◌<◌, ◌≤◌, Bool, List, [], ◌∷◌, ◌++◌, length, map, Option, Some, None, option_and_then, option_map, slice_get, slice_index, inl, inr, refl, sym, ◌∙◌, ap, subst, arith}
 use Rattle.std.specs.Prelude.{slice_index_or}
 use Rattle.std.specs.Option.{option_map_or}
-use Rattle.std.specs.List.{All, AllByRecursion, position_or_len, prefix_len}
-use Rattle.std.specs.Str.{bytes_eq}
+use Rattle.std.specs.List.{All, AllByRecursion}
 use Rattle.std.proofs.lemmas.Option.{get_or_from_slice_get, slice_get_within, slice_get-map}
 use Rattle.lid_base.specs.Lists.{Among}
-use Rattle.lid_base.proofs.Lists.{get_among, same_bytes, bytes_same}
+use Rattle.lid_base.proofs.Lists.{get_among}
 use Rattle.lid_cover.specs.declared.Cover.{Cover}
 use Rattle.lid_design.specs.declared.Design.{Design}
 use Rattle.lid_design.specs.declared.Model.{Model}

@@ -4,8 +4,8 @@ ghost use Rattle.lid_wiring.specs.Judged.{IsJudged};
 ghost use Rattle.lid_elab.specs.Parts.{AreTemplates};
 
 use crate::driver::ColumnDriver;
-use crate::template::{Template, find_templates};
 use crate::placing::place_all;
+use crate::template::{Template, find_templates};
 use lid_base::Items;
 use lid_hierarchy::Survey;
 use lid_wiring::Judged;

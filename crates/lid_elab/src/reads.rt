@@ -24,7 +24,10 @@ fn reads_of(alloc: Global, driver: &ColumnDriver<'_>) -> Result<Items<u32>, Allo
 ///
 /// # Errors
 /// Where there is no memory.
-pub fn find_reads(alloc: Global, drivers: &[ColumnDriver<'_>]) -> Result<Items<Items<u32>>, AllocError>
+pub fn find_reads(
+    alloc: Global,
+    drivers: &[ColumnDriver<'_>],
+) -> Result<Items<Items<u32>>, AllocError>
     ensures { IfOk result (λ reads. reads ≡ map read_now (map shown_driver drivers.now)) }
 {
     let mut all = Vec::new(alloc);

@@ -1,5 +1,5 @@
 -- The numbers of models by the set of their names, and the list of the reached models.
-use Rattle.std.proofs.Common.{◌≡◌, ◌↔◌, ℕ, zero, suc, ◌+◌, ◌<◌, ◌≤◌, nat_lt, Bool, true, false, not, cond, List, [], ◌∷◌, length, map, filter, position, Option, Some, None, inl, inr, refl, sym, ◌∙◌, ap, subst, arith, add-zero, zero-add, ◌^◌}
+use Rattle.std.proofs.Common.{◌≡◌, ◌↔◌, ℕ, zero, suc, ◌+◌, ◌<◌, ◌≤◌, Bool, true, false, not, cond, List, [], ◌∷◌, length, map, filter, position, inl, inr, refl, sym, ◌∙◌, ap, subst, arith, add-zero, zero-add, ◌^◌}
 use Rattle.std.specs.List.{AllByRecursion, IsDistinct, prefix_len}
 use Rattle.std.specs.Str.{bytes_eq}
 use Rattle.std.proofs.lemmas.List.{length-map}

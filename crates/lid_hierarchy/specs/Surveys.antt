@@ -7,7 +7,7 @@ use Rattle.lid_hierarchy.specs.declared.survey.SurveyFault.TheVariants.{Recursiv
 use Rattle.lid_design.specs.WellFormed.{IsWellFormed}
 use Rattle.lid_design.specs.Columns.{is_among}
 use Rattle.lid_design.specs.Elaboration.{model_nets}
-use Rattle.lid_design.specs.Models.{number_named, insts_of, instance_number, is_clock_of, IsReached, ReachesItself, HasNoRecursion, AreReached, IsFirstRecursive}
+use Rattle.lid_design.specs.Models.{number_named, insts_of, instance_number, is_clock_of, IsReached, HasNoRecursion, AreReached, IsFirstRecursive}
 
 -- for each model, the number of the model of each of its instances, where there is one
 abbrev pub instance_numbers : Design → List (List (Option ℕ))

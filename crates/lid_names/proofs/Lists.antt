@@ -9,7 +9,6 @@ use Rattle.std.proofs.Math.Bool.{or-false, and-false}
 use Rattle.std.proofs.lemmas.List.Elements.{filter-append}
 use Rattle.std.proofs.lemmas.List.Folds.{list_any-append}
 use Rattle.std.proofs.lemmas.List.Sums.{sum_by-append}
-use Rattle.std.proofs.lemmas.Slice.Eq.{bytes_eq-Decides}
 use Rattle.lid_base.proofs.Lists.{same_bytes}
 use Rattle.lid_names.specs.Names.{is_among, firsts, with_name, texts}
 

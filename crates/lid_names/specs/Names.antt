@@ -2,10 +2,8 @@
 -- this crate alone.
 use denote.Ref.{Bor}
 use Rattle.lid_design.specs.Models.{is_twice}
-use Rattle.std.specs.Prelude.{◌≡◌, ℕ, Bool, nat_lt, if◌then◌else◌, List, [], ◌∷◌, ◌++◌, map, count_by}
-use Rattle.std.specs.Str.{bytes_eq}
+use Rattle.std.specs.Prelude.{◌≡◌, ℕ, if◌then◌else◌, List, [], ◌∷◌, ◌++◌, map}
 use Rattle.indexmap.specs.IndexSet.{IndexSet}
-use Rattle.lid_design.specs.declared.Bind.{Bind}
 pub use Rattle.lid_design.specs.Columns.{is_among}
 pub use Rattle.lid_design.specs.Models.{firsts}
 

@@ -6,7 +6,7 @@ mod listing;
 mod set;
 
 pub use listing::{
-    list_formals, list_occurrences, model_at, out_of, push_name, push_names, push_outs,
-    push_reads, set_of, tally_of,
+    list_formals, list_occurrences, model_at, out_of, push_name, push_names, push_outs, push_reads,
+    set_of, tally_of,
 };
 pub use set::{NameSet, Tally, find_twice, tally_names};

@@ -1,5 +1,5 @@
 -- Sets of the names of lists, and lists by tests that agree.
-use Rattle.std.proofs.Common.{◌≡◌, ℕ, zero, suc, ◌+◌, nat_lt, count_by, ◌++◌, arith, Bool, true, false, ◌||◌, ◌&&◌, cond, List, [], ◌∷◌, filter, find, Option, Some, slice_get, slice_index_or, refl, sym, ◌∙◌, ap}
+use Rattle.std.proofs.Common.{◌≡◌, ℕ, zero, suc, nat_lt, count_by, ◌++◌, arith, Bool, true, false, ◌||◌, ◌&&◌, cond, List, [], ◌∷◌, filter, find, Option, Some, slice_get, slice_index_or, refl, sym, ◌∙◌, ap}
 use Rattle.std.specs.Option.{option_map_or}
 use Rattle.std.proofs.Math.Bool.{and-false, or_comm}
 use Rattle.std.specs.Str.{bytes_eq}

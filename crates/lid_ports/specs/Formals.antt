@@ -1,6 +1,6 @@
 -- How the conditions on instances are tried: the first formal that breaks one.
 use denote.Ref.{Bor}
-use Rattle.std.specs.Prelude.{ℕ, Bool, not, ◌||◌, List, map, find, Option, option_map, option_and_then, slice_get}
+use Rattle.std.specs.Prelude.{ℕ, Bool, not, ◌||◌, List, find, Option, option_map, option_and_then, slice_get}
 use Rattle.lid_design.specs.declared.Design.{Design}
 use Rattle.lid_design.specs.declared.Inst.{Inst}
 use Rattle.lid_design.specs.Columns.{is_among, model_named, data_inputs}

@@ -130,7 +130,9 @@ fn outputs_of<'j>(judged: &'j Judged<'_>) -> &'j [Name]
     ensures { result.now ≡ root_outputs judged.now }
 {
     let design = judged.survey().design();
-    design.models.as_slice()[design.root as usize].outputs.as_slice()
+    design.models.as_slice()[design.root as usize]
+        .outputs
+        .as_slice()
 }
 
 /// The place of an output of the root among the nets of the root.

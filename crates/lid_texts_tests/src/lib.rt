@@ -1,8 +1,10 @@
-//! Tests of what every part stands on and of the texts of rows, over their public calls.
+//! Tests of what every part stands on, of lines and of the texts of rows, over their public calls.
 #![tactic(auto)]
 
 #[cfg(test)]
 mod base;
+#[cfg(test)]
+mod numbers;
 #[cfg(test)]
 mod reports;
 #[cfg(test)]

@@ -13,7 +13,7 @@ use Rattle.lid_design.specs.declared.Cell.{Cell}
 use Rattle.lid_design.specs.declared.Cell.TheVariants.{Names, Latch}
 use Rattle.lid_design.specs.declared.Inst.{Inst}
 use Rattle.lid_design.specs.Network.{Driver}
-use Rattle.lid_design.specs.Columns.{Column, column, is_among, model_named, model_at, is_clock, data_inputs, cell_at, output_at, actuals_of, port_at, drivers_in, drivers}
+use Rattle.lid_design.specs.Columns.{Column, is_among, model_named, model_at, is_clock, data_inputs, cell_at, output_at, actuals_of, port_at, drivers_in, drivers}
 use Rattle.lid_design.specs.Walks.{IsDriven}
 use Rattle.lid_design.specs.Models.{firsts, nets, port_drivers, inner_drivers, driver_names, driven_by, actuals_bound_to, cell_out, control_names, number_from, IsReached}
 use Rattle.lid_names.proofs.Lists.{count_append}

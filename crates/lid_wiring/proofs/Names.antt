@@ -1,11 +1,10 @@
 -- Names in lists of names.
-use Rattle.std.proofs.Common.{◌≡◌, ◌⊎◌, ℕ, zero, suc, ◌+◌, ◌≤◌, Bool, true, false, ◌||◌, not, cond, List, [], ◌∷◌, ◌++◌, map, filter, find, Option, Some, None, option_map, slice_get, inl, inr, refl, sym, ◌∙◌, ap, subst, arith, one-add}
-use Rattle.std.specs.List.{flat_map, count_by, enumerate_from, position_or_len, prefix_len}
+use Rattle.std.proofs.Common.{◌≡◌, ◌⊎◌, ℕ, ◌+◌, ◌≤◌, Bool, true, false, ◌||◌, not, cond, List, [], ◌∷◌, find, Option, Some, None, option_map, slice_get, inl, inr, refl, sym, ◌∙◌, ap, subst, arith, one-add}
+use Rattle.std.specs.List.{count_by, position_or_len, prefix_len}
 use Rattle.std.specs.Str.{bytes_eq}
-use Rattle.std.proofs.lemmas.Slice.Eq.{bytes_eq-Decides}
 use Rattle.std.proofs.lemmas.List.Sums.{sum_by-cons}
 use Rattle.lid_base.specs.Lists.{Among}
-use Rattle.lid_base.proofs.Lists.{among_left, among_right, among_append, same_bytes, bytes_same}
+use Rattle.lid_base.proofs.Lists.{same_bytes, bytes_same}
 use Rattle.lid_design.specs.Columns.{is_among}
 
 pub to_among : (x : List ℕ) (xs : List (List ℕ)) → is_among x xs ≡ true → Among x xs

@@ -1,25 +1,19 @@
 use Rattle.std.proofs.Common.{◌≡◌, ◌⊎◌, ℕ, ◌+◌, List, Some, length, slice_get, inl, inr, sym, ◌∙◌, ap, arith}
 use Rattle.lid_elab.specs.Numbers.{offset_of}
-use Rattle.lid_elab.proofs.Counting.{offset_next, offset_small}
+use Rattle.lid_elab.proofs.Counting.{offset_after, offset_small}
 use Rattle.lid_elab.proofs.Driving.{appended_get}
 use Rattle.lid_elab.proofs.sizes.offsets_of.Goals as goal
 
 pub overflow_add-offset : goal.overflow_add-offset
 overflow_add-offset c =
-    let d = c.args.survey.now in
-    let k = c.args.model in
-    let i = c.loop-inst.inst in
-    let few = offset_small d c.requires.judged k c.requires.reached (i + 1) in
-    let next : c.loop-inst.offset + c.inst_size-offset.result ≡ offset_of d k (i + 1) = ap (λ (n : ℕ). n + c.inst_size-offset.result) c.loop-inst.invariant.offset ∙ ap (λ (n : ℕ). offset_of d k i + n) c.inst_size-offset.ensures ∙ sym (offset_next d k i) in
+    let few = offset_small c.args.survey.now c.requires.judged c.args.model c.requires.reached (c.loop-inst.inst + 1) in
+    let next = offset_after c.args.survey.now c.args.model c.loop-inst.inst c.loop-inst.offset c.inst_size-offset.result c.loop-inst.invariant.offset c.inst_size-offset.ensures in
     omega arith
 
 pub loop-inst-preserved : goal.loop-inst-preserved
 loop-inst-preserved c =
-    let d = c.args.survey.now in
-    let k = c.args.model in
-    let i = c.loop-inst.inst in
     record {
-      offset = ap (λ (n : ℕ). n + c.inst_size-offset.result) c.loop-inst.invariant.offset ∙ ap (λ (n : ℕ). offset_of d k i + n) c.inst_size-offset.ensures ∙ sym (offset_next d k i);
+      offset = offset_after c.args.survey.now c.args.model c.loop-inst.inst c.loop-inst.offset c.inst_size-offset.result c.loop-inst.invariant.offset c.inst_size-offset.ensures;
       few = (let a = c.in_ok-push.ensures.len in let b = c.loop-inst.invariant.few in omega arith);
       each = λ j o at. by j o (appended_get c.loop-inst.offsets.items c.loop-inst.offset j o (ap (λ (os : List ℕ). slice_get os j) (sym c.in_ok-push.ensures.items) ∙ at));
     }

@@ -4,7 +4,7 @@ use Rattle.lid_digraph.specs.Results.{IsFound}
 use Rattle.lid_digraph.specs.declared.topological.Found.TheVariants.{Order, Loop}
 use Rattle.lid_design.specs.Models.{HasNoRecursion}
 use Rattle.lid_hierarchy.specs.Surveys.{IsModelOrder}
-use Rattle.lid_hierarchy.specs.Graphs.{IsUsedGraph, IsKept}
+use Rattle.lid_hierarchy.specs.Graphs.{IsUsedGraph}
 use Rattle.lid_hierarchy.proofs.Orders.{kept_order, least_recursive, none_recursive}
 use Rattle.lid_base.proofs.Results.{if_ok}
 use Rattle.lid_hierarchy.proofs.Steps.{on_any}

@@ -1,5 +1,5 @@
 use denote.Ref.{Bor}
-use Rattle.std.proofs.Common.{◌≡◌, ◌++◌, List, ℕ, sym, ◌∙◌, ap, subst}
+use Rattle.std.proofs.Common.{◌≡◌, ◌++◌, List, ℕ, ◌∙◌, ap, subst}
 use Rattle.lid_design.specs.Models.{port_drivers, inner_drivers, driver_names}
 use Rattle.lid_names.specs.Names.{texts, IsTally}
 use Rattle.lid_ports.proofs.Sets.{tally_swapped}

@@ -5,11 +5,13 @@ use Rattle.lid_names.proofs.Lists.{is_among_firsts}
 use Rattle.lid_ports.proofs.nets.collect_nets.Goals as goal
 
 pub returns : goal.returns
-returns c =
-    (refl, record {
-      here = c.requires.model;
-      driven = c.in_ok-drivers.ensures.all.each;
-      again = c.in_ok-drivers.ensures.all.again;
-      within = λ n. ap (is_among n) c.in_ok-drivers.ensures.inner ∙ is_among_firsts n (inner_drivers c.args.ports.now c.args.model.now);
-      read = λ n. ap (is_among n) c.in_ok-reads.ensures ∙ is_among_firsts n (read_names c.args.ports.now c.args.model.now);
-    })
+returns c = (
+  refl,
+  record {
+    here = c.requires.model;
+    driven = c.in_ok-drivers.ensures.all.each;
+    again = c.in_ok-drivers.ensures.all.again;
+    within = λ n. ap (is_among n) c.in_ok-drivers.ensures.inner ∙ is_among_firsts n (inner_drivers c.args.ports.now c.args.model.now);
+    read = λ n. ap (is_among n) c.in_ok-reads.ensures ∙ is_among_firsts n (read_names c.args.ports.now c.args.model.now);
+  },
+)

@@ -7,4 +7,4 @@ use Rattle.lid_strict.proofs.whole.number_outputs.Given as goal
 abbrev pub invariant-loop-name : goal.invariant-loop-name
 invariant-loop-name l =
     AllByRecursion (λ (k : ℕ). k < length l.columns.drivers) l.numbers.items
-    × (map (column_at l.judged) l.numbers.items ≡ map (column []) (take l.name-index l.name-items))
+    × (map (column_at l.judged) l.numbers.items ≡ map (column []) (take l.name-index l.outputs))
