@@ -1,6 +1,5 @@
 -- Items among lists, and by their places.
-use Rattle.std.proofs.Common.{◌≡◌, ℕ, zero, suc, List, [], ◌∷◌, map, Some, None, slice_get, inl, inr, refl, sym, ap, subst}
-use Rattle.std.specs.List.{AllByRecursion}
+use Rattle.std.proofs.Common.{ℕ, List, [], ◌∷◌, inl, inr}
 use Rattle.lid_base.specs.Lists.{Among}
 
 pub to_numbers : (x : ℕ) (xs : List ℕ) → Among x xs → Among x xs

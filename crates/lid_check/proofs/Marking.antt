@@ -2,11 +2,11 @@
 use Rattle.std.proofs.Common.{◌≡◌, ◌⊎◌, ◌↔◌, ℕ, zero, suc, Bool, true, false, List, [], ◌∷◌, ◌++◌, length, not, filter, Option, Some, None, IsSome, slice_get, inl, inr, refl, sym, ◌∙◌, ap, subst}
 use Rattle.std.specs.Option.{option_map_or}
 use Rattle.lid_base.specs.Lists.{Among}
-use Rattle.lid_base.proofs.Lists.{among_left, among_right, among_last, among_push}
+use Rattle.lid_base.proofs.Lists.{among_left, among_last, among_push}
 use Rattle.lid_design.specs.declared.Design.{Design}
 use Rattle.lid_design.specs.declared.Model.{Model}
 use Rattle.lid_design.specs.Columns.{is_clock, data_inputs}
-use Rattle.lid_design.specs.Models.{IsReached, is_clock_of, instance_number, number_from, data_inputs_of}
+use Rattle.lid_design.specs.Models.{is_clock_of, instance_number, data_inputs_of}
 use Rattle.lid_digraph.specs.Graphs.{flag}
 use Rattle.lid_check.specs.declared.pearls.Pearl.{Pearl}
 use Rattle.lid_check.specs.Pearls.{number_in, IsNumberOf, IsInputOf}

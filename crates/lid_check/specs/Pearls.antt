@@ -5,7 +5,7 @@ use Rattle.std.specs.Str.{bytes_eq}
 use Rattle.lid_base.specs.Lists.{Among}
 use Rattle.lid_design.specs.declared.Design.{Design}
 use Rattle.lid_design.specs.declared.Model.{Model}
-use Rattle.lid_design.specs.Columns.{data_inputs, model_at}
+use Rattle.lid_design.specs.Columns.{model_at}
 use Rattle.lid_design.specs.Models.{IsReached, insts_of, instance_number, data_inputs_of}
 use Rattle.lid_design.specs.Elaboration.{model_nets}
 use Rattle.lid_design.specs.Loops.{pearls, IsDependent}

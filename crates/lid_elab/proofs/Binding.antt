@@ -13,14 +13,13 @@ use Rattle.lid_design.specs.declared.Design.{Design}
 use Rattle.lid_design.specs.declared.Model.{Model}
 use Rattle.lid_design.specs.declared.Inst.{Inst}
 use Rattle.lid_design.specs.declared.Bind.{Bind}
-use Rattle.lid_design.specs.Models.{firsts, insts_of, number_named, number_from, instance_number, IsReached, formal_of, data_inputs_of}
+use Rattle.lid_design.specs.Models.{firsts, insts_of, number_named, number_from, instance_number, IsReached, formal_of}
 use Rattle.lid_design.specs.Elaboration.{model_nets}
 use Rattle.lid_names.specs.Names.{texts}
 use Rattle.lid_hierarchy.proofs.Fixpoints.{find_position}
 use Rattle.lid_hierarchy.proofs.Numbers.{bytes_eq_comm}
 use Rattle.lid_elab.specs.Numbers.{offset_of}
 use Rattle.lid_wiring.specs.Locals.{of_net, first_name_of, actual_for, model_locals}
-use Rattle.lid_elab.specs.Templates.{place_in}
 use Rattle.lid_elab.specs.Parts.{Shows, picks_among, places_bound, places_in_inst, IsTemplate, IsPicked, ArePicked}
 use Rattle.lid_wiring.specs.Judged.{IsJudged}
 use Rattle.lid_elab.specs.declared.driven.Driven.{Driven}

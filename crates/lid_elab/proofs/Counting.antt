@@ -8,7 +8,7 @@ use Rattle.lid_base.specs.Lists.{Among}
 use Rattle.lid_base.proofs.Lists.{among_left, among_right, last_case}
 use Rattle.lid_design.specs.declared.Design.{Design}
 use Rattle.lid_design.specs.declared.Inst.{Inst}
-use Rattle.lid_design.specs.Models.{insts_of, instance_number, number_named, IsReached}
+use Rattle.lid_design.specs.Models.{insts_of, instance_number, IsReached}
 use Rattle.lid_design.specs.Elaboration.{model_nets}
 use Rattle.lid_hierarchy.specs.Surveys.{StandsAfterItsModels, IsModelOrder}
 use Rattle.lid_elab.specs.Numbers.{over_insts, size_of, offset_of}

@@ -10,7 +10,7 @@ use Rattle.lid_design.specs.declared.Design.{Design}
 use Rattle.lid_design.specs.declared.Model.{Model}
 use Rattle.lid_design.specs.declared.Inst.{Inst}
 use Rattle.lid_design.specs.Columns.{Column, column, is_clock}
-use Rattle.lid_design.specs.Models.{occurrences, firsts, nets, insts_of, number_named, instance_number, number_from, IsReached}
+use Rattle.lid_design.specs.Models.{occurrences, firsts, nets, insts_of, number_named, instance_number, number_from}
 use Rattle.lid_design.specs.Elaboration.{instance, instances, model_nets, columns_at, columns}
 use Rattle.lid_elab.specs.Numbers.{over_insts, size_within, size_of, offset_of, start_of, columns_in}
 use Rattle.lid_wiring.specs.Judged.{IsJudged}

@@ -9,7 +9,7 @@ use Rattle.lid_base.proofs.Lists.{then_some}
 use Rattle.lid_design.specs.declared.Design.{Design}
 use Rattle.lid_design.specs.declared.Inst.{Inst}
 use Rattle.lid_design.specs.Columns.{Column, column}
-use Rattle.lid_design.specs.Models.{insts_of, number_named, instance_number, number_from, IsReached}
+use Rattle.lid_design.specs.Models.{insts_of, number_named, instance_number, number_from}
 use Rattle.lid_design.specs.Elaboration.{Instance, instance, instances_in, instances, model_nets, columns_at, columns}
 use Rattle.lid_elab.specs.Numbers.{over_insts, size_within, size_of, offset_of, start_of, columns_in, StandsAt}
 use Rattle.lid_elab.specs.Elaborations.{StartsAt}

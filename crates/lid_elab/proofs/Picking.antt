@@ -8,11 +8,7 @@ use Rattle.lid_base.specs.Lists.{Among}
 use Rattle.lid_base.proofs.Lists.{among_map, get_among}
 use Rattle.lid_design.specs.declared.Design.{Design}
 use Rattle.lid_design.specs.declared.Model.{Model}
-use Rattle.lid_design.specs.declared.Cell.{Cell}
-use Rattle.lid_design.specs.declared.Cell.TheVariants.{Names, Latch}
-use Rattle.lid_design.specs.declared.Inst.{Inst}
-use Rattle.lid_design.specs.Columns.{is_among, is_clock, data_inputs, model_named}
-use Rattle.lid_design.specs.Models.{firsts, nets, cell_out, control_names, driven_by, actuals_bound_to, inner_drivers, port_drivers, driver_names, IsReached}
+use Rattle.lid_design.specs.Models.{firsts, nets, IsReached}
 use Rattle.lid_design.specs.Elaboration.{model_nets}
 use Rattle.lid_names.specs.Names.{texts}
 use Rattle.lid_wiring.specs.Locals.{Local, NetLocal, locals, of_net, model_locals}

@@ -10,7 +10,7 @@ use Rattle.lid_design.specs.declared.Design.{Design}
 use Rattle.lid_design.specs.Network.{Driver}
 use Rattle.lid_design.specs.Columns.{Column}
 use Rattle.lid_design.specs.Walks.{read_now, read_before}
-use Rattle.lid_design.specs.Models.{insts_of, instance_number, number_from, IsReached}
+use Rattle.lid_design.specs.Models.{insts_of, instance_number, number_from}
 use Rattle.lid_design.specs.Elaboration.{instances, columns}
 use Rattle.lid_design.proofs.Reached.{root_reached}
 use Rattle.lid_wiring.specs.Judged.{IsJudged}

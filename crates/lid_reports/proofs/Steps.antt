@@ -1,5 +1,5 @@
 -- Steps of the loops and calls that make texts of runs, and of the reading of a schedule.
-use Rattle.std.proofs.Common.{◌≡◌, ℕ, zero, suc, ◌+◌, ◌-◌, ◌*◌, ◌/◌, ◌%◌, ◌^◌, ◌<◌, ◌≤◌, List, [], ◌∷◌, ◌++◌, length, take, drop, map, Option, Some, None, Result, Ok, Err, refl, sym, ap, ◌∙◌, append_assoc, subst, arith}
+use Rattle.std.proofs.Common.{◌≡◌, ℕ, zero, suc, ◌+◌, ◌-◌, ◌*◌, ◌/◌, ◌%◌, ◌<◌, List, [], ◌∷◌, ◌++◌, length, take, drop, map, Option, Some, Err, sym, ap, ◌∙◌, append_assoc, subst, arith}
 use Rattle.std.specs.List.{enumerate_from}
 use Rattle.lid_base.specs.declared.runs.Shown.{Shown}
 use Rattle.lid_lines.specs.Texts.{line_text}

@@ -1,7 +1,7 @@
 -- The words of lines that tell of runs.
 use Rattle.std.specs.Prelude.{ℕ, zero, suc, ◌+◌, ◌-◌, ◌/◌, ◌%◌, ◌==◌, nat_lt, if◌then◌else◌, List, [], ◌∷◌, ◌++◌, map, codes}
 use Rattle.std.specs.Fmt.{decimal}
-use Rattle.lid_lines.specs.Texts.{Words, line_text}
+use Rattle.lid_lines.specs.Texts.{line_text}
 use Rattle.lid_reports.specs.declared.pieces.Piece.{Piece}
 use Rattle.lid_reports.specs.declared.pieces.Piece.TheVariants.{Text, Number, Hex, Node}
 

@@ -16,7 +16,7 @@ use Rattle.lid_design.specs.declared.Model.{Model}
 use Rattle.lid_design.specs.Network.{Driver}
 use Rattle.lid_design.specs.Columns.{Column, column, root_outputs}
 use Rattle.lid_design.specs.WellFormed.{IsWellFormed}
-use Rattle.lid_design.specs.Models.{nets, number_from, IsReached}
+use Rattle.lid_design.specs.Models.{nets, number_from}
 use Rattle.lid_design.specs.Elaboration.{columns, model_nets}
 use Rattle.lid_wiring.specs.Judged.{IsJudged}
 use Rattle.lid_elab.specs.Elaborations.{column_at, IsElaborated}

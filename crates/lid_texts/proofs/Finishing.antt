@@ -1,19 +1,18 @@
 -- A scan of rows at the end of the text.
-use Rattle.std.proofs.Common.{◌≡◌, ℕ, zero, suc, ◌+◌, ◌<◌, ◌≤◌, nat_lt, Bool, true, false, List, [], ◌∷◌, ◌++◌, length, map, drop, filter, Option, Some, None, Result, Ok, Err, inl, inr, refl, sym, ap, ◌∙◌, subst, arith, ltb-false}
+use Rattle.std.proofs.Common.{◌≡◌, ℕ, zero, suc, ◌+◌, ◌<◌, ◌≤◌, nat_lt, Bool, true, false, List, [], ◌∷◌, ◌++◌, length, map, drop, filter, Option, Some, None, Ok, Err, inl, inr, refl, sym, ap, ◌∙◌, subst, arith}
 use Rattle.std.specs.Prelude.{◌⊎◌, ◌^◌, is_some, if◌then◌else◌, IfOk, IfErr, OnErr}
 use Rattle.std.specs.List.{AllByRecursion, slice_split, enumerate_from}
-use Rattle.std.proofs.lemmas.Bool.{lt-ltb, le-leb}
+use Rattle.std.proofs.lemmas.Bool.{lt-ltb}
 use Rattle.std.proofs.lemmas.List.{length-map}
 use Rattle.lid_base.specs.declared.which.Which.TheVariants.{FileBytes}
 use Rattle.lid_base.specs.Lines.{is_newline, joins_of, physical_lines}
-use Rattle.lid_texts.specs.declared.rows.Rows.{Rows}
 use Rattle.lid_texts.specs.declared.rows.VecFault.{VecFault}
 use Rattle.lid_texts.specs.declared.rows.VecFault.TheVariants.{Header, Limit, Memory}
 use Rattle.lid_texts.specs.declared.walk.RowWalk.{RowWalk}
 use Rattle.lid_texts.specs.declared.scan.RowScan.{RowScan}
-use Rattle.lid_texts.specs.Rows.{RowsLine, rows_line, has_words, first_some, line_faults, lines_fault, ok_unless, bits_reading, under_columns, rows_lines, rows_reading, row_bits}
+use Rattle.lid_texts.specs.Rows.{RowsLine, rows_line, has_words, first_some, line_faults, ok_unless, bits_reading, under_columns, rows_lines, rows_reading, row_bits}
 use Rattle.lid_texts.specs.Scans.{ended_lines, logical_of, sound_rows, ended_rows}
-use Rattle.lid_texts.specs.RowsWalk.{joined, alone, if_logical, begun_of, with_last, RowsGrow, AreSound, IsFaulty, AreJudged, Goes, IsWalked, counted}
+use Rattle.lid_texts.specs.RowsWalk.{joined, alone, if_logical, begun_of, with_last, RowsGrow, IsFaulty, AreJudged, Goes, IsWalked, counted}
 use Rattle.lid_texts.specs.Scanned.{HasRead, Gives, Finishes}
 use Rattle.lid_texts.proofs.Splits.{ended_are, last_part, some_parts, few_ended, whole_last}
 use Rattle.lid_texts.proofs.Faulted.{first_fine, first_more, faults_more, rows_fine}

@@ -1,15 +1,13 @@
 -- A logical line is judged after those before it.
-use Rattle.std.proofs.Common.{◌≡◌, ℕ, zero, suc, ◌+◌, ◌<◌, ◌≤◌, ◌==◌, ◌^◌, nat_lt, Bool, true, false, cond, List, [], ◌∷◌, ◌++◌, length, filter, Option, Some, None, inl, inr, refl, sym, ap, ◌∙◌, length-append, subst, arith}
+use Rattle.std.proofs.Common.{◌≡◌, ℕ, zero, suc, ◌+◌, ◌<◌, ◌≤◌, Bool, true, false, cond, List, [], ◌∷◌, ◌++◌, length, Option, Some, None, inl, inr, refl, sym, ap, ◌∙◌, length-append, subst, arith}
 use Rattle.std.specs.Prelude.{is_some, min}
-use Rattle.std.specs.List.{AllByRecursion}
 use Rattle.std.proofs.lemmas.List.{append-nil}
-use Rattle.std.proofs.lemmas.Bool.{lt-ltb}
 use Rattle.lid_texts.specs.declared.rows.VecFault.{VecFault}
 use Rattle.lid_texts.specs.declared.walk.RowWalk.{RowWalk}
 use Rattle.lid_texts.specs.Rows.{RowsLine, has_words, row_bits, first_some, line_faults}
 use Rattle.lid_texts.specs.Scans.{sound_rows}
-use Rattle.lid_texts.specs.RowsWalk.{line_fault, IsKept, if_logical, RowsGrow, AreSound, IsFaulty, AreJudged}
-use Rattle.lid_texts.proofs.Faulted.{IsFine, first_last, row_of, faults_last, fine_last, rows_last, rows_last_faulty}
+use Rattle.lid_texts.specs.RowsWalk.{line_fault, IsKept, if_logical, RowsGrow, AreSound, AreJudged}
+use Rattle.lid_texts.proofs.Faulted.{first_last, row_of, faults_last, fine_last, rows_last, rows_last_faulty}
 
 pub none_is : {A : Type 0} (o : Option A) → is_some o ≡ false → o ≡ None
 none_is None h = refl

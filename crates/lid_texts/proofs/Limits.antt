@@ -9,7 +9,7 @@ use Rattle.lid_base.specs.declared.which.Which.TheVariants.{FileBytes}
 use Rattle.lid_texts.specs.declared.rows.Rows.{Rows}
 use Rattle.lid_texts.specs.declared.rows.VecFault.{VecFault}
 use Rattle.lid_texts.specs.declared.rows.VecFault.TheVariants.{Limit}
-use Rattle.lid_texts.specs.Rows.{RowsLine, has_long_word, row_width, row_fault, row_bits, first_some, line_faults, lines_fault, ok_unless, bits_reading, under_columns, rows_lines, rows_reading}
+use Rattle.lid_texts.specs.Rows.{RowsLine, has_long_word, row_width, row_fault, row_bits, line_faults, lines_fault, ok_unless, bits_reading, under_columns, rows_lines, rows_reading}
 use Rattle.lid_texts.proofs.Faulted.{IsFine, fine_of_none}
 
 -- what holds of the bits of rows

@@ -4,7 +4,7 @@ use denote.Ref.{Bor}
 use Rattle.std.specs.Prelude.{is_some, is_ok, if◌then◌else◌, Result, Ok, Err, OnOk, OnErr}
 use Rattle.std.specs.Option.{option_copied}
 use Rattle.lid_base.specs.Cuts.{lines_left}
-use Rattle.std.specs.List.{slice_split, count_by}
+use Rattle.std.specs.List.{slice_split}
 use Rattle.std.proofs.lemmas.List.{append-nil}
 use Rattle.std.proofs.lemmas.List.Splits.{length-slice_split}
 use Rattle.std.proofs.lemmas.List.Sums.{count_by-le-length}
@@ -15,7 +15,7 @@ use Rattle.lid_texts.specs.declared.walk.RowWalk.{RowWalk}
 use Rattle.lid_texts.specs.declared.scan.RowScan.{RowScan}
 use Rattle.lid_texts.specs.Rows.{RowsLine, first_some, line_faults}
 use Rattle.lid_texts.specs.Scans.{ended_lines, logical_of, sound_rows, ended_fault, ended_rows}
-use Rattle.lid_texts.specs.RowsWalk.{no_line, IsKept, RowsGrow, AreSound, IsFaulty, Goes, IsWalked}
+use Rattle.lid_texts.specs.RowsWalk.{no_line, RowsGrow, IsFaulty, Goes, IsWalked}
 use Rattle.lid_texts.specs.Scanned.{HasRead, Gives, GivesPrefix}
 use Rattle.lid_texts.proofs.Splits.{onto_part, onto_nothing, split_more, ended_are, last_part, some_parts, ended_more, logical_more}
 use Rattle.lid_texts.proofs.Faulted.{first_fine, first_more, faults_more, rows_stopped, rows_more}

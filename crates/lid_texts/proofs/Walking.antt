@@ -1,5 +1,5 @@
 -- A physical line is taken after those before it.
-use Rattle.std.proofs.Common.{◌≡◌, ℕ, ◌+◌, ◌<◌, ◌≤◌, ◌^◌, Bool, true, false, List, [], ◌∷◌, ◌++◌, length, inl, inr, refl, sym, ap, ◌∙◌, length-append, subst, arith}
+use Rattle.std.proofs.Common.{◌≡◌, ℕ, ◌+◌, ◌<◌, ◌≤◌, ◌^◌, Bool, true, false, List, [], ◌∷◌, ◌++◌, length, inl, inr, sym, ap, ◌∙◌, length-append, subst, arith}
 use Rattle.std.specs.Prelude.{min}
 use Rattle.lid_base.specs.Lines.{goes_on}
 use Rattle.lid_texts.specs.declared.walk.RowWalk.{RowWalk}

@@ -12,11 +12,11 @@ ghost use Rattle.lid_top.specs.Statuses.{HasText};
 use crate::fault::{Stop, blif_stop, check_stop, rows_stop};
 use lid_base::{Name, Shelf};
 use lid_check::{Checked, check};
+use lid_cli::Job;
 use lid_design::Design;
 use lid_io::{FetchFault, fetch_all};
 use lid_strict::strict;
 use lid_texts::{Rows, print_rows, read_rows};
-use lid_cli::Job;
 use std::alloc::Global;
 use std::convert::AsStr;
 

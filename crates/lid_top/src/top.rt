@@ -10,8 +10,8 @@ ghost use Rattle.lid_top.specs.Statuses.{Says, Writes, WritesPrefix, SaysRefusal
 use crate::fault::{say_memory, say_stop, say_usage, say_write};
 use crate::run::text_of;
 use lid_base::{Gate, Shelf, Sink, Text};
-use lid_io::write_all;
 use lid_cli::{Job, read_words};
+use lid_io::write_all;
 use std::alloc::Global;
 use std::thread::Threads;
 

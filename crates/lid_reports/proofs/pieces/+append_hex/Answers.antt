@@ -1,4 +1,4 @@
-use Rattle.std.proofs.Common.{◌<◌, ℕ, ◌++◌, ◌∷◌, [], ◌∙◌, ap, arith}
+use Rattle.std.proofs.Common.{ℕ, ◌++◌, ◌∷◌, [], ◌∙◌, ap, arith}
 use Rattle.lid_reports.proofs.Steps.{hex_step}
 use Rattle.lid_reports.proofs.pieces.+append_hex.Goals as goal
 

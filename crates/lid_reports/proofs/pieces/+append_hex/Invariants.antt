@@ -1,4 +1,3 @@
-use Rattle.std.proofs.Common.{ℕ}
 use Rattle.lid_reports.proofs.pieces.+append_hex.Given as goal
 
 abbrev pub decreases-append_hex : goal.decreases-append_hex

@@ -1,4 +1,4 @@
-use Rattle.std.proofs.Common.{◌≡◌, [], sym, ◌∙◌}
+use Rattle.std.proofs.Common.{[]}
 use Rattle.lid_texts.proofs.Finishing.{whole_read}
 use Rattle.lid_texts.proofs.reader.scan_all.Goals as goal
 

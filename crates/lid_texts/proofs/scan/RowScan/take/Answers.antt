@@ -1,9 +1,8 @@
-use Rattle.std.proofs.Common.{◌≡◌, ◌+◌, ◌<◌, ◌^◌, ◌++◌, ◌∷◌, ℕ, List, [], length, false, true, None, refl, sym, ◌∙◌, ap, subst, arith, OnOk, length-append}
-use Rattle.std.specs.Prelude.{is_some}
+use Rattle.std.proofs.Common.{◌++◌, ◌∷◌, [], refl, sym, ◌∙◌, subst, arith, length-append}
 use Rattle.lid_base.proofs.Results.{on_ok}
 use Rattle.lid_texts.specs.Scans.{logical_of}
 use Rattle.lid_texts.specs.RowsWalk.{RowsGrow, Goes, IsWalked}
-use Rattle.lid_texts.specs.Scanned.{HasRead, GivesPrefix}
+use Rattle.lid_texts.specs.Scanned.{GivesPrefix}
 use Rattle.lid_texts.proofs.Judging.{none_is}
 use Rattle.lid_texts.proofs.Scanning.{take_starts, goes_of, few_lines, next_line, read_here, read_stopped, gives_here, gives_stopped, gives_prefix, kept_ok, cut_some, cut_none, total_of, on_err_of, along, Taking}
 use Rattle.lid_texts.proofs.scan.RowScan.take.Goals as goal

@@ -1,6 +1,4 @@
-use Rattle.std.proofs.Common.{◌≡◌, ◌==◌, ◌≤◌, false, true, None, length, sym, ◌∙◌, ap, subst, arith}
-use Rattle.std.specs.Prelude.{is_some}
-use Rattle.lid_texts.specs.Rows.{RowsLine, has_words}
+use Rattle.std.proofs.Common.{◌≡◌, None, sym, ◌∙◌}
 use Rattle.lid_texts.proofs.Judging.{judged_faulty, grown_faulty, judged_fine, grown_fine, none_is}
 use Rattle.lid_texts.proofs.walk.RowWalk.judge.Goals as goal
 
