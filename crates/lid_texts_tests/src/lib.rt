@@ -11,3 +11,5 @@ mod reports;
 mod rows;
 #[cfg(test)]
 mod scan;
+#[cfg(test)]
+mod stalls;
