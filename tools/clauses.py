@@ -15,6 +15,9 @@ import re
 import sys
 
 HEAD = re.compile(r"^ *pub (?:const |unsafe )*fn (\w+)", re.M)
+TRAIT = re.compile(r"^pub trait (\w+)", re.M)
+METHOD = re.compile(r"^    fn (\w+)", re.M)
+GHOST = re.compile(r"^ +(?:pub )?ghost (\w+)\s*[:=]\s*\{", re.M)
 
 
 def closing(text, at):
@@ -81,6 +84,20 @@ def of_sources(crate):
                 yield f"{crate.name} {head[1]}: {shown(clause)}"
 
 
+def of_traits(crate):
+    """The clauses of the methods of public traits, and the ghost members of types and traits."""
+    for file in sorted((crate / "src").glob("*.rt")):
+        text = file.read_text()
+        for trait in TRAIT.finditer(text):
+            end = closing(text, text.index("{", trait.end()))
+            for method in METHOD.finditer(text, trait.end(), end):
+                for clause in clauses(text, method.start()):
+                    yield f"{crate.name} {trait[1]}.{method[1]}: {shown(clause)}"
+        for ghost in GHOST.finditer(text):
+            end = closing(text, ghost.end() - 1)
+            yield f"{crate.name} {file.stem}: {shown(text[ghost.start() : end])}"
+
+
 def of_specs(crate):
     for file in sorted((crate / "specs").glob("*.antt")):
         for line in file.read_text().split("\n"):
@@ -93,6 +110,7 @@ def main(words):
     top = pathlib.Path(__file__).resolve().parent.parent
     crates = sorted(it for it in (top / "crates").iterdir() if not it.name.endswith("_tests"))
     lines = [line for crate in crates for line in of_sources(crate)]
+    lines += [line for crate in crates for line in of_traits(crate)]
     if "--specs" in words:
         lines += [line for crate in crates for line in of_specs(crate)]
     print("\n".join(sorted(lines) if "--specs" not in words else lines))
