@@ -28,10 +28,11 @@ fn told_in_pieces(
     alloc: Global,
     text: &[u8],
     names: &[Name],
+    outs: u32,
     size: usize,
     into: &mut Vec<Items<bool>>,
 ) -> Told {
-    let Ok(mut scan) = RowScan::start(alloc, names, 68) else {
+    let Ok(mut scan) = RowScan::start(alloc, names, outs) else {
         return ("Memory", 0);
     };
     if !feed_all(&mut scan, text, size, into) {
@@ -65,7 +66,7 @@ fn is_scanned(alloc: Global, text: &[u8], letters: &[u8], size: usize, want: Tol
         return false;
     };
     let mut bits = Vec::new(alloc);
-    let end = told_in_pieces(alloc, text, names.as_slice(), size, &mut bits);
+    let end = told_in_pieces(alloc, text, names.as_slice(), 68, size, &mut bits);
     end == want && (!want.0.is_empty() || are_rows(alloc, text, names.as_slice(), bits.as_slice()))
 }
 
@@ -89,7 +90,7 @@ fn pieces_of_any_size_give_the_answers_of_the_whole(rt: HostRuntime) {
             "{size}"
         );
         assert!(rt;
-            is_scanned(rt.alloc(), b"d\n1\n0 1\n", b"d", size, ("Width", 3)),
+            is_scanned(rt.alloc(), b"d\n1\n0 1\n1\n", b"d", size, ("Width", 3)),
             "{size}"
         );
         assert!(rt;
@@ -125,24 +126,26 @@ fn a_cut_at_any_byte_changes_nothing(rt: HostRuntime) {
     }
 }
 
-/// How many rows there are without columns, where each gives 68 output bits, and what is told.
-static MANY: [(u32, Told); 2] = [
-    (986_895, ("", 986_895)),
-    (986_896, ("Limit OutBits", 67_108_928)),
+/// How many rows there are without columns, how many output bits each gives, and what is told.
+static MANY: [(u32, u32, Told); 4] = [
+    (1_000_000, 2, ("", 1_000_000)),
+    (1_000_001, 2, ("Limit Rows", 1_000_001)),
+    (986_895, 68, ("", 986_895)),
+    (986_896, 68, ("Limit OutBits", 67_108_928)),
 ];
 
 /// What is told of a text of rows without columns, in large pieces.
-fn told_of_many(alloc: Global, rows: u32) -> Told {
+fn told_of_many(alloc: Global, rows: u32, outs: u32) -> Told {
     let Ok(text) = rows_without_columns(alloc, rows) else {
         return ("Memory", 0);
     };
     let mut bits = Vec::new(alloc);
-    told_in_pieces(alloc, text.as_slice(), &[], 65_536, &mut bits)
+    told_in_pieces(alloc, text.as_slice(), &[], outs, 65_536, &mut bits)
 }
 
 #[test]
 fn limits_are_those_of_the_whole(rt: HostRuntime) {
-    for (rows, want) in &MANY {
-        assert_eq!(rt; told_of_many(rt.alloc(), *rows), *want, "{rows}");
+    for (rows, outs, want) in &MANY {
+        assert_eq!(rt; told_of_many(rt.alloc(), *rows, *outs), *want, "{rows}");
     }
 }
