@@ -3,10 +3,10 @@ use Rattle.std.proofs.Common.{◌≡◌, refl, [], ◌∷◌, Some, None, codes}
 use Rattle.clap.proofs.OnLiterals.{clap_on_literals}
 use Rattle.lid_cli.specs.declared.job.Job.TheVariants.{Strict}
 use Rattle.lid_cli.specs.Reading.{lid_app, given_in}
-use Rattle.lid_cli.specs.Jobs.{is_given, is_tallied, files_in, file_at, is_allowed, has_only, has_each, has_form, strict_job, job_made, job_formed, form_in, job_given, job_of}
+use Rattle.lid_cli.specs.Jobs.{is_given, is_tallied, files_in, file_at, is_allowed, has_only, has_each, is_within, fits, option_fits, has_both, has_form, strict_job, job_made, job_formed, form_in, job_given, job_of}
 
 unfoldable words_on_literals : Unit {0}
-unfolding clap_on_literals lid_app given_in is_given is_tallied files_in file_at is_allowed has_only has_each has_form strict_job job_made job_formed form_in job_given job_of
+unfolding clap_on_literals lid_app given_in is_given is_tallied files_in file_at is_allowed has_only has_each is_within fits option_fits has_both has_form strict_job job_made job_formed form_in job_given job_of
 words_on_literals = tt
 
 -- `strict a b --root=m`

@@ -1,46 +1,30 @@
 -- The job that the words ask for.
-use Rattle.std.specs.Prelude.{ℕ, ◌==◌, Bool, not, ◌&&◌, ◌||◌, if◌then◌else◌, List, [], length, map, slice_index_or, find, Option, Some, None, is_some, unwrap_or, option_and_then, codes}
+use Rattle.std.specs.Prelude.{ℕ, ◌==◌, nat_le, Bool, true, false, not, ◌&&◌, ◌||◌, if◌then◌else◌, List, [], ◌∷◌, length, map, slice_index_or, find, Option, Some, None, is_some, unwrap_or, option_and_then, codes}
+use Rattle.std.specs.Option.{option_map_or}
 use Rattle.std.specs.Borrow.{Bor}
 use Rattle.std.specs.List.{list_all, list_any}
 use Rattle.std.specs.Str.{bytes_eq}
 use Rattle.clap.specs.Walk.{Row, first_of, all_of}
-use Rattle.lid_cli.specs.declared.table.TheConstants.{COMMAND, FILES, TALLY, ROOT, FORMS}
+use Rattle.lid_base.specs.Numbers.{number}
+use Rattle.lid_cli.specs.declared.table.TheConstants.{COMMAND, FILES, TALLY, ROOT}
 use Rattle.lid_cli.specs.declared.table.Command.{Command}
 use Rattle.lid_cli.specs.declared.table.Command.TheVariants as command
 use Rattle.lid_cli.specs.declared.job.Job.{Job}
 use Rattle.lid_cli.specs.declared.job.Job.TheVariants.{Strict}
+use Rattle.lid_cli.specs.Table.{Form, form, table, Range, range, ranges}
 use Rattle.lid_cli.specs.Reading.{option_names, given_in}
 
--- a row of the table of commands
-pub record Form : Type 0 where
-  pub command : Command
-  pub word : List ℕ
-  pub files : ℕ
-  -- the options that must stand
-  pub needed : List (List ℕ)
-  -- the options that may stand
-  pub options : List (List ℕ)
-  -- whether the flag may stand
-  pub has_tally : Bool
-
 -- a row, where a word and a list of words are seen as these functions say
-abbrev pub form_by : {W L : Type 0} → (W → List ℕ) → (L → List (List ℕ)) → Command × W × ℕ × L × L × Bool → Form
-form_by word words row = record {
-  command = row.0;
-  word = word row.1;
-  files = row.2;
-  needed = words row.3;
-  options = words row.4;
-  has_tally = row.5;
-}
+abbrev pub form_by : {W L : Type 0} → (W → List ℕ) → (L → List (List ℕ)) → Command × W × L × L × L × Bool → Form
+form_by word words row = form row.0 (word row.1) (words row.2) (words row.3) (words row.4) row.5
 
--- a row of the code
-abbrev pub form_shown : Command × Bor (List ℕ) × ℕ × Bor (List (Bor (List ℕ))) × Bor (List (Bor (List ℕ))) × Bool → Form
+-- a row of the code's table
+abbrev pub form_shown : Command × Bor (List ℕ) × Bor (List (Bor (List ℕ))) × Bor (List (Bor (List ℕ))) × Bor (List (Bor (List ℕ))) × Bool → Form
 form_shown = form_by (λ w. w.now) (λ ws. map (λ w. w.now) ws.now)
 
--- the table
-abbrev pub forms : List Form
-forms = map (form_by (λ w. w.now) (λ ws. map (λ w. w.now) ws.now)) FORMS
+-- a row of the code's ranges
+abbrev pub range_shown : Bor (List ℕ) × ℕ × ℕ → Range
+range_shown row = range row.0.now row.1 row.2
 
 -- whether an option stands in the words
 unfoldable pub is_given : List Row → List ℕ → Bool
@@ -57,30 +41,78 @@ files_in found = unwrap_or (all_of FILES.now found) []
 unfoldable pub file_at : ℕ → List Row → List ℕ
 file_at i found = slice_index_or (files_in found) i []
 
--- the option is one of these, where it stands
-unfoldable pub is_allowed : List (List ℕ) → List Row → List ℕ → Bool
-is_allowed options found name = not (is_given found name) || list_any (λ o. bytes_eq o name) options
+abbrev pub is_one_of : List ℕ → List (List ℕ) → Bool
+is_one_of name names = list_any (λ n. bytes_eq n name) names
+
+-- the option is one of those that must or may stand, where it stands
+unfoldable pub is_allowed : List (List ℕ) → List (List ℕ) → List Row → List ℕ → Bool
+is_allowed needed further found name = not (is_given found name) || (is_one_of name needed || is_one_of name further)
 
 -- only these options stand in the words
-unfoldable pub has_only : List (List ℕ) → List Row → Bool
-has_only options found = list_all (is_allowed options found) option_names
+unfoldable pub has_only : List (List ℕ) → List (List ℕ) → List Row → Bool
+has_only needed further found = list_all (is_allowed needed further found) option_names
 
 -- these options stand in the words
 unfoldable pub has_each : List (List ℕ) → List Row → Bool
 has_each options found = list_all (is_given found) options
 
+-- the number lies in the range
+unfoldable pub is_within : ℕ → ℕ → List ℕ → Bool
+is_within least greatest text = option_map_or (λ n. nat_le least n && nat_le n greatest) (number text) false
+
+-- the range among these that a word names
+abbrev pub range_among : List Range → List ℕ → Option Range
+range_among rs word = find (λ range. bytes_eq range.word word) rs
+
+-- the text may stand at this option or place: where that is a number, it is a number word in its range
+unfoldable pub fits : List ℕ → List ℕ → Bool
+fits name text = option_map_or (λ range. is_within range.least range.greatest text) (range_among ranges name) true
+
+-- the option has a value that may stand there, where it stands in the words
+unfoldable pub option_fits : List Row → List ℕ → Bool
+option_fits found name = option_map_or (fits name) (first_of name found) true
+
+-- what stands in each place may stand there
+abbrev pub files_fit : List (List ℕ) → List (List ℕ) → Bool
+files_fit [] places = true
+files_fit (file ∷ files) [] = true
+files_fit (file ∷ files) (place ∷ places) = fits place file && files_fit files places
+
+-- the stalls of a run and its workers do not stand together
+unfoldable pub has_both : List Row → Bool
+has_both found = is_given found (codes "stalls") && is_given found (codes "workers")
+
 -- the words have the form
 unfoldable pub has_form : Form → List Row → Bool
 has_form form found =
-    length (files_in found) == form.files && (has_each form.needed found && (has_only form.options found && (form.has_tally || not (is_tallied found))))
+    length (files_in found) == length form.places
+    && (files_fit (files_in found) form.places
+    && (has_each form.needed found
+    && (has_only form.needed form.further found
+    && (list_all (option_fits found) option_names
+    && (not (has_both found)
+    && (form.has_tally || not (is_tallied found)))))))
 
 -- the job of `strict`
 unfoldable pub strict_job : List Row → Option Job
 strict_job found = Some (Strict (file_at 0 found) (file_at 1 found) (first_of ROOT.now found))
 
--- the job of a command whose form the words have
+-- the job of a command whose form the words have; a command that is not built yet has none
 unfoldable pub job_made : Command → List Row → Option Job
+job_made command.Check found = None
 job_made command.Strict found = strict_job found
+job_made command.Clock found = None
+job_made command.Walk found = None
+job_made command.Free found = None
+job_made command.Rate found = None
+job_made command.Verify found = None
+job_made command.Place found = None
+job_made command.Gen found = None
+job_made command.Wave found = None
+job_made command.Unwave found = None
+job_made command.Emit found = None
+job_made command.Slack found = None
+job_made command.Size found = None
 
 -- the job of a form, where the words have it
 unfoldable pub job_formed : List Row → Form → Option Job
@@ -92,7 +124,7 @@ form_among fs word = find (λ form. bytes_eq form.word word) fs
 
 -- the form that the command's word names
 unfoldable pub form_in : List Row → Option Form
-form_in found = option_and_then (form_among forms) (first_of COMMAND.now found)
+form_in found = option_and_then (form_among table) (first_of COMMAND.now found)
 
 -- the job that stands in what `clap` found
 unfoldable pub job_given : List Row → Option Job

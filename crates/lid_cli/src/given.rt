@@ -1,11 +1,10 @@
 //! What stands in the words, as `clap` found it.
 
-ghost use Rattle.std.specs.Prelude.{◌≡◌, IfOk, map, option_map, length, slice_index_or, []};
-ghost use Rattle.std.specs.List.{list_all, list_any};
-ghost use Rattle.std.specs.Str.{bytes_eq};
+ghost use Rattle.std.specs.Prelude.{◌≡◌, IfOk, map, option_map, slice_index_or, []};
+ghost use Rattle.std.specs.List.{list_all};
 ghost use Rattle.clap.specs.Words.{all_of, first_of};
 ghost use Rattle.lid_cli.specs.Reading.{matches_in};
-ghost use Rattle.lid_cli.specs.Jobs.{is_given, is_tallied, is_allowed, files_in, file_at, has_only, has_each};
+ghost use Rattle.lid_cli.specs.Jobs.{is_given, is_tallied, is_one_of, is_allowed, files_in, file_at, has_only, has_each};
 
 use crate::table::{FILES, OPTIONS, TALLY};
 use clap::ArgMatches;
@@ -39,21 +38,10 @@ pub fn is_tallied(given: &ArgMatches<'_>) -> bool
 }
 
 /// The files in their order, where there are some.
-fn files<'m, 'a>(given: &'m ArgMatches<'a>) -> Option<&'m [&'a str]>
+pub fn files<'m, 'a>(given: &'m ArgMatches<'a>) -> Option<&'m [&'a str]>
     ensures { option_map (λ s. map (λ f. f.now) s.now) result ≡ all_of FILES.now (matches_in given.now) }
 {
     given.get_strs(FILES)
-}
-
-/// How many files there are.
-#[tactic(auto, unfolding(crate::specs::Jobs::files_in))]
-pub fn file_count(given: &ArgMatches<'_>) -> usize
-    ensures { result ≡ length (files_in (matches_in given.now)) }
-{
-    match files(given) {
-        Some(names) => names.len(),
-        None => 0,
-    }
 }
 
 /// The name of a file by its place; no text where there is none.
@@ -100,7 +88,7 @@ pub fn name_of(
 
 /// Whether a name is one of these.
 fn is_one_of(name: &str, names: &[&str]) -> bool
-    ensures { result ≡ list_any (λ n. bytes_eq n name.now) (map (λ n. n.now) names.now) }
+    ensures { result ≡ is_one_of name.now (map (λ n. n.now) names.now) }
 {
     for known in names {
         if *known == name {
@@ -110,32 +98,32 @@ fn is_one_of(name: &str, names: &[&str]) -> bool
     false
 }
 
-/// Whether an option stands only where it may.
+/// Whether an option is one of those that must or may stand, where it stands in the words.
 #[tactic(auto, unfolding(crate::specs::Jobs::is_allowed))]
-fn is_allowed(given: &ArgMatches<'_>, options: &[&str], name: &str) -> bool
-    ensures { result ≡ is_allowed (map (λ o. o.now) options.now) (matches_in given.now) name.now }
+fn is_allowed(given: &ArgMatches<'_>, needed: &[&str], further: &[&str], name: &str) -> bool
+    ensures { result ≡ is_allowed (map (λ o. o.now) needed.now) (map (λ o. o.now) further.now) (matches_in given.now) name.now }
 {
-    !is_given(given, name) || is_one_of(name, options)
+    !is_given(given, name) || is_one_of(name, needed) || is_one_of(name, further)
 }
 
 /// Whether each of these names is that of an option that stands only where it may.
-fn are_allowed(given: &ArgMatches<'_>, options: &[&str], names: &[&str]) -> bool
-    ensures { result ≡ list_all (is_allowed (map (λ o. o.now) options.now) (matches_in given.now)) (map (λ n. n.now) names.now) }
+fn are_allowed(given: &ArgMatches<'_>, needed: &[&str], further: &[&str], names: &[&str]) -> bool
+    ensures { result ≡ list_all (is_allowed (map (λ o. o.now) needed.now) (map (λ o. o.now) further.now) (matches_in given.now)) (map (λ n. n.now) names.now) }
 {
     for name in names {
-        if !is_allowed(given, options, name) {
+        if !is_allowed(given, needed, further, name) {
             return false;
         }
     }
     true
 }
 
-/// Whether only these options stand in the words.
+/// Whether no option stands in the words but those that must or may.
 #[tactic(auto, unfolding(crate::specs::Jobs::has_only))]
-pub fn has_only(given: &ArgMatches<'_>, options: &[&str]) -> bool
-    ensures { result ≡ has_only (map (λ o. o.now) options.now) (matches_in given.now) }
+pub fn has_only(given: &ArgMatches<'_>, needed: &[&str], further: &[&str]) -> bool
+    ensures { result ≡ has_only (map (λ o. o.now) needed.now) (map (λ o. o.now) further.now) (matches_in given.now) }
 {
-    are_allowed(given, options, &OPTIONS)
+    are_allowed(given, needed, further, &OPTIONS)
 }
 
 /// Whether these options stand in the words.

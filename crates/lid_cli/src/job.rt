@@ -27,7 +27,7 @@ pub enum Job {
     },
 }
 
-/// The job of a command whose form the words have.
+/// The job of a command whose form the words have; a command that is not built yet has none.
 #[tactic(auto, unfolding(crate::specs::Jobs::job_made))]
 fn make_job(
     alloc: Global,
@@ -38,6 +38,20 @@ fn make_job(
 {
     match command {
         Command::Strict => strict_job(alloc, given),
+        // not built yet
+        Command::Check
+        | Command::Clock
+        | Command::Walk
+        | Command::Free
+        | Command::Rate
+        | Command::Verify
+        | Command::Place
+        | Command::Gen
+        | Command::Wave
+        | Command::Unwave
+        | Command::Emit
+        | Command::Slack
+        | Command::Size => Ok(None),
     }
 }
 

@@ -4,6 +4,7 @@
 mod form;
 mod given;
 mod job;
+mod range;
 mod reader;
 mod strict;
 mod table;

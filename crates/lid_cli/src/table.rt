@@ -1,7 +1,6 @@
 //! The table of the commands, and the names of the options.
 //!
-//! A command is added by a variant of `Command`, its row here, a variant of `Job` and a module with
-//! the function that makes it, as `strict.rt`.
+//! The same table stands in `specs/Table.antt`, and the two are shown to be equal.
 
 /// The place of the command's word.
 pub const COMMAND: &str = "command";
@@ -9,31 +8,156 @@ pub const COMMAND: &str = "command";
 pub const FILES: &str = "files";
 /// The option with the name of the root model.
 pub const ROOT: &str = "root";
+/// The option with the file of the stalls.
+pub const STALLS: &str = "stalls";
+/// The option with the number of workers.
+pub const WORKERS: &str = "workers";
 /// The flag that asks for the tallies.
 pub const TALLY: &str = "tally";
 
 /// The options of all commands; each has one value.
 pub static OPTIONS: [&str; 11] = [
-    ROOT, "stations", "stalls", "workers", "trace", "schedule", "rounds", "wires", "reach",
-    "shells", "run",
+    ROOT, "stations", STALLS, WORKERS, "trace", "schedule", "rounds", "wires", "reach", "shells",
+    "run",
 ];
 
-/// A command that lid has.
+/// A command of the table.
 #[derive(Clone, Copy)]
 pub enum Command {
+    Check,
     Strict,
+    Clock,
+    Walk,
+    Free,
+    Rate,
+    Verify,
+    Place,
+    Gen,
+    Wave,
+    Unwave,
+    Emit,
+    Slack,
+    Size,
 }
 
-/// The form of the words of a command: the command, the word that names it, how many files it has,
-/// the options that must stand, the options that may stand, and whether the flag may stand.
+/// The form of the words of a command: the command, the word that names it, what stands in the
+/// places after that word, the options that must stand, the further options that may stand, and
+/// whether the flag may stand.
 pub type Form = (
     Command,
     &'static str,
-    usize,
+    &'static [&'static str],
     &'static [&'static str],
     &'static [&'static str],
     bool,
 );
 
-/// The table of the commands that are built.
-pub static FORMS: [Form; 1] = [(Command::Strict, "strict", 2, &[], &[ROOT], false)];
+/// The table of the commands.
+pub static FORMS: [Form; 14] = [
+    (Command::Check, "check", &["NET"], &[], &[ROOT], false),
+    (
+        Command::Strict,
+        "strict",
+        &["NET", "VEC"],
+        &[],
+        &[ROOT],
+        false,
+    ),
+    (
+        Command::Clock,
+        "clock",
+        &["NET", "VEC"],
+        &[],
+        &[ROOT, "stations", STALLS, WORKERS, "trace"],
+        false,
+    ),
+    (
+        Command::Walk,
+        "walk",
+        &["NET", "VEC"],
+        &["schedule"],
+        &[ROOT, "stations"],
+        false,
+    ),
+    (
+        Command::Free,
+        "free",
+        &["NET", "VEC"],
+        &[],
+        &[ROOT, "stations", WORKERS, "rounds"],
+        true,
+    ),
+    (
+        Command::Rate,
+        "rate",
+        &["NET"],
+        &[],
+        &[ROOT, "stations"],
+        false,
+    ),
+    (
+        Command::Verify,
+        "verify",
+        &["NET", "CERT"],
+        &[],
+        &[ROOT, "stations"],
+        false,
+    ),
+    (
+        Command::Place,
+        "place",
+        &["NET"],
+        &["wires", "reach"],
+        &[ROOT],
+        false,
+    ),
+    (Command::Gen, "gen", &["SEED"], &["shells"], &["run"], false),
+    (
+        Command::Wave,
+        "wave",
+        &["NET", "VEC"],
+        &["trace"],
+        &[ROOT, "stations"],
+        false,
+    ),
+    (Command::Unwave, "unwave", &["FILE"], &[], &[], false),
+    (
+        Command::Emit,
+        "emit",
+        &["NET"],
+        &[],
+        &[ROOT, "stations"],
+        false,
+    ),
+    (
+        Command::Slack,
+        "slack",
+        &["NET"],
+        &[],
+        &[ROOT, "stations"],
+        false,
+    ),
+    (
+        Command::Size,
+        "size",
+        &["NET"],
+        &[],
+        &[ROOT, "stations"],
+        false,
+    ),
+];
+
+/// An option or a place that is a number, with the least and the greatest number that may stand
+/// there.
+pub type Range = (&'static str, u64, u64);
+
+/// The options and the place that are numbers.
+pub static RANGES: [Range; 7] = [
+    (WORKERS, 1, 64),
+    ("rounds", 0, 1_000_000),
+    ("trace", 1, 1_048_576),
+    ("reach", 1, 9_223_372_036_854_775_807),
+    ("shells", 0, 4_294_967_295),
+    ("run", 1, 1_000_000),
+    ("SEED", 0, 18_446_744_073_709_551_615),
+];

@@ -7,5 +7,5 @@ use Rattle.lid_cli.proofs.given.are_allowed.Given as goal
 -- the options so far stand only where they may
 abbrev pub invariant-loop-name : goal.invariant-loop-name
 invariant-loop-name l =
-    list_all (is_allowed (map (λ o. o.now) l.options) (matches_in l.given)) (map (λ n. n.now) (drop l.name-index l.names))
-    ≡ list_all (is_allowed (map (λ o. o.now) l.options) (matches_in l.given)) (map (λ n. n.now) l.names)
+    list_all (is_allowed (map (λ o. o.now) l.needed) (map (λ o. o.now) l.further) (matches_in l.given)) (map (λ n. n.now) (drop l.name-index l.names))
+    ≡ list_all (is_allowed (map (λ o. o.now) l.needed) (map (λ o. o.now) l.further) (matches_in l.given)) (map (λ n. n.now) l.names)
