@@ -10,8 +10,8 @@ mod net_tests;
 #[cfg(test)]
 mod tests;
 
-use lid_base::{DirShelf, OpenGate, Sink, StdSink, Text};
-use lid_top::{lid_run, say_memory, say_usage};
+use lid_base::{DirShelf, StdSink, Text};
+use lid_top::run_program;
 use std::env::Env;
 use std::process::ExitCode;
 use std::{env, io};
@@ -25,26 +25,8 @@ fn words_of(rt: &(impl Env + AllocGlobal)) -> io::Result<Vec<Text>> {
     Ok(words)
 }
 
-/// Says why there are no words, and answers the status: a word that is no text is no word of a job.
-fn without_words<E: Sink>(err: &mut E, cause: &io::Error) -> u8 {
-    if cause.kind() == io::ErrorKind::OutOfMemory {
-        say_memory(err);
-        5
-    } else {
-        say_usage(err);
-        2
-    }
-}
-
 fn main(rt: HostRuntime) -> ExitCode {
     let mut out = StdSink::new(rt.stdout());
     let mut err = StdSink::new(rt.stderr());
-    let status = match words_of(&rt) {
-        Ok(words) => {
-            let mut shelf = DirShelf::new(&rt);
-            lid_run(&rt, &words, &mut shelf, &mut out, &mut err, &OpenGate)
-        }
-        Err(cause) => without_words(&mut err, &cause),
-    };
-    ExitCode::from(status)
+    run_program(&rt, words_of(&rt), &mut DirShelf::new(&rt), &mut out, &mut err)
 }

@@ -28,3 +28,23 @@ strict_with_workers = refl
 strict_with_tally : job_of (codes "strict" ∷ codes "a" ∷ codes "b" ∷ codes "--tally" ∷ []) ≡ None
 unfolding words_on_literals
 strict_with_tally = refl
+
+-- `strict a b --root m --root m` has an option twice
+option_twice : given_in (codes "strict" ∷ codes "a" ∷ codes "b" ∷ codes "--root" ∷ codes "m" ∷ codes "--root" ∷ codes "m" ∷ []) ≡ None
+unfolding words_on_literals
+option_twice = refl
+
+-- `strict a b --root` has an option without its value
+option_without_value : given_in (codes "strict" ∷ codes "a" ∷ codes "b" ∷ codes "--root" ∷ []) ≡ None
+unfolding words_on_literals
+option_without_value = refl
+
+-- `free a b --tally --tally` has the flag twice
+flag_twice : given_in (codes "free" ∷ codes "a" ∷ codes "b" ∷ codes "--tally" ∷ codes "--tally" ∷ []) ≡ None
+unfolding words_on_literals
+flag_twice = refl
+
+-- `free a b --tally=x` has a flag with a value
+flag_with_value : given_in (codes "free" ∷ codes "a" ∷ codes "b" ∷ codes "--tally=x" ∷ []) ≡ None
+unfolding words_on_literals
+flag_with_value = refl

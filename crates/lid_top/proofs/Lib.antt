@@ -1,2 +1,4 @@
-pub mod Steps
+pub mod Composition
+pub mod Endings
 pub mod Readings
+pub mod Runs

@@ -117,3 +117,7 @@ write_line = fault_line (codes "write" ∷ [])
 -- status 5
 abbrev pub memory_line : List ℕ
 memory_line = fault_line (codes "memory" ∷ [])
+
+-- status 6
+abbrev pub denied_line : List ℕ
+denied_line = fault_line (codes "not" ∷ codes "a" ∷ codes "certificate" ∷ [])

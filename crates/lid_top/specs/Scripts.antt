@@ -1,5 +1,6 @@
 -- The steps of a job, and how they end.
-use Rattle.std.specs.Prelude.{◌≡◌, ℕ, ◌+◌, ◌≤◌, Bool, List, length, take, Option, Some, None, IfSome, Result, Ok, Err, ◌⊎◌}
+use Rattle.std.specs.Prelude.{◌≡◌, ℕ, ◌+◌, ◌<◌, ◌≤◌, Bool, List, length, take, Option, Some, None, IfSome, Result, Ok, Err, ◌⊎◌}
+use Rattle.std.specs.List.{AllByRecursion}
 use Rattle.lid_base.specs.Lines.{logical_lines}
 use Rattle.lid_design.specs.declared.Design.{Design}
 use Rattle.lid_design.specs.Columns.{root_inputs, root_outputs}
@@ -10,28 +11,44 @@ use Rattle.lid_rules.specs.declared.fault.CheckFault.{CheckFault}
 use Rattle.lid_check.specs.Acceptance.{with_root, IsAccepted, IsRefused}
 use Rattle.lid_texts.specs.declared.rows.Rows.{Rows}
 use Rattle.lid_texts.specs.declared.rows.VecFault.{VecFault}
+use Rattle.lid_texts.specs.declared.rows.VecFault.TheVariants.{Changed}
 use Rattle.lid_texts.specs.Rows.{rows_reading}
 use Rattle.lid_cli.specs.declared.job.Job.{Job}
 use Rattle.lid_cli.specs.declared.job.Job.TheVariants.{Strict}
 use Rattle.lid_top.specs.Faults.{blif_line, rows_line, check_line}
 use Rattle.lid_top.specs.Outputs.{Output, strict_output}
 
--- how a job ends, where all is fetched and memory is there
-pub data Ending : Type 0 where
-  refuses : List ℕ → Ending  -- with this line on `err`
-  gives : Output → Ending
-
--- the steps of a job
-pub data Script : Type 0 where
-  fetch : List ℕ → ℕ → (List ℕ → Script) → Script  -- a file, up to one byte more than its limit
-  check : Option (List ℕ) → Design → (Design → Script) → Script  -- a design with the root that was chosen by name, if one was
-  end : Ending → Script
-
--- what a step makes of a value
+-- what a reading makes of a value
 pub data Reading (A : Type 0) : Type 0 where
   good : A → Reading A
   bad : List ℕ → Reading A  -- the line on `err`
 
+-- a second reading of the rows of a file
+pub record Rereading : Type 0 where
+  pub name : List ℕ
+  pub limit : ℕ
+  pub width : ℕ
+  pub read : List ℕ → Reading (List (List Bool))
+  -- what the first reading gave
+  pub rows : List (List Bool)
+
+-- how a job ends, where all is fetched and memory is there
+pub data Ending : Type 0 where
+  refuses : List ℕ → Ending  -- with this line on `err`
+  denies : Ending  -- the certificate is none of the graph
+  gives : Output → Ending
+
+-- the steps of a job
+pub data Script : Type 1 where
+  -- a file is fetched, up to one byte more than its limit
+  fetch : List ℕ → ℕ → (List ℕ → Script) → Script
+  -- a file whose rows were read is read a second time, row by row
+  again : Rereading → (List (List Bool) → Script) → Script
+  -- any value that meets the first, or any line that meets the second
+  decide : {A : Type 0} → (A → Type 0) → (List ℕ → Type 0) → (A → Script) → Script
+  end : Ending → Script
+
+-- a reading decides the step
 abbrev pub step : {A : Type 0} → Reading A → (A → Script) → Script
 step (good a) next = next a
 step (bad line) next = end (refuses line)
@@ -66,23 +83,30 @@ vec_reading d bytes = bits_read (rows_reading (root_inputs d) (length (root_outp
 unfoldable pub rows_script : Design → List ℕ → Script
 rows_script d vec = read_step vec rows_limit (vec_reading d) (λ rows. end (gives (strict_output d rows)))
 
--- `strict` of a design: it is checked first
-unfoldable pub check_script : Design → List ℕ → Option (List ℕ) → Script
-check_script d vec root = check root d (λ checked. rows_script checked vec)
-
--- `strict`: the netlist is fetched, read and checked, and then the rows are fetched and read
-unfoldable pub strict_script : List ℕ → List ℕ → Option (List ℕ) → Script
-strict_script net vec root = read_step net net_limit net_reading (λ d. check_script d vec root)
-
--- the steps of a job
-abbrev pub script_of : Job → Script
-script_of (Strict net vec root) = strict_script net vec root
-
 -- what a fetch of a whole file may give: at most one byte more than the limit, and where the file's
 -- bytes are told, these
 pub record IsFetched (held : List ℕ → Option (List ℕ)) (name : List ℕ) (limit : ℕ) (bytes : List ℕ) : Type 0 where
   pub short : length bytes ≤ limit + 1
   pub told : IfSome (held name) (λ file. bytes ≡ take (limit + 1) file)
+
+-- what a second reading may give: as many rows as the first, each as wide, and where the file's bytes
+-- are told, the same rows
+pub record IsReread (held : List ℕ → Option (List ℕ)) (again : Rereading) (rows : List (List Bool)) : Type 0 where
+  pub many : length rows ≡ length again.rows
+  pub wide : AllByRecursion (λ row. length row ≡ again.width) rows
+  pub told : IfSome (held again.name) (λ file. rows ≡ again.rows)
+
+-- the second text refuses, or has fewer rows than the first
+abbrev pub FallsShort : Reading (List (List Bool)) → List (List Bool) → List ℕ → Type 0
+FallsShort (bad refusal) rows line = line ≡ refusal
+FallsShort (good found) rows line = (length found < length rows) × (line ≡ rows_line (Changed (length rows) (length found)))
+
+-- a file whose bytes are not told had another text when it was read a second time
+pub record IsChanged (held : List ℕ → Option (List ℕ)) (again : Rereading) (line : List ℕ) : Type 0 where
+  pub untold : held again.name ≡ None
+  pub bytes : List ℕ
+  pub short : length bytes ≤ again.limit + 1
+  pub falls : FallsShort (again.read bytes) again.rows line
 
 -- the design with its root is accepted
 pub record IsChecked (root : Option (List ℕ)) (d checked : Design) : Type 0 where
@@ -95,16 +119,36 @@ pub record IsUnchecked (root : Option (List ℕ)) (d : Design) (line : List ℕ)
   pub refused : IsRefused (with_root d root) fault
   pub told : line ≡ check_line fault
 
+-- a design is checked, with the root that was chosen by name, if one was
+abbrev pub check_step : Option (List ℕ) → Design → (Design → Script) → Script
+check_step root d next = decide (IsChecked root d) (IsUnchecked root d) next
+
+-- `strict` of a design: it is checked first
+unfoldable pub check_script : Design → List ℕ → Option (List ℕ) → Script
+check_script d vec root = check_step root d (λ checked. rows_script checked vec)
+
+-- `strict`: the netlist is fetched, read and checked, and then the rows are fetched and read
+unfoldable pub strict_script : List ℕ → List ℕ → Option (List ℕ) → Script
+strict_script net vec root = read_step net net_limit net_reading (λ d. check_script d vec root)
+
+-- the steps of a job
+abbrev pub script_of : Job → Script
+script_of (Strict net vec root) = strict_script net vec root
+
 -- the script ends so for some bytes of its files, those told where they are told
 abbrev pub EndsIn : (List ℕ → Option (List ℕ)) → Script → Ending → Type 0
 EndsIn held (fetch name limit next) ending = (bytes : List ℕ) × IsFetched held name limit bytes × EndsIn held (next bytes) ending
-EndsIn held (check root d next) ending =
-    ((checked : Design) × IsChecked root d checked × EndsIn held (next checked) ending)
-    ⊎ ((line : List ℕ) × IsUnchecked root d line × (refuses line ≡ ending))
+EndsIn held (again second next) ending =
+    ((rows : List (List Bool)) × IsReread held second rows × EndsIn held (next rows) ending)
+    ⊎ ((line : List ℕ) × IsChanged held second line × (refuses line ≡ ending))
+EndsIn held (decide {A} Good Bad next) ending =
+    ((a : A) × Good a × EndsIn held (next a) ending)
+    ⊎ ((line : List ℕ) × Bad line × (refuses line ≡ ending))
 EndsIn held (end last) ending = last ≡ ending
 
--- the script comes to the fetch of this file for some bytes of the files before it
+-- the script comes to a fetch of this file for some bytes of the files before it
 abbrev pub Reaches : (List ℕ → Option (List ℕ)) → Script → List ℕ → Type 0
 Reaches held (fetch name limit next) file = (name ≡ file) ⊎ ((bytes : List ℕ) × IsFetched held name limit bytes × Reaches held (next bytes) file)
-Reaches held (check root d next) file = (checked : Design) × IsChecked root d checked × Reaches held (next checked) file
+Reaches held (again second next) file = (second.name ≡ file) ⊎ ((rows : List (List Bool)) × IsReread held second rows × Reaches held (next rows) file)
+Reaches held (decide {A} Good Bad next) file = (a : A) × Good a × Reaches held (next a) file
 Reaches held (end last) file = ⊥

@@ -2,8 +2,8 @@
 
 ghost use Rattle.std.specs.Prelude.{◌≡◌};
 ghost use Rattle.lid_top.specs.Statuses.{Says};
-ghost use Rattle.lid_top.specs.Faults.{usage_line, read_line, write_line, memory_line};
-ghost use Rattle.lid_top.specs.Causes.{refusal_line, stop_status, stop_line, stop_of_blif, stop_of_rows, stop_of_check};
+ghost use Rattle.lid_top.specs.Faults.{usage_line, read_line, write_line, memory_line, denied_line};
+ghost use Rattle.lid_top.specs.Causes.{refusal_line, stop_status, stop_line, end_status, end_line, stop_of_blif, stop_of_rows, stop_of_check};
 
 use crate::saying::{say, say_told};
 use crate::told::{told_of_blif, told_of_check, told_of_rows};
@@ -29,6 +29,16 @@ pub enum Stop<'a> {
     Read(&'a str),
     /// There was no memory.
     Memory,
+    /// The certificate is none of the graph.
+    Denied,
+}
+
+/// Why a job did not end with its whole output.
+#[derive(Drop)]
+pub enum End<'a> {
+    Stopped(Stop<'a>),
+    /// A write failed.
+    Unwritten,
 }
 
 /// Why a BLIF text gives no design.
@@ -63,7 +73,7 @@ pub fn check_stop<'a>(fault: CheckFault) -> Stop<'a>
 
 /// Says the line of a refusal.
 fn say_refusal<E: Sink>(err: &mut E, refusal: &Refusal)
-    ensures { Says (E.written err.old) (E.written err.new) (E.faults err.old) (E.faults err.new) (refusal_line refusal.now) }
+    ensures { Says E.written E.faults err.old err.new (refusal_line refusal.now) }
 {
     match refusal {
         Refusal::Blif(fault) => say_told(err, "blif", told_of_blif(*fault)),
@@ -74,44 +84,46 @@ fn say_refusal<E: Sink>(err: &mut E, refusal: &Refusal)
 
 /// Says that the words are no job.
 pub fn say_usage<E: Sink>(err: &mut E)
-    ensures { Says (E.written err.old) (E.written err.new) (E.faults err.old) (E.faults err.new) usage_line }
+    ensures { Says E.written E.faults err.old err.new usage_line }
 {
     say(err, &[Word::Text("usage")]);
 }
 
 /// Says which file could not be read.
 fn say_read<E: Sink>(err: &mut E, file: &str)
-    ensures { Says (E.written err.old) (E.written err.new) (E.faults err.old) (E.faults err.new) (read_line file.now) }
+    ensures { Says E.written E.faults err.old err.new (read_line file.now) }
 {
     say(err, &[Word::Text("read"), Word::Text(file)]);
 }
 
 /// Says that the output could not be written.
-pub fn say_write<E: Sink>(err: &mut E)
-    ensures { Says (E.written err.old) (E.written err.new) (E.faults err.old) (E.faults err.new) write_line }
+fn say_write<E: Sink>(err: &mut E)
+    ensures { Says E.written E.faults err.old err.new write_line }
 {
     say(err, &[Word::Text("write")]);
 }
 
 /// Says that there was no memory.
 pub fn say_memory<E: Sink>(err: &mut E)
-    ensures { Says (E.written err.old) (E.written err.new) (E.faults err.old) (E.faults err.new) memory_line }
+    ensures { Says E.written E.faults err.old err.new memory_line }
 {
     say(err, &[Word::Text("memory")]);
 }
 
-/// Says why there is no output, and answers the status.
-pub fn say_stop<E: Sink>(err: &mut E, stop: Stop<'_>) -> u8
-    ensures status { result ≡ stop_status stop.entry }
-    ensures says { Says (E.written err.old) (E.written err.new) (E.faults err.old) (E.faults err.new) (stop_line stop.entry) }
+/// Says that the certificate is none of the graph.
+fn say_denied<E: Sink>(err: &mut E)
+    ensures { Says E.written E.faults err.old err.new denied_line }
 {
-    say_cause(err, &stop)
+    say(
+        err,
+        &[Word::Text("not"), Word::Text("a"), Word::Text("certificate")],
+    );
 }
 
 /// Says why there is no output, and answers the status.
-fn say_cause<E: Sink>(err: &mut E, stop: &Stop<'_>) -> u8
+fn say_stop<E: Sink>(err: &mut E, stop: &Stop<'_>) -> u8
     ensures status { result ≡ stop_status stop.now }
-    ensures says { Says (E.written err.old) (E.written err.new) (E.faults err.old) (E.faults err.new) (stop_line stop.now) }
+    ensures says { Says E.written E.faults err.old err.new (stop_line stop.now) }
 {
     match stop {
         Stop::Refused(refusal) => {
@@ -125,6 +137,24 @@ fn say_cause<E: Sink>(err: &mut E, stop: &Stop<'_>) -> u8
         Stop::Memory => {
             say_memory(err);
             5
+        }
+        Stop::Denied => {
+            say_denied(err);
+            6
+        }
+    }
+}
+
+/// Says why the output is not whole, and answers the status.
+pub fn say_end<E: Sink>(err: &mut E, end: &End<'_>) -> u8
+    ensures status { result ≡ end_status end.now }
+    ensures says { Says E.written E.faults err.old err.new (end_line end.now) }
+{
+    match end {
+        End::Stopped(stop) => say_stop(err, stop),
+        End::Unwritten => {
+            say_write(err);
+            4
         }
     }
 }

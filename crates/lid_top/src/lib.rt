@@ -2,10 +2,15 @@
 #![tactic(auto)]
 
 mod fault;
-mod run;
+mod job;
+mod laws;
+mod program;
 mod saying;
+mod steps;
+mod strict;
 mod told;
 mod top;
 
-pub use fault::{say_memory, say_usage};
+pub use laws::a_told_job_ends_in_one_way;
+pub use program::run_program;
 pub use top::lid_run;

@@ -3,7 +3,7 @@ use Rattle.lid_rules.specs.declared.fault.CheckFault.TheVariants as check
 use Rattle.lid_check.specs.Acceptance.{with_root, IsRefused}
 use Rattle.lid_top.specs.Causes.{FailsCheck}
 use Rattle.lid_top.proofs.Readings.{check_fails}
-use Rattle.lid_top.proofs.run.accept.Goals as goal
+use Rattle.lid_top.proofs.steps.accept.Goals as goal
 
 pub returns-in-Ok-clause-ok : goal.returns-in-Ok-clause-ok
 returns-in-Ok-clause-ok c = record {

@@ -2,7 +2,7 @@ use Rattle.std.proofs.Common.{length, subst, sym, ap}
 use Rattle.lid_top.specs.Scripts.{vec_reading}
 use Rattle.lid_top.specs.Causes.{Declines}
 use Rattle.lid_top.proofs.Readings.{vec_good, vec_declines}
-use Rattle.lid_top.proofs.run.rows_of.Goals as goal
+use Rattle.lid_top.proofs.steps.rows_of.Goals as goal
 
 pub returns-in-Ok-clause-ok : goal.returns-in-Ok-clause-ok
 returns-in-Ok-clause-ok c =

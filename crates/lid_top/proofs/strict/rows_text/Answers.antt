@@ -2,8 +2,8 @@ use Rattle.std.proofs.Common.{Bool, List, refl}
 use Rattle.lid_top.specs.Outputs.{strict_output}
 use Rattle.lid_top.specs.Scripts.{Script, end, gives, rows_limit, vec_reading, rows_script}
 use Rattle.lid_base.proofs.Results.{if_ok, if_err}
-use Rattle.lid_top.proofs.Steps.{text_after, cause_here, want_anywhere}
-use Rattle.lid_top.proofs.run.rows_text.Goals as goal
+use Rattle.lid_top.proofs.Composition.{text_after, cause_here, want_anywhere}
+use Rattle.lid_top.proofs.strict.rows_text.Goals as goal
 
 pub returns-in-Ok-clause-ok : goal.returns-in-Ok-clause-ok
 unfolding rows_script
@@ -11,10 +11,10 @@ returns-in-Ok-clause-ok g c =
     let d = c.args.checked.now in
     let next : List (List Bool) → Script = λ rows. end (gives (strict_output d rows)) in
     let bits = c.in-Ok.rows.bits in
-    if_ok c.strict_text.result
+    if_ok c.outputs_text.result
     (λ text h. text_after (g.S.Shelf.held c.args.shelf.now) c.args.vec.now rows_limit (vec_reading d) next bits text.items c.in-Ok.ensures.ok
     (record { output = strict_output d bits; ends = refl; text_of = h }))
-    c.strict_text.ensures.ok
+    c.outputs_text.ensures.ok
 
 pub returns-in-Err-clause-err : goal.returns-in-Err-clause-err
 unfolding rows_script
@@ -26,6 +26,6 @@ returns-in-Err-clause-err g c =
 
 pub returns-in-Ok-clause-err : goal.returns-in-Ok-clause-err
 returns-in-Ok-clause-err g c =
-    if_err c.strict_text.result
+    if_err c.outputs_text.result
     (want_anywhere (g.S.Shelf.held c.args.shelf.now) (rows_script c.args.checked.now c.args.vec.now) (g.S.Shelf.faults c.args.shelf.now) (g.S.Shelf.faults c.read_vec.new.shelf))
-    c.strict_text.ensures.err
+    c.outputs_text.ensures.err

@@ -4,8 +4,8 @@ use Rattle.lid_top.specs.Causes.{IsCause}
 use Rattle.lid_top.specs.Statuses.{HasText}
 use Rattle.lid_design.specs.declared.Design.{Design}
 use Rattle.lid_base.proofs.Results.{if_ok, if_err}
-use Rattle.lid_top.proofs.Steps.{text_after, cause_after, cause_here}
-use Rattle.lid_top.proofs.run.net_text.Goals as goal
+use Rattle.lid_top.proofs.Composition.{text_after, cause_after, cause_here}
+use Rattle.lid_top.proofs.strict.strict_text.Goals as goal
 
 pub returns-in-Ok-clause-ok : goal.returns-in-Ok-clause-ok
 unfolding strict_script

@@ -1,0 +1,81 @@
+-- Where the shelf tells its contents, a script ends in one way.
+use Rattle.std.proofs.Common.{◌≡◌, ◌≢◌, ℕ, ◌+◌, ◌≤◌, Bool, List, length, take, Option, Some, None, IsSome, IfSome, ◌⊎◌, inl, inr, refl, sym, ◌∙◌, ap, subst}
+use Rattle.lid_design.specs.declared.Design.{Design}
+use Rattle.lid_rules.specs.declared.fault.CheckFault.{CheckFault}
+use Rattle.lid_rules.specs.declared.fault.CheckFault.TheVariants.{NoRoot}
+use Rattle.lid_check.specs.Acceptance.{with_root, IsAccepted, IsRefused, IsRefusal}
+use Rattle.lid_cli.specs.declared.job.Job.{Job}
+use Rattle.lid_cli.specs.declared.job.Job.TheVariants.{Strict}
+use Rattle.lid_top.specs.Faults.{check_line}
+use Rattle.lid_top.specs.Outputs.{strict_output}
+use Rattle.lid_top.specs.Scripts.{Ending, refuses, gives, Script, fetch, again, decide, end, Rereading, Reading, good, bad, step, net_limit, rows_limit, net_reading, vec_reading, rows_script, check_script, strict_script, script_of, IsFetched, IsReread, IsChanged, IsChecked, IsUnchecked, EndsIn, Reaches}
+use Rattle.lid_top.specs.Statuses.{TellsAll}
+
+-- each step of the script without a fetch has one outcome
+IsSettled : (List ℕ → Option (List ℕ)) → Script → Type 0
+IsSettled held (fetch name limit next) = (bytes : List ℕ) → IsFetched held name limit bytes → IsSettled held (next bytes)
+IsSettled held (again second next) = (rows : List (List Bool)) → IsReread held second rows → IsSettled held (next rows)
+IsSettled held (decide {A} Good Bad next) =
+    ((a b : A) → Good a → Good b → a ≡ b) × ((a : A) (line : List ℕ) → Good a → Bad line → ⊥)
+    × ((line other : List ℕ) → Bad line → Bad other → line ≡ other) × ((a : A) → Good a → IsSettled held (next a))
+IsSettled held (end last) = Unit {0}
+
+-- what is told is one value
+told_once : {A : Type 0} (held : Option (List ℕ)) (f : List ℕ → A) (x y : A) → IsSome held → IfSome held (λ file. x ≡ f file) → IfSome held (λ file. y ≡ f file) → x ≡ y
+told_once None f x y () a b
+told_once (Some file) f x y _ a b = a ∙ sym b
+
+is_told : (held : Option (List ℕ)) → IsSome held → held ≡ None → ⊥
+is_told None () e
+is_told (Some file) _ ()
+
+pub ends_once : (held : List ℕ → Option (List ℕ)) (script : Script) (x y : Ending) → IsSettled held script → TellsAll held script → EndsIn held script x → EndsIn held script y → x ≡ y
+ends_once held (fetch name limit next) x y settled tells (b, f, ex) (c, g, ey) =
+    let same : b ≡ c = told_once (held name) (take (limit + 1)) b c (tells name (inl refl)) f.told g.told in
+    ends_once held (next b) x y (settled b f) (λ file r. tells file (inr (b, f, r))) ex (subst (λ bytes. EndsIn held (next bytes) y) (sym same) ey)
+ends_once held (again second next) x y settled tells (inl (b, f, ex)) (inl (c, g, ey)) =
+    let same : b ≡ c = told_once (held second.name) (λ _. second.rows) b c (tells second.name (inl refl)) f.told g.told in
+    ends_once held (next b) x y (settled b f) (λ file r. tells file (inr (b, f, r))) ex (subst (λ rows. EndsIn held (next rows) y) (sym same) ey)
+ends_once held (again second next) x y settled tells (inr (line, changed, e)) ey = absurd (is_told (held second.name) (tells second.name (inl refl)) changed.untold)
+ends_once held (again second next) x y settled tells (inl ex) (inr (line, changed, e)) = absurd (is_told (held second.name) (tells second.name (inl refl)) changed.untold)
+ends_once held (decide {A} Good Bad next) x y settled tells (inl (a, g, ex)) (inl (b, h, ey)) =
+    ends_once held (next a) x y (settled.3 a g) (λ file r. tells file (a, g, r)) ex (subst (λ v. EndsIn held (next v) y) (sym (settled.0 a b g h)) ey)
+ends_once held (decide {A} Good Bad next) x y settled tells (inl (a, g, ex)) (inr (line, b, e)) = absurd (settled.1 a line g b)
+ends_once held (decide {A} Good Bad next) x y settled tells (inr (line, b, e)) (inl (a, g, ey)) = absurd (settled.1 a line g b)
+ends_once held (decide {A} Good Bad next) x y settled tells (inr (line, b, e)) (inr (other, c, h)) = sym e ∙ ap refuses (settled.2 line other b c) ∙ h
+ends_once held (end last) x y settled tells ex ey = sym ex ∙ ey
+
+settled_step : {A : Type 0} (held : List ℕ → Option (List ℕ)) (reading : Reading A) (next : A → Script) → ((a : A) → IsSettled held (next a)) → IsSettled held (step reading next)
+settled_step held (good a) next s = s a
+settled_step held (bad line) next s = tt
+
+some_same : {A : Type 0} (o : Option A) (a b : A) → o ≡ Some a → o ≡ Some b → a ≡ b
+some_same None a b ()
+some_same (Some c) a b refl refl = refl
+
+-- acceptance has one outcome
+module _ (apart : (d : Design) (fault : CheckFault) → IsAccepted d → IsRefusal d fault → ⊥) (one : (d : Design) (fault other : CheckFault) → IsRefusal d fault → IsRefusal d other → fault ≡ other) where
+  refused_once : (o : Option Design) (fault other : CheckFault) → IsRefused o fault → IsRefused o other → fault ≡ other
+  refused_once None fault other a b = a ∙ sym b
+  refused_once (Some d) fault other a b = one d fault other a b
+
+  accepted_apart : (o : Option Design) (d : Design) (fault : CheckFault) → o ≡ Some d → IsAccepted d → IsRefused o fault → ⊥
+  accepted_apart o d fault e a r = apart d fault a (subst (λ p. IsRefused p fault) e r)
+
+  checked_once : (held : List ℕ → Option (List ℕ)) (root : Option (List ℕ)) (d : Design) (next : Design → Script) → ((c : Design) → IsSettled held (next c)) → IsSettled held (decide (IsChecked root d) (IsUnchecked root d) next)
+  checked_once held root d next s = (
+    (λ a b g h. some_same (with_root d root) a b g.rooted h.rooted),
+    (λ a line g u. accepted_apart (with_root d root) a u.fault g.rooted g.accepted u.refused),
+    (λ line other u v. u.told ∙ ap check_line (refused_once (with_root d root) u.fault v.fault u.refused v.refused) ∙ sym v.told),
+    (λ a _. s a),
+  )
+
+  settled_job : (held : List ℕ → Option (List ℕ)) (job : Job) → IsSettled held (script_of job)
+  unfolding strict_script check_script rows_script
+  settled_job held (Strict net vec root) = λ bytes _.
+      let rows : (d : Design) → IsSettled held (rows_script d vec) = λ d text _. settled_step held (vec_reading d text) (λ bits. end (gives (strict_output d bits))) (λ _. tt) in
+      settled_step held (net_reading bytes) (λ d. check_script d vec root)
+      (λ d. checked_once held root d (λ c. rows_script c vec) rows)
+
+  pub told_job_ends_once : (held : List ℕ → Option (List ℕ)) (job : Job) (x y : Ending) → TellsAll held (script_of job) → EndsIn held (script_of job) x → EndsIn held (script_of job) y → x ≡ y
+  told_job_ends_once held job x y = ends_once held (script_of job) x y (settled_job held job)

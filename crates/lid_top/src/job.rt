@@ -1,0 +1,68 @@
+//! Jobs and their outputs.
+
+ghost use Rattle.std.specs.Prelude.{◌≡◌, ℕ, ◌≤◌, List, OnOk, OnErr, IfOk, IfErr};
+ghost use Rattle.lid_base.specs.Outside.{Rose, Appended, AppendedPrefix};
+ghost use Rattle.lid_top.specs.Scripts.{script_of};
+ghost use Rattle.lid_top.specs.Causes.{IsCause, IsEnd, IsStopped, IsRefusal};
+ghost use Rattle.lid_top.specs.Statuses.{HasText, Writes, WritesPrefix, TellsAll, Leaves, writes_early};
+
+use crate::fault::{End, Stop};
+use crate::strict::strict_text;
+use lid_base::{Gate, Shelf, Sink};
+use lid_cli::Job;
+use lid_io::write_all;
+use std::alloc::Global;
+use std::convert::AsStr;
+use std::thread::Threads;
+
+/// What a job writes that writes nothing before its output is whole.
+fn text_of<'a, S: Shelf>(alloc: Global, shelf: &mut S, job: &'a Job) -> Result<Vec<u8>, Stop<'a>>
+    ensures ok { IfOk result (λ text. HasText (S.held shelf.old) (script_of job.now) text.items) }
+    ensures err { IfErr result (IsCause (S.held shelf.old) (script_of job.now) (S.faults shelf.old) (S.faults shelf.new)) }
+    ensures kept { S.held shelf.new ≡ S.held shelf.old }
+    ensures grows { (q : List ℕ) → S.faults shelf.old q ≤ S.faults shelf.new q }
+{
+    match job {
+        Job::Strict { net, vec, root } => {
+            strict_text(alloc, shelf, net.as_str(), vec.as_str(), root)
+        }
+    }
+}
+
+/// Writes the output of a job.
+fn write_text<'a, O: Sink>(out: &mut O, text: &[u8]) -> Result<(), End<'a>>
+    ensures ok { OnOk result (Appended (O.written out.old) (O.written out.new) text.now) }
+    ensures err { IfErr result (λ end. (end ≡ End.Unwritten) × Rose (O.faults out.old) (O.faults out.new) × AppendedPrefix (O.written out.old) (O.written out.new) text.now) }
+{
+    match write_all(out, text) {
+        Ok(()) => Ok(()),
+        Err(_) => Err(End::Unwritten),
+    }
+}
+
+/// Runs a job: its output goes to `out`, and what it needs of threads comes from `rt` and `gate`.
+pub fn run_job<'a, R, S, O, G>(
+    rt: &R,
+    job: &'a Job,
+    shelf: &mut S,
+    out: &mut O,
+    gate: &G,
+) -> Result<(), End<'a>>
+where
+    R: Threads + AllocGlobal + Sync,
+    S: Shelf,
+    O: Sink,
+    G: Gate,
+    ensures done { OnOk result (Writes (S.held shelf.old) (script_of job.now) (O.written out.old) (O.written out.new)) }
+    ensures fails { IfErr result (IsEnd (S.held shelf.old) (script_of job.now) (S.faults shelf.old) (S.faults shelf.new)
+        (Rose (O.faults out.old) (O.faults out.new) × WritesPrefix (S.held shelf.old) (script_of job.now) (O.written out.old) (O.written out.new))) }
+    ensures left { IfErr result (λ end. IsStopped end → Leaves (writes_early job.now) (S.held shelf.old) (script_of job.now) O.written out.old out.new) }
+    ensures unwritten { IfErr result (λ end. IsRefusal end → TellsAll (S.held shelf.old) (script_of job.now) → out.new ≡ out.old) }
+    ensures kept { S.held shelf.new ≡ S.held shelf.old }
+{
+    let _ = gate;
+    match text_of(rt.alloc(), shelf, job) {
+        Ok(text) => write_text(out, &text),
+        Err(stop) => Err(End::Stopped(stop)),
+    }
+}

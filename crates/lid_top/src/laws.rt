@@ -1,0 +1,13 @@
+//! What follows from the definitions of scripts. The function here does nothing; its contract is a law
+//! for all jobs.
+
+ghost use Rattle.std.specs.Prelude.{◌≡◌, ℕ, List, Option};
+ghost use Rattle.lid_cli.specs.declared.job.Job.{Job};
+ghost use Rattle.lid_top.specs.Scripts.{Ending, EndsIn, script_of};
+ghost use Rattle.lid_top.specs.Statuses.{TellsAll};
+
+/// Where the shelf tells all files that a job reaches, the job ends in one way. So which status comes,
+/// and which refusal is told, is a function of what the files hold, but for want of memory.
+pub fn a_told_job_ends_in_one_way()
+    ensures { (held : List ℕ → Option (List ℕ)) (job : Job) (x y : Ending) → TellsAll held (script_of job) → EndsIn held (script_of job) x → EndsIn held (script_of job) y → x ≡ y }
+{}

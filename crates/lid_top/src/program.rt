@@ -1,0 +1,52 @@
+//! The program round the top call: from what the system gives it to the status of the process.
+
+ghost use Rattle.std.specs.Prelude.{◌≡◌, ◌⊎◌, None, IfOk, IfErr};
+ghost use Rattle.std.specs.Process.{exit_status};
+ghost use Rattle.lid_cli.specs.Jobs.{job_of};
+ghost use Rattle.lid_top.specs.Faults.{usage_line, memory_line};
+ghost use Rattle.lid_top.specs.Statuses.{Says, Run};
+
+use crate::fault::{say_memory, say_usage};
+use crate::top::lid_run;
+use lid_base::{OpenGate, Shelf, Sink, Text};
+use std::io;
+use std::process::ExitCode;
+use std::thread::Threads;
+
+/// Says why there are no words, and answers the status: a word that is no text is no word of a job.
+fn without_words<E: Sink>(err: &mut E, cause: &io::Error) -> u8
+    ensures { ((result ≡ 2) × Says E.written E.faults err.old err.new usage_line) ⊎ ((result ≡ 5) × Says E.written E.faults err.old err.new memory_line) }
+{
+    if cause.kind() == io::ErrorKind::OutOfMemory {
+        say_memory(err);
+        5
+    } else {
+        say_usage(err);
+        2
+    }
+}
+
+/// Runs the job that the words after the program's name ask for, and ends with the status of
+/// [`lid_run`](crate::lid_run). Where the system gives no words, as for one that is no text, they are
+/// no job.
+pub fn run_program<R, S, O, E>(
+    rt: &R,
+    words: io::Result<Vec<Text>>,
+    shelf: &mut S,
+    out: &mut O,
+    err: &mut E,
+) -> ExitCode
+where
+    R: Threads + AllocGlobal + Sync,
+    S: Shelf,
+    O: Sink,
+    E: Sink,
+    ensures ran { IfOk words.entry (λ words. Run (job_of words.items) S.held S.faults shelf.old shelf.new O.written O.faults out.old out.new E.written E.faults err.old err.new (exit_status result)) }
+    ensures wordless { IfErr words.entry (λ cause. Run None S.held S.faults shelf.old shelf.new O.written O.faults out.old out.new E.written E.faults err.old err.new (exit_status result)) }
+{
+    let status = match words {
+        Ok(words) => lid_run(rt, &words, shelf, out, err, &OpenGate),
+        Err(cause) => without_words(err, &cause),
+    };
+    ExitCode::from(status)
+}
