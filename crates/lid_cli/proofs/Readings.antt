@@ -1,12 +1,15 @@
 -- What a reading by `clap` says of the words.
-use Rattle.std.proofs.Common.{◌≡◌, ◌≢◌, ◌∙◌, inl, inr, sym, ap, ap₂, subst, refl, ℕ, true, List, [], ◌∷◌, map, Some, None}
+use Rattle.std.proofs.Common.{◌≡◌, ◌≢◌, ◌∙◌, ◌==◌, length, true≢false, inl, inr, sym, ap, ap₂, subst, refl, ℕ, true, List, [], ◌∷◌, map, Some, None}
 use Rattle.std.proofs.lemmas.List.{map-id}
+use Rattle.std.proofs.Math.Dec.{eqb-suc-zero}
+use Rattle.std.specs.Borrow.{Bor}
 use Rattle.clap.specs.Words.{App, Kinds, HasKind, HasMatchesOf, is_simple, is_simple_and_free, fault_of, matches_of, kind_of}
 use Rattle.clap.specs.Walk.{Row}
 use Rattle.clap.specs.declared.error.Error.{Error}
 use Rattle.clap.specs.declared.error.kind.ErrorKind.TheVariants.{OutOfMemory}
 use Rattle.clap.specs.declared.parser.matches.ArgMatches.{ArgMatches}
 use Rattle.lid_cli.specs.Reading.{lid_app, given_in, matches_in, matches_unless}
+use Rattle.lid_cli.specs.Jobs.{files_fit}
 
 -- `clap` states what it finds by this command
 pub is_simple_lid : is_simple lid_app ≡ true
@@ -46,3 +49,9 @@ none_given words a e is kinds not =
     let has : HasKind (fault_of a (map (λ t. t) words)) e = kinds (ap is_simple_and_free is ∙ is_free_lid) in
     let P : Kinds → Type 0 = λ ks. HasKind ks e in
     sym (no_rows (fault_of lid_app words) (matches_of lid_app words) e (subst P (ap₂ fault_of is (map-id words)) has) not)
+
+-- files without a place for them
+pub fit_without_places : (files : List (List ℕ)) (places : List (Bor (List ℕ))) → true ≡ (length places == 0) → true ≡ files_fit files (map (λ p. p.now) places)
+fit_without_places [] places e = refl
+fit_without_places (file ∷ files) [] e = refl
+fit_without_places (file ∷ files) (place ∷ places) e = absurd (true≢false (e ∙ eqb-suc-zero (length places)))

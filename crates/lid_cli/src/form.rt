@@ -37,14 +37,14 @@ fn options_fit(given: &ArgMatches<'_>, names: &[&str]) -> bool
 fn files_fit(files: &[&str], places: &[&str]) -> bool
     ensures { result ≡ files_fit (map (λ f. f.now) files.now) (map (λ p. p.now) places.now) }
 {
-    let mut files = files;
-    let mut places = places;
-    while !files.is_empty() && !places.is_empty() {
-        if !fits(places[0], files[0]) {
+    let mut more = files;
+    let mut free = places;
+    while !more.is_empty() && !free.is_empty() {
+        if !fits(free[0], more[0]) {
             return false;
         }
-        files = &files[1..];
-        places = &places[1..];
+        more = &more[1..];
+        free = &free[1..];
     }
     true
 }
