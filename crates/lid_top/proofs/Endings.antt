@@ -1,5 +1,5 @@
 -- Where the shelf tells its contents, a script ends in one way.
-use Rattle.std.proofs.Common.{◌≡◌, ◌≢◌, ℕ, ◌+◌, ◌≤◌, Bool, List, length, take, Option, Some, None, IsSome, IfSome, ◌⊎◌, inl, inr, refl, sym, ◌∙◌, ap, subst}
+use Rattle.std.proofs.Common.{◌≡◌, ◌≢◌, ℕ, ◌+◌, ◌≤◌, Bool, List, length, take, Option, Some, None, is_some, true≢false, IsSome, IfSome, ◌⊎◌, inl, inr, refl, sym, ◌∙◌, ap, subst}
 use Rattle.lid_design.specs.declared.Design.{Design}
 use Rattle.lid_rules.specs.declared.fault.CheckFault.{CheckFault}
 use Rattle.lid_rules.specs.declared.fault.CheckFault.TheVariants.{NoRoot}
@@ -12,7 +12,7 @@ use Rattle.lid_top.specs.Scripts.{Ending, refuses, gives, Script, fetch, again, 
 use Rattle.lid_top.specs.Statuses.{TellsAll}
 
 -- each step of the script without a fetch has one outcome
-IsSettled : (List ℕ → Option (List ℕ)) → Script → Type 0
+abbrev pub IsSettled : (List ℕ → Option (List ℕ)) → Script → Type 0
 IsSettled held (fetch name limit next) = (bytes : List ℕ) → IsFetched held name limit bytes → IsSettled held (next bytes)
 IsSettled held (again second next) = (rows : List (List Bool)) → IsReread held second rows → IsSettled held (next rows)
 IsSettled held (decide {A} Good Bad next) =
@@ -22,12 +22,11 @@ IsSettled held (end last) = Unit {0}
 
 -- what is told is one value
 told_once : {A : Type 0} (held : Option (List ℕ)) (f : List ℕ → A) (x y : A) → IsSome held → IfSome held (λ file. x ≡ f file) → IfSome held (λ file. y ≡ f file) → x ≡ y
-told_once None f x y () a b
-told_once (Some file) f x y _ a b = a ∙ sym b
+told_once None f x y t a b = absurd (true≢false (sym t))
+told_once (Some file) f x y t a b = a ∙ sym b
 
 is_told : (held : Option (List ℕ)) → IsSome held → held ≡ None → ⊥
-is_told None () e
-is_told (Some file) _ ()
+is_told held told none = true≢false (sym told ∙ ap is_some none)
 
 pub ends_once : (held : List ℕ → Option (List ℕ)) (script : Script) (x y : Ending) → IsSettled held script → TellsAll held script → EndsIn held script x → EndsIn held script y → x ≡ y
 ends_once held (fetch name limit next) x y settled tells (b, f, ex) (c, g, ey) =
@@ -49,9 +48,12 @@ settled_step : {A : Type 0} (held : List ℕ → Option (List ℕ)) (reading : R
 settled_step held (good a) next s = s a
 settled_step held (bad line) next s = tt
 
+abbrev or_else : {A : Type 0} → A → Option A → A
+or_else a None = a
+or_else a (Some b) = b
+
 some_same : {A : Type 0} (o : Option A) (a b : A) → o ≡ Some a → o ≡ Some b → a ≡ b
-some_same None a b ()
-some_same (Some c) a b refl refl = refl
+some_same o a b e f = ap (or_else a) (sym e ∙ f)
 
 -- acceptance has one outcome
 module _ (apart : (d : Design) (fault : CheckFault) → IsAccepted d → IsRefusal d fault → ⊥) (one : (d : Design) (fault other : CheckFault) → IsRefusal d fault → IsRefusal d other → fault ≡ other) where

@@ -1,5 +1,5 @@
 -- What a run shows, by how it ended.
-use Rattle.std.proofs.Common.{◌≡◌, ◌≢◌, ℕ, ◌≤◌, Bool, true, false, List, Option, Some, None, IfSome, ◌⊎◌, inl, inr, refl, sym, ◌∙◌, ap, subst, arith}
+use Rattle.std.proofs.Common.{◌≡◌, ◌≢◌, ℕ, ◌≤◌, Bool, true, false, List, Option, Some, None, is_some, true≢false, IfSome, ◌⊎◌, inl, inr, refl, sym, ◌∙◌, ap, subst, arith}
 use Rattle.lid_base.specs.Outside.{Rose}
 use Rattle.lid_cli.specs.declared.job.Job.{Job}
 use Rattle.lid_top.specs.declared.fault.Stop.{Stop}
@@ -12,7 +12,7 @@ use Rattle.lid_top.specs.Causes.{refusal_line, IsCause, IsEnd, IsStopped, IsRefu
 use Rattle.lid_top.specs.Statuses.{Says, Writes, WritesPrefix, TellsAll, ReadsAll, Leaves, writes_early, JobRun, Run}
 
 is_some_job : {job : Job} → Some job ≡ None → ⊥
-is_some_job ()
+is_some_job e = true≢false (ap is_some e)
 
 -- no end has the status of an output that is whole, or of words that are no job
 at_most_six : (end : End) → end_status end ≤ 6

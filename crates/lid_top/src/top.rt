@@ -1,13 +1,13 @@
 //! The top call: from words, files and sinks to a status.
 
-ghost use Rattle.std.specs.Prelude.{◌≡◌};
+ghost use Rattle.std.specs.Prelude.{Some};
 ghost use Rattle.lid_cli.specs.Jobs.{job_of};
 ghost use Rattle.lid_top.specs.Statuses.{Run};
 
 use crate::fault::{say_end, say_memory, say_usage};
 use crate::job::run_job;
 use lid_base::{Gate, Shelf, Sink, Text};
-use lid_cli::read_words;
+use lid_cli::{Job, read_words};
 use std::thread::Threads;
 
 /// Runs the job that the words ask for, and answers the status of the program:
@@ -40,10 +40,7 @@ where
     ensures { Run (job_of words.now) S.held S.faults shelf.old shelf.new O.written O.faults out.old out.new E.written E.faults err.old err.new result }
 {
     match read_words(rt.alloc(), words) {
-        Ok(Some(job)) => match run_job(rt, &job, shelf, out, gate) {
-            Ok(()) => 0,
-            Err(end) => say_end(err, &end),
-        },
+        Ok(Some(job)) => run_asked(rt, &job, shelf, out, err, gate),
         Ok(None) => {
             say_usage(err);
             2
@@ -52,5 +49,28 @@ where
             say_memory(err);
             5
         }
+    }
+}
+
+/// Runs the job that is asked for, and answers its status.
+fn run_asked<R, S, O, E, G>(
+    rt: &R,
+    job: &Job,
+    shelf: &mut S,
+    out: &mut O,
+    err: &mut E,
+    gate: &G,
+) -> u8
+where
+    R: Threads + AllocGlobal + Sync,
+    S: Shelf,
+    O: Sink,
+    E: Sink,
+    G: Gate,
+    ensures { Run (Some job.now) S.held S.faults shelf.old shelf.new O.written O.faults out.old out.new E.written E.faults err.old err.new result }
+{
+    match run_job(rt, job, shelf, out, gate) {
+        Ok(()) => 0,
+        Err(end) => say_end(err, &end),
     }
 }
