@@ -58,35 +58,40 @@ impl<R: Files> Shelf for DirShelf<'_, R> {
     }
 }
 
-/// An output of the system. What was written to it is not told. Its count is that of the writes
-/// that failed. A contract sees this count.
+/// An output of the system, behind a writer.
+///
+/// A contract sees what was written, where the writer tells what it holds, and how many writes
+/// failed. The writers over standard output and over files tell nothing. The count stays at
+/// 2^64 - 1 once it is there.
 #[derive(Drop)]
-pub struct StdSink<W> {
+pub struct StdSink<W: Write + Drop> {
     writer: W,
     faults: u64,
 }
 
-impl<W> Model for StdSink<W> {
-    ghost use Rattle.std.specs.Prelude.{ℕ};
+impl<W: Write + Drop> Model for StdSink<W> {
+    ghost use Rattle.lid_base.specs.Outside.{OutputState};
 
-    ghost Value = { ℕ };
+    ghost Value = { OutputState };
 
-    ghost view = { λ s. s.faults };
+    ghost view = { λ s. record { written = W.contents s.writer; faults = s.faults } };
 }
 
 impl<W: Write + Drop> StdSink<W> {
+    ghost use Rattle.lid_base.specs.Outside.{OutputState};
+
     /// The output behind a writer.
     pub fn new(writer: W) -> StdSink<W>
-        ensures { result ≡ 0 }
+        ensures { let start : OutputState = record { written = W.contents writer; faults = 0 } in result ≡ start }
     {
         StdSink { writer, faults: 0 }
     }
 }
 
 impl<W: Write + Drop> Sink for StdSink<W> {
-    ghost written = { λ _. None };
+    ghost written = { λ s. s.written };
 
-    ghost faults = { λ s. s };
+    ghost faults = { λ s. s.faults };
 
     /// # Errors
     /// The writer failed, or took nothing of what was left of the piece.

@@ -1,4 +1,3 @@
 pub mod Fetches
 pub mod FaultLines
 pub mod StepTexts
-pub mod Writes

@@ -1,7 +1,7 @@
 use Rattle.std.proofs.Common.{[], ◌∷◌}
 use Rattle.lid_io.specs.Telling.{spelled}
 use Rattle.lid_base.proofs.Results.{on_err}
-use Rattle.lid_io.proofs.Writes.{first_and_part}
+use Rattle.lid_base.proofs.Writes.{first_and_part}
 use Rattle.lid_io.proofs.telling.tell_word.Goals as goal
 
 pub returns-clause-err : goal.returns-clause-err
