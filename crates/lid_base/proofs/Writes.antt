@@ -1,5 +1,5 @@
 -- A text that is written piece by piece.
-use Rattle.std.proofs.Common.{◌≡◌, ℕ, List, [], ◌++◌, length, take, drop, Option, Some, None, Result, Ok, Err, refl, sym, ◌∙◌, ap, subst, append_assoc, append-nil}
+use Rattle.std.proofs.Common.{◌≡◌, ℕ, List, [], ◌++◌, length, take, drop, Option, Some, None, Result, Ok, Err, OnErr, refl, sym, ◌∙◌, ap, subst, append_assoc, append-nil}
 use Rattle.std.specs.Option.{IfSome}
 use Rattle.std.specs.Io.KnownBytes.{Appends, Keeps, WriteAppends}
 use Rattle.std.proofs.lemmas.List.{take-append-drop}
@@ -50,16 +50,17 @@ part_written (Some b) now new text piece rest so a =
     (take-append_seam (done ++ take k piece) (drop k piece ++ rest)) in
     (length (done ++ take k piece), at.1 ∙ ap Some (append_assoc b done (take k piece)) ∙ ap (λ t. Some (b ++ t)) (sym cut))
 
+pub cut_whole : (left piece rest : List ℕ) (n : ℕ) → piece ≡ take n left → rest ≡ drop n left → piece ++ rest ≡ left
+cut_whole left piece rest n p r = ap (λ x. x ++ rest) p ∙ ap (λ x. take n left ++ x) r ∙ take-append-drop n left
+
 -- the same where the piece and the rest are cut from what is left
 pub one_more_cut : (before now new : Option (List ℕ)) (text left piece rest : List ℕ) (n : ℕ) → SoFar before now text left → piece ≡ take n left → rest ≡ drop n left → Appended now new piece → SoFar before new text rest
 one_more_cut before now new text left piece rest n so p r a =
-    one_more before now new text piece rest
-    (subst (λ l. SoFar before now text l) (sym (ap (λ x. x ++ rest) p ∙ ap (λ x. take n left ++ x) r ∙ take-append-drop n left)) so) a
+    one_more before now new text piece rest (subst (λ l. SoFar before now text l) (sym (cut_whole left piece rest n p r)) so) a
 
 pub part_written_cut : (before now new : Option (List ℕ)) (text left piece rest : List ℕ) (n : ℕ) → SoFar before now text left → piece ≡ take n left → rest ≡ drop n left → AppendedPrefix now new piece → AppendedPrefix before new text
 part_written_cut before now new text left piece rest n so p r a =
-    part_written before now new text piece rest
-    (subst (λ l. SoFar before now text l) (sym (ap (λ x. x ++ rest) p ∙ ap (λ x. take n left ++ x) r ∙ take-append-drop n left)) so) a
+    part_written before now new text piece rest (subst (λ l. SoFar before now text l) (sym (cut_whole left piece rest n p r)) so) a
 
 -- two texts, one after the other
 pub both_written : (before now new : Option (List ℕ)) (first second : List ℕ) → Appended before now first → Appended now new second → Appended before new (first ++ second)
@@ -73,6 +74,11 @@ first_and_part None now new first second a c = tt
 first_and_part (Some b) now new first second a c =
     part_written (Some b) now new (first ++ second) second []
     (record { done = first; written = a; whole = ap (λ x. first ++ x) (append-nil second) }) c
+
+-- the same of a result that is handed on
+pub first_and_err : {A E : Type 0} (r : Result A E) (before now new : Option (List ℕ)) (first second : List ℕ) → Appended before now first → OnErr r (AppendedPrefix now new second) → OnErr r (AppendedPrefix before new (first ++ second))
+first_and_err (Ok x) before now new first second a h = tt
+first_and_err (Err e) before now new first second a h = first_and_part before now new first second a h
 
 pub part_of_first : (before new : Option (List ℕ)) (first second : List ℕ) → AppendedPrefix before new first → AppendedPrefix before new (first ++ second)
 part_of_first None new first second a = tt

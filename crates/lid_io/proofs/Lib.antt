@@ -1,3 +1,4 @@
 pub mod Fetches
+pub mod Passing
 pub mod FaultLines
 pub mod StepTexts
