@@ -8,15 +8,54 @@ use std::marker::Model;
 use std::rt::Files;
 use std::{fs, io};
 
+/// The file that was read last, and the place in it from which the next bytes are read.
+#[derive(Drop)]
+struct LastFile<F: Read + Seek + Drop> {
+    name: String,
+    file: F,
+    place: u64,
+}
+
+impl<F: Read + Seek + Drop> LastFile<F> {
+    /// Reads bytes from the place `at`. It seeks only where that is another place, which fails on
+    /// what has no places, as a pipe.
+    fn read_at(&mut self, at: u64, into: &mut [u8]) -> io::Result<usize>
+        ensures { IfOk result (λ n. n ≤ length into.new) }
+    {
+        if at != self.place {
+            self.file.seek(SeekFrom::Start(at))?;
+            self.place = at;
+        }
+        let count = self.file.read(into)?;
+        self.place = self.place.saturating_add(count as u64);
+        Ok(count)
+    }
+}
+
+/// Opens a file at its first byte.
+fn open_file<R: Files + AllocGlobal>(rt: &R, name: &str) -> io::Result<LastFile<R::File>> {
+    let file = fs::open(rt, name)?;
+    let name = String::from_str(rt.alloc(), name)?;
+    Ok(LastFile {
+        name,
+        file,
+        place: 0,
+    })
+}
+
 /// The files of the system. What they hold is not told. One count, of all fetches that failed, is
 /// the count of every name. A contract sees this count.
+///
+/// The file that was read last stays open, and a fetch of its next bytes reads on. So a pipe can be
+/// read from its first byte to its end, once: a fetch of another place in it fails.
 #[derive(Drop)]
-pub struct DirShelf<'a, R> {
+pub struct DirShelf<'a, R: Files> {
     rt: &'a R,
+    last: Option<LastFile<R::File>>,
     faults: u64,
 }
 
-impl<'a, R> Model for DirShelf<'a, R> {
+impl<'a, R: Files> Model for DirShelf<'a, R> {
     ghost use Rattle.std.specs.Prelude.{ℕ};
 
     ghost Value = { ℕ };
@@ -24,31 +63,40 @@ impl<'a, R> Model for DirShelf<'a, R> {
     ghost view = { λ s. s.faults };
 }
 
-impl<'a, R: Files> DirShelf<'a, R> {
+impl<'a, R: Files + AllocGlobal> DirShelf<'a, R> {
     /// The files that the runtime opens.
     pub fn new(rt: &'a R) -> DirShelf<'a, R>
         ensures { result ≡ 0 }
     {
-        DirShelf { rt, faults: 0 }
+        DirShelf {
+            rt,
+            last: None,
+            faults: 0,
+        }
+    }
+
+    /// Reads bytes of a file from the place `at`.
+    fn read(&mut self, name: &str, at: u64, into: &mut [u8]) -> io::Result<usize>
+        ensures within { IfOk result (λ n. n ≤ length into.new) }
+        ensures count { self.new ≡ self.old }
+    {
+        let mut file = match self.last.take() {
+            Some(last) if last.name.as_str() == name => last,
+            _ => open_file(self.rt, name)?,
+        };
+        let count = file.read_at(at, into);
+        self.last = Some(file);
+        count
     }
 }
 
-/// Reads bytes of a file from the place `at`.
-fn read_at<R: Files>(rt: &R, name: &str, at: u64, into: &mut [u8]) -> io::Result<usize>
-    ensures { IfOk result (λ n. n ≤ length into.new) }
-{
-    let mut file = fs::open(rt, name)?;
-    file.seek(SeekFrom::Start(at))?;
-    file.read(into)
-}
-
-impl<R: Files> Shelf for DirShelf<'_, R> {
+impl<R: Files + AllocGlobal> Shelf for DirShelf<'_, R> {
     ghost held = { λ _ _. None };
 
     ghost faults = { λ s _. s };
 
     fn fetch(&mut self, name: &str, at: u64, into: &mut [u8]) -> Result<usize, ShelfFailed> {
-        match read_at(self.rt, name, at, into) {
+        match self.read(name, at, into) {
             Ok(count) => Ok(count),
             Err(_) => {
                 self.faults = self.faults.saturating_add(1);
