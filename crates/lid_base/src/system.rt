@@ -30,6 +30,11 @@ impl<F: Read + Seek + Drop> LastFile<F> {
         self.place = self.place.saturating_add(count as u64);
         Ok(count)
     }
+
+    /// Whether its first byte can be read again, which of a pipe it cannot.
+    fn can_go_back(&mut self) -> bool {
+        self.file.rewind().is_ok()
+    }
 }
 
 /// Opens a file at its first byte.
@@ -46,8 +51,9 @@ fn open_file<R: Files + AllocGlobal>(rt: &R, name: &str) -> io::Result<LastFile<
 /// The files of the system. What they hold is not told. One count, of all fetches that failed, is
 /// the count of every name. A contract sees this count.
 ///
-/// The file that was read last stays open, and a fetch of its next bytes reads on. So a pipe can be
-/// read from its first byte to its end, once: a fetch of another place in it fails.
+/// The file that was read last stays open, and a fetch of its next bytes reads on. A fetch from the
+/// first byte again opens it anew. Of a pipe, which can be read once, from its first byte to its
+/// end, a fetch from another place fails.
 #[derive(Drop)]
 pub struct DirShelf<'a, R: Files> {
     rt: &'a R,
@@ -84,6 +90,9 @@ impl<'a, R: Files + AllocGlobal> DirShelf<'a, R> {
             Some(last) if last.name.as_str() == name => last,
             _ => open_file(self.rt, name)?,
         };
+        if at == 0 && file.place > 0 && file.can_go_back() {
+            file = open_file(self.rt, name)?;
+        }
         let count = file.read_at(at, into);
         self.last = Some(file);
         count
