@@ -95,3 +95,7 @@ one_piece before now bytes full a =
 
 pub none_left : (bytes : List ℕ) → length bytes ≡ 65536 → [] ≡ after_pieces bytes
 none_left bytes full = (one_piece None None bytes full tt).rest
+
+-- bytes that were pushed stand after those that were held
+pub part_added : (inside now items part : List ℕ) → inside ≡ now → items ≡ inside ++ part → items ≡ now ++ part
+part_added inside now items part is e = e ∙ ap (λ (xs : List ℕ). xs ++ part) is
