@@ -3,3 +3,4 @@ pub mod Joining
 pub mod Lists
 pub mod Numbers
 pub mod Results
+pub mod Writes

@@ -1,10 +1,11 @@
 -- Items of lists, by what they are and by their places.
-use Rattle.std.proofs.Common.{◌≡◌, ◌⊎◌, ℕ, zero, suc, ◌+◌, ◌<◌, Bool, true, false, not, cond, List, [], ◌∷◌, ◌++◌, length, get_or, map, filter, Option, Some, None, slice_get, option_and_then, inl, inr, refl, sym, ◌∙◌, ap, subst, arith}
+use Rattle.std.proofs.Common.{◌≡◌, ◌⊎◌, ℕ, zero, suc, ◌+◌, ◌<◌, Bool, true, false, not, cond, List, [], ◌∷◌, ◌++◌, length, take, append_assoc, append-nil, get_or, map, filter, Option, Some, None, slice_get, option_and_then, inl, inr, refl, sym, ◌∙◌, ap, subst, arith}
 use Rattle.std.specs.List.{AllByRecursion, flat_map, enumerate_from, list_any}
 use Rattle.std.specs.Str.{bytes_eq}
+use Rattle.std.proofs.Math.Seq.{take-append_seam}
 use Rattle.std.proofs.lemmas.Bool.{or_from}
 use Rattle.std.proofs.lemmas.Slice.Eq.{bytes_eq-Decides}
-use Rattle.lid_base.specs.Lists.{Among}
+use Rattle.lid_base.specs.Lists.{Among, ExtendsByPart}
 
 pub among_left : {A : Type 0} (x : A) (xs ys : List A) → Among x xs → Among x (xs ++ ys)
 among_left x [] ys i = absurd i
@@ -162,3 +163,24 @@ pub filter_same : {A : Type 0} (p q : A → Bool) (xs : List A) → ((x : A) →
 filter_same p q [] same = refl
 filter_same {A} p q (x ∷ xs) same =
     ap (λ (b : Bool). cond b (x ∷ filter p xs) (filter p xs)) (same x) ∙ ap (λ (ys : List A). cond (q x) (x ∷ ys) ys) (filter_same p q xs same)
+
+-- some first items of a list were appended, and these are left
+pub record IsPartway {A : Type 0} (old new more left : List A) : Type 0 where
+  pub done : List A
+  pub added : new ≡ old ++ done
+  pub whole : done ++ left ≡ more
+
+pub partway_next : {A : Type 0} (old new next more : List A) (x : A) (left : List A) → IsPartway old new more (x ∷ left) → next ≡ new ++ x ∷ [] → IsPartway old next more left
+partway_next {A} old new next more x left so e = record {
+  done = so.done ++ x ∷ [];
+  added = e ∙ ap (λ (ys : List A). ys ++ x ∷ []) so.added ∙ append_assoc old so.done (x ∷ []);
+  whole = append_assoc so.done (x ∷ []) left ∙ so.whole;
+}
+
+pub partway_done : {A : Type 0} (old new more : List A) → IsPartway old new more [] → new ≡ old ++ more
+partway_done {A} old new more so = so.added ∙ ap (λ (ys : List A). old ++ ys) (sym (append-nil so.done) ∙ so.whole)
+
+pub partway_part : {A : Type 0} (old new more left : List A) → IsPartway old new more left → ExtendsByPart old new more
+partway_part {A} old new more left so =
+    let cut : take (length so.done) more ≡ so.done = subst (λ (ys : List A). take (length so.done) ys ≡ so.done) so.whole (take-append_seam so.done left) in
+    (length so.done, so.added ∙ ap (λ (ys : List A). old ++ ys) (sym cut))

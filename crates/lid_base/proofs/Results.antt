@@ -20,3 +20,7 @@ on_ok (Err e) f h = tt
 pub on_err : {A E : Type 0} {P Q : Type 0} → (r : Result A E) → (P → Q) → OnErr r P → OnErr r Q
 on_err (Ok a) f h = tt
 on_err (Err e) f h = f h
+
+pub given_err : {A E : Type 0} {P : Type 0} → (r : Result A E) → P → OnErr r P
+given_err (Ok a) h = tt
+given_err (Err e) h = h

@@ -10,6 +10,10 @@ Among x (y ∷ ys) = (x ≡ y) ⊎ Among x ys
 abbrev pub Extends : {A : Type 0} → List A → List A → Type 0
 Extends {A} xs ys = (more : List A) × (ys ≡ xs ++ more)
 
+-- some first items of the third list were appended to the first
+abbrev pub ExtendsByPart : {A : Type 0} → List A → List A → List A → Type 0
+ExtendsByPart xs ys more = (k : ℕ) × (ys ≡ xs ++ take k more)
+
 -- the second list begins with the first
 pub record Keeps (old new : List ℕ) : Type 0 where
   pub kept : take (length old) new ≡ old

@@ -17,3 +17,8 @@ Appended old new piece = IfSome old (λ before. new ≡ Some (before ++ piece))
 -- where the bytes written are told: some first bytes of the piece came after those before
 abbrev pub AppendedPrefix : Option (List ℕ) → Option (List ℕ) → List ℕ → Type 0
 AppendedPrefix old new piece = IfSome old (λ before. (k : ℕ) × (new ≡ Some (before ++ take k piece)))
+
+-- an output of the system: what was written, where its writer tells that, and how many writes failed
+pub record OutputState : Type 0 where
+  pub written : Option (List ℕ)
+  pub faults : ℕ

@@ -1,6 +1,6 @@
 //! A text cut into its lines, and lines into their words. Nothing here but `push_words` takes memory.
 
-ghost use Rattle.std.specs.Prelude.{◌≡◌, ◌<◌, ◌++◌, ◌∷◌, [], length, not, nat_lt, position, IfSome, MatchOption, OnOk};
+ghost use Rattle.std.specs.Prelude.{◌≡◌, ◌<◌, ◌++◌, ◌∷◌, [], length, not, nat_lt, position, IfSome, MatchOption, OnOk, OnErr};
 ghost use Rattle.std.specs.Option.{option_copied};
 ghost use Rattle.std.specs.List.{slice_split, list_any};
 ghost use Rattle.lid_base.specs.Lines.{
@@ -19,6 +19,7 @@ ghost use Rattle.lid_base.specs.Lines.{
   has_long_word,
 };
 ghost use Rattle.lid_base.specs.Cuts.{lines_left};
+ghost use Rattle.lid_base.specs.Lists.{ExtendsByPart};
 
 use crate::items::Name;
 use std::alloc::{AllocError, Global};
@@ -203,9 +204,10 @@ pub fn has_long_word(line: &[u8], longest: u32) -> bool
 /// Appends the words of a physical line.
 ///
 /// # Errors
-/// Some of the words may then be appended.
+/// Some first words may then be appended.
 pub fn push_words(alloc: Global, line: &[u8], words: &mut Vec<Name>) -> Result<(), AllocError>
-    ensures { OnOk result (words.new.items ≡ words.old.items ++ words_of line.now) }
+    ensures ok { OnOk result (words.new.items ≡ words.old.items ++ words_of line.now) }
+    ensures err { OnErr result (ExtendsByPart words.old.items words.new.items (words_of line.now)) }
 {
     let mut rest = words_part(line);
     while let Some((word, after)) = next_word(rest) {

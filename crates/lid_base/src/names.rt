@@ -1,6 +1,7 @@
 //! Copies of names.
 
-ghost use Rattle.std.specs.Prelude.{◌≡◌, ◌++◌, IfOk, OnOk};
+ghost use Rattle.std.specs.Prelude.{◌≡◌, ◌++◌, IfOk, OnOk, OnErr};
+ghost use Rattle.lid_base.specs.Lists.{ExtendsByPart};
 
 use crate::items::{Items, Name};
 use std::alloc::{AllocError, Global};
@@ -15,9 +16,10 @@ pub fn copy_name(alloc: Global, bytes: &[u8]) -> Result<Name, AllocError>
 /// Appends copies of the names.
 ///
 /// # Errors
-/// Some of the copies may then be appended.
+/// Copies of some first names may then be appended.
 pub fn push_copies(alloc: Global, names: &[Name], into: &mut Vec<Name>) -> Result<(), AllocError>
-    ensures { OnOk result (into.new.items ≡ into.old.items ++ names.now) }
+    ensures ok { OnOk result (into.new.items ≡ into.old.items ++ names.now) }
+    ensures err { OnErr result (ExtendsByPart into.old.items into.new.items names.now) }
 {
     for name in names {
         into.push(copy_name(alloc, name.as_slice())?)?;

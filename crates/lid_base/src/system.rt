@@ -8,15 +8,60 @@ use std::marker::Model;
 use std::rt::Files;
 use std::{fs, io};
 
+/// The file that was read last, and the place in it from which the next bytes are read.
+#[derive(Drop)]
+struct LastFile<F: Read + Seek + Drop> {
+    name: String,
+    file: F,
+    place: u64,
+}
+
+impl<F: Read + Seek + Drop> LastFile<F> {
+    /// Reads bytes from the place `at`. It seeks only where that is another place, which fails on
+    /// what has no places, as a pipe.
+    fn read_at(&mut self, at: u64, into: &mut [u8]) -> io::Result<usize>
+        ensures { IfOk result (λ n. n ≤ length into.new) }
+    {
+        if at != self.place {
+            self.file.seek(SeekFrom::Start(at))?;
+            self.place = at;
+        }
+        let count = self.file.read(into)?;
+        self.place = self.place.saturating_add(count as u64);
+        Ok(count)
+    }
+
+    /// Whether its first byte can be read again, which of a pipe it cannot.
+    fn can_go_back(&mut self) -> bool {
+        self.file.rewind().is_ok()
+    }
+}
+
+/// Opens a file at its first byte.
+fn open_file<R: Files + AllocGlobal>(rt: &R, name: &str) -> io::Result<LastFile<R::File>> {
+    let file = fs::open(rt, name)?;
+    let name = String::from_str(rt.alloc(), name)?;
+    Ok(LastFile {
+        name,
+        file,
+        place: 0,
+    })
+}
+
 /// The files of the system. What they hold is not told. One count, of all fetches that failed, is
 /// the count of every name. A contract sees this count.
+///
+/// The file that was read last stays open, and a fetch of its next bytes reads on. A fetch from the
+/// first byte again opens it anew. Of a pipe, which can be read once, from its first byte to its
+/// end, a fetch from another place fails.
 #[derive(Drop)]
-pub struct DirShelf<'a, R> {
+pub struct DirShelf<'a, R: Files> {
     rt: &'a R,
+    last: Option<LastFile<R::File>>,
     faults: u64,
 }
 
-impl<'a, R> Model for DirShelf<'a, R> {
+impl<'a, R: Files> Model for DirShelf<'a, R> {
     ghost use Rattle.std.specs.Prelude.{ℕ};
 
     ghost Value = { ℕ };
@@ -24,31 +69,43 @@ impl<'a, R> Model for DirShelf<'a, R> {
     ghost view = { λ s. s.faults };
 }
 
-impl<'a, R: Files> DirShelf<'a, R> {
+impl<'a, R: Files + AllocGlobal> DirShelf<'a, R> {
     /// The files that the runtime opens.
     pub fn new(rt: &'a R) -> DirShelf<'a, R>
         ensures { result ≡ 0 }
     {
-        DirShelf { rt, faults: 0 }
+        DirShelf {
+            rt,
+            last: None,
+            faults: 0,
+        }
+    }
+
+    /// Reads bytes of a file from the place `at`.
+    fn read(&mut self, name: &str, at: u64, into: &mut [u8]) -> io::Result<usize>
+        ensures within { IfOk result (λ n. n ≤ length into.new) }
+        ensures count { self.new ≡ self.old }
+    {
+        let mut file = match self.last.take() {
+            Some(last) if last.name.as_str() == name => last,
+            _ => open_file(self.rt, name)?,
+        };
+        if at == 0 && file.place > 0 && file.can_go_back() {
+            file = open_file(self.rt, name)?;
+        }
+        let count = file.read_at(at, into);
+        self.last = Some(file);
+        count
     }
 }
 
-/// Reads bytes of a file from the place `at`.
-fn read_at<R: Files>(rt: &R, name: &str, at: u64, into: &mut [u8]) -> io::Result<usize>
-    ensures { IfOk result (λ n. n ≤ length into.new) }
-{
-    let mut file = fs::open(rt, name)?;
-    file.seek(SeekFrom::Start(at))?;
-    file.read(into)
-}
-
-impl<R: Files> Shelf for DirShelf<'_, R> {
+impl<R: Files + AllocGlobal> Shelf for DirShelf<'_, R> {
     ghost held = { λ _ _. None };
 
     ghost faults = { λ s _. s };
 
     fn fetch(&mut self, name: &str, at: u64, into: &mut [u8]) -> Result<usize, ShelfFailed> {
-        match read_at(self.rt, name, at, into) {
+        match self.read(name, at, into) {
             Ok(count) => Ok(count),
             Err(_) => {
                 self.faults = self.faults.saturating_add(1);
@@ -58,35 +115,40 @@ impl<R: Files> Shelf for DirShelf<'_, R> {
     }
 }
 
-/// An output of the system. What was written to it is not told. Its count is that of the writes
-/// that failed. A contract sees this count.
+/// An output of the system, behind a writer.
+///
+/// A contract sees what was written, where the writer tells what it holds, and how many writes
+/// failed. The writers over standard output and over files tell nothing. The count stays at
+/// 2^64 - 1 once it is there.
 #[derive(Drop)]
-pub struct StdSink<W> {
+pub struct StdSink<W: Write + Drop> {
     writer: W,
     faults: u64,
 }
 
-impl<W> Model for StdSink<W> {
-    ghost use Rattle.std.specs.Prelude.{ℕ};
+impl<W: Write + Drop> Model for StdSink<W> {
+    ghost use Rattle.lid_base.specs.Outside.{OutputState};
 
-    ghost Value = { ℕ };
+    ghost Value = { OutputState };
 
-    ghost view = { λ s. s.faults };
+    ghost view = { λ s. record { written = W.contents s.writer; faults = s.faults } };
 }
 
 impl<W: Write + Drop> StdSink<W> {
+    ghost use Rattle.lid_base.specs.Outside.{OutputState};
+
     /// The output behind a writer.
     pub fn new(writer: W) -> StdSink<W>
-        ensures { result ≡ 0 }
+        ensures { let start : OutputState = record { written = W.contents writer; faults = 0 } in result ≡ start }
     {
         StdSink { writer, faults: 0 }
     }
 }
 
 impl<W: Write + Drop> Sink for StdSink<W> {
-    ghost written = { λ _. None };
+    ghost written = { λ s. s.written };
 
-    ghost faults = { λ s. s };
+    ghost faults = { λ s. s.faults };
 
     /// # Errors
     /// The writer failed, or took nothing of what was left of the piece.

@@ -6,7 +6,7 @@ use Rattle.std.proofs.lemmas.List.{drop_all}
 use Rattle.lid_base.specs.Outside.{Appended, AppendedPrefix}
 use Rattle.lid_io.specs.declared.telling.Word.{Word}
 use Rattle.lid_io.specs.Telling.{spelled}
-use Rattle.lid_io.proofs.Writes.{SoFar, one_more, part_written}
+use Rattle.lid_base.proofs.Writes.{SoFar, one_more, part_written}
 
 -- what is left of the line from the word of this number on
 unfoldable pub line_from : List Word → ℕ → List ℕ

@@ -1,4 +1,4 @@
 pub mod Fetches
+pub mod Passing
 pub mod FaultLines
 pub mod StepTexts
-pub mod Writes

@@ -4,7 +4,7 @@ use Rattle.std.specs.Fmt.{decimal}
 use Rattle.std.proofs.Math.Seq.{drop-cons}
 use Rattle.lid_base.specs.Outside.{AppendedPrefix}
 use Rattle.lid_io.specs.Telling.{steps_text}
-use Rattle.lid_io.proofs.Writes.{SoFar, part_written}
+use Rattle.lid_base.proofs.Writes.{SoFar, part_written}
 
 -- the first step that is left, and those after it
 steps_next : (steps : List ℕ) (i d : ℕ) → i < length steps → steps_text (drop i steps) ≡ (47 ∷ decimal (get_or steps i d)) ++ steps_text (drop (i + 1) steps)

@@ -1,6 +1,6 @@
 //! Fetching all of a file.
 
-ghost use Rattle.std.specs.Prelude.{◌≡◌, ℕ, ◌+◌, ◌^◌, ◌≤◌, ◌<◌, List, length, take, IfOk, IfErr, IfSome};
+ghost use Rattle.std.specs.Prelude.{◌≡◌, ℕ, ◌+◌, ◌^◌, ◌≤◌, ◌<◌, List, length, take, ◌++◌, IfOk, IfErr, IfSome, OnErr};
 ghost use Rattle.lid_base.specs.Outside.{Rose, FetchedFrom};
 ghost use Rattle.lid_io.specs.Transfer.{FetchedNext};
 
@@ -78,8 +78,35 @@ fn fetch_pieces<S: Shelf>(
     Ok(bytes)
 }
 
-/// Fetches the next piece, and answers how many bytes it has.
-fn fetch_piece<S: Shelf>(
+/// Fetches the piece that comes after `at` bytes of a file, as many bytes as `into` takes or as are
+/// left, and answers how many it has. For an `into` that is not empty, 0 bytes are the end.
+///
+/// # Errors
+/// `Read` comes only where the count of that name rose in this call; `into` may then hold any bytes.
+pub fn fetch_at<S: Shelf>(
+    shelf: &mut S,
+    name: &str,
+    at: u64,
+    into: &mut [u8],
+) -> Result<usize, FetchFault>
+    ensures within { IfOk result (λ n. n ≤ length into.new) }
+    ensures told { IfOk result (λ n. (before : List ℕ) → length before ≡ at → FetchedNext (S.held shelf.old name.now) before (before ++ take n into.new) (length into.old)) }
+    ensures failed { IfErr result (λ e. (e ≡ FetchFault.Read) × Rose (S.faults shelf.old name.now) (S.faults shelf.new name.now)) }
+    ensures kept { S.held shelf.new ≡ S.held shelf.old }
+    ensures grows { (q : List ℕ) → S.faults shelf.old q ≤ S.faults shelf.new q }
+{
+    let Ok(got) = shelf.fetch(name, at, into) else {
+        return Err(FetchFault::Read);
+    };
+    Ok(got)
+}
+
+/// Fetches the piece that comes after the bytes fetched so far, appends it to them, and answers how
+/// many bytes it has. For an `into` that is not empty, 0 bytes are the end.
+///
+/// # Errors
+/// `Read` comes only where the count of that name rose in this call. The bytes fetched so far stay.
+pub fn fetch_piece<S: Shelf>(
     shelf: &mut S,
     name: &str,
     bytes: &mut Vec<u8>,
@@ -87,14 +114,13 @@ fn fetch_piece<S: Shelf>(
 ) -> Result<usize, FetchFault>
     requires { length bytes.old.items < 2 ^ 62 }
     ensures within { IfOk result (λ n. (n ≤ length into.old) × (length bytes.new.items ≡ length bytes.old.items + n)) }
+    ensures unchanged { OnErr result (bytes.new.items ≡ bytes.old.items) }
     ensures told { IfOk result (λ n. FetchedNext (S.held shelf.old name.now) bytes.old.items bytes.new.items (length into.old)) }
     ensures failed { IfErr result (λ e. e ≡ FetchFault.Read → Rose (S.faults shelf.old name.now) (S.faults shelf.new name.now)) }
     ensures kept { S.held shelf.new ≡ S.held shelf.old }
     ensures grows { (q : List ℕ) → S.faults shelf.old q ≤ S.faults shelf.new q }
 {
-    let Ok(got) = shelf.fetch(name, bytes.len() as u64, into) else {
-        return Err(FetchFault::Read);
-    };
+    let got = fetch_at(shelf, name, bytes.len() as u64, into)?;
     bytes.extend_from_slice(&into[..got])?;
     Ok(got)
 }

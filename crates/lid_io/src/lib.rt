@@ -3,9 +3,11 @@
 
 mod fetching;
 mod paths;
+mod pieces;
 mod telling;
 mod writing;
 
-pub use fetching::{FetchFault, fetch_all};
+pub use fetching::{FetchFault, fetch_all, fetch_at, fetch_piece};
+pub use pieces::PieceWriter;
 pub use telling::{Word, tell};
 pub use writing::write_all;

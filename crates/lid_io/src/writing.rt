@@ -6,7 +6,7 @@ ghost use Rattle.lid_base.specs.Outside.{Rose, Appended, AppendedPrefix};
 use lid_base::{Sink, SinkFailed};
 
 /// How many bytes are written at a time.
-const PIECE: usize = 65_536;
+pub(crate) const PIECE: usize = 65_536;
 
 /// Writes a text in pieces of 65,536 bytes, the last of which may be shorter and is not empty.
 ///

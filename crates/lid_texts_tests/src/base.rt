@@ -111,7 +111,7 @@ fn long_words_are_told(rt: HostRuntime) {
 }
 
 /// Whether a fetch into `into` gives these bytes, or fails where there are none.
-fn is_fetched<S: Shelf>(
+pub fn is_fetched<S: Shelf>(
     shelf: &mut S,
     name: &str,
     at: u64,

@@ -4,7 +4,11 @@
 #[cfg(test)]
 mod base;
 #[cfg(test)]
+mod devices;
+#[cfg(test)]
 mod numbers;
+#[cfg(test)]
+mod pieces;
 #[cfg(test)]
 mod reports;
 #[cfg(test)]

@@ -3,7 +3,7 @@ use Rattle.std.specs.Fmt.{decimal}
 use Rattle.lid_base.specs.Outside.{AppendedPrefix}
 use Rattle.lid_io.specs.Telling.{steps_text, path_text}
 use Rattle.lid_base.proofs.Results.{on_err}
-use Rattle.lid_io.proofs.Writes.{part_of_first, first_and_part}
+use Rattle.lid_base.proofs.Writes.{part_of_first, first_and_part}
 use Rattle.lid_io.proofs.paths.tell_path.Goals as goal
 
 pub returns-in_default-clause-err : goal.returns-in_default-clause-err

@@ -1,6 +1,6 @@
 use Rattle.std.proofs.Common.{◌≤◌, drop}
 use Rattle.lid_io.specs.Telling.{steps_text}
-use Rattle.lid_io.proofs.Writes.{SoFar}
+use Rattle.lid_base.proofs.Writes.{SoFar}
 use Rattle.lid_io.proofs.paths.tell_steps.Given as goal
 
 abbrev pub invariant-loop-step : goal.invariant-loop-step

@@ -2,7 +2,7 @@ use Rattle.std.proofs.Common.{◌∷◌, [], codes, map, subst, arith}
 use Rattle.lid_io.specs.Telling.{fault_line, spelled}
 use Rattle.lid_io.proofs.FaultLines.{line_from, line_from_end, word_begun, word_written}
 use Rattle.lid_base.proofs.Results.{on_ok, on_err}
-use Rattle.lid_io.proofs.Writes.{SoFar, nothing_yet, one_more, all_written, part_written, part_of_first}
+use Rattle.lid_base.proofs.Writes.{SoFar, nothing_yet, one_more, all_written, part_written, part_of_first}
 use Rattle.lid_io.proofs.telling.tell.Goals as goal
 
 pub returns-in_default-clause-err : goal.returns-in_default-clause-err

@@ -1,7 +1,7 @@
 use Rattle.std.proofs.Common.{◌≤◌, map}
 use Rattle.lid_io.specs.Telling.{fault_line, spelled}
 use Rattle.lid_io.proofs.FaultLines.{line_from}
-use Rattle.lid_io.proofs.Writes.{SoFar}
+use Rattle.lid_base.proofs.Writes.{SoFar}
 use Rattle.lid_io.proofs.telling.tell.Given as goal
 
 abbrev pub invariant-loop-word : goal.invariant-loop-word

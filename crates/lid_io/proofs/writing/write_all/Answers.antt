@@ -1,4 +1,4 @@
-use Rattle.lid_io.proofs.Writes.{part_written_cut}
+use Rattle.lid_base.proofs.Writes.{part_written_cut}
 use Rattle.lid_io.proofs.writing.write_all.Goals as goal
 
 pub returns-in_default-clause-err : goal.returns-in_default-clause-err

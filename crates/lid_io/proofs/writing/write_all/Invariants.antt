@@ -1,5 +1,5 @@
 use Rattle.std.proofs.Common.{◌≤◌, length}
-use Rattle.lid_io.proofs.Writes.{SoFar}
+use Rattle.lid_base.proofs.Writes.{SoFar}
 use Rattle.lid_io.proofs.writing.write_all.Given as goal
 
 abbrev pub invariant-loop-left : goal.invariant-loop-left

@@ -1,0 +1,13 @@
+use Rattle.std.proofs.Common.{◌<◌, ◌≤◌, ◌++◌, length}
+use Rattle.lid_io.proofs.Passing.{IsPassing}
+use Rattle.lid_io.proofs.pieces.PieceWriter.push.Given as goal
+
+abbrev pub invariant-loop-left : goal.invariant-loop-left
+invariant-loop-left g l = record {
+  so_far : IsPassing (g.O.Sink.written l.fn.out) (g.O.Sink.written l.out) (l.fn.self ++ l.fn.bytes) l.self l.left;
+  short : length l.self < 65536;
+  grows : g.O.Sink.faults l.fn.out ≤ g.O.Sink.faults l.out;
+}
+
+abbrev pub decreases-loop-left : goal.decreases-loop-left
+decreases-loop-left g l = length l.left
