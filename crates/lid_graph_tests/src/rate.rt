@@ -208,7 +208,7 @@ fn has_ratio(alloc: Global, nodes: u32, stations: &[Station], p: u64, q: u64) ->
     }
 }
 
-/// Whether this is the ratio of two ways from a driver to a sink, one with a shell and four movers, the
+/// Whether this is the ratio of two ways from a source to a sink, one with a shell and four movers, the
 /// other one station of this capacity.
 fn rates_two_ways(alloc: Global, capacity: u32, p: u64, q: u64) -> bool {
     let stations = [

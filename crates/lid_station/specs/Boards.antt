@@ -29,10 +29,6 @@ fill station = 2 * station
 abbrev pub drain : ℕ → ℕ
 drain station = 2 * station + 1
 
--- whether an end is served, and what is known of it meets P
-abbrev pub Serves : Ends → ℕ → (Facts → Type 0) → Type 0
-Serves ends end P = (f : Facts) × (ends end ≡ Some f) × P f
-
 -- whether an end is served
 abbrev pub IsServed : Ends → ℕ → Type 0
 IsServed ends end = (f : Facts) × (ends end ≡ Some f)
