@@ -26,15 +26,7 @@ next_context _ l p = uncovered p.inside p
 pub context_of_cons : (k : Keyword) (l : Line) (before : List Line) → k ≡ keyword_of l.words → context_of (l ∷ before) ≡ next_context k l (context_of before)
 unfolding context_of
 context_of_cons Model l before e = rw (← e, length_push)
-context_of_cons Inputs l before e = rw (← e)
-context_of_cons Outputs l before e = rw (← e)
-context_of_cons Clock l before e = rw (← e)
-context_of_cons Names l before e = rw (← e)
-context_of_cons Latch l before e = rw (← e)
-context_of_cons Subckt l before e = rw (← e)
-context_of_cons End l before e = rw (← e)
-context_of_cons Unknown l before e = rw (← e)
-context_of_cons Row l before e = rw (← e)
+context_of_cons _ l before e = rw (← e)
 
 -- the context after a line, from the context before it
 pub context_after : (k : Keyword) (l : Line) (before : List Line) (p q : Context) → k ≡ keyword_of l.words → q ≡ next_context k l p → p ≡ context_of before → q ≡ context_of (l ∷ before)
@@ -46,12 +38,7 @@ next_context_other Model l p m n e r = absurd (m refl)
 next_context_other Names l p m n e r = absurd (n refl)
 next_context_other End l p m n e r = absurd (e refl)
 next_context_other Row l p m n e r = absurd (r refl)
-next_context_other Inputs l p m n e r = refl
-next_context_other Outputs l p m n e r = refl
-next_context_other Clock l p m n e r = refl
-next_context_other Latch l p m n e r = refl
-next_context_other Subckt l p m n e r = refl
-next_context_other Unknown l p m n e r = refl
+next_context_other _ l p m n e r = refl
 
 -- the lines before the next line
 pub before_more : {X : Type 0} (xs : List X) (i : ℕ) (x : X) → i < length xs → x ≡ get_or xs i x → reverse (take (i + 1) xs) ≡ x ∷ reverse (take i xs)

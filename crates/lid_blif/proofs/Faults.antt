@@ -13,6 +13,7 @@ use Rattle.lid_blif.specs.declared.keyword.Keyword.TheVariants.{Model, Inputs, O
 use Rattle.lid_blif.specs.declared.context.Context.{Context}
 use Rattle.lid_base.specs.Words.{word_at}
 use Rattle.lid_blif.specs.Words.{keyword_of, is_line, same_keyword, inputs_of, leading, is_inner}
+use Rattle.lid_blif.specs.Designs.{IsNarrow}
 use Rattle.lid_blif.specs.Faults.{context_of, model_names, Case, told, outside, line_fault, first_fault}
 use Rattle.lid_blif.specs.Designs.{models_of, model_of}
 use Rattle.lid_design.specs.WellFormed.{model_name}
@@ -30,10 +31,6 @@ first_fault_none before l ls h = cases (line_fault (context_of before) (model_na
     cases : (o : Option BlifFault) → line_fault (context_of before) (model_names before) l ≡ o → (line_fault (context_of before) (model_names before) l ≡ None) × (first_fault (l ∷ before) ls ≡ None)
     cases None e = (e, sym (first_fault_pass before l ls e) ∙ h)
     cases (Some fault) e = absurd (let both : Some fault ≡ None = sym (first_fault_here before l ls fault e) ∙ h in cc)
-
--- a cover line has at most 64 inputs
-abbrev pub IsNarrow : Line → Type 0
-IsNarrow l = Names ≡ keyword_of l.words → inputs_of l.words ≤ 64
 
 -- a cover line without fault has its output, and at most 64 inputs
 pub names_clear : (context : Context) (names : List (List ℕ)) (l : Line) → line_fault context names l ≡ None → Names ≡ keyword_of l.words → (2 ≤ length l.words) × (inputs_of l.words ≤ 64)

@@ -22,7 +22,7 @@ use Rattle.lid_blif.specs.declared.context.Context.{Context}
 use Rattle.lid_base.specs.Words.{word_at, last_word}
 use Rattle.lid_blif.specs.Words.{keyword_of, same_keyword, is_line, is_inner, leading, inputs_of, is_row_of, is_latch_type, is_latch_init, has_type, has_init, is_equals, is_empty, is_binding}
 use Rattle.lid_blif.specs.Faults.{context_of, model_names, row_count, ends_in_zero, Case, outside, is_mixed, line_fault, first_fault}
-use Rattle.lid_blif.specs.Designs.{cube_of, width_of, names_of, kind_named, control_named, kind_of, control_of, bind_of, inst_of, latch_cell, names_cell, cell_before, cells_of, insts_of, model_of, models_of}
+use Rattle.lid_blif.specs.Designs.{cube_of, names_of, kind_named, control_named, kind_of, control_of, bind_of, inst_of, latch_cell, names_cell, cell_before, cells_of, insts_of, model_of, models_of}
 use Rattle.lid_design.specs.WellFormed.{IsWellFormedCell}
 use Rattle.lid_blif.proofs.Faults.{told-none, first_fault_none, same_as, names_clear}
 use Rattle.lid_lines.specs.Texts.{Words}
@@ -142,7 +142,8 @@ latch_read l s long = record {
   plain = plain_ok l.words;
 }
 
-cell_read : (k : Keyword) (l : Line) (later : List Line) (cells : List Cell) → k ≡ keyword_of l.words → AreSpelled 1024 l.words → IsShaped l → AllByRecursion IsReadCell cells → AllByRecursion IsReadCell (cell_before k l.words later cells)
+cell_read : (k : Keyword) (l : Line) (later : List Line) (cells : List Cell) → k ≡ keyword_of l.words → AreSpelled 1024 l.words
+    → IsShaped l → AllByRecursion IsReadCell cells → AllByRecursion IsReadCell (cell_before k l.words later cells)
 cell_read Names l later cells e s shape h = (names_read l (leading (is_line Row) later) s (shape.names e), h)
 cell_read Latch l later cells e s shape h = (latch_read l s (shape.latch e), h)
 cell_read Model l later cells e s shape h = h
@@ -243,16 +244,9 @@ weight ls = cells_rows (cells_of ls) + length (leading (is_line Row) ls)
 
 -- a line more makes the weight no greater, but for a row by one
 weight_cons : (k : Keyword) (l : Line) (ls : List Line) → k ≡ keyword_of l.words → weight (l ∷ ls) ≤ weight ls + cond (same_keyword Row k) 1 0
-weight_cons Names l ls e = rw (← e) (omega (arith, sum_by-cons cell_rows (names_cell l.words (leading (is_line Row) ls)) (cells_of ls), length-map (leading (is_line Row) ls) (cube_of (width_of l.words))))
+weight_cons Names l ls e = rw (← e) (omega (arith, sum_by-cons cell_rows (names_cell l.words (leading (is_line Row) ls)) (cells_of ls), length-map (leading (is_line Row) ls) (cube_of (inputs_of l.words))))
 weight_cons Latch l ls e = rw (← e) (omega (arith, sum_by-cons cell_rows (latch_cell l.words) (cells_of ls)))
-weight_cons Row l ls e = rw (← e) (omega arith)
-weight_cons Model l ls e = rw (← e) (omega arith)
-weight_cons Inputs l ls e = rw (← e) (omega arith)
-weight_cons Outputs l ls e = rw (← e) (omega arith)
-weight_cons Clock l ls e = rw (← e) (omega arith)
-weight_cons Subckt l ls e = rw (← e) (omega arith)
-weight_cons End l ls e = rw (← e) (omega arith)
-weight_cons Unknown l ls e = rw (← e) (omega arith)
+weight_cons _ l ls e = rw (← e) (omega arith)
 
 count_cons : (l : Line) (ls : List Line) → row_count (l ∷ ls) ≡ row_count ls + cond (is_line Row l) 1 0
 count_cons l ls = elim (is_line Row l) as (λ b. cond b (row_count ls + 1) (row_count ls) ≡ row_count ls + cond b 1 0) [ true ↦ refl | false ↦ omega arith ]
@@ -349,7 +343,8 @@ unfolding model_of
 models_read [] h f u = tt
 models_read (l ∷ ls) h f u = by (is_line Model l) refl (models_read ls h.1)
   where
-    by : (b : Bool) → is_line Model l ≡ b → (AllByRecursion (λ m. AllByRecursion IsWellFormedCell m.cells) (models_of ls) → AllByRecursion EndsWellModel (models_of ls) → AllByRecursion IsWritableModel (models_of ls)) → AllByRecursion IsWritableModel (models_of (l ∷ ls))
+    by : (b : Bool) → is_line Model l ≡ b → (AllByRecursion (λ m. AllByRecursion IsWellFormedCell m.cells) (models_of ls) → AllByRecursion EndsWellModel (models_of ls) → AllByRecursion IsWritableModel (models_of ls))
+        → AllByRecursion IsWritableModel (models_of (l ∷ ls))
     by true e later =
         let here = h.0 in
         let said = here.0 in
