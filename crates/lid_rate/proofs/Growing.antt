@@ -15,7 +15,7 @@ use Rattle.lid_graph.specs.Walks.{edge_at}
 use Rattle.lid_rate.specs.Relaxation.{AreEdges}
 use Rattle.lid_rate.specs.SpanningTrees.{is_reached, without_edge, unreached, AddsEdge, AddsNone, IsTree, IsSpanning, IsGrown}
 use Rattle.lid_rate.proofs.Settles.{all_replicate}
-use Rattle.lid_rate.proofs.Written.{IsWritten, is_written}
+use Rattle.lid_rate.proofs.Written.{IsWritten, is_written, IsStanding, standing}
 
 or_none : (a : Bool) (o : Option ℕ) → a || is_some o ≡ false → (a ≡ false) × (o ≡ None)
 or_none true o e = cc
@@ -55,15 +55,8 @@ module _ (g : Graph) (es : List ℕ) (start q first k : ℕ) (via : List (Option
       let now : unreached new_via ≡ unreached (set via (edge_at g k).to (Some k)) = ap unreached ext.via_is in
       omega arith
 
-  edge_cases : (v l : ℕ) → get_or new_via v None ≡ Some l → (v ≡ (edge_at g k).to) × (k ≡ l) ⊎ (v ≢ (edge_at g k).to) × (get_or via v None ≡ Some l)
-  edge_cases v l e = by_end (cases_eq v (edge_at g k).to)
-    where
-      by_end : (v ≡ (edge_at g k).to) ⊎ (v ≢ (edge_at g k).to) → (v ≡ (edge_at g k).to) × (k ≡ l) ⊎ (v ≢ (edge_at g k).to) × (get_or via v None ≡ Some l)
-      by_end (inl is) = inl (is, same_Some k l (sym via_is.here ∙ (ap (λ (n : ℕ). get_or new_via n None) (sym is) ∙ e)))
-      by_end (inr other) = inr (other, sym (via_is.there v other) ∙ e)
-
   abbrev Case : ℕ → ℕ → Type 0
-  Case v l = (v ≡ (edge_at g k).to) × (k ≡ l) ⊎ (v ≢ (edge_at g k).to) × (get_or via v None ≡ Some l)
+  Case v l = IsStanding via (edge_at g k).to k v l
 
   new_listed : (v l : ℕ) → Case v l → Contains es l
   new_listed v l (inl is) = subst (Contains es) is.1 listed
@@ -140,7 +133,7 @@ module _ (g : Graph) (es : List ℕ) (start q first k : ℕ) (via : List (Option
           no_depth = depth_is.there start start_other ∙ tree.root.no_depth;
         };
     edges = λ v l e.
-        let case = edge_cases v l e in
+        let case = standing via new_via (edge_at g k).to k via_is v l e in
         record {
           listed = new_listed v l case;
           ends = new_ends v l case;

@@ -10,7 +10,7 @@ use Rattle.lid_graph.specs.declared.graph.Edge.{Edge}
 use Rattle.lid_graph.specs.declared.graph.Graph.{Graph}
 use Rattle.lid_graph.specs.Walks.{edge_at, walk_tokens}
 use Rattle.lid_rate.specs.WalksBack.{IsPredecessorWalk}
-use Rattle.lid_rate.proofs.Written.{IsWritten, is_written}
+use Rattle.lid_rate.proofs.Written.{IsWritten, is_written, IsStanding, standing}
 use Rattle.lid_rate.specs.Relaxation.{Relaxes, StaysRelaxed, AreEdges, ArePotentials, IsAttained, AreAtMost, IsRound, IsChanged}
 
 module _ (g : Graph) (es : List ℕ) (p q k : ℕ) (values : List ℕ) (last : List (Option ℕ)) (before : ArePotentials g es p q values last) (listed : Contains es k) (to : (edge_at g k).to < g.nodes) (new_values : List ℕ) (new_last : List (Option ℕ)) (raises : Relaxes (edge_at g k) k p q values last new_values new_last) where
@@ -68,22 +68,15 @@ module _ (g : Graph) (es : List ℕ) (p q k : ℕ) (values : List ℕ) (last : L
       by_case (inl strict) = omega arith
       by_case (inr old) = before.rising v ks old.0 some
 
-  edge_cases : (v l : ℕ) → get_or new_last v None ≡ Some l → (v ≡ (edge_at g k).to) × (k ≡ l) ⊎ (v ≢ (edge_at g k).to) × (get_or last v None ≡ Some l)
-  edge_cases v l e = by_end (cases_eq v (edge_at g k).to)
-    where
-      by_end : (v ≡ (edge_at g k).to) ⊎ (v ≢ (edge_at g k).to) → (v ≡ (edge_at g k).to) × (k ≡ l) ⊎ (v ≢ (edge_at g k).to) × (get_or last v None ≡ Some l)
-      by_end (inl is) = inl (is, same_Some k l (sym last_is.here ∙ (ap (λ (n : ℕ). get_or new_last n None) (sym is) ∙ e)))
-      by_end (inr other) = inr (other, sym (last_is.there v other) ∙ e)
-
-  new_listed : (v l : ℕ) → (v ≡ (edge_at g k).to) × (k ≡ l) ⊎ (v ≢ (edge_at g k).to) × (get_or last v None ≡ Some l) → Contains es l
+  new_listed : (v l : ℕ) → IsStanding last (edge_at g k).to k v l → Contains es l
   new_listed v l (inl is) = subst (Contains es) is.1 listed
   new_listed v l (inr old) = (before.edges v l old.1).listed
 
-  new_ends : (v l : ℕ) → (v ≡ (edge_at g k).to) × (k ≡ l) ⊎ (v ≢ (edge_at g k).to) × (get_or last v None ≡ Some l) → (edge_at g l).to ≡ v
+  new_ends : (v l : ℕ) → IsStanding last (edge_at g k).to k v l → (edge_at g l).to ≡ v
   new_ends v l (inl is) = subst (λ (n : ℕ). (edge_at g n).to ≡ v) is.1 (sym is.0)
   new_ends v l (inr old) = (before.edges v l old.1).ends
 
-  new_slack : (v l : ℕ) → (v ≡ (edge_at g k).to) × (k ≡ l) ⊎ (v ≢ (edge_at g k).to) × (get_or last v None ≡ Some l) → get_or new_values v 0 + q * (edge_at g l).tokens ≤ get_or new_values (edge_at g l).from 0 + p
+  new_slack : (v l : ℕ) → IsStanding last (edge_at g k).to k v l → get_or new_values v 0 + q * (edge_at g l).tokens ≤ get_or new_values (edge_at g l).from 0 + p
   new_slack v l (inl is) =
       let more = raises.more in
       let here = value_is.here in
@@ -119,7 +112,7 @@ module _ (g : Graph) (es : List ℕ) (p q k : ℕ) (values : List ℕ) (last : L
     value_count = value_is.long ∙ before.value_count;
     predecessor_count = last_is.long ∙ before.predecessor_count;
     edges = λ v l e.
-        let case = edge_cases v l e in
+        let case = standing last new_last (edge_at g k).to k last_is v l e in
         record {
           listed = new_listed v l case;
           ends = new_ends v l case;

@@ -1,5 +1,7 @@
 -- A list in which one number stands anew.
-use Rattle.std.proofs.Common.{◌≡◌, ℕ, ◌<◌, ◌≢◌, List, length, get_or, set, ◌∙◌, ap}
+use Rattle.std.proofs.Common.{◌≡◌, ℕ, ◌<◌, ◌≢◌, ◌⊎◌, inl, inr, List, length, get_or, set, Option, Some, None, sym, ◌∙◌, ap}
+use Rattle.std.proofs.lemmas.Bool.{cases_eq}
+use Rattle.std.proofs.lemmas.Option.{same_Some}
 use Rattle.std.proofs.lemmas.List.{get_or-set_same, get_or-set_other, length-set}
 
 -- what is read of a list after one place was written
@@ -14,3 +16,14 @@ is_written {A} old new i x default is within = record {
   there = λ v other. ap (λ (l : List A). get_or l v default) is ∙ get_or-set_other old i v x default other;
   long = ap length is ∙ length-set old i x;
 }
+
+-- an edge that stands after a write is the one that was written, or stood before
+abbrev pub IsStanding : List (Option ℕ) → ℕ → ℕ → ℕ → ℕ → Type 0
+IsStanding old i k v l = (v ≡ i) × (k ≡ l) ⊎ (v ≢ i) × (get_or old v None ≡ Some l)
+
+pub standing : (old new : List (Option ℕ)) (i k : ℕ) → IsWritten old new i (Some k) None → (v l : ℕ) → get_or new v None ≡ Some l → IsStanding old i k v l
+standing old new i k put v l e = by_end (cases_eq v i)
+  where
+    by_end : (v ≡ i) ⊎ (v ≢ i) → IsStanding old i k v l
+    by_end (inl is) = inl (is, same_Some k l (sym put.here ∙ (ap (λ (n : ℕ). get_or new n None) (sym is) ∙ e)))
+    by_end (inr other) = inr (other, sym (put.there v other) ∙ e)
