@@ -3,8 +3,8 @@
 ghost use Rattle.std.specs.Prelude.{IfOk, IsTrue};
 ghost use Rattle.lid_rate.specs.Rates.{IsRateable};
 
-use crate::designs::{DIAMOND, RING, Station, are, are_large, graph_of};
-use crate::walks::rate_at;
+use crate::tests::designs::{DIAMOND, RING, Station, are, are_large, graph_of};
+use crate::tests::walks::rate_at;
 use lid_cert::{Cert, Part, check};
 use lid_graph::Graph;
 use lid_rate::{find, is_rateable};
