@@ -26,15 +26,7 @@ next_context _ l p = uncovered p.inside p
 pub context_of_cons : (k : Keyword) (l : Line) (before : List Line) → k ≡ keyword_of l.words → context_of (l ∷ before) ≡ next_context k l (context_of before)
 unfolding context_of
 context_of_cons Model l before e = rw (← e, length_push)
-context_of_cons Inputs l before e = rw (← e)
-context_of_cons Outputs l before e = rw (← e)
-context_of_cons Clock l before e = rw (← e)
-context_of_cons Names l before e = rw (← e)
-context_of_cons Latch l before e = rw (← e)
-context_of_cons Subckt l before e = rw (← e)
-context_of_cons End l before e = rw (← e)
-context_of_cons Unknown l before e = rw (← e)
-context_of_cons Row l before e = rw (← e)
+context_of_cons _ l before e = rw (← e)
 
 -- the context after a line, from the context before it
 pub context_after : (k : Keyword) (l : Line) (before : List Line) (p q : Context) → k ≡ keyword_of l.words → q ≡ next_context k l p → p ≡ context_of before → q ≡ context_of (l ∷ before)
@@ -46,12 +38,7 @@ next_context_other Model l p m n e r = absurd (m refl)
 next_context_other Names l p m n e r = absurd (n refl)
 next_context_other End l p m n e r = absurd (e refl)
 next_context_other Row l p m n e r = absurd (r refl)
-next_context_other Inputs l p m n e r = refl
-next_context_other Outputs l p m n e r = refl
-next_context_other Clock l p m n e r = refl
-next_context_other Latch l p m n e r = refl
-next_context_other Subckt l p m n e r = refl
-next_context_other Unknown l p m n e r = refl
+next_context_other _ l p m n e r = refl
 
 -- the lines before the next line
 pub before_more : {X : Type 0} (xs : List X) (i : ℕ) (x : X) → i < length xs → x ≡ get_or xs i x → reverse (take (i + 1) xs) ≡ x ∷ reverse (take i xs)
@@ -72,22 +59,24 @@ first_fault_pass before l ls e = rw e
 pub first_fault_here : (before : List Line) (l : Line) (ls : List Line) (fault : BlifFault) → line_fault (context_of before) (model_names before) l ≡ Some fault → first_fault before (l ∷ ls) ≡ Some fault
 first_fault_here before l ls fault e = rw e
 
-pub rows_none : (p : Context) → p ≡ context_of [] → p.rows ≤ 0
-unfolding context_of
-rows_none p e = let zero : p.rows ≡ 0 = ap (λ (q : Context). q.rows) e in omega arith
+-- what is counted is 0 before the first line
+pub none_before : (count : Context → ℕ) (p : Context) → p ≡ context_of [] → count (context_of []) ≡ 0 → count p ≤ 0
+none_before count p e zero = let none : count p ≡ 0 = ap count e ∙ zero in omega arith
 
--- a line is at most one row more
+pub no_rows : (context_of []).rows ≡ 0
+unfolding context_of
+no_rows = refl
+
+pub no_models : (context_of []).models ≡ 0
+unfolding context_of
+no_models = refl
+
+-- a line is at most one row more, and one model more
 pub rows_cons : (l : Line) (before : List Line) → (context_of (l ∷ before)).rows ≤ (context_of before).rows + 1
 unfolding context_of
 rows_cons l before =
-    let n = row_count before in
-    elim (is_line Row l) as (λ b. cond b (n + 1) n ≤ n + 1) [ true ↦ omega arith | false ↦ omega arith ]
+    elim (is_line Row l) as (λ b. cond b (row_count before + 1) (row_count before) ≤ row_count before + 1) [ true ↦ omega arith | false ↦ omega arith ]
 
-pub models_none : (p : Context) → p ≡ context_of [] → p.models ≤ 0
-unfolding context_of
-models_none p e = let zero : p.models ≡ 0 = ap (λ (q : Context). q.models) e in omega arith
-
--- a line is at most one model more
 pub models_cons : (l : Line) (before : List Line) → (context_of (l ∷ before)).models ≤ (context_of before).models + 1
 unfolding context_of
 models_cons l before =

@@ -1,5 +1,5 @@
 -- The cells that lines without fault stand for are well formed.
-use Rattle.std.proofs.Common.{◌≡◌, ℕ, suc, ◌+◌, ◌*◌, ◌^◌, ◌<◌, ◌≤◌, Bool, true, false, cond, List, [], ◌∷◌, length, take, drop, refl, sym, ap, ◌∙◌, arith, length-take, length-drop}
+use Rattle.std.proofs.Common.{◌≡◌, ℕ, zero, suc, ◌+◌, ◌*◌, ◌^◌, ◌<◌, ◌≤◌, Bool, true, false, cond, List, [], ◌∷◌, length, take, drop, refl, sym, ap, ◌∙◌, arith, length-take, length-drop}
 use Rattle.std.specs.Prelude.{map, filter, not, ◌==◌, bit_and}
 use Rattle.std.specs.List.{AllByRecursion}
 use Rattle.std.proofs.lemmas.List.{length-map}
@@ -14,10 +14,9 @@ use Rattle.lid_blif.specs.declared.keyword.Keyword.{Keyword}
 use Rattle.lid_blif.specs.declared.keyword.Keyword.TheVariants.{Model, Inputs, Outputs, Clock, Names, Latch, Subckt, End, Unknown, Row}
 use Rattle.lid_base.specs.Words.{word_at}
 use Rattle.lid_blif.specs.Words.{keyword_of, is_line, inputs_of, leading, is_inner}
-use Rattle.lid_blif.specs.Designs.{mask_of, is_cared_for, is_character_one, cube_of, width_of, cover_of, names_cell, cell_before, cells_of, insts_of, model_of, models_of}
+use Rattle.lid_blif.specs.Designs.{IsNarrow, mask_of, is_cared_for, is_character_one, cube_of, cover_of, names_cell, cell_before, cells_of, insts_of, model_of, models_of}
 use Rattle.lid_design.specs.WellFormed.{IsWellFormedCell}
 use Rattle.lid_blif.proofs.Masks.{mask_below}
-use Rattle.lid_blif.proofs.Faults.{IsNarrow}
 
 -- the value of a character is 1 only where it is cared for
 value_cared : (c : ℕ) → bit_and (cond (c == 49) 1 0) (cond (not (c == 45)) 1 0) ≡ cond (c == 49) 1 0
@@ -58,31 +57,35 @@ cubes_formed inputs (row ∷ rows) = (IsCube_cube_of inputs row, cubes_formed in
 
 names_formed : (words : List (List ℕ)) (rows : List Line) → inputs_of words ≤ 64 → IsWellFormedCell (names_cell words rows)
 names_formed words rows few =
-    let cover : IsCover (cover_of words rows) = record { width = omega arith; cubes = cubes_formed (width_of words) rows } in
-    let count : width_of words ≡ length (take (inputs_of words) (drop 1 words)) = simp (length-take, length-drop) (omega arith) in
+    let cover : IsCover (cover_of words rows) = record { width = omega arith; cubes = cubes_formed (inputs_of words) rows } in
+    let count : inputs_of words ≡ length (take (inputs_of words) (drop 1 words)) = simp (length-take, length-drop) (omega arith) in
     (cover, count)
 
 cell_formed : (k : Keyword) (l : Line) (later : List Line) (cells : List Cell) → k ≡ keyword_of l.words → IsNarrow l → AllByRecursion IsWellFormedCell cells → AllByRecursion IsWellFormedCell (cell_before k l.words later cells)
 cell_formed Names l later cells e narrow h = (names_formed l.words (leading (is_line Row) later) (narrow e), h)
 cell_formed Latch l later cells e narrow h = (tt, h)
-cell_formed Model l later cells e narrow h = h
-cell_formed Inputs l later cells e narrow h = h
-cell_formed Outputs l later cells e narrow h = h
-cell_formed Clock l later cells e narrow h = h
-cell_formed Subckt l later cells e narrow h = h
-cell_formed End l later cells e narrow h = h
-cell_formed Unknown l later cells e narrow h = h
-cell_formed Row l later cells e narrow h = h
+cell_formed _ l later cells e narrow h = h
 
 cells_formed : (ls : List Line) → AllByRecursion IsNarrow ls → AllByRecursion IsWellFormedCell (cells_of ls)
 cells_formed [] h = tt
 cells_formed (l ∷ ls) h = cell_formed (keyword_of l.words) l ls (cells_of ls) refl h.0 (cells_formed ls h.1)
 
-leading_all : (p : Line → Bool) (P : Line → Type 0) (ls : List Line) → AllByRecursion P ls → AllByRecursion P (leading p ls)
+pub leading_all : (p : Line → Bool) (P : Line → Type 0) (ls : List Line) → AllByRecursion P ls → AllByRecursion P (leading p ls)
 leading_all p P [] h = tt
 leading_all p P (l ∷ ls) h =
     let later = leading_all p P ls h.1 in
     elim (p l) as (λ b. AllByRecursion P (cond b (l ∷ leading p ls) [])) [ true ↦ (h.0, later) | false ↦ tt ]
+
+-- what holds of all lines holds of the first of them, and of those after a number
+pub lines_first : (P : Line → Type 0) (n : ℕ) (ls : List Line) → AllByRecursion P ls → AllByRecursion P (take n ls)
+lines_first P zero ls all = tt
+lines_first P (suc n) [] all = tt
+lines_first P (suc n) (x ∷ xs) all = (all.0, lines_first P n xs all.1)
+
+pub lines_after : (P : Line → Type 0) (n : ℕ) (ls : List Line) → AllByRecursion P ls → AllByRecursion P (drop n ls)
+lines_after P zero ls all = all
+lines_after P (suc n) [] all = tt
+lines_after P (suc n) (x ∷ xs) all = lines_after P n xs all.1
 
 -- the cells of all models are well formed
 pub models_formed : (ls : List Line) → AllByRecursion IsNarrow ls → AllByRecursion (λ m. AllByRecursion IsWellFormedCell m.cells) (models_of ls)

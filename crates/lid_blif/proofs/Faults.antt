@@ -13,6 +13,7 @@ use Rattle.lid_blif.specs.declared.keyword.Keyword.TheVariants.{Model, Inputs, O
 use Rattle.lid_blif.specs.declared.context.Context.{Context}
 use Rattle.lid_base.specs.Words.{word_at}
 use Rattle.lid_blif.specs.Words.{keyword_of, is_line, same_keyword, inputs_of, leading, is_inner}
+use Rattle.lid_blif.specs.Designs.{IsNarrow}
 use Rattle.lid_blif.specs.Faults.{context_of, model_names, Case, told, outside, line_fault, first_fault}
 use Rattle.lid_blif.specs.Designs.{models_of, model_of}
 use Rattle.lid_design.specs.WellFormed.{model_name}
@@ -30,10 +31,6 @@ first_fault_none before l ls h = cases (line_fault (context_of before) (model_na
     cases : (o : Option BlifFault) → line_fault (context_of before) (model_names before) l ≡ o → (line_fault (context_of before) (model_names before) l ≡ None) × (first_fault (l ∷ before) ls ≡ None)
     cases None e = (e, sym (first_fault_pass before l ls e) ∙ h)
     cases (Some fault) e = absurd (let both : Some fault ≡ None = sym (first_fault_here before l ls fault e) ∙ h in cc)
-
--- a cover line has at most 64 inputs
-abbrev pub IsNarrow : Line → Type 0
-IsNarrow l = Names ≡ keyword_of l.words → inputs_of l.words ≤ 64
 
 -- a cover line without fault has its output, and at most 64 inputs
 pub names_clear : (context : Context) (names : List (List ℕ)) (l : Line) → line_fault context names l ≡ None → Names ≡ keyword_of l.words → (2 ≤ length l.words) × (inputs_of l.words ≤ 64)
@@ -86,17 +83,19 @@ pub context_models : (before : List Line) → (context_of before).models ≡ len
 unfolding context_of
 context_models before = refl
 
-pub same_model : (k : Keyword) → same_keyword Model k ≡ true → Model ≡ k
-same_model Model h = refl
-same_model Inputs h = absurd (cc)
-same_model Outputs h = absurd (cc)
-same_model Clock h = absurd (cc)
-same_model Names h = absurd (cc)
-same_model Latch h = absurd (cc)
-same_model Subckt h = absurd (cc)
-same_model End h = absurd (cc)
-same_model Unknown h = absurd (cc)
-same_model Row h = absurd (cc)
+-- keywords that are the same
+pub same_as : (a b : Keyword) → same_keyword a b ≡ true → a ≡ b
+same_as Model Model h = refl
+same_as Inputs Inputs h = refl
+same_as Outputs Outputs h = refl
+same_as Clock Clock h = refl
+same_as Names Names h = refl
+same_as Latch Latch h = refl
+same_as Subckt Subckt h = refl
+same_as End End h = refl
+same_as Unknown Unknown h = refl
+same_as Row Row h = refl
+same_as _ _ h = absurd (cc)
 
 -- a `.model` line without fault has a new name, and does not exceed the limit
 pub line_fault_new : (context : Context) (names : List (List ℕ)) (l : Line) → Model ≡ keyword_of l.words → line_fault context names l ≡ None → (list_any (λ other. bytes_eq other (word_at l.words 1)) names ≡ false) × (context.models + 1 ≤ 4096)
@@ -121,7 +120,7 @@ names_step before l later clear names next = cases (is_line Model l) refl
   where
     cases : (b : Bool) → is_line Model l ≡ b → AreNames (model_names before ++ cond (is_line Model l) (word_at l.words 1 ∷ later) later)
     cases true e =
-        let new = line_fault_new (context_of before) (model_names before) l (same_model (keyword_of l.words) e) clear in
+        let new = line_fault_new (context_of before) (model_names before) l (same_as Model (keyword_of l.words) e) clear in
         let more : AreNames (model_names before ++ word_at l.words 1 ∷ []) = record {
           distinct = distinct_push (model_names before) (word_at l.words 1) names.distinct new.0;
           few = rw length_push (omega (arith, new.1, context_models before));

@@ -1,6 +1,6 @@
 -- The design that logical lines stand for. It is told of any lines; of lines without fault it is
 -- what the text means.
-use Rattle.std.specs.Prelude.{ℕ, ◌+◌, ◌*◌, ◌==◌, min, Bool, not, if◌then◌else◌, List, [], ◌∷◌, map, filter, take, drop, bytes_eq, codes, Option, Some, None}
+use Rattle.std.specs.Prelude.{◌≡◌, ℕ, ◌+◌, ◌*◌, ◌≤◌, ◌==◌, Bool, not, if◌then◌else◌, List, [], ◌∷◌, map, filter, take, drop, bytes_eq, codes, Option, Some, None}
 use Rattle.std.specs.List.{list_any, flat_map, before_first, after_first}
 use Rattle.lid_base.specs.declared.line.Line.{Line}
 use Rattle.lid_cover.specs.declared.Cover.{Cover}
@@ -39,14 +39,14 @@ cube_of inputs row =
     let characters = take inputs (word_at row.words 0) in
     record { care = mask_of (map is_cared_for characters); value = mask_of (map is_character_one characters) }
 
--- the inputs of a cover: their number. More than 64 are refused, so no more are told
-abbrev pub width_of : List (List ℕ) → ℕ
-width_of words = min (inputs_of words) 64
-
 -- the cover of a `.names` line with these rows
 abbrev pub cover_of : List (List ℕ) → List Line → Cover
 cover_of words rows =
-    record { inputs = width_of words; on = not (list_any ends_in_zero rows); cubes = map (cube_of (width_of words)) rows }
+    record { inputs = inputs_of words; on = not (list_any ends_in_zero rows); cubes = map (cube_of (inputs_of words)) rows }
+
+-- a line with at most 64 inputs, where it is a cover line: more are refused
+abbrev pub IsNarrow : Line → Type 0
+IsNarrow l = Names ≡ keyword_of l.words → inputs_of l.words ≤ 64
 
 -- the cell of a `.names` line
 abbrev pub names_cell : List (List ℕ) → List Line → Cell

@@ -5,7 +5,7 @@ ghost use Rattle.std.specs.List.{list_any};
 ghost use Rattle.lid_design.specs.declared.Cell.{Cell};
 ghost use Rattle.lid_blif.specs.Words.{keyword_of, inputs_of};
 ghost use Rattle.lid_blif.specs.Faults.{ends_in_zero};
-ghost use Rattle.lid_blif.specs.Designs.{mask_of, is_cared_for, is_character_one, cube_of, cover_of, names_cell, kind_of, control_of, init_of, latch_cell, bind_of, inst_of, cell_before};
+ghost use Rattle.lid_blif.specs.Designs.{IsNarrow, mask_of, is_cared_for, is_character_one, cube_of, cover_of, names_cell, kind_of, control_of, init_of, latch_cell, bind_of, inst_of, cell_before};
 
 use crate::keyword::Keyword;
 use crate::shapes::{actual, formal, has_init, has_type};
@@ -69,9 +69,10 @@ fn has_zero(rows: &[Line]) -> bool
 }
 
 fn cover_of(alloc: Global, words: &[Name], rows: &[Line]) -> Result<Cover, AllocError>
+    requires { inputs_of words.now ≤ 64 }
     ensures { IfOk result (λ cover. cover ≡ cover_of words.now rows.now) }
 {
-    let inputs = words.len().saturating_sub(2).min(64);
+    let inputs = words.len().saturating_sub(2);
     let cubes = cubes_of(alloc, inputs, rows)?;
     Ok(Cover {
         inputs: inputs as u32,
@@ -91,6 +92,7 @@ fn inputs_of(words: &[Name]) -> &[Name]
 }
 
 fn names_cell(alloc: Global, words: &[Name], rows: &[Line]) -> Result<Cell, AllocError>
+    requires { inputs_of words.now ≤ 64 }
     ensures { IfOk result (λ cell. cell ≡ names_cell words.now rows.now) }
 {
     let inputs = copy_names(alloc, inputs_of(words))?;
@@ -163,6 +165,7 @@ pub fn push_cell(
     later: &[Line],
     cells: &mut Vec<Cell>,
 ) -> Result<(), AllocError>
+    requires { IsNarrow line.now }
     ensures { OnOk result ((more : List Cell)
         → cells.new.items ++ more ≡ cells.old.items ++ cell_before (keyword_of line.now.words) line.now.words later.now more) }
 {

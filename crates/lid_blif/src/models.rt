@@ -1,7 +1,8 @@
 //! The models of a design.
 
 ghost use Rattle.std.specs.Prelude.{◌≡◌, ◌++◌, drop, IfOk, OnOk};
-ghost use Rattle.lid_blif.specs.Designs.{cells_of, insts_of, names_of, model_of, models_of, design_of};
+ghost use Rattle.std.specs.List.{AllByRecursion};
+ghost use Rattle.lid_blif.specs.Designs.{IsNarrow, cells_of, insts_of, names_of, model_of, models_of, design_of};
 
 use crate::cells::{inst_of, push_cell};
 use crate::keyword::Keyword;
@@ -23,6 +24,7 @@ fn names_of(alloc: Global, wanted: Keyword, body: &[Line]) -> Result<Items<Name>
 }
 
 fn cells_of(alloc: Global, body: &[Line]) -> Result<Items<Cell>, AllocError>
+    requires { AllByRecursion IsNarrow body.now }
     ensures { IfOk result (λ cells. cells ≡ cells_of body.now) }
 {
     let mut cells = Vec::new(alloc);
@@ -76,6 +78,7 @@ struct Parts {
 }
 
 fn parts_of(alloc: Global, body: &[Line]) -> Result<Parts, AllocError>
+    requires { AllByRecursion IsNarrow body.now }
     ensures cells { IfOk result (λ parts. parts.cells ≡ cells_of body.now) }
     ensures insts { IfOk result (λ parts. parts.insts ≡ insts_of body.now) }
 {
@@ -86,6 +89,7 @@ fn parts_of(alloc: Global, body: &[Line]) -> Result<Parts, AllocError>
 
 #[tactic(auto, unfolding(crate::specs::Designs::model_of))]
 fn model_of(alloc: Global, name: &[u8], body: &[Line]) -> Result<Model, AllocError>
+    requires { AllByRecursion IsNarrow body.now }
     ensures { IfOk result (λ model. model ≡ model_of name.now body.now) }
 {
     let ports = ports_of(alloc, body)?;
@@ -108,6 +112,7 @@ fn model_of(alloc: Global, name: &[u8], body: &[Line]) -> Result<Model, AllocErr
 }
 
 fn models_of(alloc: Global, lines: &[Line]) -> Result<Items<Model>, AllocError>
+    requires { AllByRecursion IsNarrow lines.now }
     ensures { IfOk result (λ models. models ≡ models_of lines.now) }
 {
     let mut models = Vec::new(alloc);
@@ -124,6 +129,7 @@ fn models_of(alloc: Global, lines: &[Line]) -> Result<Items<Model>, AllocError>
 /// The design that some lines stand for.
 #[tactic(auto, unfolding(crate::specs::Designs::design_of))]
 pub fn design_of(alloc: Global, lines: &[Line]) -> Result<Design, AllocError>
+    requires { AllByRecursion IsNarrow lines.now }
     ensures { IfOk result (λ design. design ≡ design_of lines.now) }
 {
     let models = models_of(alloc, lines)?;

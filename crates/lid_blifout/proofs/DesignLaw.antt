@@ -22,7 +22,7 @@ use Rattle.lid_blif.specs.declared.keyword.Keyword.TheVariants.{Model, Inputs, O
 use Rattle.lid_base.specs.Words.{word_at, last_word}
 use Rattle.lid_blif.specs.Words.{named_keyword, same_keyword, keyword_of, is_line, is_inner, leading, inputs_of, is_zero}
 use Rattle.lid_blif.specs.Faults.{ends_in_zero}
-use Rattle.lid_blif.specs.Designs.{mask_of, is_cared_for, is_character_one, cube_of, width_of, cover_of, names_cell, latch_cell, bind_of, inst_of, control_named, init_named, model_of, models_of}
+use Rattle.lid_blif.specs.Designs.{mask_of, is_cared_for, is_character_one, cube_of, cover_of, names_cell, latch_cell, bind_of, inst_of, control_named, init_named, model_of, models_of}
 use Rattle.lid_blifout.specs.Canonical.{listed, cube_line, control_word, kind_words, init_word, cell_lines, bind_word, inst_line, body_lines, models_lines}
 use Rattle.lid_blifout.specs.Writable.{IsControl, IsWritableCover, IsWritableLatch, IsWritableCell, IsWritableBind, IsWritableInst, IsWritableModel}
 use Rattle.lid_lines.specs.Texts.{Words, numbered}
@@ -116,10 +116,15 @@ control_back : (control : Option (List ℕ)) → IfSome control IsControl → co
 control_back None w = refl
 control_back (Some name) w = cond-false (bytes_eq name (codes "NIL")) None (Some name) w.named
 
-latch_back : (input out : List ℕ) (kind : LatchKind) (control : Option (List ℕ)) (init : Init) → IsWritableLatch input out kind control → latch_cell (codes ".latch" ∷ input ∷ out ∷ kind_words kind control ++ init_word init ∷ []) ≡ LatchCell input out kind control init
+latch_back : (input out : List ℕ) (kind : LatchKind) (control : Option (List ℕ)) (init : Init) → IsWritableLatch input out kind control
+    → latch_cell (codes ".latch" ∷ input ∷ out ∷ kind_words kind control ++ init_word init ∷ []) ≡ LatchCell input out kind control init
 latch_back input out Plain control init w = ap (λ (i : Init). LatchCell input out Plain None i) (init_back init) ∙ ap (λ (c : Option (List ℕ)). LatchCell input out Plain c init) (sym (w.plain refl))
-latch_back input out Rise control init w = ap (λ (i : Init). LatchCell input out Rise (control_named (control_word control)) i) (init_back init) ∙ ap (λ (c : Option (List ℕ)). LatchCell input out Rise c init) (control_back control w.controlled)
-latch_back input out Fall control init w = ap (λ (i : Init). LatchCell input out Fall (control_named (control_word control)) i) (init_back init) ∙ ap (λ (c : Option (List ℕ)). LatchCell input out Fall c init) (control_back control w.controlled)
+latch_back input out Rise control init w =
+    ap (λ (i : Init). LatchCell input out Rise (control_named (control_word control)) i) (init_back init)
+    ∙ ap (λ (c : Option (List ℕ)). LatchCell input out Rise c init) (control_back control w.controlled)
+latch_back input out Fall control init w =
+    ap (λ (i : Init). LatchCell input out Fall (control_named (control_word control)) i) (init_back init)
+    ∙ ap (λ (c : Option (List ℕ)). LatchCell input out Fall c init) (control_back control w.controlled)
 
 -- covers
 take_front : (xs ys : Words) → take (length xs) (xs ++ ys) ≡ xs
@@ -141,7 +146,8 @@ cube_back : (inputs n : ℕ) (on : Bool) (cube : Cube) → IsCube inputs cube �
 cube_back inputs n on cube w =
     let row = is_row_line inputs on cube in
     let care : mask_of (map is_cared_for (take inputs (word_at (cube_line inputs on cube) 0))) ≡ cube.care = ap (λ (cs : List ℕ). mask_of (map is_cared_for cs)) row.characters ∙ cared_back inputs cube.care cube.value w.in_range in
-    let value : mask_of (map is_character_one (take inputs (word_at (cube_line inputs on cube) 0))) ≡ cube.value = ap (λ (cs : List ℕ). mask_of (map is_character_one cs)) row.characters ∙ value_back inputs cube.care cube.value w.in_range w.within in
+    let value : mask_of (map is_character_one (take inputs (word_at (cube_line inputs on cube) 0))) ≡ cube.value =
+    ap (λ (cs : List ℕ). mask_of (map is_character_one cs)) row.characters ∙ value_back inputs cube.care cube.value w.in_range w.within in
     both care value
   where
     both : {a b c d : ℕ} → a ≡ c → b ≡ d → ◌≡◌ {A = Cube} (record { care = a; value = b }) (record { care = c; value = d })
@@ -174,11 +180,11 @@ cover_back inputs out cover n w =
     let long = length-append inputs (out ∷ []) in
     let count : inputs_of words ≡ length inputs = omega (arith, long) in
     let narrow : cover.inputs ≤ 64 = w.rules.width in
-    let width : width_of words ≡ cover.inputs = omega (arith, w.count, count) in
+    let width : inputs_of words ≡ cover.inputs = omega (arith, w.count, count) in
     let names : take (inputs_of words) (drop 1 words) ≡ inputs = ap (λ (k : ℕ). take k (inputs ++ out ∷ [])) count ∙ take_front inputs (out ∷ []) in
     let last : last_word words ≡ out = last_word_after (codes ".names" ∷ inputs) out in
     let on : not (list_any ends_in_zero rows) ≡ cover.on = on_back cover.inputs n cover.on cover.cubes w.constant in
-    let cubes : map (cube_of (width_of words)) rows ≡ cover.cubes = ap (λ (k : ℕ). map (cube_of k) rows) width ∙ cubes_back cover.inputs n cover.on cover.cubes w.rules.cubes in
+    let cubes : map (cube_of (inputs_of words)) rows ≡ cover.cubes = ap (λ (k : ℕ). map (cube_of k) rows) width ∙ cubes_back cover.inputs n cover.on cover.cubes w.rules.cubes in
     ap (λ (ns : Words). NamesCell ns (last_word words) (cover_of words rows)) names
     ∙ ap (λ (o : List ℕ). NamesCell inputs o (cover_of words rows)) last
     ∙ ap (λ (c : Cover). NamesCell inputs out c) (all width on cubes)
@@ -193,7 +199,8 @@ means_rows m inputs on (cube ∷ cubes) lines h = λ n.
     model_of_cons Row (line_at n (cube_line inputs on cube)) (numbered (n + 1) (map (cube_line inputs on) cubes ++ lines)) m.name (sym row.keyword)
     ∙ means_rows m inputs on cubes lines h (n + 1)
 
-means_cell : (name : List ℕ) (cell : Cell) (cells : List Cell) (insts : List Inst) (lines : List Words) → IsWritableCell cell → NoRow lines → Means (made name [] [] [] cells insts) lines → Means (made name [] [] [] (cell ∷ cells) insts) (cell_lines cell ++ lines)
+means_cell : (name : List ℕ) (cell : Cell) (cells : List Cell) (insts : List Inst) (lines : List Words) → IsWritableCell cell
+    → NoRow lines → Means (made name [] [] [] cells insts) lines → Means (made name [] [] [] (cell ∷ cells) insts) (cell_lines cell ++ lines)
 unfolding named_keyword
 means_cell name (NamesCell inputs out cover) cells insts lines w none h = λ n.
     let words = codes ".names" ∷ (inputs ++ out ∷ []) in
@@ -219,7 +226,8 @@ unfolding named_keyword
 no_row_insts [] lines h = h
 no_row_insts (inst ∷ insts) lines h = λ n. refl
 
-means_cells : (name : List ℕ) (cells : List Cell) (insts : List Inst) (lines : List Words) → AllByRecursion IsWritableCell cells → NoRow lines → Means (made name [] [] [] [] insts) lines → Means (made name [] [] [] cells insts) (flat_map cell_lines cells ++ lines)
+means_cells : (name : List ℕ) (cells : List Cell) (insts : List Inst) (lines : List Words) → AllByRecursion IsWritableCell cells
+    → NoRow lines → Means (made name [] [] [] [] insts) lines → Means (made name [] [] [] cells insts) (flat_map cell_lines cells ++ lines)
 means_cells name [] insts lines w none h = h
 means_cells name (cell ∷ cells) insts lines w none h =
     let later = means_cells name cells insts lines w.1 none h in

@@ -67,7 +67,8 @@ kept_after Subckt l now m r = record { inside = refl; rows = refl; names = refl 
 kept_after End l now m r = record { inside = refl; rows = refl; names = refl }
 kept_after Unknown l now m r = record { inside = refl; rows = refl; names = refl }
 
-at_after : (k : Keyword) (l : Line) (inside : Bool) (names : Words) (rows : ℕ) (before : List Line) → k ≡ keyword_of l.words → (k ≡ Model → ⊥) → (k ≡ Row → ⊥) → At inside names rows before → At (next_inside k inside) names rows (l ∷ before)
+at_after : (k : Keyword) (l : Line) (inside : Bool) (names : Words) (rows : ℕ) (before : List Line) → k ≡ keyword_of l.words
+    → (k ≡ Model → ⊥) → (k ≡ Row → ⊥) → At inside names rows before → At (next_inside k inside) names rows (l ∷ before)
 at_after k l inside names rows before e m r at =
     let next = context_of_cons k l before e in
     let kept = kept_after k l (context_of before) m r in
@@ -109,11 +110,15 @@ clear_end : (lines : List Words) (names : Words) (rows : ℕ) → Clear false na
 unfolding named_keyword
 clear_end lines names rows h = clear_line End (codes ".end" ∷ []) lines true names rows refl (λ e. cc) (λ e. cc) (λ context n e. rw e refl) h
 
-clear_latch : (input out : List ℕ) (kind : LatchKind) (control : Option (List ℕ)) (init : Init) (lines : List Words) (names : Words) (rows : ℕ) → Clear true names rows lines → Clear true names rows (cell_lines (LatchCell input out kind control init) ++ lines)
+clear_latch : (input out : List ℕ) (kind : LatchKind) (control : Option (List ℕ)) (init : Init) (lines : List Words) (names : Words) (rows : ℕ)
+    → Clear true names rows lines → Clear true names rows (cell_lines (LatchCell input out kind control init) ++ lines)
 unfolding named_keyword
-clear_latch input out Plain control init lines names rows h = let good = init_is init in clear_line Latch (codes ".latch" ∷ input ∷ out ∷ init_word init ∷ []) lines true names rows refl (λ e. cc) (λ e. cc) (λ context n e. rw (e, good) refl) h
-clear_latch input out Rise control init lines names rows h = let good = init_is init in clear_line Latch (codes ".latch" ∷ input ∷ out ∷ codes "re" ∷ control_word control ∷ init_word init ∷ []) lines true names rows refl (λ e. cc) (λ e. cc) (λ context n e. rw (e, good) refl) h
-clear_latch input out Fall control init lines names rows h = let good = init_is init in clear_line Latch (codes ".latch" ∷ input ∷ out ∷ codes "fe" ∷ control_word control ∷ init_word init ∷ []) lines true names rows refl (λ e. cc) (λ e. cc) (λ context n e. rw (e, good) refl) h
+clear_latch input out Plain control init lines names rows h = let good = init_is init in
+    clear_line Latch (codes ".latch" ∷ input ∷ out ∷ init_word init ∷ []) lines true names rows refl (λ e. cc) (λ e. cc) (λ context n e. rw (e, good) refl) h
+clear_latch input out Rise control init lines names rows h = let good = init_is init in
+    clear_line Latch (codes ".latch" ∷ input ∷ out ∷ codes "re" ∷ control_word control ∷ init_word init ∷ []) lines true names rows refl (λ e. cc) (λ e. cc) (λ context n e. rw (e, good) refl) h
+clear_latch input out Fall control init lines names rows h = let good = init_is init in
+    clear_line Latch (codes ".latch" ∷ input ∷ out ∷ codes "fe" ∷ control_word control ∷ init_word init ∷ []) lines true names rows refl (λ e. cc) (λ e. cc) (λ context n e. rw (e, good) refl) h
 
 clear_inst : (inst : Inst) (lines : List Words) (names : Words) (rows : ℕ) → IsWritableInst inst → Clear true names rows lines → Clear true names rows (inst_line inst ∷ lines)
 unfolding named_keyword
@@ -140,7 +145,8 @@ unmixed_row : (on : Bool) (words : Words) (n : ℕ) (context : Context) → last
 unmixed_row true words n context e h = ap (λ (w : List ℕ). cond (is_zero w) context.ones context.zeros) e ∙ h
 unmixed_row false words n context e h = ap (λ (w : List ℕ). cond (is_zero w) context.ones context.zeros) e ∙ h
 
-row_ok : (inputs : ℕ) (on : Bool) (cube : Cube) (words : Words) (n : ℕ) (before : List Line) (names : Words) (rows : ℕ) → IsRowLine inputs on cube words → At true names rows before → InCover inputs on before → rows + 1 ≤ 1048576 → line_fault (context_of before) (model_names before) (line_at n words) ≡ None
+row_ok : (inputs : ℕ) (on : Bool) (cube : Cube) (words : Words) (n : ℕ) (before : List Line) (names : Words) (rows : ℕ) → IsRowLine inputs on cube words
+    → At true names rows before → InCover inputs on before → rows + 1 ≤ 1048576 → line_fault (context_of before) (model_names before) (line_at n words) ≡ None
 unfolding line_fault
 row_ok inputs on cube words n before names rows row at cover few =
     let context = context_of before in
@@ -183,7 +189,8 @@ cover_row inputs on l before e out cover =
 abbrev ClearRows : ℕ → Bool → Words → ℕ → List Words → Type 0
 ClearRows inputs on names rows lines = (n : ℕ) (before : List Line) → At true names rows before → InCover inputs on before → first_fault before (numbered n lines) ≡ None
 
-clear_rows : (cubes : List Cube) (inputs : ℕ) (on : Bool) (lines : List Words) (names : Words) (rows : ℕ) → rows + length cubes ≤ 1048576 → Clear true names (rows + length cubes) lines → ClearRows inputs on names rows (map (cube_line inputs on) cubes ++ lines)
+clear_rows : (cubes : List Cube) (inputs : ℕ) (on : Bool) (lines : List Words) (names : Words) (rows : ℕ) → rows + length cubes ≤ 1048576
+    → Clear true names (rows + length cubes) lines → ClearRows inputs on names rows (map (cube_line inputs on) cubes ++ lines)
 clear_rows [] inputs on lines names rows few h n before at cover =
     let none : rows + 0 ≡ rows = omega arith in
     let done : Clear true names rows lines = subst (λ (k : ℕ). Clear true names k lines) none h in
@@ -197,7 +204,8 @@ clear_rows (cube ∷ cubes) inputs on lines names rows few h n before at cover =
     first_fault_pass before l (numbered (n + 1) (map (cube_line inputs on) cubes ++ lines)) (row_ok inputs on cube words n before names rows row at cover (omega arith))
     ∙ clear_rows cubes inputs on lines names (rows + 1) (omega arith) left (n + 1) (l ∷ before) (at_row l names rows before (sym row.keyword) at) (cover_row inputs on l before (sym row.keyword) row.output cover)
 
-clear_cover : (inputs : Words) (out : List ℕ) (cover : Cover) (lines : List Words) (names : Words) (rows : ℕ) → IsWritableCover inputs out cover → rows + length cover.cubes ≤ 1048576 → Clear true names (rows + length cover.cubes) lines
+clear_cover : (inputs : Words) (out : List ℕ) (cover : Cover) (lines : List Words) (names : Words) (rows : ℕ)
+    → IsWritableCover inputs out cover → rows + length cover.cubes ≤ 1048576 → Clear true names (rows + length cover.cubes) lines
     → Clear true names rows (cell_lines (NamesCell inputs out cover) ++ lines)
 unfolding named_keyword line_fault
 clear_cover inputs out cover lines names rows w few h n before at =
@@ -234,7 +242,8 @@ clear_cell (LatchCell input out kind control init) lines names rows w few h =
     let none : rows + 0 ≡ rows = omega arith in
     clear_latch input out kind control init lines names rows (subst (λ (k : ℕ). Clear true names k lines) none h)
 
-clear_cells : (cells : List Cell) (lines : List Words) (names : Words) (rows : ℕ) → AllByRecursion IsWritableCell cells → rows + cells_rows cells ≤ 1048576 → Clear true names (rows + cells_rows cells) lines → Clear true names rows (flat_map cell_lines cells ++ lines)
+clear_cells : (cells : List Cell) (lines : List Words) (names : Words) (rows : ℕ) → AllByRecursion IsWritableCell cells
+    → rows + cells_rows cells ≤ 1048576 → Clear true names (rows + cells_rows cells) lines → Clear true names rows (flat_map cell_lines cells ++ lines)
 clear_cells [] lines names rows w few h =
     let none : rows + cells_rows [] ≡ rows = omega arith in
     subst (λ (k : ℕ). Clear true names k lines) none h
@@ -274,7 +283,8 @@ unfolding IsDistinct
 new_name [] name later d = refl
 new_name (x ∷ xs) name later d = or_from (bytes_eq x name) (list_any (λ other. bytes_eq other name) xs) (all_middle (λ y. bytes_eq x y ≡ false) xs name later d.0) (new_name xs name later d.1)
 
-clear_title : (name : List ℕ) (lines : List Words) (inside : Bool) (names : Words) (rows : ℕ) → list_any (λ other. bytes_eq other name) names ≡ false → length names + 1 ≤ 4096 → Clear true (names ++ name ∷ []) rows lines → Clear inside names rows ((codes ".model" ∷ name ∷ []) ∷ lines)
+clear_title : (name : List ℕ) (lines : List Words) (inside : Bool) (names : Words) (rows : ℕ) → list_any (λ other. bytes_eq other name) names ≡ false
+    → length names + 1 ≤ 4096 → Clear true (names ++ name ∷ []) rows lines → Clear inside names rows ((codes ".model" ∷ name ∷ []) ∷ lines)
 unfolding named_keyword line_fault
 clear_title name lines inside names rows fresh few h n before at =
     let words = codes ".model" ∷ name ∷ [] in
@@ -296,7 +306,8 @@ clear_title name lines inside names rows fresh few h n before at =
     } in
     first_fault_pass before l (numbered (n + 1) lines) clean ∙ h (n + 1) (l ∷ before) opened
 
-clear_models : (ms : List ModelOf) (inside : Bool) (names : Words) (rows : ℕ) → AllByRecursion IsWritableModel ms → IsDistinct bytes_eq (names ++ map model_name ms) → length names + length ms ≤ 4096 → rows + sum_by model_rows ms ≤ 1048576 → Clear inside names rows (models_lines ms)
+clear_models : (ms : List ModelOf) (inside : Bool) (names : Words) (rows : ℕ) → AllByRecursion IsWritableModel ms → IsDistinct bytes_eq (names ++ map model_name ms)
+    → length names + length ms ≤ 4096 → rows + sum_by model_rows ms ≤ 1048576 → Clear inside names rows (models_lines ms)
 clear_models [] inside names rows w d few_models few_rows = λ n before at. refl
 clear_models (m ∷ ms) inside names rows w d few_models few_rows =
     let count = sum_by-cons model_rows m ms in

@@ -22,9 +22,9 @@ use Rattle.lid_blif.specs.declared.context.Context.{Context}
 use Rattle.lid_base.specs.Words.{word_at, last_word}
 use Rattle.lid_blif.specs.Words.{keyword_of, same_keyword, is_line, is_inner, leading, inputs_of, is_row_of, is_latch_type, is_latch_init, has_type, has_init, is_equals, is_empty, is_binding}
 use Rattle.lid_blif.specs.Faults.{context_of, model_names, row_count, ends_in_zero, Case, outside, is_mixed, line_fault, first_fault}
-use Rattle.lid_blif.specs.Designs.{cube_of, width_of, names_of, kind_named, control_named, kind_of, control_of, bind_of, inst_of, latch_cell, names_cell, cell_before, cells_of, insts_of, model_of, models_of}
+use Rattle.lid_blif.specs.Designs.{cube_of, names_of, kind_named, control_named, kind_of, control_of, bind_of, inst_of, latch_cell, names_cell, cell_before, cells_of, insts_of, model_of, models_of}
 use Rattle.lid_design.specs.WellFormed.{IsWellFormedCell}
-use Rattle.lid_blif.proofs.Faults.{told-none, first_fault_none, same_model, names_clear}
+use Rattle.lid_blif.proofs.Faults.{told-none, first_fault_none, same_as, names_clear}
 use Rattle.lid_lines.specs.Texts.{Words}
 use Rattle.lid_blifout.specs.Canonical.{bind_word}
 use Rattle.lid_blifout.specs.Writable.{IsControl, IsWritableLatch, IsWritableBind, IsWritableInst, IsWritableCell, IsWritableModel, cell_rows, cells_rows, model_rows}
@@ -142,7 +142,8 @@ latch_read l s long = record {
   plain = plain_ok l.words;
 }
 
-cell_read : (k : Keyword) (l : Line) (later : List Line) (cells : List Cell) → k ≡ keyword_of l.words → AreSpelled 1024 l.words → IsShaped l → AllByRecursion IsReadCell cells → AllByRecursion IsReadCell (cell_before k l.words later cells)
+cell_read : (k : Keyword) (l : Line) (later : List Line) (cells : List Cell) → k ≡ keyword_of l.words → AreSpelled 1024 l.words
+    → IsShaped l → AllByRecursion IsReadCell cells → AllByRecursion IsReadCell (cell_before k l.words later cells)
 cell_read Names l later cells e s shape h = (names_read l (leading (is_line Row) later) s (shape.names e), h)
 cell_read Latch l later cells e s shape h = (latch_read l s (shape.latch e), h)
 cell_read Model l later cells e s shape h = h
@@ -219,18 +220,6 @@ binds_read (w ∷ ws) s h u = let parts = and_parts (is_binding w) (list_all is_
 abbrev pub EndsWellInst : Inst → Type 0
 EndsWellInst inst = AllByRecursion EndsWellBind inst.binds
 
-same_subckt : (k : Keyword) → same_keyword Subckt k ≡ true → Subckt ≡ k
-same_subckt Subckt h = refl
-same_subckt Model h = absurd (cc)
-same_subckt Inputs h = absurd (cc)
-same_subckt Outputs h = absurd (cc)
-same_subckt Clock h = absurd (cc)
-same_subckt Names h = absurd (cc)
-same_subckt Latch h = absurd (cc)
-same_subckt End h = absurd (cc)
-same_subckt Unknown h = absurd (cc)
-same_subckt Row h = absurd (cc)
-
 pub insts_read : (ls : List Line) → AreRead ls → AllByRecursion EndsWellInst (insts_of ls) → AllByRecursion IsWritableInst (insts_of ls)
 insts_read [] h u = tt
 insts_read (l ∷ ls) h u = by (is_line Subckt l) refl (λ marks. insts_read ls h.1 marks)
@@ -240,7 +229,7 @@ insts_read (l ∷ ls) h u = by (is_line Subckt l) refl (λ marks. insts_read ls 
         let here = h.0 in
         let said = here.0 in
         let shape = here.1 in
-        let is = same_subckt (keyword_of l.words) e in
+        let is = same_as Subckt (keyword_of l.words) e in
         let marks = rw e at u in
         let inst : IsWritableInst (inst_of l) = record {
           model = word_spelled l.words 1 (shape.inst is) said.all;
@@ -255,31 +244,15 @@ weight ls = cells_rows (cells_of ls) + length (leading (is_line Row) ls)
 
 -- a line more makes the weight no greater, but for a row by one
 weight_cons : (k : Keyword) (l : Line) (ls : List Line) → k ≡ keyword_of l.words → weight (l ∷ ls) ≤ weight ls + cond (same_keyword Row k) 1 0
-weight_cons Names l ls e = rw (← e) (omega (arith, sum_by-cons cell_rows (names_cell l.words (leading (is_line Row) ls)) (cells_of ls), length-map (leading (is_line Row) ls) (cube_of (width_of l.words))))
+weight_cons Names l ls e = rw (← e) (omega (arith, sum_by-cons cell_rows (names_cell l.words (leading (is_line Row) ls)) (cells_of ls), length-map (leading (is_line Row) ls) (cube_of (inputs_of l.words))))
 weight_cons Latch l ls e = rw (← e) (omega (arith, sum_by-cons cell_rows (latch_cell l.words) (cells_of ls)))
-weight_cons Row l ls e = rw (← e) (omega arith)
-weight_cons Model l ls e = rw (← e) (omega arith)
-weight_cons Inputs l ls e = rw (← e) (omega arith)
-weight_cons Outputs l ls e = rw (← e) (omega arith)
-weight_cons Clock l ls e = rw (← e) (omega arith)
-weight_cons Subckt l ls e = rw (← e) (omega arith)
-weight_cons End l ls e = rw (← e) (omega arith)
-weight_cons Unknown l ls e = rw (← e) (omega arith)
+weight_cons _ l ls e = rw (← e) (omega arith)
 
 count_cons : (l : Line) (ls : List Line) → row_count (l ∷ ls) ≡ row_count ls + cond (is_line Row l) 1 0
 count_cons l ls = elim (is_line Row l) as (λ b. cond b (row_count ls + 1) (row_count ls) ≡ row_count ls + cond b 1 0) [ true ↦ refl | false ↦ omega arith ]
 
 model_no_row : (k : Keyword) → same_keyword Model k ≡ true → cond (same_keyword Row k) 1 0 ≤ 0
-model_no_row Model h = omega arith
-model_no_row Inputs h = absurd (cc)
-model_no_row Outputs h = absurd (cc)
-model_no_row Clock h = absurd (cc)
-model_no_row Names h = absurd (cc)
-model_no_row Latch h = absurd (cc)
-model_no_row Subckt h = absurd (cc)
-model_no_row End h = absurd (cc)
-model_no_row Unknown h = absurd (cc)
-model_no_row Row h = absurd (cc)
+model_no_row k h = subst (λ (j : Keyword). cond (same_keyword Row j) 1 0 ≤ 0) (same_as Model k h) (omega arith)
 
 -- the rows of the covers of all models are no more than the rows of the text
 models_rows_le : (ls : List Line) → sum_by model_rows (models_of ls) + weight (leading is_inner ls) ≤ row_count ls
@@ -312,18 +285,6 @@ row_limit context names l h e =
     let f = told-none (nat_lt 1048576 (context.rows + 1), Limit CoverRows (context.rows + 1)) [] d.1 in
     ltb-false 1048576 (context.rows + 1) f.0
 
-same_row : (k : Keyword) → same_keyword Row k ≡ true → Row ≡ k
-same_row Row h = refl
-same_row Model h = absurd (cc)
-same_row Inputs h = absurd (cc)
-same_row Outputs h = absurd (cc)
-same_row Clock h = absurd (cc)
-same_row Names h = absurd (cc)
-same_row Latch h = absurd (cc)
-same_row Subckt h = absurd (cc)
-same_row End h = absurd (cc)
-same_row Unknown h = absurd (cc)
-
 place_rows : (before : List Line) → (context_of before).rows ≡ row_count before
 unfolding context_of
 place_rows before = refl
@@ -338,7 +299,7 @@ rows_limit before (l ∷ ls) h few =
     let more : row_count (l ∷ before) ≤ 1048576 =
     elim (cases_Bool (is_line Row l)) [
       | inl yes' ↦
-          let limit = row_limit (context_of before) (model_names before) l parts.0 (same_row (keyword_of l.words) yes') in
+          let limit = row_limit (context_of before) (model_names before) l parts.0 (same_as Row (keyword_of l.words) yes') in
           let one : ◌≡◌ {A = ℕ} (cond (is_line Row l) 1 0) 1 = cond-true (is_line Row l) 1 0 yes' in
           omega (arith, grown, at, limit, one)
       | inr no' ↦ let none : ◌≡◌ {A = ℕ} (cond (is_line Row l) 1 0) 0 = cond-false (is_line Row l) 1 0 no' in omega (arith, grown, none)
@@ -382,14 +343,15 @@ unfolding model_of
 models_read [] h f u = tt
 models_read (l ∷ ls) h f u = by (is_line Model l) refl (models_read ls h.1)
   where
-    by : (b : Bool) → is_line Model l ≡ b → (AllByRecursion (λ m. AllByRecursion IsWellFormedCell m.cells) (models_of ls) → AllByRecursion EndsWellModel (models_of ls) → AllByRecursion IsWritableModel (models_of ls)) → AllByRecursion IsWritableModel (models_of (l ∷ ls))
+    by : (b : Bool) → is_line Model l ≡ b → (AllByRecursion (λ m. AllByRecursion IsWellFormedCell m.cells) (models_of ls) → AllByRecursion EndsWellModel (models_of ls) → AllByRecursion IsWritableModel (models_of ls))
+        → AllByRecursion IsWritableModel (models_of (l ∷ ls))
     by true e later =
         let here = h.0 in
         let said = here.0 in
         let shape = here.1 in
         let marks = rw e at u in
         let formed = rw e at f in
-        let two : length l.words ≡ 2 = shape.model (same_model (keyword_of l.words) e) in
+        let two : length l.words ≡ 2 = shape.model (same_as Model (keyword_of l.words) e) in
         let first = model_read (word_at l.words 1) (leading is_inner ls) (word_spelled l.words 1 (omega arith) said.all) (leading_read ls h.1) formed.0 marks.0 in
         rw e (first, later formed.1 marks.1)
     by false e later = let marks = rw e at u in let formed = rw e at f in rw e (later formed marks)

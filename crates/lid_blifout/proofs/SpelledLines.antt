@@ -67,7 +67,8 @@ row_spelled inputs on cube few =
       | inr no' ↦
           let apart : inputs ≡ 0 → ⊥ = eqb-false inputs 0 no' in
           let some : 0 < inputs = omega arith in
-          subst (AreSpelled 1024) (sym (cond-false (inputs == 0) (output_word on ∷ []) (characters inputs cube.care cube.value ∷ output_word on ∷ []) no')) (record { some = omega arith; all = (characters_spelled inputs cube.care cube.value some few, (output_spelled on, tt)) })
+          subst (AreSpelled 1024) (sym (cond-false (inputs == 0) (output_word on ∷ []) (characters inputs cube.care cube.value ∷ output_word on ∷ []) no'))
+          (record { some = omega arith; all = (characters_spelled inputs cube.care cube.value some few, (output_spelled on, tt)) })
     ]
 
 rows_spelled : (inputs : ℕ) (on : Bool) (cubes : List Cube) → inputs ≤ 64 → AllByRecursion (AreSpelled 1024) (map (cube_line inputs on) cubes)

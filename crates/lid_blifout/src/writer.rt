@@ -16,7 +16,7 @@ ghost use Rattle.lid_blifout.specs.Pieces.{spaced_binds, asked_text};
 use lid_base::Name;
 use lid_cover::{Cover, Cube};
 use lid_design::{Bind, Cell, Design, Init, Inst, LatchKind, Model};
-use lid_lines::{append_keyword_line, append_word, append_words};
+use lid_lines::{append_keyword_line, append_word, append_words, cut_back};
 use std::alloc::AllocError;
 
 /// Appends a line with a keyword and names, where there are names.
@@ -329,10 +329,9 @@ pub fn write(design: &Design, into: &mut Vec<u8>) -> Result<(), AllocError>
     ensures read_back { (blif_fault (canonical_text design.now) ≡ None) × (design_of (logical_lines (canonical_text design.now)) ≡ design.now) }
     ensures err { OnErr result (into.new.items ≡ into.old.items) }
 {
-    let len = into.len();
-    let written = append_models(design.models.as_slice(), into);
-    if written.is_err() {
-        into.truncate(len);
-    }
-    written
+    cut_back(
+        into.len(),
+        append_models(design.models.as_slice(), into),
+        into,
+    )
 }

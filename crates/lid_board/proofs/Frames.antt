@@ -207,19 +207,27 @@ module _ {S : Type 0} (plan : Ends) where
       let passed = ap (λ (y : Held). y.passed) x in
       ap (λ (y : Held). y.misses) x ∙ k.token_early (omega arith))
 
+  -- a step at an end that writes a word of its station
+  steps_at : (st : State S View) (homes : List (mathlib.Core.Option.Option S)) (id : ℕ) (v : View) (station k n end : ℕ) (h e : Held) → (r : Related plan st)
+      → get_elem? st.views id ≡ some v → at v.ends end ≡ Some h → IsPlanned h e → k < words_of (cap_of plan station) → end / 2 ≡ station
+      → Kept (set st.words (first_word plan station + k) n) (first_word plan station) (swapped r.truth end e (fill station)) (swapped r.truth end e (drain station))
+      → Related plan (record { words = set st.words (first_word plan station + k) n; homes = homes; views = set st.views id (record { ends = changed v.ends end e }) })
+  steps_at st homes id v station k n end h e r here is same inside side kept =
+      let some = first-some plan station in
+      steps st (set st.words (first_word plan station + k) n) homes id v end h e r here is same
+      (length-set st.words (first_word plan station + k) n)
+      (get_or-set_other st.words (first_word plan station + k) 0 n 0 (λ z. omega arith) ∙ r.no_station)
+      (each_kept st station k n end e r inside side kept)
+
   -- a step at a drained end
   pub steps_in : (st : State S View) (homes : List (mathlib.Core.Option.Option S)) (id : ℕ) (v : View) (station k n : ℕ) (d e : Held) → (r : Related plan st)
       → get_elem? st.views id ≡ some v → at v.ends (drain station) ≡ Some d → IsPlanned d e → k < words_of (cap_of plan station)
       → Kept (set st.words (first_word plan station + k) n) (first_word plan station) (r.truth (fill station)) e
       → Related plan (record { words = set st.words (first_word plan station + k) n; homes = homes; views = set st.views id (record { ends = changed v.ends (drain station) e }) })
   steps_in st homes id v station k n d e r here is same inside kept =
-      let some = first-some plan station in
-      steps st (set st.words (first_word plan station + k) n) homes id v (drain station) d e r here is same
-      (length-set st.words (first_word plan station + k) n)
-      (get_or-set_other st.words (first_word plan station + k) 0 n 0 (λ z. omega arith) ∙ r.no_station)
-      (each_kept st station k n (drain station) e r inside (omega arith)
+      steps_at st homes id v station k n (drain station) d e r here is same inside (omega arith)
       (subst (λ (y : Held). Kept (set st.words (first_word plan station + k) n) (first_word plan station) y (swapped r.truth (drain station) e (drain station))) (sym (swapped_else r.truth (drain station) (fill station) e (λ z. omega arith)))
-      (subst (λ (y : Held). Kept (set st.words (first_word plan station + k) n) (first_word plan station) (r.truth (fill station)) y) (sym (swapped_here r.truth (drain station) e)) kept)))
+      (subst (λ (y : Held). Kept (set st.words (first_word plan station + k) n) (first_word plan station) (r.truth (fill station)) y) (sym (swapped_here r.truth (drain station) e)) kept))
 
   -- a step at a filled end
   pub steps_out : (st : State S View) (homes : List (mathlib.Core.Option.Option S)) (id : ℕ) (v : View) (station k n : ℕ) (f e : Held) → (r : Related plan st)
@@ -227,10 +235,6 @@ module _ {S : Type 0} (plan : Ends) where
       → Kept (set st.words (first_word plan station + k) n) (first_word plan station) e (r.truth (drain station))
       → Related plan (record { words = set st.words (first_word plan station + k) n; homes = homes; views = set st.views id (record { ends = changed v.ends (fill station) e }) })
   steps_out st homes id v station k n f e r here is same inside kept =
-      let some = first-some plan station in
-      steps st (set st.words (first_word plan station + k) n) homes id v (fill station) f e r here is same
-      (length-set st.words (first_word plan station + k) n)
-      (get_or-set_other st.words (first_word plan station + k) 0 n 0 (λ z. omega arith) ∙ r.no_station)
-      (each_kept st station k n (fill station) e r inside (omega arith)
+      steps_at st homes id v station k n (fill station) f e r here is same inside (omega arith)
       (subst (λ (y : Held). Kept (set st.words (first_word plan station + k) n) (first_word plan station) y (swapped r.truth (fill station) e (drain station))) (sym (swapped_here r.truth (fill station) e))
-      (subst (λ (y : Held). Kept (set st.words (first_word plan station + k) n) (first_word plan station) e y) (sym (swapped_else r.truth (fill station) (drain station) e (λ z. omega arith))) kept)))
+      (subst (λ (y : Held). Kept (set st.words (first_word plan station + k) n) (first_word plan station) e y) (sym (swapped_else r.truth (fill station) (drain station) e (λ z. omega arith))) kept))

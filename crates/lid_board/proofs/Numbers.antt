@@ -31,6 +31,10 @@ chosen_at [] i d inside = absurd (omega arith)
 chosen_at (x ∷ xs) zero d inside = ap (λ (b : Bool). b || is_chosen xs (end_number x)) (eq-eqb (end_number x) (end_number x) refl)
 chosen_at (x ∷ xs) (suc i) d inside = ap (λ (b : Bool). (end_number x == end_number (get_or xs i d)) || b) (chosen_at xs i d (omega arith)) ∙ or_true (end_number x == end_number (get_or xs i d))
 
+-- the number of an end that stands in the list is within what holds all that are chosen
+pub chosen_within : (ends : List End) (i number long : ℕ) (d : End) → i < length ends → number ≡ end_number (get_or ends i d) → ((end : ℕ) → is_chosen ends end ≡ true → end < long) → number < long
+chosen_within ends i number long d inside is within = within number (ap (is_chosen ends) is ∙ chosen_at ends i d inside)
+
 -- one end more
 chosen_suc : (ends : List End) (i : ℕ) (d : End) (k : ℕ) → i < length ends → is_chosen (take (suc i) ends) k ≡ (is_chosen (take i ends) k || (end_number (get_or ends i d) == k))
 chosen_suc [] i d k inside = absurd (omega arith)
@@ -104,6 +108,10 @@ passed_right false o = refl
 passed_else : (o x : Option Held) → or_else (passed_of o) (passed_of x) ≡ passed_of (or_else o (option_map unseen x))
 passed_else None x = sym (passed_unseen x)
 passed_else (Some h) x = refl
+
+-- what a vector that was written through a slice has at a place
+pub written_at : (xs ys : List (Option ℕ)) (n k : ℕ) (x : Option ℕ) → length xs ≡ n → length ys ≡ n → get_or xs k None ≡ x → get_or (take n (xs ++ drop (length xs) ys)) k None ≡ x
+written_at xs ys n k x long same is = ap (λ (zs : List (Option ℕ)). get_or zs k None) (written xs ys n long same) ∙ is
 
 -- the numbers of the ends that stay
 pub tied_left : (old new : List (Option ℕ)) (ends : Ends) (chosen : ℕ → Bool) → IsTied old ends → ((k : ℕ) → get_or new k None ≡ cond (chosen k) None (get_or old k None)) → IsTied new (left_from chosen 0 ends)

@@ -100,6 +100,26 @@ else_is true t not = absurd (not refl)
 else_is false t not = refl
 
 module _ {S : Type 0} (plan : Ends) where
+  -- ends go from hand to hand: each stays in as many views, and what was seen there may be let go
+  dealt : (st : State S View) (r : Related plan st) (views : List View) (truth : ℕ → Held)
+      → ((k : ℕ) → sum_by (has k) views ≡ sum_by (has k) st.views) → ((k : ℕ) → Rests (r.truth k) (truth k))
+      → ((j : ℕ) (u : View) (k : ℕ) (h : Held) → get_elem? views j ≡ some u → at u.ends k ≡ Some h → h ≡ truth k)
+      → Related plan (record { words = st.words; homes = st.homes; views = views })
+  dealt st r views truth counts rests agree = record {
+    truth = truth;
+    stations = r.stations;
+    ends = r.ends;
+    words = r.words;
+    no_station = r.no_station;
+    one = λ k inside. counts k ∙ r.one k inside;
+    none = λ k past. counts k ∙ r.none k past;
+    agree = agree;
+    planned = λ k inside. planned_rests (held plan k) (r.truth k) (truth k) (r.planned k inside) (rests k);
+    kept = λ station there.
+        kept_rests st.words (first_word plan station) (r.truth (fill station)) (r.truth (drain station)) (truth (fill station)) (truth (drain station)) (r.kept station there)
+        (rests (fill station)) (rests (drain station));
+  }
+
   -- ends that are owned go to a new hand
   pub splits : (id : ℕ) (v : View) (chosen : ℕ → Bool) → ((k : ℕ) → chosen k ≡ true → IsOwned v.ends k)
       → Splits {S = S} (Related plan) id v (record { ends = left_from chosen 0 v.ends }) (record { ends = right_from chosen 0 v.ends })
@@ -116,38 +136,26 @@ module _ {S : Type 0} (plan : Ends) where
       let e : has k right ≡ one_of (cond (chosen k) (option_map unseen (at v.ends k)) None) = ap one_of (at_right chosen v.ends k) in
       let f = part_one (chosen k) (at v.ends k) in
       omega arith) in
-      record {
-        truth = truth;
-        stations = r.stations;
-        ends = r.ends;
-        words = r.words;
-        no_station = r.no_station;
-        one = λ k inside. counts k ∙ r.one k inside;
-        none = λ k past. counts k ∙ r.none k past;
-        agree = λ j u k h there is.
-            elim (at_snoc (set st.views id left) right u j there) [
-              | inl before ↦
-                  elim (at_set st.views id j left u before) [
-                    | inl mine ↦
-                        left_is (chosen k) (at v.ends k) h (r.truth k) (sym (at_left chosen v.ends k) ∙ ap (λ (y : View). at y.ends k) mine.1 ∙ is) (r.agree id v k h here)
-                    | inr other ↦
-                        r.agree j u k h other.1 is
-                        ∙ else_is (chosen k) (r.truth k) (λ hit.
-                        let mine : has k v ≡ 1 = ap one_of (owned k hit) in
-                        let theirs : has k u ≡ 1 = ap one_of is in
-                        let two = sum_two (has k) st.views j id u v other.0 other.1 here in
-                        dite (dec_le (length plan) k)
-                        (λ past. let none = r.none k past in omega arith)
-                        (λ inside. let one = r.one k (lt_of_not-le inside) in omega arith))
-                  ]
-              | inr last ↦
-                  right_is (chosen k) (at v.ends k) h (r.truth k) (sym (at_right chosen v.ends k) ∙ ap (λ (y : View). at y.ends k) last ∙ is) (λ x e. r.agree id v k x here e)
-            ];
-        planned = λ k inside. planned_rests (held plan k) (r.truth k) (truth k) (r.planned k inside) (let_go_rests (chosen k) (r.truth k));
-        kept = λ station there.
-            kept_rests st.words (first_word plan station) (r.truth (fill station)) (r.truth (drain station)) (truth (fill station)) (truth (drain station)) (r.kept station there)
-            (let_go_rests (chosen (fill station)) (r.truth (fill station))) (let_go_rests (chosen (drain station)) (r.truth (drain station)));
-      }
+      dealt st r (set st.views id left ++ right ∷ []) truth counts (λ k. let_go_rests (chosen k) (r.truth k))
+      (λ j u k h there is.
+      elim (at_snoc (set st.views id left) right u j there) [
+        | inl before ↦
+            elim (at_set st.views id j left u before) [
+              | inl mine ↦
+                  left_is (chosen k) (at v.ends k) h (r.truth k) (sym (at_left chosen v.ends k) ∙ ap (λ (y : View). at y.ends k) mine.1 ∙ is) (r.agree id v k h here)
+              | inr other ↦
+                  r.agree j u k h other.1 is
+                  ∙ else_is (chosen k) (r.truth k) (λ hit.
+                  let mine : has k v ≡ 1 = ap one_of (owned k hit) in
+                  let theirs : has k u ≡ 1 = ap one_of is in
+                  let two = sum_two (has k) st.views j id u v other.0 other.1 here in
+                  dite (dec_le (length plan) k)
+                  (λ past. let none = r.none k past in omega arith)
+                  (λ inside. let one = r.one k (lt_of_not-le inside) in omega arith))
+            ]
+        | inr last ↦
+            right_is (chosen k) (at v.ends k) h (r.truth k) (sym (at_right chosen v.ends k) ∙ ap (λ (y : View). at y.ends k) last ∙ is) (λ x e. r.agree id v k x here e)
+      ])
 
 -- what is let go where another has it
 abbrev gone_or : Option Held → Held → Held
@@ -198,29 +206,17 @@ module _ {S : Type 0} (plan : Ends) where
       let d = merge_one (at v.ends k) (at w.ends k) (few k) in
       let e : has k spent ≡ 0 = refl in
       omega arith) in
-      record {
-        truth = truth;
-        stations = r.stations;
-        ends = r.ends;
-        words = r.words;
-        no_station = r.no_station;
-        one = λ k inside. counts k ∙ r.one k inside;
-        none = λ k past. counts k ∙ r.none k past;
-        agree = λ j u k h at_j is.
-            elim (at_set (set st.views id both) other j spent u at_j) [
-              | inl gone ↦ let none : None ≡ Some h = ap (λ (y : View). at y.ends k) gone.1 ∙ is in absurd (cc)
-              | inr rest ↦
-                  elim (at_set st.views id j both u rest.1) [
-                    | inl mine ↦
-                        merge_is (at v.ends k) (at w.ends k) h (r.truth k) (few k) (sym (at_merged v.ends w.ends k) ∙ ap (λ (y : View). at y.ends k) mine.1 ∙ is) (r.agree id v k h here)
-                    | inr third ↦
-                        r.agree j u k h third.1 is
-                        ∙ none_is (at w.ends k) (r.truth k)
-                        (let theirs : has k u ≡ 1 = ap one_of is in let two = sum_two (has k) st.views j other u w rest.0 third.1 there in let most = most_one st r k in omega arith)
-                  ]
-            ];
-        planned = λ k inside. planned_rests (held plan k) (r.truth k) (truth k) (r.planned k inside) (rests k);
-        kept = λ station inside.
-            kept_rests st.words (first_word plan station) (r.truth (fill station)) (r.truth (drain station)) (truth (fill station)) (truth (drain station)) (r.kept station inside)
-            (rests (fill station)) (rests (drain station));
-      }
+      dealt plan st r (set (set st.views id both) other spent) truth counts rests
+      (λ j u k h at_j is.
+      elim (at_set (set st.views id both) other j spent u at_j) [
+        | inl gone ↦ let none : None ≡ Some h = ap (λ (y : View). at y.ends k) gone.1 ∙ is in absurd (cc)
+        | inr rest ↦
+            elim (at_set st.views id j both u rest.1) [
+              | inl mine ↦
+                  merge_is (at v.ends k) (at w.ends k) h (r.truth k) (few k) (sym (at_merged v.ends w.ends k) ∙ ap (λ (y : View). at y.ends k) mine.1 ∙ is) (r.agree id v k h here)
+              | inr third ↦
+                  r.agree j u k h third.1 is
+                  ∙ none_is (at w.ends k) (r.truth k)
+                  (let theirs : has k u ≡ 1 = ap one_of is in let two = sum_two (has k) st.views j other u w rest.0 third.1 there in let most = most_one st r k in omega arith)
+            ]
+      ])

@@ -16,6 +16,8 @@ use Rattle.lid_board.proofs.Reading.{reads_void, reads_token, reads_room, reads_
 use Rattle.lid_board.proofs.Stations.{kept_token, kept_void, kept_room, kept_stop, place_within}
 use mathlib.Core.Logic.{dite}
 use native.Mathlib.Decide.{dec_le, ℕ_discrete}
+use lib.ListN.{get_elem?}
+use mathlib.Core.Option.{some}
 
 -- what a hand that has an end of a station knows of it, in a board that is related to its plan
 record Known {S : Type 0} (plan : Ends) (st : State S View) (r : Related plan st) (station : ℕ) : Type 0 where
@@ -29,6 +31,27 @@ known plan st r station end inside side =
     let ends = r.ends in
     let p = r.planned (fill station) (omega arith) in
     record { there = omega arith; cap = p.cap; stream = p.stream; kept = r.kept station (omega arith) }
+
+-- what a hand that is at an end of a station knows: of the station, whose ends are f and d, and of the
+-- place of the token that is next at the end
+record AtEnd {S : Type 0} (plan : Ends) (st : State S View) (r : Related plan st) (station place : ℕ) (f d : Held) (passed : ℕ) : Type 0 where
+  there : station < r.stations
+  kept : Kept st.words (first_word plan station) f d
+  cap : f.cap ≡ cap_of plan station
+  stream : f.stream ≡ stream_of plan station
+  place_is : place ≡ passed % f.cap
+  inside : place / 2 < words_of (cap_of plan station)
+
+at_end : {S : Type 0} (plan : Ends) (st : State S View) (r : Related plan st) (station place : ℕ) (f d : Held) (passed : ℕ) → Known plan st r station → f ≡ r.truth (fill station) → d ≡ r.truth (drain station) → place ≡ passed % cap_of plan station → AtEnd plan st r station place f d passed
+at_end plan st r station place f d passed k true_f true_d place_is =
+    let cap : f.cap ≡ cap_of plan station = ap (λ (y : Held). y.cap) true_f ∙ k.cap in
+    let kept : Kept st.words (first_word plan station) f d =
+    subst (λ (y : Held). Kept st.words (first_word plan station) y d) (sym true_f) (subst (Kept st.words (first_word plan station) (r.truth (fill station))) (sym true_d) k.kept) in
+    let here : place ≡ passed % f.cap = place_is ∙ ap (λ (n : ℕ). passed % n) (sym cap) in
+    let words : words_of f.cap ≡ words_of (cap_of plan station) = ap words_of cap in
+    let within = place_within f.cap passed kept.two in
+    let half : place / 2 ≡ passed % f.cap / 2 = ap (λ (n : ℕ). n / 2) here in
+    record { there = k.there; kept = kept; cap = cap; stream = ap (λ (y : Held). y.stream) true_f ∙ k.stream; place_is = here; inside = omega arith }
 
 -- a word of a station is a word of the table
 word_within : {S : Type 0} (plan : Ends) (st : State S View) (r : Related plan st) (station k : ℕ) → station < r.stations → k < words_of (cap_of plan station) → first_word plan station + k < length st.words
@@ -44,181 +67,139 @@ shown_zero place =
     (λ odd. ap (λ (b : Bool). cond b (0 % 4294967296) (0 / 4294967296)) (ne_eqb (place % 2) 0 odd))
 
 module _ {S : Type 0} (plan : Ends) (slots id place : ℕ) (me : Me S View) (station : ℕ) where
+  at_drain : (d : Held) → at me.0.ends (drain station) ≡ Some d → place ≡ d.passed % cap_of plan station → (st : State S View) (r : Related plan st) → get_elem? st.views id ≡ some me.0
+      → AtEnd plan st r station place (r.truth (fill station)) d d.passed
+  at_drain d is place_is st r here =
+      at_end plan st r station place (r.truth (fill station)) d d.passed (known plan st r station (drain station) (end_within plan st id me.0 (drain station) d r here is) (omega arith)) refl (r.agree id me.0 (drain station) d here is) place_is
+
+  at_fill : (f : Held) → at me.0.ends (fill station) ≡ Some f → place ≡ f.passed % cap_of plan station → (st : State S View) (r : Related plan st) → get_elem? st.views id ≡ some me.0
+      → AtEnd plan st r station place f (r.truth (drain station)) f.passed
+  at_fill f is place_is st r here =
+      at_end plan st r station place f (r.truth (drain station)) f.passed (known plan st r station (fill station) (end_within plan st id me.0 (fill station) f r here is) (omega arith)) (r.agree id me.0 (fill station) f here is) refl place_is
+
   pub looks_in : (d : Held) → at me.0.ends (drain station) ≡ Some d → place ≡ d.passed % cap_of plan station
       → Allows (Related plan) slots id me (first_word plan station + place / 2) (λ n. n) (λ r w. (w.1 ≡ me.1) × LooksIn plan me.0.ends station place d r w.0.ends)
   looks_in d is place_is st r homes here fits =
-      let k = known plan st r station (drain station) (end_within plan st id me.0 (drain station) d r here is) (omega arith) in
-      let true_d : d ≡ r.truth (drain station) = r.agree id me.0 (drain station) d here is in
       let f = r.truth (fill station) in
       let first = first_word plan station in
-      let kept : Kept st.words first f d = subst (Kept st.words first f) (sym true_d) k.kept in
-      let place_f : place ≡ d.passed % f.cap = place_is ∙ ap (λ (n : ℕ). d.passed % n) (sym k.cap) in
-      let inside : place / 2 < words_of (cap_of plan station) = (let w = place_within f.cap d.passed kept.two in let e : place / 2 ≡ d.passed % f.cap / 2 = ap (λ (n : ℕ). n / 2) place_f in let c : words_of f.cap ≡ words_of (cap_of plan station) = ap words_of k.cap in omega arith) in
+      let k = at_drain d is place_is st r here in
+      let kept = k.kept in
       let found = get_or st.words (first + place / 2) 0 in
       let seat = view_within st.views id me.0 here in
       let own : (g : Held) → at me.0.ends (fill station) ≡ Some g → g ≡ f = λ g at_g. r.agree id me.0 (fill station) g here at_g in
       dite (dec_le f.passed d.passed)
       (λ none.
-      let nothing = reads_void st.words first f d place kept place_f none in
+      let nothing = reads_void st.words first f d place kept k.place_is none in
       let zero_half : shown place found ≡ 0 = ap (shown place) nothing ∙ shown_zero place in
-      let next = steps_in plan st st.homes id me.0 station (place / 2) found d (missing d) r here is record { stream = refl; start = refl; cap = refl } inside
-      (kept_load st.words first f d (first + place / 2) f (missing d) (kept_void st.words first f d kept none)) in (
-        record { ends = changed me.0.ends (drain station) (missing d) },
-        keeps,
-        tt,
-        next,
-        (
-          refl,
-          record {
-            right = record { stream = kept.stream ∙ k.stream; cap = kept.cap ∙ k.cap; early = is_early plan _ id _ next (set_here st.views id _ seat) };
-            void = λ _. record { now = refl; nothing = nothing; started = (let more = kept.started in let same = kept.start in omega arith); unseen = λ mark. (let some = kept.token_seen mark in omega arith) };
-            token = λ some. absurd (some zero_half);
-            exact = λ g at_g. (let e = ap (λ (y : Held). y.passed) (own g at_g) in let o = kept.ordered in ((λ _. omega arith), (λ _. zero_half)));
-          },
-        ),
-      ))
+      let next = steps_in plan st st.homes id me.0 station (place / 2) found d (missing d) r here is record { stream = refl; start = refl; cap = refl } k.inside
+      (kept_load st.words first f d (first + place / 2) f (missing d) (kept_void st.words first f d kept none)) in
+      let told : LooksIn plan me.0.ends station place d found (changed me.0.ends (drain station) (missing d)) =
+      record {
+        right = record { stream = kept.stream ∙ k.stream; cap = kept.cap ∙ k.cap; early = is_early plan _ id _ next (set_here st.views id _ seat) };
+        void = λ _. record { now = refl; nothing = nothing; started = (let more = kept.started in let same = kept.start in omega arith); unseen = λ mark. (let some = kept.token_seen mark in omega arith) };
+        token = λ some. absurd (some zero_half);
+        exact = λ g at_g. (let e = ap (λ (y : Held). y.passed) (own g at_g) in let o = kept.ordered in ((λ _. omega arith), (λ _. zero_half)));
+      } in
+      (record { ends = changed me.0.ends (drain station) (missing d) }, keeps, tt, next, (refl, told)))
       (λ more.
       let some : d.passed < f.passed = lt_of_not-le more in
-      let shows : ShowsNext d (shown place found) = reads_token st.words first f d place kept place_f some in
-      let next = steps_in plan st st.homes id me.0 station (place / 2) found d (seen d) r here is record { stream = refl; start = refl; cap = refl } inside
-      (kept_load st.words first f d (first + place / 2) f (seen d) (kept_token st.words first f d kept some)) in (
-        record { ends = changed me.0.ends (drain station) (seen d) },
-        keeps,
-        tt,
-        next,
-        (
-          refl,
-          record {
-            right = record { stream = kept.stream ∙ k.stream; cap = kept.cap ∙ k.cap; early = is_early plan _ id _ next (set_here st.views id _ seat) };
-            void = λ none. (let least = shows.least in absurd (omega arith));
-            token = λ _. (refl, shows);
-            exact = λ g at_g. (let e = ap (λ (y : Held). y.passed) (own g at_g) in let least = shows.least in ((λ none. omega arith), (λ same. absurd (omega arith))));
-          },
-        ),
-      ))
+      let shows : ShowsNext d (shown place found) = reads_token st.words first f d place kept k.place_is some in
+      let next = steps_in plan st st.homes id me.0 station (place / 2) found d (seen d) r here is record { stream = refl; start = refl; cap = refl } k.inside
+      (kept_load st.words first f d (first + place / 2) f (seen d) (kept_token st.words first f d kept some)) in
+      let told : LooksIn plan me.0.ends station place d found (changed me.0.ends (drain station) (seen d)) =
+      record {
+        right = record { stream = kept.stream ∙ k.stream; cap = kept.cap ∙ k.cap; early = is_early plan _ id _ next (set_here st.views id _ seat) };
+        void = λ none. (let least = shows.least in absurd (omega arith));
+        token = λ _. (refl, shows);
+        exact = λ g at_g. (let e = ap (λ (y : Held). y.passed) (own g at_g) in let least = shows.least in ((λ none. omega arith), (λ same. absurd (omega arith))));
+      } in
+      (record { ends = changed me.0.ends (drain station) (seen d) }, keeps, tt, next, (refl, told)))
 
   pub looks_out : (f : Held) → at me.0.ends (fill station) ≡ Some f → place ≡ f.passed % cap_of plan station
       → Allows (Related plan) slots id me (first_word plan station + place / 2) (λ n. n) (λ r w. (w.1 ≡ me.1) × LooksOut plan me.0.ends station place f r w.0.ends)
   looks_out f is place_is st r homes here fits =
-      let k = known plan st r station (fill station) (end_within plan st id me.0 (fill station) f r here is) (omega arith) in
-      let true_f : f ≡ r.truth (fill station) = r.agree id me.0 (fill station) f here is in
       let d = r.truth (drain station) in
       let first = first_word plan station in
-      let kept : Kept st.words first f d = subst (λ (y : Held). Kept st.words first y d) (sym true_f) k.kept in
-      let cap : f.cap ≡ cap_of plan station = ap (λ (y : Held). y.cap) true_f ∙ k.cap in
-      let stream : f.stream ≡ stream_of plan station = ap (λ (y : Held). y.stream) true_f ∙ k.stream in
-      let place_f : place ≡ f.passed % f.cap = place_is ∙ ap (λ (n : ℕ). f.passed % n) (sym cap) in
-      let inside : place / 2 < words_of (cap_of plan station) = (let w = place_within f.cap f.passed kept.two in let e : place / 2 ≡ f.passed % f.cap / 2 = ap (λ (n : ℕ). n / 2) place_f in let c : words_of f.cap ≡ words_of (cap_of plan station) = ap words_of cap in omega arith) in
+      let k = at_fill f is place_is st r here in
+      let kept = k.kept in
       let found = get_or st.words (first + place / 2) 0 in
       let seat = view_within st.views id me.0 here in
       let own : (g : Held) → at me.0.ends (drain station) ≡ Some g → g ≡ d = λ g at_g. r.agree id me.0 (drain station) g here at_g in
       dite (dec_le (d.passed + f.cap) f.passed)
       (λ full.
-      let least = reads_full st.words first f d place kept place_f full in
-      let next = steps_out plan st st.homes id me.0 station (place / 2) found f (missing f) r here is record { stream = refl; start = refl; cap = refl } inside
-      (kept_load st.words first f d (first + place / 2) (missing f) d (kept_stop st.words first f d kept full)) in (
-        record { ends = changed me.0.ends (fill station) (missing f) },
-        keeps,
-        tt,
-        next,
-        (
-          refl,
-          record {
-            right = record { stream = stream; cap = cap; early = is_early plan _ id _ next (set_here st.views id _ seat) };
-            room = λ none. absurd (omega arith);
-            stop = λ _. record { now = refl; unseen = λ mark. (let some = kept.room_seen mark in omega arith); filled = omega arith; full = reads_stop st.words first f d place kept place_f full; bits = reads_bits st.words first f d place kept place_f full };
-            exact = λ g at_g. (let e = ap (λ (y : Held). y.passed) (own g at_g) in let o = kept.room in ((λ _. omega arith), (λ _ none. omega arith)));
-          },
-        ),
-      ))
+      let least = reads_full st.words first f d place kept k.place_is full in
+      let next = steps_out plan st st.homes id me.0 station (place / 2) found f (missing f) r here is record { stream = refl; start = refl; cap = refl } k.inside
+      (kept_load st.words first f d (first + place / 2) (missing f) d (kept_stop st.words first f d kept full)) in
+      let told : LooksOut plan me.0.ends station place f found (changed me.0.ends (fill station) (missing f)) =
+      record {
+        right = record { stream = k.stream; cap = k.cap; early = is_early plan _ id _ next (set_here st.views id _ seat) };
+        room = λ none. absurd (omega arith);
+        stop = λ _. record { now = refl; unseen = λ mark. (let some = kept.room_seen mark in omega arith); filled = omega arith; full = reads_stop st.words first f d place kept k.place_is full; bits = reads_bits st.words first f d place kept k.place_is full };
+        exact = λ g at_g. (let e = ap (λ (y : Held). y.passed) (own g at_g) in let o = kept.room in ((λ _. omega arith), (λ _ none. omega arith)));
+      } in
+      (record { ends = changed me.0.ends (fill station) (missing f) }, keeps, tt, next, (refl, told)))
       (λ more.
       let some : f.passed < d.passed + f.cap = lt_of_not-le more in
-      let zero_half : shown place found ≡ 0 = reads_room st.words first f d place kept place_f some in
-      let next = steps_out plan st st.homes id me.0 station (place / 2) found f (seen f) r here is record { stream = refl; start = refl; cap = refl } inside
-      (kept_load st.words first f d (first + place / 2) (seen f) d (kept_room st.words first f d kept some)) in (
-        record { ends = changed me.0.ends (fill station) (seen f) },
-        keeps,
-        tt,
-        next,
-        (
-          refl,
-          record {
-            right = record { stream = stream; cap = cap; early = is_early plan _ id _ next (set_here st.views id _ seat) };
-            room = λ _. refl;
-            stop = λ full. absurd (full zero_half);
-            exact = λ g at_g. (let e = ap (λ (y : Held). y.passed) (own g at_g) in ((λ full. absurd (full zero_half)), (λ same _. omega arith)));
-          },
-        ),
-      ))
+      let zero_half : shown place found ≡ 0 = reads_room st.words first f d place kept k.place_is some in
+      let next = steps_out plan st st.homes id me.0 station (place / 2) found f (seen f) r here is record { stream = refl; start = refl; cap = refl } k.inside
+      (kept_load st.words first f d (first + place / 2) (seen f) d (kept_room st.words first f d kept some)) in
+      let told : LooksOut plan me.0.ends station place f found (changed me.0.ends (fill station) (seen f)) =
+      record {
+        right = record { stream = k.stream; cap = k.cap; early = is_early plan _ id _ next (set_here st.views id _ seat) };
+        room = λ _. refl;
+        stop = λ full. absurd (full zero_half);
+        exact = λ g at_g. (let e = ap (λ (y : Held). y.passed) (own g at_g) in ((λ full. absurd (full zero_half)), (λ same _. omega arith)));
+      } in
+      (record { ends = changed me.0.ends (fill station) (seen f) }, keeps, tt, next, (refl, told)))
 
   pub takes : (d : Held) → at me.0.ends (drain station) ≡ Some d → place ≡ d.passed % cap_of plan station → d.mark ≡ true
       → Allows (Related plan) slots id me (first_word plan station + place / 2) (λ n. bit_and n (others place)) (λ r w. (w.1 ≡ me.1) × Takes plan me.0.ends station place d r w.0.ends)
   takes d is place_is mark st r homes here fits =
-      let k = known plan st r station (drain station) (end_within plan st id me.0 (drain station) d r here is) (omega arith) in
-      let true_d : d ≡ r.truth (drain station) = r.agree id me.0 (drain station) d here is in
       let f = r.truth (fill station) in
       let first = first_word plan station in
-      let kept : Kept st.words first f d = subst (Kept st.words first f) (sym true_d) k.kept in
-      let place_f : place ≡ d.passed % f.cap = place_is ∙ ap (λ (n : ℕ). d.passed % n) (sym k.cap) in
-      let inside : place / 2 < words_of (cap_of plan station) = (let w = place_within f.cap d.passed kept.two in let e : place / 2 ≡ d.passed % f.cap / 2 = ap (λ (n : ℕ). n / 2) place_f in let c : words_of f.cap ≡ words_of (cap_of plan station) = ap words_of k.cap in omega arith) in
+      let k = at_drain d is place_is st r here in
+      let kept = k.kept in
       let found = get_or st.words (first + place / 2) 0 in
       let seat = view_within st.views id me.0 here in
       let some : d.passed < f.passed = kept.token_seen mark in
-      let shows : ShowsNext d (shown place found) = reads_token st.words first f d place kept place_f some in
+      let shows : ShowsNext d (shown place found) = reads_token st.words first f d place kept k.place_is some in
       let within = kept.within in
       let short = kept.short in
-      let spot = word_within plan st r station (place / 2) k.there inside in
-      let next = steps_in plan st st.homes id me.0 station (place / 2) (bit_and found (others place)) d (passing d) r here is record { stream = refl; start = refl; cap = refl } inside
-      (kept_taken_at st.words first f d place kept place_f some spot) in (
-        record { ends = changed me.0.ends (drain station) (passing d) },
-        keeps,
-        tt,
-        next,
-        (
-          refl,
-          record {
-            right = record { stream = kept.stream ∙ k.stream; cap = kept.cap ∙ k.cap; early = is_early plan _ id _ next (set_here st.views id _ seat) };
-            now = refl;
-            token = shows;
-            counted = omega arith;
-          },
-        ),
-      )
+      let spot = word_within plan st r station (place / 2) k.there k.inside in
+      let next = steps_in plan st st.homes id me.0 station (place / 2) (bit_and found (others place)) d (passing d) r here is record { stream = refl; start = refl; cap = refl } k.inside
+      (kept_taken_at st.words first f d place kept k.place_is some spot) in
+      let told : Takes plan me.0.ends station place d found (changed me.0.ends (drain station) (passing d)) =
+      record {
+        right = record { stream = kept.stream ∙ k.stream; cap = kept.cap ∙ k.cap; early = is_early plan _ id _ next (set_here st.views id _ seat) };
+        now = refl;
+        token = shows;
+        counted = omega arith;
+      } in
+      (record { ends = changed me.0.ends (drain station) (passing d) }, keeps, tt, next, (refl, told))
 
   pub puts : (f : Held) (token : ℕ) → at me.0.ends (fill station) ≡ Some f → place ≡ f.passed % cap_of plan station → f.mark ≡ true → slice_get (stream_of plan station) f.passed ≡ Some token
       → Allows (Related plan) slots id me (first_word plan station + place / 2) (λ n. bit_or n (filling place token)) (λ r w. (w.1 ≡ me.1) × Puts plan me.0.ends station f w.0.ends)
   puts f token is place_is mark next_is st r homes here fits =
-      let k = known plan st r station (fill station) (end_within plan st id me.0 (fill station) f r here is) (omega arith) in
-      let true_f : f ≡ r.truth (fill station) = r.agree id me.0 (fill station) f here is in
       let d = r.truth (drain station) in
       let first = first_word plan station in
-      let kept : Kept st.words first f d = subst (λ (y : Held). Kept st.words first y d) (sym true_f) k.kept in
-      let cap : f.cap ≡ cap_of plan station = ap (λ (y : Held). y.cap) true_f ∙ k.cap in
-      let stream : f.stream ≡ stream_of plan station = ap (λ (y : Held). y.stream) true_f ∙ k.stream in
-      let place_f : place ≡ f.passed % f.cap = place_is ∙ ap (λ (n : ℕ). f.passed % n) (sym cap) in
-      let inside : place / 2 < words_of (cap_of plan station) = (let w = place_within f.cap f.passed kept.two in let e : place / 2 ≡ f.passed % f.cap / 2 = ap (λ (n : ℕ). n / 2) place_f in let c : words_of f.cap ≡ words_of (cap_of plan station) = ap words_of cap in omega arith) in
+      let k = at_fill f is place_is st r here in
+      let kept = k.kept in
       let found = get_or st.words (first + place / 2) 0 in
       let seat = view_within st.views id me.0 here in
       let some : f.passed < d.passed + f.cap = kept.room_seen mark in
-      let token_is : slice_get f.stream f.passed ≡ Some token = ap (λ (s : List ℕ). slice_get s f.passed) stream ∙ next_is in
+      let token_is : slice_get f.stream f.passed ≡ Some token = ap (λ (s : List ℕ). slice_get s f.passed) k.stream ∙ next_is in
       let within = slice_get_within f.stream f.passed token token_is in
       let short = kept.short in
-      let spot = word_within plan st r station (place / 2) k.there inside in
-      let next = steps_out plan st st.homes id me.0 station (place / 2) (bit_or found (filling place token)) f (passing f) r here is record { stream = refl; start = refl; cap = refl } inside
-      (kept_put_at st.words first f d place token kept place_f some token_is spot) in (
-        record { ends = changed me.0.ends (fill station) (passing f) },
-        keeps,
-        tt,
-        next,
-        (
-          refl,
-          record {
-            right = record { stream = stream; cap = cap; early = is_early plan _ id _ next (set_here st.views id _ seat) };
-            now = refl;
-            counted = omega arith;
-          },
-        ),
-      )
+      let spot = word_within plan st r station (place / 2) k.there k.inside in
+      let next = steps_out plan st st.homes id me.0 station (place / 2) (bit_or found (filling place token)) f (passing f) r here is record { stream = refl; start = refl; cap = refl } k.inside
+      (kept_put_at st.words first f d place token kept k.place_is some token_is spot) in
+      let told : Puts plan me.0.ends station f (changed me.0.ends (fill station) (passing f)) =
+      record {
+        right = record { stream = k.stream; cap = k.cap; early = is_early plan _ id _ next (set_here st.views id _ seat) };
+        now = refl;
+        counted = omega arith;
+      } in
+      (record { ends = changed me.0.ends (fill station) (passing f) }, keeps, tt, next, (refl, told))
 
 -- the same steps at a word that is known to be the one of the place
 module _ {S : Type 0} (plan : Ends) (slots id place : ℕ) (me : Me S View) (station word : ℕ) (same : word ≡ first_word plan station + place / 2) where

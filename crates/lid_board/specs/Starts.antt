@@ -1,5 +1,5 @@
 -- How a board starts.
-use Rattle.std.specs.Prelude.{◌≡◌, ℕ, zero, suc, ◌+◌, ◌*◌, ◌^◌, ◌<◌, false, List, [], ◌∷◌, length, Option, Some, None, slice_get, slice_index, slice_index_or}
+use Rattle.std.specs.Prelude.{◌≡◌, ℕ, zero, suc, ◌+◌, ◌*◌, ◌^◌, ◌<◌, ◌≤◌, false, List, [], ◌∷◌, length, Option, Some, None, slice_get, slice_index, slice_index_or, IfSome}
 use Rattle.std.specs.List.{All}
 use Rattle.lid_station.specs.Starts.{start_count}
 use Rattle.lid_board.specs.Relation.{words_of}
@@ -41,6 +41,14 @@ pub record Begins (firsts : List (Option ℕ)) (streams : List (List ℕ)) : Typ
   pub first :
       (station token : ℕ) → slice_get firsts station ≡ Some (Some token)
       → slice_get (slice_index_or streams station []) 0 ≡ Some token
+
+-- whether stations can start with these tokens, or none, and capacities: one of 2 to 16 for each
+-- station, and tokens of 31 bits
+pub record CanStart (firsts : List (Option ℕ)) (caps : List ℕ) : Type 0 where
+  pub same : length caps ≡ length firsts
+  pub two : All (λ cap. 2 ≤ cap) caps
+  pub few : All (λ cap. cap ≤ 16) caps
+  pub small : All (λ first. IfSome first (λ token. token < 2 ^ 31)) firsts
 
 -- the number of the first word of a station, by the capacities of the stations before it
 abbrev pub first_of : List ℕ → ℕ → ℕ

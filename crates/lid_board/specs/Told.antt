@@ -8,7 +8,7 @@ use Rattle.lid_board.specs.Views.{Ends, at, IsEarly, seen, missing, passing, cha
 use Rattle.lid_board.specs.declared.view.Held.{Held}
 
 -- an end is of the station of the plan, and the hand's ends stay early
-pub record IsOnlyDriver (plan : Ends) (station : ℕ) (h : Held) (new : Ends) : Type 0 where
+pub record IsOfPlan (plan : Ends) (station : ℕ) (h : Held) (new : Ends) : Type 0 where
   pub stream : h.stream ≡ stream_of plan station
   pub cap : h.cap ≡ cap_of plan station
   pub early : IsEarly new
@@ -28,7 +28,7 @@ pub record ShowsNext (d : Held) (half : ℕ) : Type 0 where
 
 -- a load by the drainer
 pub record LooksIn (plan old : Ends) (station place : ℕ) (d : Held) (found : ℕ) (new : Ends) : Type 0 where
-  pub right : IsOnlyDriver plan station d new
+  pub right : IsOfPlan plan station d new
   pub void : shown place found ≡ 0 → FoundVoid old station d found new
   pub token : (shown place found ≡ 0 → ⊥) → (new ≡ changed old (drain station) (seen d)) × ShowsNext d (shown place found)
   pub exact :
@@ -45,7 +45,7 @@ pub record FoundStop (old : Ends) (station : ℕ) (f : Held) (found : ℕ) (new 
 
 -- a load by the filler
 pub record LooksOut (plan old : Ends) (station place : ℕ) (f : Held) (found : ℕ) (new : Ends) : Type 0 where
-  pub right : IsOnlyDriver plan station f new
+  pub right : IsOfPlan plan station f new
   pub room : shown place found ≡ 0 → new ≡ changed old (fill station) (seen f)
   pub stop : (shown place found ≡ 0 → ⊥) → FoundStop old station f found new
   pub exact :
@@ -54,13 +54,13 @@ pub record LooksOut (plan old : Ends) (station place : ℕ) (f : Held) (found : 
 
 -- a `fetch_and` by the drainer
 pub record Takes (plan old : Ends) (station place : ℕ) (d : Held) (found : ℕ) (new : Ends) : Type 0 where
-  pub right : IsOnlyDriver plan station d new
+  pub right : IsOfPlan plan station d new
   pub now : new ≡ changed old (drain station) (passing d)
   pub token : ShowsNext d (shown place found)
   pub counted : d.passed + 1 < 2 ^ 64
 
 -- a `fetch_or` by the filler
 pub record Puts (plan old : Ends) (station : ℕ) (f : Held) (new : Ends) : Type 0 where
-  pub right : IsOnlyDriver plan station f new
+  pub right : IsOfPlan plan station f new
   pub now : new ≡ changed old (fill station) (passing f)
   pub counted : f.passed + 1 < 2 ^ 64

@@ -1,7 +1,7 @@
 //! The four calls of a hand on a board.
 
 ghost use Rattle.std.specs.Prelude.{◌≡◌, ℕ, ◌/◌, ◌+◌, ◌-◌, ◌^◌, ◌<◌, true, Some, slice_get, ◌↔◌};
-ghost use Rattle.lid_station.specs.Boards.{Facts, fill, drain, advanced, Changes, looked_in, looked_out, IsToken, IsVoid, IsRoom, IsStop, FindsIn, FindsOut, TellsNothing, TellsFull, HasFilled, HasDrained};
+ghost use Rattle.lid_station.specs.Boards.{Facts, fill, drain, advanced, Changes, looked_in, looked_out, IsToken, IsVoid, IsRoom, IsStop, FindsIn, FindsOut, HasSmallToken, TellsNothing, TellsFull, HasFilled, HasDrained};
 ghost use Rattle.lid_board.specs.Owners.{IsOf, IsOwned, IsSpot, ends_of, plan_of};
 ghost use Rattle.lid_board.specs.Relation.{stream_of};
 ghost use Rattle.lid_board.specs.Views.{facts, facts_at, held};
@@ -48,6 +48,7 @@ impl Board {
         ensures of { IsOf hand.new self.now }
         ensures changed { Changes (facts_at (ends_of hand.old)) (drain station) (looked_in result) (facts_at (ends_of hand.new)) }
         ensures found { FindsIn result (facts (held (ends_of hand.old) (drain station))) (stream_of (plan_of self.now) station) }
+        ensures small { HasSmallToken result }
         ensures nothing { TellsNothing result }
         ensures drained { HasDrained result (facts (held (ends_of hand.old) (drain station))) }
         ensures again { (held (ends_of hand.old) (drain station)).mark ≡ true → IsToken result }

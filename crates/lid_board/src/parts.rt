@@ -77,7 +77,7 @@ impl Hand {
 impl Board {
     /// Gives these ends of a hand to a new one, by a load of word 0. They keep their streams,
     /// start counts, numbers and misses, and what was seen there is seen no more. The other ends of
-    /// the hand stay as they are.
+    /// the hand stay as they are. The hand is one of this board, and owns the ends.
     ///
     /// # Errors
     /// Memory is wanting. Nothing has changed then.
@@ -101,7 +101,7 @@ impl Board {
 
     /// Gives all ends of another hand to this one, by a load of word 0. They keep their streams,
     /// start counts, numbers and misses, and what was seen there is seen no more. The other ends of
-    /// the hand stay as they are.
+    /// the hand stay as they are. Both hands are of this board.
     pub fn join(&self, hand: &mut Hand, other: Hand)
         requires of { IsOf hand.old self.now }
         requires other { IsOf other self.now }

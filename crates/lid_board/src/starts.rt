@@ -6,7 +6,7 @@ ghost use Rattle.lid_station.specs.Boards.{fill, drain};
 ghost use Rattle.lid_board.specs.Owners.{IsOf, ends_of, plan_of};
 ghost use Rattle.lid_board.specs.Relation.{words_of};
 ghost use Rattle.lid_board.specs.Standing.{StandsFor};
-ghost use Rattle.lid_board.specs.Starts.{starts, start_fill, start_drain, start_word, Begins, AreLaid, AreFirsts, AreNumbers, HasLaid};
+ghost use Rattle.lid_board.specs.Starts.{starts, start_fill, start_drain, start_word, Begins, AreLaid, AreFirsts, AreNumbers, CanStart, HasLaid};
 ghost use Rattle.lid_board.specs.Views.{at};
 
 use crate::board::Board;
@@ -49,10 +49,7 @@ fn lay_station(words: &mut Vec<u64>, word: u64, cap: u32) -> Result<(), AllocErr
 }
 
 fn lay(alloc: Global, firsts: &[Option<u32>], caps: &[u32]) -> Result<Laid, AllocError>
-    requires same { length caps.now ≡ length firsts.now }
-    requires two { All (λ cap. 2 ≤ cap) caps.now }
-    requires few { All (λ cap. cap ≤ 16) caps.now }
-    requires small { All (λ first. IfSome first (λ token. token < 2 ^ 31)) firsts.now }
+    requires { CanStart firsts.now caps.now }
     ensures words { IfOk result (λ laid. AreLaid firsts.now caps.now laid.words.items (length firsts.now)) }
     ensures starts { IfOk result (λ laid. AreFirsts caps.now laid.starts.items (length firsts.now)) }
 {
@@ -89,10 +86,7 @@ struct Ground {
 }
 
 fn lay_ground(alloc: Global, firsts: &[Option<u32>], caps: &[u32]) -> Result<Ground, AllocError>
-    requires same { length caps.now ≡ length firsts.now }
-    requires two { All (λ cap. 2 ≤ cap) caps.now }
-    requires few { All (λ cap. cap ≤ 16) caps.now }
-    requires small { All (λ first. IfSome first (λ token. token < 2 ^ 31)) firsts.now }
+    requires { CanStart firsts.now caps.now }
     ensures words { IfOk result (λ ground. AreLaid firsts.now caps.now ground.words.items (length firsts.now)) }
     ensures starts { IfOk result (λ ground. AreFirsts caps.now ground.starts.items (length firsts.now)) }
     ensures caps { IfOk result (λ ground. ground.caps.items ≡ caps.now) }
@@ -114,8 +108,9 @@ impl Board {
     /// capacity. The board carries the streams of the course, one for each station. The hand owns
     /// all ends.
     ///
-    /// Tokens are below 2^31, capacities lie in 2 to 16, and a start token is the first of its
-    /// stream. The start count of a station is 1 where it starts with a token, else 0.
+    /// There are as many capacities as start tokens, fewer than 2^32, and the course has a stream of
+    /// fewer than 2^64 tokens for each. Tokens are below 2^31, capacities lie in 2 to 16, and a start
+    /// token is the first of its stream. The start count of a station is 1 where it starts with a token, else 0.
     ///
     /// # Errors
     /// Memory is wanting.

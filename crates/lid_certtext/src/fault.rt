@@ -9,7 +9,7 @@ pub enum CertFault {
     /// The line has a bad byte, a word over 1,024 bytes, or not the form that is due there; it is the
     /// last logical line where the text ends inside a part, and 0 where there is none.
     Word { line: u32 },
-    /// A limit is exceeded by this number.
+    /// The number of what is counted, which is over the limit.
     Limit { which: Which, count: u64 },
     /// There was no memory.
     Memory,

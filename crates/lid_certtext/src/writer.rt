@@ -11,7 +11,9 @@ ghost use Rattle.lid_certtext.specs.Written.{cert_text, parts_lines, part_lines,
 
 use crate::ranges::are_parts_small;
 use lid_cert::{Cert, Part};
-use lid_lines::{append_number_line, append_number_word, append_numbers, append_small_numbers};
+use lid_lines::{
+    append_number_line, append_number_word, append_numbers, append_small_numbers, cut_back,
+};
 use std::alloc::AllocError;
 
 /// Appends the line of a part's walk.
@@ -127,10 +129,5 @@ pub fn print_cert(cert: &Cert, into: &mut Vec<u8>) -> Result<(), AllocError>
     ensures short { All IsPartFull cert.now.parts → All (λ part. IsSmall (length part.nodes)) cert.now.parts → length (cert_text cert.now) ≤ 11 + sum_by room cert.now.parts }
 {
     are_parts_small(cert.parts.as_slice());
-    let len = into.len();
-    let printed = append_text(cert, into);
-    if printed.is_err() {
-        into.truncate(len);
-    }
-    printed
+    cut_back(into.len(), append_text(cert, into), into)
 }

@@ -128,13 +128,7 @@ fn count_own(survey: &Survey<'_>, what: Measure, k: u32, model: &Model) -> u64
 fn count_latches(cells: &[Cell]) -> usize
     ensures { result ≡ count_by is_latch cells.now }
 {
-    let mut count = 0;
-    for cell in cells {
-        if is_latch(cell) {
-            count += 1;
-        }
-    }
-    count
+    cells.iter().filter(|cell| is_latch(cell)).count()
 }
 
 /// Whether a cell is a latch.
@@ -151,13 +145,7 @@ fn is_latch(cell: &Cell) -> bool
 fn count_defaulted(cells: &[Cell]) -> usize
     ensures { result ≡ count_by is_defaulted cells.now }
 {
-    let mut count = 0;
-    for cell in cells {
-        if is_defaulted(cell) {
-            count += 1;
-        }
-    }
-    count
+    cells.iter().filter(|cell| is_defaulted(cell)).count()
 }
 
 /// Whether a cell is a latch whose first bit was left open.

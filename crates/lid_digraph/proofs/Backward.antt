@@ -17,10 +17,11 @@ unmarked_less flags k h e =
     let one : count_false (flag flags k) ≡ 1 = ap count_false e in
     omega arith
 
-pub marks_none : (seen : List Bool) (todo : List ℕ) → Marks [] seen todo seen todo
-marks_none seen todo = record {
+-- numbers that are marked already
+pub marks_kept : (numbers : List ℕ) (seen : List Bool) (todo : List ℕ) → ((b : ℕ) → Among b numbers → flag seen b ≡ true) → Marks numbers seen todo seen todo
+marks_kept numbers seen todo on = record {
   count = refl;
-  all = λ b h. absurd h;
+  all = on;
   kept = λ c h. h;
   only = λ c h. inl h;
   new = λ c h. inl h;
@@ -28,6 +29,9 @@ marks_none seen todo = record {
   added = λ c h. inl h;
   less = omega arith;
 }
+
+pub marks_none : (seen : List Bool) (todo : List ℕ) → Marks [] seen todo seen todo
+marks_none seen todo = marks_kept [] seen todo (λ b h. absurd h)
 
 among_one : (b k : ℕ) → Among b (k ∷ []) → b ≡ k
 among_one b k (inl is) = is
@@ -35,16 +39,7 @@ among_one b k (inr none) = absurd none
 
 -- a number that is marked already
 pub marks_old : (seen : List Bool) (todo : List ℕ) (k : ℕ) → flag seen k ≡ true → Marks (k ∷ []) seen todo seen todo
-marks_old seen todo k on = record {
-  count = refl;
-  all = λ b h. ap (λ (x : ℕ). flag seen x) (among_one b k h) ∙ on;
-  kept = λ c h. h;
-  only = λ c h. inl h;
-  new = λ c h. inl h;
-  stays = λ c h. h;
-  added = λ c h. inl h;
-  less = omega arith;
-}
+marks_old seen todo k on = marks_kept (k ∷ []) seen todo (λ b h. ap (λ (x : ℕ). flag seen x) (among_one b k h) ∙ on)
 
 -- a number that is new
 pub marks_new : (seen : List Bool) (todo : List ℕ) (k : ℕ) → k < length seen → flag seen k ≡ false → Marks (k ∷ []) seen todo (set seen k true) (todo ++ k ∷ [])

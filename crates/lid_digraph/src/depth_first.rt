@@ -8,7 +8,7 @@ ghost use Rattle.lid_digraph.specs.Traversals.{IsTraversal};
 use crate::adjacency::Digraph;
 use std::alloc::{AllocError, Global};
 
-/// A number that is being traversal.
+/// A number that is being visited.
 #[derive(Clone, Copy)]
 pub(crate) struct Visit {
     pub(crate) number: u32,
@@ -16,7 +16,7 @@ pub(crate) struct Visit {
     pub(crate) next: usize,
 }
 
-/// The numbers that were traversal.
+/// The numbers that were visited.
 #[derive(Drop)]
 pub(crate) struct Traversal {
     /// In the order in which they were entered.

@@ -69,7 +69,7 @@ fn close_component(components: &mut Components, first: usize, rank: usize)
     components.stack.truncate(top);
 }
 
-/// Ranks what can be ranked once the visit of a number has postorder.
+/// Ranks what can be ranked once the visit of a number has ended.
 fn assign_component(
     components: &mut Components,
     graph: &Digraph<'_>,

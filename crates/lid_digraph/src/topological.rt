@@ -31,20 +31,16 @@ struct Taken {
     left: Vec<bool>,
 }
 
-/// Takes all numbers into the order that can be: those of the list first, and then in rounds, as Kahn's
-/// algorithm does.
-fn take(
+/// Takes the numbers into the order that can be, in rounds, as Kahn's algorithm does.
+fn take_rounds(
     order: &mut Vec<u32>,
     left: &mut [bool],
     graph: &Digraph<'_>,
-    numbers: &[u32],
 ) -> Result<(), AllocError>
-    requires part { IsPartialOrder graph.now.reads.now order.old.items left.old }
-    requires numbers { AreBelow (length graph.now.reads.now) numbers.now }
+    requires { IsPartialOrder graph.now.reads.now order.old.items left.old }
     ensures part { OnOk result (IsPartialOrder graph.now.reads.now order.new.items left.new) }
     ensures stuck { OnOk result (IsStuck graph.now.reads.now left.new) }
 {
-    take_all(order, left, graph, numbers)?;
     let mut took = true;
     while took {
         took = sweep(order, left, graph)?;
@@ -60,7 +56,8 @@ fn taken_of(alloc: Global, graph: &Digraph<'_>, numbers: &[u32]) -> Result<Taken
 {
     let mut order = Vec::with_capacity(alloc, graph.reads.len())?;
     let mut left = Vec::from_elem(alloc, true, graph.reads.len())?;
-    take(&mut order, left.as_mut_slice(), graph, numbers)?;
+    take_all(&mut order, left.as_mut_slice(), graph, numbers)?;
+    take_rounds(&mut order, left.as_mut_slice(), graph)?;
     Ok(Taken { order, left })
 }
 

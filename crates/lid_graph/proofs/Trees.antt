@@ -80,28 +80,25 @@ label_put p label high low labelled h own_high own_low = record {
       relabel_other high low (label w) (λ same. other (sym own ∙ same)) ∙ own);
 }
 
--- the trees of u and v made one, by a write at the greater root
+-- a root is its own label
+root_own : (p : List ℕ) (label : ℕ → ℕ) (u root : ℕ) → IsForest p → IsLabelled p label → u < length p → root ≡ label u → label root ≡ root
+root_own p label u root forest labelled within is = ap label is ∙ (label_own p label forest labelled u within ∙ sym is)
+
+-- the trees of u and v made one, by a write of the lesser root at the greater
+label_merged : (p : List ℕ) (label : ℕ → ℕ) (u v high low : ℕ) → IsLabelled p label → high < length p → label high ≡ high → label low ≡ low → high ≡ max (label u) (label v) → low ≡ min (label u) (label v) → IsLabelled (set p high low) (merged label u v)
+label_merged p label u v high low labelled within own_high own_low is_high is_low =
+    subst (λ (h : ℕ). IsLabelled (set p high low) (λ w. relabel h (min (label u) (label v)) (label w))) is_high
+    (subst (λ (l : ℕ). IsLabelled (set p high low) (λ w. relabel high l (label w))) is_low (label_put p label high low labelled within own_high own_low))
+
 pub label_merged_left : (p : List ℕ) (label : ℕ → ℕ) (u v left right : ℕ) → IsForest p → IsLabelled p label → u < length p → v < length p → left ≡ label u → right ≡ label v → left < right → IsLabelled (set p right left) (merged label u v)
 label_merged_left p label u v left right forest labelled hu hv is_left is_right less =
-    let high : right ≡ max (label u) (label v) = omega arith in
-    let low : left ≡ min (label u) (label v) = omega arith in
     let below : label v ≤ v = label_le p label forest labelled v hv in
-    let own_high : label right ≡ right = ap label is_right ∙ (label_own p label forest labelled v hv ∙ sym is_right) in
-    let own_low : label left ≡ left = ap label is_left ∙ (label_own p label forest labelled u hu ∙ sym is_left) in
-    let put = label_put p label right left labelled (omega arith) own_high own_low in
-    subst (λ (h : ℕ). IsLabelled (set p right left) (λ w. relabel h (min (label u) (label v)) (label w))) high
-    (subst (λ (l : ℕ). IsLabelled (set p right left) (λ w. relabel right l (label w))) low put)
+    label_merged p label u v right left labelled (omega arith) (root_own p label v right forest labelled hv is_right) (root_own p label u left forest labelled hu is_left) (omega arith) (omega arith)
 
 pub label_merged_right : (p : List ℕ) (label : ℕ → ℕ) (u v left right : ℕ) → IsForest p → IsLabelled p label → u < length p → v < length p → left ≡ label u → right ≡ label v → right ≤ left → IsLabelled (set p left right) (merged label u v)
 label_merged_right p label u v left right forest labelled hu hv is_left is_right less =
-    let high : left ≡ max (label u) (label v) = omega arith in
-    let low : right ≡ min (label u) (label v) = omega arith in
     let below : label u ≤ u = label_le p label forest labelled u hu in
-    let own_high : label left ≡ left = ap label is_left ∙ (label_own p label forest labelled u hu ∙ sym is_left) in
-    let own_low : label right ≡ right = ap label is_right ∙ (label_own p label forest labelled v hv ∙ sym is_right) in
-    let put = label_put p label left right labelled (omega arith) own_high own_low in
-    subst (λ (h : ℕ). IsLabelled (set p left right) (λ w. relabel h (min (label u) (label v)) (label w))) high
-    (subst (λ (l : ℕ). IsLabelled (set p left right) (λ w. relabel left l (label w))) low put)
+    label_merged p label u v left right labelled (omega arith) (root_own p label u left forest labelled hu is_left) (root_own p label v right forest labelled hv is_right) (omega arith) (omega arith)
 
 -- before any edge each transition is its own label
 pub linked_none : (g : Graph) (p : List ℕ) → length p ≡ g.nodes → ((v : ℕ) → v < g.nodes → get_or p v 0 ≡ v) → IsLinked g 0 p (λ v. v)

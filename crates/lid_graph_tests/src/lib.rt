@@ -3,14 +3,4 @@
 #![tactic(auto)]
 
 #[cfg(test)]
-mod cert;
-#[cfg(test)]
-mod designs;
-#[cfg(test)]
-mod graph;
-#[cfg(test)]
-mod order;
-#[cfg(test)]
-mod rate;
-#[cfg(test)]
-mod walks;
+mod tests;

@@ -78,18 +78,14 @@ few_cells d ks none =
     let none_of : limits d ≡ None = last_none (unknown_formal d ks) (formal_twice d ks) (unbound d ks) (two_drivers d ks) (undriven d ks) (clock_use d ks) (two_clocks d) (mixed_edges d ks) (root_logic d) (limits d) none in
     passed 262144 (count_cells d) (nat_lt 262144 (count_cells d)) refl (third_none (over 4096 which.RootInsts (length (insts_of d d.root))) (over 64 which.Depth (depth d)) (over 262144 which.Cells (count_cells d)) (over 1048576 which.Nets (count_nets d)) none_of)
 
+-- a count of cells of a design that passes is at most that of all its cells, so that it is not cut
+few_of : (p : Cell → Bool) (d : Design) (n : ℕ) → ModelsPass d → over_instances (count_in p) d ≡ n → min n 4294967295 ≡ over_instances (count_in p) d
+few_of p d n pass is = let few = few_cells d pass.ks pass.after in let within = within_cells p d in omega arith
+
 pub latches_are : (d : Design) → ModelsPass d → min (count_at_root Latches d) 4294967295 ≡ count_latches d
 unfolding count_latches
-latches_are d pass =
-    let few = few_cells d pass.ks pass.after in
-    let within = within_cells is_latch d in
-    let is : over_instances (count_in is_latch) d ≡ count_at_root Latches d = sum_is Latches d (λ x a. refl) in
-    omega arith
+latches_are d pass = few_of is_latch d (count_at_root Latches d) pass (sum_is Latches d (λ x a. refl))
 
 pub defaulted_are : (d : Design) → ModelsPass d → min (count_at_root Defaulted d) 4294967295 ≡ count_defaulted d
 unfolding count_defaulted
-defaulted_are d pass =
-    let few = few_cells d pass.ks pass.after in
-    let within = within_cells is_defaulted d in
-    let is : over_instances (count_in is_defaulted) d ≡ count_at_root Defaulted d = sum_is Defaulted d (λ x a. refl) in
-    omega arith
+defaulted_are d pass = few_of is_defaulted d (count_at_root Defaulted d) pass (sum_is Defaulted d (λ x a. refl))

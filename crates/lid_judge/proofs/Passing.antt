@@ -19,30 +19,14 @@ use Rattle.lid_rules.proofs.Faults.{none_both, or_assoc}
 use Rattle.lid_rules.proofs.Passing.{known_by}
 use Rattle.lid_judge.specs.Late.{after_insts, after_names, after_clocks, after_edges}
 
--- what each of the conditions on one model tells of some models
-tells_unknown_formal : (d : Design) (ks : List ℕ) → unknown_formal d ks ≡ by_inst UnknownFormal d ks
-unfolding unknown_formal inst_at
-tells_unknown_formal d ks = refl
+-- what each of the conditions on instances, and on names, tells of some models
+tells_insts : (d : Design) (ks : List ℕ) → (unknown_formal d ks ≡ by_inst UnknownFormal d ks) × (formal_twice d ks ≡ by_inst FormalTwice d ks) × (unbound d ks ≡ by_inst Unbound d ks)
+unfolding unknown_formal formal_twice unbound inst_at
+tells_insts d ks = (refl, refl, refl)
 
-tells_formal_twice : (d : Design) (ks : List ℕ) → formal_twice d ks ≡ by_inst FormalTwice d ks
-unfolding formal_twice inst_at
-tells_formal_twice d ks = refl
-
-tells_unbound : (d : Design) (ks : List ℕ) → unbound d ks ≡ by_inst Unbound d ks
-unfolding unbound inst_at
-tells_unbound d ks = refl
-
-tells_two_drivers : (d : Design) (ks : List ℕ) → two_drivers d ks ≡ by_name TwoDrivers d ks
-unfolding two_drivers name_at
-tells_two_drivers d ks = refl
-
-tells_undriven : (d : Design) (ks : List ℕ) → undriven d ks ≡ by_name Undriven d ks
-unfolding undriven name_at
-tells_undriven d ks = refl
-
-tells_clock_use : (d : Design) (ks : List ℕ) → clock_use d ks ≡ by_name ClockUse d ks
-unfolding clock_use name_at
-tells_clock_use d ks = refl
+tells_names : (d : Design) (ks : List ℕ) → (two_drivers d ks ≡ by_name TwoDrivers d ks) × (undriven d ks ≡ by_name Undriven d ks) × (clock_use d ks ≡ by_name ClockUse d ks)
+unfolding two_drivers undriven clock_use name_at
+tells_names d ks = (refl, refl, refl)
 
 -- the conditions after those on names
 tells_after_names : (d : Design) (ks : List ℕ) → or_fault (two_clocks d) (or_fault (mixed_edges d ks) (or_fault (root_logic d) (limits d))) ≡ after_names d ks
@@ -76,8 +60,8 @@ late_are d ks =
     let last : Option CheckFault = or_fault (two_clocks d) (or_fault (mixed_edges d ks) (or_fault (root_logic d) (limits d))) in
     three_same (unknown_formal d ks) (formal_twice d ks) (unbound d ks) (or_fault (two_drivers d ks) (or_fault (undriven d ks) (or_fault (clock_use d ks) last)))
     (by_inst UnknownFormal d ks) (by_inst FormalTwice d ks) (by_inst Unbound d ks) (after_insts d ks)
-    (tells_unknown_formal d ks) (tells_formal_twice d ks) (tells_unbound d ks)
-    (three_same (two_drivers d ks) (undriven d ks) (clock_use d ks) last (by_name TwoDrivers d ks) (by_name Undriven d ks) (by_name ClockUse d ks) (after_names d ks) (tells_two_drivers d ks) (tells_undriven d ks) (tells_clock_use d ks) (tells_after_names d ks) ∙ tells_after_insts d ks)
+    (tells_insts d ks).0 (tells_insts d ks).1 (tells_insts d ks).2
+    (three_same (two_drivers d ks) (undriven d ks) (clock_use d ks) last (by_name TwoDrivers d ks) (by_name Undriven d ks) (by_name ClockUse d ks) (after_names d ks) (tells_names d ks).0 (tells_names d ks).1 (tells_names d ks).2 (tells_after_names d ks) ∙ tells_after_insts d ks)
     ∙ three_first (by_inst UnknownFormal d ks) (by_inst FormalTwice d ks) (by_inst Unbound d ks) (after_insts d ks)
 
 -- a design that passes the conditions before recursion has only known models

@@ -40,6 +40,7 @@ fn find_after<'d>(
 
 /// Tells of names of models, clocks of the root, edges, logic of the root and limits, in this
 /// order.
+#[tactic(auto, unfolding(crate::specs::Late::after_insts), using(lid_rules::proofs::Faults::told_first))]
 fn find_after_insts<'d>(
     alloc: Global,
     ports: &Ports<'d>,
@@ -55,6 +56,7 @@ fn find_after_insts<'d>(
 }
 
 /// Tells of clocks of the root, edges, logic of the root and limits, in this order.
+#[tactic(auto, unfolding(crate::specs::Late::after_names), using(lid_rules::proofs::Faults::told_first))]
 fn find_after_names<'d>(
     alloc: Global,
     ports: &Ports<'d>,

@@ -44,6 +44,7 @@ pub fn find_limit<'d>(alloc: Global, survey: &Survey<'d>) -> Result<Option<Told<
 }
 
 /// Tells of the first limit that a design exceeds of depth, cells and columns.
+#[tactic(auto, unfolding(crate::specs::Limits::deep_limits), using(lid_rules::proofs::Faults::told_first))]
 fn find_deep<'d>(alloc: Global, survey: &Survey<'d>) -> Result<Option<Told<'d>>, AllocError>
     ensures { IfOk result (λ told. shown_of told ≡ deep_limits survey.now) }
 {

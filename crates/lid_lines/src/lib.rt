@@ -7,5 +7,5 @@ mod writer;
 pub use laws::{lines_are_read_back, numbers_are_read_back, read_lines_are_spelled};
 pub use writer::{
     append_keyword_line, append_line, append_number_line, append_number_word, append_numbers,
-    append_small_numbers, append_word, append_words,
+    append_small_numbers, append_word, append_words, cut_back,
 };

@@ -1,7 +1,7 @@
 //! Words and lines, appended to a text. On a refusal what was there before is still there, so that
 //! a writer can cut the text back.
 
-ghost use Rattle.std.specs.Prelude.{◌≡◌, ◌++◌, ◌∷◌, map, OnOk};
+ghost use Rattle.std.specs.Prelude.{◌≡◌, ◌++◌, ◌∷◌, map, take, OnOk, OnErr};
 ghost use Rattle.std.specs.Fmt.{decimal};
 ghost use Rattle.std.specs.List.{join_with_byte};
 ghost use Rattle.lid_base.specs.Lists.{Keeps};
@@ -116,4 +116,21 @@ pub fn append_number_line(
     append_numbers(numbers, into)?;
     into.push(b'\n')?;
     Ok(())
+}
+
+/// Hands on how an appending ended. Where it was refused, the text is cut back to the length that it
+/// had before.
+pub fn cut_back(
+    len: usize,
+    appended: Result<(), AllocError>,
+    into: &mut Vec<u8>,
+) -> Result<(), AllocError>
+    ensures same { result ≡ appended }
+    ensures ok { OnOk result (into.new.items ≡ into.old.items) }
+    ensures err { OnErr result (into.new.items ≡ take len into.old.items) }
+{
+    if appended.is_err() {
+        into.truncate(len);
+    }
+    appended
 }

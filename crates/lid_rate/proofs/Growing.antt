@@ -15,6 +15,7 @@ use Rattle.lid_graph.specs.Walks.{edge_at}
 use Rattle.lid_rate.specs.Relaxation.{AreEdges}
 use Rattle.lid_rate.specs.SpanningTrees.{is_reached, without_edge, unreached, AddsEdge, AddsNone, IsTree, IsSpanning, IsGrown}
 use Rattle.lid_rate.proofs.Settles.{all_replicate}
+use Rattle.lid_rate.proofs.Written.{IsWritten, is_written, IsStanding, standing}
 
 or_none : (a : Bool) (o : Option ℕ) → a || is_some o ≡ false → (a ≡ false) × (o ≡ None)
 or_none true o e = cc
@@ -25,29 +26,14 @@ different : (start : ℕ) (via : List (Option ℕ)) (u t : ℕ) → is_reached s
 different start via u t inside outside same = let e : is_reached start via u ≡ is_reached start via t = ap (is_reached start via) same in cc
 
 module _ (g : Graph) (es : List ℕ) (start q first k : ℕ) (via : List (Option ℕ)) (lead depth : List ℕ) (tree : IsTree g es start q first via lead depth) (listed : Contains es k) (to : (edge_at g k).to < g.nodes) (tokens : (edge_at g k).tokens ≤ 16) (new_via : List (Option ℕ)) (new_lead new_depth : List ℕ) (ext : AddsEdge (edge_at g k) k start q via lead depth new_via new_lead new_depth) where
-  via_here : get_or new_via (edge_at g k).to None ≡ Some k
-  via_here =
-      let within : (edge_at g k).to < length via = omega (arith, tree.via_count) in
-      ap (λ (l : List (Option ℕ)). get_or l (edge_at g k).to None) ext.via_is ∙ get_or-set_same via (edge_at g k).to (Some k) None within
+  via_is : IsWritten via new_via (edge_at g k).to (Some k) None
+  via_is = is_written via new_via (edge_at g k).to (Some k) None ext.via_is (omega (arith, tree.via_count))
 
-  via_there : (v : ℕ) → v ≢ (edge_at g k).to → get_or new_via v None ≡ get_or via v None
-  via_there v other = ap (λ (l : List (Option ℕ)). get_or l v None) ext.via_is ∙ get_or-set_other via (edge_at g k).to v (Some k) None other
+  lead_is : IsWritten lead new_lead (edge_at g k).to (get_or lead (edge_at g k).from 0 + q * (edge_at g k).tokens) 0
+  lead_is = is_written lead new_lead (edge_at g k).to (get_or lead (edge_at g k).from 0 + q * (edge_at g k).tokens) 0 ext.lead_is (omega (arith, tree.lead_count))
 
-  lead_here : get_or new_lead (edge_at g k).to 0 ≡ get_or lead (edge_at g k).from 0 + q * (edge_at g k).tokens
-  lead_here =
-      let within : (edge_at g k).to < length lead = omega (arith, tree.lead_count) in
-      ap (λ (l : List ℕ). get_or l (edge_at g k).to 0) ext.lead_is ∙ get_or-set_same lead (edge_at g k).to (get_or lead (edge_at g k).from 0 + q * (edge_at g k).tokens) 0 within
-
-  lead_there : (v : ℕ) → v ≢ (edge_at g k).to → get_or new_lead v 0 ≡ get_or lead v 0
-  lead_there v other = ap (λ (l : List ℕ). get_or l v 0) ext.lead_is ∙ get_or-set_other lead (edge_at g k).to v (get_or lead (edge_at g k).from 0 + q * (edge_at g k).tokens) 0 other
-
-  depth_here : get_or new_depth (edge_at g k).to 0 ≡ get_or depth (edge_at g k).from 0 + 1
-  depth_here =
-      let within : (edge_at g k).to < length depth = omega (arith, tree.depth_count) in
-      ap (λ (l : List ℕ). get_or l (edge_at g k).to 0) ext.depth_is ∙ get_or-set_same depth (edge_at g k).to (get_or depth (edge_at g k).from 0 + 1) 0 within
-
-  depth_there : (v : ℕ) → v ≢ (edge_at g k).to → get_or new_depth v 0 ≡ get_or depth v 0
-  depth_there v other = ap (λ (l : List ℕ). get_or l v 0) ext.depth_is ∙ get_or-set_other depth (edge_at g k).to v (get_or depth (edge_at g k).from 0 + 1) 0 other
+  depth_is : IsWritten depth new_depth (edge_at g k).to (get_or depth (edge_at g k).from 0 + 1) 0
+  depth_is = is_written depth new_depth (edge_at g k).to (get_or depth (edge_at g k).from 0 + 1) 0 ext.depth_is (omega (arith, tree.depth_count))
 
   inside_other : (v : ℕ) → is_reached start via v ≡ true → v ≢ (edge_at g k).to
   inside_other v inside = different start via v (edge_at g k).to inside ext.outside
@@ -59,7 +45,7 @@ module _ (g : Graph) (es : List ℕ) (start q first k : ℕ) (via : List (Option
   was_none = (or_none ((edge_at g k).to == start) (get_or via (edge_at g k).to None) ext.outside).1
 
   still : (v : ℕ) → is_reached start via v ≡ true → is_reached start new_via v ≡ true
-  still v inside = ap (λ (o : Option ℕ). (v == start) || is_some o) (via_there v (inside_other v inside)) ∙ inside
+  still v inside = ap (λ (o : Option ℕ). (v == start) || is_some o) (via_is.there v (inside_other v inside)) ∙ inside
 
   pub fewer : unreached new_via + 1 ≡ unreached via
   fewer =
@@ -69,15 +55,8 @@ module _ (g : Graph) (es : List ℕ) (start q first k : ℕ) (via : List (Option
       let now : unreached new_via ≡ unreached (set via (edge_at g k).to (Some k)) = ap unreached ext.via_is in
       omega arith
 
-  edge_cases : (v l : ℕ) → get_or new_via v None ≡ Some l → (v ≡ (edge_at g k).to) × (k ≡ l) ⊎ (v ≢ (edge_at g k).to) × (get_or via v None ≡ Some l)
-  edge_cases v l e = by_end (cases_eq v (edge_at g k).to)
-    where
-      by_end : (v ≡ (edge_at g k).to) ⊎ (v ≢ (edge_at g k).to) → (v ≡ (edge_at g k).to) × (k ≡ l) ⊎ (v ≢ (edge_at g k).to) × (get_or via v None ≡ Some l)
-      by_end (inl is) = inl (is, same_Some k l (sym via_here ∙ (ap (λ (n : ℕ). get_or new_via n None) (sym is) ∙ e)))
-      by_end (inr other) = inr (other, sym (via_there v other) ∙ e)
-
   abbrev Case : ℕ → ℕ → Type 0
-  Case v l = (v ≡ (edge_at g k).to) × (k ≡ l) ⊎ (v ≢ (edge_at g k).to) × (get_or via v None ≡ Some l)
+  Case v l = IsStanding via (edge_at g k).to k v l
 
   new_listed : (v l : ℕ) → Case v l → Contains es l
   new_listed v l (inl is) = subst (Contains es) is.1 listed
@@ -93,68 +72,68 @@ module _ (g : Graph) (es : List ℕ) (start q first k : ℕ) (via : List (Option
 
   new_deeper : (v l : ℕ) → Case v l → get_or new_depth (edge_at g l).from 0 < get_or new_depth v 0
   new_deeper v l (inl is) =
-      let here = depth_here in
-      let there = depth_there (edge_at g k).from (inside_other (edge_at g k).from ext.inside) in
+      let here = depth_is.here in
+      let there = depth_is.there (edge_at g k).from (inside_other (edge_at g k).from ext.inside) in
       let low : get_or new_depth (edge_at g k).from 0 < get_or new_depth (edge_at g k).to 0 = omega arith in
       subst (λ (n : ℕ). get_or new_depth (edge_at g n).from 0 < get_or new_depth v 0) is.1 (subst (λ (n : ℕ). get_or new_depth (edge_at g k).from 0 < get_or new_depth n 0) (sym is.0) low)
   new_deeper v l (inr old) =
-      let there = depth_there v old.0 in
-      let from = depth_there (edge_at g l).from (inside_other (edge_at g l).from ((tree.edges v l old.1).begins)) in
+      let there = depth_is.there v old.0 in
+      let from = depth_is.there (edge_at g l).from (inside_other (edge_at g l).from ((tree.edges v l old.1).begins)) in
       let was = (tree.edges v l old.1).deeper in
       omega arith
 
   new_leads : (v l : ℕ) → Case v l → get_or new_lead (edge_at g l).from 0 + q * (edge_at g l).tokens ≤ get_or new_lead v 0
   new_leads v l (inl is) =
-      let here = lead_here in
-      let there = lead_there (edge_at g k).from (inside_other (edge_at g k).from ext.inside) in
+      let here = lead_is.here in
+      let there = lead_is.there (edge_at g k).from (inside_other (edge_at g k).from ext.inside) in
       let low : get_or new_lead (edge_at g k).from 0 + q * (edge_at g k).tokens ≤ get_or new_lead (edge_at g k).to 0 = omega arith in
       subst (λ (n : ℕ). get_or new_lead (edge_at g n).from 0 + q * (edge_at g n).tokens ≤ get_or new_lead v 0) is.1 (subst (λ (n : ℕ). get_or new_lead (edge_at g k).from 0 + q * (edge_at g k).tokens ≤ get_or new_lead n 0) (sym is.0) low)
   new_leads v l (inr old) =
-      let there = lead_there v old.0 in
-      let from = lead_there (edge_at g l).from (inside_other (edge_at g l).from ((tree.edges v l old.1).begins)) in
+      let there = lead_is.there v old.0 in
+      let from = lead_is.there (edge_at g l).from (inside_other (edge_at g l).from ((tree.edges v l old.1).begins)) in
       let was = (tree.edges v l old.1).leads in
       omega arith
 
   new_shallow : (v : ℕ) → (v ≡ (edge_at g k).to) ⊎ (v ≢ (edge_at g k).to) → get_or new_depth v 0 + unreached new_via ≤ g.nodes
   new_shallow v (inl is) =
-      let here = depth_here in
+      let here = depth_is.here in
       let less = fewer in
       let was = tree.shallow (edge_at g k).from in
       subst (λ (n : ℕ). get_or new_depth n 0 + unreached new_via ≤ g.nodes) (sym is) (omega arith)
   new_shallow v (inr other) =
-      let there = depth_there v other in
+      let there = depth_is.there v other in
       let less = fewer in
       let was = tree.shallow v in
       omega arith
 
   new_small : (v : ℕ) → (v ≡ (edge_at g k).to) ⊎ (v ≢ (edge_at g k).to) → get_or new_lead v 0 ≤ first + 16 * q * get_or new_depth v 0
   new_small v (inl is) =
-      let here = lead_here in
-      let deep = depth_here in
+      let here = lead_is.here in
+      let deep = depth_is.here in
       let was = tree.small (edge_at g k).from in
       let few : q * (edge_at g k).tokens ≤ q * 16 = mul-le-mul_left q tokens in
       let scaled : 16 * q * get_or new_depth (edge_at g k).to 0 ≡ 16 * q * (get_or depth (edge_at g k).from 0 + 1) = ap (λ (n : ℕ). 16 * q * n) deep in
       subst (λ (n : ℕ). get_or new_lead n 0 ≤ first + 16 * q * get_or new_depth n 0) (sym is) (omega arith)
   new_small v (inr other) =
-      let there = lead_there v other in
-      let same = depth_there v other in
+      let there = lead_is.there v other in
+      let same = depth_is.there v other in
       let scaled : 16 * q * get_or new_depth v 0 ≡ 16 * q * get_or depth v 0 = ap (λ (n : ℕ). 16 * q * n) same in
       let was = tree.small v in
       omega arith
 
   pub tree_on : IsTree g es start q first new_via new_lead new_depth
   tree_on = record {
-    via_count = ap length ext.via_is ∙ (length-set via (edge_at g k).to (Some k) ∙ tree.via_count);
-    lead_count = ap length ext.lead_is ∙ (length-set lead (edge_at g k).to (get_or lead (edge_at g k).from 0 + q * (edge_at g k).tokens) ∙ tree.lead_count);
-    depth_count = ap length ext.depth_is ∙ (length-set depth (edge_at g k).to (get_or depth (edge_at g k).from 0 + 1) ∙ tree.depth_count);
+    via_count = via_is.long ∙ tree.via_count;
+    lead_count = lead_is.long ∙ tree.lead_count;
+    depth_count = depth_is.long ∙ tree.depth_count;
     root =
         record {
-          no_edge = via_there start start_other ∙ tree.root.no_edge;
-          first_lead = lead_there start start_other ∙ tree.root.first_lead;
-          no_depth = depth_there start start_other ∙ tree.root.no_depth;
+          no_edge = via_is.there start start_other ∙ tree.root.no_edge;
+          first_lead = lead_is.there start start_other ∙ tree.root.first_lead;
+          no_depth = depth_is.there start start_other ∙ tree.root.no_depth;
         };
     edges = λ v l e.
-        let case = edge_cases v l e in
+        let case = standing via new_via (edge_at g k).to k via_is v l e in
         record {
           listed = new_listed v l case;
           ends = new_ends v l case;

@@ -13,3 +13,4 @@ pub mod Numbered
 pub mod Lagging
 pub mod Signs
 pub mod Grouped
+pub mod Written

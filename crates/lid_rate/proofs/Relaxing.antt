@@ -5,29 +5,20 @@ use Rattle.std.specs.List.{Contains}
 use Rattle.std.proofs.Math.Nat.{mul-le-mul_left}
 use Rattle.std.proofs.lemmas.Bool.{cases_eq}
 use Rattle.std.proofs.lemmas.Option.{same_Some}
-use Rattle.std.proofs.lemmas.List.{get_or-set_same, get_or-set_other, length-set, get_or_default}
+use Rattle.std.proofs.lemmas.List.{get_or_default}
 use Rattle.lid_graph.specs.declared.graph.Edge.{Edge}
 use Rattle.lid_graph.specs.declared.graph.Graph.{Graph}
 use Rattle.lid_graph.specs.Walks.{edge_at, walk_tokens}
 use Rattle.lid_rate.specs.WalksBack.{IsPredecessorWalk}
+use Rattle.lid_rate.proofs.Written.{IsWritten, is_written, IsStanding, standing}
 use Rattle.lid_rate.specs.Relaxation.{Relaxes, StaysRelaxed, AreEdges, ArePotentials, IsAttained, AreAtMost, IsRound, IsChanged}
 
 module _ (g : Graph) (es : List ℕ) (p q k : ℕ) (values : List ℕ) (last : List (Option ℕ)) (before : ArePotentials g es p q values last) (listed : Contains es k) (to : (edge_at g k).to < g.nodes) (new_values : List ℕ) (new_last : List (Option ℕ)) (raises : Relaxes (edge_at g k) k p q values last new_values new_last) where
-  value_here : get_or new_values (edge_at g k).to 0 ≡ get_or values (edge_at g k).from 0 + p - q * (edge_at g k).tokens
-  value_here =
-      let within : (edge_at g k).to < length values = omega (arith, before.value_count) in
-      ap (λ (l : List ℕ). get_or l (edge_at g k).to 0) raises.raised ∙ get_or-set_same values (edge_at g k).to (get_or values (edge_at g k).from 0 + p - q * (edge_at g k).tokens) 0 within
+  value_is : IsWritten values new_values (edge_at g k).to (get_or values (edge_at g k).from 0 + p - q * (edge_at g k).tokens) 0
+  value_is = is_written values new_values (edge_at g k).to (get_or values (edge_at g k).from 0 + p - q * (edge_at g k).tokens) 0 raises.raised (omega (arith, before.value_count))
 
-  value_there : (v : ℕ) → v ≢ (edge_at g k).to → get_or new_values v 0 ≡ get_or values v 0
-  value_there v other = ap (λ (l : List ℕ). get_or l v 0) raises.raised ∙ get_or-set_other values (edge_at g k).to v (get_or values (edge_at g k).from 0 + p - q * (edge_at g k).tokens) 0 other
-
-  last_here : get_or new_last (edge_at g k).to None ≡ Some k
-  last_here =
-      let within : (edge_at g k).to < length last = omega (arith, before.predecessor_count) in
-      ap (λ (l : List (Option ℕ)). get_or l (edge_at g k).to None) raises.stands ∙ get_or-set_same last (edge_at g k).to (Some k) None within
-
-  last_there : (v : ℕ) → v ≢ (edge_at g k).to → get_or new_last v None ≡ get_or last v None
-  last_there v other = ap (λ (l : List (Option ℕ)). get_or l v None) raises.stands ∙ get_or-set_other last (edge_at g k).to v (Some k) None other
+  last_is : IsWritten last new_last (edge_at g k).to (Some k) None
+  last_is = is_written last new_last (edge_at g k).to (Some k) None raises.stands (omega (arith, before.predecessor_count))
 
   pub grown : (v : ℕ) → get_or values v 0 ≤ get_or new_values v 0
   grown v = by_end (cases_eq v (edge_at g k).to)
@@ -35,19 +26,19 @@ module _ (g : Graph) (es : List ℕ) (p q k : ℕ) (values : List ℕ) (last : L
       by_end : (v ≡ (edge_at g k).to) ⊎ (v ≢ (edge_at g k).to) → get_or values v 0 ≤ get_or new_values v 0
       by_end (inl is) =
           let more = raises.more in
-          let here = value_here in
+          let here = value_is.here in
           subst (λ (n : ℕ). get_or values n 0 ≤ get_or new_values n 0) (sym is) (omega arith)
-      by_end (inr other) = let same = value_there v other in omega arith
+      by_end (inr other) = let same = value_is.there v other in omega arith
 
   pub bounded : (most : ℕ) → AreAtMost values most → AreAtMost new_values (most + p)
   bounded most small v = by_end (cases_eq v (edge_at g k).to)
     where
       by_end : (v ≡ (edge_at g k).to) ⊎ (v ≢ (edge_at g k).to) → get_or new_values v 0 ≤ most + p
       by_end (inl is) =
-          let here = value_here in
+          let here = value_is.here in
           let low = small (edge_at g k).from in
           subst (λ (n : ℕ). get_or new_values n 0 ≤ most + p) (sym is) (omega arith)
-      by_end (inr other) = let same = value_there v other in let low = small v in omega arith
+      by_end (inr other) = let same = value_is.there v other in let low = small v in omega arith
 
   -- along a chain the old values fall by no more than p for each edge less q for each token, and by less
   -- where the new edge is one of them
@@ -56,13 +47,13 @@ module _ (g : Graph) (es : List ℕ) (p q k : ℕ) (values : List ℕ) (last : L
   telescope (l ∷ ks) v u chain = by_end (cases_eq v (edge_at g k).to) (telescope ks (edge_at g l).from u chain.1)
     where
       new_edge : v ≡ (edge_at g k).to → k ≡ l
-      new_edge is = same_Some k l (sym last_here ∙ (ap (λ (n : ℕ). get_or new_last n None) (sym is) ∙ chain.0))
+      new_edge is = same_Some k l (sym last_is.here ∙ (ap (λ (n : ℕ). get_or new_last n None) (sym is) ∙ chain.0))
 
       strict : v ≡ (edge_at g k).to → get_or values v 0 + q * (edge_at g l).tokens < get_or values (edge_at g l).from 0 + p
       strict is = subst (λ (n : ℕ). get_or values v 0 + q * (edge_at g n).tokens < get_or values (edge_at g n).from 0 + p) (new_edge is) (subst (λ (n : ℕ). get_or values n 0 + q * (edge_at g k).tokens < get_or values (edge_at g k).from 0 + p) (sym is) raises.more)
 
       old_edge : v ≢ (edge_at g k).to → get_or last v None ≡ Some l
-      old_edge other = sym (last_there v other) ∙ chain.0
+      old_edge other = sym (last_is.there v other) ∙ chain.0
 
       by_end : (v ≡ (edge_at g k).to) ⊎ (v ≢ (edge_at g k).to) → (get_or values (edge_at g l).from 0 + q * walk_tokens g ks < get_or values u 0 + p * length ks) ⊎ (IsPredecessorWalk g last (edge_at g l).from ks u × (get_or values (edge_at g l).from 0 + q * walk_tokens g ks ≤ get_or values u 0 + p * length ks)) → (get_or values v 0 + q * walk_tokens g (l ∷ ks) < get_or values u 0 + p * length (l ∷ ks)) ⊎ (IsPredecessorWalk g last v (l ∷ ks) u × (get_or values v 0 + q * walk_tokens g (l ∷ ks) ≤ get_or values u 0 + p * length (l ∷ ks)))
       by_end (inl is) (inl rest) = inl (let here = strict is in omega arith)
@@ -77,58 +68,51 @@ module _ (g : Graph) (es : List ℕ) (p q k : ℕ) (values : List ℕ) (last : L
       by_case (inl strict) = omega arith
       by_case (inr old) = before.rising v ks old.0 some
 
-  edge_cases : (v l : ℕ) → get_or new_last v None ≡ Some l → (v ≡ (edge_at g k).to) × (k ≡ l) ⊎ (v ≢ (edge_at g k).to) × (get_or last v None ≡ Some l)
-  edge_cases v l e = by_end (cases_eq v (edge_at g k).to)
-    where
-      by_end : (v ≡ (edge_at g k).to) ⊎ (v ≢ (edge_at g k).to) → (v ≡ (edge_at g k).to) × (k ≡ l) ⊎ (v ≢ (edge_at g k).to) × (get_or last v None ≡ Some l)
-      by_end (inl is) = inl (is, same_Some k l (sym last_here ∙ (ap (λ (n : ℕ). get_or new_last n None) (sym is) ∙ e)))
-      by_end (inr other) = inr (other, sym (last_there v other) ∙ e)
-
-  new_listed : (v l : ℕ) → (v ≡ (edge_at g k).to) × (k ≡ l) ⊎ (v ≢ (edge_at g k).to) × (get_or last v None ≡ Some l) → Contains es l
+  new_listed : (v l : ℕ) → IsStanding last (edge_at g k).to k v l → Contains es l
   new_listed v l (inl is) = subst (Contains es) is.1 listed
   new_listed v l (inr old) = (before.edges v l old.1).listed
 
-  new_ends : (v l : ℕ) → (v ≡ (edge_at g k).to) × (k ≡ l) ⊎ (v ≢ (edge_at g k).to) × (get_or last v None ≡ Some l) → (edge_at g l).to ≡ v
+  new_ends : (v l : ℕ) → IsStanding last (edge_at g k).to k v l → (edge_at g l).to ≡ v
   new_ends v l (inl is) = subst (λ (n : ℕ). (edge_at g n).to ≡ v) is.1 (sym is.0)
   new_ends v l (inr old) = (before.edges v l old.1).ends
 
-  new_slack : (v l : ℕ) → (v ≡ (edge_at g k).to) × (k ≡ l) ⊎ (v ≢ (edge_at g k).to) × (get_or last v None ≡ Some l) → get_or new_values v 0 + q * (edge_at g l).tokens ≤ get_or new_values (edge_at g l).from 0 + p
+  new_slack : (v l : ℕ) → IsStanding last (edge_at g k).to k v l → get_or new_values v 0 + q * (edge_at g l).tokens ≤ get_or new_values (edge_at g l).from 0 + p
   new_slack v l (inl is) =
       let more = raises.more in
-      let here = value_here in
+      let here = value_is.here in
       let up = grown (edge_at g k).from in
       let low : get_or new_values (edge_at g k).to 0 + q * (edge_at g k).tokens ≤ get_or new_values (edge_at g k).from 0 + p = omega arith in
       subst (λ (n : ℕ). get_or new_values v 0 + q * (edge_at g n).tokens ≤ get_or new_values (edge_at g n).from 0 + p) is.1 (subst (λ (n : ℕ). get_or new_values n 0 + q * (edge_at g k).tokens ≤ get_or new_values (edge_at g k).from 0 + p) (sym is.0) low)
   new_slack v l (inr old) =
-      let same = value_there v old.0 in
+      let same = value_is.there v old.0 in
       let slack = (before.edges v l old.1).slack in
       let up = grown (edge_at g l).from in
       omega arith
 
   new_fresh : (v : ℕ) → get_or new_last v None ≡ None → (v ≡ (edge_at g k).to) ⊎ (v ≢ (edge_at g k).to) → get_or new_values v 0 ≡ 0
-  new_fresh v e (inl is) = let some : get_or new_last v None ≡ Some k = ap (λ (n : ℕ). get_or new_last n None) is ∙ last_here in cc
-  new_fresh v e (inr other) = value_there v other ∙ before.fresh v (sym (last_there v other) ∙ e)
+  new_fresh v e (inl is) = let some : get_or new_last v None ≡ Some k = ap (λ (n : ℕ). get_or new_last n None) is ∙ last_is.here in cc
+  new_fresh v e (inr other) = value_is.there v other ∙ before.fresh v (sym (last_is.there v other) ∙ e)
 
   new_attained : (from : (edge_at g k).from < g.nodes) (v : ℕ) → v < g.nodes → (v ≡ (edge_at g k).to) ⊎ (v ≢ (edge_at g k).to) → IsAttained g es p q new_values v
   new_attained from v h (inl is) =
       let way : IsAttained g es p q values (edge_at g k).from = before.attained (edge_at g k).from from in
       let more = raises.more in
-      let here = value_here in
+      let here = value_is.here in
       let far : p * length way.1 ≡ get_or values (edge_at g k).from 0 + q * walk_tokens g way.1 = way.3 in
       let sum : p * length (k ∷ way.1) ≡ get_or new_values (edge_at g k).to 0 + q * walk_tokens g (k ∷ way.1) = omega arith in
       subst (IsAttained g es p q new_values) (sym is) (way.0, k ∷ way.1, (listed, refl, way.2), sum)
   new_attained from v h (inr other) =
       let way : IsAttained g es p q values v = before.attained v h in
-      let same = value_there v other in
+      let same = value_is.there v other in
       let far : p * length way.1 ≡ get_or values v 0 + q * walk_tokens g way.1 = way.3 in
       (way.0, way.1, way.2, omega arith)
 
   pub raised_on : (edge_at g k).from < g.nodes → ArePotentials g es p q new_values new_last
   raised_on from = record {
-    value_count = ap length raises.raised ∙ (length-set values (edge_at g k).to (get_or values (edge_at g k).from 0 + p - q * (edge_at g k).tokens) ∙ before.value_count);
-    predecessor_count = ap length raises.stands ∙ (length-set last (edge_at g k).to (Some k) ∙ before.predecessor_count);
+    value_count = value_is.long ∙ before.value_count;
+    predecessor_count = last_is.long ∙ before.predecessor_count;
     edges = λ v l e.
-        let case = edge_cases v l e in
+        let case = standing last new_last (edge_at g k).to k last_is v l e in
         record {
           listed = new_listed v l case;
           ends = new_ends v l case;
@@ -178,7 +162,7 @@ module _ (g : Graph) (es : List ℕ) (p q n : ℕ) (edges : AreEdges g es) (h : 
       let listed : Contains es (get_or es n 0) = (n, h, get_or_default es n (get_or es n 0) 0 h) in
       let up = grown g es p q (get_or es n 0) new_values last so.raised listed to later later_last raises in
       let most = bounded g es p q (get_or es n 0) new_values last so.raised listed to later later_last raises in
-      let here = value_here g es p q (get_or es n 0) new_values last so.raised listed to later later_last raises in
+      let here = (value_is g es p q (get_or es n 0) new_values last so.raised listed to later later_last raises).here in
       let low = so.over.grown (edge_at g (get_or es n 0)).to in
       let more = raises.more in
       record {

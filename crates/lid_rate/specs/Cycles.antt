@@ -1,11 +1,11 @@
 -- For the loops: edges from predecessors, followed back.
-use Rattle.std.specs.Prelude.{◌≡◌, ℕ, ◌+◌, ◌-◌, ◌<◌, ◌≤◌, Bool, true, false, List, length, reverse, slice_index, Option, Some, None}
+use Rattle.std.specs.Prelude.{◌≡◌, ℕ, ◌+◌, ◌-◌, ◌<◌, ◌≤◌, Bool, true, false, List, length, slice_index, Option, Some, None}
 use Rattle.std.specs.List.{sum_by}
 use Rattle.lid_graph.specs.declared.graph.Graph.{Graph}
 use Rattle.lid_graph.specs.Walks.{edge_at}
 use Rattle.lid_rate.specs.declared.cycles.Followed.{Followed}
 use Rattle.lid_rate.specs.declared.cycles.Followed.TheVariants.{Ends, Closes}
-use Rattle.lid_rate.specs.WalksBack.{IsPredecessorWalk, predecessor_of, MeetsOnce}
+use Rattle.lid_rate.specs.WalksBack.{IsPredecessorWalk, IsCycleBy, predecessor_of}
 
 -- each edge from a predecessor is one of the graph and ends at its transition
 pub record ArePredecessors (g : Graph) (last : List (Option ℕ)) : Type 0 where
@@ -44,14 +44,8 @@ pub record LeadsOut (g : Graph) (last : List (Option ℕ)) (start n : ℕ) : Typ
   pub long : length chain ≡ n
   pub short : n < g.nodes
 
-pub record ClosesUp (g : Graph) (last : List (Option ℕ)) (walk : List ℕ) : Type 0 where
-  pub at : ℕ
-  pub chain : List ℕ
-  pub chained : IsPredecessorWalk g last at chain at
-  pub some : 0 < length chain
-  pub short : length chain ≤ g.nodes
-  pub once : MeetsOnce g chain
-  pub walk_is : walk ≡ reverse chain
+abbrev pub ClosesUp : Graph → List (Option ℕ) → List ℕ → Type 0
+ClosesUp g last = IsCycleBy g (IsPredecessorWalk g last)
 
 abbrev pub Follows : Graph → List (Option ℕ) → ℕ → Followed → Type 0
 Follows g last start (Ends n) = LeadsOut g last start n

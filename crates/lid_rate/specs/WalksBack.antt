@@ -27,12 +27,17 @@ MeetsOnce g ks =
     → (edge_at g (slice_index ks i)).to ≡ (edge_at g (slice_index ks j)).to
     → i ≡ j
 
--- a closed walk on edges of the list that meets no transition twice. It is found from its end
-pub record IsCycleOn (g : Graph) (es walk : List ℕ) : Type 0 where
+-- a closed walk that meets no transition twice. It is found from its end, as a chain from a transition
+-- back to itself
+pub record IsCycleBy (g : Graph) (IsChain : ℕ → List ℕ → ℕ → Type 0) (walk : List ℕ) : Type 0 where
   pub at : ℕ
   pub chain : List ℕ
-  pub chained : IsWalkBack g es at chain at
+  pub chained : IsChain at chain at
   pub some : 0 < length chain
   pub short : length chain ≤ g.nodes
   pub once : MeetsOnce g chain
   pub walk_is : walk ≡ reverse chain
+
+-- a closed walk on edges of the list that meets no transition twice
+abbrev pub IsCycleOn : Graph → List ℕ → List ℕ → Type 0
+IsCycleOn g es = IsCycleBy g (IsWalkBack g es)

@@ -4,11 +4,12 @@ ghost use Rattle.std.specs.Prelude.{◌≡◌, ◌++◌, ◌∷◌, [], codes, O
 ghost use Rattle.std.specs.Fmt.{decimal};
 ghost use Rattle.lid_base.specs.Lists.{Keeps};
 ghost use Rattle.lid_lines.specs.Texts.{line_text};
-ghost use Rattle.lid_reports.specs.Pieces.{spelled};
+ghost use Rattle.lid_reports.specs.Pieces.{spelled, hex_digits};
 ghost use Rattle.lid_reports.specs.Runs.{fired_word, answer_text};
 
 use crate::pieces::{Piece, append_pieces};
 use lid_base::Answer;
+use lid_lines::cut_back;
 use std::alloc::AllocError;
 
 /// Appends the line of a token that was moved.
@@ -57,6 +58,20 @@ fn append_look<'w>(
     append_pieces(&line, into)
 }
 
+/// Appends the line of a look that tells the word of a station.
+fn append_hex_look(
+    actor: u32,
+    name: &[u8],
+    station: u32,
+    word: u64,
+    into: &mut Vec<u8>,
+) -> Result<(), AllocError>
+    ensures ok { OnOk result (into.new.items ≡ into.old.items ++ line_text (decimal actor ∷ name.now ∷ decimal station ∷ hex_digits 16 word ∷ [])) }
+    ensures kept { Keeps into.old.items into.new.items }
+{
+    append_look(actor, name, station, Piece::Hex(word), into)
+}
+
 /// Appends the line of an answer.
 #[tactic(auto, unfolding(crate::specs::Runs::answer_text))]
 fn append_answer(actor: u32, answer: &Answer, into: &mut Vec<u8>) -> Result<(), AllocError>
@@ -74,13 +89,7 @@ fn append_answer(actor: u32, answer: &Answer, into: &mut Vec<u8>) -> Result<(), 
                 into,
             )
         }
-        Answer::Void { station, word } => append_look(
-            actor,
-            b"void",
-            station,
-            Piece::Hex(word),
-            into,
-        ),
+        Answer::Void { station, word } => append_hex_look(actor, b"void", station, word, into),
         Answer::Room { station } => {
             let line = [
                 number,
@@ -89,13 +98,7 @@ fn append_answer(actor: u32, answer: &Answer, into: &mut Vec<u8>) -> Result<(), 
             ];
             append_pieces(&line, into)
         }
-        Answer::Stop { station, word } => append_look(
-            actor,
-            b"stop",
-            station,
-            Piece::Hex(word),
-            into,
-        ),
+        Answer::Stop { station, word } => append_hex_look(actor, b"stop", station, word, into),
         Answer::Took {
             station,
             token,
@@ -119,10 +122,5 @@ pub fn print_answer(actor: u32, answer: &Answer, into: &mut Vec<u8>) -> Result<(
     ensures ok { OnOk result (into.new.items ≡ into.old.items ++ answer_text actor answer.now) }
     ensures err { OnErr result (into.new.items ≡ into.old.items) }
 {
-    let len = into.len();
-    let printed = append_answer(actor, answer, into);
-    if printed.is_err() {
-        into.truncate(len);
-    }
-    printed
+    cut_back(into.len(), append_answer(actor, answer, into), into)
 }

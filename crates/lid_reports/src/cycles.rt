@@ -5,6 +5,7 @@ ghost use Rattle.lid_base.specs.Lists.{Keeps};
 ghost use Rattle.lid_reports.specs.Runs.{fired_text, cycles_text};
 
 use crate::pieces::{Piece, append_pieces};
+use lid_lines::cut_back;
 use std::alloc::AllocError;
 
 /// Appends a line for each node.
@@ -48,10 +49,5 @@ pub fn print_cycles(cycles: u64, fired: &[u64], into: &mut Vec<u8>) -> Result<()
     ensures ok { OnOk result (into.new.items ≡ into.old.items ++ cycles_text cycles fired.now) }
     ensures err { OnErr result (into.new.items ≡ into.old.items) }
 {
-    let len = into.len();
-    let printed = append_cycles(cycles, fired, into);
-    if printed.is_err() {
-        into.truncate(len);
-    }
-    printed
+    cut_back(into.len(), append_cycles(cycles, fired, into), into)
 }

@@ -7,6 +7,7 @@ ghost use Rattle.lid_reports.specs.Runs.{channel_words, channels_text, count_lin
 
 use crate::pieces::{Piece, append_pieces};
 use lid_base::{Items, Name};
+use lid_lines::cut_back;
 use std::alloc::AllocError;
 
 /// A channel of a system: its ends by the numbers of nodes, which of the channels between them it is,
@@ -119,10 +120,5 @@ pub fn print_report(report: &Report, into: &mut Vec<u8>) -> Result<(), AllocErro
     ensures ok { OnOk result (into.new.items ≡ into.old.items ++ report_text report.now) }
     ensures err { OnErr result (into.new.items ≡ into.old.items) }
 {
-    let len = into.len();
-    let printed = append_report(report, into);
-    if printed.is_err() {
-        into.truncate(len);
-    }
-    printed
+    cut_back(into.len(), append_report(report, into), into)
 }

@@ -4,7 +4,7 @@ ghost use Rattle.std.specs.Prelude.{◌≡◌, ◌⊎◌, ◌+◌, ◌^◌, ◌+
 ghost use Rattle.lid_base.specs.Numbers.{value_below};
 ghost use Rattle.lid_reports.specs.Schedules.{words_at, words_of, word_fault, of_text, actors_reading, schedule_reading};
 
-use lid_base::{Items, Line, Name, TextFault, Which, lines, number};
+use lid_base::{Items, Line, TextFault, Which, lines, number};
 use std::alloc::Global;
 
 /// The most bytes of a schedule.
@@ -25,7 +25,7 @@ pub enum SchedFault {
     Word { line: u32 },
     /// The line has a number that is no actor's.
     NoActor { line: u32 },
-    /// A limit is exceeded by this number.
+    /// The number of what is counted, which is over the limit.
     Limit { which: Which, count: u64 },
     /// There was no memory.
     Memory,
@@ -62,18 +62,13 @@ fn push_actor(
 }
 
 /// Appends the actors that the words of a line name.
-fn push_line(
-    line: u32,
-    words: &[Name],
-    actors: u32,
-    schedule: &mut Vec<u32>,
-) -> Result<(), SchedFault>
-    ensures ok { OnOk result ((later : List (ℕ × List ℕ)) → actors_reading actors schedule.new.items later ≡ actors_reading actors schedule.old.items (words_at line words.now ++ later)) }
+fn push_line(line: &Line, actors: u32, schedule: &mut Vec<u32>) -> Result<(), SchedFault>
+    ensures ok { OnOk result ((later : List (ℕ × List ℕ)) → actors_reading actors schedule.new.items later ≡ actors_reading actors schedule.old.items (words_at line.now.number line.now.words ++ later)) }
     ensures err { IfErr result (λ e. (e ≡ SchedFault.Memory)
-        ⊎ ((later : List (ℕ × List ℕ)) → actors_reading actors schedule.old.items (words_at line words.now ++ later) ≡ Err e)) }
+        ⊎ ((later : List (ℕ × List ℕ)) → actors_reading actors schedule.old.items (words_at line.now.number line.now.words ++ later) ≡ Err e)) }
 {
-    for word in words {
-        if let Err(fault) = push_actor(line, word.as_slice(), actors, schedule) {
+    for word in line.words.as_slice() {
+        if let Err(fault) = push_actor(line.number, word.as_slice(), actors, schedule) {
             return Err(fault);
         }
     }
@@ -86,7 +81,7 @@ fn push_lines(lines: &[Line], actors: u32, schedule: &mut Vec<u32>) -> Result<()
     ensures err { IfErr result (λ e. (e ≡ SchedFault.Memory) ⊎ (actors_reading actors schedule.old.items (words_of lines.now) ≡ Err e)) }
 {
     for line in lines {
-        if let Err(fault) = push_line(line.number, line.words.as_slice(), actors, schedule) {
+        if let Err(fault) = push_line(line, actors, schedule) {
             return Err(fault);
         }
     }

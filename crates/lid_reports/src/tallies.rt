@@ -7,6 +7,7 @@ ghost use Rattle.lid_lines.specs.Texts.{line_text};
 
 use crate::pieces::{Piece, append_pieces};
 use lid_base::Tally;
+use lid_lines::cut_back;
 use std::alloc::AllocError;
 
 /// Appends the line of a worker.
@@ -80,10 +81,9 @@ pub fn print_tallies(
     ensures ok { OnOk result (into.new.items ≡ into.old.items ++ tallies_text tallies.now finish finish_fired) }
     ensures err { OnErr result (into.new.items ≡ into.old.items) }
 {
-    let len = into.len();
-    let printed = append_tallies(tallies, finish, finish_fired, into);
-    if printed.is_err() {
-        into.truncate(len);
-    }
-    printed
+    cut_back(
+        into.len(),
+        append_tallies(tallies, finish, finish_fired, into),
+        into,
+    )
 }

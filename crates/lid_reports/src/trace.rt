@@ -8,6 +8,7 @@ ghost use Rattle.lid_reports.specs.Runs.{cell_word, cycle_words, cycles_from, tr
 
 use crate::pieces::{Piece, append_pieces};
 use lid_base::{Items, Shown, Which, append_number};
+use lid_lines::cut_back;
 use std::alloc::AllocError;
 
 /// The most cells of a trace: stations times cycles.
@@ -25,7 +26,7 @@ pub struct Trace {
 /// Why a trace is not made.
 #[derive(Clone, Copy)]
 pub enum TraceFault {
-    /// A limit is exceeded by this number.
+    /// The number of what is counted, which is over the limit.
     Limit { which: Which, count: u64 },
 }
 
@@ -144,10 +145,5 @@ pub fn print_trace(trace: &Trace, into: &mut Vec<u8>) -> Result<(), AllocError>
     ensures ok { OnOk result (into.new.items ≡ into.old.items ++ trace_text trace.now) }
     ensures err { OnErr result (into.new.items ≡ into.old.items) }
 {
-    let len = into.len();
-    let printed = append_trace(trace, into);
-    if printed.is_err() {
-        into.truncate(len);
-    }
-    printed
+    cut_back(into.len(), append_trace(trace, into), into)
 }

@@ -24,7 +24,7 @@ pub struct Stall {
 /// first physical line.
 #[derive(Clone, Copy)]
 pub enum StallFault {
-    /// A limit is exceeded by this number.
+    /// The number of what is counted, which is over the limit.
     Limit { which: Which, count: u64 },
     /// The line is not as the form says, or has a byte against the rules of lines or a word of more than
     /// 1,024 bytes. A text without logical lines is told by line 0.

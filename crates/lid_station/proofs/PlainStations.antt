@@ -111,18 +111,22 @@ held_more_at places stream taken put token ordered room some next held i from to
     (λ same. earlier (one_turn i put (length places) (omega arith) (omega arith) same))
     ∙ held i from (omega arith))
 
+-- a station whose places hold what another's stream has
+holds_from : (p q : Pair) (stream places : List ℕ) → Holds p stream → q.places.items ≡ places → q.put ≤ length stream
+    → ((i : ℕ) → q.taken ≤ i → i < q.put → get_or places (i % length places) 0 ≡ get_or stream i 0) → Holds q stream
+holds_from p q stream places holds is filled held =
+    record {
+      short = holds.short;
+      small = holds.small;
+      filled = filled;
+      held = λ i from to. ap (λ (items : List ℕ). get_or items (i % length items) 0) is ∙ held i from to;
+    }
+
 -- a station from which a token was taken
 pub holds_less : (p q : Pair) (stream : List ℕ) → Holds p stream → q.places.items ≡ p.places.items → q.put ≡ p.put → q.taken ≡ p.taken + 1 → Holds q stream
 holds_less p q stream holds places put taken =
     let filled : p.put ≤ length stream = holds.filled in
-    record {
-      short = holds.short;
-      small = holds.small;
-      filled = omega arith;
-      held = λ i from to.
-          ap (λ (items : List ℕ). get_or items (i % length items) 0) places
-          ∙ holds.held i (omega arith) (omega arith);
-    }
+    holds_from p q stream p.places.items holds places (omega arith) (λ i from to. holds.held i (omega arith) (omega arith))
 
 -- a station in whose next place the stream's next token was put
 pub holds_more : (p q : Pair) (stream : List ℕ) (place token : ℕ) → Holds p stream → p.put < p.taken + length p.places.items → place ≡ p.put % length p.places.items
@@ -131,14 +135,8 @@ holds_more p q stream place token holds room is next places put taken =
     let two : 2 ≤ length p.places.items = p.two in
     let written : q.places.items ≡ set p.places.items (p.put % length p.places.items) token = places ∙ ap (λ (k : ℕ). set p.places.items k token) is in
     let within : p.put < length stream = slice_get_within stream p.put token next in
-    record {
-      short = holds.short;
-      small = holds.small;
-      filled = omega arith;
-      held = λ i from to.
-          ap (λ (items : List ℕ). get_or items (i % length items) 0) written
-          ∙ held_more_at p.places.items stream p.taken p.put token p.ordered room (omega arith) next holds.held i (omega arith) (omega arith);
-    }
+    holds_from p q stream (set p.places.items (p.put % length p.places.items) token) holds written (omega arith)
+    (λ i from to. held_more_at p.places.items stream p.taken p.put token p.ordered room (omega arith) next holds.held i (omega arith) (omega arith))
 
 -- what a full station shows of a place is what the place shows in its word
 pub shown_half : (p : Pair) (stream : List ℕ) (place : ℕ) → Holds p stream → p.put ≡ p.taken + length p.places.items

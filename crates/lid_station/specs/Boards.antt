@@ -1,6 +1,6 @@
 -- What the clauses on stations say: what is known of an end, how a call changes it, and what a look
 -- finds.
-use Rattle.std.specs.Prelude.{◌≡◌, ℕ, ◌+◌, ◌-◌, ◌*◌, ◌/◌, ◌%◌, ◌<◌, ◌≤◌, ◌==◌, cond, Bool, true, false, List, take, Option, Some, option_map, slice_get}
+use Rattle.std.specs.Prelude.{◌≡◌, ℕ, ◌+◌, ◌-◌, ◌*◌, ◌/◌, ◌%◌, ◌^◌, ◌<◌, ◌≤◌, ◌==◌, cond, Bool, true, false, List, take, Option, Some, option_map, slice_get}
 use Rattle.lid_station.specs.declared.looks.InLook.{InLook}
 use Rattle.lid_station.specs.declared.looks.InLook.TheVariants.{Token, Void}
 use Rattle.lid_station.specs.declared.looks.OutLook.{OutLook}
@@ -28,10 +28,6 @@ fill station = 2 * station
 -- the number of a station's end that is drained
 abbrev pub drain : ℕ → ℕ
 drain station = 2 * station + 1
-
--- whether an end is served, and what is known of it meets P
-abbrev pub Serves : Ends → ℕ → (Facts → Type 0) → Type 0
-Serves ends end P = (f : Facts) × (ends end ≡ Some f) × P f
 
 -- whether an end is served
 abbrev pub IsServed : Ends → ℕ → Type 0
@@ -95,6 +91,11 @@ abbrev pub FindsOut : OutLook → Facts → List ℕ → Type 0
 FindsOut Room f stream = Unit {0}
 FindsOut (Stop told) f stream =
     told ≡ word f.cap (take f.passed stream) (take (f.passed - f.cap) stream) (word_number f.cap f.passed)
+
+-- a token that is found has 31 bits
+abbrev pub HasSmallToken : InLook → Type 0
+HasSmallToken (Token token) = token < 2 ^ 31
+HasSmallToken (Void told) = Unit {0}
 
 -- the word that is told of a station that holds nothing is 0
 abbrev pub TellsNothing : InLook → Type 0

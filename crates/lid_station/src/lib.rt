@@ -3,13 +3,11 @@
 #![tactic(auto)]
 
 mod looks;
-mod mover;
 mod pair;
 mod plain;
 mod stations;
 
 pub use looks::{End, InLook, OutLook, Side};
-pub use mover::{Carried, carry};
 pub use pair::Pair;
 pub use plain::PlainBoard;
 pub use stations::Stations;

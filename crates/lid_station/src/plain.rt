@@ -70,8 +70,9 @@ fn start_pair(alloc: Global, first: Option<u32>, cap: u32) -> Result<Pair, Alloc
 }
 
 impl PlainBoard {
-    /// Starts one station for each entry, with its start token, if any, and its capacity. Start
-    /// tokens are below 2^31, capacities lie in 2 to 16.
+    /// Starts one station for each entry, with its start token, if any, and its capacity. There are
+    /// as many capacities as start tokens, fewer than 2^32; start tokens are below 2^31, capacities
+    /// lie in 2 to 16.
     ///
     /// # Errors
     /// Memory is wanting.

@@ -2,7 +2,7 @@
 
 ghost use Rattle.std.specs.Prelude.{◌≡◌, ℕ, ◌+◌, ◌^◌, ◌<◌, ◌≤◌, List, Some, Option, slice_get, ◌↔◌};
 ghost use base.Stored.{Gv};
-ghost use Rattle.lid_station.specs.Boards.{Facts, fill, drain, IsServed, IsMarked, advanced, Changes, looked_in, looked_out, IsToken, IsVoid, IsRoom, IsStop, FindsIn, FindsOut, TellsNothing, TellsFull, HasFilled, HasDrained};
+ghost use Rattle.lid_station.specs.Boards.{Facts, fill, drain, IsServed, IsMarked, advanced, Changes, looked_in, looked_out, IsToken, IsVoid, IsRoom, IsStop, FindsIn, FindsOut, HasSmallToken, TellsNothing, TellsFull, HasFilled, HasDrained};
 
 use crate::looks::{InLook, OutLook};
 
@@ -39,6 +39,7 @@ pub trait Stations {
         requires { IsServed (ends self.old) (drain station) }
         ensures changed { Changes (ends self.old) (drain station) (looked_in result) (ends self.new) }
         ensures found { (streams : ℕ → List ℕ) → (f : Facts) → stands self.old streams → ends self.old (drain station) ≡ Some f → FindsIn result f (streams station) }
+        ensures small { HasSmallToken result }
         ensures nothing { TellsNothing result }
         ensures drained { (f : Facts) → ends self.old (drain station) ≡ Some f → HasDrained result f }
         ensures again { IsMarked (ends self.old) (drain station) → IsToken result }

@@ -329,98 +329,6 @@ fn drain_some(board: &Board, mut hand: Hand, tries: u32, stream: &[u32]) -> (Han
     (hand, wrong)
 }
 
-/// One thread fills station 0, another drains it.
-fn relay<R: Threads + Sync>(
-    rt: &R,
-    board: &Board,
-    filler: Hand,
-    drainer: Hand,
-    stream: &[u32],
-) -> (Hand, (Hand, u32))
-    requires filler { IsOf filler board.now }
-    requires drainer { IsOf drainer board.now }
-    requires stands { StandsFor (plan_of board.now) (λ _. stream.now) }
-    ensures filler { IsOf result.0 board.now }
-    ensures drainer { IsOf result.1.0 board.now }
-{
-    join(
-        rt,
-        move || -> Hand
-            requires { IsOf filler board.now × StandsFor (plan_of board.now) (λ _. stream.now) }
-            ensures { IsOf result board.entry.now }
-        { fill_some(board, filler, 300, stream) },
-        move || -> (Hand, u32)
-            requires { IsOf drainer board.now }
-            ensures { IsOf result.0 board.entry.now }
-        { drain_some(board, drainer, 300, stream) },
-    )
-}
-
-/// Parts a hand, lets two threads relay, and joins the hands: how many tokens were wrong.
-fn relayed<R: Threads + Sync>(
-    rt: &R,
-    board: &Board,
-    mut hand: Hand,
-    stream: &[u32],
-) -> Option<(Hand, u32)>
-    requires of { IsOf hand board.now }
-    requires stands { StandsFor (plan_of board.now) (λ _. stream.now) }
-    ensures { IfSome result (λ r. IsOf r.0 board.now) }
-{
-    let end = End {
-        station: 0,
-        side: Side::Drain,
-    };
-    let Some(drainer) = part(board, &mut hand, end) else {
-        return None;
-    };
-    let (mut filler, (drainer, wrong)) = relay(rt, board, hand, drainer, stream);
-    board.join(&mut filler, drainer);
-    Some((filler, wrong))
-}
-
-/// What the next look finds after as many rounds of one offer and one taking.
-fn found_after(
-    board: &Board,
-    mut hand: Hand,
-    rounds: u32,
-    stream: &[u32],
-) -> Option<(InLook, Option<u32>)>
-    requires of { IsOf hand board.now }
-    requires stands { StandsFor (plan_of board.now) (λ _. stream.now) }
-{
-    for _round in 0..rounds {
-        let _look = offer(board, &mut hand, 0, stream);
-        let _look = receive(board, &mut hand, 0);
-    }
-    receive(board, &mut hand, 0)
-}
-
-/// How many tokens of ten came wrong through a station between two threads, and what is found once
-/// the rest is carried too.
-fn relay_of_ten<R: Threads + Sync>(
-    rt: &R,
-    alloc: Global,
-) -> Option<(u32, Option<(InLook, Option<u32>)>)> {
-    let course = Same {
-        stations: 1,
-        stream: &[5, 6, 7, 8, 9, 10, 11, 12, 13, 14],
-    };
-    let Some((board, hand)) = start_same(alloc, 3, &course) else {
-        return None;
-    };
-    let Some((hand, wrong)) = relayed(rt, &board, hand, course.stream) else {
-        return None;
-    };
-    Some((wrong, found_after(&board, hand, 10, course.stream)))
-}
-
-#[test]
-fn two_threads_share_a_station(rt: HostRuntime) {
-    let found = relay_of_ten(&rt, rt.alloc());
-    assert_eq!(rt; found, Some((0, Some((InLook::Void(0), None)))));
-}
-
 /// Whether there is room at a station for a token that the stream has.
 fn has_room(board: &Board, hand: &mut Hand, station: u32, stream: &[u32]) -> bool
     requires { IsOf hand.old board.now }
@@ -459,37 +367,141 @@ fn carry_some(board: &Board, mut hand: Hand, from: u32, to: u32, stream: &[u32])
     hand
 }
 
-/// Two threads carry tokens, one from `first` to `second`, one on to `third`.
-fn carry_two<R: Threads + Sync>(
+/// What a thread does at a board, many times.
+#[derive(Clone, Copy)]
+enum Work {
+    /// Offers tokens to station 0.
+    Fill,
+    /// Takes tokens from station 0.
+    Drain,
+    /// Carries tokens from a station to another.
+    Carry(u32, u32),
+}
+
+/// Does some work, and counts the tokens taken from station 0 that differ from the stream's.
+fn do_work(board: &Board, hand: Hand, work: Work, stream: &[u32]) -> (Hand, u32)
+    requires of { IsOf hand board.now }
+    requires stands { StandsFor (plan_of board.now) (λ _. stream.now) }
+    ensures { IsOf result.0 board.now }
+{
+    match work {
+        Work::Fill => (fill_some(board, hand, 300, stream), 0),
+        Work::Drain => drain_some(board, hand, 300, stream),
+        Work::Carry(from, to) => (carry_some(board, hand, from, to, stream), 0),
+    }
+}
+
+/// Two threads do some work each: the hands after it, and how many tokens came wrong.
+fn do_both<R: Threads + Sync>(
     rt: &R,
     board: &Board,
     one: Hand,
+    first: Work,
     two: Hand,
-    first: u32,
-    second: u32,
-    third: u32,
+    second: Work,
     stream: &[u32],
-) -> (Hand, Hand)
+) -> (Hand, Hand, u32)
     requires one { IsOf one board.now }
     requires two { IsOf two board.now }
     requires stands { StandsFor (plan_of board.now) (λ _. stream.now) }
     ensures one { IsOf result.0 board.now }
     ensures two { IsOf result.1 board.now }
 {
-    join(
+    let ((one, wrong), (two, more)) = join(
         rt,
-        move || -> Hand
+        move || -> (Hand, u32)
             requires { IsOf one board.now × StandsFor (plan_of board.now) (λ _. stream.now) }
-            ensures { IsOf result board.entry.now }
-        { carry_some(board, one, first, second, stream) },
-        move || -> Hand
+            ensures { IsOf result.0 board.entry.now }
+        { do_work(board, one, first, stream) },
+        move || -> (Hand, u32)
             requires { IsOf two board.now × StandsFor (plan_of board.now) (λ _. stream.now) }
-            ensures { IsOf result board.entry.now }
-        { carry_some(board, two, second, third, stream) },
-    )
+            ensures { IsOf result.0 board.entry.now }
+        { do_work(board, two, second, stream) },
+    );
+    (one, two, wrong.saturating_add(more))
 }
 
-/// Four threads carry tokens in a ring of stations 0 to 3.
+/// Parts a hand, lets two threads relay, and joins the hands: how many tokens were wrong.
+fn relayed<R: Threads + Sync>(
+    rt: &R,
+    board: &Board,
+    mut hand: Hand,
+    stream: &[u32],
+) -> Option<(Hand, u32)>
+    requires of { IsOf hand board.now }
+    requires stands { StandsFor (plan_of board.now) (λ _. stream.now) }
+    ensures { IfSome result (λ r. IsOf r.0 board.now) }
+{
+    let end = End {
+        station: 0,
+        side: Side::Drain,
+    };
+    let Some(drainer) = part(board, &mut hand, end) else {
+        return None;
+    };
+    let (mut filler, drainer, wrong) = do_both(
+        rt,
+        board,
+        hand,
+        Work::Fill,
+        drainer,
+        Work::Drain,
+        stream,
+    );
+    board.join(&mut filler, drainer);
+    Some((filler, wrong))
+}
+
+/// What the next look finds after as many rounds of one offer and one taking.
+fn found_after(
+    board: &Board,
+    mut hand: Hand,
+    rounds: u32,
+    stream: &[u32],
+) -> Option<(InLook, Option<u32>)>
+    requires of { IsOf hand board.now }
+    requires stands { StandsFor (plan_of board.now) (λ _. stream.now) }
+{
+    for _round in 0..rounds {
+        let _look = offer(board, &mut hand, 0, stream);
+        let _look = receive(board, &mut hand, 0);
+    }
+    receive(board, &mut hand, 0)
+}
+
+/// How many tokens passed an end; 0 where another hand has it.
+fn passed_at(hand: &Hand, station: u32, side: Side) -> u64 {
+    hand.passed(End { station, side }).unwrap_or(0)
+}
+
+/// How many tokens of ten came wrong through a station between two threads, whether each thread
+/// moved what it can whatever the other does (the one fills three places, the other takes the start
+/// token), and what is found once the rest is carried too.
+fn relay_of_ten<R: Threads + Sync>(
+    rt: &R,
+    alloc: Global,
+) -> Option<(u32, bool, Option<(InLook, Option<u32>)>)> {
+    let course = Same {
+        stations: 1,
+        stream: &[5, 6, 7, 8, 9, 10, 11, 12, 13, 14],
+    };
+    let Some((board, hand)) = start_same(alloc, 3, &course) else {
+        return None;
+    };
+    let Some((hand, wrong)) = relayed(rt, &board, hand, course.stream) else {
+        return None;
+    };
+    let moved = passed_at(&hand, 0, Side::Fill) >= 3 && passed_at(&hand, 0, Side::Drain) >= 1;
+    Some((wrong, moved, found_after(&board, hand, 10, course.stream)))
+}
+
+#[test]
+fn two_threads_share_a_station(rt: HostRuntime) {
+    let found = relay_of_ten(&rt, rt.alloc());
+    assert_eq!(rt; found, Some((0, true, Some((InLook::Void(0), None)))));
+}
+
+/// Four threads carry tokens in a ring of stations 0 to 3: the hands after it.
 fn ring<R: Threads + Sync>(
     rt: &R,
     board: &Board,
@@ -498,7 +510,7 @@ fn ring<R: Threads + Sync>(
     three: Hand,
     four: Hand,
     stream: &[u32],
-) -> ((Hand, Hand), (Hand, Hand))
+) -> ((Hand, Hand, u32), (Hand, Hand, u32))
     requires one { IsOf one board.now }
     requires two { IsOf two board.now }
     requires three { IsOf three board.now }
@@ -511,14 +523,34 @@ fn ring<R: Threads + Sync>(
 {
     join(
         rt,
-        move || -> (Hand, Hand)
+        move || -> (Hand, Hand, u32)
             requires { IsSync R.row × IsOf one board.now × IsOf two board.now × StandsFor (plan_of board.now) (λ _. stream.now) }
             ensures { IsOf result.0 board.entry.now × IsOf result.1 board.entry.now }
-        { carry_two(rt, board, one, two, 0, 1, 2, stream) },
-        move || -> (Hand, Hand)
+        {
+            do_both(
+                rt,
+                board,
+                one,
+                Work::Carry(0, 1),
+                two,
+                Work::Carry(1, 2),
+                stream,
+            )
+        },
+        move || -> (Hand, Hand, u32)
             requires { IsSync R.row × IsOf three board.now × IsOf four board.now × StandsFor (plan_of board.now) (λ _. stream.now) }
             ensures { IsOf result.0 board.entry.now × IsOf result.1 board.entry.now }
-        { carry_two(rt, board, three, four, 2, 3, 0, stream) },
+        {
+            do_both(
+                rt,
+                board,
+                three,
+                Work::Carry(2, 3),
+                four,
+                Work::Carry(3, 0),
+                stream,
+            )
+        },
     )
 }
 
@@ -584,7 +616,7 @@ fn carried_round<R: Threads + Sync>(
     let Some((three, four)) = two_workers(board, &mut hand, 2, 3, 0) else {
         return None;
     };
-    let ((one, two), (three, four)) = ring(rt, board, one, two, three, four, stream);
+    let ((one, two, _), (three, four, _)) = ring(rt, board, one, two, three, four, stream);
     board.join(&mut hand, one);
     board.join(&mut hand, two);
     board.join(&mut hand, three);
@@ -594,21 +626,26 @@ fn carried_round<R: Threads + Sync>(
 
 /// How many tokens a station holds, by a hand with both its ends.
 fn holds(hand: &Hand, station: u32) -> u64 {
-    let filled = End {
-        station,
-        side: Side::Fill,
-    };
-    let drained = End {
-        station,
-        side: Side::Drain,
-    };
-    let put = hand.passed(filled).unwrap_or(0);
-    put.saturating_sub(hand.passed(drained).unwrap_or(0))
+    passed_at(hand, station, Side::Fill).saturating_sub(passed_at(hand, station, Side::Drain))
+}
+
+/// Whether at least so many tokens passed the filled end of each of four stations, and one the
+/// drained end.
+fn has_gone_round(hand: &Hand, least: u64) -> bool {
+    for station in 0..4 {
+        if passed_at(hand, station, Side::Fill) < least
+            || passed_at(hand, station, Side::Drain) < 1
+        {
+            return false;
+        }
+    }
+    true
 }
 
 /// How many tokens four stations hold that started with one each, after four workers carried them
-/// in a ring.
-fn held_in_ring<R: Threads + Sync>(rt: &R, alloc: Global) -> Option<u64> {
+/// in a ring, and whether each worker carried one: each finds a token and room at its first try,
+/// whatever the others do.
+fn held_in_ring<R: Threads + Sync>(rt: &R, alloc: Global) -> Option<(u64, bool)> {
     let course = Same {
         stations: 4,
         stream: &[7; 40],
@@ -621,12 +658,12 @@ fn held_in_ring<R: Threads + Sync>(rt: &R, alloc: Global) -> Option<u64> {
     };
     let half = holds(&hand, 0).saturating_add(holds(&hand, 1));
     let rest = holds(&hand, 2).saturating_add(holds(&hand, 3));
-    Some(half.saturating_add(rest))
+    Some((half.saturating_add(rest), has_gone_round(&hand, 2)))
 }
 
 #[test]
 fn four_workers_share_a_ring(rt: HostRuntime) {
-    assert_eq!(rt; held_in_ring(&rt, rt.alloc()), Some(4));
+    assert_eq!(rt; held_in_ring(&rt, rt.alloc()), Some((4, true)));
 }
 
 /// Streams worked by hand: `5 6 7 8` for station 0, and `9` for station 1.

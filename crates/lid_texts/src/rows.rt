@@ -20,7 +20,7 @@ pub enum VecFault {
     Width { line: u32 },
     /// The logical line has a character that no row has, or a byte against the rules of lines.
     Char { line: u32 },
-    /// A limit is exceeded by this number.
+    /// The number of what is counted, which is over the limit.
     Limit { which: Which, count: u64 },
     /// A second pass over a text gave fewer rows than the first. No call of this crate gives it.
     Changed { rows: u64, found: u64 },

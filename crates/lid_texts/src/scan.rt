@@ -52,7 +52,8 @@ impl RowScan {
     }
 
     /// Takes the next piece of the text, and appends the rows whose logical lines end in it, up to the
-    /// first line that is at fault. It takes time in the length of the piece.
+    /// first line that is at fault. All calls together take time in the length of all pieces: one that
+    /// ends a line may go over what earlier ones held of it.
     ///
     /// # Errors
     /// Want of memory. Then the first of these rows were appended, and every later call of `feed` and

@@ -10,7 +10,7 @@ ghost use Rattle.lid_texts.specs.RowsText.{row_text, rows_text, bit_char};
 use crate::line::has_columns;
 use crate::rows::Rows;
 use lid_base::{Items, Name};
-use lid_lines::append_line;
+use lid_lines::{append_line, cut_back};
 use std::alloc::AllocError;
 
 /// Appends the header line.
@@ -81,10 +81,5 @@ pub fn print_rows(rows: &Rows, into: &mut Vec<u8>) -> Result<(), AllocError>
     ensures ok { OnOk result (into.new.items ≡ into.old.items ++ rows_text rows.now.columns rows.now.bits) }
     ensures err { OnErr result (into.new.items ≡ into.old.items) }
 {
-    let len = into.len();
-    let printed = append_text(rows, into);
-    if printed.is_err() {
-        into.truncate(len);
-    }
-    printed
+    cut_back(into.len(), append_text(rows, into), into)
 }

@@ -4,15 +4,15 @@ use Rattle.std.specs.List.{list_any}
 use Rattle.std.specs.Borrow.{Bor}
 use Rattle.lid_blif.specs.declared.context.Context.{Context}
 use Rattle.lid_blif.specs.Faults.{context_of, model_names, line_fault, first_fault}
-use Rattle.lid_blif.proofs.Contexts.{before_more, none_from, first_left, first_fault_pass, rows_none, rows_cons, models_none, models_cons}
+use Rattle.lid_blif.proofs.Contexts.{before_more, none_from, first_left, first_fault_pass, none_before, no_rows, no_models, rows_cons, models_cons}
 use Rattle.lid_blif.proofs.scan.scan.Goals as goal
 
 pub loop-line-init : goal.loop-line-init
 loop-line-init c = record {
   context = c.start-context.ensures;
   names = λ name. ap (list_any (λ (k : Bor (List ℕ)). bytes_eq name k.now)) c.new-names.ensures.empty;
-  rows = rows_none _ c.start-context.ensures;
-  models = models_none _ c.start-context.ensures;
+  rows = none_before (λ (p : Context). p.rows) _ c.start-context.ensures no_rows;
+  models = none_before (λ (p : Context). p.models) _ c.start-context.ensures no_models;
   later = refl;
 }
 

@@ -9,4 +9,5 @@ returns-clause-ok c =
     let inputs = c.args.inputs.now in
     let out = c.args.out.now in
     line_made c.args.into.now.items _ _ c.push.new.self.items (codes ".names") (spaced inputs ++ 32 ∷ out) (inputs ++ out ∷ []) c.in_ok-extend_from_slice.ensures.items
-    (appended _ _ _ (spaced inputs) (32 ∷ out) c.in_ok-append_words.ensures.ok (said_as (λ (w : List ℕ). 32 ∷ w) _ _ c.as_slice.result.now out c.as_slice.ensures c.in_ok-append_word.ensures.ok)) c.in_ok-push.ensures.items (spaced_push inputs out)
+    (appended _ _ _ (spaced inputs) (32 ∷ out) c.in_ok-append_words.ensures.ok
+    (said_as (λ (w : List ℕ). 32 ∷ w) _ _ c.as_slice.result.now out c.as_slice.ensures c.in_ok-append_word.ensures.ok)) c.in_ok-push.ensures.items (spaced_push inputs out)

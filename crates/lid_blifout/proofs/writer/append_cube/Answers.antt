@@ -13,5 +13,6 @@ returns-clause-ok c =
     let new = c.append_output.new.into.items in
     let cube = c.args.cube.now in
     on_ok {P = new ≡ c.append_asked.new.into.items ++ (output_word c.args.on ++ 10 ∷ [])} {Q = new ≡ old ++ line_text (cube_line c.args.inputs c.args.on cube)} c.append_output.result
-    (λ e. appended old c.append_asked.new.into.items new (asked_text c.args.inputs cube) (output_word c.args.on ++ 10 ∷ []) c.in_ok-append_asked.ensures.ok e ∙ ap (λ (bytes : List ℕ). old ++ bytes) (sym (cube_text c.args.inputs c.args.on cube)))
+    (λ e. appended old c.append_asked.new.into.items new (asked_text c.args.inputs cube) (output_word c.args.on ++ 10 ∷ []) c.in_ok-append_asked.ensures.ok e
+    ∙ ap (λ (bytes : List ℕ). old ++ bytes) (sym (cube_text c.args.inputs c.args.on cube)))
     c.append_output.ensures.ok

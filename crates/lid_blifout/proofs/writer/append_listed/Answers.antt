@@ -13,4 +13,5 @@ returns-clause-ok c =
     let names = c.args.names.now in
     let keyword = c.args.keyword.now in
     let some : 0 < length names = grind (arith, common_steps) in
-    on_ok {P = new ≡ old ++ line_text (keyword ∷ names)} {Q = new ≡ old ++ lines_text (listed keyword names)} c.append_keyword_line.result (λ e. e ∙ ap (λ (bytes : List ℕ). old ++ bytes) (listed_text keyword names some)) c.append_keyword_line.ensures.ok
+    on_ok {P = new ≡ old ++ line_text (keyword ∷ names)} {Q = new ≡ old ++ lines_text (listed keyword names)} c.append_keyword_line.result
+    (λ e. e ∙ ap (λ (bytes : List ℕ). old ++ bytes) (listed_text keyword names some)) c.append_keyword_line.ensures.ok

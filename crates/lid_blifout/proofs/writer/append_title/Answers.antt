@@ -6,4 +6,5 @@ use Rattle.lid_blifout.proofs.writer.append_title.Goals as goal
 pub returns-clause-ok : goal.returns-clause-ok
 returns-clause-ok c =
     let name = c.args.name.now in
-    line_made c.args.into.now.items _ _ c.push.new.self.items (codes ".model") (32 ∷ name) (name ∷ []) c.in_ok-extend_from_slice.ensures.items (said_as (λ (w : List ℕ). 32 ∷ w) _ _ c.as_slice.result.now name c.as_slice.ensures c.in_ok-append_word.ensures.ok) c.in_ok-push.ensures.items (spaced_one name)
+    line_made c.args.into.now.items _ _ c.push.new.self.items (codes ".model") (32 ∷ name) (name ∷ []) c.in_ok-extend_from_slice.ensures.items
+    (said_as (λ (w : List ℕ). 32 ∷ w) _ _ c.as_slice.result.now name c.as_slice.ensures c.in_ok-append_word.ensures.ok) c.in_ok-push.ensures.items (spaced_one name)

@@ -1,12 +1,8 @@
 use Rattle.std.proofs.Common.{◌∙◌}
 use Rattle.lid_base.proofs.Results.{if_ok}
 use Rattle.lid_judge.specs.Late.{after_names}
-use Rattle.lid_rules.proofs.Faults.{told_first, told_later}
+use Rattle.lid_rules.proofs.Faults.{told_later}
 use Rattle.lid_judge.proofs.late.find_after_names.Goals as goal
-
-pub returns-in-Some : goal.returns-in-Some
-unfolding after_names
-returns-in-Some c = told_first _ _ _ _ c.in-Some.is c.in_ok-told.ensures
 
 pub returns-in-None : goal.returns-in-None
 unfolding after_names

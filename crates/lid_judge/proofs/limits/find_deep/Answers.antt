@@ -1,12 +1,8 @@
 use Rattle.std.proofs.Common.{◌∙◌}
 use Rattle.lid_base.proofs.Results.{if_ok}
 use Rattle.lid_judge.specs.Limits.{deep_limits}
-use Rattle.lid_rules.proofs.Faults.{told_first, told_later}
+use Rattle.lid_rules.proofs.Faults.{told_later}
 use Rattle.lid_judge.proofs.limits.find_deep.Goals as goal
-
-pub returns-in-Some : goal.returns-in-Some
-unfolding deep_limits
-returns-in-Some c = told_first _ _ _ _ c.in-Some.is c.in_ok-told.ensures
 
 pub returns-in-None : goal.returns-in-None
 unfolding deep_limits

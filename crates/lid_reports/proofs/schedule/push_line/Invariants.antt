@@ -4,4 +4,4 @@ use Rattle.lid_reports.proofs.schedule.push_line.Given as goal
 
 abbrev pub invariant-loop-word : goal.invariant-loop-word
 invariant-loop-word l =
-    (later : List (ℕ × List ℕ)) → actors_reading l.actors l.schedule.items (words_at l.line (drop l.word-index l.words) ++ later) ≡ actors_reading l.actors l.fn.schedule.items (words_at l.line l.words ++ later)
+    (later : List (ℕ × List ℕ)) → actors_reading l.actors l.schedule.items (words_at l.line.number (drop l.word-index l.line.words) ++ later) ≡ actors_reading l.actors l.fn.schedule.items (words_at l.line.number l.line.words ++ later)

@@ -15,14 +15,12 @@ pub returns-in-Some : goal.returns-in-Some
 unfolding two_clocks
 returns-in-Some c =
     let d = c.args.ports.now in
-    let root = ap (λ (d : Design). d.root) (c.design.ensures.same ∙ c.survey.ensures) in
-    let here = sym (ap (slice_get d.models) root) ∙ here_is _ _ _ c.model.ensures.here c.in-Some.is in
+    let here = sym (ap (λ (e : Design). slice_get d.models e.root) (c.design.ensures.same ∙ c.survey.ensures)) ∙ here_is _ _ _ c.model.ensures.here c.in-Some.is in
     if_ok c.find_two_clocks_in.result (λ told e. e ∙ sym (ap (option_and_then (λ m. first_two (filter (is_clock d m) (port_drivers m)))) here)) c.find_two_clocks_in.ensures
 
 pub returns-in-None : goal.returns-in-None
 unfolding two_clocks
 returns-in-None c =
     let d = c.args.ports.now in
-    let root = ap (λ (d : Design). d.root) (c.design.ensures.same ∙ c.survey.ensures) in
-    let here = sym (ap (slice_get d.models) root) ∙ here_is _ _ _ c.model.ensures.here c.in-None.is in
+    let here = sym (ap (λ (e : Design). slice_get d.models e.root) (c.design.ensures.same ∙ c.survey.ensures)) ∙ here_is _ _ _ c.model.ensures.here c.in-None.is in
     sym (ap (option_and_then (λ m. first_two (filter (is_clock d m) (port_drivers m)))) here)

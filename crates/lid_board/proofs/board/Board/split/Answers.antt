@@ -3,7 +3,7 @@ use Rattle.std.specs.Prelude.{Option}
 use Rattle.lid_board.specs.Parting.{is_chosen}
 use Rattle.lid_board.specs.Ties.{IsTied}
 use Rattle.lid_board.specs.Views.{Ends, at}
-use Rattle.lid_board.proofs.Numbers.{written, tied_left, tied_right}
+use Rattle.lid_board.proofs.Numbers.{written_at, tied_left, tied_right}
 use Rattle.lid_board.proofs.Parting.{at_left, at_right}
 use Rattle.lid_board.proofs.board.Board.split.Goals as goal
 
@@ -12,10 +12,7 @@ invariant_of-hand c = record {
   tied =
       subst (IsTied _) (sym c.split_as-seat.ensures.left)
       (tied_left c.args.hand.now.ends.items _ c.args.hand.now.seat.me.0.ends (is_chosen c.args.ends.now) c.args.hand.now.tied
-      (λ k.
-      ap (λ (xs : List (Option ℕ)). get_or xs k None) (written c.move_numbers.new.from c.args.hand.now.ends.items c.args.hand.now.ends.len (search rules) (search rules))
-      ∙ c.move_numbers.ensures.from k
-      ∙ ap (λ (xs : List (Option ℕ)). cond (is_chosen c.args.ends.now k) None (get_or xs k None)) c.as_mut_slice.ensures.value));
+      (λ k. written_at c.move_numbers.new.from c.args.hand.now.ends.items c.args.hand.now.ends.len k _ (search rules) (search rules) (c.move_numbers.ensures.from k ∙ ap (λ (xs : List (Option ℕ)). cond (is_chosen c.args.ends.now k) None (get_or xs k None)) c.as_mut_slice.ensures.value)));
   early = (c.split_as-seat.ensures.early c.args.hand.now.early).0;
   no_slot = c.split_as-seat.ensures.seat.1 ∙ c.args.hand.now.no_slot;
 }
@@ -25,10 +22,7 @@ invariant_of-result c = record {
   tied =
       subst (IsTied _) (sym c.split_as-seat.ensures.right)
       (tied_right c.args.hand.now.ends.items _ c.args.hand.now.seat.me.0.ends (is_chosen c.args.ends.now) c.args.hand.now.tied
-      (λ k.
-      ap (λ (xs : List (Option ℕ)). get_or xs k None) (written c.move_numbers.new.into c.in_ok-numbers.numbers.items c.in_ok-numbers.numbers.len (search rules) (search rules))
-      ∙ c.move_numbers.ensures.into k
-      ∙ ap (λ (xs : List (Option ℕ)). cond (is_chosen c.args.ends.now k) (get_or xs k None) None) c.as_mut_slice.ensures.value));
+      (λ k. written_at c.move_numbers.new.into c.in_ok-numbers.numbers.items c.in_ok-numbers.numbers.len k _ (search rules) (search rules) (c.move_numbers.ensures.into k ∙ ap (λ (xs : List (Option ℕ)). cond (is_chosen c.args.ends.now k) (get_or xs k None) None) c.as_mut_slice.ensures.value)));
   early = (c.split_as-seat.ensures.early c.args.hand.now.early).1;
   no_slot = c.split_as-seat.ensures.seat.3;
 }

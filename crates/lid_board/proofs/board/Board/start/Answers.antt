@@ -7,6 +7,9 @@ use Rattle.lid_board.specs.declared.view.View.{View}
 use Rattle.lid_board.proofs.Starting.{start_related, plan_laid, plan_tied, plan_early, plan_fill, plan_drain, plan_stream, plan_long}
 use Rattle.lid_board.proofs.board.Board.start.Goals as goal
 
+pub lay_ground-requires : goal.lay_ground-requires
+lay_ground-requires g c = record { same = c.requires.same; two = c.requires.two; few = c.requires.few; small = c.requires.small }
+
 pub of_words-requires : goal.of_words-requires
 of_words-requires g c =
     start_related c.args.firsts.now c.args.caps.now (g.C.Course.streams c.args.course.now) c.in_ok-key.key.me.0.ends c.in_ok-key.ensures c.as_slice.result.now _ c.in_ok-key.key.me.0 refl c.requires.course c.requires.same c.requires.two c.requires.few

@@ -1,7 +1,7 @@
 //! Small graphs, with answers worked out by hand, and slow functions beside the definitions.
 
-use crate::designs::{RING, Station, are, graph_of};
-use crate::walks::rate_at;
+use crate::tests::designs::{RING, Station, are, graph_of};
+use crate::tests::walks::rate_at;
 use lid_base::Items;
 use lid_graph::{Edge, Graph, components, is_paired};
 use std::alloc::Global;

@@ -3,7 +3,7 @@
 ghost use Rattle.std.specs.List.{All};
 ghost use Rattle.lid_cert.specs.Certificates.{AreLists};
 
-use crate::designs::{DIAMOND, RING, Station, are, are_large, graph_of};
+use crate::tests::designs::{DIAMOND, RING, Station, are, are_large, graph_of};
 use lid_cert::{Cert, Part, check};
 use lid_certtext::{CertFault, print_cert, read_cert};
 use std::alloc::{AllocError, Global};
@@ -132,20 +132,8 @@ cycle 4294967295
 node 4294967295 4611686018427387903 4611686018427387904 4294967295 4294967295
 ";
 
-/// The ring's certificate without its last four lines.
-const CUT_OFF: &[u8] = b"lid-cert 1
-part 1
-ratio 1 1
-cycle 8
-node 0 0 0 0 -
-part 4
-ratio 2 3
-cycle 0 2 4
-";
-
 /// Texts, and at which line they are refused.
-static REFUSED: [(&[u8], u32); 9] = [
-    (CUT_OFF, 8),
+static REFUSED: [(&[u8], u32); 8] = [
     (b"", 0),
     (b"lid-cert 2\n", 1),
     (b"lid-cert 1\npart 0\n", 2),
@@ -172,6 +160,15 @@ fn tells_faulty_lines(rt: HostRuntime) {
     for case in &REFUSED {
         assert!(rt; is_refused_at(rt.alloc(), case.0, case.1));
     }
+}
+
+/// How many bytes the last four lines of the ring's certificate have.
+const LAST_LINES: usize = 60;
+
+#[test]
+fn refuses_a_certificate_that_is_cut_off(rt: HostRuntime) {
+    let text = &RING_CERT[..RING_CERT.len() - LAST_LINES];
+    assert!(rt; is_refused_at(rt.alloc(), text, 8));
 }
 
 /// A text with all that may stand in it and is not printed.

@@ -3,8 +3,8 @@
 ghost use Rattle.std.specs.Prelude.{IfOk, IsTrue};
 ghost use Rattle.lid_rate.specs.Rates.{IsRateable};
 
-use crate::designs::{DIAMOND, RING, Station, are, are_large, graph_of};
-use crate::walks::rate_at;
+use crate::tests::designs::{DIAMOND, RING, Station, are, are_large, graph_of};
+use crate::tests::walks::rate_at;
 use lid_cert::{Cert, Part, check};
 use lid_graph::Graph;
 use lid_rate::{find, is_rateable};
@@ -208,7 +208,7 @@ fn has_ratio(alloc: Global, nodes: u32, stations: &[Station], p: u64, q: u64) ->
     }
 }
 
-/// Whether this is the ratio of two ways from a driver to a sink, one with a shell and four movers, the
+/// Whether this is the ratio of two ways from a source to a sink, one with a shell and four movers, the
 /// other one station of this capacity.
 fn rates_two_ways(alloc: Global, capacity: u32, p: u64, q: u64) -> bool {
     let stations = [

@@ -1,7 +1,7 @@
 //! Small graphs with answers worked out by hand, all graphs of three numbers beside a slow closure, and
 //! long chains.
 
-use crate::designs::are;
+use crate::tests::designs::are;
 use lid_base::Items;
 use lid_digraph::{Digraph, Found, find_order, find_reached, find_reaching, is_graph};
 use std::alloc::{AllocError, Global};

@@ -8,10 +8,10 @@ use std::alloc::{AllocError, Global};
 pub(crate) type Station = (u32, u32, u32, u32);
 
 /// A ring of two registers, 1 and 2, with a mover, 4, from the first to the second, and a sink, 3. The
-/// driver, 0, stands alone.
+/// source, 0, stands alone.
 pub(crate) const RING: [Station; 4] = [(1, 4, 1, 2), (4, 2, 0, 2), (2, 1, 1, 2), (2, 3, 1, 2)];
 
-/// The actors of two ways that join again: the driver, three shells, the sink and three movers.
+/// The actors of two ways that join again: the source, three shells, the sink and three movers.
 pub(crate) const DIAMOND: [Station; 8] = [
     (0, 1, 1, 2),
     (1, 5, 1, 2),

@@ -1,6 +1,6 @@
 use Rattle.std.proofs.Common.{◌≡◌, ◌+◌, false, cond}
 use Rattle.lid_digraph.specs.PartialOrders.{marked, IsPartialOrder, IsStuck}
-use Rattle.lid_digraph.proofs.topological.take.Given as goal
+use Rattle.lid_digraph.proofs.topological.take_rounds.Given as goal
 
 abbrev pub invariant-loop-took : goal.invariant-loop-took
 invariant-loop-took l = record {

@@ -1,0 +1,8 @@
+//! The tests, by what they test.
+
+mod cert;
+mod designs;
+mod graph;
+mod order;
+mod rate;
+mod walks;
