@@ -44,23 +44,23 @@ module _ (d : Design) (formed : IsWellFormed d) (order : List ℕ) (ordered : Is
   without k m names reached here =
       filter_same _ _ names (λ net. ap not (clock k net reached ∙ ap (λ (o : Option Model). option_map_or (λ m. is_clock d m net) o false) here))
 
+  -- what was made of each model is what is wanted of a reached one
+  own_made : (f : Model → List (List ℕ) → List (List ℕ)) (want : Model → List (List ℕ)) (all : List (List (List ℕ))) → all ≡ by_clocks f d.models clocks → (k : ℕ) → ((m : Model) → slice_get d.models k ≡ Some m → f m (get_or clocks k []) ≡ want m) → get_or all k [] ≡ option_map_or want (slice_get d.models k) []
+  own_made f want all is k same = ap (λ (sets : List (List (List ℕ))). get_or sets k []) is ∙ made_at f d.models clocks k have.size ∙ by (slice_get d.models k) refl
+    where
+      by : (o : Option Model) → slice_get d.models k ≡ o → option_map_or (λ m. f m (get_or clocks k [])) o [] ≡ option_map_or want o []
+      by None here = refl
+      by (Some m) here = same m here
+
   own_nets : (k : ℕ) → IsReached d k → get_or named k [] ≡ model_nets d k
   unfolding nets
-  own_nets k reached = ap (λ (sets : List (List (List ℕ))). get_or sets k []) made ∙ made_at nets_by d.models clocks k have.size ∙ by (slice_get d.models k) refl
-    where
-      by : (o : Option Model) → slice_get d.models k ≡ o → option_map_or (λ m. nets_by m (get_or clocks k [])) o [] ≡ option_map_or (nets d) o []
-      by None here = refl
-      by (Some m) here =
-          firsts_filter (λ net. not (is_among net (get_or clocks k []))) (occurrences m)
-          ∙ without k m (firsts (occurrences m)) reached here
+  own_nets k reached = own_made nets_by (nets d) named made k (λ m here.
+      firsts_filter (λ net. not (is_among net (get_or clocks k []))) (occurrences m)
+      ∙ without k m (firsts (occurrences m)) reached here)
 
   own_inputs : (k : ℕ) → IsReached d k → get_or inputs k [] ≡ data_inputs_of d k
   unfolding data_inputs
-  own_inputs k reached = ap (λ (sets : List (List (List ℕ))). get_or sets k []) given ∙ made_at inputs_by d.models clocks k have.size ∙ by (slice_get d.models k) refl
-    where
-      by : (o : Option Model) → slice_get d.models k ≡ o → option_map_or (λ m. inputs_by m (get_or clocks k [])) o [] ≡ option_map_or (data_inputs d) o []
-      by None here = refl
-      by (Some m) here = without k m m.inputs reached here
+  own_inputs k reached = own_made inputs_by (data_inputs d) inputs given k (λ m here. without k m m.inputs reached here)
 
   pub named_of : AreNames d clocks named inputs
   named_of = record {

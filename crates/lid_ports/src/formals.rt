@@ -47,7 +47,7 @@ fn find_unknown<'d>(ports: &Ports<'d>, k: u32, i: u32, inst: &'d Inst) -> Option
     requires inst { slice_get (insts_of ports.now k) i ≡ Some inst.now }
     ensures { name_behind result ≡ faulty_formal UnknownFormal ports.now inst.now }
 {
-    match ports.survey().model_of(k, i) {
+    match ports.model_of(k, i) {
         Some(sub) => first_unknown(ports, sub, inst.binds.as_slice()),
         None => None,
     }
@@ -116,7 +116,7 @@ fn find_unbound<'d>(
     ensures { IfOk result (λ formal. name_behind formal ≡ faulty_formal Unbound ports.now inst.now) }
 {
     let bound = collect_bound(alloc, inst)?;
-    match ports.survey().model_of(k, i) {
+    match ports.model_of(k, i) {
         Some(sub) => Ok(first_unbound(ports, sub, &bound)),
         None => Ok(None),
     }
