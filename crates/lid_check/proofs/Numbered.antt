@@ -11,7 +11,9 @@ use Rattle.lid_design.specs.Walks.{read_now, read_before, Feeds, Walk as WalkOf}
 use Rattle.lid_design.specs.Elaboration.{columns}
 use Rattle.lid_design.specs.Loops.{IsOnLoop as IsColumnOnLoop, HasNoLoop as HasNoColumnLoop}
 use Rattle.lid_digraph.specs.Graphs.{reads_at, IsGraph, Walk, IsOnLoop, HasNoLoop}
-use Rattle.lid_digraph.specs.Results.{IsLeastOnLoop}
+use Rattle.lid_digraph.specs.Results.{IsFound, IsLeastOnLoop}
+use Rattle.lid_digraph.specs.declared.topological.Found.{Found}
+use Rattle.lid_digraph.specs.declared.topological.Found.TheVariants.{Order}
 use Rattle.lid_elab.specs.Elaborations.{map_driver, column_at, IsElaborated}
 use Rattle.lid_rules.specs.declared.fault.CheckFault.TheVariants.{CombLoop}
 use Rattle.lid_check.specs.Acceptance.{TellsLoop}
@@ -123,6 +125,10 @@ module _ (d : Design) (network : List (Driver ℕ)) (starts : List ℕ) (is : Is
   no_loop none c on =
       let number = loop_number c on in
       none number.0 (loop_up number.0 number.1 (subst (λ (x : Column). IsColumnOnLoop d x) (sym number.2) on))
+
+  -- where numbers have an order, no column lies on a closed walk
+  pub ordered_has_none : (reads : List (List ℕ)) (found : Found) (order : List ℕ) → reads ≡ graph → IsFound reads found → found ≡ Order order → HasNoColumnLoop d
+  ordered_has_none reads found order same is ordered = no_loop (subst (λ (g : List (List ℕ)). HasNoLoop g) same (subst (λ (f : Found). IsFound reads f) ordered is).1)
 
   -- the least number on a closed walk is that of the first column on one
   pub first_loop : (k : ℕ) → IsLeastOnLoop graph k → IsFirstOnLoop d k

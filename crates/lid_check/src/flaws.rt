@@ -1,8 +1,8 @@
 //! Why the columns of a design are refused, by numbers, and how it is told by names.
 
-ghost use Rattle.std.specs.Prelude.{◌≡◌, ◌≤◌, Some, length, map, slice_get, IfOk};
+ghost use Rattle.std.specs.Prelude.{◌≡◌, Some, map, slice_get, IfOk};
 ghost use Rattle.lid_design.specs.Walks.{read_now};
-ghost use Rattle.lid_elab.specs.Elaborations.{shown_driver, IsElaborated};
+ghost use Rattle.lid_elab.specs.Elaborations.{shown_driver};
 ghost use Rattle.lid_check.specs.Acceptance.{TellsLoop, TellsDependence};
 ghost use Rattle.lid_design.specs.Models.{data_inputs_of};
 ghost use Rattle.lid_check.specs.Flaws.{IsFirstOnLoop, IsFirstDependence, IsFirstFlaw, FindsFlaw, TellsFlaw};
@@ -11,7 +11,7 @@ use crate::outputs::{Lead, find_dependence};
 use crate::pearls::find_inputs;
 use lid_base::{Items, Name, copy_name};
 use lid_digraph::{Digraph, Found, find_order};
-use lid_elab::{Elaboration, elaborate, find_column, find_reads};
+use lid_elab::{Elaboration, find_column, find_reads};
 use lid_hierarchy::Survey;
 use lid_rules::CheckFault;
 use lid_wiring::Judged;
@@ -30,35 +30,29 @@ pub(crate) enum Flaw {
 ///
 /// # Errors
 /// Where there is no memory.
-pub(crate) fn find_flaw(alloc: Global, judged: &Judged<'_>) -> Result<Option<Flaw>, AllocError>
-    ensures { IfOk result (FindsFlaw judged.now) }
+pub(crate) fn find_flaw(
+    alloc: Global,
+    columns: &Elaboration<'_>,
+) -> Result<Option<Flaw>, AllocError>
+    ensures { IfOk result (FindsFlaw columns.now.design) }
 {
-    let columns = elaborate(alloc, judged)?;
-    let reads = find_reads(alloc, columns.drivers.as_slice())?;
-    find_among(alloc, judged.survey(), &columns, reads.as_slice())
+    let reads = find_reads(alloc, columns.drivers())?;
+    find_among(alloc, columns, reads.as_slice())
 }
 
 /// The first flaw of some columns, by what each reads in the same row.
 fn find_among(
     alloc: Global,
-    survey: &Survey<'_>,
     columns: &Elaboration<'_>,
     reads: &[Items<u32>],
 ) -> Result<Option<Flaw>, AllocError>
-    requires elaborated { IsElaborated survey.now (map shown_driver columns.now.drivers) columns.now.starts }
-    requires few { length columns.now.drivers ≤ 1048576 }
-    requires reads { reads.now ≡ map read_now (map shown_driver columns.now.drivers) }
-    ensures { IfOk result (FindsFlaw survey.now) }
+    requires { reads.now ≡ map read_now (map shown_driver columns.now.drivers) }
+    ensures { IfOk result (FindsFlaw columns.now.design) }
 {
+    let _ = columns.judged();
     let graph = Digraph { reads };
     match find_order(alloc, &graph)? {
-        Found::Order(order) => match find_dependence(
-            alloc,
-            survey,
-            columns,
-            &graph,
-            order.as_slice(),
-        )? {
+        Found::Order(order) => match find_dependence(alloc, columns, &graph, order.as_slice())? {
             Some(lead) => Ok(Some(Flaw::Dependence(lead))),
             None => Ok(None),
         },

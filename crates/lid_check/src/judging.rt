@@ -9,6 +9,7 @@ use crate::flaws::{find_flaw, tell_flaw};
 use crate::pearls::find_inputs;
 use lid_base::{Items, Name};
 use lid_design::Design;
+use lid_elab::{Elaboration, elaborate};
 use lid_hierarchy::Survey;
 use lid_judge::{check_models, count_latches};
 use lid_rules::CheckFault;
@@ -36,19 +37,32 @@ pub fn accept(alloc: Global, design: &Design) -> Result<Facts, CheckFault>
 {
     let survey = check_models(alloc, design)?;
     let judged = judge(survey);
-    check_columns(alloc, &judged)
+    check_columns(alloc, judged)
 }
 
 /// Judges the columns of a design that meets the conditions on models.
 ///
 /// # Errors
 /// The first condition that applies is told, at its first place. `Memory` may come at any design.
-fn check_columns(alloc: Global, judged: &Judged<'_>) -> Result<Facts, CheckFault>
-    ensures ok { IfOk result (λ facts. AreFacts judged.now facts) }
-    ensures err { IfErr result (λ fault. (fault ≡ Memory) ⊎ IsRefusal judged.now fault) }
+fn check_columns(alloc: Global, judged: Judged<'_>) -> Result<Facts, CheckFault>
+    ensures ok { IfOk result (λ facts. AreFacts judged.entry facts) }
+    ensures err { IfErr result (λ fault. (fault ≡ Memory) ⊎ IsRefusal judged.entry fault) }
 {
+    let columns = elaborate(alloc, judged)?;
+    judge_columns(alloc, &columns)
+}
+
+/// Judges some columns.
+///
+/// # Errors
+/// The first condition that applies is told, at its first place. `Memory` may come at any design.
+fn judge_columns(alloc: Global, columns: &Elaboration<'_>) -> Result<Facts, CheckFault>
+    ensures ok { IfOk result (λ facts. AreFacts columns.now.design facts) }
+    ensures err { IfErr result (λ fault. (fault ≡ Memory) ⊎ IsRefusal columns.now.design fault) }
+{
+    let judged = columns.judged();
     let survey = judged.survey();
-    match find_flaw(alloc, judged)? {
+    match find_flaw(alloc, columns)? {
         None => find_facts(alloc, survey),
         Some(flaw) => Err(tell_flaw(alloc, judged, flaw)?),
     }

@@ -156,18 +156,6 @@ module _ (d : Design) (k : ℕ) where
       by true = refl
       by false = refl
 
-  -- a number was pushed for an input
-  pub placed_one : (g : List ℕ → ℕ) (x : List ℕ) (old new : List ℕ) (n : ℕ) → is_clock_of d k x ≡ false → new ≡ old ++ n ∷ [] → n ≡ g x → new ≡ old ++ map g (data_of d k (x ∷ []))
-  placed_one g x old new n free pushed same = pushed ∙ ap (λ (m : ℕ). old ++ m ∷ []) same ∙ ap (λ (ns : List (List ℕ)). old ++ map g ns) (sym (data_one x free))
-
-  pub placed_none : (g : List ℕ → ℕ) (x : List ℕ) (old : List ℕ) → is_clock_of d k x ≡ true → old ≡ old ++ map g (data_of d k (x ∷ []))
-  placed_none g x old clock = sym (append-nil old) ∙ ap (λ (ns : List (List ℕ)). old ++ map g ns) (sym (data_none x clock))
-
-  pub placed_next : (g : List ℕ → ℕ) (xs : List (List ℕ)) (i : ℕ) (x : List ℕ) → i < length xs → x ≡ get_or xs i x → (old new total : List ℕ) → new ≡ old ++ map g (data_of d k (x ∷ [])) → old ++ map g (data_of d k (drop i xs)) ≡ total → new ++ map g (data_of d k (drop (i + 1) xs)) ≡ total
-  placed_next g xs i x below is old new total pushed before =
-      let rest : data_of d k (drop i xs) ≡ data_of d k (x ∷ []) ++ data_of d k (drop (i + 1) xs) = ap (data_of d k) (drop_item xs i x below is) ∙ data_cons x (drop (i + 1) xs) in
-      moved g old new (data_of d k (x ∷ [])) (data_of d k (drop (i + 1) xs)) total pushed (ap (λ (ns : List (List ℕ)). old ++ map g ns) (sym rest) ∙ before)
-
   pub inputs_cons : (count : ℕ) (x : List ℕ) (ys : List (List ℕ)) → inputs_from count (data_of d k (x ∷ ys)) ≡ inputs_from count (data_of d k (x ∷ [])) ++ inputs_from (count + length (data_of d k (x ∷ []))) (data_of d k ys)
   inputs_cons count x ys = by (is_clock_of d k x)
     where

@@ -1,3 +1,4 @@
+pub mod Elaborated
 pub mod Elaborations
 pub mod Numbers
 pub mod Templates

@@ -5,7 +5,6 @@ ghost use Rattle.lid_elab.specs.Elaborations.{shown_driver};
 ghost use Rattle.lid_elab.specs.Numbers.{offset_of};
 ghost use Rattle.lid_elab.specs.Parts.{AreSizes, output_sets, places_in_inst, ArePicked, IsTemplate, AreTemplates};
 ghost use Rattle.lid_elab.specs.Templates.{shown_local, placed, seen_around, IsSmall};
-ghost use Rattle.lid_wiring.specs.Judged.{IsJudged};
 
 use crate::bound::actuals_of;
 use crate::driven::{collect_outputs, driven_of};
@@ -14,8 +13,8 @@ use crate::picks::picks_of;
 use crate::sizes::{find_sizes, offsets_of};
 use lid_base::Items;
 use lid_cover::Cover;
-use lid_hierarchy::Survey;
 use lid_names::NameSet;
+use lid_wiring::Judged;
 use std::alloc::{AllocError, Global};
 
 /// What drives a net inside its model. Nets are told by their places among the nets of a model.
@@ -102,17 +101,16 @@ fn shift_all(alloc: Global, start: u32, numbers: &[u32]) -> Result<Items<u32>, A
 /// What is known of each reached model before it is placed, by the model's number.
 pub fn find_templates<'d>(
     alloc: Global,
-    survey: &Survey<'d>,
+    judged: &Judged<'d>,
 ) -> Result<Items<Template<'d>>, AllocError>
-    requires { IsJudged survey.now }
-    ensures { IfOk result (AreTemplates survey.now) }
+    ensures { IfOk result (AreTemplates judged.now) }
 {
-    let sizes = find_sizes(alloc, survey)?;
-    let outputs = collect_outputs(alloc, survey.design().models.as_slice())?;
+    let sizes = find_sizes(alloc, judged)?;
+    let outputs = collect_outputs(alloc, judged.design().models.as_slice())?;
     let mut templates = Vec::new(alloc);
     push_templates(
         alloc,
-        survey,
+        judged,
         sizes.as_slice(),
         outputs.as_slice(),
         &mut templates,
@@ -123,19 +121,19 @@ pub fn find_templates<'d>(
 /// Pushes what is known of each model before it is placed, where there is nothing yet.
 fn push_templates<'d>(
     alloc: Global,
-    survey: &Survey<'d>,
+    judged: &Judged<'d>,
     sizes: &[Option<u32>],
     outputs: &[NameSet<'d>],
     templates: &mut Vec<Template<'d>>,
 ) -> Result<(), AllocError>
-    requires judged { IsJudged survey.now }
-    requires sizes { AreSizes survey.now (IsReached survey.now) sizes.now }
-    requires outputs { outputs.now ≡ output_sets survey.now.models }
+    requires sizes { AreSizes judged.now (IsReached judged.now) sizes.now }
+    requires outputs { outputs.now ≡ output_sets judged.now.models }
     requires none { templates.old.items ≡ [] }
-    ensures { OnOk result (AreTemplates survey.now templates.new.items) }
+    ensures { OnOk result (AreTemplates judged.now templates.new.items) }
 {
+    let _ = judged.design();
     for model in 0..sizes.len() as u32 {
-        let template = template_of(alloc, survey, sizes, outputs, model)?;
+        let template = template_of(alloc, judged, sizes, outputs, model)?;
         templates.push(template)?;
     }
     Ok(())
@@ -144,19 +142,18 @@ fn push_templates<'d>(
 /// What is known of a model before it is placed; nothing where it is not reached.
 fn template_of<'d>(
     alloc: Global,
-    survey: &Survey<'d>,
+    judged: &Judged<'d>,
     sizes: &[Option<u32>],
     outputs: &[NameSet<'d>],
     model: u32,
 ) -> Result<Template<'d>, AllocError>
-    requires judged { IsJudged survey.now }
-    requires sizes { AreSizes survey.now (IsReached survey.now) sizes.now }
-    requires outputs { outputs.now ≡ output_sets survey.now.models }
+    requires sizes { AreSizes judged.now (IsReached judged.now) sizes.now }
+    requires outputs { outputs.now ≡ output_sets judged.now.models }
     requires below { model < length sizes.now }
-    ensures { IfOk result (λ t. IsReached survey.now model → IsTemplate survey.now model t) }
+    ensures { IfOk result (λ t. IsReached judged.now model → IsTemplate judged.now model t) }
 {
     match sizes[model as usize] {
-        Some(_) => describe(alloc, survey, sizes, outputs, model),
+        Some(_) => describe(alloc, judged, sizes, outputs, model),
         None => Ok(no_template(alloc)),
     }
 }
@@ -164,19 +161,18 @@ fn template_of<'d>(
 /// What is known of a reached model before it is placed.
 fn describe<'d>(
     alloc: Global,
-    survey: &Survey<'d>,
+    judged: &Judged<'d>,
     sizes: &[Option<u32>],
     outputs: &[NameSet<'d>],
     model: u32,
 ) -> Result<Template<'d>, AllocError>
-    requires judged { IsJudged survey.now }
-    requires reached { IsReached survey.now model }
-    requires sizes { AreSizes survey.now (IsReached survey.now) sizes.now }
-    requires outputs { outputs.now ≡ output_sets survey.now.models }
-    ensures { IfOk result (IsTemplate survey.now model) }
+    requires reached { IsReached judged.now model }
+    requires sizes { AreSizes judged.now (IsReached judged.now) sizes.now }
+    requires outputs { outputs.now ≡ output_sets judged.now.models }
+    ensures { IfOk result (IsTemplate judged.now model) }
 {
-    let nets = describe_nets(alloc, survey, outputs, model)?;
-    let insts = describe_insts(alloc, survey, sizes, model)?;
+    let nets = describe_nets(alloc, judged, outputs, model)?;
+    let insts = describe_insts(alloc, judged, sizes, model)?;
     Ok(Template {
         locals: nets.locals,
         picks: nets.picks,
@@ -195,17 +191,17 @@ struct Nets<'d> {
 /// What drives the nets of a reached model, and which of it drives each.
 fn describe_nets<'d>(
     alloc: Global,
-    survey: &Survey<'d>,
+    judged: &Judged<'d>,
     outputs: &[NameSet<'d>],
     model: u32,
 ) -> Result<Nets<'d>, AllocError>
-    requires judged { IsJudged survey.now }
-    requires reached { IsReached survey.now model }
-    requires outputs { outputs.now ≡ output_sets survey.now.models }
-    ensures { IfOk result (λ nets. ArePicked survey.now model nets.locals nets.picks) }
+    requires reached { IsReached judged.now model }
+    requires outputs { outputs.now ≡ output_sets judged.now.models }
+    ensures { IfOk result (λ nets. ArePicked judged.now model nets.locals nets.picks) }
 {
-    let driven = driven_of(alloc, survey, outputs, model)?;
-    let picks = picks_of(alloc, survey, driven.nets.as_slice(), model)?;
+    let _ = judged.design();
+    let driven = driven_of(alloc, judged, outputs, model)?;
+    let picks = picks_of(alloc, judged, driven.nets.as_slice(), model)?;
     Ok(Nets {
         locals: Items::from_vec(driven.locals),
         picks,
@@ -223,19 +219,18 @@ struct Insts {
 /// are bound to.
 fn describe_insts(
     alloc: Global,
-    survey: &Survey<'_>,
+    judged: &Judged<'_>,
     sizes: &[Option<u32>],
     model: u32,
 ) -> Result<Insts, AllocError>
-    requires judged { IsJudged survey.now }
-    requires reached { IsReached survey.now model }
-    requires sizes { AreSizes survey.now (IsReached survey.now) sizes.now }
-    ensures few { IfOk result (λ insts. length insts.offsets ≡ length (insts_of survey.now model)) }
-    ensures each { IfOk result (λ insts. (i o : ℕ) → slice_get insts.offsets i ≡ Some o → o ≡ offset_of survey.now model i) }
-    ensures actuals { IfOk result (λ insts. insts.actuals ≡ map (places_in_inst survey.now model) (insts_of survey.now model)) }
+    requires reached { IsReached judged.now model }
+    requires sizes { AreSizes judged.now (IsReached judged.now) sizes.now }
+    ensures few { IfOk result (λ insts. length insts.offsets ≡ length (insts_of judged.now model)) }
+    ensures each { IfOk result (λ insts. (i o : ℕ) → slice_get insts.offsets i ≡ Some o → o ≡ offset_of judged.now model i) }
+    ensures actuals { IfOk result (λ insts. insts.actuals ≡ map (places_in_inst judged.now model) (insts_of judged.now model)) }
 {
-    let offsets = offsets_of(alloc, survey, sizes, model)?;
-    let actuals = actuals_of(alloc, survey, model)?;
+    let offsets = offsets_of(alloc, judged, sizes, model)?;
+    let actuals = actuals_of(alloc, judged, model)?;
     Ok(Insts { offsets, actuals })
 }
 

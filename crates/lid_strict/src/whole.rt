@@ -2,10 +2,10 @@ ghost use Rattle.std.specs.Prelude.{◌≡◌, ◌≤◌, ◌<◌, ℕ, Some, le
 ghost use Rattle.std.specs.List.{AllByRecursion};
 ghost use Rattle.std.specs.Str.{bytes_eq};
 ghost use Rattle.lid_base.specs.Lists.{Among};
-ghost use Rattle.lid_design.specs.Columns.{column, root_outputs, IsStrictOutput};
+ghost use Rattle.lid_design.specs.Columns.{root_outputs, IsStrictOutput};
 ghost use Rattle.lid_design.specs.Elaboration.{model_nets};
 ghost use Rattle.lid_design.specs.WellFormed.{IsWellFormed};
-ghost use Rattle.lid_elab.specs.Elaborations.{shown_driver, column_at, IsElaborated};
+ghost use Rattle.lid_elab.specs.Elaborations.{shown_driver};
 ghost use Rattle.lid_rules.specs.Acceptance.{ModelsPass};
 ghost use Rattle.lid_check.specs.Acceptance.{IsAccepted};
 ghost use Rattle.lid_strict.specs.Networks.{AreNumbersOf};
@@ -48,8 +48,8 @@ fn run(
     ensures { IfOk result (IsStrictOutput design.now rows.now) }
 {
     let survey = survey_passed(alloc, design)?;
-    let judged = judge(survey);
-    run_judged(alloc, &judged, rows)
+    let columns = elaborate(alloc, judge(survey))?;
+    run_elaborated(alloc, &columns, rows)
 }
 
 /// What is found of the models of a design that meets the conditions on models.
@@ -66,37 +66,32 @@ fn survey_passed<'d>(alloc: Global, design: &'d Design) -> Result<Survey<'d>, Al
     }
 }
 
-/// The strict outputs of an accepted design for input rows, by what is found of its models.
-fn run_judged(
+/// The strict outputs of an accepted design for input rows, by its columns.
+fn run_elaborated(
     alloc: Global,
-    judged: &Judged<'_>,
+    columns: &Elaboration<'_>,
     rows: &[Items<bool>],
 ) -> Result<Items<Items<bool>>, AllocError>
-    requires { IsAccepted judged.now }
-    ensures { IfOk result (IsStrictOutput judged.now rows.now) }
+    requires { IsAccepted columns.now.design }
+    ensures { IfOk result (IsStrictOutput columns.now.design rows.now) }
 {
-    let columns = elaborate(alloc, judged)?;
-    let outs = number_outputs(alloc, judged, &columns)?;
-    let design = judged.survey().design();
-    run_columns(alloc, design, &columns, outs.as_slice(), rows)
+    let outs = number_outputs(alloc, columns)?;
+    run_columns(alloc, columns, outs.as_slice(), rows)
 }
 
-/// Runs the columns of an accepted design.
+/// The bits of some columns of an accepted design for input rows.
 fn run_columns(
     alloc: Global,
-    design: &Design,
     columns: &Elaboration<'_>,
     outs: &[u32],
     rows: &[Items<bool>],
 ) -> Result<Items<Items<bool>>, AllocError>
-    requires formed { IsWellFormed design.now }
-    requires accepted { IsAccepted design.now }
-    requires elaborated { IsElaborated design.now (map shown_driver columns.now.drivers) columns.now.starts }
-    requires few { length columns.now.drivers ≤ 1048576 }
-    requires outs { AreNumbersOf design.now (length columns.now.drivers) outs.now }
-    ensures { IfOk result (IsStrictOutput design.now rows.now) }
+    requires accepted { IsAccepted columns.now.design }
+    requires outs { AreNumbersOf columns.now.design (length columns.now.drivers) outs.now }
+    ensures { IfOk result (IsStrictOutput columns.now.design rows.now) }
 {
-    let drivers = columns.drivers.as_slice();
+    let _ = columns.judged().design();
+    let drivers = columns.drivers();
     let reads = find_reads(alloc, drivers)?;
     let graph = Digraph {
         reads: reads.as_slice(),
@@ -108,15 +103,10 @@ fn run_columns(
 }
 
 /// The numbers of the columns of the root's outputs, in order.
-fn number_outputs(
-    alloc: Global,
-    judged: &Judged<'_>,
-    columns: &Elaboration<'_>,
-) -> Result<Items<u32>, AllocError>
-    requires elaborated { IsElaborated judged.now (map shown_driver columns.now.drivers) columns.now.starts }
-    requires few { length columns.now.drivers ≤ 1048576 }
-    ensures { IfOk result (AreNumbersOf judged.now (length columns.now.drivers)) }
+fn number_outputs(alloc: Global, columns: &Elaboration<'_>) -> Result<Items<u32>, AllocError>
+    ensures { IfOk result (AreNumbersOf columns.now.design (length columns.now.drivers)) }
 {
+    let judged = columns.judged();
     let outputs = outputs_of(judged);
     let mut numbers = Vec::with_capacity(alloc, outputs.len())?;
     for name in outputs {
@@ -129,7 +119,7 @@ fn number_outputs(
 fn outputs_of<'j>(judged: &'j Judged<'_>) -> &'j [Name]
     ensures { result.now ≡ root_outputs judged.now }
 {
-    let design = judged.survey().design();
+    let design = judged.design();
     design.models.as_slice()[design.root as usize]
         .outputs
         .as_slice()
@@ -140,8 +130,8 @@ fn place_of(judged: &Judged<'_>, name: &Name) -> usize
     requires { Among name.now (root_outputs judged.now) }
     ensures { position (bytes_eq name.now) (model_nets judged.now judged.now.root) ≡ Some result }
 {
-    let survey = judged.survey();
-    match survey.place_of(survey.design().root, name.as_slice()) {
+    let root = judged.design().root;
+    match judged.place_of(root, name.as_slice()) {
         Some(place) => place,
         None => unreachable!(),
     }

@@ -12,7 +12,7 @@ use Rattle.lid_elab.proofs.driven.driven_of.Goals as goal
 
 pub returns : goal.returns
 returns c =
-    let d = c.args.survey.now in
+    let d = c.args.judged.now in
     let k = c.args.model in
     let first : Driven = record { nets = c.new.result; locals = c.new-2.result } in
     shows_all d k c.model_at-body.result.now c.model_at-body.ensures first c.push_inputs.new.into c.push_cells.new.into c.push_insts.new.into

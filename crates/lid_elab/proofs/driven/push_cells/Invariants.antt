@@ -4,4 +4,4 @@ use Rattle.lid_elab.proofs.Driving.{Left}
 use Rattle.lid_elab.proofs.driven.push_cells.Given as goal
 
 abbrev pub invariant-loop-cell : goal.invariant-loop-cell
-invariant-loop-cell l = Left l.survey l.model l.into (map local_of (drop l.cell-index l.cells)) l.fn.into (map local_of l.cells)
+invariant-loop-cell l = Left l.judged l.model l.into (map local_of (drop l.cell-index l.cells)) l.fn.into (map local_of l.cells)

@@ -4,24 +4,24 @@ use Rattle.lid_design.proofs.Reached.{root_reached}
 use Rattle.lid_design.specs.declared.Design.{Design}
 use Rattle.lid_design.specs.Models.{IsReached}
 use Rattle.lid_design.specs.Elaboration.{model_nets}
-use Rattle.lid_wiring.specs.Judged.{IsJudged}
 use Rattle.lid_strict.proofs.Placing.{output_placed}
 use Rattle.lid_strict.proofs.whole.place_of.Goals as goal
 
 pub place_of-requires : goal.place_of-requires
 place_of-requires c =
-    let d = c.survey-survey.result.now in
+    let d = c.args.judged.now in
     subst (λ (e : Design). IsReached d e.root) (sym c.design.ensures.same) (root_reached d)
 
 pub unreachable-requires : goal.unreachable-requires
 unreachable-requires c =
     let d = c.args.judged.now in
     let name = c.args.name.now in
-    let found = c.place_of.ensures ∙ ap (λ (n : List ℕ). position (bytes_eq n) (model_nets c.survey-survey.result.now c.design.result.now.root)) c.as_slice.ensures ∙ ap (λ (e : Design). position (bytes_eq name) (model_nets c.survey-survey.result.now e.root)) c.design.ensures.same ∙ ap (λ (e : Design). position (bytes_eq name) (model_nets e e.root)) c.survey-survey.ensures.same in
-    output_placed d (subst IsJudged c.survey-survey.ensures.same c.survey-survey.ensures.judged) name c.requires (sym found ∙ c.in-None.is)
+    let found = c.place_of.ensures ∙ ap (λ (n : List ℕ). position (bytes_eq n) (model_nets d c.design.result.now.root)) c.as_slice.ensures ∙ ap (λ (e : Design). position (bytes_eq name) (model_nets d e.root)) c.design.ensures.same in
+    output_placed d c.design.ensures.judged name c.requires (sym found ∙ c.in-None.is)
 
 pub returns : goal.returns
 returns c =
+    let d = c.args.judged.now in
     let name = c.args.name.now in
-    let found = c.place_of.ensures ∙ ap (λ (n : List ℕ). position (bytes_eq n) (model_nets c.survey-survey.result.now c.design.result.now.root)) c.as_slice.ensures ∙ ap (λ (e : Design). position (bytes_eq name) (model_nets c.survey-survey.result.now e.root)) c.design.ensures.same ∙ ap (λ (e : Design). position (bytes_eq name) (model_nets e e.root)) c.survey-survey.ensures.same in
+    let found = c.place_of.ensures ∙ ap (λ (n : List ℕ). position (bytes_eq n) (model_nets d c.design.result.now.root)) c.as_slice.ensures ∙ ap (λ (e : Design). position (bytes_eq name) (model_nets d e.root)) c.design.ensures.same in
     sym found ∙ c.in-Some.is
