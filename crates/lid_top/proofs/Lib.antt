@@ -1,4 +1,5 @@
 pub mod Composition
 pub mod Endings
+pub mod Pieces
 pub mod Readings
 pub mod Runs

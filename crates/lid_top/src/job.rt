@@ -1,6 +1,6 @@
 //! Jobs and their outputs.
 
-ghost use Rattle.std.specs.Prelude.{◌≡◌, ℕ, ◌≤◌, List, OnOk, OnErr, IfOk, IfErr};
+ghost use Rattle.std.specs.Prelude.{◌≡◌, ℕ, ◌≤◌, List, [], OnOk, OnErr, IfOk, IfErr};
 ghost use Rattle.lid_base.specs.Outside.{Rose, Appended, AppendedPrefix};
 ghost use Rattle.lid_top.specs.Scripts.{script_of};
 ghost use Rattle.lid_top.specs.Causes.{IsCause, IsEnd, IsStopped, IsRefusal};
@@ -8,9 +8,9 @@ ghost use Rattle.lid_top.specs.Statuses.{HasText, Writes, WritesPrefix, TellsAll
 
 use crate::fault::{End, Stop};
 use crate::strict::strict_text;
-use lid_base::{Gate, Shelf, Sink};
+use lid_base::{Gate, Shelf, Sink, SinkFailed};
 use lid_cli::Job;
-use lid_io::write_all;
+use lid_io::PieceWriter;
 use std::alloc::Global;
 use std::convert::AsStr;
 use std::thread::Threads;
@@ -29,15 +29,36 @@ fn text_of<'a, S: Shelf>(alloc: Global, shelf: &mut S, job: &'a Job) -> Result<V
     }
 }
 
-/// Writes the output of a job.
-fn write_text<'a, O: Sink>(out: &mut O, text: &[u8]) -> Result<(), End<'a>>
+/// Writes the output of a job. Its room is taken before the first byte is written.
+fn write_text<'a, O: Sink>(alloc: Global, out: &mut O, text: &[u8]) -> Result<(), End<'a>>
     ensures ok { OnOk result (Appended (O.written out.old) (O.written out.new) text.now) }
-    ensures err { IfErr result (λ end. (end ≡ End.Unwritten) × Rose (O.faults out.old) (O.faults out.new) × AppendedPrefix (O.written out.old) (O.written out.new) text.now) }
+    ensures stopped { IfErr result (λ end. IsStopped end → (end ≡ End.Stopped Stop.Memory) × (out.new ≡ out.old)) }
+    ensures unwritten { IfErr result (λ end. (end ≡ End.Unwritten) → Rose (O.faults out.old) (O.faults out.new) × AppendedPrefix (O.written out.old) (O.written out.new) text.now) }
 {
-    match write_all(out, text) {
+    let Ok(mut writer) = PieceWriter::start(alloc) else {
+        return Err(End::Stopped(Stop::Memory));
+    };
+    match write_pieces(&mut writer, out, text) {
         Ok(()) => Ok(()),
         Err(_) => Err(End::Unwritten),
     }
+}
+
+/// Writes a text in pieces by a writer that holds nothing.
+fn write_pieces<O: Sink>(
+    writer: &mut PieceWriter,
+    out: &mut O,
+    text: &[u8],
+) -> Result<(), SinkFailed>
+    requires { writer.old ≡ [] }
+    ensures ok { OnOk result (Appended (O.written out.old) (O.written out.new) text.now) }
+    ensures err { OnErr result (AppendedPrefix (O.written out.old) (O.written out.new) text.now) }
+    ensures failed { OnErr result (Rose (O.faults out.old) (O.faults out.new)) }
+{
+    let Ok(()) = writer.push(out, text) else {
+        return Err(SinkFailed);
+    };
+    writer.finish(out)
 }
 
 /// Runs a job: its output goes to `out`, and what it needs of threads comes from `rt` and `gate`.
@@ -62,7 +83,7 @@ where
 {
     let _ = gate;
     match text_of(rt.alloc(), shelf, job) {
-        Ok(text) => write_text(out, &text),
+        Ok(text) => write_text(rt.alloc(), out, &text),
         Err(stop) => Err(End::Stopped(stop)),
     }
 }
