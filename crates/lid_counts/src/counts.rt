@@ -119,16 +119,19 @@ fn count_own(survey: &Survey<'_>, what: Measure, k: u32, model: &Model) -> u64
             (cells + insts).min(TOP)
         }
         Measure::Nets => (survey.count_nets(k) as u64).min(TOP),
-        Measure::Latches => (count_latches(model.cells.as_slice()) as u64).min(TOP),
-        Measure::Defaulted => (count_defaulted(model.cells.as_slice()) as u64).min(TOP),
+        Measure::Latches => {
+            let latches = model.cells.as_slice().iter().filter(|cell| is_latch(cell));
+            (latches.count() as u64).min(TOP)
+        }
+        Measure::Defaulted => {
+            let open = model
+                .cells
+                .as_slice()
+                .iter()
+                .filter(|cell| is_defaulted(cell));
+            (open.count() as u64).min(TOP)
+        }
     }
-}
-
-/// How many cells are latches.
-fn count_latches(cells: &[Cell]) -> usize
-    ensures { result ≡ count_by is_latch cells.now }
-{
-    cells.iter().filter(|cell| is_latch(cell)).count()
 }
 
 /// Whether a cell is a latch.
@@ -139,13 +142,6 @@ fn is_latch(cell: &Cell) -> bool
         Cell::Latch { .. } => true,
         Cell::Names { .. } => false,
     }
-}
-
-/// How many cells are latches whose first bit was left open.
-fn count_defaulted(cells: &[Cell]) -> usize
-    ensures { result ≡ count_by is_defaulted cells.now }
-{
-    cells.iter().filter(|cell| is_defaulted(cell)).count()
 }
 
 /// Whether a cell is a latch whose first bit was left open.

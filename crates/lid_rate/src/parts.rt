@@ -14,34 +14,10 @@ use lid_cert::Part;
 use lid_graph::Graph;
 use std::alloc::{AllocError, Global};
 
-/// The numbers of the transitions.
-fn numbers(alloc: Global, nodes: &[u32], all: &[u64]) -> Result<Items<u64>, AllocError>
+/// What a list has at the transitions.
+fn at_nodes<T: Copy>(alloc: Global, nodes: &[u32], all: &[T]) -> Result<Items<T>, AllocError>
     requires { All (λ v. v < length all.now) nodes.now }
-    ensures { IfOk result (λ column. column ≡ map (λ v. slice_index all.now v) nodes.now) }
-{
-    let mut column = Vec::new(alloc);
-    for v in nodes {
-        column.push(all[*v as usize])?;
-    }
-    Ok(Items::from_vec(column))
-}
-
-/// The depths of the transitions.
-fn depths(alloc: Global, nodes: &[u32], all: &[u32]) -> Result<Items<u32>, AllocError>
-    requires { All (λ v. v < length all.now) nodes.now }
-    ensures { IfOk result (λ column. column ≡ map (λ v. slice_index all.now v) nodes.now) }
-{
-    let mut column = Vec::new(alloc);
-    for v in nodes {
-        column.push(all[*v as usize])?;
-    }
-    Ok(Items::from_vec(column))
-}
-
-/// The via edges of the transitions.
-fn vias(alloc: Global, nodes: &[u32], all: &[Option<u32>]) -> Result<Items<Option<u32>>, AllocError>
-    requires { All (λ v. v < length all.now) nodes.now }
-    ensures { IfOk result (λ column. column ≡ map (λ v. slice_index_or all.now v None) nodes.now) }
+    ensures { IfOk result (λ column. (default : T) → column ≡ map (λ v. slice_index_or all.now v default) nodes.now) }
 {
     let mut column = Vec::new(alloc);
     for v in nodes {
@@ -70,10 +46,10 @@ fn assemble(alloc: Global, nodes: Vec<u32>, rate: Rate, tree: &Tree) -> Result<P
     ensures { IfOk result (Assembles nodes.items rate.ratio.p rate.ratio.q rate.walk rate.lags tree.now.via.items tree.now.lead.items tree.now.depth.items) }
 {
     let Rate { ratio, walk, lags } = rate;
-    let lag = numbers(alloc, &nodes, lags.as_slice())?;
-    let lead = numbers(alloc, &nodes, &tree.lead)?;
-    let via = vias(alloc, &nodes, &tree.via)?;
-    let depth = depths(alloc, &nodes, &tree.depth)?;
+    let lag = at_nodes(alloc, &nodes, lags.as_slice())?;
+    let lead = at_nodes(alloc, &nodes, &tree.lead)?;
+    let via = at_nodes(alloc, &nodes, &tree.via)?;
+    let depth = at_nodes(alloc, &nodes, &tree.depth)?;
     Ok(Part {
         nodes: Items::from_vec(nodes),
         p: ratio.p,

@@ -141,6 +141,13 @@ at_end scan bytes read most none =
       split = read.left none;
     }
 
+-- what is given of any lines that go on so, for names and a last line that are those of the scan
+pub at_last : (P : List (List ℕ) → List ℕ → List (List ℕ) → Type 0) (scan : RowScan) (bytes : List ℕ) (names : List (List ℕ)) (last : List ℕ) → AtEnd scan bytes → names ≡ scan.columns → last ≡ scan.partial.items
+    → ((lines : List (List ℕ)) → length lines + 1 < 2 ^ 64 → Goes names scan.outs lines scan.walk → P names last lines) → P scan.columns scan.partial.items (ended_lines bytes)
+at_last P scan bytes names last end columns line given =
+    let goes = subst (λ (ns : List (List ℕ)). Goes ns scan.outs (ended_lines bytes) scan.walk) (sym columns) end.goes in
+    along_both (λ ns l. P ns l (ended_lines bytes)) (sym columns) (sym line) (given (ended_lines bytes) end.few goes)
+
 nothing_ended : (columns : List (List ℕ)) (outs : ℕ) → ended_rows columns outs [] ≡ []
 unfolding ended_rows
 nothing_ended columns outs = ap (λ (ls : List (List ℕ)). sound_rows columns outs (logical_of ls)) (ended_are [] [] [] refl)

@@ -11,8 +11,7 @@ find_by_rule_in-requires-clause-few c = c.in-Some.ensures.few
 pub returns-in-Some : goal.returns-in-Some
 unfolding inst_at
 returns-in-Some c =
-    let here = here_is _ _ _ c.model.ensures.here c.in-Some.is in
-    if_ok c.find_by_rule_in.result (λ told e. e ∙ sym (ap (option_and_then (λ m. in_insts (inst_rule c.args.rule c.args.ports.now m) m)) here)) c.find_by_rule_in.ensures
+    if_ok c.find_by_rule_in.result (λ told e. e ∙ sym (ap (option_and_then (λ m. in_insts (inst_rule c.args.rule c.args.ports.now m) m)) (here_is _ _ _ c.model.ensures.here c.in-Some.is))) c.find_by_rule_in.ensures
 
 pub returns-in-None : goal.returns-in-None
 unfolding inst_at

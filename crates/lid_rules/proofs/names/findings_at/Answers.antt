@@ -10,8 +10,7 @@ findings_in-requires-clause-few c = c.in-Some.ensures.few
 pub returns-in-Some : goal.returns-in-Some
 unfolding name_at
 returns-in-Some c =
-    let here = here_is _ _ _ c.model.ensures.here c.in-Some.is in
-    if_ok c.findings_in.result (λ found tells rule. tells rule ∙ sym (ap (option_and_then (name_rule rule c.args.ports.now)) here)) c.findings_in.ensures
+    if_ok c.findings_in.result (λ found tells rule. tells rule ∙ sym (ap (option_and_then (name_rule rule c.args.ports.now)) (here_is _ _ _ c.model.ensures.here c.in-Some.is))) c.findings_in.ensures
 
 pub returns-in-None : goal.returns-in-None
 unfolding name_at

@@ -6,7 +6,7 @@ use Rattle.lid_texts.specs.Rows.{rows_reading}
 use Rattle.lid_texts.specs.RowsWalk.{with_last, RowsGrow, AreJudged, Goes, counted}
 use Rattle.lid_texts.specs.Scans.{ended_lines, logical_of}
 use Rattle.lid_texts.specs.Scanned.{Finishes}
-use Rattle.lid_texts.proofs.Finishing.{at_end, along_both, too_long, refused_before, finished, refused_now, not_counted}
+use Rattle.lid_texts.proofs.Finishing.{at_end, at_last, too_long, refused_before, finished, refused_now, not_counted}
 use Rattle.lid_texts.proofs.scan.RowScan.finish.Goals as goal
 
 pub returns-then-self-gt-MOST_BYTES-clause-err : goal.returns-then-self-gt-MOST_BYTES-clause-err
@@ -25,11 +25,8 @@ pub returns-clause-ok : goal.returns-clause-ok
 returns-clause-ok c = λ bytes read.
     let s = c.args.self.now in
     let end = at_end s bytes read c.if-self-gt-MOST_BYTES.false c.in_default.is in
-    let columns = sym c.as_slice-columns.ensures in
-    let line = sym c.as_slice-last.ensures.value in
-    let goes = subst (λ (ns : List (List ℕ)). Goes ns s.outs (ended_lines bytes) s.walk) columns end.goes in
-    let judged = along_both (λ ns l. AreJudged ns s.outs (length (ended_lines bytes) + 1) (with_last (ended_lines bytes) l) c.take_last.new.self) columns line (c.in-Ok.ensures.judged (ended_lines bytes) end.few goes) in
-    let rows = along_both (λ ns l. RowsGrow ns s.outs (logical_of (ended_lines bytes)) (with_last (ended_lines bytes) l) c.args.into.now.items c.take_last.new.into.items) columns line (c.in-Ok.ensures.rows (ended_lines bytes) end.few goes) in
+    let judged = at_last (λ ns l lines. AreJudged ns s.outs (length lines + 1) (with_last lines l) c.take_last.new.self) s bytes _ _ end c.as_slice-columns.ensures c.as_slice-last.ensures.value c.in-Ok.ensures.judged in
+    let rows = at_last (λ ns l lines. RowsGrow ns s.outs (logical_of lines) (with_last lines l) c.args.into.now.items c.take_last.new.into.items) s bytes _ _ end c.as_slice-columns.ensures c.as_slice-last.ensures.value c.in-Ok.ensures.rows in
     subst (λ r. IfOk r (Finishes s.columns s.outs bytes c.args.into.now.items c.take_last.new.into.items)) (sym c.count.ensures)
     (finished s.columns s.outs bytes (ended_lines bytes) s.partial.items end.short end.split c.take_last.new.self c.args.into.now.items c.take_last.new.into.items judged rows)
 
@@ -37,10 +34,7 @@ pub returns-clause-err : goal.returns-clause-err
 returns-clause-err c = λ bytes read.
     let s = c.args.self.now in
     let end = at_end s bytes read c.if-self-gt-MOST_BYTES.false c.in_default.is in
-    let columns = sym c.as_slice-columns.ensures in
-    let line = sym c.as_slice-last.ensures.value in
-    let goes = subst (λ (ns : List (List ℕ)). Goes ns s.outs (ended_lines bytes) s.walk) columns end.goes in
-    let judged = along_both (λ ns l. AreJudged ns s.outs (length (ended_lines bytes) + 1) (with_last (ended_lines bytes) l) c.take_last.new.self) columns line (c.in-Ok.ensures.judged (ended_lines bytes) end.few goes) in
+    let judged = at_last (λ ns l lines. AreJudged ns s.outs (length lines + 1) (with_last lines l) c.take_last.new.self) s bytes _ _ end c.as_slice-columns.ensures c.as_slice-last.ensures.value c.in-Ok.ensures.judged in
     subst (λ r. IfErr r (λ e. (e ≡ Memory) ⊎ (rows_reading s.columns s.outs bytes ≡ Err e))) (sym c.count.ensures)
     (refused_now s.columns s.outs bytes (ended_lines bytes) s.partial.items end.short end.split c.take_last.new.self c.args.into.now.items c.take_last.new.into.items end.small judged)
 

@@ -43,10 +43,8 @@ returns-in_default-after-clause-rows c = λ bytes read.
 
 pub returns-in_default-after-clause-prefix : goal.returns-in_default-after-clause-prefix
 returns-in_default-after-clause-prefix c = λ bytes read.
-    let s = c.args.self.now in
-    let l = c.loop-left in
     on_err_of c.extend_from_slice.result
-    (gives_prefix s.columns s.outs bytes c.args.piece.now l.left.now l.self.walk l.self.partial.items c.args.into.now.items l.into.items (l.invariant.taking bytes read))
+    (gives_prefix c.args.self.now.columns c.args.self.now.outs bytes c.args.piece.now c.loop-left.left.now c.loop-left.self.walk c.loop-left.self.partial.items c.args.into.now.items c.loop-left.into.items (c.loop-left.invariant.taking bytes read))
 
 pub returns-in_default-after-clause-columns : goal.returns-in_default-after-clause-columns
 returns-in_default-after-clause-columns c = c.loop-left.invariant.columns

@@ -1,6 +1,6 @@
 //! Texts of rows that come in pieces: the answers are those of the whole text.
 
-use crate::rows::{NO_FAULT, Told, columns, rows_without_columns, told};
+use crate::tests::rows::{NO_FAULT, Told, columns, rows_without_columns, told};
 use lid_base::{Items, Name};
 use lid_texts::{RowScan, VecFault, print_rows, read_rows};
 use std::alloc::Global;

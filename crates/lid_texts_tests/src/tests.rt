@@ -1,0 +1,10 @@
+//! The tests, by what they test.
+
+mod base;
+mod devices;
+mod numbers;
+mod pieces;
+mod reports;
+mod rows;
+mod scan;
+mod stalls;
