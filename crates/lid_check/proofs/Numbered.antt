@@ -14,11 +14,27 @@ use Rattle.lid_digraph.specs.Graphs.{reads_at, IsGraph, Walk, IsOnLoop, HasNoLoo
 use Rattle.lid_digraph.specs.Results.{IsFound, IsLeastOnLoop}
 use Rattle.lid_digraph.specs.declared.topological.Found.{Found}
 use Rattle.lid_digraph.specs.declared.topological.Found.TheVariants.{Order}
-use Rattle.lid_elab.specs.Elaborations.{map_driver, column_at, IsElaborated}
+use Rattle.lid_elab.specs.Elaborations.{driver_reads, shown_driver, map_driver, column_at, IsElaborated}
+use Rattle.lid_elab.specs.declared.driver.ColumnDriver.{ColumnDriver}
+use Rattle.lid_elab.specs.declared.driver.ColumnDriver.TheVariants.{Input, Latch, Cover as OfCover, Connection}
 use Rattle.lid_rules.specs.declared.fault.CheckFault.TheVariants.{CombLoop}
 use Rattle.lid_check.specs.Acceptance.{TellsLoop}
 use Rattle.lid_check.specs.Flaws.{IsFirstOnLoop}
 use Rattle.lid_check.proofs.Lists.{to_numbers, from_numbers}
+
+-- what drivers read does not depend on what their covers are
+pub reads_shown : (d : Design) (ds : List ColumnDriver) → map driver_reads ds ≡ map read_now (map (shown_driver d) ds)
+reads_shown d [] = refl
+reads_shown d (x ∷ ds) =
+    let head = one x in
+    let tail = reads_shown d ds in
+    cc
+  where
+    one : (x : ColumnDriver) → driver_reads x ≡ read_now (shown_driver d x)
+    one (Input place) = refl
+    one (Latch first input) = refl
+    one (OfCover model cell inputs) = refl
+    one (Connection other) = refl
 
 read_now_map : {A B : Type 0} (f : A → B) (s : Driver A) → read_now (map_driver f s) ≡ map f (read_now s)
 read_now_map f (from_input j) = refl

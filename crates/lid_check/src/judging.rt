@@ -1,11 +1,14 @@
-ghost use Rattle.std.specs.Prelude.{◌≡◌, ◌⊎◌, length, IfOk, IfErr};
+ghost use Rattle.std.specs.Prelude.{◌≡◌, ◌⊎◌, length, map, IfOk, IfErr};
 ghost use Rattle.lid_design.specs.Loops.{pearls};
 ghost use Rattle.lid_design.specs.WellFormed.{IsWellFormed};
 ghost use Rattle.lid_rules.specs.declared.fault.CheckFault.TheVariants.{Memory};
+ghost use Rattle.lid_digraph.specs.Graphs.{IsOrder};
+ghost use Rattle.lid_elab.specs.Elaborations.{driver_reads};
 ghost use Rattle.lid_check.specs.Acceptance.{IsAccepted, IsRefusal};
 ghost use Rattle.lid_check.specs.Facts.{AreFacts};
 
-use crate::flaws::{find_flaw, tell_flaw};
+use crate::flaws::{Verdict, find_flaw, tell_flaw};
+use crate::network::{Network, network_of};
 use crate::pearls::find_inputs;
 use lid_base::{Items, Name};
 use lid_design::Design;
@@ -24,6 +27,7 @@ pub struct Facts {
     pub pearls: u32,
     pub latches: u64,
     pub defaulted: u64,
+    pub network: Network,
 }
 
 /// Accepts a design with its root, or refuses it by one of the conditions but `NoRoot`.
@@ -49,38 +53,46 @@ fn check_columns(alloc: Global, judged: Judged<'_>) -> Result<Facts, CheckFault>
     ensures err { IfErr result (λ fault. (fault ≡ Memory) ⊎ IsRefusal judged.entry fault) }
 {
     let columns = elaborate(alloc, judged)?;
-    judge_columns(alloc, &columns)
+    judge_columns(alloc, columns)
 }
 
 /// Judges some columns.
 ///
 /// # Errors
 /// The first condition that applies is told, at its first place. `Memory` may come at any design.
-fn judge_columns(alloc: Global, columns: &Elaboration<'_>) -> Result<Facts, CheckFault>
-    ensures ok { IfOk result (λ facts. AreFacts columns.now.design facts) }
-    ensures err { IfErr result (λ fault. (fault ≡ Memory) ⊎ IsRefusal columns.now.design fault) }
+fn judge_columns(alloc: Global, columns: Elaboration<'_>) -> Result<Facts, CheckFault>
+    ensures ok { IfOk result (λ facts. AreFacts columns.entry.design facts) }
+    ensures err { IfErr result (λ fault. (fault ≡ Memory) ⊎ IsRefusal columns.entry.design fault) }
 {
-    let judged = columns.judged();
-    let survey = judged.survey();
-    match find_flaw(alloc, columns)? {
-        None => find_facts(alloc, survey),
-        Some(flaw) => Err(tell_flaw(alloc, judged, flaw)?),
+    let _ = columns.judged().design();
+    match find_flaw(alloc, &columns)? {
+        Verdict::Sound(order) => find_facts(alloc, columns, order),
+        Verdict::Flawed(flaw) => Err(tell_flaw(alloc, columns.judged(), flaw)?),
     }
 }
 
-/// What is kept of a design: its inputs and its counts.
-fn find_facts(alloc: Global, survey: &Survey<'_>) -> Result<Facts, CheckFault>
-    requires { IsAccepted survey.now }
-    ensures ok { IfOk result (λ facts. AreFacts survey.now facts) }
+/// What is kept of a design: its inputs, its counts and its columns.
+fn find_facts(
+    alloc: Global,
+    columns: Elaboration<'_>,
+    order: Items<u32>,
+) -> Result<Facts, CheckFault>
+    requires accepted { IsAccepted columns.design }
+    requires order { IsOrder (map driver_reads columns.drivers) order }
+    ensures ok { IfOk result (λ facts. AreFacts columns.entry.design facts) }
     ensures err { IfErr result (λ fault. fault ≡ Memory) }
 {
+    let survey = columns.judged().survey();
     let latches = count_latches(alloc, survey)?;
+    let pearls = count_pearls(survey);
     let inputs = find_inputs(alloc, survey, survey.design().root)?;
+    let network = network_of(alloc, columns, order)?;
     Ok(Facts {
         inputs,
-        pearls: count_pearls(survey),
+        pearls,
         latches: latches.all,
         defaulted: latches.defaulted,
+        network,
     })
 }
 

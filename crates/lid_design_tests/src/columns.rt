@@ -23,7 +23,7 @@ const NESTED: &str =
 .outputs o\n.subckt mid d=x q=o c=ck\n.end\n";
 
 /// A driver in words and numbers.
-fn shown(alloc: Global, driver: &ColumnDriver<'_>) -> Result<String, AllocError> {
+fn shown(alloc: Global, driver: &ColumnDriver) -> Result<String, AllocError> {
     match driver {
         ColumnDriver::Input(place) => format!(in alloc; "input {place}"),
         ColumnDriver::Latch { first, input } => format!(in alloc; "latch {first} {input}"),

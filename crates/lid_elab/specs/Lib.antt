@@ -1,3 +1,4 @@
+pub mod Covers
 pub mod Elaborated
 pub mod Elaborations
 pub mod Numbers

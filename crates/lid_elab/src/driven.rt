@@ -3,8 +3,9 @@ ghost use Rattle.lid_design.specs.Columns.{first_bit};
 ghost use Rattle.lid_design.specs.Models.{insts_of, instance_number, IsReached};
 ghost use Rattle.std.specs.List.{enumerate_from};
 ghost use Rattle.lid_names.specs.Names.{texts};
-ghost use Rattle.lid_wiring.specs.Locals.{inputs_from, local_of, output_of, outputs_of, model_locals};
-ghost use Rattle.lid_elab.specs.Templates.{shown_local};
+ghost use Rattle.lid_wiring.specs.Locals.{inputs_from, local_cover, local_of, output_of, outputs_of, model_locals};
+ghost use Rattle.lid_elab.specs.Templates.{shown_local, place_in};
+ghost use Rattle.lid_elab.specs.Covers.{cells_at, cover_in};
 ghost use Rattle.lid_elab.specs.Parts.{Grows, Shows, data_of, output_sets};
 
 use crate::places::{model_at, narrow, place_in, places_of};
@@ -19,7 +20,7 @@ use std::alloc::{AllocError, Global};
 #[derive(Drop)]
 pub struct Driven<'d> {
     pub nets: Vec<&'d [u8]>,
-    pub locals: Vec<LocalDriver<'d>>,
+    pub locals: Vec<LocalDriver>,
 }
 
 /// The outputs of each of some models.
@@ -59,13 +60,9 @@ pub fn driven_of<'d>(
 }
 
 /// Pushes a net, and what drives it.
-fn push_net<'d>(
-    into: &mut Driven<'d>,
-    net: &'d [u8],
-    local: LocalDriver<'d>,
-) -> Result<(), AllocError>
+fn push_net<'d>(into: &mut Driven<'d>, net: &'d [u8], local: LocalDriver) -> Result<(), AllocError>
     ensures nets { OnOk result (texts into.new.nets.items ≡ texts into.old.nets.items ++ net.now ∷ []) }
-    ensures locals { OnOk result (map shown_local into.new.locals.items ≡ map shown_local into.old.locals.items ++ shown_local local.entry ∷ []) }
+    ensures locals { OnOk result (into.new.locals.items ≡ into.old.locals.items ++ local ∷ []) }
 {
     into.locals.push(local)?;
     into.nets.push(net)?;
@@ -118,30 +115,33 @@ fn push_cells<'d>(
     model: u32,
     cells: &'d [Cell],
 ) -> Result<(), AllocError>
-    requires { IsReached judged.now model }
+    requires reached { IsReached judged.now model }
+    requires cells { cells.now ≡ cells_at judged.now model }
     ensures { OnOk result (Grows judged.now model (map local_of cells.now) into.old into.new) }
 {
-    for cell in cells {
-        push_cell(alloc, into, judged, model, cell)?;
+    for i in 0..cells.len() {
+        push_cell(alloc, into, judged, model, i, &cells[i])?;
     }
     Ok(())
 }
 
-/// Pushes a cell of a model.
+/// Pushes a cell of a model, by its number there.
 fn push_cell<'d>(
     alloc: Global,
     into: &mut Driven<'d>,
     judged: &Judged<'d>,
     model: u32,
+    i: usize,
     cell: &'d Cell,
 ) -> Result<(), AllocError>
-    requires { IsReached judged.now model }
+    requires reached { IsReached judged.now model }
+    requires cell { slice_get (cells_at judged.now model) i ≡ Some cell.now }
     ensures { OnOk result (Grows judged.now model (local_of cell.now ∷ []) into.old into.new) }
 {
     match cell {
-        Cell::Names { inputs, out, cover } => {
-            let inputs = places_of(alloc, judged, model, inputs.as_slice())?;
-            push_net(into, out.as_slice(), LocalDriver::Cover { cover, inputs })
+        Cell::Names { inputs, out, .. } => {
+            let local = cover_of(alloc, judged, model, i, inputs.as_slice())?;
+            push_net(into, out.as_slice(), local)
         }
         Cell::Latch {
             input,
@@ -154,6 +154,26 @@ fn push_cell<'d>(
             push_net(into, out.as_slice(), LocalDriver::Latch { first, input })
         }
     }
+}
+
+/// The cover of a cell of a model, by its inputs.
+fn cover_of(
+    alloc: Global,
+    judged: &Judged<'_>,
+    model: u32,
+    i: usize,
+    inputs: &[Name],
+) -> Result<LocalDriver, AllocError>
+    requires { IsReached judged.now model }
+    ensures { IfOk result (λ local. shown_local judged.now local ≡ local_cover (cover_in judged.now model i) (map (place_in judged.now model) inputs.now)) }
+{
+    let cell = narrow(i)?;
+    let inputs = places_of(alloc, judged, model, inputs)?;
+    Ok(LocalDriver::Cover {
+        model,
+        cell,
+        inputs,
+    })
 }
 
 /// The bit that a latch begins with.

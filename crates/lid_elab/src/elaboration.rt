@@ -11,15 +11,21 @@ use std::alloc::{AllocError, Global};
 use std::marker::Model;
 
 /// The columns of a design in order: by the paths of their models, a path before its extensions and
-/// instances in order, and at a path by the first appearance of their names. A contract sees the
-/// design, what drives each column, and where the columns of the instances of the root start.
+/// instances in order, and at a path by the first appearance of their names.
+#[derive(Drop)]
+pub struct Columns {
+    /// What drives each column.
+    pub drivers: Items<ColumnDriver>,
+    /// For each instance of the root, the number of its first column.
+    pub starts: Items<u32>,
+}
+
+/// A design with its columns. A contract sees the design, what drives each column, and where the
+/// columns of the instances of the root start.
 #[derive(Drop)]
 pub struct Elaboration<'d> {
     judged: Judged<'d>,
-    /// What drives each column.
-    drivers: Items<ColumnDriver<'d>>,
-    /// For each instance of the root, the number of its first column.
-    starts: Items<u32>,
+    columns: Columns,
 }
 
 impl<'d> Model for Elaboration<'d> {
@@ -29,16 +35,16 @@ impl<'d> Model for Elaboration<'d> {
 
     ghost Value = { Elaborated };
 
-    ghost view = { λ e. record { design = e.judged; drivers = e.drivers; starts = e.starts } };
+    ghost view = { λ e. record { design = e.judged; drivers = e.columns.drivers; starts = e.columns.starts } };
 
-    ghost invariant = { λ e. IsElaborated e.judged (map shown_driver e.drivers) e.starts };
+    ghost invariant = { λ e. IsElaborated e.judged (map (shown_driver e.judged) e.columns.drivers) e.columns.starts };
 }
 
 impl<'d> Elaboration<'d> {
     /// The design.
     pub fn judged(&self) -> &Judged<'d>
         ensures same { result.now ≡ self.now.design }
-        ensures elaborated { IsElaborated self.now.design (map shown_driver self.now.drivers) self.now.starts }
+        ensures elaborated { IsElaborated self.now.design (map (shown_driver self.now.design) self.now.drivers) self.now.starts }
         ensures few { length self.now.drivers ≤ 1048576 }
     {
         let _ = self.judged.design();
@@ -46,17 +52,26 @@ impl<'d> Elaboration<'d> {
     }
 
     /// What drives each column.
-    pub fn drivers(&self) -> &[ColumnDriver<'d>]
+    pub fn drivers(&self) -> &[ColumnDriver]
         ensures { result.now ≡ self.now.drivers }
     {
-        self.drivers.as_slice()
+        self.columns.drivers.as_slice()
     }
 
     /// For each instance of the root, the number of its first column.
     pub fn starts(&self) -> &[u32]
         ensures { result.now ≡ self.now.starts }
     {
-        self.starts.as_slice()
+        self.columns.starts.as_slice()
+    }
+
+    /// The columns alone.
+    pub fn into_columns(self) -> Columns
+        ensures drivers { result.drivers ≡ self.entry.drivers }
+        ensures starts { result.starts ≡ self.entry.starts }
+    {
+        let Elaboration { columns, .. } = self;
+        columns
     }
 }
 
@@ -72,7 +87,7 @@ pub fn elaborate<'d>(alloc: Global, judged: Judged<'d>) -> Result<Elaboration<'d
 fn elaborate_by<'d>(
     alloc: Global,
     judged: Judged<'d>,
-    templates: &[Template<'d>],
+    templates: &[Template],
 ) -> Result<Elaboration<'d>, AllocError>
     requires { AreTemplates judged templates.now }
     ensures { IfOk result (λ e. e.design ≡ judged.entry) }
@@ -80,11 +95,8 @@ fn elaborate_by<'d>(
     let root = &templates[judged.design().root as usize];
     let starts = copy_all(alloc, root.offsets.as_slice())?;
     let drivers = place_all(alloc, &judged, templates)?;
-    Ok(Elaboration {
-        judged,
-        drivers,
-        starts,
-    })
+    let columns = Columns { drivers, starts };
+    Ok(Elaboration { judged, columns })
 }
 
 /// Some numbers once more.

@@ -41,7 +41,7 @@ pub fn find_column(
 fn find_by(
     alloc: Global,
     judged: &Judged<'_>,
-    templates: &[Template<'_>],
+    templates: &[Template],
     number: u32,
 ) -> Result<(Items<u32>, Name), AllocError>
     requires templates { AreTemplates judged.now templates.now }
@@ -59,7 +59,7 @@ fn find_by(
 /// the last one.
 fn enter_all(
     judged: &Judged<'_>,
-    templates: &[Template<'_>],
+    templates: &[Template],
     number: u32,
     path: &mut Vec<u32>,
 ) -> Result<Spot, AllocError>
@@ -82,7 +82,7 @@ fn enter_all(
 }
 
 /// The instance that a column past the nets of a model stands in, and the column in there.
-fn enter(judged: &Judged<'_>, templates: &[Template<'_>], spot: Spot) -> (u32, Spot)
+fn enter(judged: &Judged<'_>, templates: &[Template], spot: Spot) -> (u32, Spot)
     requires templates { AreTemplates judged.now templates.now }
     requires reached { IsReached judged.now spot.model }
     requires past { length (model_nets judged.now spot.model) ≤ spot.number }

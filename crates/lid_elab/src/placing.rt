@@ -35,40 +35,41 @@ pub struct Around {
 }
 
 /// Pushes what gives the columns of a scope their bits.
-pub fn push_drivers<'d>(
+pub fn push_drivers(
     alloc: Global,
-    drivers: &mut Vec<ColumnDriver<'d>>,
+    judged: &Judged<'_>,
+    drivers: &mut Vec<ColumnDriver>,
     start: u32,
     offsets: &[u32],
     around: Option<(u32, &[u32])>,
-    locals: &[LocalDriver<'d>],
+    locals: &[LocalDriver],
     picks: &[u32],
 ) -> Result<(), AllocError>
     requires start { start ≤ 1048576 }
     requires picks { All (λ pick. pick < length locals.now) picks.now }
-    requires small { All (λ pick. IsSmallAt offsets.now (seen_around around) (slice_get locals.now pick)) picks.now }
-    ensures { OnOk result (map shown_driver drivers.new.items ≡ map shown_driver drivers.old.items ++ map (picked start offsets.now (seen_around around.entry) locals.now) picks.now) }
+    requires small { All (λ pick. IsSmallAt judged.now offsets.now (seen_around around) (slice_get locals.now pick)) picks.now }
+    ensures { OnOk result (map (shown_driver judged.now) drivers.new.items ≡ map (shown_driver judged.now) drivers.old.items ++ map (picked judged.now start offsets.now (seen_around around.entry) locals.now) picks.now) }
 {
     for pick in picks {
         let local = &locals[*pick as usize];
-        drivers.push(place_driver(alloc, start, offsets, around, local)?)?;
+        drivers.push(place_driver(alloc, judged, start, offsets, around, local)?)?;
     }
     Ok(())
 }
 
 /// Pushes what gives the columns of a scope their bits, where the columns before it have theirs.
-pub fn place_scope<'d>(
+pub fn place_scope(
     alloc: Global,
-    judged: &Judged<'d>,
-    templates: &[Template<'d>],
-    drivers: &mut Vec<ColumnDriver<'d>>,
+    judged: &Judged<'_>,
+    templates: &[Template],
+    drivers: &mut Vec<ColumnDriver>,
     scope: Scope,
 ) -> Result<(), AllocError>
     requires templates { AreTemplates judged.now templates.now }
     requires there { (path : List ℕ) × IsAt judged.now path scope }
     requires next { scope.start ≡ length drivers.now.items }
-    requires before { ArePlaced judged.now (map shown_driver drivers.now.items) }
-    ensures after { OnOk result (ArePlaced judged.now (map shown_driver drivers.new.items)) }
+    requires before { ArePlaced judged.now (map (shown_driver judged.now) drivers.now.items) }
+    ensures after { OnOk result (ArePlaced judged.now (map (shown_driver judged.now) drivers.new.items)) }
     ensures long { OnOk result (length drivers.new.items ≡ length drivers.old.items + length (model_nets judged.now scope.model)) }
 {
     let _ = judged.design();
@@ -76,6 +77,7 @@ pub fn place_scope<'d>(
     let around = around_of(judged, templates, scope);
     push_drivers(
         alloc,
+        judged,
         drivers,
         scope.start,
         template.offsets.as_slice(),
@@ -89,7 +91,7 @@ pub fn place_scope<'d>(
 /// inputs are bound to. `None` at the root.
 fn around_of<'t>(
     judged: &Judged<'_>,
-    templates: &'t [Template<'_>],
+    templates: &'t [Template],
     scope: Scope,
 ) -> Option<(u32, &'t [u32])>
     requires templates { AreTemplates judged.now templates.now }
@@ -164,20 +166,20 @@ fn push_instance(
 }
 
 /// Works through a scope: pushes what gives its columns their bits, and the scopes of its instances.
-fn visit<'d>(
+fn visit(
     alloc: Global,
-    judged: &Judged<'d>,
-    templates: &[Template<'d>],
-    drivers: &mut Vec<ColumnDriver<'d>>,
+    judged: &Judged<'_>,
+    templates: &[Template],
+    drivers: &mut Vec<ColumnDriver>,
     stack: &mut Vec<Scope>,
     scope: Scope,
 ) -> Result<(), AllocError>
     requires templates { AreTemplates judged.now templates.now }
-    requires before { ArePlaced judged.now (map shown_driver drivers.now.items) }
+    requires before { ArePlaced judged.now (map (shown_driver judged.now) drivers.now.items) }
     requires there { (path : List ℕ) × IsAt judged.now path scope }
     requires start { scope.start ≡ length drivers.now.items }
     requires rest { AreNext judged.now (scope.start + size_of judged.now scope.model) (reverse stack.now.items) }
-    ensures after { OnOk result (ArePlaced judged.now (map shown_driver drivers.new.items)) }
+    ensures after { OnOk result (ArePlaced judged.now (map (shown_driver judged.now) drivers.new.items)) }
     ensures next { OnOk result (AreNext judged.now (length drivers.new.items) (reverse stack.new.items)) }
     ensures lighter { OnOk result (weights judged.now (reverse stack.new.items) < weights judged.now (reverse stack.old.items) + weight_of judged.now scope.model) }
 {
@@ -188,13 +190,13 @@ fn visit<'d>(
 }
 
 /// What gives each column its bit, in order, by what is known of the models.
-pub fn place_all<'d>(
+pub fn place_all(
     alloc: Global,
-    judged: &Judged<'d>,
-    templates: &[Template<'d>],
-) -> Result<Items<ColumnDriver<'d>>, AllocError>
+    judged: &Judged<'_>,
+    templates: &[Template],
+) -> Result<Items<ColumnDriver>, AllocError>
     requires { AreTemplates judged.now templates.now }
-    ensures written { IfOk result (λ drivers. ArePlaced judged.now (map shown_driver drivers)) }
+    ensures written { IfOk result (λ drivers. ArePlaced judged.now (map (shown_driver judged.now) drivers)) }
     ensures whole { IfOk result (λ drivers. length drivers ≡ length (columns judged.now)) }
 {
     let mut drivers = Vec::new(alloc);
@@ -203,15 +205,15 @@ pub fn place_all<'d>(
 }
 
 /// Pushes what gives each column its bit, in order, where there is nothing yet.
-fn push_all<'d>(
+fn push_all(
     alloc: Global,
-    judged: &Judged<'d>,
-    templates: &[Template<'d>],
-    drivers: &mut Vec<ColumnDriver<'d>>,
+    judged: &Judged<'_>,
+    templates: &[Template],
+    drivers: &mut Vec<ColumnDriver>,
 ) -> Result<(), AllocError>
     requires templates { AreTemplates judged.now templates.now }
     requires none { drivers.old.items ≡ [] }
-    ensures written { OnOk result (ArePlaced judged.now (map shown_driver drivers.new.items)) }
+    ensures written { OnOk result (ArePlaced judged.now (map (shown_driver judged.now) drivers.new.items)) }
     ensures whole { OnOk result (length drivers.new.items ≡ length (columns judged.now)) }
 {
     let mut stack = Vec::new(alloc);

@@ -12,14 +12,13 @@ use crate::driver::ColumnDriver;
 use crate::picks::picks_of;
 use crate::sizes::{find_sizes, offsets_of};
 use lid_base::Items;
-use lid_cover::Cover;
 use lid_names::NameSet;
 use lid_wiring::Judged;
 use std::alloc::{AllocError, Global};
 
 /// What drives a net inside its model. Nets are told by their places among the nets of a model.
 #[derive(Drop)]
-pub enum LocalDriver<'d> {
+pub enum LocalDriver {
     /// A data input of the model, by its place among them.
     Input(u32),
     /// A latch, that begins with the bit `first`.
@@ -27,9 +26,10 @@ pub enum LocalDriver<'d> {
         first: bool,
         input: u32,
     },
-    /// A cover, with its inputs in order.
+    /// The cover of a cell of the model, with its inputs in order.
     Cover {
-        cover: &'d Cover,
+        model: u32,
+        cell: u32,
         inputs: Items<u32>,
     },
     /// A net of the model of an instance, that is bound to this one.
@@ -41,9 +41,9 @@ pub enum LocalDriver<'d> {
 
 /// What is known of a model before it is placed.
 #[derive(Drop)]
-pub struct Template<'d> {
+pub struct Template {
     /// All that drives nets of the model.
-    pub locals: Items<LocalDriver<'d>>,
+    pub locals: Items<LocalDriver>,
     /// For each net, the place of what drives it among `locals`.
     pub picks: Items<u32>,
     /// For each instance, how many columns of the model and of earlier instances stand before it.
@@ -55,17 +55,19 @@ pub struct Template<'d> {
 /// What gives a column its bit, from what drives its net in its model. The columns of the place
 /// begin at `start`, those of its instances at `offsets` behind it. In an instance, `around` has the
 /// first column of the place around, and the nets there that the inputs are bound to.
-pub fn place_driver<'d>(
+pub fn place_driver(
     alloc: Global,
+    judged: &Judged<'_>,
     start: u32,
     offsets: &[u32],
     around: Option<(u32, &[u32])>,
-    local: &LocalDriver<'d>,
-) -> Result<ColumnDriver<'d>, AllocError>
+    local: &LocalDriver,
+) -> Result<ColumnDriver, AllocError>
     requires start { start ≤ 1048576 }
-    requires small { IsSmall offsets.now (seen_around around) (shown_local local.now) }
-    ensures { IfOk result (λ driver. shown_driver driver ≡ placed start offsets.now (seen_around around.entry) (shown_local local.now)) }
+    requires small { IsSmall offsets.now (seen_around around) (shown_local judged.now local.now) }
+    ensures { IfOk result (λ driver. shown_driver judged.now driver ≡ placed start offsets.now (seen_around around.entry) (shown_local judged.now local.now)) }
 {
+    let _ = judged;
     Ok(match local {
         LocalDriver::Input(place) => match around {
             None => ColumnDriver::Input(*place),
@@ -75,8 +77,13 @@ pub fn place_driver<'d>(
             first: *first,
             input: start + *input,
         },
-        LocalDriver::Cover { cover, inputs } => ColumnDriver::Cover {
-            cover: *cover,
+        LocalDriver::Cover {
+            model,
+            cell,
+            inputs,
+        } => ColumnDriver::Cover {
+            model: *model,
+            cell: *cell,
             inputs: shift_all(alloc, start, inputs.as_slice())?,
         },
         LocalDriver::Connection { inst, net } => {
@@ -99,10 +106,7 @@ fn shift_all(alloc: Global, start: u32, numbers: &[u32]) -> Result<Items<u32>, A
 }
 
 /// What is known of each reached model before it is placed, by the model's number.
-pub fn find_templates<'d>(
-    alloc: Global,
-    judged: &Judged<'d>,
-) -> Result<Items<Template<'d>>, AllocError>
+pub fn find_templates(alloc: Global, judged: &Judged<'_>) -> Result<Items<Template>, AllocError>
     ensures { IfOk result (AreTemplates judged.now) }
 {
     let sizes = find_sizes(alloc, judged)?;
@@ -124,7 +128,7 @@ fn push_templates<'d>(
     judged: &Judged<'d>,
     sizes: &[Option<u32>],
     outputs: &[NameSet<'d>],
-    templates: &mut Vec<Template<'d>>,
+    templates: &mut Vec<Template>,
 ) -> Result<(), AllocError>
     requires sizes { AreSizes judged.now (IsReached judged.now) sizes.now }
     requires outputs { outputs.now ≡ output_sets judged.now.models }
@@ -146,7 +150,7 @@ fn template_of<'d>(
     sizes: &[Option<u32>],
     outputs: &[NameSet<'d>],
     model: u32,
-) -> Result<Template<'d>, AllocError>
+) -> Result<Template, AllocError>
     requires sizes { AreSizes judged.now (IsReached judged.now) sizes.now }
     requires outputs { outputs.now ≡ output_sets judged.now.models }
     requires below { model < length sizes.now }
@@ -165,7 +169,7 @@ fn describe<'d>(
     sizes: &[Option<u32>],
     outputs: &[NameSet<'d>],
     model: u32,
-) -> Result<Template<'d>, AllocError>
+) -> Result<Template, AllocError>
     requires reached { IsReached judged.now model }
     requires sizes { AreSizes judged.now (IsReached judged.now) sizes.now }
     requires outputs { outputs.now ≡ output_sets judged.now.models }
@@ -183,8 +187,8 @@ fn describe<'d>(
 
 /// What is known of the nets of a model.
 #[derive(Drop)]
-struct Nets<'d> {
-    locals: Items<LocalDriver<'d>>,
+struct Nets {
+    locals: Items<LocalDriver>,
     picks: Items<u32>,
 }
 
@@ -194,7 +198,7 @@ fn describe_nets<'d>(
     judged: &Judged<'d>,
     outputs: &[NameSet<'d>],
     model: u32,
-) -> Result<Nets<'d>, AllocError>
+) -> Result<Nets, AllocError>
     requires reached { IsReached judged.now model }
     requires outputs { outputs.now ≡ output_sets judged.now.models }
     ensures { IfOk result (λ nets. ArePicked judged.now model nets.locals nets.picks) }
@@ -235,7 +239,7 @@ fn describe_insts(
 }
 
 /// A template of nothing.
-fn no_template<'d>(alloc: Global) -> Template<'d> {
+fn no_template(alloc: Global) -> Template {
     Template {
         locals: Items::from_vec(Vec::new(alloc)),
         picks: Items::from_vec(Vec::new(alloc)),

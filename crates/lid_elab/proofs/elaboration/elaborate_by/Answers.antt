@@ -22,7 +22,7 @@ invariant_of-result c =
     let is = template_at d ts c.requires d.root (root_reached d) t here in
     let starts : c.in_ok-starts.starts ≡ t.offsets = c.in_ok-starts.ensures ∙ c.as_slice.ensures in
     let drivers = c.in_ok-drivers.drivers in
-    let whole = length-map drivers shown_driver ∙ c.in_ok-drivers.ensures.whole in
+    let whole = length-map drivers (shown_driver d) ∙ c.in_ok-drivers.ensures.whole in
     elaborated d judged c.in_ok-starts.starts (ap length starts ∙ is.offsets.long)
     (λ i o at. is.offsets.each i o (ap (λ (os : List ℕ). slice_get os i) (sym starts) ∙ at))
-    (map shown_driver drivers) c.in_ok-drivers.ensures.written whole
+    (map (shown_driver d) drivers) c.in_ok-drivers.ensures.written whole

@@ -5,7 +5,7 @@ use Rattle.lid_elab.proofs.placing.push_all.Given as goal
 
 abbrev pub invariant-loop-scope : goal.invariant-loop-scope
 invariant-loop-scope l = record {
-  written : ArePlaced l.judged (map shown_driver l.drivers.items);
+  written : ArePlaced l.judged (map (shown_driver l.judged) l.drivers.items);
   next : AreNext l.judged (length l.drivers.items) (reverse l.stack.items);
 }
 

@@ -9,7 +9,7 @@ use Rattle.std.proofs.lemmas.List.Quantifiers.{position-Some}
 use Rattle.std.proofs.lemmas.Option.{slice_get-get_or, slice_get_within, slice_get_read}
 use Rattle.std.proofs.lemmas.Slice.Eq.{bytes_eq-Decides}
 use Rattle.lid_base.specs.Lists.{Among}
-use Rattle.lid_base.proofs.Lists.{all_push}
+use Rattle.lid_base.proofs.Lists.{all_push, get_among}
 use Rattle.lid_design.proofs.Reached.{root_reached}
 use Rattle.lid_design.specs.declared.Design.{Design}
 use Rattle.lid_design.specs.declared.Model.{Model}
@@ -23,7 +23,6 @@ use Rattle.lid_elab.specs.Elaborations.{column_at, IsElaborated}
 use Rattle.lid_wiring.proofs.Names.{position_get}
 use Rattle.lid_wiring.proofs.Wired.{output_read, read_is_net}
 use Rattle.lid_check.proofs.Numbered.{column_is, within}
-use Rattle.lid_strict.proofs.Covered.{got_among}
 
 module _ (d : Design) (network : List (Driver ℕ)) (starts : List ℕ) (is : IsElaborated d network starts) where
   at_root : (name : List ℕ) (place : ℕ) → position (bytes_eq name) (model_nets d d.root) ≡ Some place → slice_get (columns d) place ≡ Some (column [] name)
@@ -50,7 +49,7 @@ outputs_are d e models root formed same all at =
     ap root_outputs (sym same) ∙ ap (λ (ms : List Model). option_map_or (λ m. m.outputs) (slice_get ms e.root) []) (sym all) ∙ ap (λ (o : Option Model). option_map_or (λ m. m.outputs) o []) here
 
 pub item_among : (names : List (List ℕ)) (i : ℕ) (name : List ℕ) → i < length names → name ≡ get_or names i name → Among name names
-item_among names i name h at = got_among names i name (slice_get_read names (length names) i name refl h at)
+item_among names i name h at = get_among names i name (slice_get_read names (length names) i name refl h at)
 
 -- an output of the root is a net of the root
 output_net : (d : Design) → IsJudged d → (name : List ℕ) → Among name (root_outputs d) → Among name (model_nets d d.root)

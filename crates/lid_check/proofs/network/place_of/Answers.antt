@@ -1,11 +1,11 @@
-use Rattle.std.proofs.Common.{ℕ, List, position, sym, ◌∙◌, ap, subst}
+use Rattle.std.proofs.Common.{◌≡◌, ℕ, List, position, sym, ◌∙◌, ap, subst}
 use Rattle.std.specs.Str.{bytes_eq}
 use Rattle.lid_design.proofs.Reached.{root_reached}
 use Rattle.lid_design.specs.declared.Design.{Design}
 use Rattle.lid_design.specs.Models.{IsReached}
 use Rattle.lid_design.specs.Elaboration.{model_nets}
-use Rattle.lid_strict.proofs.Placing.{output_placed}
-use Rattle.lid_strict.proofs.whole.place_of.Goals as goal
+use Rattle.lid_check.proofs.Placing.{output_placed}
+use Rattle.lid_check.proofs.network.place_of.Goals as goal
 
 pub place_of-requires : goal.place_of-requires
 place_of-requires c =

@@ -1,7 +1,7 @@
 use Rattle.std.proofs.Common.{sym, ◌∙◌, ap}
 use Rattle.lid_design.specs.declared.Model.{Model}
-use Rattle.lid_strict.proofs.Placing.{outputs_are}
-use Rattle.lid_strict.proofs.whole.outputs_of.Goals as goal
+use Rattle.lid_check.proofs.Placing.{outputs_are}
+use Rattle.lid_check.proofs.network.outputs_of.Goals as goal
 
 pub returns : goal.returns
 returns c =

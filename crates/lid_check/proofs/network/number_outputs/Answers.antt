@@ -5,9 +5,9 @@ use Rattle.lid_base.specs.Lists.{Among}
 use Rattle.lid_design.specs.declared.Design.{Design}
 use Rattle.lid_design.specs.Columns.{column}
 use Rattle.lid_elab.specs.Elaborations.{shown_driver, column_at, IsElaborated}
-use Rattle.lid_strict.specs.Networks.{AreNumbersOf}
-use Rattle.lid_strict.proofs.Placing.{item_among, place_below, place_column, numbers_more}
-use Rattle.lid_strict.proofs.whole.number_outputs.Goals as goal
+use Rattle.lid_check.specs.Networks.{AreNumbersOf}
+use Rattle.lid_check.proofs.Placing.{item_among, place_below, place_column, numbers_more}
+use Rattle.lid_check.proofs.network.number_outputs.Goals as goal
 
 pub place_of-requires : goal.place_of-requires
 place_of-requires c =
@@ -18,8 +18,8 @@ place_of-requires c =
 pub overflow_cast-place_of : goal.overflow_cast-place_of
 overflow_cast-place_of c =
     let d = c.judged-judged.result.now in
-    let below = place_below d (map shown_driver c.args.columns.now.drivers) c.args.columns.now.starts (subst (λ (e : Design). IsElaborated e (map shown_driver c.args.columns.now.drivers) c.args.columns.now.starts) (sym c.judged-judged.ensures.same) c.judged-judged.ensures.elaborated) c.name-item.result c.place_of.result c.place_of.ensures in
-    let long = length-map c.args.columns.now.drivers shown_driver in
+    let below = place_below d (map (shown_driver c.args.columns.now.design) c.args.columns.now.drivers) c.args.columns.now.starts (subst (λ (e : Design). IsElaborated e (map (shown_driver c.args.columns.now.design) c.args.columns.now.drivers) c.args.columns.now.starts) (sym c.judged-judged.ensures.same) c.judged-judged.ensures.elaborated) c.name-item.result c.place_of.result c.place_of.ensures in
+    let long = length-map c.args.columns.now.drivers (shown_driver c.args.columns.now.design) in
     let few = c.judged-judged.ensures.few in
     omega arith
 
@@ -29,12 +29,12 @@ loop-name-preserved c =
     let name = c.name-item.result in
     let names = c.outputs_of-outputs.result.now in
     let place = c.place_of.result in
-    let network = map shown_driver c.args.columns.now.drivers in
+    let network = map (shown_driver c.args.columns.now.design) c.args.columns.now.drivers in
     let starts = c.args.columns.now.starts in
-    let long = length-map c.args.columns.now.drivers shown_driver in
-    let room = subst (λ (n : ℕ). place < n) long (place_below d network starts (subst (λ (e : Design). IsElaborated e (map shown_driver c.args.columns.now.drivers) c.args.columns.now.starts) (sym c.judged-judged.ensures.same) c.judged-judged.ensures.elaborated) name place c.place_of.ensures) in
+    let long = length-map c.args.columns.now.drivers (shown_driver c.args.columns.now.design) in
+    let room = subst (λ (n : ℕ). place < n) long (place_below d network starts (subst (λ (e : Design). IsElaborated e (map (shown_driver c.args.columns.now.design) c.args.columns.now.drivers) c.args.columns.now.starts) (sym c.judged-judged.ensures.same) c.judged-judged.ensures.elaborated) name place c.place_of.ensures) in
     numbers_more d (length c.args.columns.now.drivers) names c.loop-name.name-index name c.loop-name.numbers.items c.push.new.self.items place c.loop-name-test.true c.name-item.is c.loop-name.invariant.0 c.loop-name.invariant.1 c.in_ok-push.ensures.items room
-    (place_column d network starts (subst (λ (e : Design). IsElaborated e (map shown_driver c.args.columns.now.drivers) c.args.columns.now.starts) (sym c.judged-judged.ensures.same) c.judged-judged.ensures.elaborated) name place c.place_of.ensures)
+    (place_column d network starts (subst (λ (e : Design). IsElaborated e (map (shown_driver c.args.columns.now.design) c.args.columns.now.drivers) c.args.columns.now.starts) (sym c.judged-judged.ensures.same) c.judged-judged.ensures.elaborated) name place c.place_of.ensures)
 
 pub returns : goal.returns
 returns c =
