@@ -6,5 +6,5 @@ mod program;
 mod row;
 mod truth;
 
-pub use program::{Part, Program, Step};
+pub use program::{Part, Program, Step, copy_of};
 pub use row::{put_bits, put_state, settle, take_bits, take_state};

@@ -86,6 +86,25 @@ impl Program {
         Ok(())
     }
 
+    /// An equal program.
+    #[tactic(auto, unfolding(crate::specs::Programs::shown))]
+    pub fn copy(&self) -> Result<Program, AllocError>
+        ensures ready { IsReady self.now → IfOk result IsReady }
+        ensures nets { IfOk result (λ copy. copy.nets ≡ self.now.nets) }
+        ensures shown { IfOk result (λ copy. shown copy ≡ shown self.now) }
+    {
+        let alloc = *self.steps.allocator();
+        let steps = copy_of(alloc, self.steps.as_slice())?;
+        let reads = copy_of(alloc, self.reads.as_slice())?;
+        let cubes = copy_of(alloc, self.cubes.as_slice())?;
+        Ok(Program {
+            nets: self.nets,
+            steps,
+            reads,
+            cubes,
+        })
+    }
+
     /// Adds six reads that belong to no cover, so that six can be read from the first of each on.
     pub fn finish(&mut self) -> Result<(), AllocError>
         requires { IsProgram 0 self.old }
@@ -108,6 +127,15 @@ fn small_table(cover: &Cover) -> u64
     } else {
         0
     }
+}
+
+/// A vector of some items.
+pub fn copy_of<T: Copy>(alloc: Global, items: &[T]) -> Result<Vec<T>, AllocError>
+    ensures { IfOk result (λ copy. copy.items ≡ items.now) }
+{
+    let mut copy = Vec::with_capacity(alloc, items.len())?;
+    copy.extend_from_slice(items)?;
+    Ok(copy)
 }
 
 /// Appends some items, and answers where they are.
