@@ -1,0 +1,6 @@
+pub mod Copying
+pub mod Following
+pub mod Marking
+pub mod Planning
+pub mod Reordering
+pub mod Stepping

@@ -1,0 +1,2 @@
+pub mod Pearls
+pub mod Inside

@@ -1,0 +1,255 @@
+//! Pearls.
+
+ghost use Rattle.std.specs.Prelude.{◌≡◌, ◌<◌, ◌+◌, ◌++◌, ℕ, Bool, List, length, map, IfOk};
+ghost use Rattle.std.specs.List.{AllByRecursion};
+ghost use Rattle.lid_design.specs.Flat.{latch_init, latch_input, IsFlat, IsRow, ReadEarlier};
+ghost use Rattle.lid_settle.specs.Programs.{shown, IsReady};
+ghost use Rattle.lid_pearl.specs.Pearls.{IsSplit};
+ghost use Rattle.lid_pearl.specs.Inside.{held, AreSettled, IsOrdered, IsKept};
+
+use crate::split::{find_marks, lay_out};
+use lid_design::{Flat, FlatLatch};
+use lid_settle::{Program, copy_of, put_bits, put_state, settle, take_bits, take_state};
+use std::alloc::{AllocError, Global};
+use std::marker::Model;
+
+/// The nets of a pearl: how many there are, those of its inputs and outputs, and its latches.
+#[derive(Drop)]
+struct Shape {
+    nets: u32,
+    ins: Vec<u32>,
+    outs: Vec<u32>,
+    latches: Vec<FlatLatch>,
+}
+
+/// The covers of a pearl. No input leads to the early ones, which are run for the state alone.
+#[derive(Drop)]
+struct Plan {
+    early: Program,
+    late: Program,
+}
+
+/// The bits that the latches hold, and those of the nets: of early nets those of the present state.
+#[derive(Drop)]
+struct Row {
+    state: Vec<bool>,
+    bits: Vec<bool>,
+}
+
+/// A flat part and its state. A contract sees these two alone.
+#[derive(Drop)]
+pub struct Pearl {
+    shape: Shape,
+    plan: Plan,
+    row: Row,
+}
+
+impl Model for Pearl {
+    ghost use Rattle.std.specs.Prelude.{◌++◌};
+    ghost use Rattle.lid_settle.specs.Programs.{shown};
+    ghost use Rattle.lid_pearl.specs.Pearls.{View};
+    ghost use Rattle.lid_pearl.specs.Inside.{IsKept};
+
+    ghost Value = { View };
+
+    ghost view = { λ p. record { flat = record { nets = p.shape.nets; ins = p.shape.ins.items; outs = p.shape.outs.items; latches = p.shape.latches.items; covers = shown p.plan.early ++ shown p.plan.late }; state = p.row.state.items } };
+
+    ghost invariant = { λ p. IsKept p.shape.nets p.shape.ins.items p.shape.outs.items p.shape.latches.items p.plan.early p.plan.late p.row.state.items p.row.bits.items };
+}
+
+impl Pearl {
+    ghost use Rattle.lid_pearl.specs.Pearls.{IsReordered, Shows, Steps};
+
+    /// A pearl in its initial state. Its covers are those of the flat part, with those that no input
+    /// leads to before the others.
+    pub fn make(alloc: Global, flat: &Flat) -> Result<Pearl, AllocError>
+        requires { IsFlat flat.now }
+        ensures reordered { IfOk result (λ pearl. IsReordered flat.now pearl.flat) }
+        ensures rules { IfOk result (λ pearl. IsFlat pearl.flat) }
+        ensures state { IfOk result (λ pearl. pearl.state ≡ map latch_init flat.now.latches) }
+    {
+        let shape = shape_of(alloc, flat)?;
+        let plan = plan_of(alloc, flat)?;
+        let row = first_row(alloc, flat, &plan.early)?;
+        Ok(Pearl { shape, plan, row })
+    }
+
+    /// An equal pearl.
+    pub fn copy(&self) -> Result<Pearl, AllocError>
+        ensures { IfOk result (λ copy. copy ≡ self.now) }
+    {
+        let shape = copy_shape(&self.shape)?;
+        let plan = copy_plan(&self.plan)?;
+        let row = copy_row(&self.row)?;
+        Ok(Pearl { shape, plan, row })
+    }
+
+    /// The number of outputs.
+    pub fn outs(&self) -> usize
+        ensures { result ≡ length self.now.flat.outs }
+    {
+        self.shape.outs.len()
+    }
+
+    /// Writes the outputs of the present state.
+    pub fn outputs(&self, into: &mut [bool])
+        requires { length into.old ≡ length self.now.flat.outs }
+        ensures { Shows self.now into.new }
+    {
+        take_bits(self.row.bits.as_slice(), self.shape.outs.as_slice(), into);
+    }
+
+    /// Moves the state by one row, and writes the new outputs.
+    pub fn step(&mut self, inputs: &[bool], into: &mut [bool])
+        requires inputs { length inputs.now ≡ length self.old.flat.ins }
+        requires outs { length into.old ≡ length self.old.flat.outs }
+        ensures { Steps self.old inputs.now self.new into.new }
+    {
+        run(
+            &self.shape,
+            &self.plan,
+            self.row.state.as_mut_slice(),
+            self.row.bits.as_mut_slice(),
+            inputs,
+            into,
+        );
+    }
+}
+
+/// Gives early nets the bits of a state.
+fn settle_state(latches: &[FlatLatch], early: &Program, state: &[bool], bits: &mut [bool])
+    requires ready { IsReady early.now }
+    requires below { AllByRecursion (λ k. k < early.now.nets + 1) (held latches.now) }
+    requires reads { ReadEarlier (held latches.now) (shown early.now) }
+    requires long { length state.now ≡ length latches.now }
+    requires size { length bits.old ≡ early.now.nets + 1 }
+    ensures size { length bits.new ≡ length bits.old }
+    ensures settled { AreSettled latches.now early.now state.now bits.new }
+{
+    put_state(bits, latches, state);
+    settle(early, bits);
+}
+
+/// Goes on by a row: runs the late covers, takes the new state, settles it, and writes the outputs.
+fn run(
+    shape: &Shape,
+    plan: &Plan,
+    state: &mut [bool],
+    bits: &mut [bool],
+    inputs: &[bool],
+    into: &mut [bool],
+)
+    requires kept { IsKept shape.now.nets shape.now.ins.items shape.now.outs.items shape.now.latches.items plan.now.early plan.now.late state.old bits.old }
+    requires inputs { length inputs.now ≡ length shape.now.ins.items }
+    requires outs { length into.old ≡ length shape.now.outs.items }
+    ensures kept { IsKept shape.now.nets shape.now.ins.items shape.now.outs.items shape.now.latches.items plan.now.early plan.now.late state.new bits.new }
+    ensures state { (f : ℕ → Bool) → IsRow (shown plan.now.early) f → IsRow (shown plan.now.late) f → map f (held shape.now.latches.items) ≡ state.old → map f shape.now.ins.items ≡ inputs.now → state.new ≡ map f (map latch_input shape.now.latches.items) }
+    ensures outs { (f : ℕ → Bool) → IsRow (shown plan.now.early) f → map f (held shape.now.latches.items) ≡ state.new → into.new ≡ map f shape.now.outs.items }
+{
+    let latches = shape.latches.as_slice();
+    put_bits(bits, shape.ins.as_slice(), inputs);
+    settle(&plan.late, bits);
+    take_state(bits, latches, state);
+    settle_state(latches, &plan.early, state, bits);
+    take_bits(bits, shape.outs.as_slice(), into);
+}
+
+/// The nets of a flat part.
+fn shape_of(alloc: Global, flat: &Flat) -> Result<Shape, AllocError>
+    ensures nets { IfOk result (λ shape. shape.nets ≡ flat.now.nets) }
+    ensures ins { IfOk result (λ shape. shape.ins.items ≡ flat.now.ins) }
+    ensures outs { IfOk result (λ shape. shape.outs.items ≡ flat.now.outs) }
+    ensures latches { IfOk result (λ shape. shape.latches.items ≡ flat.now.latches) }
+{
+    let ins = copy_of(alloc, flat.ins.as_slice())?;
+    let outs = copy_of(alloc, flat.outs.as_slice())?;
+    let latches = copy_of(alloc, flat.latches.as_slice())?;
+    Ok(Shape {
+        nets: flat.nets,
+        ins,
+        outs,
+        latches,
+    })
+}
+
+/// The covers of a flat part, early and late ones.
+fn plan_of(alloc: Global, flat: &Flat) -> Result<Plan, AllocError>
+    requires { IsFlat flat.now }
+    ensures ordered { IfOk result (λ plan. IsOrdered flat.now.nets flat.now.ins flat.now.outs flat.now.latches plan.early plan.late) }
+    ensures split { IfOk result (λ plan. IsSplit flat.now.covers (shown plan.early) (shown plan.late)) }
+    ensures rules { IfOk result (λ plan. ReadEarlier (flat.now.ins ++ held flat.now.latches) (shown plan.early ++ shown plan.late)) }
+{
+    let marks = find_marks(alloc, flat)?;
+    let early = lay_out(alloc, flat, marks.as_slice(), true)?;
+    let late = lay_out(alloc, flat, marks.as_slice(), false)?;
+    Ok(Plan { early, late })
+}
+
+/// The bits of a flat part as it begins.
+fn first_row(alloc: Global, flat: &Flat, early: &Program) -> Result<Row, AllocError>
+    requires nets { early.now.nets ≡ flat.now.nets }
+    requires ready { IsReady early.now }
+    requires rules { IsFlat flat.now }
+    requires reads { ReadEarlier (held flat.now.latches) (shown early.now) }
+    ensures state { IfOk result (λ row. row.state.items ≡ map latch_init flat.now.latches) }
+    ensures size { IfOk result (λ row. length row.bits.items ≡ flat.now.nets + 1) }
+    ensures settled { IfOk result (λ row. AreSettled flat.now.latches early.now row.state.items row.bits.items) }
+{
+    let latches = flat.latches.as_slice();
+    let state = first_state(alloc, latches)?;
+    let mut bits = Vec::from_elem(alloc, false, flat.nets as usize + 1)?;
+    settle_state(latches, early, state.as_slice(), bits.as_mut_slice());
+    Ok(Row { state, bits })
+}
+
+/// The bits that latches begin with.
+fn first_state(alloc: Global, latches: &[FlatLatch]) -> Result<Vec<bool>, AllocError>
+    ensures { IfOk result (λ state. state.items ≡ map latch_init latches.now) }
+{
+    let mut state = Vec::with_capacity(alloc, latches.len())?;
+    for latch in latches {
+        state.push(latch.init)?;
+    }
+    Ok(state)
+}
+
+/// Equal nets.
+fn copy_shape(shape: &Shape) -> Result<Shape, AllocError>
+    ensures nets { IfOk result (λ copy. copy.nets ≡ shape.now.nets) }
+    ensures ins { IfOk result (λ copy. copy.ins.items ≡ shape.now.ins.items) }
+    ensures outs { IfOk result (λ copy. copy.outs.items ≡ shape.now.outs.items) }
+    ensures latches { IfOk result (λ copy. copy.latches.items ≡ shape.now.latches.items) }
+{
+    let alloc = *shape.ins.allocator();
+    let ins = copy_of(alloc, shape.ins.as_slice())?;
+    let outs = copy_of(alloc, shape.outs.as_slice())?;
+    let latches = copy_of(alloc, shape.latches.as_slice())?;
+    Ok(Shape {
+        nets: shape.nets,
+        ins,
+        outs,
+        latches,
+    })
+}
+
+/// Equal covers.
+fn copy_plan(plan: &Plan) -> Result<Plan, AllocError>
+    ensures ready { IsReady plan.now.early → IsReady plan.now.late → IfOk result (λ copy. IsReady copy.early × IsReady copy.late) }
+    ensures nets { IfOk result (λ copy. (copy.early.nets ≡ plan.now.early.nets) × (copy.late.nets ≡ plan.now.late.nets)) }
+    ensures shown { IfOk result (λ copy. (shown copy.early ≡ shown plan.now.early) × (shown copy.late ≡ shown plan.now.late)) }
+{
+    let early = plan.early.copy()?;
+    let late = plan.late.copy()?;
+    Ok(Plan { early, late })
+}
+
+/// Equal bits.
+fn copy_row(row: &Row) -> Result<Row, AllocError>
+    ensures state { IfOk result (λ copy. copy.state.items ≡ row.now.state.items) }
+    ensures bits { IfOk result (λ copy. copy.bits.items ≡ row.now.bits.items) }
+{
+    let alloc = *row.bits.allocator();
+    let state = copy_of(alloc, row.state.as_slice())?;
+    let bits = copy_of(alloc, row.bits.as_slice())?;
+    Ok(Row { state, bits })
+}

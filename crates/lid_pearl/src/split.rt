@@ -1,0 +1,160 @@
+//! Covers in the order of a pearl: early ones, that no input leads to, and late ones.
+
+ghost use Rattle.std.specs.Prelude.{◌≡◌, ◌<◌, ◌+◌, ℕ, true, false, ◌++◌, ◌∷◌, [], length, filter, set, IfOk, OnOk};
+ghost use Rattle.std.specs.List.{AllByRecursion, list_all};
+ghost use Rattle.lid_base.specs.Lists.{Among};
+ghost use Rattle.lid_design.specs.Flat.{IsFlat, IsFlatCover};
+ghost use Rattle.lid_settle.specs.Programs.{shown, IsProgram, IsReady};
+ghost use Rattle.lid_settle.specs.Rows.{bit_at};
+ghost use Rattle.lid_pearl.specs.Inside.{held, is_picked, AreMarked};
+
+use lid_design::{Flat, FlatCover, FlatLatch};
+use lid_settle::Program;
+use std::alloc::{AllocError, Global};
+
+/// Whether all of some nets are marked.
+fn are_marked(marks: &[bool], nets: &[u32]) -> bool
+    requires { AllByRecursion (λ k. k < length marks.now) nets.now }
+    ensures { result ≡ list_all (bit_at marks.now) nets.now }
+{
+    let mut all = true;
+    for net in nets {
+        all &= marks[*net as usize];
+    }
+    all
+}
+
+/// Marks the outputs of latches.
+fn mark_held(marks: &mut [bool], latches: &[FlatLatch])
+    requires below { AllByRecursion (λ k. k < length marks.old) (held latches.now) }
+    ensures size { length marks.new ≡ length marks.old }
+    ensures held { (k : ℕ) → Among k (held latches.now) → bit_at marks.new k ≡ true }
+    ensures alone { (k : ℕ) → bit_at marks.new k ≡ true → (bit_at marks.old k ≡ false) → Among k (held latches.now) }
+{
+    for i in 0..latches.len() {
+        marks[latches[i].out as usize] = true;
+    }
+}
+
+/// Marks the output of a cover exactly where all that it reads is marked.
+fn mark_cover(marks: &mut [bool], cover: &FlatCover)
+    requires ins { AllByRecursion (λ k. k < length marks.old) cover.now.ins }
+    requires out { cover.now.out < length marks.old }
+    ensures { marks.new ≡ set marks.old cover.now.out (list_all (bit_at marks.old) cover.now.ins) }
+{
+    let known = are_marked(marks, cover.ins.as_slice());
+    marks[cover.out as usize] = known;
+}
+
+/// Marks what is known in a state, where latches are marked: the output of each cover that reads marked
+/// nets alone.
+fn mark_covers(marks: &mut [bool], flat: &Flat)
+    requires size { length marks.old ≡ flat.now.nets + 1 }
+    requires rules { IsFlat flat.now }
+    requires held { AreMarked flat.now [] (bit_at marks.old) }
+    ensures size { length marks.new ≡ length marks.old }
+    ensures marked { AreMarked flat.now flat.now.covers (bit_at marks.new) }
+{
+    let covers = flat.covers.as_slice();
+    for i in 0..covers.len() {
+        mark_cover(marks, &covers[i]);
+    }
+}
+
+/// Marks what is known in a state, where no net is marked.
+fn mark(marks: &mut [bool], flat: &Flat)
+    requires size { length marks.old ≡ flat.now.nets + 1 }
+    requires none { (k : ℕ) → bit_at marks.old k ≡ false }
+    requires rules { IsFlat flat.now }
+    ensures size { length marks.new ≡ length marks.old }
+    ensures marked { AreMarked flat.now flat.now.covers (bit_at marks.new) }
+{
+    mark_held(marks, flat.latches.as_slice());
+    mark_covers(marks, flat);
+}
+
+/// The marks of what is known in a state.
+pub fn find_marks(alloc: Global, flat: &Flat) -> Result<Vec<bool>, AllocError>
+    requires { IsFlat flat.now }
+    ensures size { IfOk result (λ marks. length marks.items ≡ flat.now.nets + 1) }
+    ensures marked { IfOk result (λ marks. AreMarked flat.now flat.now.covers (bit_at marks.items)) }
+{
+    let mut marks = Vec::from_elem(alloc, false, flat.nets as usize + 1)?;
+    mark(marks.as_mut_slice(), flat);
+    Ok(marks)
+}
+
+/// Whether a cover's output is marked, or is not, as wanted.
+fn is_wanted(marks: &[bool], cover: &FlatCover, wanted: bool) -> bool
+    requires { cover.now.out < length marks.now }
+    ensures { result ≡ is_picked (bit_at marks.now) wanted cover.now }
+{
+    if wanted {
+        marks[cover.out as usize]
+    } else {
+        !marks[cover.out as usize]
+    }
+}
+
+/// Lays out the covers whose outputs are marked, or those whose outputs are not.
+pub fn lay_out(
+    alloc: Global,
+    flat: &Flat,
+    marks: &[bool],
+    wanted: bool,
+) -> Result<Program, AllocError>
+    requires size { length marks.now ≡ flat.now.nets + 1 }
+    requires rules { IsFlat flat.now }
+    ensures ready { IfOk result IsReady }
+    ensures nets { IfOk result (λ program. program.nets ≡ flat.now.nets) }
+    ensures shown { IfOk result (λ program. shown program ≡ filter (is_picked (bit_at marks.now) wanted) flat.now.covers) }
+{
+    let mut program = Program::new(alloc, flat.nets);
+    push_wanted(&mut program, flat, marks, wanted)?;
+    program.finish()?;
+    Ok(program)
+}
+
+/// Adds a cover where its output is marked, or is not, as wanted.
+fn push_if(
+    program: &mut Program,
+    cover: &FlatCover,
+    marks: &[bool],
+    wanted: bool,
+) -> Result<(), AllocError>
+    requires laid { IsProgram 0 program.old }
+    requires rules { IsFlatCover cover.now }
+    requires below { AllByRecursion (λ k. k < program.old.nets) cover.now.ins × (cover.now.out < program.old.nets) }
+    requires size { length marks.now ≡ program.old.nets + 1 }
+    ensures laid { OnOk result (IsProgram 0 program.new) }
+    ensures nets { program.new.nets ≡ program.old.nets }
+    ensures shown { OnOk result (shown program.new ≡ shown program.old ++ filter (is_picked (bit_at marks.now) wanted) (cover.now ∷ [])) }
+{
+    if !is_wanted(marks, cover, wanted) {
+        return Ok(());
+    }
+    program.push(cover.ins.as_slice(), cover.out, &cover.cover)
+}
+
+/// Adds the covers whose outputs are marked, or those whose outputs are not.
+fn push_wanted(
+    program: &mut Program,
+    flat: &Flat,
+    marks: &[bool],
+    wanted: bool,
+) -> Result<(), AllocError>
+    requires laid { IsProgram 0 program.old }
+    requires none { shown program.old ≡ [] }
+    requires nets { program.old.nets ≡ flat.now.nets }
+    requires size { length marks.now ≡ flat.now.nets + 1 }
+    requires rules { IsFlat flat.now }
+    ensures laid { OnOk result (IsProgram 0 program.new) }
+    ensures nets { program.new.nets ≡ program.old.nets }
+    ensures shown { OnOk result (shown program.new ≡ filter (is_picked (bit_at marks.now) wanted) flat.now.covers) }
+{
+    let covers = flat.covers.as_slice();
+    for i in 0..covers.len() {
+        push_if(program, &covers[i], marks, wanted)?;
+    }
+    Ok(())
+}

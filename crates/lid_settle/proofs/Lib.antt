@@ -1,0 +1,3 @@
+pub mod Laying
+pub mod Settling
+pub mod Tabling
