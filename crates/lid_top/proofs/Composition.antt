@@ -1,10 +1,11 @@
 -- How the steps of a script make the script.
 use Rattle.std.proofs.Common.{◌≡◌, ℕ, ◌≤◌, List, Option, inl, inr, refl, sym, subst, arith}
 use Rattle.lid_base.specs.Outside.{Rose}
+use Rattle.lid_design.specs.declared.Design.{Design}
 use Rattle.lid_top.specs.declared.fault.Stop.{Stop}
 use Rattle.lid_top.specs.declared.fault.Stop.TheVariants.{Refused, Read, Memory, Denied}
-use Rattle.lid_top.specs.Scripts.{Ending, refuses, denies, gives, Script, decide, Reading, good, step, read_step, IsFetched, EndsIn, Reaches}
-use Rattle.lid_top.specs.Causes.{refusal_line, Refuses, Declines, MissesFile, IsWant, Got, Misses, IsCause}
+use Rattle.lid_top.specs.Scripts.{Ending, refuses, denies, gives, Script, decide, Reading, good, step, read_step, check_step, IsFetched, IsChecked, IsUnchecked, EndsIn, Reaches}
+use Rattle.lid_top.specs.Causes.{refusal_line, Refuses, Declines, FailsCheck, MissesFile, IsWant, Got, Misses, IsCause}
 use Rattle.lid_top.specs.Statuses.{HasText}
 
 -- a count that rose after it had grown
@@ -67,6 +68,17 @@ module _ {A : Type 0} (held : List ℕ → Option (List ℕ)) (Good : A → Type
 
   pub text_decided : (a : A) (text : List ℕ) → Good a → HasText held (next a) text → HasText held (decide Good Bad next) text
   text_decided a text g t = record { output = t.output; ends = inl (a, g, t.ends); text_of = t.text_of }
+
+-- a design is checked
+module _ (held : List ℕ → Option (List ℕ)) (root : Option (List ℕ)) (d : Design) (next : Design → Script) where
+  pub cause_unchecked : (before after : List ℕ → ℕ) (stop : Stop) → FailsCheck root d stop → IsCause held (check_step root d next) before after stop
+  cause_unchecked = cause_undecided held (IsChecked root d) (IsUnchecked root d) next
+
+  pub cause_checked : (checked : Design) (before after : List ℕ → ℕ) (stop : Stop) → IsChecked root d checked → IsCause held (next checked) before after stop → IsCause held (check_step root d next) before after stop
+  cause_checked = cause_decided held (IsChecked root d) (IsUnchecked root d) next
+
+  pub text_checked : (checked : Design) (text : List ℕ) → IsChecked root d checked → HasText held (next checked) text → HasText held (check_step root d next) text
+  text_checked = text_decided held (IsChecked root d) (IsUnchecked root d) next
 
 -- want of memory may end any script
 pub want_anywhere : (held : List ℕ → Option (List ℕ)) (script : Script) (before after : List ℕ → ℕ) (stop : Stop) → IsWant stop → IsCause held script before after stop

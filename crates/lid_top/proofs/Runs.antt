@@ -15,26 +15,17 @@ is_some_job : {job : Job} → Some job ≡ None → ⊥
 is_some_job e = true≢false (ap is_some e)
 
 -- no end has the status of an output that is whole, or of words that are no job
-at_most_six : (end : End) → end_status end ≤ 6
-at_most_six (Stopped (Refused refusal)) = omega arith
-at_most_six (Stopped (Read file)) = omega arith
-at_most_six (Stopped Memory) = omega arith
-at_most_six (Stopped Denied) = omega arith
-at_most_six Unwritten = omega arith
+pub record IsEndStatus (status : ℕ) : Type 0 where
+  pub some : 1 ≤ status
+  pub most : status ≤ 6
+  pub job : status ≡ 2 → ⊥
 
-is_not_whole : (end : End) → end_status end ≡ 0 → ⊥
-is_not_whole (Stopped (Refused refusal)) e = omega (arith, e)
-is_not_whole (Stopped (Read file)) e = omega (arith, e)
-is_not_whole (Stopped Memory) e = omega (arith, e)
-is_not_whole (Stopped Denied) e = omega (arith, e)
-is_not_whole Unwritten e = omega (arith, e)
-
-is_not_usage : (end : End) → end_status end ≡ 2 → ⊥
-is_not_usage (Stopped (Refused refusal)) e = omega (arith, e)
-is_not_usage (Stopped (Read file)) e = omega (arith, e)
-is_not_usage (Stopped Memory) e = omega (arith, e)
-is_not_usage (Stopped Denied) e = omega (arith, e)
-is_not_usage Unwritten e = omega (arith, e)
+end_statuses : (end : End) → IsEndStatus (end_status end)
+end_statuses (Stopped (Refused refusal)) = record { some = omega arith; most = omega arith; job = λ e. omega (arith, e) }
+end_statuses (Stopped (Read file)) = record { some = omega arith; most = omega arith; job = λ e. omega (arith, e) }
+end_statuses (Stopped Memory) = record { some = omega arith; most = omega arith; job = λ e. omega (arith, e) }
+end_statuses (Stopped Denied) = record { some = omega arith; most = omega arith; job = λ e. omega (arith, e) }
+end_statuses Unwritten = record { some = omega arith; most = omega arith; job = λ e. omega (arith, e) }
 
 -- the lines of the statuses that tell no file and no refusal
 write_told : (end : End) → end_status end ≡ 4 → end_line end ≡ write_line
@@ -192,13 +183,13 @@ module _ {S O E : Type 0} (held : S → List ℕ → Option (List ℕ)) (reads :
         → (IsStopped end → Leaves (writes_early job) (held s) (script_of job) written o p) → (IsRefusal end → TellsAll (held s) (script_of job) → p ≡ o)
         → held t ≡ held s → Says said errs e f (end_line end) → Run (Some job) held reads s t written writes o p said errs e f (end_status end)
     run_of_end end cause left unwritten kept says = record {
-      most = at_most_six end;
-      usage = λ two. absurd (is_not_usage end two);
+      most = (end_statuses end).most;
+      usage = λ two. absurd ((end_statuses end).job two);
       no_job = λ none. absurd (is_some_job none);
       ran = job_stopped end cause left unwritten says;
       kept = kept;
-      quiet = λ zero. absurd (is_not_whole end zero);
-      says_usage = λ two. absurd (is_not_usage end two);
+      quiet = λ zero. absurd (let some = (end_statuses end).some in omega (arith, some, zero));
+      says_usage = λ two. absurd ((end_statuses end).job two);
       says_write = λ four. subst (Says said errs e f) (write_told end four) says;
       says_memory = λ five. subst (Says said errs e f) (memory_told end five) says;
       says_denied = λ six. subst (Says said errs e f) (denied_told end six) says;
