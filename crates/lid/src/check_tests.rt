@@ -1,6 +1,6 @@
 //! Refusals of acceptance, through the top call. Where two places are at fault, the first is told.
 
-use crate::tests::{Left, expect_strict};
+use crate::tests::{done, ended, expect_strict};
 use std::alloc::Global;
 use std::fmt::Write;
 use std::process::Abort;
@@ -342,11 +342,7 @@ fn an_immense_design_is_refused_at_once(rt: HostRuntime) -> Result<(), Fail> {
 
 /// Runs a netlist without inputs and outputs, over no rows.
 fn expect_no_rows<R: Threads + AllocGlobal + Sync + Abort>(rt: &R, net: &str) -> Result<(), Fail> {
-    let left = Left {
-        status: 0,
-        out: "-\n",
-        err: "",
-    };
+    let left = done("-\n");
     expect_strict(rt, net, "-\n", left)?;
     Ok(())
 }
@@ -369,11 +365,7 @@ fn expect_fault<R: Threads + AllocGlobal + Sync + Abort>(
     fault: &str,
 ) -> Result<(), Fail> {
     let line = format!(in rt.alloc(); "lid: check {fault}\n")?;
-    let left = Left {
-        status: 1,
-        out: "",
-        err: line.as_str(),
-    };
+    let left = ended(1, line.as_str());
     expect_strict(rt, net, "d\n", left)?;
     Ok(())
 }

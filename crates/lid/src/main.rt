@@ -28,5 +28,11 @@ fn words_of(rt: &(impl Env + AllocGlobal)) -> io::Result<Vec<Text>> {
 fn main(rt: HostRuntime) -> ExitCode {
     let mut out = StdSink::new(rt.stdout());
     let mut err = StdSink::new(rt.stderr());
-    run_program(&rt, words_of(&rt), &mut DirShelf::new(&rt), &mut out, &mut err)
+    run_program(
+        &rt,
+        words_of(&rt),
+        &mut DirShelf::new(&rt),
+        &mut out,
+        &mut err,
+    )
 }

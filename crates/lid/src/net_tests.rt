@@ -1,7 +1,7 @@
 //! Strict runs of netlists with instances, through the top call. What is expected is worked out by hand
 //! from what a strict run means.
 
-use crate::tests::{Left, NONE_FAILS, expect_outputs, expect_run, expect_strict};
+use crate::tests::{NONE_FAILS, done, expect_outputs, expect_run, expect_strict};
 use std::alloc::{AllocError, Global};
 use std::fmt::Write;
 use std::process::Abort;
@@ -119,11 +119,7 @@ fn expect_rooted<R: Threads + AllocGlobal + Sync + Abort>(
     vec: &str,
     out: &str,
 ) -> Result<(), AllocError> {
-    let left = Left {
-        status: 0,
-        out,
-        err: "",
-    };
+    let left = done(out);
     let words = ["strict", "n.blif", vec, "--root", root];
     expect_run(rt, &words, FILES, NONE_FAILS, left)
 }
@@ -170,11 +166,7 @@ fn expect<R: Threads + AllocGlobal + Sync + Abort>(
     rows: &str,
     out: &str,
 ) -> Result<(), AllocError> {
-    let left = Left {
-        status: 0,
-        out,
-        err: "",
-    };
+    let left = done(out);
     expect_strict(rt, net, rows, left)
 }
 

@@ -42,6 +42,24 @@ pub struct Left<'a> {
     pub err: &'a str,
 }
 
+/// What is left of a run that wrote its output.
+pub fn done(out: &str) -> Left<'_> {
+    Left {
+        status: 0,
+        out,
+        err: "",
+    }
+}
+
+/// What is left of a run that wrote nothing but its line on the standard error.
+pub fn ended(status: u8, err: &str) -> Left<'_> {
+    Left {
+        status,
+        out: "",
+        err,
+    }
+}
+
 fn words_of(alloc: Global, words: &[&str]) -> Result<Vec<Text>, AllocError> {
     let mut texts = Vec::new(alloc);
     for word in words {
@@ -162,11 +180,7 @@ pub fn expect_outputs<R: Threads + AllocGlobal + Sync + Abort>(
     cases: &[(&str, &str, &str)],
 ) -> Result<(), AllocError> {
     for (net, rows, out) in cases {
-        let left = Left {
-            status: 0,
-            out,
-            err: "",
-        };
+        let left = done(out);
         expect_strict(rt, net, rows, left)?;
     }
     Ok(())
@@ -178,11 +192,7 @@ pub fn expect_refused<R: Threads + AllocGlobal + Sync + Abort>(
     cases: &[(&str, &str, &str)],
 ) -> Result<(), AllocError> {
     for (net, rows, err) in cases {
-        let left = Left {
-            status: 1,
-            out: "",
-            err,
-        };
+        let left = ended(1, err);
         expect_strict(rt, net, rows, left)?;
     }
     Ok(())
@@ -310,11 +320,7 @@ static NO_JOBS: &[&[&str]] = &[
 
 #[test]
 fn other_words_are_no_job(rt: HostRuntime) -> Result<(), Fail> {
-    let left = Left {
-        status: 2,
-        out: "",
-        err: "lid: usage\n",
-    };
+    let left = ended(2, "lid: usage\n");
     expect_words(&rt, NO_JOBS, left)?;
     Ok(())
 }
@@ -333,11 +339,7 @@ static JOBS: &[&[&str]] = &[
 
 #[test]
 fn options_stand_before_between_and_after_files(rt: HostRuntime) -> Result<(), Fail> {
-    let left = Left {
-        status: 0,
-        out: "q\n0\n1\n",
-        err: "",
-    };
+    let left = done("q\n0\n1\n");
     expect_words(&rt, JOBS, left)?;
     Ok(())
 }
@@ -350,11 +352,7 @@ static ROOTLESS: &[&[&str]] = &[
 
 #[test]
 fn a_root_that_no_model_has_is_refused(rt: HostRuntime) -> Result<(), Fail> {
-    let left = Left {
-        status: 1,
-        out: "",
-        err: "lid: check NoRoot\n",
-    };
+    let left = ended(1, "lid: check NoRoot\n");
     expect_words(&rt, ROOTLESS, left)?;
     Ok(())
 }
@@ -417,11 +415,7 @@ fn each_failing_call_is_told(rt: HostRuntime) -> Result<(), Fail> {
 
 #[test]
 fn a_missing_file_is_named(rt: HostRuntime) -> Result<(), Fail> {
-    let left = Left {
-        status: 3,
-        out: "",
-        err: "lid: read one.blif\n",
-    };
+    let left = ended(3, "lid: read one.blif\n");
     let words = ["strict", "one.blif", "one.vec"];
     expect_run(&rt, &words, &[("one.vec", "d\n1\n")], NONE_FAILS, left)?;
     Ok(())
@@ -434,11 +428,7 @@ fn a_failing_err_changes_no_status(rt: HostRuntime) -> Result<(), Fail> {
         writes: &[],
         says: &[1],
     };
-    let left = Left {
-        status: 2,
-        out: "",
-        err: "",
-    };
+    let left = ended(2, "");
     expect_run(&rt, &["clock"], &[], failing, left)?;
     Ok(())
 }
@@ -522,11 +512,7 @@ fn a_file_ends_only_at_a_fetch_of_no_bytes(rt: HostRuntime) -> Result<(), Fail> 
     };
     let words = ["strict", "one.blif", "one.vec"];
     let ran = run_over(&rt, &words, &mut shelf, NONE_FAILS)?;
-    let left = Left {
-        status: 0,
-        out: "q\n0\n1\n0\n",
-        err: "",
-    };
+    let left = done("q\n0\n1\n0\n");
     expect_left(&rt, &ran, left, "byte by byte");
     Ok(())
 }
