@@ -18,7 +18,6 @@ use Rattle.lid_design.specs.Elaboration.{model_nets}
 use Rattle.lid_names.specs.Names.{texts}
 use Rattle.lid_hierarchy.proofs.Fixpoints.{find_position}
 use Rattle.lid_hierarchy.proofs.Numbers.{bytes_eq_comm}
-use Rattle.lid_elab.specs.Numbers.{offset_of}
 use Rattle.lid_wiring.specs.Locals.{of_net, first_name_of, actual_for, model_locals}
 use Rattle.lid_elab.specs.Parts.{Shows, picks_among, places_bound, places_in_inst, IsTemplate, IsPicked, ArePicked}
 use Rattle.lid_wiring.specs.Judged.{IsJudged}
@@ -132,10 +131,6 @@ module _ (d : Design) (judged : IsJudged d) (k : ℕ) (reached : IsReached d k) 
           let same : pick_of net ≡ pick = cc in
           subst (λ (p : ℕ). IsPicked d k all p net) same
           (subst (λ ls. IsPicked d k ls (pick_of net) net) (sym locals) (picked_by d judged k reached m here driven shows net (get_among (model_nets d k) j net there)))
-
--- the parts of a template make it
-pub template_whole : (d : Design) (k : ℕ) (t : Template) → ArePicked d k t.locals t.picks → length t.offsets ≡ length (insts_of d k) → ((i o : ℕ) → slice_get t.offsets i ≡ Some o → o ≡ offset_of d k i) → t.actuals ≡ map (places_in_inst d k) (insts_of d k) → IsTemplate d k t
-template_whole d k t picked few offset actuals = record { picked = picked; offsets = record { long = few; each = offset }; actuals = actuals }
 
 get_last : {A : Type 0} (xs : List A) (x : A) → slice_get (xs ++ x ∷ []) (length xs) ≡ Some x
 get_last [] x = refl

@@ -13,7 +13,7 @@ use Rattle.lid_elab.specs.Numbers.{over_insts, size_of, offset_of, start_of, wei
 use Rattle.lid_wiring.specs.Judged.{IsJudged}
 use Rattle.lid_elab.specs.Parts.{AreTemplates}
 use Rattle.lid_elab.specs.declared.template.Template.{Template}
-use Rattle.lid_wiring.proofs.Shallow.{IsShallow}
+use Rattle.lid_wiring.proofs.Shallow.{IsShallow, shallow_of}
 use Rattle.lid_elab.proofs.Numbering.{columns_length, starts_at}
 use Rattle.lid_elab.proofs.Stacking.{size_sum, weight_sum, over_more}
 
@@ -93,6 +93,20 @@ offsets_are d ts all k reached t offsets same =
       few = ap length own ∙ found.2.offsets.long;
       each = λ i h. found.2.offsets.each i (get_or offsets i 0) (ap (λ (os : List ℕ). slice_get os i) (sym own) ∙ slice_get-get_or offsets i 0 h);
     }
+
+-- a column past the nets of a model: the model has instances, and the first one starts at or before it
+pub record IsPast (number : ℕ) (offsets : List ℕ) : Type 0 where
+  pub some : 0 < length offsets
+  pub first : get_or offsets 0 0 ≤ number
+
+pub past_nets : (d : Design) → IsJudged d → (ts : List Template) → AreTemplates d ts → (k number : ℕ) → IsReached d k → length (model_nets d k) ≤ number → number < size_of d k → (t : Template) (offsets : List ℕ) → offsets ≡ (get_or ts k t).offsets → IsPast number offsets
+past_nets d judged ts all k number reached past within t offsets same =
+    let are = offsets_are d ts all k reached t offsets same in
+    let some = some_inst d k number (shallow_of d judged k reached) past within in
+    let few = are.few in
+    let there : 0 < length offsets = omega arith in
+    let at = are.each 0 there in
+    record { some = there; first = omega arith }
 
 -- the column of a net
 pub spot_column : (d : Design) → IsJudged d → (path : List ℕ) (k number total : ℕ) → IsSpot d path k number total → (net : List ℕ) → slice_get (model_nets d k) number ≡ Some net → slice_get (columns d) total ≡ Some (column path net)

@@ -224,10 +224,23 @@ fn push_inst<'d>(
     match judged.model_of(model, i) {
         Some(sub) => {
             let formals = &outputs[sub as usize];
-            push_binds(into, judged, formals, model, i, sub, inst.binds.as_slice())
+            let at = Instance {
+                model,
+                number: i,
+                sub,
+            };
+            push_binds(into, judged, formals, at, inst.binds.as_slice())
         }
         None => Ok(()),
     }
+}
+
+/// An instance of a model, by its number there, and the number of its own model.
+#[derive(Clone, Copy)]
+struct Instance {
+    model: u32,
+    number: u32,
+    sub: u32,
 }
 
 /// Pushes the outputs of an instance of a model, by its bindings and the outputs of its model.
@@ -235,17 +248,15 @@ fn push_binds<'d>(
     into: &mut Driven<'d>,
     judged: &Judged<'d>,
     formals: &NameSet<'d>,
-    model: u32,
-    i: u32,
-    sub: u32,
+    at: Instance,
     binds: &'d [Bind],
 ) -> Result<(), AllocError>
-    requires reached { IsReached judged.now sub }
-    requires sub { instance_number judged.now i model ≡ Some sub }
-    ensures { OnOk result (Grows judged.now model (flat_map (output_of formals.now i) binds.now) into.old into.new) }
+    requires reached { IsReached judged.now at.sub }
+    requires sub { instance_number judged.now at.number at.model ≡ Some at.sub }
+    ensures { OnOk result (Grows judged.now at.model (flat_map (output_of formals.now at.number) binds.now) into.old into.new) }
 {
     for bind in binds {
-        push_bind(into, judged, formals, model, i, sub, bind)?;
+        push_bind(into, judged, formals, at, bind)?;
     }
     Ok(())
 }
@@ -255,21 +266,22 @@ fn push_bind<'d>(
     into: &mut Driven<'d>,
     judged: &Judged<'d>,
     formals: &NameSet<'d>,
-    model: u32,
-    i: u32,
-    sub: u32,
+    at: Instance,
     bind: &'d Bind,
 ) -> Result<(), AllocError>
-    requires reached { IsReached judged.now sub }
-    requires sub { instance_number judged.now i model ≡ Some sub }
-    ensures { OnOk result (Grows judged.now model (output_of formals.now i bind.now) into.old into.new) }
+    requires reached { IsReached judged.now at.sub }
+    requires sub { instance_number judged.now at.number at.model ≡ Some at.sub }
+    ensures { OnOk result (Grows judged.now at.model (output_of formals.now at.number bind.now) into.old into.new) }
 {
     if formals.has(bind.formal.as_slice()) {
-        let net = place_in(judged, sub, bind.formal.as_slice());
+        let net = place_in(judged, at.sub, bind.formal.as_slice());
         push_net(
             into,
             bind.actual.as_slice(),
-            LocalDriver::Connection { inst: i, net },
+            LocalDriver::Connection {
+                inst: at.number,
+                net,
+            },
         )
     } else {
         Ok(())

@@ -8,7 +8,7 @@ ghost use Rattle.lid_elab.specs.Numbers.{over_insts, size_of, offset_of, weight_
 ghost use Rattle.lid_elab.specs.Elaborations.{shown_driver};
 ghost use Rattle.lid_elab.specs.Templates.{seen_around};
 ghost use Rattle.lid_elab.specs.Scopes.{picked, IsSmallAt, ArePlaced, AreNext, IsAt, IsOuter, weights};
-ghost use Rattle.lid_elab.specs.Parts.{AreTemplates};
+ghost use Rattle.lid_elab.specs.Parts.{HasOffsets, IsTemplate, AreTemplates};
 
 use crate::driver::ColumnDriver;
 use crate::template::{LocalDriver, Template, place_driver};
@@ -73,7 +73,7 @@ pub fn place_scope(
     ensures long { OnOk result (length drivers.new.items ≡ length drivers.old.items + length (model_nets judged.now scope.model)) }
 {
     let _ = judged.design();
-    let template = &templates[scope.model as usize];
+    let template = scope_template(judged, templates, scope);
     let around = around_of(judged, templates, scope);
     push_drivers(
         alloc,
@@ -85,6 +85,16 @@ pub fn place_scope(
         template.locals.as_slice(),
         template.picks.as_slice(),
     )
+}
+
+/// What is known of the model of a scope.
+fn scope_template<'t>(judged: &Judged<'_>, templates: &'t [Template], scope: Scope) -> &'t Template
+    requires templates { AreTemplates judged.now templates.now }
+    requires there { (path : List ℕ) × IsAt judged.now path scope }
+    ensures { IsTemplate judged.now scope.model result.now }
+{
+    let _ = judged;
+    &templates[scope.model as usize]
 }
 
 /// What stands around a scope: the first column of the scope around, and the nets there that the
@@ -116,8 +126,7 @@ fn push_instances(
     scope: Scope,
     stack: &mut Vec<Scope>,
 ) -> Result<(), AllocError>
-    requires few { length offsets.now ≡ length (insts_of judged.now scope.model) }
-    requires offset { (i o : ℕ) → slice_get offsets.now i ≡ Some o → o ≡ offset_of judged.now scope.model i }
+    requires offsets { HasOffsets judged.now scope.model offsets.now }
     requires there { (path : List ℕ) × IsAt judged.now path scope }
     requires after { AreNext judged.now (scope.start + size_of judged.now scope.model) (reverse stack.now.items) }
     ensures next { OnOk result (AreNext judged.now (scope.start + length (model_nets judged.now scope.model)) (reverse stack.new.items)) }
@@ -140,8 +149,7 @@ fn push_instance(
     i: usize,
     stack: &mut Vec<Scope>,
 ) -> Result<(), AllocError>
-    requires few { length offsets.now ≡ length (insts_of judged.now scope.model) }
-    requires offset { (i o : ℕ) → slice_get offsets.now i ≡ Some o → o ≡ offset_of judged.now scope.model i }
+    requires offsets { HasOffsets judged.now scope.model offsets.now }
     requires there { (path : List ℕ) × IsAt judged.now path scope }
     requires exists { i < length offsets.now }
     requires after { AreNext judged.now (scope.start + offset_of judged.now scope.model (i + 1)) (reverse stack.now.items) }
@@ -183,8 +191,7 @@ fn visit(
     ensures next { OnOk result (AreNext judged.now (length drivers.new.items) (reverse stack.new.items)) }
     ensures lighter { OnOk result (weights judged.now (reverse stack.new.items) < weights judged.now (reverse stack.old.items) + weight_of judged.now scope.model) }
 {
-    let template = &templates[scope.model as usize];
-    let offsets = template.offsets.as_slice();
+    let offsets = scope_template(judged, templates, scope).offsets.as_slice();
     place_scope(alloc, judged, templates, drivers, scope)?;
     push_instances(judged, offsets, scope, stack)
 }

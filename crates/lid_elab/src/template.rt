@@ -156,25 +156,9 @@ fn template_of<'d>(
     requires below { model < length sizes.now }
     ensures { IfOk result (λ t. IsReached judged.now model → IsTemplate judged.now model t) }
 {
-    match sizes[model as usize] {
-        Some(_) => describe(alloc, judged, sizes, outputs, model),
-        None => Ok(no_template(alloc)),
-    }
-}
-
-/// What is known of a reached model before it is placed.
-fn describe<'d>(
-    alloc: Global,
-    judged: &Judged<'d>,
-    sizes: &[Option<u32>],
-    outputs: &[NameSet<'d>],
-    model: u32,
-) -> Result<Template, AllocError>
-    requires reached { IsReached judged.now model }
-    requires sizes { AreSizes judged.now (IsReached judged.now) sizes.now }
-    requires outputs { outputs.now ≡ output_sets judged.now.models }
-    ensures { IfOk result (IsTemplate judged.now model) }
-{
+    let Some(_) = sizes[model as usize] else {
+        return Ok(no_template(alloc));
+    };
     let nets = describe_nets(alloc, judged, outputs, model)?;
     let insts = describe_insts(alloc, judged, sizes, model)?;
     Ok(Template {

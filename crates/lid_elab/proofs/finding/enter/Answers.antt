@@ -3,31 +3,17 @@ use Rattle.lid_design.specs.Models.{instance_number, insts_of}
 use Rattle.lid_wiring.proofs.Shallow.{shallow_of}
 use Rattle.lid_elab.proofs.Outer.{template_within}
 use Rattle.lid_elab.proofs.Stacking.{few_insts}
-use Rattle.lid_elab.proofs.Entering.{not_none, offsets_are, some_inst, in_inst}
+use Rattle.lid_elab.proofs.Entering.{not_none, offsets_are, past_nets, in_inst}
 use Rattle.lid_elab.proofs.finding.enter.Goals as goal
 
 pub bounds-templates-spot : goal.bounds-templates-spot
 bounds-templates-spot c = template_within c.args.judged.now c.args.templates.now c.requires.templates c.args.spot.model c.requires.reached
 
 pub last_up_to-place-requires-clause-some : goal.last_up_to-place-requires-clause-some
-last_up_to-place-requires-clause-some c =
-    let d = c.args.judged.now in
-    let k = c.args.spot.model in
-    let are = offsets_are d c.args.templates.now c.requires.templates k c.requires.reached c.index-templates-spot.result c.as_slice-offsets.result.now c.as_slice-offsets.ensures in
-    let some = some_inst d k c.args.spot.number (shallow_of d c.design.ensures.judged k c.requires.reached) c.requires.past c.requires.within in
-    let few = are.few in
-    omega arith
+last_up_to-place-requires-clause-some c = (past_nets c.args.judged.now c.design.ensures.judged c.args.templates.now c.requires.templates c.args.spot.model c.args.spot.number c.requires.reached c.requires.past c.requires.within c.index-templates-spot.result c.as_slice-offsets.result.now c.as_slice-offsets.ensures).some
 
 pub last_up_to-place-requires-clause-first : goal.last_up_to-place-requires-clause-first
-last_up_to-place-requires-clause-first c =
-    let d = c.args.judged.now in
-    let k = c.args.spot.model in
-    let are = offsets_are d c.args.templates.now c.requires.templates k c.requires.reached c.index-templates-spot.result c.as_slice-offsets.result.now c.as_slice-offsets.ensures in
-    let some = some_inst d k c.args.spot.number (shallow_of d c.design.ensures.judged k c.requires.reached) c.requires.past c.requires.within in
-    let few = are.few in
-    let first = are.each 0 (omega arith) in
-    let past = c.requires.past in
-    omega arith
+last_up_to-place-requires-clause-first c = (past_nets c.args.judged.now c.design.ensures.judged c.args.templates.now c.requires.templates c.args.spot.model c.args.spot.number c.requires.reached c.requires.past c.requires.within c.index-templates-spot.result c.as_slice-offsets.result.now c.as_slice-offsets.ensures).first
 
 pub overflow_cast-inst : goal.overflow_cast-inst
 overflow_cast-inst c =

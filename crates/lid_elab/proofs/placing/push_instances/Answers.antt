@@ -14,7 +14,7 @@ loop-i-init c =
     let there = c.requires.there in
     let d = c.args.judged.now in
     let k = c.args.scope.model in
-    let all : take (length c.args.offsets.now) (insts_of d k) ≡ insts_of d k = take_all (length c.args.offsets.now) (insts_of d k) (let f = c.requires.few in omega arith) in
+    let all : take (length c.args.offsets.now) (insts_of d k) ≡ insts_of d k = take_all (length c.args.offsets.now) (insts_of d k) (let f = c.requires.offsets.long in omega arith) in
     let size = size_sum d k (shallow_of d c.design.ensures.judged k (there.0, there.1.leads)) in
     let offset : offset_of d k (length c.args.offsets.now) ≡ size_of d k = ap (λ (is : List Inst). length (model_nets d k) + over_insts d (size_of d) is) all ∙ sym size in
     record {
