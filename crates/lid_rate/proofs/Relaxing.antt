@@ -11,7 +11,7 @@ use Rattle.lid_graph.specs.declared.graph.Graph.{Graph}
 use Rattle.lid_graph.specs.Walks.{edge_at, walk_tokens}
 use Rattle.lid_rate.specs.WalksBack.{IsPredecessorWalk}
 use Rattle.lid_rate.proofs.Written.{IsWritten, is_written, IsStanding, standing}
-use Rattle.lid_rate.specs.Relaxation.{Relaxes, StaysRelaxed, AreEdges, ArePotentials, IsAttained, AreAtMost, IsRound, IsChanged}
+use Rattle.lid_rate.specs.Relaxation.{Relaxes, StaysRelaxed, AreEdges, IsPredecessorEdge, ArePotentials, IsAttained, AreAtMost, IsRound, IsChanged}
 
 module _ (g : Graph) (es : List ℕ) (p q k : ℕ) (values : List ℕ) (last : List (Option ℕ)) (before : ArePotentials g es p q values last) (listed : Contains es k) (to : (edge_at g k).to < g.nodes) (new_values : List ℕ) (new_last : List (Option ℕ)) (raises : Relaxes (edge_at g k) k p q values last new_values new_last) where
   value_is : IsWritten values new_values (edge_at g k).to (get_or values (edge_at g k).from 0 + p - q * (edge_at g k).tokens) 0
@@ -68,26 +68,21 @@ module _ (g : Graph) (es : List ℕ) (p q k : ℕ) (values : List ℕ) (last : L
       by_case (inl strict) = omega arith
       by_case (inr old) = before.rising v ks old.0 some
 
-  new_listed : (v l : ℕ) → IsStanding last (edge_at g k).to k v l → Contains es l
-  new_listed v l (inl is) = subst (Contains es) is.1 listed
-  new_listed v l (inr old) = (before.edges v l old.1).listed
-
-  new_ends : (v l : ℕ) → IsStanding last (edge_at g k).to k v l → (edge_at g l).to ≡ v
-  new_ends v l (inl is) = subst (λ (n : ℕ). (edge_at g n).to ≡ v) is.1 (sym is.0)
-  new_ends v l (inr old) = (before.edges v l old.1).ends
-
-  new_slack : (v l : ℕ) → IsStanding last (edge_at g k).to k v l → get_or new_values v 0 + q * (edge_at g l).tokens ≤ get_or new_values (edge_at g l).from 0 + p
-  new_slack v l (inl is) =
+  new_edge : (v l : ℕ) → IsStanding last (edge_at g k).to k v l → IsPredecessorEdge g es p q new_values v l
+  new_edge v l (inl is) =
       let more = raises.more in
       let here = value_is.here in
       let up = grown (edge_at g k).from in
       let low : get_or new_values (edge_at g k).to 0 + q * (edge_at g k).tokens ≤ get_or new_values (edge_at g k).from 0 + p = omega arith in
-      subst (λ (n : ℕ). get_or new_values v 0 + q * (edge_at g n).tokens ≤ get_or new_values (edge_at g n).from 0 + p) is.1 (subst (λ (n : ℕ). get_or new_values n 0 + q * (edge_at g k).tokens ≤ get_or new_values (edge_at g k).from 0 + p) (sym is.0) low)
-  new_slack v l (inr old) =
+      let same : IsPredecessorEdge g es p q new_values (edge_at g k).to k = record { listed = listed; ends = refl; slack = low } in
+      subst (λ (n : ℕ). IsPredecessorEdge g es p q new_values v n) is.1 (subst (λ (n : ℕ). IsPredecessorEdge g es p q new_values n k) (sym is.0) same)
+  new_edge v l (inr old) =
+      let edge = before.edges v l old.1 in
       let same = value_is.there v old.0 in
-      let slack = (before.edges v l old.1).slack in
+      let was = edge.slack in
       let up = grown (edge_at g l).from in
-      omega arith
+      let slack : get_or new_values v 0 + q * (edge_at g l).tokens ≤ get_or new_values (edge_at g l).from 0 + p = omega arith in
+      record { listed = edge.listed; ends = edge.ends; slack = slack }
 
   new_fresh : (v : ℕ) → get_or new_last v None ≡ None → (v ≡ (edge_at g k).to) ⊎ (v ≢ (edge_at g k).to) → get_or new_values v 0 ≡ 0
   new_fresh v e (inl is) = let some : get_or new_last v None ≡ Some k = ap (λ (n : ℕ). get_or new_last n None) is ∙ last_is.here in cc
@@ -111,13 +106,7 @@ module _ (g : Graph) (es : List ℕ) (p q k : ℕ) (values : List ℕ) (last : L
   raised_on from = record {
     value_count = value_is.long ∙ before.value_count;
     predecessor_count = last_is.long ∙ before.predecessor_count;
-    edges = λ v l e.
-        let case = standing last new_last (edge_at g k).to k last_is v l e in
-        record {
-          listed = new_listed v l case;
-          ends = new_ends v l case;
-          slack = new_slack v l case;
-        };
+    edges = λ v l e. new_edge v l (standing last new_last (edge_at g k).to k last_is v l e);
     rising = rising;
     fresh = λ v e. new_fresh v e (cases_eq v (edge_at g k).to);
     attained = λ v h. new_attained from v h (cases_eq v (edge_at g k).to);
