@@ -1,5 +1,5 @@
 -- What a run shows, by how it ended.
-use Rattle.std.proofs.Common.{◌≡◌, ◌≢◌, ℕ, ◌≤◌, Bool, true, false, List, Option, Some, None, is_some, true≢false, IfSome, ◌⊎◌, inl, inr, refl, sym, ◌∙◌, ap, subst, arith}
+use Rattle.std.proofs.Common.{◌≡◌, ◌≢◌, ℕ, ◌≤◌, Bool, true, false, List, Option, Some, None, Result, Ok, Err, OnOk, IfErr, is_some, true≢false, IfSome, ◌⊎◌, inl, inr, refl, sym, ◌∙◌, ap, subst, arith}
 use Rattle.lid_base.specs.Outside.{Rose}
 use Rattle.lid_cli.specs.declared.job.Job.{Job}
 use Rattle.lid_top.specs.declared.fault.Stop.{Stop}
@@ -194,3 +194,15 @@ module _ {S O E : Type 0} (held : S → List ℕ → Option (List ℕ)) (reads :
       says_memory = λ five. subst (Says said errs e f) (memory_told end five) says;
       says_denied = λ six. subst (Says said errs e f) (denied_told end six) says;
     }
+
+    -- what the run of a job shows by its result
+    pub run_of_result : (result : Result (Unit {0}) End) (status : ℕ) → OnOk result (Writes (held s) (script_of job) (written o) (written p))
+        → IfErr result (IsEnd (held s) (script_of job) (reads s) (reads t) (Rose (writes o) (writes p) × WritesPrefix (held s) (script_of job) (written o) (written p)))
+        → IfErr result (λ end. IsStopped end → Leaves (writes_early job) (held s) (script_of job) written o p)
+        → IfErr result (λ end. IsRefusal end → TellsAll (held s) (script_of job) → p ≡ o) → held t ≡ held s
+        → OnOk result ((status ≡ 0) × (f ≡ e)) → IfErr result (λ end. (status ≡ end_status end) × Says said errs e f (end_line end)) → Run (Some job) held reads s t written writes o p said errs e f status
+    run_of_result (Ok done) status whole_text cause left unwritten kept whole stopped =
+        let of_err : E → Type 0 = λ x. Run (Some job) held reads s t written writes o p said errs e x status in
+        subst of_err (sym whole.1) (subst (λ n. Run (Some job) held reads s t written writes o p said errs e e n) (sym whole.0) (run_of_whole job s t o p e whole_text kept))
+    run_of_result (Err end) status whole_text cause left unwritten kept whole stopped =
+        subst (λ n. Run (Some job) held reads s t written writes o p said errs e f n) (sym stopped.0) (run_of_end end cause left unwritten kept stopped.1)

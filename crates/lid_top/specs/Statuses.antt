@@ -95,7 +95,7 @@ pub record JobRun {S O : Type 0} (job : Job)
   pub unwritten : status ≡ 1 → TellsAll (held shelf) (script_of job) → out_after ≡ out
   -- where no count rose, the status is that of an ending of the script, or want of memory
   pub complete : ReadsAll (held shelf) (script_of job) (reads shelf) (reads shelf_after) → ¬ Rose (writes out) (writes out_after)
-    → (status ≡ 5) ⊎ IsStatusOf (held shelf) (script_of job) status
+      → (status ≡ 5) ⊎ IsStatusOf (held shelf) (script_of job) status
 
 -- what a run shows, by the job that its words ask for
 pub record Run {S O E : Type 0} (asked : Option Job)

@@ -116,7 +116,11 @@ fn say_denied<E: Sink>(err: &mut E)
 {
     say(
         err,
-        &[Word::Text("not"), Word::Text("a"), Word::Text("certificate")],
+        &[
+            Word::Text("not"),
+            Word::Text("a"),
+            Word::Text("certificate"),
+        ],
     );
 }
 

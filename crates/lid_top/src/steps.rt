@@ -53,7 +53,11 @@ fn net_of<'a>(alloc: Global, bytes: &[u8]) -> Result<Design, Stop<'a>>
 }
 
 /// Fetches and reads a netlist.
-pub fn read_net<'a, S: Shelf>(alloc: Global, shelf: &mut S, net: &'a str) -> Result<Design, Stop<'a>>
+pub fn read_net<'a, S: Shelf>(
+    alloc: Global,
+    shelf: &mut S,
+    net: &'a str,
+) -> Result<Design, Stop<'a>>
     ensures ok { IfOk result (Got (S.held shelf.old) net.now net_limit net_reading) }
     ensures formed { IfOk result IsWellFormed }
     ensures err { IfErr result (Misses (S.held shelf.old) net.now net_limit net_reading (S.faults shelf.old) (S.faults shelf.new)) }
@@ -109,4 +113,3 @@ pub fn accept<'a>(alloc: Global, design: Design, root: &Option<Name>) -> Result<
         Err(fault) => Err(check_stop(fault)),
     }
 }
-

@@ -87,4 +87,3 @@ pub fn strict_text<'a, S: Shelf>(
         Err(stop) => Err(stop),
     }
 }
-

@@ -1,13 +1,14 @@
 //! The top call: from words, files and sinks to a status.
 
-ghost use Rattle.std.specs.Prelude.{Some};
+ghost use Rattle.std.specs.Prelude.{◌≡◌, OnOk, IfErr};
 ghost use Rattle.lid_cli.specs.Jobs.{job_of};
-ghost use Rattle.lid_top.specs.Statuses.{Run};
+ghost use Rattle.lid_top.specs.Causes.{end_status, end_line};
+ghost use Rattle.lid_top.specs.Statuses.{Says, Run};
 
-use crate::fault::{say_end, say_memory, say_usage};
+use crate::fault::{End, say_end, say_memory, say_usage};
 use crate::job::run_job;
 use lid_base::{Gate, Shelf, Sink, Text};
-use lid_cli::{Job, read_words};
+use lid_cli::read_words;
 use std::thread::Threads;
 
 /// Runs the job that the words ask for, and answers the status of the program:
@@ -40,7 +41,7 @@ where
     ensures { Run (job_of words.now) S.held S.faults shelf.old shelf.new O.written O.faults out.old out.new E.written E.faults err.old err.new result }
 {
     match read_words(rt.alloc(), words) {
-        Ok(Some(job)) => run_asked(rt, &job, shelf, out, err, gate),
+        Ok(Some(job)) => status_of(err, run_job(rt, &job, shelf, out, gate)),
         Ok(None) => {
             say_usage(err);
             2
@@ -52,24 +53,12 @@ where
     }
 }
 
-/// Runs the job that is asked for, and answers its status.
-fn run_asked<R, S, O, E, G>(
-    rt: &R,
-    job: &Job,
-    shelf: &mut S,
-    out: &mut O,
-    err: &mut E,
-    gate: &G,
-) -> u8
-where
-    R: Threads + AllocGlobal + Sync,
-    S: Shelf,
-    O: Sink,
-    E: Sink,
-    G: Gate,
-    ensures { Run (Some job.now) S.held S.faults shelf.old shelf.new O.written O.faults out.old out.new E.written E.faults err.old err.new result }
+/// Answers the status of a job that has ended, and says why its output is not whole.
+fn status_of<E: Sink>(err: &mut E, ended: Result<(), End<'_>>) -> u8
+    ensures whole { OnOk ended.entry ((result ≡ 0) × (err.new ≡ err.old)) }
+    ensures stopped { IfErr ended.entry (λ end. (result ≡ end_status end) × Says E.written E.faults err.old err.new (end_line end)) }
 {
-    match run_job(rt, job, shelf, out, gate) {
+    match ended {
         Ok(()) => 0,
         Err(end) => say_end(err, &end),
     }
