@@ -113,24 +113,9 @@ fn findings_at<'d>(alloc: Global, ports: &Ports<'d>, k: u32) -> Result<Findings<
     requires { IsReached ports.now k }
     ensures { IfOk result (λ found. (rule : NameRule) → told_by rule found ≡ name_at rule ports.now k) }
 {
-    match ports.model(k) {
-        Some(model) => findings_in(alloc, ports, k, model),
-        None => Ok(no_findings()),
-    }
-}
-
-/// What each condition on names tells of a model.
-fn findings_in<'d>(
-    alloc: Global,
-    ports: &Ports<'d>,
-    k: u32,
-    model: &'d Model,
-) -> Result<Findings<'d>, AllocError>
-    requires reached { IsReached ports.now k }
-    requires model { slice_get ports.now.models k ≡ Some model.now }
-    requires few { length model.now.insts < 2 ^ 32 }
-    ensures { IfOk result (λ found. (rule : NameRule) → told_by rule found ≡ name_rule rule ports.now model.now) }
-{
+    let Some(model) = ports.model(k) else {
+        return Ok(no_findings());
+    };
     let names = list_occurrences(alloc, model)?;
     let nets = collect_nets(alloc, ports, k, model)?;
     Ok(tell_each(ports, k, &nets, names.as_slice()))
@@ -163,10 +148,12 @@ fn tell_first<'d>(
     requires names { texts names.now ≡ occurrences nets.now.model.now }
     ensures { shown_of result ≡ name_rule rule ports.now nets.now.model.now }
 {
-    match first_faulty(ports, rule, k, nets, names) {
-        Some(name) => Some(tell_name(rule, nets.model.name.as_slice(), name)),
-        None => None,
+    for name in names {
+        if is_faulty(ports, rule, k, nets, name) {
+            return Some(tell_name(rule, nets.model.name.as_slice(), name));
+        }
     }
+    None
 }
 
 /// Tells of a name.
@@ -179,26 +166,6 @@ fn tell_name<'d>(rule: NameRule, model: &'d [u8], name: &'d [u8]) -> Told<'d>
         NameRule::ClockUse => NameFault::ClockUse,
     };
     Told::OfName { fault, model, name }
-}
-
-/// The first of some names of a model at which a condition is broken.
-fn first_faulty<'d>(
-    ports: &Ports<'d>,
-    rule: NameRule,
-    k: u32,
-    nets: &Nets<'d>,
-    names: &[&'d [u8]],
-) -> Option<&'d [u8]>
-    requires reached { IsReached ports.now k }
-    requires nets { AreNets ports.now k nets.now }
-    ensures { name_behind result ≡ find (is_faulty rule ports.now nets.now.model.now) (texts names.now) }
-{
-    for name in names {
-        if is_faulty(ports, rule, k, nets, name) {
-            return Some(*name);
-        }
-    }
-    None
 }
 
 /// Whether a condition is broken at a name of a model.

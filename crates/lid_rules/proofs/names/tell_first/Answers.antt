@@ -1,18 +1,15 @@
-use Rattle.std.proofs.Common.{ℕ, List, Some, find, option_map, sym, ◌∙◌, ap}
-use Rattle.lid_rules.specs.Names.{is_faulty, told_name}
-use Rattle.lid_ports.specs.Formals.{name_behind}
+use Rattle.std.proofs.Common.{arith}
+use Rattle.std.proofs.lemmas.Grind.{common_steps}
 use Rattle.lid_rules.proofs.Telling.{rule_by_name}
 use Rattle.lid_rules.proofs.names.tell_first.Goals as goal
 
-pub returns-in-Some : goal.returns-in-Some
-returns-in-Some c =
-    let name = sym (ap name_behind c.in-Some.is) ∙ c.first_faulty.ensures ∙ ap (find (is_faulty c.args.rule c.args.ports.now c.args.nets.now.model.now)) c.requires.names in
-    ap Some (c.tell_name.ensures ∙ ap (λ (model : List ℕ). told_name c.args.rule model c.in-Some.name.now) c.as_slice.ensures)
-    ∙ ap (option_map (told_name c.args.rule c.args.nets.now.model.now.name)) name
-    ∙ sym (rule_by_name c.args.rule c.args.ports.now c.args.nets.now.model.now)
-
-pub returns-in-None : goal.returns-in-None
-returns-in-None c =
-    let name = sym (ap name_behind c.in-None.is) ∙ c.first_faulty.ensures ∙ ap (find (is_faulty c.args.rule c.args.ports.now c.args.nets.now.model.now)) c.requires.names in
-    ap (option_map (told_name c.args.rule c.args.nets.now.model.now.name)) name
-    ∙ sym (rule_by_name c.args.rule c.args.ports.now c.args.nets.now.model.now)
+pub returns-then-is_faulty : goal.returns-then-is_faulty
+returns-then-is_faulty c =
+    let left = c.loop-name.invariant in
+    let faulty = c.is_faulty.ensures in
+    let true_here = c.if-is_faulty.true in
+    let told = c.tell_name.ensures in
+    let model = c.as_slice.ensures in
+    let names = c.requires.names in
+    let rule = rule_by_name c.args.rule c.args.ports.now c.args.nets.now.model.now in
+    grind (arith, common_steps)
