@@ -1,9 +1,0 @@
-use Rattle.std.proofs.Common.{◌∙◌}
-use Rattle.lid_base.proofs.Results.{if_ok}
-use Rattle.lid_judge.specs.Late.{after_insts}
-use Rattle.lid_rules.proofs.Faults.{told_later}
-use Rattle.lid_judge.proofs.late.find_after_insts.Goals as goal
-
-pub returns-in-None : goal.returns-in-None
-unfolding after_insts
-returns-in-None c = if_ok c.find_after_names.result (λ told e. e ∙ told_later _ _ _ c.in-None.is c.in_ok-told.ensures) c.find_after_names.ensures
