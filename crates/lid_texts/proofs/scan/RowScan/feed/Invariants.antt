@@ -1,7 +1,7 @@
-use Rattle.std.proofs.Common.{◌≡◌, ◌+◌, ◌<◌, ◌^◌, ℕ, List, length}
+use Rattle.std.proofs.Common.{◌≡◌, ◌+◌, ◌<◌, ◌^◌, ℕ, List, length, true}
 use Rattle.lid_texts.specs.Scanned.{HasRead}
 use Rattle.lid_texts.proofs.Scanning.{Taking}
-use Rattle.lid_texts.proofs.scan.RowScan.take.Given as goal
+use Rattle.lid_texts.proofs.scan.RowScan.feed.Given as goal
 
 abbrev pub invariant-loop-left : goal.invariant-loop-left
 invariant-loop-left l = record {
@@ -10,6 +10,7 @@ invariant-loop-left l = record {
   outs : l.self.outs ≡ l.fn.self.outs;
   total : l.self.total ≡ l.fn.self.total + length l.fn.piece;
   few : l.fn.self.total + length l.fn.piece < 2 ^ 64;
+  spent : l.self.spent ≡ true;
 }
 
 abbrev pub decreases-loop-left : goal.decreases-loop-left
