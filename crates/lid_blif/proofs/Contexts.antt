@@ -5,7 +5,7 @@ use Rattle.std.proofs.lemmas.List.{at_drop_more, length_push, take_more, reverse
 use Rattle.lid_base.specs.declared.line.Line.{Line}
 use Rattle.lid_blif.specs.declared.fault.BlifFault.{BlifFault}
 use Rattle.lid_blif.specs.declared.keyword.Keyword.{Keyword}
-use Rattle.lid_blif.specs.declared.keyword.Keyword.TheVariants.{Model, Inputs, Outputs, Clock, Names, Latch, Subckt, End, Unknown, Row}
+use Rattle.lid_blif.specs.declared.keyword.Keyword.TheVariants.{Model, Names, End, Row}
 use Rattle.lid_blif.specs.declared.context.Context.{Context}
 use Rattle.lid_base.specs.Words.{word_at}
 use Rattle.lid_blif.specs.Words.{keyword_of, inputs_of, is_line}

@@ -11,7 +11,7 @@ use Rattle.lid_base.specs.declared.line.Line.{Line}
 use Rattle.lid_cover.specs.Cover.{IsCube, IsCover}
 use Rattle.lid_design.specs.declared.Cell.{Cell}
 use Rattle.lid_blif.specs.declared.keyword.Keyword.{Keyword}
-use Rattle.lid_blif.specs.declared.keyword.Keyword.TheVariants.{Model, Inputs, Outputs, Clock, Names, Latch, Subckt, End, Unknown, Row}
+use Rattle.lid_blif.specs.declared.keyword.Keyword.TheVariants.{Model, Names, Latch, Subckt, Row}
 use Rattle.lid_base.specs.Words.{word_at}
 use Rattle.lid_blif.specs.Words.{keyword_of, is_line, inputs_of, leading, is_inner}
 use Rattle.lid_blif.specs.Designs.{IsNarrow, mask_of, is_cared_for, is_character_one, cube_of, cover_of, names_cell, cell_before, cells_of, insts_of, model_of, models_of}

@@ -132,14 +132,11 @@ fn init_of(words: &[Name]) -> Init
     } else {
         b"3"
     };
-    if is_same(init, b"0") {
-        Init::Zero
-    } else if is_same(init, b"1") {
-        Init::One
-    } else if is_same(init, b"2") {
-        Init::DontCare
-    } else {
-        Init::Unknown
+    match init {
+        [b'0'] => Init::Zero,
+        [b'1'] => Init::One,
+        [b'2'] => Init::DontCare,
+        _ => Init::Unknown,
     }
 }
 

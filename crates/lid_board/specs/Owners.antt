@@ -1,7 +1,7 @@
 -- Hands and their boards.
-use Rattle.std.specs.Prelude.{◌≡◌, ℕ, ◌+◌, ◌*◌, ◌/◌, ◌%◌, length, Some}
+use Rattle.std.specs.Prelude.{◌≡◌, ℕ, ◌<◌, ◌+◌, ◌*◌, ◌/◌, ◌%◌, length, Some}
 use base.Stored.{Gv, gnum, gcons}
-use Rattle.atomic_table.specs.Seated.{table_id_coded}
+use Rattle.atomic_table.specs.Seated.{TableId, table_id_coded}
 use Rattle.lid_board.specs.Relation.{first_word, cap_of}
 use Rattle.lid_board.specs.Views.{Ends, at, held}
 use Rattle.lid_board.specs.declared.board.Board.{Board}
@@ -18,6 +18,10 @@ abbrev pub identity_of : ℕ → Hand → Gv
 identity_of ghost_name hand =
     gcons (gnum ghost_name) (gcons (gnum (length hand.ends.items)) (table_id_coded.code hand.seat.table_id))
 
+-- a seat of the first table is one of the second, which has this word
+abbrev pub IsAtWord : TableId → TableId → ℕ → Type 0
+IsAtWord mine table word = (mine ≡ table) × (word < table.words)
+
 -- what was known at the ends of a board at its start: the streams, start counts and capacities,
 -- which never change
 abbrev pub plan_of : Board → Ends
@@ -31,6 +35,11 @@ pub record IsOf (hand : Hand) (board : Board) : Type 0 where
 -- whether an end is among these
 abbrev pub IsOwned : Ends → ℕ → Type 0
 IsOwned ends end = at ends end ≡ Some (held ends end)
+
+-- an end is one of those that a hand of a board owns
+pub record HasEnd (hand : Hand) (board : Board) (end : ℕ) : Type 0 where
+  pub of : IsOf hand board
+  pub owned : IsOwned (ends_of hand) end
 
 -- where the next token of an end is: its place, and the word of that place
 pub record IsSpot (plan : Ends) (station : ℕ) (h : Held) (spot : Spot) : Type 0 where

@@ -2,7 +2,7 @@
 
 ghost use Rattle.std.specs.Prelude.{◌≡◌, ℕ, ◌/◌, ◌+◌, ◌-◌, ◌^◌, ◌<◌, true, Some, slice_get, ◌↔◌};
 ghost use Rattle.lid_station.specs.Boards.{Facts, fill, drain, advanced, Changes, looked_in, looked_out, IsToken, IsVoid, IsRoom, IsStop, FindsIn, FindsOut, HasSmallToken, TellsNothing, TellsFull, HasFilled, HasDrained};
-ghost use Rattle.lid_board.specs.Owners.{IsOf, IsOwned, IsSpot, ends_of, plan_of};
+ghost use Rattle.lid_board.specs.Owners.{IsOf, IsOwned, HasEnd, IsSpot, ends_of, plan_of};
 ghost use Rattle.lid_board.specs.Relation.{stream_of};
 ghost use Rattle.lid_board.specs.Views.{facts, facts_at, held};
 
@@ -27,9 +27,8 @@ pub(crate) struct Spot {
 impl Board {
     /// Where the next token of an end goes or comes from.
     pub(crate) fn spot(&self, hand: &Hand, station: u32, end: usize) -> Spot
-        requires of { IsOf hand.now self.now }
+        requires has_end { HasEnd hand.now self.now end }
         requires side { end / 2 ≡ station }
-        requires owned { IsOwned (ends_of hand.now) end }
         ensures spot { IsSpot (plan_of self.now) station (held (ends_of hand.now) end) result }
         ensures inside { result.word < self.now.table.shared.table_id.words }
     {
@@ -41,10 +40,11 @@ impl Board {
             word: self.firsts[station as usize] + (place / 2) as usize,
         }
     }
+
     /// Looks for a token at a drained end of the hand, by one load.
+    #[tactic(auto, using(crate::proofs::Calling::tied_in))]
     pub(crate) fn look_in(&self, hand: &mut Hand, station: u32) -> InLook
-        requires of { IsOf hand.old self.now }
-        requires owned { IsOwned (ends_of hand.old) (drain station) }
+        requires has_end { HasEnd hand.old self.now (drain station) }
         ensures of { IsOf hand.new self.now }
         ensures changed { Changes (facts_at (ends_of hand.old)) (drain station) (looked_in result) (facts_at (ends_of hand.new)) }
         ensures found { FindsIn result (facts (held (ends_of hand.old) (drain station))) (stream_of (plan_of self.now) station) }
@@ -64,10 +64,11 @@ impl Board {
             InLook::Token((half - FULL) as u32)
         }
     }
+
     /// Looks for room at a filled end of the hand, by one load.
+    #[tactic(auto, using(crate::proofs::Calling::tied_out))]
     pub(crate) fn look_out(&self, hand: &mut Hand, station: u32) -> OutLook
-        requires of { IsOf hand.old self.now }
-        requires owned { IsOwned (ends_of hand.old) (fill station) }
+        requires has_end { HasEnd hand.old self.now (fill station) }
         ensures of { IsOf hand.new self.now }
         ensures changed { Changes (facts_at (ends_of hand.old)) (fill station) (looked_out result) (facts_at (ends_of hand.new)) }
         ensures found { FindsOut result (facts (held (ends_of hand.old) (fill station))) (stream_of (plan_of self.now) station) }
@@ -88,8 +89,7 @@ impl Board {
 
     /// Takes the token that was seen, by one `fetch_and`.
     pub(crate) fn take(&self, hand: &mut Hand, station: u32) -> u32
-        requires of { IsOf hand.old self.now }
-        requires owned { IsOwned (ends_of hand.old) (drain station) }
+        requires has_end { HasEnd hand.old self.now (drain station) }
         requires seen { (held (ends_of hand.old) (drain station)).mark ≡ true }
         ensures of { IsOf hand.new self.now }
         ensures changed { Changes (facts_at (ends_of hand.old)) (drain station) advanced (facts_at (ends_of hand.new)) }
@@ -107,8 +107,7 @@ impl Board {
 
     /// Puts the stream's next token into the room that was seen, by one `fetch_or`.
     pub(crate) fn put(&self, hand: &mut Hand, station: u32, token: u32)
-        requires of { IsOf hand.old self.now }
-        requires owned { IsOwned (ends_of hand.old) (fill station) }
+        requires has_end { HasEnd hand.old self.now (fill station) }
         requires seen { (held (ends_of hand.old) (fill station)).mark ≡ true }
         requires small { token < 2 ^ 31 }
         requires next { slice_get (stream_of (plan_of self.now) station) (held (ends_of hand.old) (fill station)).passed ≡ Some token }

@@ -2,7 +2,7 @@
 
 ghost use Rattle.std.specs.Prelude.{◌≡◌, ℕ, ◌<◌, bit_and, bit_or, Bool, true, false, []};
 ghost use Rattle.atomic_table.specs.Table.{Allows};
-ghost use Rattle.lid_board.specs.Owners.{IsOwned};
+ghost use Rattle.lid_board.specs.Owners.{IsOwned, IsAtWord};
 ghost use Rattle.lid_board.specs.Parting.{left_from, right_from, merged};
 ghost use Rattle.lid_board.specs.Relation.{Related};
 ghost use Rattle.lid_board.specs.Views.{IsEarly};
@@ -50,8 +50,7 @@ pub(crate) fn load_as<J: Telling>(
     _station: u32,
     _place: u64,
 ) -> u64
-    requires table { seat.old.table_id ≡ cells.now.table_id }
-    requires inside { word < cells.now.table_id.words }
+    requires here { IsAtWord seat.old.table_id cells.now.table_id word }
     requires rule { Allows (Related cells.now.key.me.0.ends) cells.now.table_id.slots seat.old.id seat.old.me word (λ n. n) (λ found m. (m.1 ≡ seat.old.me.1) × J.told found m.0) }
     ensures seat { (seat.new.table_id ≡ seat.old.table_id) × (seat.new.id ≡ seat.old.id) × (seat.new.me.1 ≡ seat.old.me.1) }
     ensures told { J.told result seat.new.me.0 }
@@ -69,8 +68,7 @@ pub(crate) fn and_as<J: Telling>(
     _station: u32,
     _place: u64,
 ) -> u64
-    requires table { seat.old.table_id ≡ cells.now.table_id }
-    requires inside { word < cells.now.table_id.words }
+    requires here { IsAtWord seat.old.table_id cells.now.table_id word }
     requires rule { Allows (Related cells.now.key.me.0.ends) cells.now.table_id.slots seat.old.id seat.old.me word (λ n. bit_and n bits) (λ found m. (m.1 ≡ seat.old.me.1) × J.told found m.0) }
     ensures seat { (seat.new.table_id ≡ seat.old.table_id) × (seat.new.id ≡ seat.old.id) × (seat.new.me.1 ≡ seat.old.me.1) }
     ensures told { J.told result seat.new.me.0 }
@@ -86,8 +84,7 @@ pub(crate) fn or_as<J: Telling>(
     bits: u64,
     _station: u32,
 )
-    requires table { seat.old.table_id ≡ cells.now.table_id }
-    requires inside { word < cells.now.table_id.words }
+    requires here { IsAtWord seat.old.table_id cells.now.table_id word }
     requires rule { Allows (Related cells.now.key.me.0.ends) cells.now.table_id.slots seat.old.id seat.old.me word (λ n. bit_or n bits) (λ found m. (m.1 ≡ seat.old.me.1) × J.told found m.0) }
     ensures seat { (seat.new.table_id ≡ seat.old.table_id) × (seat.new.id ≡ seat.old.id) × (seat.new.me.1 ≡ seat.old.me.1) }
     ensures told { (found : ℕ) × J.told found seat.new.me.0 }
@@ -120,8 +117,7 @@ pub(crate) fn split_as<J: Choosing>(
     seat: &mut Seat<(), View>,
     _ends: &[End],
 ) -> Seat<(), View>
-    requires table { seat.old.table_id ≡ cells.now.table_id }
-    requires inside { 0 < cells.now.table_id.words }
+    requires here { IsAtWord seat.old.table_id cells.now.table_id 0 }
     requires owned { (end : ℕ) → J.chosen end ≡ true → IsOwned seat.old.me.0.ends end }
     ensures seat { (seat.new.table_id ≡ seat.old.table_id) × (seat.new.me.1 ≡ seat.old.me.1) × (result.table_id ≡ seat.old.table_id) × (result.me.1 ≡ []) }
     ensures left { seat.new.me.0.ends ≡ left_from J.chosen 0 seat.old.me.0.ends }
@@ -141,10 +137,9 @@ impl Join<View> for Both {
 
 /// Makes what two seats know one.
 pub(crate) fn join_both(cells: &Cells, seat: &mut Seat<(), View>, other: Seat<(), View>)
-    requires table { seat.old.table_id ≡ cells.now.table_id }
+    requires here { IsAtWord seat.old.table_id cells.now.table_id 0 }
     requires other { other.table_id ≡ cells.now.table_id }
     requires no_slot { other.me.1 ≡ [] }
-    requires inside { 0 < cells.now.table_id.words }
     ensures seat { (seat.new.table_id ≡ seat.old.table_id) × (seat.new.me.1 ≡ seat.old.me.1) }
     ensures both { seat.new.me.0.ends ≡ merged seat.old.me.0.ends other.me.0.ends }
     ensures early { IsEarly seat.old.me.0.ends → IsEarly other.me.0.ends → IsEarly seat.new.me.0.ends }

@@ -16,7 +16,7 @@ use Rattle.lid_rules.specs.Names.{name_at, by_name, by_names}
 use Rattle.lid_rules.specs.Early.{duplicates, unknowns, duplicate_at, unknown_in, TellsEarly, PassesEarly}
 use Rattle.lid_rules.specs.Told.{shown, shown_of, IsToldOf}
 use Rattle.lid_rules.proofs.Faults.{none_both, or_assoc}
-use Rattle.lid_rules.proofs.Passing.{known_by}
+use Rattle.lid_rules.proofs.Passing.{known_by, one_list}
 use Rattle.lid_judge.specs.Late.{after_insts, after_names, after_clocks, after_edges}
 
 -- what each of the conditions on instances, and on names, tells of some models
@@ -63,6 +63,10 @@ late_are d ks =
     (tells_insts d ks).0 (tells_insts d ks).1 (tells_insts d ks).2
     (three_same (two_drivers d ks) (undriven d ks) (clock_use d ks) last (by_name TwoDrivers d ks) (by_name Undriven d ks) (by_name ClockUse d ks) (after_names d ks) (tells_names d ks).0 (tells_names d ks).1 (tells_names d ks).2 (tells_after_names d ks) ∙ tells_after_insts d ks)
     ∙ three_first (by_inst UnknownFormal d ks) (by_inst FormalTwice d ks) (by_inst Unbound d ks) (after_insts d ks)
+
+-- the same of any list of the reached models
+pub late_of : (d : Design) (rs ks : List ℕ) → AreReached d rs → AreReached d ks → or_fault (by_insts d rs three) (after_insts d rs) ≡ fault_after_recursion d ks
+late_of d rs ks reached are = sym (late_are d rs) ∙ ap (fault_after_recursion d) (one_list d rs ks reached are)
 
 -- a design that passes the conditions before recursion has only known models
 pub known_early : (d : Design) → PassesEarly d → AreKnown d

@@ -1,6 +1,7 @@
 -- Steps of the loops and calls that make texts of runs, and of the reading of a schedule.
 use Rattle.std.proofs.Common.{◌≡◌, ℕ, zero, suc, ◌+◌, ◌-◌, ◌*◌, ◌/◌, ◌%◌, ◌<◌, List, [], ◌∷◌, ◌++◌, length, take, drop, map, Option, Some, Err, sym, ap, ◌∙◌, append_assoc, subst, arith}
-use Rattle.std.specs.List.{enumerate_from}
+use Rattle.std.specs.List.{enumerate_from, join_with_byte}
+use Rattle.lid_base.specs.Lists.{Keeps}
 use Rattle.lid_base.specs.declared.runs.Shown.{Shown}
 use Rattle.lid_lines.specs.Texts.{line_text}
 use Rattle.lid_reports.specs.declared.schedule.SchedFault.{SchedFault}
@@ -45,3 +46,8 @@ cells_left stations (suc left) before after some all rest =
 pub refused_word : (actors : ℕ) (done : List ℕ) (word : ℕ × List ℕ) (words : List (ℕ × List ℕ)) (fault : SchedFault) → word_fault actors (length done + 1, word) ≡ Some fault → actors_reading actors done (word ∷ words) ≡ Err fault
 refused_word actors done word words fault e =
     ap (λ (o : Option SchedFault). ok_unless (first_some (o ∷ map (word_fault actors) (enumerate_from (length done + 1 + 1) words))) (done ++ actors_of (word ∷ words))) e
+
+-- words that are appended with a blank between each two: what stands and what is left make the whole
+pub record AreJoined {A : Type 0} (word : A → List ℕ) (old : List ℕ) (all : List A) (now : List ℕ) (rest : List A) : Type 0 where
+  pub done : now ++ join_with_byte 32 (map word rest) ≡ old ++ join_with_byte 32 (map word all)
+  pub kept : Keeps old now

@@ -72,21 +72,7 @@ impl RowScan {
         if self.spent {
             return Err(AllocError);
         }
-        let taken = self.take(piece, into);
-        self.spent = taken.is_err();
-        taken
-    }
-
-    /// Takes a piece, where there was memory for all before it.
-    fn take(&mut self, piece: &[u8], into: &mut Vec<Items<bool>>) -> Result<(), AllocError>
-        ensures read { (bytes : List ℕ) → HasRead self.old bytes → OnOk result (HasRead self.new (bytes ++ piece.now)) }
-        ensures rows { (bytes : List ℕ) → HasRead self.old bytes
-            → OnOk result (Gives self.old.columns self.old.outs bytes (bytes ++ piece.now) into.old.items into.new.items) }
-        ensures prefix { (bytes : List ℕ) → HasRead self.old bytes
-            → OnErr result (GivesPrefix self.old.columns self.old.outs bytes (bytes ++ piece.now) into.old.items into.new.items) }
-        ensures columns { self.new.columns ≡ self.old.columns }
-        ensures outs { self.new.outs ≡ self.old.outs }
-    {
+        self.spent = true;
         let Some(total) = self.total.checked_add(piece.len() as u64) else {
             return Err(AllocError);
         };
@@ -95,11 +81,14 @@ impl RowScan {
         while self.walk.fault.is_none() {
             let (line, after) = cut_line(left);
             let Some(rest) = after else {
-                return self.partial.extend_from_slice(line);
+                let kept = self.partial.extend_from_slice(line);
+                self.spent = kept.is_err();
+                return kept;
             };
             self.end_line(line, into)?;
             left = rest;
         }
+        self.spent = false;
         Ok(())
     }
 
@@ -114,6 +103,7 @@ impl RowScan {
         ensures columns { self.new.columns ≡ self.old.columns }
         ensures outs { self.new.outs ≡ self.old.outs }
         ensures total { self.new.total ≡ self.old.total }
+        ensures spent { self.new.spent ≡ self.old.spent }
     {
         let columns = self.columns.as_slice();
         if self.partial.as_slice().is_empty() {

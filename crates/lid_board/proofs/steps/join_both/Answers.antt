@@ -8,10 +8,10 @@ use Rattle.lid_board.proofs.steps.join_both.Goals as goal
 
 pub join_seat-requires : goal.join_seat-requires
 join_seat-requires c = (
-  c.requires.table,
+  c.requires.here.0,
   c.requires.other,
   c.requires.no_slot,
-  c.requires.inside,
+  c.requires.here.1,
   joins c.args.cells.now.key.me.0.ends c.args.seat.now.id c.args.seat.now.me.0 c.args.other.id c.args.other.me.0,
 )
 

@@ -8,8 +8,8 @@ use Rattle.lid_board.proofs.steps.split_as.Goals as goal
 
 pub split_seat-requires : goal.split_seat-requires
 split_seat-requires g c = (
-  c.requires.table,
-  c.requires.inside,
+  c.requires.here.0,
+  c.requires.here.1,
   splits c.args.cells.now.key.me.0.ends c.args.seat.now.id c.args.seat.now.me.0 g.J.Choosing.chosen c.requires.owned,
 )
 

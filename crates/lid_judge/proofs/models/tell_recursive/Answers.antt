@@ -1,6 +1,4 @@
-use Rattle.std.proofs.Common.{◌≡◌, Some, None, slice_get, option_map, sym, ◌∙◌, ap}
-use Rattle.lid_design.specs.declared.Design.{Design}
-use Rattle.lid_design.specs.declared.Model.{Model}
+use Rattle.std.proofs.Common.{◌≡◌, Some, None, slice_get, sym, ◌∙◌}
 use Rattle.lid_hierarchy.proofs.Walks.{reached_below}
 use Rattle.lid_names.proofs.Numbers.{here_is, there}
 use Rattle.lid_judge.proofs.models.tell_recursive.Goals as goal

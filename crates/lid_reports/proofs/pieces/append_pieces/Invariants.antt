@@ -1,14 +1,10 @@
-use Rattle.std.proofs.Common.{◌≡◌, ◌++◌, length, map}
-use Rattle.std.specs.List.{join_with_byte}
-use Rattle.lid_base.specs.Lists.{Keeps}
+use Rattle.std.proofs.Common.{length}
 use Rattle.lid_reports.specs.Pieces.{spelled}
+use Rattle.lid_reports.proofs.Steps.{AreJoined}
 use Rattle.lid_reports.proofs.pieces.append_pieces.Given as goal
 
 abbrev pub invariant-loop-rest : goal.invariant-loop-rest
-invariant-loop-rest l = record {
-  done : l.into.items ++ join_with_byte 32 (map spelled l.rest) ≡ l.fn.into.items ++ join_with_byte 32 (map spelled l.pieces);
-  kept : Keeps l.fn.into.items l.into.items;
-}
+invariant-loop-rest l = AreJoined spelled l.fn.into.items l.pieces l.into.items l.rest
 
 abbrev pub decreases-loop-rest : goal.decreases-loop-rest
 decreases-loop-rest l = length l.rest

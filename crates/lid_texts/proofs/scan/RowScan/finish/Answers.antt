@@ -1,9 +1,9 @@
-use Rattle.std.proofs.Common.{◌≡◌, ◌⊎◌, ◌+◌, ℕ, List, length, Err, inr, refl, sym, ◌∙◌, ap, subst, arith, IfOk, IfErr, OnErr}
+use Rattle.std.proofs.Common.{◌≡◌, ◌⊎◌, ◌+◌, ℕ, length, Err, inr, refl, sym, ◌∙◌, ap, subst, arith, IfOk, IfErr, OnErr}
 use Rattle.lid_base.specs.declared.which.Which.TheVariants.{FileBytes}
 use Rattle.lid_base.proofs.Results.{on_err}
 use Rattle.lid_texts.specs.declared.rows.VecFault.TheVariants.{Limit, Memory}
 use Rattle.lid_texts.specs.Rows.{rows_reading}
-use Rattle.lid_texts.specs.RowsWalk.{with_last, RowsGrow, AreJudged, Goes, counted}
+use Rattle.lid_texts.specs.RowsWalk.{with_last, RowsGrow, AreJudged, counted}
 use Rattle.lid_texts.specs.Scans.{ended_lines, logical_of}
 use Rattle.lid_texts.specs.Scanned.{Finishes}
 use Rattle.lid_texts.proofs.Finishing.{at_end, at_last, too_long, refused_before, finished, refused_now, not_counted}
