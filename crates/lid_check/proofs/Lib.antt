@@ -9,3 +9,4 @@ pub mod Exclusive
 pub mod Widths
 pub mod Placing
 pub mod Blocked
+pub mod Cutting

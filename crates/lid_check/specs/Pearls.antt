@@ -1,5 +1,5 @@
 -- Pearls, and the numbers of their columns.
-use Rattle.std.specs.Prelude.{◌≡◌, ◌↔◌, ℕ, ◌+◌, ◌<◌, ◌==◌, Bool, true, false, if◌then◌else◌, List, [], ◌∷◌, length, position, Option, Some, option_map, slice_get}
+use Rattle.std.specs.Prelude.{◌≡◌, ◌↔◌, ℕ, ◌+◌, ◌<◌, ◌≤◌, ◌==◌, Bool, true, false, if◌then◌else◌, List, [], ◌∷◌, length, position, Option, Some, option_map, slice_get}
 use Rattle.std.specs.Option.{option_map_or}
 use Rattle.std.specs.Str.{bytes_eq}
 use Rattle.lid_base.specs.Lists.{Among}
@@ -69,6 +69,12 @@ pub record IsCutOff (d : Design) (g : List (List ℕ)) (cut : List Bool) (path :
       (input output : List ℕ)
       → Among input (data_inputs_of d pearl.model)
       → IsDependent d path input output ↔ LeadsTo d g cut pearl input output
+
+-- the cut and the marks of the columns of a graph, which are no more than a design may have
+pub record AreMarks (g : List (List ℕ)) (cut reached : List Bool) : Type 0 where
+  pub all_cut : length cut ≡ length g
+  pub all_reached : length reached ≡ length g
+  pub few : length g ≤ 1048576
 
 -- the marks tell of each output of a pearl whether a data input of it leads there
 abbrev pub AreReachedIn : Design → List (List ℕ) → List Bool → List Bool → Pearl → Type 0

@@ -7,13 +7,13 @@ ghost use Rattle.lid_base.specs.Lists.{Among};
 ghost use Rattle.lid_digraph.specs.Graphs.{IsOrder};
 ghost use Rattle.lid_elab.specs.Elaborations.{driver_reads};
 ghost use Rattle.lid_design.specs.Models.{data_inputs_of};
-ghost use Rattle.lid_check.specs.Pearls.{is_marked, Fits, IsFirstMarked, AreUnmarked, LeadsTo, AreReachedIn, AreCutOff, AreLed, CutsOff, count_cut, IsFirstInput};
+ghost use Rattle.lid_check.specs.Pearls.{is_marked, Fits, AreMarks, IsFirstMarked, AreUnmarked, LeadsTo, AreReachedIn, AreCutOff, CutsOff, count_cut, IsFirstInput};
 ghost use Rattle.lid_check.specs.Flaws.{FindsLead, FindsDependence};
 
 use crate::pearls::{
     Pearl, find_inputs, find_starts, is_marked, list_pearls, mark_first, number_of,
 };
-use lid_base::{Items, Name};
+use lid_base::Name;
 use lid_digraph::{Digraph, find_reached, find_reaching};
 use lid_elab::Elaboration;
 use lid_hierarchy::Survey;
@@ -94,9 +94,7 @@ fn find_lead(
     cut: &[bool],
     reached: &[bool],
 ) -> Result<Option<Lead>, AllocError>
-    requires cut { length cut.now ≡ length graph.now.reads.now }
-    requires reached { length reached.now ≡ length graph.now.reads.now }
-    requires few { length graph.now.reads.now ≤ 1048576 }
+    requires sizes { AreMarks graph.now.reads.now cut.now reached.now }
     requires fits { Fits survey.now (length graph.now.reads.now) pearl }
     requires marks { AreReachedIn survey.now graph.now.reads.now cut.now reached.now pearl }
     ensures { IfOk result (FindsLead survey.now graph.now.reads.now cut.now pearl) }
@@ -128,9 +126,7 @@ fn find_in_pearls(
     cut: &[bool],
     reached: &[bool],
 ) -> Result<Option<Lead>, AllocError>
-    requires cut { length cut.now ≡ length graph.now.reads.now }
-    requires reached { length reached.now ≡ length graph.now.reads.now }
-    requires few { length graph.now.reads.now ≤ 1048576 }
+    requires sizes { AreMarks graph.now.reads.now cut.now reached.now }
     requires apart { AreCutOff survey.now graph.now.reads.now cut.now reached.now pearls.now }
     ensures { IfOk result (FindsDependence survey.now) }
 {
@@ -153,26 +149,6 @@ fn count_cut(survey: &Survey<'_>) -> usize
         return 0;
     }
     survey.count_nets(root)
-}
-
-/// For each column whether a data input of a pearl leads to it past the cut.
-fn mark_led(
-    alloc: Global,
-    survey: &Survey<'_>,
-    pearls: &[Pearl],
-    graph: &Digraph<'_>,
-    order: &[u32],
-    cut: &[bool],
-) -> Result<Items<bool>, AllocError>
-    requires order { IsOrder graph.now.reads.now order.now }
-    requires cut { length cut.now ≡ length graph.now.reads.now }
-    requires few { length graph.now.reads.now ≤ 1048576 }
-    requires fit { AllByRecursion (Fits survey.now (length graph.now.reads.now)) pearls.now }
-    ensures count { IfOk result (λ led. length led ≡ length graph.now.reads.now) }
-    ensures exact { IfOk result (AreLed survey.now graph.now.reads.now cut.now pearls.now) }
-{
-    let starts = find_starts(alloc, survey, pearls, graph.reads.len())?;
-    find_reached(alloc, graph, order, cut, starts.as_slice())
 }
 
 /// The first output of a pearl that depends on a data input of it, with the first such input. The
@@ -219,6 +195,7 @@ fn find_past(
     requires apart { CutsOff survey.now graph.now.reads.now cut.now pearls.now }
     ensures { IfOk result (FindsDependence survey.now) }
 {
-    let led = mark_led(alloc, survey, pearls, graph, order, cut)?;
+    let starts = find_starts(alloc, survey, pearls, graph.reads.len())?;
+    let led = find_reached(alloc, graph, order, cut, starts.as_slice())?;
     find_in_pearls(alloc, survey, pearls, graph, cut, led.as_slice())
 }

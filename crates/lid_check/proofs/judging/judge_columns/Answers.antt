@@ -1,4 +1,4 @@
-use Rattle.std.proofs.Common.{Option, inr, sym, ◌∙◌, subst}
+use Rattle.std.proofs.Common.{inr, sym, subst}
 use Rattle.lid_design.specs.declared.Design.{Design}
 use Rattle.lid_rules.specs.Acceptance.{ModelsPass}
 use Rattle.lid_check.specs.declared.flaws.Verdict.{Verdict}

@@ -2,10 +2,13 @@ use Rattle.std.proofs.Common.{◌≡◌, ◌<◌, ℕ, List, true, length, Some,
 use Rattle.std.proofs.lemmas.Option.{slice_get_read, slice_get_within}
 use Rattle.lid_design.specs.declared.Design.{Design}
 use Rattle.lid_design.specs.declared.Model.{Model}
-use Rattle.lid_check.specs.Pearls.{is_marked, AreUnmarked, IsFirstMarked}
+use Rattle.lid_check.specs.Pearls.{is_marked, Fits, AreUnmarked, IsFirstMarked}
 use Rattle.lid_check.proofs.Leads.{model_read, unmarked_none, unmarked_before}
 use Rattle.lid_check.proofs.outputs.find_lead.Goals as goal
 use Rattle.lid_hierarchy.proofs.Walks.{reached_below}
+
+pub first_marked-requires-clause-fits : goal.first_marked-requires-clause-fits
+first_marked-requires-clause-fits c = subst (λ (n : ℕ). Fits c.args.survey.now n c.args.pearl) (sym c.requires.sizes.all_reached) c.requires.fits
 
 pub bounds-as_slice-pearl : goal.bounds-as_slice-pearl
 bounds-as_slice-pearl c =
