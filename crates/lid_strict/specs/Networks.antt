@@ -1,5 +1,5 @@
 -- Networks whose columns are numbers, and their rows.
-use Rattle.std.specs.Prelude.{◌≡◌, ◌+◌, ◌<◌, ℕ, Bool, true, false, List, [], length, map, slice_get, slice_index_or, option_to_list, Some, ⊤}
+use Rattle.std.specs.Prelude.{◌≡◌, ◌+◌, ◌<◌, ℕ, Bool, true, false, List, length, map, slice_get, slice_index_or, option_to_list, Some, ⊤}
 use Rattle.std.specs.List.{AllByRecursion}
 use Rattle.lid_base.specs.Lists.{Among}
 use Rattle.lid_cover.specs.Cover.{cover_value, IsCover}
