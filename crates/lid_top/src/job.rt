@@ -1,6 +1,6 @@
 //! Jobs and their outputs.
 
-ghost use Rattle.std.specs.Prelude.{◌≡◌, ℕ, ◌≤◌, List, [], OnOk, OnErr, IfOk, IfErr};
+ghost use Rattle.std.specs.Prelude.{◌≡◌, ℕ, ◌≤◌, false, List, [], OnOk, OnErr, IfOk, IfErr};
 ghost use Rattle.lid_base.specs.Outside.{Rose, Appended, AppendedPrefix};
 ghost use Rattle.lid_top.specs.Scripts.{script_of};
 ghost use Rattle.lid_top.specs.Causes.{IsCause, IsEnd, IsStopped, IsRefusal};
@@ -17,6 +17,7 @@ use std::thread::Threads;
 
 /// What a job writes that writes nothing before its output is whole.
 fn text_of<'a, S: Shelf>(alloc: Global, shelf: &mut S, job: &'a Job) -> Result<Vec<u8>, Stop<'a>>
+    requires { writes_early job.now ≡ false }
     ensures ok { IfOk result (λ text. HasText (S.held shelf.old) (script_of job.now) text.items) }
     ensures err { IfErr result (IsCause (S.held shelf.old) (script_of job.now) (S.faults shelf.old) (S.faults shelf.new)) }
     ensures kept { S.held shelf.new ≡ S.held shelf.old }
@@ -61,6 +62,26 @@ fn write_pieces<O: Sink>(
     writer.finish(out)
 }
 
+/// Runs a job that writes nothing before its output is whole.
+fn run_whole<'a, S: Shelf, O: Sink>(
+    alloc: Global,
+    job: &'a Job,
+    shelf: &mut S,
+    out: &mut O,
+) -> Result<(), End<'a>>
+    requires { writes_early job.now ≡ false }
+    ensures done { OnOk result (Writes (S.held shelf.old) (script_of job.now) (O.written out.old) (O.written out.new)) }
+    ensures fails { IfErr result (IsEnd (S.held shelf.old) (script_of job.now) (S.faults shelf.old) (S.faults shelf.new)
+        (Rose (O.faults out.old) (O.faults out.new) × WritesPrefix (S.held shelf.old) (script_of job.now) (O.written out.old) (O.written out.new))) }
+    ensures left { IfErr result (λ end. IsStopped end → out.new ≡ out.old) }
+    ensures kept { S.held shelf.new ≡ S.held shelf.old }
+{
+    match text_of(alloc, shelf, job) {
+        Ok(text) => write_text(alloc, out, &text),
+        Err(stop) => Err(End::Stopped(stop)),
+    }
+}
+
 /// Runs a job: its output goes to `out`, and what it needs of threads comes from `rt` and `gate`.
 pub fn run_job<'a, R, S, O, G>(
     rt: &R,
@@ -82,8 +103,7 @@ where
     ensures kept { S.held shelf.new ≡ S.held shelf.old }
 {
     let _ = gate;
-    match text_of(rt.alloc(), shelf, job) {
-        Ok(text) => write_text(rt.alloc(), out, &text),
-        Err(stop) => Err(End::Stopped(stop)),
+    match job {
+        Job::Strict { .. } => run_whole(rt.alloc(), job, shelf, out),
     }
 }

@@ -1,6 +1,7 @@
 //! The steps that commands share: files that are fetched and read, and designs that are checked.
 
-ghost use Rattle.std.specs.Prelude.{◌≡◌, ℕ, ◌^◌, ◌<◌, ◌≤◌, List, IfOk, IfErr};
+ghost use Rattle.std.specs.Prelude.{◌≡◌, ℕ, ◌^◌, ◌<◌, ◌≤◌, List, length, IfOk, IfErr};
+ghost use Rattle.std.specs.List.{AllByRecursion};
 ghost use Rattle.lid_design.specs.Columns.{root_inputs};
 ghost use Rattle.lid_design.specs.WellFormed.{IsWellFormed};
 ghost use Rattle.lid_top.specs.Scripts.{IsFetched, good, net_limit, rows_limit, net_reading, vec_reading, IsChecked};
@@ -74,6 +75,7 @@ pub fn read_net<'a, S: Shelf>(
 fn rows_of<'a>(alloc: Global, checked: &Checked, bytes: &[u8]) -> Result<Rows, Stop<'a>>
     ensures ok { IfOk result (λ rows. vec_reading checked.now bytes.now ≡ good rows.bits) }
     ensures columns { IfOk result (λ rows. rows.columns ≡ root_inputs checked.now) }
+    ensures wide { IfOk result (λ rows. AllByRecursion (λ row. length row ≡ length (root_inputs checked.now)) rows.bits) }
     ensures err { IfErr result (Declines (vec_reading checked.now bytes.now)) }
 {
     let outs = checked.outputs().len() as u32;
@@ -92,6 +94,7 @@ pub fn read_vec<'a, S: Shelf>(
 ) -> Result<Rows, Stop<'a>>
     ensures ok { IfOk result (λ rows. Got (S.held shelf.old) vec.now rows_limit (vec_reading checked.now) rows.bits) }
     ensures columns { IfOk result (λ rows. rows.columns ≡ root_inputs checked.now) }
+    ensures wide { IfOk result (λ rows. AllByRecursion (λ row. length row ≡ length (root_inputs checked.now)) rows.bits) }
     ensures err { IfErr result (Misses (S.held shelf.old) vec.now rows_limit (vec_reading checked.now) (S.faults shelf.old) (S.faults shelf.new)) }
     ensures kept { S.held shelf.new ≡ S.held shelf.old }
     ensures grows { (q : List ℕ) → S.faults shelf.old q ≤ S.faults shelf.new q }
