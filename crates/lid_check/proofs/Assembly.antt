@@ -59,7 +59,7 @@ one_inside i j ([], e) = let f : j ∷ [] ≡ i ∷ [] = e in cc
 one_inside i j (x ∷ [], e) = let f : j ∷ [] ≡ x ∷ i ∷ [] = e in absurd (let h : [] ≡ i ∷ [] = cc in cc)
 one_inside i j (x ∷ y ∷ inner, e) = let f : j ∷ [] ≡ x ∷ y ∷ (inner ++ i ∷ []) = e in absurd (let h : [] ≡ y ∷ (inner ++ i ∷ []) = cc in cc)
 
-inst_pearls : (d : Design) → 0 < length (insts_of d d.root) → pearls d ≡ map (λ i. i ∷ []) (range_with_len 0 (length (insts_of d d.root)))
+pub inst_pearls : (d : Design) → 0 < length (insts_of d d.root) → pearls d ≡ map (λ i. i ∷ []) (range_with_len 0 (length (insts_of d d.root)))
 inst_pearls d some = by (length (insts_of d d.root)) some
   where
     by : (n : ℕ) → 0 < n → cond (n == 0) ([] ∷ []) (map (λ i. i ∷ []) (range_with_len 0 n)) ≡ map (λ i. i ∷ []) (range_with_len 0 n)

@@ -21,6 +21,12 @@ use Rattle.lid_check.specs.Acceptance.{DependsOn, HasNoDependence, StandsBefore,
 use Rattle.lid_check.specs.Pearls.{number_in, is_marked, Fits, IsFirstMarked, AreUnmarked, LeadsTo, AreReachedIn, AreCutOff, NoneLeads, IsFirstInput}
 use Rattle.lid_check.specs.Flaws.{IsFirstLead, IsFirstDependence, TellsFlaw}
 
+abbrev pub no_pearl : Pearl
+no_pearl = record { model = 0; start = 0 }
+
+pub pearl_at : (ps : List Pearl) (p : ℕ) → p < length ps → slice_get ps p ≡ Some (get_or ps p no_pearl)
+pearl_at ps p below = slice_get-get_or ps p no_pearl below
+
 pub marked_number : (marks : List Bool) (o : Option ℕ) → option_map_or (flag marks) o false ≡ true → (a : ℕ) × (o ≡ Some a) × (flag marks a ≡ true)
 marked_number marks None on = absurd (let e : false ≡ true = on in cc)
 marked_number marks (Some a) on = (a, refl, on)

@@ -7,3 +7,5 @@ pub mod Marking
 pub mod Numbered
 pub mod Exclusive
 pub mod Widths
+pub mod Placing
+pub mod Blocked

@@ -1,12 +1,9 @@
 -- Marks of the columns of nets, one after the other.
-use Rattle.std.proofs.Common.{◌≡◌, ◌⊎◌, ◌↔◌, ℕ, zero, suc, Bool, true, false, List, [], ◌∷◌, ◌++◌, length, not, filter, Option, Some, None, IsSome, slice_get, inl, inr, refl, sym, ◌∙◌, ap, subst}
-use Rattle.std.specs.Option.{option_map_or}
+use Rattle.std.proofs.Common.{◌≡◌, ◌⊎◌, ◌↔◌, ℕ, zero, suc, Bool, true, false, List, [], ◌∷◌, ◌++◌, length, Option, Some, None, IsSome, slice_get, inl, inr, refl, sym, ◌∙◌, ap, subst}
 use Rattle.lid_base.specs.Lists.{Among}
 use Rattle.lid_base.proofs.Lists.{among_left, among_last, among_push}
 use Rattle.lid_design.specs.declared.Design.{Design}
-use Rattle.lid_design.specs.declared.Model.{Model}
-use Rattle.lid_design.specs.Columns.{is_clock, data_inputs}
-use Rattle.lid_design.specs.Models.{is_clock_of, instance_number, data_inputs_of}
+use Rattle.lid_design.specs.Models.{instance_number, data_inputs_of}
 use Rattle.lid_digraph.specs.Graphs.{flag}
 use Rattle.lid_check.specs.declared.pearls.Pearl.{Pearl}
 use Rattle.lid_check.specs.Pearls.{number_in, IsNumberOf, IsInputOf}
@@ -63,16 +60,6 @@ get_push [] y zero x here = inr (refl, let e : Some y ≡ Some x = here in cc)
 get_push [] y (suc j) x here = absurd (let e : None ≡ Some x = here in cc)
 get_push (z ∷ xs) y zero x here = inl here
 get_push (z ∷ xs) y (suc j) x here = elim (get_push xs y j x here) [ inl old ↦ inl old | inr new ↦ inr (ap suc new.0, new.1) ]
-
--- the data inputs of a model, without its clock names
-pub inputs_some : (d : Design) (k : ℕ) (m : Model) → slice_get d.models k ≡ Some m → filter (λ net. not (is_clock_of d k net)) m.inputs ≡ data_inputs_of d k
-unfolding data_inputs
-inputs_some d k m here =
-    ap (λ (o : Option Model). filter (λ net. not (option_map_or (λ (n : Model). is_clock d n net) o false)) m.inputs) here
-    ∙ ap (λ (o : Option Model). option_map_or (data_inputs d) o []) (sym here)
-
-pub inputs_none : (d : Design) (k : ℕ) → slice_get d.models k ≡ None → data_inputs_of d k ≡ []
-inputs_none d k none = ap (λ (o : Option Model). option_map_or (data_inputs d) o []) none
 
 -- a list of pearls for instances, and one more
 pub pearls_more : (d : Design) (starts : List ℕ) (ps : List Pearl) (i start : ℕ) (pearl : Pearl) → length ps ≡ i → slice_get starts i ≡ Some start → instance_number d i d.root ≡ Some pearl.model → pearl.start ≡ start → ((j s : ℕ) (p : Pearl) → slice_get starts j ≡ Some s → slice_get ps j ≡ Some p → (instance_number d j d.root ≡ Some p.model) × (p.start ≡ s)) → (j s : ℕ) (p : Pearl) → slice_get starts j ≡ Some s → slice_get (ps ++ pearl ∷ []) j ≡ Some p → (instance_number d j d.root ≡ Some p.model) × (p.start ≡ s)

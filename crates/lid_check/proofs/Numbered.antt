@@ -11,12 +11,30 @@ use Rattle.lid_design.specs.Walks.{read_now, read_before, Feeds, Walk as WalkOf}
 use Rattle.lid_design.specs.Elaboration.{columns}
 use Rattle.lid_design.specs.Loops.{IsOnLoop as IsColumnOnLoop, HasNoLoop as HasNoColumnLoop}
 use Rattle.lid_digraph.specs.Graphs.{reads_at, IsGraph, Walk, IsOnLoop, HasNoLoop}
-use Rattle.lid_digraph.specs.Results.{IsLeastOnLoop}
-use Rattle.lid_elab.specs.Elaborations.{map_driver, column_at, IsElaborated}
+use Rattle.lid_digraph.specs.Results.{IsFound, IsLeastOnLoop}
+use Rattle.lid_digraph.specs.declared.topological.Found.{Found}
+use Rattle.lid_digraph.specs.declared.topological.Found.TheVariants.{Order}
+use Rattle.lid_elab.specs.Elaborations.{driver_reads, shown_driver, map_driver, column_at, IsElaborated}
+use Rattle.lid_elab.specs.declared.driver.ColumnDriver.{ColumnDriver}
+use Rattle.lid_elab.specs.declared.driver.ColumnDriver.TheVariants.{Input, Latch, Cover as OfCover, Connection}
 use Rattle.lid_rules.specs.declared.fault.CheckFault.TheVariants.{CombLoop}
 use Rattle.lid_check.specs.Acceptance.{TellsLoop}
 use Rattle.lid_check.specs.Flaws.{IsFirstOnLoop}
 use Rattle.lid_check.proofs.Lists.{to_numbers, from_numbers}
+
+-- what drivers read does not depend on what their covers are
+pub reads_shown : (d : Design) (ds : List ColumnDriver) → map driver_reads ds ≡ map read_now (map (shown_driver d) ds)
+reads_shown d [] = refl
+reads_shown d (x ∷ ds) =
+    let head = one x in
+    let tail = reads_shown d ds in
+    cc
+  where
+    one : (x : ColumnDriver) → driver_reads x ≡ read_now (shown_driver d x)
+    one (Input place) = refl
+    one (Latch first input) = refl
+    one (OfCover model cell inputs) = refl
+    one (Connection other) = refl
 
 read_now_map : {A B : Type 0} (f : A → B) (s : Driver A) → read_now (map_driver f s) ≡ map f (read_now s)
 read_now_map f (from_input j) = refl
@@ -123,6 +141,10 @@ module _ (d : Design) (network : List (Driver ℕ)) (starts : List ℕ) (is : Is
   no_loop none c on =
       let number = loop_number c on in
       none number.0 (loop_up number.0 number.1 (subst (λ (x : Column). IsColumnOnLoop d x) (sym number.2) on))
+
+  -- where numbers have an order, no column lies on a closed walk
+  pub ordered_has_none : (reads : List (List ℕ)) (found : Found) (order : List ℕ) → reads ≡ graph → IsFound reads found → found ≡ Order order → HasNoColumnLoop d
+  ordered_has_none reads found order same is ordered = no_loop (subst (λ (g : List (List ℕ)). HasNoLoop g) same (subst (λ (f : Found). IsFound reads f) ordered is).1)
 
   -- the least number on a closed walk is that of the first column on one
   pub first_loop : (k : ℕ) → IsLeastOnLoop graph k → IsFirstOnLoop d k

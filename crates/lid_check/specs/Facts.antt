@@ -7,6 +7,7 @@ use Rattle.lid_design.specs.Elaboration.{count_latches, count_defaulted}
 use Rattle.lid_design.specs.WellFormed.{IsWellFormed}
 use Rattle.lid_check.specs.declared.judging.Facts.{Facts}
 use Rattle.lid_check.specs.Acceptance.{IsAccepted}
+use Rattle.lid_check.specs.Networks.{IsNetwork}
 
 -- the design is accepted, and these are its inputs and counts
 pub record AreFacts (d : Design) (facts : Facts) : Type 0 where
@@ -16,3 +17,4 @@ pub record AreFacts (d : Design) (facts : Facts) : Type 0 where
   pub pearls : facts.pearls ≡ length (pearls d)
   pub latches : facts.latches ≡ count_latches d
   pub defaulted : facts.defaulted ≡ count_defaulted d
+  pub network : IsNetwork d facts.network

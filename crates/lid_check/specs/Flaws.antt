@@ -1,5 +1,5 @@
 -- Why the columns of a design are refused, by numbers.
-use Rattle.std.specs.Prelude.{◌≡◌, ℕ, ◌<◌, ◌⊎◌, Bool, List, Option, Some, None, slice_get}
+use Rattle.std.specs.Prelude.{◌≡◌, ℕ, ◌<◌, ◌⊎◌, Bool, List, map, Option, Some, None, slice_get}
 use Rattle.lid_base.specs.Lists.{Among}
 use Rattle.lid_design.specs.declared.Design.{Design}
 use Rattle.lid_design.specs.declared.Model.{Model}
@@ -10,6 +10,11 @@ use Rattle.lid_design.specs.Loops.{IsOnLoop, HasNoLoop}
 use Rattle.lid_rules.specs.declared.fault.CheckFault.{CheckFault}
 use Rattle.lid_check.specs.Acceptance.{TellsLoop, DependsOn, HasNoDependence, StandsBefore, TellsDependence}
 use Rattle.lid_check.specs.Pearls.{LeadsTo, NoneLeads, IsFirstInput}
+use Rattle.lid_digraph.specs.Graphs.{IsOrder}
+use Rattle.lid_elab.specs.declared.driver.ColumnDriver.{ColumnDriver}
+use Rattle.lid_elab.specs.Elaborations.{driver_reads}
+use Rattle.lid_check.specs.declared.flaws.Verdict.{Verdict}
+use Rattle.lid_check.specs.declared.flaws.Verdict.TheVariants.{Sound, Flawed}
 use Rattle.lid_check.specs.declared.flaws.Flaw.{Flaw}
 use Rattle.lid_check.specs.declared.flaws.Flaw.TheVariants.{Loop, Dependence}
 use Rattle.lid_check.specs.declared.outputs.Lead.{Lead}
@@ -63,10 +68,11 @@ abbrev pub IsFirstFlaw : Design → Flaw → Type 0
 IsFirstFlaw d (Loop k) = IsFirstOnLoop d k
 IsFirstFlaw d (Dependence lead) = HasNoLoop d × IsFirstDependence d lead
 
--- whether there is a reason to refuse the columns of a design, and which is the first
-abbrev pub FindsFlaw : Design → Option Flaw → Type 0
-FindsFlaw d None = HasNoLoop d × HasNoDependence d
-FindsFlaw d (Some flaw) = IsFirstFlaw d flaw
+-- there is no reason to refuse the columns of a design, and they have an order in which each stands after
+-- all that it reads in the same row; or this is the first reason
+abbrev pub IsVerdict : Design → List ColumnDriver → Verdict → Type 0
+IsVerdict d ds (Sound order) = HasNoLoop d × HasNoDependence d × IsOrder (map driver_reads ds) order
+IsVerdict d ds (Flawed flaw) = IsFirstFlaw d flaw
 
 -- the first reason to refuse the columns of a design is told
 abbrev pub TellsFlaw : Design → CheckFault → Type 0

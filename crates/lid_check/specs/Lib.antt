@@ -1,4 +1,6 @@
 pub mod Acceptance
+pub mod Blocks
 pub mod Facts
 pub mod Flaws
+pub mod Networks
 pub mod Pearls

@@ -6,9 +6,13 @@ ghost use Rattle.lid_design.specs.Loops.{pearls};
 ghost use Rattle.lid_design.specs.Elaboration.{count_latches, count_defaulted};
 ghost use Rattle.lid_design.specs.WellFormed.{IsWellFormed};
 ghost use Rattle.lid_rules.specs.declared.fault.CheckFault.TheVariants.{Memory};
+ghost use Rattle.lid_check.specs.Blocks.{IsBlock};
+ghost use Rattle.lid_check.specs.Networks.{IsNetwork};
 ghost use Rattle.lid_check.specs.Acceptance.{rooted_at, with_root, IsAccepted, IsRefused};
 
+use crate::blocks::{Block, block_of};
 use crate::judging::{Facts, accept};
+use crate::network::Network;
 use lid_base::Name;
 use lid_design::Design;
 use lid_rules::CheckFault;
@@ -139,6 +143,21 @@ impl Checked {
         ensures few { length result.now ≤ 1048576 }
     {
         self.root_model().outputs.as_slice()
+    }
+
+    /// The columns, as they are run.
+    pub fn network(&self) -> &Network
+        ensures { IsNetwork self.now result.now }
+    {
+        &self.facts.network
+    }
+
+    /// The numbers of the columns of a pearl and of all instances in it, which are consecutive.
+    pub fn block(&self, pearl: u32) -> Block
+        requires { pearl < length (pearls self.now) }
+        ensures { IsBlock self.now pearl result }
+    {
+        block_of(&self.facts.network.columns, pearl)
     }
 
     /// The root.

@@ -1,17 +1,18 @@
 //! Why the columns of a design are refused, by numbers, and how it is told by names.
 
-ghost use Rattle.std.specs.Prelude.{◌≡◌, ◌≤◌, Some, length, map, slice_get, IfOk};
-ghost use Rattle.lid_design.specs.Walks.{read_now};
-ghost use Rattle.lid_elab.specs.Elaborations.{shown_driver, IsElaborated};
+ghost use Rattle.std.specs.Prelude.{◌≡◌, Some, map, slice_get, IfOk};
+ghost use Rattle.lid_design.specs.Loops.{HasNoLoop};
+ghost use Rattle.lid_digraph.specs.Graphs.{IsOrder};
+ghost use Rattle.lid_elab.specs.Elaborations.{driver_reads};
 ghost use Rattle.lid_check.specs.Acceptance.{TellsLoop, TellsDependence};
 ghost use Rattle.lid_design.specs.Models.{data_inputs_of};
-ghost use Rattle.lid_check.specs.Flaws.{IsFirstOnLoop, IsFirstDependence, IsFirstFlaw, FindsFlaw, TellsFlaw};
+ghost use Rattle.lid_check.specs.Flaws.{IsFirstOnLoop, IsFirstDependence, IsFirstFlaw, IsVerdict, TellsFlaw};
 
 use crate::outputs::{Lead, find_dependence};
 use crate::pearls::find_inputs;
 use lid_base::{Items, Name, copy_name};
 use lid_digraph::{Digraph, Found, find_order};
-use lid_elab::{Elaboration, elaborate, find_column, find_reads};
+use lid_elab::{Elaboration, find_column, find_reads};
 use lid_hierarchy::Survey;
 use lid_rules::CheckFault;
 use lid_wiring::Judged;
@@ -26,43 +27,59 @@ pub(crate) enum Flaw {
     Dependence(Lead),
 }
 
-/// The first flaw of the columns of a design, where there is one.
+/// Whether the columns of a design have a flaw.
+#[derive(Drop)]
+pub(crate) enum Verdict {
+    /// They have none, and this is an order of them: each stands after all that it reads in the same
+    /// row.
+    Sound(Items<u32>),
+    /// This is the first.
+    Flawed(Flaw),
+}
+
+/// The first flaw of the columns of a design, where there is one, and else an order of them.
 ///
 /// # Errors
 /// Where there is no memory.
-pub(crate) fn find_flaw(alloc: Global, judged: &Judged<'_>) -> Result<Option<Flaw>, AllocError>
-    ensures { IfOk result (FindsFlaw judged.now) }
+pub(crate) fn find_flaw(alloc: Global, columns: &Elaboration<'_>) -> Result<Verdict, AllocError>
+    ensures { IfOk result (IsVerdict columns.now.design columns.now.drivers) }
 {
-    let columns = elaborate(alloc, judged)?;
-    let reads = find_reads(alloc, columns.drivers.as_slice())?;
-    find_among(alloc, judged.survey(), &columns, reads.as_slice())
+    let reads = find_reads(alloc, columns.drivers())?;
+    find_among(alloc, columns, reads.as_slice())
 }
 
 /// The first flaw of some columns, by what each reads in the same row.
 fn find_among(
     alloc: Global,
-    survey: &Survey<'_>,
     columns: &Elaboration<'_>,
     reads: &[Items<u32>],
-) -> Result<Option<Flaw>, AllocError>
-    requires elaborated { IsElaborated survey.now (map shown_driver columns.now.drivers) columns.now.starts }
-    requires few { length columns.now.drivers ≤ 1048576 }
-    requires reads { reads.now ≡ map read_now (map shown_driver columns.now.drivers) }
-    ensures { IfOk result (FindsFlaw survey.now) }
+) -> Result<Verdict, AllocError>
+    requires { reads.now ≡ map driver_reads columns.now.drivers }
+    ensures { IfOk result (IsVerdict columns.now.design columns.now.drivers) }
 {
+    let _ = columns.judged();
     let graph = Digraph { reads };
     match find_order(alloc, &graph)? {
-        Found::Order(order) => match find_dependence(
-            alloc,
-            survey,
-            columns,
-            &graph,
-            order.as_slice(),
-        )? {
-            Some(lead) => Ok(Some(Flaw::Dependence(lead))),
-            None => Ok(None),
-        },
-        Found::Loop(first) => Ok(Some(Flaw::Loop(first))),
+        Found::Order(order) => find_in_order(alloc, columns, &graph, order),
+        Found::Loop(first) => Ok(Verdict::Flawed(Flaw::Loop(first))),
+    }
+}
+
+/// The first flaw of some columns that have an order.
+fn find_in_order(
+    alloc: Global,
+    columns: &Elaboration<'_>,
+    graph: &Digraph<'_>,
+    order: Items<u32>,
+) -> Result<Verdict, AllocError>
+    requires reads { graph.now.reads.now ≡ map driver_reads columns.now.drivers }
+    requires order { IsOrder graph.now.reads.now order }
+    requires loops { HasNoLoop columns.now.design }
+    ensures { IfOk result (IsVerdict columns.now.design columns.now.drivers) }
+{
+    match find_dependence(alloc, columns, graph, order.as_slice())? {
+        Some(lead) => Ok(Verdict::Flawed(Flaw::Dependence(lead))),
+        None => Ok(Verdict::Sound(order)),
     }
 }
 

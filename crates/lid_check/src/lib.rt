@@ -1,13 +1,17 @@
 //! The test that accepts designs: which netlists are well made, and what is told of the others.
 #![tactic(auto)]
 
+mod blocks;
 mod checked;
 mod flaws;
 mod judging;
 mod laws;
+mod network;
 mod outputs;
 mod pearls;
 
+pub use blocks::Block;
 pub use checked::{Checked, check};
 pub use laws::acceptance_is_one;
 pub use lid_rules::CheckFault;
+pub use network::Network;

@@ -4,9 +4,8 @@ ghost use Rattle.std.specs.Prelude.{◌≡◌, ◌≤◌, ℕ, true, List, lengt
 ghost use Rattle.std.specs.List.{AllByRecursion};
 ghost use Rattle.std.specs.Option.{MatchOption};
 ghost use Rattle.lid_base.specs.Lists.{Among};
-ghost use Rattle.lid_design.specs.Walks.{read_now};
 ghost use Rattle.lid_digraph.specs.Graphs.{IsOrder};
-ghost use Rattle.lid_elab.specs.Elaborations.{shown_driver, IsElaborated};
+ghost use Rattle.lid_elab.specs.Elaborations.{driver_reads};
 ghost use Rattle.lid_design.specs.Models.{data_inputs_of};
 ghost use Rattle.lid_check.specs.Pearls.{is_marked, Fits, IsFirstMarked, AreUnmarked, LeadsTo, AreReachedIn, AreCutOff, AreLed, CutsOff, count_cut, IsFirstInput};
 ghost use Rattle.lid_check.specs.Flaws.{FindsLead, FindsDependence};
@@ -183,18 +182,16 @@ fn mark_led(
 /// Where there is no memory.
 pub(crate) fn find_dependence(
     alloc: Global,
-    survey: &Survey<'_>,
     columns: &Elaboration<'_>,
     graph: &Digraph<'_>,
     order: &[u32],
 ) -> Result<Option<Lead>, AllocError>
-    requires elaborated { IsElaborated survey.now (map shown_driver columns.now.drivers) columns.now.starts }
-    requires few { length columns.now.drivers ≤ 1048576 }
-    requires reads { graph.now.reads.now ≡ map read_now (map shown_driver columns.now.drivers) }
+    requires reads { graph.now.reads.now ≡ map driver_reads columns.now.drivers }
     requires order { IsOrder graph.now.reads.now order.now }
-    ensures { IfOk result (FindsDependence survey.now) }
+    ensures { IfOk result (FindsDependence columns.now.design) }
 {
-    let pearls = list_pearls(alloc, survey, columns.starts.as_slice())?;
+    let survey = columns.judged().survey();
+    let pearls = list_pearls(alloc, survey, columns.starts())?;
     let cut = mark_first(alloc, count_cut(survey), graph.reads.len())?;
     find_past(
         alloc,

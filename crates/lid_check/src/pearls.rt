@@ -1,8 +1,9 @@
 //! Pearls, and the numbers of their columns.
 
-ghost use Rattle.std.specs.Prelude.{◌≡◌, ◌⊎◌, ◌↔◌, ◌+◌, ◌<◌, ◌≤◌, ℕ, true, false, not, length, filter, IfOk, OnOk};
+ghost use Rattle.std.specs.Prelude.{◌≡◌, ◌⊎◌, ◌↔◌, ◌+◌, ◌<◌, ◌≤◌, ℕ, true, false, length, IfOk};
 ghost use Rattle.std.specs.List.{AllByRecursion};
-ghost use Rattle.lid_design.specs.Models.{IsReached, insts_of, is_clock_of, data_inputs_of};
+ghost use Rattle.lid_design.specs.Models.{IsReached, insts_of, data_inputs_of};
+ghost use Rattle.lid_names.specs.Names.{texts};
 ghost use Rattle.lid_digraph.specs.Graphs.{flag};
 ghost use Rattle.lid_check.specs.Pearls.{number_in, IsNumberOf, IsInputOf, Fits, is_marked, ArePearls};
 
@@ -19,25 +20,6 @@ pub(crate) struct Pearl {
     pub(crate) start: u32,
 }
 
-/// The names that are no clock names of a model.
-fn without_clocks(
-    alloc: Global,
-    survey: &Survey<'_>,
-    model: u32,
-    names: &[Name],
-) -> Result<Items<Name>, AllocError>
-    requires { IsReached survey.now model }
-    ensures { IfOk result (λ found. found ≡ filter (λ net. not (is_clock_of survey.now model net)) names.now) }
-{
-    let mut found = Vec::new(alloc);
-    for name in names {
-        if !survey.is_clock(model, name.as_slice()) {
-            found.push(copy_name(alloc, name.as_slice())?)?;
-        }
-    }
-    Ok(Items::from_vec(found))
-}
-
 /// The data inputs of a reached model, in order.
 ///
 /// # Errors
@@ -50,10 +32,18 @@ pub(crate) fn find_inputs(
     requires { IsReached survey.now model }
     ensures { IfOk result (λ names. names ≡ data_inputs_of survey.now model) }
 {
-    match survey.design().models.as_slice().get(model as usize) {
-        Some(body) => without_clocks(alloc, survey, model, body.inputs.as_slice()),
-        None => Ok(Items::from_vec(Vec::new(alloc))),
+    copy_all(alloc, survey.data_inputs(model))
+}
+
+/// Some names once more.
+fn copy_all(alloc: Global, names: &[&[u8]]) -> Result<Items<Name>, AllocError>
+    ensures { IfOk result (λ copied. copied ≡ texts names.now) }
+{
+    let mut copied = Vec::with_capacity(alloc, names.len())?;
+    for name in names {
+        copied.push(copy_name(alloc, name)?)?;
     }
+    Ok(Items::from_vec(copied))
 }
 
 /// A pearl for each instance of the root, by the numbers of their first columns.
@@ -138,32 +128,25 @@ fn mark_net(marks: &mut [bool], survey: &Survey<'_>, pearl: Pearl, net: &[u8])
 }
 
 /// Marks the columns of some nets of a pearl.
-fn mark_nets(marks: &mut [bool], survey: &Survey<'_>, pearl: Pearl, nets: &[Name])
+fn mark_nets(marks: &mut [bool], survey: &Survey<'_>, pearl: Pearl, nets: &[&[u8]])
     requires fits { Fits survey.now (length marks.old) pearl }
     requires few { length marks.old ≤ 1048576 }
-    ensures { (k : ℕ) → (flag marks.new k ≡ true) ↔ ((flag marks.old k ≡ true) ⊎ IsNumberOf survey.now pearl nets.now k) }
+    ensures { (k : ℕ) → (flag marks.new k ≡ true) ↔ ((flag marks.old k ≡ true) ⊎ IsNumberOf survey.now pearl (texts nets.now) k) }
 {
     for net in nets {
-        mark_net(marks, survey, pearl, net.as_slice());
+        mark_net(marks, survey, pearl, net);
     }
 }
 
 /// Marks the columns of the data inputs of some pearls.
-fn mark_inputs(
-    alloc: Global,
-    marks: &mut [bool],
-    survey: &Survey<'_>,
-    pearls: &[Pearl],
-) -> Result<(), AllocError>
+fn mark_inputs(marks: &mut [bool], survey: &Survey<'_>, pearls: &[Pearl])
     requires fit { AllByRecursion (Fits survey.now (length marks.old)) pearls.now }
     requires few { length marks.old ≤ 1048576 }
-    ensures { OnOk result ((k : ℕ) → (flag marks.new k ≡ true) ↔ ((flag marks.old k ≡ true) ⊎ IsInputOf survey.now pearls.now k)) }
+    ensures { (k : ℕ) → (flag marks.new k ≡ true) ↔ ((flag marks.old k ≡ true) ⊎ IsInputOf survey.now pearls.now k) }
 {
     for pearl in pearls {
-        let inputs = find_inputs(alloc, survey, pearl.model)?;
-        mark_nets(marks, survey, *pearl, inputs.as_slice());
+        mark_nets(marks, survey, *pearl, survey.data_inputs(pearl.model));
     }
-    Ok(())
 }
 
 /// For each column whether it is that of a data input of a pearl.
@@ -182,7 +165,7 @@ pub(crate) fn find_starts(
     ensures exact { IfOk result (λ starts. (k : ℕ) → (flag starts k ≡ true) ↔ IsInputOf survey.now pearls.now k) }
 {
     let mut starts = Vec::from_elem(alloc, false, count)?;
-    mark_inputs(alloc, starts.as_mut_slice(), survey, pearls)?;
+    mark_inputs(starts.as_mut_slice(), survey, pearls);
     Ok(Items::from_vec(starts))
 }
 

@@ -23,7 +23,7 @@ const NESTED: &str =
 .outputs o\n.subckt mid d=x q=o c=ck\n.end\n";
 
 /// A driver in words and numbers.
-fn shown(alloc: Global, driver: &ColumnDriver<'_>) -> Result<String, AllocError> {
+fn shown(alloc: Global, driver: &ColumnDriver) -> Result<String, AllocError> {
     match driver {
         ColumnDriver::Input(place) => format!(in alloc; "input {place}"),
         ColumnDriver::Latch { first, input } => format!(in alloc; "latch {first} {input}"),
@@ -44,18 +44,18 @@ fn shown_cover(alloc: Global, inputs: &[u32]) -> Result<String, AllocError> {
 /// The drivers and the starts of an elaboration, one a line.
 fn lines(alloc: Global, elaboration: &Elaboration<'_>) -> Result<String, AllocError> {
     let mut text = String::new(alloc);
-    for driver in elaboration.drivers.as_slice() {
+    for driver in elaboration.drivers() {
         text.push_str(shown(alloc, driver)?.as_str())?;
         text.push('\n')?;
     }
-    for start in elaboration.starts.as_slice() {
+    for start in elaboration.starts() {
         text.push_str(format!(in alloc; "start {start}\n")?.as_str())?;
     }
     Ok(text)
 }
 
 /// Whether the columns of a design that meets the conditions on models have these lines.
-fn has_lines(alloc: Global, judged: &Judged<'_>, wanted: &str) -> Result<bool, AllocError> {
+fn has_lines(alloc: Global, judged: Judged<'_>, wanted: &str) -> Result<bool, AllocError> {
     let elaboration = elaborate(alloc, judged)?;
     let text = lines(alloc, &elaboration)?;
     Ok(text.as_str() == wanted)
@@ -66,10 +66,7 @@ fn is_elaborated(alloc: Global, design: &Design, wanted: &str) -> Result<bool, A
     requires { IsWellFormed design.now }
 {
     match check_models(alloc, design) {
-        Ok(survey) => {
-            let judged = judge(survey);
-            has_lines(alloc, &judged, wanted)
-        }
+        Ok(survey) => has_lines(alloc, judge(survey), wanted),
         Err(_) => Ok(false),
     }
 }

@@ -27,7 +27,7 @@ use Rattle.lid_elab.proofs.Counting.{model_below}
 -- what was pushed and what is left are what was there at first and all that is pushed
 pub record Left (d : Design) (k : ℕ) (now : Driven) (rest : List NetLocal) (old : Driven) (whole : List NetLocal) : Type 0 where
   pub nets : texts now.nets.items ++ map net_of rest ≡ texts old.nets.items ++ map net_of whole
-  pub locals : map shown_local now.locals.items ++ map (numbered_local d k) rest ≡ map shown_local old.locals.items ++ map (numbered_local d k) whole
+  pub locals : map (shown_local d) now.locals.items ++ map (numbered_local d k) rest ≡ map (shown_local d) old.locals.items ++ map (numbered_local d k) whole
 
 -- some items go from what is left to what is there
 moved : {A B : Type 0} (f : A → B) (xs ys : List B) (ps rest : List A) (total : List B) → ys ≡ xs ++ map f ps → xs ++ map f (ps ++ rest) ≡ total → ys ++ map f rest ≡ total
@@ -110,7 +110,7 @@ module _ (d : Design) (k : ℕ) where
   left_next : (ps rest : List NetLocal) (now new old : Driven) (whole : List NetLocal) → Grows d k ps now new → Left d k now (ps ++ rest) old whole → Left d k new rest old whole
   left_next ps rest now new old whole grows left = record {
     nets = moved net_of (texts now.nets.items) (texts new.nets.items) ps rest _ grows.nets left.nets;
-    locals = moved (numbered_local d k) (map shown_local now.locals.items) (map shown_local new.locals.items) ps rest _ grows.locals left.locals;
+    locals = moved (numbered_local d k) (map (shown_local d) now.locals.items) (map (shown_local d) new.locals.items) ps rest _ grows.locals left.locals;
   }
 
   -- an item of a list that is worked through was pushed
@@ -123,23 +123,26 @@ module _ (d : Design) (k : ℕ) where
   pub left_end : (now old : Driven) (whole rest : List NetLocal) → rest ≡ [] → Left d k now rest old whole → Grows d k whole old now
   left_end now old whole rest none left = record {
     nets = sym (append-nil (texts now.nets.items)) ∙ ap (λ (qs : List NetLocal). texts now.nets.items ++ map net_of qs) (sym none) ∙ left.nets;
-    locals = sym (append-nil (map shown_local now.locals.items)) ∙ ap (λ (qs : List NetLocal). map shown_local now.locals.items ++ map (numbered_local d k) qs) (sym none) ∙ left.locals;
+    locals = sym (append-nil (map (shown_local d) now.locals.items)) ∙ ap (λ (qs : List NetLocal). map (shown_local d) now.locals.items ++ map (numbered_local d k) qs) (sym none) ∙ left.locals;
   }
 
   pub grows_none : (now : Driven) → Grows d k [] now now
-  grows_none now = record { nets = sym (append-nil (texts now.nets.items)); locals = sym (append-nil (map shown_local now.locals.items)) }
+  grows_none now = record { nets = sym (append-nil (texts now.nets.items)); locals = sym (append-nil (map (shown_local d) now.locals.items)) }
 
   -- one net was pushed
-  pub grows_one : (net : List ℕ) (local : LocalDriver) (l : Local (List ℕ)) (old new : Driven) → texts new.nets.items ≡ texts old.nets.items ++ net ∷ [] → map shown_local new.locals.items ≡ map shown_local old.locals.items ++ shown_local local ∷ [] → shown_local local ≡ numbered d k l → Grows d k ((net, l) ∷ []) old new
+  pub grows_one : (net : List ℕ) (local : LocalDriver) (l : Local (List ℕ)) (old new : Driven) → texts new.nets.items ≡ texts old.nets.items ++ net ∷ [] → new.locals.items ≡ old.locals.items ++ local ∷ [] → shown_local d local ≡ numbered d k l → Grows d k ((net, l) ∷ []) old new
   grows_one net local l old new nets locals same = record {
     nets = nets;
-    locals = locals ∙ ap (λ (x : Local ℕ). map shown_local old.locals.items ++ x ∷ []) same;
+    locals =
+        ap (map (shown_local d)) locals
+        ∙ map-append (shown_local d) old.locals.items (local ∷ [])
+        ∙ ap (λ (x : Local ℕ). map (shown_local d) old.locals.items ++ x ∷ []) same;
   }
 
   grows_both : (ps qs : List NetLocal) (a b c : Driven) → Grows d k ps a b → Grows d k qs b c → Grows d k (ps ++ qs) a c
   grows_both ps qs a b c first second = record {
     nets = after_both net_of (texts a.nets.items) (texts b.nets.items) (texts c.nets.items) ps qs first.nets second.nets;
-    locals = after_both (numbered_local d k) (map shown_local a.locals.items) (map shown_local b.locals.items) (map shown_local c.locals.items) ps qs first.locals second.locals;
+    locals = after_both (numbered_local d k) (map (shown_local d) a.locals.items) (map (shown_local d) b.locals.items) (map (shown_local d) c.locals.items) ps qs first.locals second.locals;
   }
 
   -- inputs that are no clock names, one by one
@@ -155,18 +158,6 @@ module _ (d : Design) (k : ℕ) where
       by : (b : Bool) → cond (not b) (x ∷ data_of d k ys) (data_of d k ys) ≡ cond (not b) (x ∷ []) [] ++ data_of d k ys
       by true = refl
       by false = refl
-
-  -- a number was pushed for an input
-  pub placed_one : (g : List ℕ → ℕ) (x : List ℕ) (old new : List ℕ) (n : ℕ) → is_clock_of d k x ≡ false → new ≡ old ++ n ∷ [] → n ≡ g x → new ≡ old ++ map g (data_of d k (x ∷ []))
-  placed_one g x old new n free pushed same = pushed ∙ ap (λ (m : ℕ). old ++ m ∷ []) same ∙ ap (λ (ns : List (List ℕ)). old ++ map g ns) (sym (data_one x free))
-
-  pub placed_none : (g : List ℕ → ℕ) (x : List ℕ) (old : List ℕ) → is_clock_of d k x ≡ true → old ≡ old ++ map g (data_of d k (x ∷ []))
-  placed_none g x old clock = sym (append-nil old) ∙ ap (λ (ns : List (List ℕ)). old ++ map g ns) (sym (data_none x clock))
-
-  pub placed_next : (g : List ℕ → ℕ) (xs : List (List ℕ)) (i : ℕ) (x : List ℕ) → i < length xs → x ≡ get_or xs i x → (old new total : List ℕ) → new ≡ old ++ map g (data_of d k (x ∷ [])) → old ++ map g (data_of d k (drop i xs)) ≡ total → new ++ map g (data_of d k (drop (i + 1) xs)) ≡ total
-  placed_next g xs i x below is old new total pushed before =
-      let rest : data_of d k (drop i xs) ≡ data_of d k (x ∷ []) ++ data_of d k (drop (i + 1) xs) = ap (data_of d k) (drop_item xs i x below is) ∙ data_cons x (drop (i + 1) xs) in
-      moved g old new (data_of d k (x ∷ [])) (data_of d k (drop (i + 1) xs)) total pushed (ap (λ (ns : List (List ℕ)). old ++ map g ns) (sym rest) ∙ before)
 
   pub inputs_cons : (count : ℕ) (x : List ℕ) (ys : List (List ℕ)) → inputs_from count (data_of d k (x ∷ ys)) ≡ inputs_from count (data_of d k (x ∷ [])) ++ inputs_from (count + length (data_of d k (x ∷ []))) (data_of d k ys)
   inputs_cons count x ys = by (is_clock_of d k x)
@@ -193,7 +184,7 @@ module _ (d : Design) (k : ℕ) where
     inputs_are = data_is ∙ sym (ap (λ (o : Option Model). option_map_or (data_inputs d) o []) here)
 
     -- all that drives nets of a model
-    pub shows_all : (a b c e : Driven) → texts a.nets.items ≡ [] → map shown_local a.locals.items ≡ [] → Grows d k (inputs_from 0 (data_of d k m.inputs)) a b → Grows d k (map local_of m.cells) b c → Grows d k (flat_map (outputs_of d) (enumerate_from 0 m.insts)) c e → Shows d k (model_locals d k) e
+    pub shows_all : (a b c e : Driven) → texts a.nets.items ≡ [] → map (shown_local d) a.locals.items ≡ [] → Grows d k (inputs_from 0 (data_of d k m.inputs)) a b → Grows d k (map local_of m.cells) b c → Grows d k (flat_map (outputs_of d) (enumerate_from 0 m.insts)) c e → Shows d k (model_locals d k) e
     unfolding locals
     shows_all a b c e no_nets no_locals first second third =
         let inner = map local_of m.cells ++ flat_map (outputs_of d) (enumerate_from 0 m.insts) in

@@ -84,8 +84,8 @@ get_of (x ∷ xs) (suc i) less = get_of xs i (omega arith)
 module _ (d : Design) (judged : IsJudged d) (path : List ℕ) (k : ℕ) (leads : number_from d d.root path ≡ Some k) (t : Template) (is : IsTemplate d k t) (around : Option (ℕ × List ℕ)) (outer : IsOuter d path k around) where
   -- what a pick stands for
   record IsPlaced (net : List ℕ) (pick : ℕ) : Type 0 where
-    right : IsOnlyDriver d (column path net) (picked (start_of d path) t.offsets around t.locals pick)
-    small : IsSmallAt t.offsets around (slice_get t.locals pick)
+    right : IsOnlyDriver d (column path net) (picked d (start_of d path) t.offsets around t.locals pick)
+    small : IsSmallAt d t.offsets around (slice_get t.locals pick)
     there : pick < length t.locals
 
   at_net : (j pick : ℕ) (net : List ℕ) → slice_get t.picks j ≡ Some pick → slice_get (model_nets d k) j ≡ Some net → IsPlaced net pick
@@ -95,7 +95,7 @@ module _ (d : Design) (judged : IsJudged d) (path : List ℕ) (k : ℕ) (leads :
       p = is.picked.each j pick net at named
 
       driver : Option LocalDriver → Driver ℕ
-      driver o = option_map_or (λ x. placed (start_of d path) t.offsets around (shown_local x)) o (from_input 0)
+      driver o = option_map_or (λ x. placed (start_of d path) t.offsets around (shown_local d x)) o (from_input 0)
 
       by : (o : Option Model) → slice_get d.models k ≡ o → IsPlaced net pick
       by None e = absurd (let none : None ≡ Some net = ap (λ (o : Option Model). slice_get (option_map_or (nets d) o []) j) (sym e) ∙ named in cc)
@@ -109,7 +109,7 @@ module _ (d : Design) (judged : IsJudged d) (path : List ℕ) (k : ℕ) (leads :
           let small = net_small d judged path k m leads e t.offsets is.offsets.each insts (few_columns d judged) around fit net p.local one in
           record {
             right = subst (IsOnlyDriver d (column path net)) (ap (placed (start_of d path) t.offsets around) (sym p.shown) ∙ sym (ap driver p.here)) right;
-            small = subst (IsSmallAt t.offsets around) (sym p.here) (subst (IsSmall t.offsets around) (sym p.shown) small);
+            small = subst (IsSmallAt d t.offsets around) (sym p.here) (subst (IsSmall t.offsets around) (sym p.shown) small);
             there = slice_get_within t.locals pick p.driver p.here;
           }
 
@@ -121,15 +121,15 @@ module _ (d : Design) (judged : IsJudged d) (path : List ℕ) (k : ℕ) (leads :
   pub picks_within : All (λ pick. pick < length t.locals) t.picks
   picks_within j e less = (placed_at j e less).2.there
 
-  pub picks_small : All (λ pick. IsSmallAt t.offsets around (slice_get t.locals pick)) t.picks
+  pub picks_small : All (λ pick. IsSmallAt d t.offsets around (slice_get t.locals pick)) t.picks
   picks_small j e less = (placed_at j e less).2.small
 
   -- what is written goes on with the columns of the place
-  pub placed_more : (old new : List (Driver ℕ)) → start_of d path ≡ length old → ArePlaced d old → new ≡ old ++ map (picked (start_of d path) t.offsets around t.locals) t.picks → ArePlaced d new
-  placed_more old new start before whole n c s at here = by (get_split old (map (picked (start_of d path) t.offsets around t.locals) t.picks) n s (ap (λ (ss : List (Driver ℕ)). slice_get ss n) (sym whole) ∙ here))
+  pub placed_more : (old new : List (Driver ℕ)) → start_of d path ≡ length old → ArePlaced d old → new ≡ old ++ map (picked d (start_of d path) t.offsets around t.locals) t.picks → ArePlaced d new
+  placed_more old new start before whole n c s at here = by (get_split old (map (picked d (start_of d path) t.offsets around t.locals) t.picks) n s (ap (λ (ss : List (Driver ℕ)). slice_get ss n) (sym whole) ∙ here))
     where
       driver : ℕ → Driver ℕ
-      driver pick = picked (start_of d path) t.offsets around t.locals pick
+      driver pick = picked d (start_of d path) t.offsets around t.locals pick
 
       by : (slice_get old n ≡ Some s) ⊎ ((j : ℕ) × (n ≡ length old + j) × (slice_get (map driver t.picks) j ≡ Some s)) → IsOnlyDriver d c s
       by (inl first) = before n c s at first
@@ -141,12 +141,12 @@ module _ (d : Design) (judged : IsJudged d) (path : List ℕ) (k : ℕ) (leads :
           let same_column : column path named.0 ≡ c = (let f : Some (column path named.0) ≡ Some c = sym column_here ∙ ap (slice_get (columns d)) (sym number) ∙ at in cc) in
           subst (λ (x : Column). IsOnlyDriver d x s) same_column (subst (IsOnlyDriver d (column path named.0)) found.2 (at_net j found.0 named.0 found.1 named.1).right)
 
-pub same_network : (s r : ℕ) (os qs : List ℕ) (around : Option (ℕ × List ℕ)) (ls ms : List LocalDriver) (ps ns : List ℕ) → s ≡ r → os ≡ qs → ls ≡ ms → ps ≡ ns → map (picked s os around ls) ps ≡ map (picked r qs around ms) ns
-same_network s r os qs around ls ms ps ns a b e f =
-    ap (λ (s : ℕ). map (picked s os around ls) ps) a
-    ∙ ap (λ (os : List ℕ). map (picked r os around ls) ps) b
-    ∙ ap (λ (ls : List LocalDriver). map (picked r qs around ls) ps) e
-    ∙ ap (λ (ps : List ℕ). map (picked r qs around ms) ps) f
+pub same_network : (d : Design) (s r : ℕ) (os qs : List ℕ) (around : Option (ℕ × List ℕ)) (ls ms : List LocalDriver) (ps ns : List ℕ) → s ≡ r → os ≡ qs → ls ≡ ms → ps ≡ ns → map (picked d s os around ls) ps ≡ map (picked d r qs around ms) ns
+same_network d s r os qs around ls ms ps ns a b e f =
+    ap (λ (s : ℕ). map (picked d s os around ls) ps) a
+    ∙ ap (λ (os : List ℕ). map (picked d r os around ls) ps) b
+    ∙ ap (λ (ls : List LocalDriver). map (picked d r qs around ls) ps) e
+    ∙ ap (λ (ps : List ℕ). map (picked d r qs around ms) ps) f
 
 pub on_ok : {A E : Type 0} {P Q : Type 0} → (P → Q) → (r : Result A E) → OnOk r P → OnOk r Q
 on_ok f (Ok x) h = f h

@@ -57,9 +57,9 @@ module _ (d : Design) (judged : IsJudged d) (k : ℕ) (reached : IsReached d k) 
           by (inl same) = same
           by (inr none) = absurd none
 
-      found : (x : LocalDriver) × (slice_get driven.locals.items place ≡ Some x) × (shown_local x ≡ numbered d k pair.0.1)
-      found = map_some shown_local (slice_get driven.locals.items place) (numbered d k pair.0.1)
-          (sym (slice_get-map shown_local driven.locals.items place)
+      found : (x : LocalDriver) × (slice_get driven.locals.items place ≡ Some x) × (shown_local d x ≡ numbered d k pair.0.1)
+      found = map_some (shown_local d) (slice_get driven.locals.items place) (numbered d k pair.0.1)
+          (sym (slice_get-map (shown_local d) driven.locals.items place)
           ∙ ap (λ (ls : List (Local ℕ)). slice_get ls place) shows.locals
           ∙ slice_get-map (numbered_local d k) (locals d m) place
           ∙ ap (option_map (numbered_local d k)) pair.1)

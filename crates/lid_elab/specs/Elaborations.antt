@@ -8,16 +8,24 @@ use Rattle.lid_design.specs.Columns.{Column, column, drivers}
 use Rattle.lid_design.specs.Walks.{read_now, read_before, IsDriven}
 use Rattle.lid_design.specs.Models.{insts_of, instance_number, number_from}
 use Rattle.lid_design.specs.Elaboration.{columns, model_nets}
+use Rattle.lid_elab.specs.Covers.{cover_in}
 use Rattle.lid_elab.specs.Numbers.{columns_in, StandsAt}
 use Rattle.lid_elab.specs.declared.driver.ColumnDriver.{ColumnDriver}
 use Rattle.lid_elab.specs.declared.driver.ColumnDriver.TheVariants.{Input, Latch, Cover as OfCover, Connection}
 
 -- a driver reads the columns of some numbers
-abbrev pub shown_driver : ColumnDriver → Driver ℕ
-shown_driver (Input place) = from_input place
-shown_driver (Latch first input) = from_latch first input
-shown_driver (OfCover cover inputs) = from_cover cover.now inputs
-shown_driver (Connection other) = from_connection other
+abbrev pub shown_driver : Design → ColumnDriver → Driver ℕ
+shown_driver d (Input place) = from_input place
+shown_driver d (Latch first input) = from_latch first input
+shown_driver d (OfCover model cell inputs) = from_cover (cover_in d model cell) inputs
+shown_driver d (Connection other) = from_connection other
+
+-- the columns that a driver reads in the same row
+abbrev pub driver_reads : ColumnDriver → List ℕ
+driver_reads (Input place) = []
+driver_reads (Latch first input) = []
+driver_reads (OfCover model cell inputs) = inputs
+driver_reads (Connection other) = other ∷ []
 
 -- what gives a bit, with the columns that it reads named otherwise
 abbrev pub map_driver : {A B : Type 0} → (A → B) → Driver A → Driver B

@@ -1,3 +1,5 @@
+pub mod Covers
+pub mod Elaborated
 pub mod Elaborations
 pub mod Numbers
 pub mod Templates

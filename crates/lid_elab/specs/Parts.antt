@@ -36,12 +36,12 @@ numbered_local d k p = numbered d k p.1
 -- some drivers of nets of model k were pushed
 pub record Grows (d : Design) (k : ℕ) (ps : List NetLocal) (old new : Driven) : Type 0 where
   pub nets : texts new.nets.items ≡ texts old.nets.items ++ map net_of ps
-  pub locals : map shown_local new.locals.items ≡ map shown_local old.locals.items ++ map (numbered_local d k) ps
+  pub locals : map (shown_local d) new.locals.items ≡ map (shown_local d) old.locals.items ++ map (numbered_local d k) ps
 
 -- these are drivers of nets of model k
 pub record Shows (d : Design) (k : ℕ) (ps : List NetLocal) (driven : Driven) : Type 0 where
   pub nets : texts driven.nets.items ≡ map net_of ps
-  pub locals : map shown_local driven.locals.items ≡ map (numbered_local d k) ps
+  pub locals : map (shown_local d) driven.locals.items ≡ map (numbered_local d k) ps
 
 -- the inputs of a list that are no clock names of the model of a number
 abbrev pub data_of : Design → ℕ → List (List ℕ) → List (List ℕ)
@@ -68,7 +68,7 @@ pub record IsPicked (d : Design) (k : ℕ) (all : List LocalDriver) (pick : ℕ)
   pub only : of_net net (model_locals d k) ≡ local ∷ []
   pub driver : LocalDriver
   pub here : slice_get all pick ≡ Some driver
-  pub shown : shown_local driver ≡ numbered d k local
+  pub shown : shown_local d driver ≡ numbered d k local
 
 -- for each net of a model, the place among some drivers of what drives it
 pub record ArePicked (d : Design) (k : ℕ) (all : List LocalDriver) (picks : List ℕ) : Type 0 where

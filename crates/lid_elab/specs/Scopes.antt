@@ -49,8 +49,8 @@ weights d [] = 0
 weights d (p ∷ ps) = weight_of d p.model + weights d ps
 
 -- the driver of a pick
-abbrev pub picked : ℕ → List ℕ → Option (ℕ × List ℕ) → List LocalDriver → ℕ → Driver ℕ
-picked start offsets around all pick = option_map_or (λ x. placed start offsets around (shown_local x)) (slice_get all pick) (from_input 0)
+abbrev pub picked : Design → ℕ → List ℕ → Option (ℕ × List ℕ) → List LocalDriver → ℕ → Driver ℕ
+picked d start offsets around all pick = option_map_or (λ x. placed start offsets around (shown_local d x)) (slice_get all pick) (from_input 0)
 
 -- the path leads into an instance: the nets of the model around it start at the first number, and its
 -- data inputs are bound to those at the second numbers
@@ -71,6 +71,6 @@ IsOuter d path k None = path ≡ []
 IsOuter d path k (Some around) = StandsIn d path k around.0 around.1
 
 -- what a pick stands for has small numbers
-abbrev pub IsSmallAt : List ℕ → Option (ℕ × List ℕ) → Option LocalDriver → Type 0
-IsSmallAt offsets around None = ⊤
-IsSmallAt offsets around (Some x) = IsSmall offsets around (shown_local x)
+abbrev pub IsSmallAt : Design → List ℕ → Option (ℕ × List ℕ) → Option LocalDriver → Type 0
+IsSmallAt d offsets around None = ⊤
+IsSmallAt d offsets around (Some x) = IsSmall offsets around (shown_local d x)

@@ -9,15 +9,16 @@ use Rattle.lid_design.specs.Network.{Driver, from_input, from_connection}
 use Rattle.lid_design.specs.Models.{instance_number}
 use Rattle.lid_design.specs.Elaboration.{model_nets}
 use Rattle.lid_wiring.specs.Locals.{Local, resolved, local_input, local_latch, local_cover, local_connection}
+use Rattle.lid_elab.specs.Covers.{cover_in}
 use Rattle.lid_elab.specs.declared.template.LocalDriver.{LocalDriver}
 use Rattle.lid_elab.specs.declared.template.LocalDriver.TheVariants.{Input, Latch, Cover as OfCover, Connection}
 
 -- what a driver in a model stands for
-abbrev pub shown_local : LocalDriver → Local ℕ
-shown_local (Input place) = local_input place
-shown_local (Latch first input) = local_latch first input
-shown_local (OfCover cover inputs) = local_cover cover.now inputs
-shown_local (Connection inst net) = local_connection inst net
+abbrev pub shown_local : Design → LocalDriver → Local ℕ
+shown_local d (Input place) = local_input place
+shown_local d (Latch first input) = local_latch first input
+shown_local d (OfCover model cell inputs) = local_cover (cover_in d model cell) inputs
+shown_local d (Connection inst net) = local_connection inst net
 
 -- the place of a net among those of a model
 abbrev pub place_in : Design → ℕ → List ℕ → ℕ

@@ -1,9 +1,8 @@
 use lid_base::Items;
-use lid_cover::Cover;
 
 /// What gives a column its bit. Other columns are named by their numbers.
 #[derive(Drop)]
-pub enum ColumnDriver<'d> {
+pub enum ColumnDriver {
     /// A data input of the root, by its place among them.
     Input(u32),
     /// A latch, that begins with the bit `first`.
@@ -11,9 +10,10 @@ pub enum ColumnDriver<'d> {
         first: bool,
         input: u32,
     },
-    /// A cover, with its inputs in order.
+    /// The cover of a cell of a model, with its inputs in order.
     Cover {
-        cover: &'d Cover,
+        model: u32,
+        cell: u32,
         inputs: Items<u32>,
     },
     /// The other side of a binding.

@@ -5,12 +5,10 @@ ghost use Rattle.lid_design.specs.Columns.{column};
 ghost use Rattle.lid_design.specs.Models.{IsReached, instance_number};
 ghost use Rattle.lid_design.specs.Elaboration.{columns, model_nets};
 ghost use Rattle.lid_elab.specs.Numbers.{size_of, offset_of, IsSpot};
-ghost use Rattle.lid_wiring.specs.Judged.{IsJudged};
 ghost use Rattle.lid_elab.specs.Parts.{AreTemplates};
 
 use crate::template::{Template, find_templates};
 use lid_base::{Items, Name, copy_name};
-use lid_hierarchy::Survey;
 use lid_wiring::Judged;
 use std::alloc::{AllocError, Global};
 
@@ -35,50 +33,48 @@ pub fn find_column(
     requires { number < length (columns judged.now) }
     ensures { IfOk result (λ found. slice_get (columns judged.now) number ≡ Some (column (reverse found.0) found.1)) }
 {
-    let survey = judged.survey();
-    let templates = find_templates(alloc, survey)?;
-    find_by(alloc, survey, templates.as_slice(), number)
+    let templates = find_templates(alloc, judged)?;
+    find_by(alloc, judged, templates.as_slice(), number)
 }
 
 /// The path and the name of a column, by what is known of the models.
 fn find_by(
     alloc: Global,
-    survey: &Survey<'_>,
-    templates: &[Template<'_>],
+    judged: &Judged<'_>,
+    templates: &[Template],
     number: u32,
 ) -> Result<(Items<u32>, Name), AllocError>
-    requires judged { IsJudged survey.now }
-    requires templates { AreTemplates survey.now templates.now }
-    requires exists { number < length (columns survey.now) }
-    ensures { IfOk result (λ found. slice_get (columns survey.now) number ≡ Some (column (reverse found.0) found.1)) }
+    requires templates { AreTemplates judged.now templates.now }
+    requires exists { number < length (columns judged.now) }
+    ensures { IfOk result (λ found. slice_get (columns judged.now) number ≡ Some (column (reverse found.0) found.1)) }
 {
+    let _ = judged.design();
     let mut path = Vec::new(alloc);
-    let spot = enter_all(survey, templates, number, &mut path)?;
-    let name = copy_name(alloc, net_of(survey, spot))?;
+    let spot = enter_all(judged, templates, number, &mut path)?;
+    let name = copy_name(alloc, net_of(judged, spot))?;
     Ok((Items::from_vec(path), name))
 }
 
 /// Pushes the instances that a column stands in, from the root's on, and answers where it stands in
 /// the last one.
 fn enter_all(
-    survey: &Survey<'_>,
-    templates: &[Template<'_>],
+    judged: &Judged<'_>,
+    templates: &[Template],
     number: u32,
     path: &mut Vec<u32>,
 ) -> Result<Spot, AllocError>
-    requires judged { IsJudged survey.now }
-    requires templates { AreTemplates survey.now templates.now }
-    requires exists { number < length (columns survey.now) }
+    requires templates { AreTemplates judged.now templates.now }
+    requires exists { number < length (columns judged.now) }
     requires none { path.old.items ≡ [] }
-    ensures spot { IfOk result (λ spot. IsSpot survey.now (reverse path.new.items) spot.model spot.number number) }
-    ensures net { IfOk result (λ spot. spot.number < length (model_nets survey.now spot.model)) }
+    ensures spot { IfOk result (λ spot. IsSpot judged.now (reverse path.new.items) spot.model spot.number number) }
+    ensures net { IfOk result (λ spot. spot.number < length (model_nets judged.now spot.model)) }
 {
     let mut spot = Spot {
-        model: survey.design().root,
+        model: judged.design().root,
         number,
     };
-    while survey.count_nets(spot.model) <= spot.number as usize {
-        let (inst, inner) = enter(survey, templates, spot);
+    while judged.count_nets(spot.model) <= spot.number as usize {
+        let (inst, inner) = enter(judged, templates, spot);
         path.push(inst)?;
         spot = inner;
     }
@@ -86,20 +82,20 @@ fn enter_all(
 }
 
 /// The instance that a column past the nets of a model stands in, and the column in there.
-fn enter(survey: &Survey<'_>, templates: &[Template<'_>], spot: Spot) -> (u32, Spot)
-    requires judged { IsJudged survey.now }
-    requires templates { AreTemplates survey.now templates.now }
-    requires reached { IsReached survey.now spot.model }
-    requires past { length (model_nets survey.now spot.model) ≤ spot.number }
-    requires within { spot.number < size_of survey.now spot.model }
-    ensures model { instance_number survey.now result.0 spot.model ≡ Some result.1.model }
-    ensures number { spot.number ≡ offset_of survey.now spot.model result.0 + result.1.number }
-    ensures within { result.1.number < size_of survey.now result.1.model }
+fn enter(judged: &Judged<'_>, templates: &[Template], spot: Spot) -> (u32, Spot)
+    requires templates { AreTemplates judged.now templates.now }
+    requires reached { IsReached judged.now spot.model }
+    requires past { length (model_nets judged.now spot.model) ≤ spot.number }
+    requires within { spot.number < size_of judged.now spot.model }
+    ensures model { instance_number judged.now result.0 spot.model ≡ Some result.1.model }
+    ensures number { spot.number ≡ offset_of judged.now spot.model result.0 + result.1.number }
+    ensures within { result.1.number < size_of judged.now result.1.model }
 {
+    let _ = judged.design();
     let offsets = templates[spot.model as usize].offsets.as_slice();
     let place = last_up_to(offsets, spot.number);
     let inst = place as u32;
-    match survey.model_of(spot.model, inst) {
+    match judged.model_of(spot.model, inst) {
         Some(model) => {
             let number = spot.number - offsets[place];
             (inst, Spot { model, number })
@@ -125,12 +121,12 @@ fn last_up_to(numbers: &[u32], most: u32) -> usize
 }
 
 /// The name of a net of a model.
-fn net_of<'d>(survey: &Survey<'d>, spot: Spot) -> &'d [u8]
-    requires reached { IsReached survey.now spot.model }
-    requires exists { spot.number < length (model_nets survey.now spot.model) }
-    ensures { slice_get (model_nets survey.now spot.model) spot.number ≡ Some result.now }
+fn net_of<'d>(judged: &Judged<'d>, spot: Spot) -> &'d [u8]
+    requires reached { IsReached judged.now spot.model }
+    requires exists { spot.number < length (model_nets judged.now spot.model) }
+    ensures { slice_get (model_nets judged.now spot.model) spot.number ≡ Some result.now }
 {
-    match survey.net_at(spot.model, spot.number as usize) {
+    match judged.net_at(spot.model, spot.number as usize) {
         Some(net) => net,
         None => unreachable!(),
     }

@@ -2,6 +2,7 @@
 #![tactic(auto)]
 
 mod bound;
+mod covers;
 mod driven;
 mod driver;
 mod elaboration;
@@ -13,7 +14,8 @@ mod reads;
 mod sizes;
 mod template;
 
+pub use covers::cover_at;
 pub use driver::ColumnDriver;
-pub use elaboration::{Elaboration, elaborate};
+pub use elaboration::{Columns, Elaboration, elaborate};
 pub use finding::find_column;
 pub use reads::find_reads;

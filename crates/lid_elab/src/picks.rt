@@ -8,47 +8,47 @@ ghost use Rattle.lid_elab.specs.Parts.{picks_among};
 
 use crate::places::narrow;
 use lid_base::Items;
-use lid_hierarchy::Survey;
 use lid_names::NameSet;
+use lid_wiring::Judged;
 use std::alloc::{AllocError, Global};
 
 /// For each net of a model, its first place among some driven nets.
 pub fn picks_of<'d>(
     alloc: Global,
-    survey: &Survey<'d>,
+    judged: &Judged<'d>,
     driven: &[&'d [u8]],
     model: u32,
 ) -> Result<Items<u32>, AllocError>
-    requires { IsReached survey.now model }
-    ensures { IfOk result (λ picks. picks ≡ picks_among survey.now model (firsts (texts driven.now))) }
+    requires { IsReached judged.now model }
+    ensures { IfOk result (λ picks. picks ≡ picks_among judged.now model (firsts (texts driven.now))) }
 {
     let set = NameSet::collect(alloc, driven)?;
-    picks_in(alloc, survey, &set, model)
+    picks_in(alloc, judged, &set, model)
 }
 
 /// For each net of a model, its place in a set.
 fn picks_in(
     alloc: Global,
-    survey: &Survey<'_>,
+    judged: &Judged<'_>,
     set: &NameSet<'_>,
     model: u32,
 ) -> Result<Items<u32>, AllocError>
-    requires { IsReached survey.now model }
-    ensures { IfOk result (λ picks. picks ≡ picks_among survey.now model set.now) }
+    requires { IsReached judged.now model }
+    ensures { IfOk result (λ picks. picks ≡ picks_among judged.now model set.now) }
 {
     let mut picks = Vec::new(alloc);
-    for place in 0..survey.count_nets(model) {
-        picks.push(pick_in(set, net_at(survey, model, place))?)?;
+    for place in 0..judged.count_nets(model) {
+        picks.push(pick_in(set, net_at(judged, model, place))?)?;
     }
     Ok(Items::from_vec(picks))
 }
 
 /// The name of a net of a model, by its place; the empty name past the last.
-fn net_at<'d>(survey: &Survey<'d>, model: u32, place: usize) -> &'d [u8]
-    requires { IsReached survey.now model }
-    ensures { result.now ≡ slice_index_or (model_nets survey.now model) place [] }
+fn net_at<'d>(judged: &Judged<'d>, model: u32, place: usize) -> &'d [u8]
+    requires { IsReached judged.now model }
+    ensures { result.now ≡ slice_index_or (model_nets judged.now model) place [] }
 {
-    match survey.net_at(model, place) {
+    match judged.net_at(model, place) {
         Some(net) => net,
         None => &[],
     }

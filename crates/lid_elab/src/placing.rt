@@ -7,14 +7,13 @@ ghost use Rattle.lid_design.specs.Elaboration.{model_nets, columns};
 ghost use Rattle.lid_elab.specs.Numbers.{over_insts, size_of, offset_of, weight_of};
 ghost use Rattle.lid_elab.specs.Elaborations.{shown_driver};
 ghost use Rattle.lid_elab.specs.Templates.{seen_around};
-ghost use Rattle.lid_wiring.specs.Judged.{IsJudged};
 ghost use Rattle.lid_elab.specs.Scopes.{picked, IsSmallAt, ArePlaced, AreNext, IsAt, IsOuter, weights};
 ghost use Rattle.lid_elab.specs.Parts.{AreTemplates};
 
 use crate::driver::ColumnDriver;
 use crate::template::{LocalDriver, Template, place_driver};
 use lid_base::Items;
-use lid_hierarchy::Survey;
+use lid_wiring::Judged;
 use std::alloc::{AllocError, Global};
 
 /// A scope of the elaboration, which is the root or an instance in it: its model and the number of its
@@ -36,47 +35,49 @@ pub struct Around {
 }
 
 /// Pushes what gives the columns of a scope their bits.
-pub fn push_drivers<'d>(
+pub fn push_drivers(
     alloc: Global,
-    drivers: &mut Vec<ColumnDriver<'d>>,
+    judged: &Judged<'_>,
+    drivers: &mut Vec<ColumnDriver>,
     start: u32,
     offsets: &[u32],
     around: Option<(u32, &[u32])>,
-    locals: &[LocalDriver<'d>],
+    locals: &[LocalDriver],
     picks: &[u32],
 ) -> Result<(), AllocError>
     requires start { start ≤ 1048576 }
     requires picks { All (λ pick. pick < length locals.now) picks.now }
-    requires small { All (λ pick. IsSmallAt offsets.now (seen_around around) (slice_get locals.now pick)) picks.now }
-    ensures { OnOk result (map shown_driver drivers.new.items ≡ map shown_driver drivers.old.items ++ map (picked start offsets.now (seen_around around.entry) locals.now) picks.now) }
+    requires small { All (λ pick. IsSmallAt judged.now offsets.now (seen_around around) (slice_get locals.now pick)) picks.now }
+    ensures { OnOk result (map (shown_driver judged.now) drivers.new.items ≡ map (shown_driver judged.now) drivers.old.items ++ map (picked judged.now start offsets.now (seen_around around.entry) locals.now) picks.now) }
 {
     for pick in picks {
         let local = &locals[*pick as usize];
-        drivers.push(place_driver(alloc, start, offsets, around, local)?)?;
+        drivers.push(place_driver(alloc, judged, start, offsets, around, local)?)?;
     }
     Ok(())
 }
 
 /// Pushes what gives the columns of a scope their bits, where the columns before it have theirs.
-pub fn place_scope<'d>(
+pub fn place_scope(
     alloc: Global,
-    survey: &Survey<'d>,
-    templates: &[Template<'d>],
-    drivers: &mut Vec<ColumnDriver<'d>>,
+    judged: &Judged<'_>,
+    templates: &[Template],
+    drivers: &mut Vec<ColumnDriver>,
     scope: Scope,
 ) -> Result<(), AllocError>
-    requires judged { IsJudged survey.now }
-    requires templates { AreTemplates survey.now templates.now }
-    requires there { (path : List ℕ) × IsAt survey.now path scope }
+    requires templates { AreTemplates judged.now templates.now }
+    requires there { (path : List ℕ) × IsAt judged.now path scope }
     requires next { scope.start ≡ length drivers.now.items }
-    requires before { ArePlaced survey.now (map shown_driver drivers.now.items) }
-    ensures after { OnOk result (ArePlaced survey.now (map shown_driver drivers.new.items)) }
-    ensures long { OnOk result (length drivers.new.items ≡ length drivers.old.items + length (model_nets survey.now scope.model)) }
+    requires before { ArePlaced judged.now (map (shown_driver judged.now) drivers.now.items) }
+    ensures after { OnOk result (ArePlaced judged.now (map (shown_driver judged.now) drivers.new.items)) }
+    ensures long { OnOk result (length drivers.new.items ≡ length drivers.old.items + length (model_nets judged.now scope.model)) }
 {
+    let _ = judged.design();
     let template = &templates[scope.model as usize];
-    let around = around_of(survey, templates, scope);
+    let around = around_of(judged, templates, scope);
     push_drivers(
         alloc,
+        judged,
         drivers,
         scope.start,
         template.offsets.as_slice(),
@@ -89,15 +90,15 @@ pub fn place_scope<'d>(
 /// What stands around a scope: the first column of the scope around, and the nets there that the
 /// inputs are bound to. `None` at the root.
 fn around_of<'t>(
-    survey: &Survey<'_>,
-    templates: &'t [Template<'_>],
+    judged: &Judged<'_>,
+    templates: &'t [Template],
     scope: Scope,
 ) -> Option<(u32, &'t [u32])>
-    requires templates { AreTemplates survey.now templates.now }
-    requires there { (path : List ℕ) × IsAt survey.now path scope }
-    ensures { (path : List ℕ) → IsAt survey.now path scope → IsOuter survey.now path scope.model (seen_around result) }
+    requires templates { AreTemplates judged.now templates.now }
+    requires there { (path : List ℕ) × IsAt judged.now path scope }
+    ensures { (path : List ℕ) → IsAt judged.now path scope → IsOuter judged.now path scope.model (seen_around result) }
 {
-    let _ = survey;
+    let _ = judged;
     match scope.around {
         None => None,
         Some(around) => {
@@ -110,46 +111,46 @@ fn around_of<'t>(
 
 /// Pushes the scopes of the instances of a scope, the last first.
 fn push_instances(
-    survey: &Survey<'_>,
+    judged: &Judged<'_>,
     offsets: &[u32],
     scope: Scope,
     stack: &mut Vec<Scope>,
 ) -> Result<(), AllocError>
-    requires judged { IsJudged survey.now }
-    requires few { length offsets.now ≡ length (insts_of survey.now scope.model) }
-    requires offset { (i o : ℕ) → slice_get offsets.now i ≡ Some o → o ≡ offset_of survey.now scope.model i }
-    requires there { (path : List ℕ) × IsAt survey.now path scope }
-    requires after { AreNext survey.now (scope.start + size_of survey.now scope.model) (reverse stack.now.items) }
-    ensures next { OnOk result (AreNext survey.now (scope.start + length (model_nets survey.now scope.model)) (reverse stack.new.items)) }
-    ensures lighter { OnOk result (weights survey.now (reverse stack.new.items) + 1 ≡ weights survey.now (reverse stack.old.items) + weight_of survey.now scope.model) }
+    requires few { length offsets.now ≡ length (insts_of judged.now scope.model) }
+    requires offset { (i o : ℕ) → slice_get offsets.now i ≡ Some o → o ≡ offset_of judged.now scope.model i }
+    requires there { (path : List ℕ) × IsAt judged.now path scope }
+    requires after { AreNext judged.now (scope.start + size_of judged.now scope.model) (reverse stack.now.items) }
+    ensures next { OnOk result (AreNext judged.now (scope.start + length (model_nets judged.now scope.model)) (reverse stack.new.items)) }
+    ensures lighter { OnOk result (weights judged.now (reverse stack.new.items) + 1 ≡ weights judged.now (reverse stack.old.items) + weight_of judged.now scope.model) }
 {
+    let _ = judged.design();
     let mut i = offsets.len();
     while i > 0 {
         i -= 1;
-        push_instance(survey, offsets, scope, i, stack)?;
+        push_instance(judged, offsets, scope, i, stack)?;
     }
     Ok(())
 }
 
 /// Pushes the scope of an instance of a scope, by its number there.
 fn push_instance(
-    survey: &Survey<'_>,
+    judged: &Judged<'_>,
     offsets: &[u32],
     scope: Scope,
     i: usize,
     stack: &mut Vec<Scope>,
 ) -> Result<(), AllocError>
-    requires judged { IsJudged survey.now }
-    requires few { length offsets.now ≡ length (insts_of survey.now scope.model) }
-    requires offset { (i o : ℕ) → slice_get offsets.now i ≡ Some o → o ≡ offset_of survey.now scope.model i }
-    requires there { (path : List ℕ) × IsAt survey.now path scope }
+    requires few { length offsets.now ≡ length (insts_of judged.now scope.model) }
+    requires offset { (i o : ℕ) → slice_get offsets.now i ≡ Some o → o ≡ offset_of judged.now scope.model i }
+    requires there { (path : List ℕ) × IsAt judged.now path scope }
     requires exists { i < length offsets.now }
-    requires after { AreNext survey.now (scope.start + offset_of survey.now scope.model (i + 1)) (reverse stack.now.items) }
-    ensures next { OnOk result (AreNext survey.now (scope.start + offset_of survey.now scope.model i) (reverse stack.new.items)) }
-    ensures heavier { OnOk result (weights survey.now (reverse stack.new.items) + over_insts survey.now (weight_of survey.now) (take i (insts_of survey.now scope.model)) ≡ weights survey.now (reverse stack.old.items) + over_insts survey.now (weight_of survey.now) (take (i + 1) (insts_of survey.now scope.model))) }
+    requires after { AreNext judged.now (scope.start + offset_of judged.now scope.model (i + 1)) (reverse stack.now.items) }
+    ensures next { OnOk result (AreNext judged.now (scope.start + offset_of judged.now scope.model i) (reverse stack.new.items)) }
+    ensures heavier { OnOk result (weights judged.now (reverse stack.new.items) + over_insts judged.now (weight_of judged.now) (take i (insts_of judged.now scope.model)) ≡ weights judged.now (reverse stack.old.items) + over_insts judged.now (weight_of judged.now) (take (i + 1) (insts_of judged.now scope.model))) }
 {
+    let _ = judged.design();
     let inst = i as u32;
-    if let Some(model) = survey.model_of(scope.model, inst) {
+    if let Some(model) = judged.model_of(scope.model, inst) {
         let around = Around {
             model: scope.model,
             start: scope.start,
@@ -165,67 +166,64 @@ fn push_instance(
 }
 
 /// Works through a scope: pushes what gives its columns their bits, and the scopes of its instances.
-fn visit<'d>(
+fn visit(
     alloc: Global,
-    survey: &Survey<'d>,
-    templates: &[Template<'d>],
-    drivers: &mut Vec<ColumnDriver<'d>>,
+    judged: &Judged<'_>,
+    templates: &[Template],
+    drivers: &mut Vec<ColumnDriver>,
     stack: &mut Vec<Scope>,
     scope: Scope,
 ) -> Result<(), AllocError>
-    requires judged { IsJudged survey.now }
-    requires templates { AreTemplates survey.now templates.now }
-    requires before { ArePlaced survey.now (map shown_driver drivers.now.items) }
-    requires there { (path : List ℕ) × IsAt survey.now path scope }
+    requires templates { AreTemplates judged.now templates.now }
+    requires before { ArePlaced judged.now (map (shown_driver judged.now) drivers.now.items) }
+    requires there { (path : List ℕ) × IsAt judged.now path scope }
     requires start { scope.start ≡ length drivers.now.items }
-    requires rest { AreNext survey.now (scope.start + size_of survey.now scope.model) (reverse stack.now.items) }
-    ensures after { OnOk result (ArePlaced survey.now (map shown_driver drivers.new.items)) }
-    ensures next { OnOk result (AreNext survey.now (length drivers.new.items) (reverse stack.new.items)) }
-    ensures lighter { OnOk result (weights survey.now (reverse stack.new.items) < weights survey.now (reverse stack.old.items) + weight_of survey.now scope.model) }
+    requires rest { AreNext judged.now (scope.start + size_of judged.now scope.model) (reverse stack.now.items) }
+    ensures after { OnOk result (ArePlaced judged.now (map (shown_driver judged.now) drivers.new.items)) }
+    ensures next { OnOk result (AreNext judged.now (length drivers.new.items) (reverse stack.new.items)) }
+    ensures lighter { OnOk result (weights judged.now (reverse stack.new.items) < weights judged.now (reverse stack.old.items) + weight_of judged.now scope.model) }
 {
     let template = &templates[scope.model as usize];
     let offsets = template.offsets.as_slice();
-    place_scope(alloc, survey, templates, drivers, scope)?;
-    push_instances(survey, offsets, scope, stack)
+    place_scope(alloc, judged, templates, drivers, scope)?;
+    push_instances(judged, offsets, scope, stack)
 }
 
 /// What gives each column its bit, in order, by what is known of the models.
-pub fn place_all<'d>(
+pub fn place_all(
     alloc: Global,
-    survey: &Survey<'d>,
-    templates: &[Template<'d>],
-) -> Result<Items<ColumnDriver<'d>>, AllocError>
-    requires judged { IsJudged survey.now }
-    requires templates { AreTemplates survey.now templates.now }
-    ensures written { IfOk result (λ drivers. ArePlaced survey.now (map shown_driver drivers)) }
-    ensures whole { IfOk result (λ drivers. length drivers ≡ length (columns survey.now)) }
+    judged: &Judged<'_>,
+    templates: &[Template],
+) -> Result<Items<ColumnDriver>, AllocError>
+    requires { AreTemplates judged.now templates.now }
+    ensures written { IfOk result (λ drivers. ArePlaced judged.now (map (shown_driver judged.now) drivers)) }
+    ensures whole { IfOk result (λ drivers. length drivers ≡ length (columns judged.now)) }
 {
     let mut drivers = Vec::new(alloc);
-    push_all(alloc, survey, templates, &mut drivers)?;
+    push_all(alloc, judged, templates, &mut drivers)?;
     Ok(Items::from_vec(drivers))
 }
 
 /// Pushes what gives each column its bit, in order, where there is nothing yet.
-fn push_all<'d>(
+fn push_all(
     alloc: Global,
-    survey: &Survey<'d>,
-    templates: &[Template<'d>],
-    drivers: &mut Vec<ColumnDriver<'d>>,
+    judged: &Judged<'_>,
+    templates: &[Template],
+    drivers: &mut Vec<ColumnDriver>,
 ) -> Result<(), AllocError>
-    requires judged { IsJudged survey.now }
-    requires templates { AreTemplates survey.now templates.now }
+    requires templates { AreTemplates judged.now templates.now }
     requires none { drivers.old.items ≡ [] }
-    ensures written { OnOk result (ArePlaced survey.now (map shown_driver drivers.new.items)) }
-    ensures whole { OnOk result (length drivers.new.items ≡ length (columns survey.now)) }
+    ensures written { OnOk result (ArePlaced judged.now (map (shown_driver judged.now) drivers.new.items)) }
+    ensures whole { OnOk result (length drivers.new.items ≡ length (columns judged.now)) }
 {
     let mut stack = Vec::new(alloc);
     stack.push(Scope {
-        model: survey.design().root,
+        model: judged.design().root,
         start: 0,
         around: None,
     })?;
     while let Some(scope) = stack.pop() {
-        visit(alloc, survey, templates, drivers, &mut stack, scope)?;
+        visit(alloc, judged, templates, drivers, &mut stack, scope)?;
     }
     Ok(())
 }

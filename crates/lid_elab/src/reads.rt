@@ -1,16 +1,15 @@
 //! What each column reads in the same row.
 
 ghost use Rattle.std.specs.Prelude.{◌≡◌, map, IfOk};
-ghost use Rattle.lid_design.specs.Walks.{read_now};
-ghost use Rattle.lid_elab.specs.Elaborations.{shown_driver};
+ghost use Rattle.lid_elab.specs.Elaborations.{driver_reads};
 
 use crate::driver::ColumnDriver;
 use lid_base::Items;
 use std::alloc::{AllocError, Global};
 
 /// The numbers of the columns whose bits of the same row a driver reads.
-fn reads_of(alloc: Global, driver: &ColumnDriver<'_>) -> Result<Items<u32>, AllocError>
-    ensures { IfOk result (λ reads. reads ≡ read_now (shown_driver driver.now)) }
+fn reads_of(alloc: Global, driver: &ColumnDriver) -> Result<Items<u32>, AllocError>
+    ensures { IfOk result (λ reads. reads ≡ driver_reads driver.now) }
 {
     match driver {
         ColumnDriver::Cover { inputs, .. } => Ok(Items::from_vec(inputs.as_slice().to_vec(alloc)?)),
@@ -24,11 +23,8 @@ fn reads_of(alloc: Global, driver: &ColumnDriver<'_>) -> Result<Items<u32>, Allo
 ///
 /// # Errors
 /// Where there is no memory.
-pub fn find_reads(
-    alloc: Global,
-    drivers: &[ColumnDriver<'_>],
-) -> Result<Items<Items<u32>>, AllocError>
-    ensures { IfOk result (λ reads. reads ≡ map read_now (map shown_driver drivers.now)) }
+pub fn find_reads(alloc: Global, drivers: &[ColumnDriver]) -> Result<Items<Items<u32>>, AllocError>
+    ensures { IfOk result (λ reads. reads ≡ map driver_reads drivers.now) }
 {
     let mut all = Vec::new(alloc);
     for driver in drivers {

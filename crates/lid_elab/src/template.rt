@@ -5,7 +5,6 @@ ghost use Rattle.lid_elab.specs.Elaborations.{shown_driver};
 ghost use Rattle.lid_elab.specs.Numbers.{offset_of};
 ghost use Rattle.lid_elab.specs.Parts.{AreSizes, output_sets, places_in_inst, ArePicked, IsTemplate, AreTemplates};
 ghost use Rattle.lid_elab.specs.Templates.{shown_local, placed, seen_around, IsSmall};
-ghost use Rattle.lid_wiring.specs.Judged.{IsJudged};
 
 use crate::bound::actuals_of;
 use crate::driven::{collect_outputs, driven_of};
@@ -13,14 +12,13 @@ use crate::driver::ColumnDriver;
 use crate::picks::picks_of;
 use crate::sizes::{find_sizes, offsets_of};
 use lid_base::Items;
-use lid_cover::Cover;
-use lid_hierarchy::Survey;
 use lid_names::NameSet;
+use lid_wiring::Judged;
 use std::alloc::{AllocError, Global};
 
 /// What drives a net inside its model. Nets are told by their places among the nets of a model.
 #[derive(Drop)]
-pub enum LocalDriver<'d> {
+pub enum LocalDriver {
     /// A data input of the model, by its place among them.
     Input(u32),
     /// A latch, that begins with the bit `first`.
@@ -28,9 +26,10 @@ pub enum LocalDriver<'d> {
         first: bool,
         input: u32,
     },
-    /// A cover, with its inputs in order.
+    /// The cover of a cell of the model, with its inputs in order.
     Cover {
-        cover: &'d Cover,
+        model: u32,
+        cell: u32,
         inputs: Items<u32>,
     },
     /// A net of the model of an instance, that is bound to this one.
@@ -42,9 +41,9 @@ pub enum LocalDriver<'d> {
 
 /// What is known of a model before it is placed.
 #[derive(Drop)]
-pub struct Template<'d> {
+pub struct Template {
     /// All that drives nets of the model.
-    pub locals: Items<LocalDriver<'d>>,
+    pub locals: Items<LocalDriver>,
     /// For each net, the place of what drives it among `locals`.
     pub picks: Items<u32>,
     /// For each instance, how many columns of the model and of earlier instances stand before it.
@@ -56,17 +55,19 @@ pub struct Template<'d> {
 /// What gives a column its bit, from what drives its net in its model. The columns of the place
 /// begin at `start`, those of its instances at `offsets` behind it. In an instance, `around` has the
 /// first column of the place around, and the nets there that the inputs are bound to.
-pub fn place_driver<'d>(
+pub fn place_driver(
     alloc: Global,
+    judged: &Judged<'_>,
     start: u32,
     offsets: &[u32],
     around: Option<(u32, &[u32])>,
-    local: &LocalDriver<'d>,
-) -> Result<ColumnDriver<'d>, AllocError>
+    local: &LocalDriver,
+) -> Result<ColumnDriver, AllocError>
     requires start { start ≤ 1048576 }
-    requires small { IsSmall offsets.now (seen_around around) (shown_local local.now) }
-    ensures { IfOk result (λ driver. shown_driver driver ≡ placed start offsets.now (seen_around around.entry) (shown_local local.now)) }
+    requires small { IsSmall offsets.now (seen_around around) (shown_local judged.now local.now) }
+    ensures { IfOk result (λ driver. shown_driver judged.now driver ≡ placed start offsets.now (seen_around around.entry) (shown_local judged.now local.now)) }
 {
+    let _ = judged;
     Ok(match local {
         LocalDriver::Input(place) => match around {
             None => ColumnDriver::Input(*place),
@@ -76,8 +77,13 @@ pub fn place_driver<'d>(
             first: *first,
             input: start + *input,
         },
-        LocalDriver::Cover { cover, inputs } => ColumnDriver::Cover {
-            cover: *cover,
+        LocalDriver::Cover {
+            model,
+            cell,
+            inputs,
+        } => ColumnDriver::Cover {
+            model: *model,
+            cell: *cell,
             inputs: shift_all(alloc, start, inputs.as_slice())?,
         },
         LocalDriver::Connection { inst, net } => {
@@ -100,19 +106,15 @@ fn shift_all(alloc: Global, start: u32, numbers: &[u32]) -> Result<Items<u32>, A
 }
 
 /// What is known of each reached model before it is placed, by the model's number.
-pub fn find_templates<'d>(
-    alloc: Global,
-    survey: &Survey<'d>,
-) -> Result<Items<Template<'d>>, AllocError>
-    requires { IsJudged survey.now }
-    ensures { IfOk result (AreTemplates survey.now) }
+pub fn find_templates(alloc: Global, judged: &Judged<'_>) -> Result<Items<Template>, AllocError>
+    ensures { IfOk result (AreTemplates judged.now) }
 {
-    let sizes = find_sizes(alloc, survey)?;
-    let outputs = collect_outputs(alloc, survey.design().models.as_slice())?;
+    let sizes = find_sizes(alloc, judged)?;
+    let outputs = collect_outputs(alloc, judged.design().models.as_slice())?;
     let mut templates = Vec::new(alloc);
     push_templates(
         alloc,
-        survey,
+        judged,
         sizes.as_slice(),
         outputs.as_slice(),
         &mut templates,
@@ -123,19 +125,19 @@ pub fn find_templates<'d>(
 /// Pushes what is known of each model before it is placed, where there is nothing yet.
 fn push_templates<'d>(
     alloc: Global,
-    survey: &Survey<'d>,
+    judged: &Judged<'d>,
     sizes: &[Option<u32>],
     outputs: &[NameSet<'d>],
-    templates: &mut Vec<Template<'d>>,
+    templates: &mut Vec<Template>,
 ) -> Result<(), AllocError>
-    requires judged { IsJudged survey.now }
-    requires sizes { AreSizes survey.now (IsReached survey.now) sizes.now }
-    requires outputs { outputs.now ≡ output_sets survey.now.models }
+    requires sizes { AreSizes judged.now (IsReached judged.now) sizes.now }
+    requires outputs { outputs.now ≡ output_sets judged.now.models }
     requires none { templates.old.items ≡ [] }
-    ensures { OnOk result (AreTemplates survey.now templates.new.items) }
+    ensures { OnOk result (AreTemplates judged.now templates.new.items) }
 {
+    let _ = judged.design();
     for model in 0..sizes.len() as u32 {
-        let template = template_of(alloc, survey, sizes, outputs, model)?;
+        let template = template_of(alloc, judged, sizes, outputs, model)?;
         templates.push(template)?;
     }
     Ok(())
@@ -144,19 +146,18 @@ fn push_templates<'d>(
 /// What is known of a model before it is placed; nothing where it is not reached.
 fn template_of<'d>(
     alloc: Global,
-    survey: &Survey<'d>,
+    judged: &Judged<'d>,
     sizes: &[Option<u32>],
     outputs: &[NameSet<'d>],
     model: u32,
-) -> Result<Template<'d>, AllocError>
-    requires judged { IsJudged survey.now }
-    requires sizes { AreSizes survey.now (IsReached survey.now) sizes.now }
-    requires outputs { outputs.now ≡ output_sets survey.now.models }
+) -> Result<Template, AllocError>
+    requires sizes { AreSizes judged.now (IsReached judged.now) sizes.now }
+    requires outputs { outputs.now ≡ output_sets judged.now.models }
     requires below { model < length sizes.now }
-    ensures { IfOk result (λ t. IsReached survey.now model → IsTemplate survey.now model t) }
+    ensures { IfOk result (λ t. IsReached judged.now model → IsTemplate judged.now model t) }
 {
     match sizes[model as usize] {
-        Some(_) => describe(alloc, survey, sizes, outputs, model),
+        Some(_) => describe(alloc, judged, sizes, outputs, model),
         None => Ok(no_template(alloc)),
     }
 }
@@ -164,19 +165,18 @@ fn template_of<'d>(
 /// What is known of a reached model before it is placed.
 fn describe<'d>(
     alloc: Global,
-    survey: &Survey<'d>,
+    judged: &Judged<'d>,
     sizes: &[Option<u32>],
     outputs: &[NameSet<'d>],
     model: u32,
-) -> Result<Template<'d>, AllocError>
-    requires judged { IsJudged survey.now }
-    requires reached { IsReached survey.now model }
-    requires sizes { AreSizes survey.now (IsReached survey.now) sizes.now }
-    requires outputs { outputs.now ≡ output_sets survey.now.models }
-    ensures { IfOk result (IsTemplate survey.now model) }
+) -> Result<Template, AllocError>
+    requires reached { IsReached judged.now model }
+    requires sizes { AreSizes judged.now (IsReached judged.now) sizes.now }
+    requires outputs { outputs.now ≡ output_sets judged.now.models }
+    ensures { IfOk result (IsTemplate judged.now model) }
 {
-    let nets = describe_nets(alloc, survey, outputs, model)?;
-    let insts = describe_insts(alloc, survey, sizes, model)?;
+    let nets = describe_nets(alloc, judged, outputs, model)?;
+    let insts = describe_insts(alloc, judged, sizes, model)?;
     Ok(Template {
         locals: nets.locals,
         picks: nets.picks,
@@ -187,25 +187,25 @@ fn describe<'d>(
 
 /// What is known of the nets of a model.
 #[derive(Drop)]
-struct Nets<'d> {
-    locals: Items<LocalDriver<'d>>,
+struct Nets {
+    locals: Items<LocalDriver>,
     picks: Items<u32>,
 }
 
 /// What drives the nets of a reached model, and which of it drives each.
 fn describe_nets<'d>(
     alloc: Global,
-    survey: &Survey<'d>,
+    judged: &Judged<'d>,
     outputs: &[NameSet<'d>],
     model: u32,
-) -> Result<Nets<'d>, AllocError>
-    requires judged { IsJudged survey.now }
-    requires reached { IsReached survey.now model }
-    requires outputs { outputs.now ≡ output_sets survey.now.models }
-    ensures { IfOk result (λ nets. ArePicked survey.now model nets.locals nets.picks) }
+) -> Result<Nets, AllocError>
+    requires reached { IsReached judged.now model }
+    requires outputs { outputs.now ≡ output_sets judged.now.models }
+    ensures { IfOk result (λ nets. ArePicked judged.now model nets.locals nets.picks) }
 {
-    let driven = driven_of(alloc, survey, outputs, model)?;
-    let picks = picks_of(alloc, survey, driven.nets.as_slice(), model)?;
+    let _ = judged.design();
+    let driven = driven_of(alloc, judged, outputs, model)?;
+    let picks = picks_of(alloc, judged, driven.nets.as_slice(), model)?;
     Ok(Nets {
         locals: Items::from_vec(driven.locals),
         picks,
@@ -223,24 +223,23 @@ struct Insts {
 /// are bound to.
 fn describe_insts(
     alloc: Global,
-    survey: &Survey<'_>,
+    judged: &Judged<'_>,
     sizes: &[Option<u32>],
     model: u32,
 ) -> Result<Insts, AllocError>
-    requires judged { IsJudged survey.now }
-    requires reached { IsReached survey.now model }
-    requires sizes { AreSizes survey.now (IsReached survey.now) sizes.now }
-    ensures few { IfOk result (λ insts. length insts.offsets ≡ length (insts_of survey.now model)) }
-    ensures each { IfOk result (λ insts. (i o : ℕ) → slice_get insts.offsets i ≡ Some o → o ≡ offset_of survey.now model i) }
-    ensures actuals { IfOk result (λ insts. insts.actuals ≡ map (places_in_inst survey.now model) (insts_of survey.now model)) }
+    requires reached { IsReached judged.now model }
+    requires sizes { AreSizes judged.now (IsReached judged.now) sizes.now }
+    ensures few { IfOk result (λ insts. length insts.offsets ≡ length (insts_of judged.now model)) }
+    ensures each { IfOk result (λ insts. (i o : ℕ) → slice_get insts.offsets i ≡ Some o → o ≡ offset_of judged.now model i) }
+    ensures actuals { IfOk result (λ insts. insts.actuals ≡ map (places_in_inst judged.now model) (insts_of judged.now model)) }
 {
-    let offsets = offsets_of(alloc, survey, sizes, model)?;
-    let actuals = actuals_of(alloc, survey, model)?;
+    let offsets = offsets_of(alloc, judged, sizes, model)?;
+    let actuals = actuals_of(alloc, judged, model)?;
     Ok(Insts { offsets, actuals })
 }
 
 /// A template of nothing.
-fn no_template<'d>(alloc: Global) -> Template<'d> {
+fn no_template(alloc: Global) -> Template {
     Template {
         locals: Items::from_vec(Vec::new(alloc)),
         picks: Items::from_vec(Vec::new(alloc)),

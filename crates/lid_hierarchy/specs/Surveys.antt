@@ -7,7 +7,7 @@ use Rattle.lid_hierarchy.specs.declared.survey.SurveyFault.TheVariants.{Recursiv
 use Rattle.lid_design.specs.WellFormed.{IsWellFormed}
 use Rattle.lid_design.specs.Columns.{is_among}
 use Rattle.lid_design.specs.Elaboration.{model_nets}
-use Rattle.lid_design.specs.Models.{number_named, insts_of, instance_number, is_clock_of, IsReached, HasNoRecursion, AreReached, IsFirstRecursive}
+use Rattle.lid_design.specs.Models.{number_named, insts_of, instance_number, is_clock_of, data_inputs_of, IsReached, HasNoRecursion, AreReached, IsFirstRecursive}
 
 -- for each model, the number of the model of each of its instances, where there is one
 abbrev pub instance_numbers : Design → List (List (Option ℕ))
@@ -42,20 +42,22 @@ pub record IsModelOrder (d : Design) (order : List ℕ) : Type 0 where
   pub short : length order ≤ length d.models
   pub after : StandsAfterItsModels d [] order
 
--- the clock names and the nets of the models that are reached, each in its place
-pub record AreNames (d : Design) (clocks named : List (List (List ℕ))) : Type 0 where
+-- the clock names, the nets and the data inputs of the models that are reached, each in its place
+pub record AreNames (d : Design) (clocks named inputs : List (List (List ℕ))) : Type 0 where
   pub inside : (k : ℕ) → IsReached d k → k < length d.models
   pub each_clock : length clocks ≡ length d.models
   pub each_nets : length named ≡ length d.models
+  pub each_inputs : length inputs ≡ length d.models
   pub clock : (k : ℕ) (name : List ℕ) → IsReached d k → is_among name (slice_index_or clocks k []) ≡ is_clock_of d k name
   pub nets : (k : ℕ) → IsReached d k → slice_index_or named k [] ≡ model_nets d k
+  pub given : (k : ℕ) → IsReached d k → slice_index_or inputs k [] ≡ data_inputs_of d k
 
 -- what is known of the models that are reached
-pub record IsSurvey (d : Design) (order : List ℕ) (clocks named : List (List (List ℕ))) : Type 0 where
+pub record IsSurvey (d : Design) (order : List ℕ) (clocks named inputs : List (List (List ℕ))) : Type 0 where
   pub known : AreKnown d
   pub flat : HasNoRecursion d
   pub ordered : IsModelOrder d order
-  pub names : AreNames d clocks named
+  pub names : AreNames d clocks named inputs
 
 -- a refusal: want of memory, or the first model that reaches itself
 abbrev pub IsSurveyFault : Design → SurveyFault → Type 0

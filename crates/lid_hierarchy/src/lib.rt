@@ -4,10 +4,12 @@
 
 mod clocks;
 mod formed;
+mod inputs;
 mod nets;
 mod survey;
 mod uses;
 
 pub use formed::is_well_formed;
+pub use inputs::NameList;
 pub use survey::{Survey, SurveyFault, survey_models};
 pub use uses::{Uses, find_uses};

@@ -37,7 +37,7 @@ fn nets_of<'d>(
 }
 
 /// The names of a list that are in no set.
-fn outside<'d>(
+pub fn outside<'d>(
     alloc: Global,
     set: &NameSet<'d>,
     names: &[&'d [u8]],

@@ -1,14 +1,16 @@
 ghost use Rattle.std.specs.Prelude.{◌≡◌, ◌⊎◌, ◌<◌, ◌^◌, ℕ, Option, Some, length, position, slice_get, IfOk, OnOk, IfErr, IsSome, option_map, List};
 ghost use denote.Ref.{Bor};
 ghost use Rattle.std.specs.Str.{bytes_eq};
-ghost use Rattle.lid_design.specs.Models.{IsReached, HasNoRecursion, insts_of, instance_number, is_clock_of, AreReached};
+ghost use Rattle.lid_design.specs.Models.{IsReached, HasNoRecursion, insts_of, instance_number, is_clock_of, data_inputs_of, AreReached};
 ghost use Rattle.lid_design.specs.Elaboration.{model_nets};
+ghost use Rattle.lid_names.specs.Names.{texts};
 ghost use Rattle.lid_design.specs.WellFormed.{IsWellFormed};
 ghost use Rattle.lid_hierarchy.specs.declared.survey.SurveyFault.TheVariants.{Memory};
 ghost use Rattle.lid_hierarchy.specs.Graphs.{IsKept};
 ghost use Rattle.lid_hierarchy.specs.Surveys.{AreKnown, AreNames, IsModelOrder, IsSurveyFault};
 
 use crate::clocks::find_clocks;
+use crate::inputs::{NameList, find_inputs};
 use crate::nets::find_nets;
 use crate::uses::Uses;
 use lid_base::Items;
@@ -35,6 +37,8 @@ pub struct ModelNames<'d> {
     clocks: Items<NameSet<'d>>,
     /// The nets.
     nets: Items<NameSet<'d>>,
+    /// The data inputs.
+    inputs: Items<NameList<'d>>,
 }
 
 impl<'d> Model for Survey<'d> {
@@ -47,7 +51,7 @@ impl<'d> Model for Survey<'d> {
 
     ghost view = { λ s. s.uses };
 
-    ghost invariant = { λ s. IsSurvey s.uses s.order s.names.clocks s.names.nets };
+    ghost invariant = { λ s. IsSurvey s.uses s.order s.names.clocks s.names.nets s.names.inputs };
 }
 
 /// Why the models of a design are not surveyed.
@@ -59,7 +63,7 @@ pub enum SurveyFault {
     Memory,
 }
 
-/// Finds an order of the reached models, their clock names and their nets.
+/// Finds an order of the reached models, their clock names, their nets and their data inputs.
 ///
 /// # Errors
 /// `Recursive` comes exactly where a reached model reaches itself. `Memory` may come at any design.
@@ -92,18 +96,24 @@ fn survey_in_order<'d>(
     }
 }
 
-/// The clock names and the nets of the models of an order.
+/// The clock names, the nets and the data inputs of the models of an order.
 fn find_names<'d>(
     alloc: Global,
     uses: &Uses<'d>,
     order: &[u32],
 ) -> Result<ModelNames<'d>, AllocError>
     requires { IsModelOrder uses.now order.now }
-    ensures { IfOk result (λ names. AreNames uses.now names.clocks names.nets) }
+    ensures { IfOk result (λ names. AreNames uses.now names.clocks names.nets names.inputs) }
 {
     let clocks = find_clocks(alloc, uses, order)?;
-    let nets = find_nets(alloc, uses.design().models.as_slice(), clocks.as_slice())?;
-    Ok(ModelNames { clocks, nets })
+    let models = uses.design().models.as_slice();
+    let nets = find_nets(alloc, models, clocks.as_slice())?;
+    let inputs = find_inputs(alloc, models, clocks.as_slice())?;
+    Ok(ModelNames {
+        clocks,
+        nets,
+        inputs,
+    })
 }
 
 /// An order of the reached models, each after those of the models of its instances.
@@ -203,6 +213,14 @@ impl<'d> Survey<'d> {
         ensures { option_map (λ (r : Bor (List ℕ)). r.now) result ≡ slice_get (model_nets self.now model) place }
     {
         self.nets_of(model).name_at(place)
+    }
+
+    /// The data inputs of a reached model, in order.
+    pub fn data_inputs(&self, model: u32) -> &[&'d [u8]]
+        requires { IsReached self.now model }
+        ensures { texts result.now ≡ data_inputs_of self.now model }
+    {
+        self.names.inputs.as_slice()[model as usize].as_slice()
     }
 
     /// The place of a net of a reached model, by its name.

@@ -17,8 +17,12 @@ has_set port [] k n = refl
 has_set port (m ∷ ms) zero n = is_among_firsts n (names_in port m)
 has_set port (m ∷ ms) (suc k) n = has_set port ms k n
 
-pub has_port : (d : Design) (port : Port) (sets held : List (List (List ℕ))) → held ≡ sets → sets ≡ sets_in port d.models → (k : ℕ) (n : List ℕ) → is_among n (slice_index_or held k []) ≡ is_in d port k n
-has_port d port sets held same whole k n = ap (λ (s : List (List (List ℕ))). is_among n (slice_index_or s k [])) (same ∙ whole) ∙ has_set port d.models k n
+pub has_port : (d : Design) (port : Port) (sets : List (List (List ℕ))) → sets ≡ sets_in port d.models → (k : ℕ) (n : List ℕ) → is_among n (slice_index_or sets k []) ≡ is_in d port k n
+has_port d port sets whole k n = ap (λ (s : List (List (List ℕ))). is_among n (slice_index_or s k [])) whole ∙ has_set port d.models k n
+
+-- the sets of a list of a design, as a method sees them from outside
+pub seen_sets : (d seen : Design) → d ≡ seen → (port is : Port) → port ≡ is → sets_in is d.models ≡ sets_in port seen.models
+seen_sets d seen view port is same = ap (λ (e : Design). sets_in is e.models) view ∙ ap (λ (p : Port). sets_in p seen.models) (sym same)
 
 pub find_same : {A : Type 0} (p q : A → Bool) (xs : List A) → ((x : A) → p x ≡ q x) → find p xs ≡ find q xs
 find_same p q [] same = refl

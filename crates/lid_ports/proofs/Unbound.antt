@@ -1,11 +1,11 @@
 -- The formals of an instance, by the number of its model.
-use Rattle.std.proofs.Common.{◌≡◌, ℕ, false, not, ◌||◌, List, filter, find, Option, Some, option_and_then, slice_get, sym, ◌∙◌, ap}
+use Rattle.std.proofs.Common.{◌≡◌, ℕ, false, not, ◌||◌, List, [], find, Option, Some, option_and_then, slice_get, sym, ◌∙◌, ap}
 use Rattle.std.specs.Option.{option_map_or}
 use Rattle.lid_design.specs.declared.Design.{Design}
 use Rattle.lid_design.specs.declared.Model.{Model}
 use Rattle.lid_design.specs.declared.Inst.{Inst}
-use Rattle.lid_design.specs.Columns.{is_among, model_named, is_clock, data_inputs}
-use Rattle.lid_design.specs.Models.{insts_of, instance_number, is_clock_of, is_port, firsts}
+use Rattle.lid_design.specs.Columns.{is_among, model_named, data_inputs}
+use Rattle.lid_design.specs.Models.{insts_of, instance_number, is_port, firsts}
 use Rattle.lid_ports.proofs.Subs.{named_by, sub_there}
 use Rattle.lid_ports.specs.Formals.{is_port_of, first_unbound_of}
 use Rattle.lid_names.proofs.Lists.{is_among_firsts}
@@ -24,13 +24,6 @@ module _ (d : Design) (k i : ℕ) (inst : Inst) (here : slice_get (insts_of d k)
   pub unbound_by : (bound names : List (List ℕ)) → bound ≡ firsts names → (j : ℕ) → instance_number d i k ≡ Some j → first_unbound_of d j bound ≡ option_and_then (λ m. find (λ n. not (is_among n names)) (data_inputs d m)) (model_named d inst.model)
   unbound_by bound names whole j is =
       let m = sub_there d k i inst here j is in
-      ap (option_and_then (λ m. find (λ n. not (is_among n bound)) (data_inputs d m))) m.1
+      ap (λ (o : Option Model). find (λ n. not (is_among n bound)) (option_map_or (data_inputs d) o [])) m.1
       ∙ find_same (λ n. not (is_among n bound)) (λ n. not (is_among n names)) (data_inputs d m.0) (λ n. ap not (ap (is_among n) whole ∙ is_among_firsts n names))
       ∙ sym (ap (option_and_then (λ m. find (λ n. not (is_among n names)) (data_inputs d m))) (named_by d k i inst here (Some j) is ∙ m.1))
-
--- the first data input of a model that is not in a set
-pub outside_is : (d : Design) (j : ℕ) (m : Model) (bound : List (List ℕ)) → slice_get d.models j ≡ Some m → find (λ n. not (is_among n bound)) (filter (λ n. not (is_clock_of d j n)) m.inputs) ≡ first_unbound_of d j bound
-unfolding data_inputs
-outside_is d j m bound here =
-    ap (λ (o : Option Model). find (λ n. not (is_among n bound)) (filter (λ n. not (option_map_or (λ m. is_clock d m n) o false)) m.inputs)) here
-    ∙ sym (ap (option_and_then (λ m. find (λ n. not (is_among n bound)) (data_inputs d m))) here)

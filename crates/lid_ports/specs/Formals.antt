@@ -1,10 +1,10 @@
 -- How the conditions on instances are tried: the first formal that breaks one.
 use denote.Ref.{Bor}
-use Rattle.std.specs.Prelude.{ℕ, Bool, not, ◌||◌, List, find, Option, option_map, option_and_then, slice_get}
+use Rattle.std.specs.Prelude.{ℕ, Bool, not, ◌||◌, List, find, Option, option_map, option_and_then}
 use Rattle.lid_design.specs.declared.Design.{Design}
 use Rattle.lid_design.specs.declared.Inst.{Inst}
 use Rattle.lid_design.specs.Columns.{is_among, model_named, data_inputs}
-use Rattle.lid_design.specs.Models.{is_port, is_twice, formals}
+use Rattle.lid_design.specs.Models.{is_port, is_twice, formals, data_inputs_of}
 use Rattle.lid_ports.specs.declared.ports.Port.TheVariants.{Input, Output, Clock}
 use Rattle.lid_ports.specs.declared.formals.InstRule.{InstRule}
 use Rattle.lid_ports.specs.declared.formals.InstRule.TheVariants.{UnknownFormal, FormalTwice, Unbound}
@@ -16,8 +16,7 @@ is_port_of d k name = is_in d Input k name || (is_in d Output k name || is_in d 
 
 -- the first data input of the model of a number that is not among some names
 abbrev pub first_unbound_of : Design → ℕ → List (List ℕ) → Option (List ℕ)
-first_unbound_of d k names =
-    option_and_then (λ m. find (λ name. not (is_among name names)) (data_inputs d m)) (slice_get d.models k)
+first_unbound_of d k names = find (λ name. not (is_among name names)) (data_inputs_of d k)
 
 -- the name that a reference leads to
 abbrev pub name_behind : Option (Bor (List ℕ)) → Option (List ℕ)

@@ -1,12 +1,11 @@
-ghost use Rattle.std.specs.Prelude.{◌≡◌, Some, not, map, filter, find, slice_get, IfOk};
+ghost use Rattle.std.specs.Prelude.{◌≡◌, Some, not, map, find, slice_get, IfOk};
 ghost use Rattle.lid_design.specs.Columns.{is_among};
-ghost use Rattle.lid_design.specs.Models.{IsReached, insts_of, is_clock_of, is_twice, formal_of, formals};
+ghost use Rattle.lid_design.specs.Models.{IsReached, insts_of, is_twice, formal_of, formals};
 ghost use Rattle.lid_names.specs.Names.{texts, firsts};
 ghost use Rattle.lid_ports.specs.declared.formals.InstRule.TheVariants.{UnknownFormal, Unbound};
 ghost use Rattle.lid_ports.specs.Formals.{faulty_formal, name_behind, is_port_of, first_unbound_of};
 
 use crate::ports::{Port, Ports};
-use lid_base::Name;
 use lid_design::{Bind, Inst};
 use lid_names::{NameSet, find_twice, list_formals};
 use std::alloc::{AllocError, Global};
@@ -48,7 +47,7 @@ fn find_unknown<'d>(ports: &Ports<'d>, k: u32, i: u32, inst: &'d Inst) -> Option
     requires inst { slice_get (insts_of ports.now k) i ≡ Some inst.now }
     ensures { name_behind result ≡ faulty_formal UnknownFormal ports.now inst.now }
 {
-    match ports.survey().model_of(k, i) {
+    match ports.model_of(k, i) {
         Some(sub) => first_unknown(ports, sub, inst.binds.as_slice()),
         None => None,
     }
@@ -117,7 +116,7 @@ fn find_unbound<'d>(
     ensures { IfOk result (λ formal. name_behind formal ≡ faulty_formal Unbound ports.now inst.now) }
 {
     let bound = collect_bound(alloc, inst)?;
-    match ports.survey().model_of(k, i) {
+    match ports.model_of(k, i) {
         Some(sub) => Ok(first_unbound(ports, sub, &bound)),
         None => Ok(None),
     }
@@ -136,26 +135,16 @@ fn first_unbound<'d>(ports: &Ports<'d>, sub: u32, bound: &NameSet<'d>) -> Option
     requires { IsReached ports.now sub }
     ensures { name_behind result ≡ first_unbound_of ports.now sub bound.now }
 {
-    match ports.model(sub) {
-        Some(model) => first_outside(ports, sub, model.inputs.as_slice(), bound),
-        None => None,
-    }
+    first_outside(ports.survey().data_inputs(sub), bound)
 }
 
-/// The first of some names that is no clock name of a model, and not in a set.
-fn first_outside<'d>(
-    ports: &Ports<'d>,
-    sub: u32,
-    names: &'d [Name],
-    bound: &NameSet<'d>,
-) -> Option<&'d [u8]>
-    requires { IsReached ports.now sub }
-    ensures { name_behind result ≡ find (λ name. not (is_among name bound.now)) (filter (λ name. not (is_clock_of ports.now sub name)) names.now) }
+/// The first of some names that is not in a set.
+fn first_outside<'d>(names: &[&'d [u8]], set: &NameSet<'d>) -> Option<&'d [u8]>
+    ensures { name_behind result ≡ find (λ name. not (is_among name set.now)) (texts names.now) }
 {
     for name in names {
-        let name = name.as_slice();
-        if !ports.survey().is_clock(sub, name) && !bound.has(name) {
-            return Some(name);
+        if !set.has(name) {
+            return Some(*name);
         }
     }
     None

@@ -181,7 +181,7 @@ fn push_inst<'d>(
     requires inst { slice_get (insts_of ports.now model) i ≡ Some inst.now }
     ensures { OnOk result (texts list.new.items ≡ texts list.old.items ++ nets_on side ports.now inst.now) }
 {
-    match ports.survey().model_of(model, i) {
+    match ports.model_of(model, i) {
         Some(sub) => push_actuals(list, ports, side, sub, inst.binds.as_slice()),
         None => Ok(()),
     }

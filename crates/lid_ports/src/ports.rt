@@ -2,7 +2,7 @@ ghost use Rattle.std.specs.Prelude.{◌≡◌, ◌<◌, ◌^◌, length, [], opt
 ghost use denote.Ref.{Bor};
 ghost use Rattle.lid_design.specs.declared.Model.{Model};
 ghost use Rattle.lid_design.specs.Columns.{is_among};
-ghost use Rattle.lid_design.specs.Models.{HasNoRecursion};
+ghost use Rattle.lid_design.specs.Models.{HasNoRecursion, instance_number};
 ghost use Rattle.lid_ports.specs.Ports.{names_in, sets_in, is_in, ArePorts};
 
 use lid_base::{Items, Name};
@@ -76,6 +76,14 @@ impl<'d> Ports<'d> {
         }
     }
 
+    /// The number of the model of an instance, by the numbers of the model that has it and of the
+    /// instance in that model. `None` where there is no such instance.
+    pub fn model_of(&self, model: u32, inst: u32) -> Option<u32>
+        ensures { result ≡ instance_number self.now inst model }
+    {
+        self.survey.model_of(model, inst)
+    }
+
     /// Gives back what is known of the models.
     pub fn into_survey(self) -> Survey<'d>
         ensures { result ≡ self.entry }
@@ -88,10 +96,17 @@ impl<'d> Ports<'d> {
     pub fn has(&self, port: Port, model: u32, name: &[u8]) -> bool
         ensures { result ≡ is_in self.now port model name.now }
     {
+        has_name(self.sets_of(port), model, name)
+    }
+
+    /// The sets of the names of a list of each model.
+    fn sets_of(&self, port: Port) -> &[NameSet<'d>]
+        ensures { result.now ≡ sets_in port self.now.models }
+    {
         match port {
-            Port::Input => has_name(self.sets.inputs.as_slice(), model, name),
-            Port::Output => has_name(self.sets.outputs.as_slice(), model, name),
-            Port::Clock => has_name(self.sets.clocks.as_slice(), model, name),
+            Port::Input => self.sets.inputs.as_slice(),
+            Port::Output => self.sets.outputs.as_slice(),
+            Port::Clock => self.sets.clocks.as_slice(),
         }
     }
 }

@@ -4,7 +4,6 @@ pub mod Running
 pub mod Tables
 pub mod Covered
 pub mod Outputs
-pub mod Placing
 pub mod Descent
 pub mod Levels
 pub mod Accepted

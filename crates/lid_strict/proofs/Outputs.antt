@@ -12,7 +12,8 @@ use Rattle.lid_digraph.specs.Graphs.{IsOrder}
 use Rattle.lid_elab.specs.declared.driver.ColumnDriver.{ColumnDriver}
 use Rattle.lid_elab.specs.Elaborations.{shown_driver, map_driver, column_at, IsElaborated}
 use Rattle.lid_check.proofs.Numbered.{column_here}
-use Rattle.lid_strict.specs.Networks.{driver_of, reads_of, HasCover, AreHeldBelow, AreNumbersOf, rows_at}
+use Rattle.lid_check.specs.Networks.{AreNumbersOf}
+use Rattle.lid_strict.specs.Networks.{driver_of, reads_of, HasCover, AreHeldBelow, rows_at}
 use Rattle.lid_strict.proofs.Covered.{IsCovered, all_covered}
 use Rattle.lid_strict.proofs.Tables.{map_map, numbered, table}
 
@@ -44,49 +45,57 @@ map_names : (f : Column → Bool) (names : List (List ℕ)) → map f (map (colu
 map_names f [] = refl
 map_names f (n ∷ names) = ap (λ (bs : List Bool). f (column [] n) ∷ bs) (map_names f names)
 
-module _ (d : Design) (list : List ColumnDriver) (starts : List ℕ) (is : IsElaborated d (map shown_driver list) starts) where
+module _ (d : Design) (list : List ColumnDriver) (starts : List ℕ) (is : IsElaborated d (map (shown_driver d) list) starts) where
   uncovered : (s : Driver ℕ) → IsCovered (map_driver (column_at d) s) → HasCover s
   uncovered (from_input j) h = tt
   uncovered (from_latch first input) h = tt
   uncovered (from_cover cover inputs) h = (h.0, h.1 ∙ length-map inputs (column_at d))
   uncovered (from_connection other) h = tt
 
-  pub covers : IsWellFormed d → AllByRecursion (λ driver. HasCover (shown_driver driver)) list
-  covers formed = all_from_at (λ (driver : ColumnDriver). HasCover (shown_driver driver)) list each
+  pub covers : IsWellFormed d → AllByRecursion (λ driver. HasCover (shown_driver d driver)) list
+  covers formed = all_from_at (λ (driver : ColumnDriver). HasCover (shown_driver d driver)) list each
     where
-      each : (k : ℕ) (driver : ColumnDriver) → slice_get list k ≡ Some driver → HasCover (shown_driver driver)
+      each : (k : ℕ) (driver : ColumnDriver) → slice_get list k ≡ Some driver → HasCover (shown_driver d driver)
       each k driver here =
-          let shown : slice_get (map shown_driver list) k ≡ Some (shown_driver driver) = slice_get-map shown_driver list k ∙ ap (option_map shown_driver) here in
-          let driven = is.each k (column_at d k) (column_here d (map shown_driver list) starts is k (slice_get_within (map shown_driver list) k (shown_driver driver) shown)) in
-          let e : Some (shown_driver driver) ≡ Some driven.driver = sym shown ∙ driven.here in
-          let same_driver : driven.driver ≡ shown_driver driver = cc in
+          let shown : slice_get (map (shown_driver d) list) k ≡ Some (shown_driver d driver) = slice_get-map (shown_driver d) list k ∙ ap (option_map (shown_driver d)) here in
+          let driven = is.each k (column_at d k) (column_here d (map (shown_driver d) list) starts is k (slice_get_within (map (shown_driver d) list) k (shown_driver d driver) shown)) in
+          let e : Some (shown_driver d driver) ≡ Some driven.driver = sym shown ∙ driven.here in
+          let same_driver : driven.driver ≡ shown_driver d driver = cc in
           let all = subst (λ (ss : List (Driver Column)). AllByRecursion IsCovered ss) driven.only (all_covered d formed (column_at d k)) in
           subst HasCover same_driver (uncovered driven.driver all.0)
 
-  pub held_below : AreHeldBelow (map shown_driver list)
-  held_below = all_from_at (λ (s : Driver ℕ). AllByRecursion (λ a. a < length (map shown_driver list)) (read_before s)) (map shown_driver list) each
+  pub held_below : AreHeldBelow (map (shown_driver d) list)
+  held_below = all_from_at (λ (s : Driver ℕ). AllByRecursion (λ a. a < length (map (shown_driver d) list)) (read_before s)) (map (shown_driver d) list) each
     where
-      each : (k : ℕ) (s : Driver ℕ) → slice_get (map shown_driver list) k ≡ Some s → AllByRecursion (λ a. a < length (map shown_driver list)) (read_before s)
+      each : (k : ℕ) (s : Driver ℕ) → slice_get (map (shown_driver d) list) k ≡ Some s → AllByRecursion (λ a. a < length (map (shown_driver d) list)) (read_before s)
       each k s here =
-          let driven = is.each k (column_at d k) (column_here d (map shown_driver list) starts is k (slice_get_within (map shown_driver list) k s here)) in
+          let driven = is.each k (column_at d k) (column_here d (map (shown_driver d) list) starts is k (slice_get_within (map (shown_driver d) list) k s here)) in
           let e : Some s ≡ Some driven.driver = sym here ∙ driven.here in
           let same_driver : driven.driver ≡ s = cc in
-          subst (λ (r : Driver ℕ). AllByRecursion (λ a. a < length (map shown_driver list)) (read_before r)) same_driver (all_right (λ (a : ℕ). a < length (map shown_driver list)) (read_now driven.driver) (read_before driven.driver) driven.below)
+          subst (λ (r : Driver ℕ). AllByRecursion (λ a. a < length (map (shown_driver d) list)) (read_before r)) same_driver (all_right (λ (a : ℕ). a < length (map (shown_driver d) list)) (read_now driven.driver) (read_before driven.driver) driven.below)
 
-  pub strict_output : (order outs : List ℕ) → IsOrder (reads_of (map shown_driver list)) order → AreNumbersOf d (length list) outs → (rows out : List (List Bool)) → ((b : Table ℕ) → IsStrict (driver_of (map shown_driver list)) rows b → out ≡ rows_at outs b (length rows)) → IsStrictOutput d rows out
+  pub strict_output : (order outs : List ℕ) → IsOrder (reads_of (map (shown_driver d) list)) order → AreNumbersOf d (length list) outs → (rows out : List (List Bool)) → ((b : Table ℕ) → IsStrict (driver_of (map (shown_driver d) list)) rows b → out ≡ rows_at outs b (length rows)) → IsStrictOutput d rows out
   strict_output order outs ordered numbers rows out every = record {
-    some = table d (map shown_driver list) starts is order ordered rows;
+    some = table d (map (shown_driver d) list) starts is order ordered rows;
     each = λ b strict.
-        every (λ t k. b t (column_at d k)) (numbered d (map shown_driver list) starts is rows b strict)
+        every (λ t k. b t (column_at d k)) (numbered d (map (shown_driver d) list) starts is rows b strict)
         ∙ from_each_same (λ t. map (λ k. b t (column_at d k)) outs) (output_row d b) 0 (length rows)
         (λ t. sym (map_map (b t) (column_at d) outs) ∙ ap (map (b t)) numbers.outputs ∙ map_names (b t) (root_outputs d));
   }
 
--- as many rows as the inputs have, each as wide as the outputs
-pub output_height : (d : Design) (rows out : List (List Bool)) → IsStrictOutput d rows out → length out ≡ length rows
-output_height d rows out is = ap length (is.each is.some.0 is.some.1) ∙ from_each_long (output_row d is.some.0) 0 (length rows)
+-- there are as many rows of outputs as of inputs, each as wide as the outputs
+pub record HasShape (d : Design) (rows out : List (List Bool)) : Type 0 where
+  pub height : length out ≡ length rows
+  pub width : AllByRecursion (λ row. length row ≡ length (root_outputs d)) out
 
-pub output_width : (d : Design) (rows out : List (List Bool)) → IsStrictOutput d rows out → AllByRecursion (λ row. length row ≡ length (root_outputs d)) out
-output_width d rows out is =
-    subst (AllByRecursion (λ (row : List Bool). length row ≡ length (root_outputs d))) (sym (is.each is.some.0 is.some.1))
-    (from_each_all (λ (row : List Bool). length row ≡ length (root_outputs d)) (output_row d is.some.0) 0 (length rows) (λ t. length-map (root_outputs d) _))
+pub output_shape : (d seen : Design) (rows given out : List (List Bool)) → seen ≡ d → given ≡ rows → IsStrictOutput seen given out → HasShape d rows out
+output_shape d seen rows given out same_design same_rows told = record {
+  height = ap length shown ∙ from_each_long (output_row d is.some.0) 0 (length rows);
+  width = subst (AllByRecursion (λ (row : List Bool). length row ≡ length (root_outputs d))) (sym shown) (from_each_all (λ (row : List Bool). length row ≡ length (root_outputs d)) (output_row d is.some.0) 0 (length rows) (λ t. length-map (root_outputs d) _));
+}
+  where
+    is : IsStrictOutput d rows out
+    is = subst (λ (e : Design). IsStrictOutput e rows out) same_design (subst (λ (rs : List (List Bool)). IsStrictOutput seen rs out) same_rows told)
+
+    shown : out ≡ from_each (output_row d is.some.0) 0 (length rows)
+    shown = is.each is.some.0 is.some.1

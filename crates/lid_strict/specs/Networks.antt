@@ -5,9 +5,6 @@ use Rattle.lid_base.specs.Lists.{Among}
 use Rattle.lid_cover.specs.Cover.{cover_value, IsCover}
 use Rattle.lid_design.specs.Network.{Driver, from_input, from_latch, from_cover, from_connection, Table, IsStrict, from_each}
 use Rattle.lid_design.specs.Walks.{read_now, read_before}
-use Rattle.lid_design.specs.declared.Design.{Design}
-use Rattle.lid_design.specs.Columns.{column, root_outputs}
-use Rattle.lid_elab.specs.Elaborations.{column_at}
 
 -- what drives a number: the driver at its place
 abbrev pub driver_of : List (Driver ℕ) → ℕ → List (Driver ℕ)
@@ -57,8 +54,3 @@ pub record IsRun (network : List (Driver ℕ)) (outs : List ℕ) (rows : List (L
   pub size : length before ≡ length network
   pub rows_so_far : (b : Table ℕ) → IsStrict (driver_of network) rows b → out ≡ rows_at outs b t
   pub last_row : (b : Table ℕ) → IsStrict (driver_of network) rows b → (u k : ℕ) → t ≡ u + 1 → k < length network → bit_at before k ≡ b u k
-
--- the numbers of the columns of the root's outputs, in order
-pub record AreNumbersOf (d : Design) (count : ℕ) (numbers : List ℕ) : Type 0 where
-  pub below : AllByRecursion (λ k. k < count) numbers
-  pub outputs : map (column_at d) numbers ≡ map (column []) (root_outputs d)

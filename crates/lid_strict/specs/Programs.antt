@@ -1,5 +1,8 @@
 -- Networks laid out in flat arrays, in an order of their numbers.
-use Rattle.std.specs.Prelude.{◌≡◌, ◌≤◌, ◌-◌, ℕ, Bool, List, length, map, take, drop, slice_index_or, ⊤}
+use denote.Ref.{Bor}
+use Rattle.std.specs.Option.{option_map_or}
+use Rattle.lid_elab.specs.Covers.{no_cover}
+use Rattle.std.specs.Prelude.{Option, ◌≡◌, ◌≤◌, ◌-◌, ℕ, Bool, List, length, map, take, drop, slice_index_or, ⊤}
 use Rattle.std.specs.List.{AllByRecursion}
 use Rattle.lid_cover.specs.declared.Cover.{Cover}
 use Rattle.lid_cover.specs.declared.Cube.{Cube}
@@ -10,6 +13,10 @@ use Rattle.lid_strict.specs.declared.program.Part.{Part}
 use Rattle.lid_strict.specs.declared.program.Step.{Step}
 use Rattle.lid_strict.specs.declared.program.Step.TheVariants.{Input, Latch, Cover as OfCover, Connection}
 use Rattle.lid_strict.specs.declared.program.Program.{Program}
+
+-- a cover behind a reference; one without inputs and rows where there is none
+abbrev pub seen_cover : Option (Bor Cover) → Cover
+seen_cover cover = option_map_or (λ (c : Bor Cover). c.now) cover no_cover
 
 -- the items of a part
 abbrev pub part_of : {A : Type 0} → List A → Part → List A

@@ -14,6 +14,7 @@ ghost use Rattle.lid_strict.specs.Programs.{cover_of, shown_step, shown_program,
 use crate::program::{Program, Step, lay_out};
 use lid_base::Items;
 use lid_cover::Cube;
+use lid_design::Design;
 use lid_elab::ColumnDriver;
 use std::alloc::{AllocError, Global};
 use std::mem::swap;
@@ -161,20 +162,30 @@ fn run_row(
 /// answers the bits of some numbers in each row.
 pub fn simulate(
     alloc: Global,
-    drivers: &[ColumnDriver<'_>],
+    design: &Design,
+    drivers: &[ColumnDriver],
     order: &[u32],
     outs: &[u32],
     rows: &[Items<bool>],
 ) -> Result<Items<Items<bool>>, AllocError>
-    requires ordered { IsOrder (reads_of (map shown_driver drivers.now)) order.now }
-    requires covers { AllByRecursion (λ driver. HasCover (shown_driver driver)) drivers.now }
-    requires held { AreHeldBelow (map shown_driver drivers.now) }
+    requires ordered { IsOrder (reads_of (map (shown_driver design.now) drivers.now)) order.now }
+    requires covers { AllByRecursion (λ driver. HasCover (shown_driver design.now driver)) drivers.now }
+    requires held { AreHeldBelow (map (shown_driver design.now) drivers.now) }
     requires outs { AllByRecursion (λ k. k < length drivers.now) outs.now }
-    ensures { IfOk result (λ out. (b : Table ℕ) → IsStrict (driver_of (map shown_driver drivers.now)) rows.now b → out ≡ rows_at outs.now b (length rows.now)) }
+    ensures { IfOk result (λ out. (b : Table ℕ) → IsStrict (driver_of (map (shown_driver design.now) drivers.now)) rows.now b → out ≡ rows_at outs.now b (length rows.now)) }
 {
-    let program = lay_out(alloc, drivers, order)?;
+    let program = lay_out(alloc, design, drivers, order)?;
     let mut results = Vec::with_capacity(alloc, rows.len())?;
-    run_rows(alloc, drivers, &program, order, outs, rows, &mut results)?;
+    run_rows(
+        alloc,
+        design,
+        drivers,
+        &program,
+        order,
+        outs,
+        rows,
+        &mut results,
+    )?;
     Ok(Items::from_vec(results))
 }
 
@@ -182,21 +193,23 @@ pub fn simulate(
 /// there are none yet.
 fn run_rows(
     alloc: Global,
-    drivers: &[ColumnDriver<'_>],
+    design: &Design,
+    drivers: &[ColumnDriver],
     program: &Program,
     order: &[u32],
     outs: &[u32],
     rows: &[Items<bool>],
     results: &mut Vec<Items<bool>>,
 ) -> Result<(), AllocError>
-    requires laid { IsLaidOut (map shown_driver drivers.now) order.now program.now }
+    requires laid { IsLaidOut (map (shown_driver design.now) drivers.now) order.now program.now }
     requires whole { IsWhole program.now }
-    requires covers { AllByRecursion (λ driver. HasCover (shown_driver driver)) drivers.now }
-    requires held { AreHeldBelow (map shown_driver drivers.now) }
+    requires covers { AllByRecursion (λ driver. HasCover (shown_driver design.now driver)) drivers.now }
+    requires held { AreHeldBelow (map (shown_driver design.now) drivers.now) }
     requires outs { AllByRecursion (λ k. k < length drivers.now) outs.now }
     requires none { results.old.items ≡ [] }
-    ensures { OnOk result ((b : Table ℕ) → IsStrict (driver_of (map shown_driver drivers.now)) rows.now b → results.new.items ≡ rows_at outs.now b (length rows.now)) }
+    ensures { OnOk result ((b : Table ℕ) → IsStrict (driver_of (map (shown_driver design.now) drivers.now)) rows.now b → results.new.items ≡ rows_at outs.now b (length rows.now)) }
 {
+    let _ = design;
     let mut before = Vec::from_elem(alloc, false, drivers.len())?;
     let mut now = Vec::from_elem(alloc, false, drivers.len())?;
     for t in 0..rows.len() {

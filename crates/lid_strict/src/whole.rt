@@ -1,28 +1,18 @@
-ghost use Rattle.std.specs.Prelude.{◌≡◌, ◌≤◌, ◌<◌, ℕ, Some, length, map, position, IfOk};
+ghost use Rattle.std.specs.Prelude.{◌≡◌, length, IfOk};
 ghost use Rattle.std.specs.List.{AllByRecursion};
-ghost use Rattle.std.specs.Str.{bytes_eq};
-ghost use Rattle.lid_base.specs.Lists.{Among};
-ghost use Rattle.lid_design.specs.Columns.{column, root_outputs, IsStrictOutput};
-ghost use Rattle.lid_design.specs.Elaboration.{model_nets};
+ghost use Rattle.lid_design.specs.Columns.{root_outputs, IsStrictOutput};
 ghost use Rattle.lid_design.specs.WellFormed.{IsWellFormed};
-ghost use Rattle.lid_elab.specs.Elaborations.{shown_driver, column_at, IsElaborated};
-ghost use Rattle.lid_rules.specs.Acceptance.{ModelsPass};
-ghost use Rattle.lid_check.specs.Acceptance.{IsAccepted};
-ghost use Rattle.lid_strict.specs.Networks.{AreNumbersOf};
+ghost use Rattle.lid_check.specs.Networks.{IsNetwork};
 
 use crate::simulation::simulate;
-use lid_base::{Items, Name, copy_names};
-use lid_check::Checked;
+use lid_base::{Items, copy_names};
+use lid_check::{Checked, Network};
 use lid_design::Design;
-use lid_digraph::{Digraph, Found, find_order};
-use lid_elab::{Elaboration, elaborate, find_reads};
-use lid_hierarchy::{Survey, SurveyFault, find_uses, survey_models};
 use lid_texts::Rows;
-use lid_wiring::{Judged, judge};
 use std::alloc::{AllocError, Global};
 
 /// The strict outputs of an accepted design for input rows, by a plain simulation of all its
-/// columns: an order of the covers is found once, and each row costs one pass over them.
+/// columns: the design has an order of them, and each row costs one pass over them.
 ///
 /// # Errors
 /// Where there is no memory.
@@ -33,116 +23,28 @@ pub fn strict(alloc: Global, checked: &Checked, rows: &Rows) -> Result<Rows, All
     ensures width { IfOk result (λ out. AllByRecursion (λ row. length row ≡ length (root_outputs checked.now)) out.bits) }
 {
     let columns = copy_names(alloc, checked.outputs())?;
-    let bits = run(alloc, checked.design(), rows.bits.as_slice())?;
+    let bits = run(
+        alloc,
+        checked.design(),
+        checked.network(),
+        rows.bits.as_slice(),
+    )?;
     Ok(Rows { columns, bits })
 }
 
-/// The strict outputs of an accepted design for input rows.
+/// The strict outputs of a design for input rows, by its columns.
 fn run(
     alloc: Global,
     design: &Design,
+    network: &Network,
     rows: &[Items<bool>],
 ) -> Result<Items<Items<bool>>, AllocError>
     requires formed { IsWellFormed design.now }
-    requires accepted { IsAccepted design.now }
+    requires network { IsNetwork design.now network.now }
     ensures { IfOk result (IsStrictOutput design.now rows.now) }
 {
-    let survey = survey_passed(alloc, design)?;
-    let judged = judge(survey);
-    run_judged(alloc, &judged, rows)
-}
-
-/// What is found of the models of a design that meets the conditions on models.
-fn survey_passed<'d>(alloc: Global, design: &'d Design) -> Result<Survey<'d>, AllocError>
-    requires formed { IsWellFormed design.now }
-    requires passed { ModelsPass design.now }
-    ensures { IfOk result (λ survey. survey ≡ design.now) }
-{
-    let uses = find_uses(alloc, design)?;
-    match survey_models(alloc, uses) {
-        Ok(survey) => Ok(survey),
-        Err(SurveyFault::Recursive { model: _ }) => unreachable!(),
-        Err(SurveyFault::Memory) => Err(AllocError),
-    }
-}
-
-/// The strict outputs of an accepted design for input rows, by what is found of its models.
-fn run_judged(
-    alloc: Global,
-    judged: &Judged<'_>,
-    rows: &[Items<bool>],
-) -> Result<Items<Items<bool>>, AllocError>
-    requires { IsAccepted judged.now }
-    ensures { IfOk result (IsStrictOutput judged.now rows.now) }
-{
-    let columns = elaborate(alloc, judged)?;
-    let outs = number_outputs(alloc, judged, &columns)?;
-    let design = judged.survey().design();
-    run_columns(alloc, design, &columns, outs.as_slice(), rows)
-}
-
-/// Runs the columns of an accepted design.
-fn run_columns(
-    alloc: Global,
-    design: &Design,
-    columns: &Elaboration<'_>,
-    outs: &[u32],
-    rows: &[Items<bool>],
-) -> Result<Items<Items<bool>>, AllocError>
-    requires formed { IsWellFormed design.now }
-    requires accepted { IsAccepted design.now }
-    requires elaborated { IsElaborated design.now (map shown_driver columns.now.drivers) columns.now.starts }
-    requires few { length columns.now.drivers ≤ 1048576 }
-    requires outs { AreNumbersOf design.now (length columns.now.drivers) outs.now }
-    ensures { IfOk result (IsStrictOutput design.now rows.now) }
-{
-    let drivers = columns.drivers.as_slice();
-    let reads = find_reads(alloc, drivers)?;
-    let graph = Digraph {
-        reads: reads.as_slice(),
-    };
-    match find_order(alloc, &graph)? {
-        Found::Order(order) => simulate(alloc, drivers, order.as_slice(), outs, rows),
-        Found::Loop(_) => unreachable!(),
-    }
-}
-
-/// The numbers of the columns of the root's outputs, in order.
-fn number_outputs(
-    alloc: Global,
-    judged: &Judged<'_>,
-    columns: &Elaboration<'_>,
-) -> Result<Items<u32>, AllocError>
-    requires elaborated { IsElaborated judged.now (map shown_driver columns.now.drivers) columns.now.starts }
-    requires few { length columns.now.drivers ≤ 1048576 }
-    ensures { IfOk result (AreNumbersOf judged.now (length columns.now.drivers)) }
-{
-    let outputs = outputs_of(judged);
-    let mut numbers = Vec::with_capacity(alloc, outputs.len())?;
-    for name in outputs {
-        numbers.push(place_of(judged, name) as u32)?;
-    }
-    Ok(Items::from_vec(numbers))
-}
-
-/// The outputs of the root.
-fn outputs_of<'j>(judged: &'j Judged<'_>) -> &'j [Name]
-    ensures { result.now ≡ root_outputs judged.now }
-{
-    let design = judged.survey().design();
-    design.models.as_slice()[design.root as usize]
-        .outputs
-        .as_slice()
-}
-
-/// The place of an output of the root among the nets of the root.
-fn place_of(judged: &Judged<'_>, name: &Name) -> usize
-    requires { Among name.now (root_outputs judged.now) }
-    ensures { position (bytes_eq name.now) (model_nets judged.now judged.now.root) ≡ Some result }
-{
-    let survey = judged.survey();
-    match survey.place_of(survey.design().root, name.as_slice()) {
-        Some(place) => place,
-        None => unreachable!(),
-    }
+    let drivers = network.columns.drivers.as_slice();
+    let order = network.order.as_slice();
+    let outs = network.outputs.as_slice();
+    simulate(alloc, design, drivers, order, outs, rows)
 }

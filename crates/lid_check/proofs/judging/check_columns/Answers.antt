@@ -1,21 +1,12 @@
-use Rattle.std.proofs.Common.{Option, inr, sym, subst}
-use Rattle.lid_rules.specs.Acceptance.{ModelsPass}
-use Rattle.lid_check.specs.declared.flaws.Flaw.{Flaw}
-use Rattle.lid_check.specs.Acceptance.{IsAccepted}
-use Rattle.lid_check.specs.Flaws.{FindsFlaw}
-use Rattle.lid_check.proofs.Leads.{told_refuses}
+use Rattle.std.proofs.Common.{◌≡◌, ◌⊎◌, IfOk, IfErr, subst}
+use Rattle.lid_design.specs.declared.Design.{Design}
+use Rattle.lid_rules.specs.declared.fault.CheckFault.TheVariants.{Memory}
+use Rattle.lid_check.specs.Acceptance.{IsRefusal}
+use Rattle.lid_check.specs.Facts.{AreFacts}
 use Rattle.lid_check.proofs.judging.check_columns.Goals as goal
 
-pub find_facts-requires : goal.find_facts-requires
-find_facts-requires c =
-    let none = subst (λ (o : Option Flaw). FindsFlaw c.args.judged.now o) c.in-None.is c.in_ok-find_flaw.ensures in
-    let pass = subst ModelsPass c.survey-survey.ensures.same c.survey-survey.ensures.judged.pass in
-    subst IsAccepted (sym c.survey-survey.ensures.same) (record { models = pass; loops = none.0; outputs = none.1 })
+pub returns-clause-ok : goal.returns-clause-ok
+returns-clause-ok c = subst (λ (d : Design). IfOk c.judge_columns.result (λ facts. AreFacts d facts)) c.in_ok-columns.ensures c.judge_columns.ensures.ok
 
-pub tell_flaw-requires : goal.tell_flaw-requires
-tell_flaw-requires c = subst (λ (o : Option Flaw). FindsFlaw c.args.judged.now o) c.in-Some.is c.in_ok-find_flaw.ensures
-
-pub returns-in_ok-tell_flaw-in-Some-clause-err : goal.returns-in_ok-tell_flaw-in-Some-clause-err
-returns-in_ok-tell_flaw-in-Some-clause-err c =
-    let pass = subst ModelsPass c.survey-survey.ensures.same c.survey-survey.ensures.judged.pass in
-    inr (told_refuses c.args.judged.now _ pass c.in_ok-tell_flaw-in-Some.ensures)
+pub returns-clause-err : goal.returns-clause-err
+returns-clause-err c = subst (λ (d : Design). IfErr c.judge_columns.result (λ fault. (fault ≡ Memory) ⊎ IsRefusal d fault)) c.in_ok-columns.ensures c.judge_columns.ensures.err

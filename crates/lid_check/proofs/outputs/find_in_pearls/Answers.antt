@@ -1,37 +1,27 @@
 use Rattle.std.proofs.Common.{◌<◌, Option, length, get_or, subst, arith}
-use Rattle.std.proofs.lemmas.Option.{slice_get-get_or, slice_get_within}
+use Rattle.std.proofs.lemmas.Option.{slice_get_within}
 use Rattle.lid_check.specs.declared.outputs.Lead.{Lead}
 use Rattle.lid_check.specs.Flaws.{FindsLead}
-use Rattle.lid_check.proofs.Leads.{fits_at, none_more, none_depends, first_dependence}
+use Rattle.lid_check.proofs.Leads.{no_pearl, pearl_at, fits_at, none_more, none_depends, first_dependence}
 use Rattle.lid_check.proofs.outputs.find_in_pearls.Goals as goal
 
 pub find_lead-requires-clause-fits : goal.find_lead-requires-clause-fits
 find_lead-requires-clause-fits c =
-    let p = c.loop-p.p in
-    let ps = c.args.pearls.now in
-    fits_at c.args.survey.now c.args.graph.now.reads.now c.args.cut.now c.args.reached.now ps c.requires.apart p (get_or ps p (record { model = 0; start = 0 })) (slice_get-get_or ps p (record { model = 0; start = 0 }) c.loop-p-test.true)
+    fits_at c.args.survey.now c.args.graph.now.reads.now c.args.cut.now c.args.reached.now c.args.pearls.now c.requires.apart c.loop-p.p (get_or c.args.pearls.now c.loop-p.p no_pearl) (pearl_at c.args.pearls.now c.loop-p.p c.loop-p-test.true)
 
 pub find_lead-requires-clause-marks : goal.find_lead-requires-clause-marks
 find_lead-requires-clause-marks c =
-    let p = c.loop-p.p in
-    let ps = c.args.pearls.now in
-    c.requires.apart.marks p (get_or ps p (record { model = 0; start = 0 })) (slice_get-get_or ps p (record { model = 0; start = 0 }) c.loop-p-test.true)
+    c.requires.apart.marks c.loop-p.p (get_or c.args.pearls.now c.loop-p.p no_pearl) (pearl_at c.args.pearls.now c.loop-p.p c.loop-p-test.true)
 
 pub loop-p-preserved : goal.loop-p-preserved
 loop-p-preserved c =
-    let p = c.loop-p.p in
-    let ps = c.args.pearls.now in
-    let pearl = get_or ps p (record { model = 0; start = 0 }) in
-    let none = subst (λ (o : Option Lead). FindsLead c.args.survey.now c.args.graph.now.reads.now c.args.cut.now pearl o) c.in-None.is c.in_ok-lead.ensures in
-    none_more c.args.survey.now c.args.graph.now.reads.now c.args.cut.now c.args.reached.now ps c.requires.apart p pearl (slice_get-get_or ps p (record { model = 0; start = 0 }) c.loop-p-test.true) c.loop-p.invariant none
+    let none = subst (λ (o : Option Lead). FindsLead c.args.survey.now c.args.graph.now.reads.now c.args.cut.now (get_or c.args.pearls.now c.loop-p.p no_pearl) o) c.in-None.is c.in_ok-lead.ensures in
+    none_more c.args.survey.now c.args.graph.now.reads.now c.args.cut.now c.args.reached.now c.args.pearls.now c.requires.apart c.loop-p.p (get_or c.args.pearls.now c.loop-p.p no_pearl) (pearl_at c.args.pearls.now c.loop-p.p c.loop-p-test.true) c.loop-p.invariant none
 
 pub returns-in-Some : goal.returns-in-Some
 returns-in-Some c =
-    let p = c.loop-p.p in
-    let ps = c.args.pearls.now in
-    let pearl = get_or ps p (record { model = 0; start = 0 }) in
-    let lead = subst (λ (o : Option Lead). FindsLead c.args.survey.now c.args.graph.now.reads.now c.args.cut.now pearl o) c.in-Some.is c.in_ok-lead.ensures in
-    first_dependence c.args.survey.now c.args.graph.now.reads.now c.args.cut.now c.args.reached.now ps c.requires.apart p pearl (slice_get-get_or ps p (record { model = 0; start = 0 }) c.loop-p-test.true) c.loop-p.invariant c.in-Some.lead lead
+    let lead = subst (λ (o : Option Lead). FindsLead c.args.survey.now c.args.graph.now.reads.now c.args.cut.now (get_or c.args.pearls.now c.loop-p.p no_pearl) o) c.in-Some.is c.in_ok-lead.ensures in
+    first_dependence c.args.survey.now c.args.graph.now.reads.now c.args.cut.now c.args.reached.now c.args.pearls.now c.requires.apart c.loop-p.p (get_or c.args.pearls.now c.loop-p.p no_pearl) (pearl_at c.args.pearls.now c.loop-p.p c.loop-p-test.true) c.loop-p.invariant c.in-Some.lead lead
 
 pub returns : goal.returns
 returns c =

@@ -6,4 +6,4 @@ use Rattle.lid_elab.proofs.driven.push_inputs.Given as goal
 
 abbrev pub invariant-loop-input : goal.invariant-loop-input
 invariant-loop-input l =
-    Left l.survey l.model l.into (inputs_from l.count (data_of l.survey l.model (drop l.input-index l.inputs))) l.fn.into (inputs_from 0 (data_of l.survey l.model l.inputs))
+    Left l.judged l.model l.into (inputs_from l.count (data_of l.judged l.model (drop l.input-index l.inputs))) l.fn.into (inputs_from 0 (data_of l.judged l.model l.inputs))

@@ -6,4 +6,4 @@ use Rattle.lid_elab.proofs.driven.push_insts.Given as goal
 
 abbrev pub invariant-loop-i : goal.invariant-loop-i
 invariant-loop-i l =
-    Left l.survey l.model l.into (flat_map (outputs_of l.survey) (enumerate_from l.i (drop l.i l.insts))) l.fn.into (flat_map (outputs_of l.survey) (enumerate_from 0 l.insts))
+    Left l.judged l.model l.into (flat_map (outputs_of l.judged) (enumerate_from l.i (drop l.i l.insts))) l.fn.into (flat_map (outputs_of l.judged) (enumerate_from 0 l.insts))

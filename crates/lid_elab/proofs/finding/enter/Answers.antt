@@ -7,23 +7,23 @@ use Rattle.lid_elab.proofs.Entering.{not_none, offsets_are, some_inst, in_inst}
 use Rattle.lid_elab.proofs.finding.enter.Goals as goal
 
 pub bounds-templates-spot : goal.bounds-templates-spot
-bounds-templates-spot c = template_within c.args.survey.now c.args.templates.now c.requires.templates c.args.spot.model c.requires.reached
+bounds-templates-spot c = template_within c.args.judged.now c.args.templates.now c.requires.templates c.args.spot.model c.requires.reached
 
 pub last_up_to-place-requires-clause-some : goal.last_up_to-place-requires-clause-some
 last_up_to-place-requires-clause-some c =
-    let d = c.args.survey.now in
+    let d = c.args.judged.now in
     let k = c.args.spot.model in
     let are = offsets_are d c.args.templates.now c.requires.templates k c.requires.reached c.index-templates-spot.result c.as_slice-offsets.result.now c.as_slice-offsets.ensures in
-    let some = some_inst d k c.args.spot.number (shallow_of d c.requires.judged k c.requires.reached) c.requires.past c.requires.within in
+    let some = some_inst d k c.args.spot.number (shallow_of d c.design.ensures.judged k c.requires.reached) c.requires.past c.requires.within in
     let few = are.few in
     omega arith
 
 pub last_up_to-place-requires-clause-first : goal.last_up_to-place-requires-clause-first
 last_up_to-place-requires-clause-first c =
-    let d = c.args.survey.now in
+    let d = c.args.judged.now in
     let k = c.args.spot.model in
     let are = offsets_are d c.args.templates.now c.requires.templates k c.requires.reached c.index-templates-spot.result c.as_slice-offsets.result.now c.as_slice-offsets.ensures in
-    let some = some_inst d k c.args.spot.number (shallow_of d c.requires.judged k c.requires.reached) c.requires.past c.requires.within in
+    let some = some_inst d k c.args.spot.number (shallow_of d c.design.ensures.judged k c.requires.reached) c.requires.past c.requires.within in
     let few = are.few in
     let first = are.each 0 (omega arith) in
     let past = c.requires.past in
@@ -31,17 +31,17 @@ last_up_to-place-requires-clause-first c =
 
 pub overflow_cast-inst : goal.overflow_cast-inst
 overflow_cast-inst c =
-    let d = c.args.survey.now in
+    let d = c.args.judged.now in
     let k = c.args.spot.model in
     let are = offsets_are d c.args.templates.now c.requires.templates k c.requires.reached c.index-templates-spot.result c.as_slice-offsets.result.now c.as_slice-offsets.ensures in
     let few = are.few in
-    let most = few_insts d c.requires.judged.formed k in
+    let most = few_insts d c.design.ensures.judged.formed k in
     let inside = c.last_up_to-place.ensures.inside in
     omega arith
 
 pub returns-clause-number : goal.returns-clause-number
 returns-clause-number c =
-    let d = c.args.survey.now in
+    let d = c.args.judged.now in
     let k = c.args.spot.model in
     let are = offsets_are d c.args.templates.now c.requires.templates k c.requires.reached c.index-templates-spot.result c.as_slice-offsets.result.now c.as_slice-offsets.ensures in
     let here = are.each c.last_up_to-place.result c.last_up_to-place.ensures.inside in
@@ -50,7 +50,7 @@ returns-clause-number c =
 
 pub returns-clause-within : goal.returns-clause-within
 returns-clause-within c =
-    let d = c.args.survey.now in
+    let d = c.args.judged.now in
     let k = c.args.spot.model in
     let place = c.last_up_to-place.result in
     let are = offsets_are d c.args.templates.now c.requires.templates k c.requires.reached c.index-templates-spot.result c.as_slice-offsets.result.now c.as_slice-offsets.ensures in
@@ -58,16 +58,16 @@ returns-clause-within c =
     let below = c.last_up_to-place.ensures.below in
     let few = are.few in
     let names : instance_number d place k ≡ Some c.in-Some.model = sym c.model_of.ensures ∙ c.in-Some.is in
-    let room = in_inst d k c.args.spot.number place c.in-Some.model (shallow_of d c.requires.judged k c.requires.reached) c.requires.within names
+    let room = in_inst d k c.args.spot.number place c.in-Some.model (shallow_of d c.design.ensures.judged k c.requires.reached) c.requires.within names
     (λ h. let inside : place + 1 < length c.as_slice-offsets.result.now = omega arith in let next = are.each (place + 1) inside in let above = c.last_up_to-place.ensures.above inside in omega arith) in
     omega arith
 
 pub unreachable-requires : goal.unreachable-requires
 unreachable-requires c =
-    let d = c.args.survey.now in
+    let d = c.args.judged.now in
     let k = c.args.spot.model in
     let are = offsets_are d c.args.templates.now c.requires.templates k c.requires.reached c.index-templates-spot.result c.as_slice-offsets.result.now c.as_slice-offsets.ensures in
     let few = are.few in
     let inside = c.last_up_to-place.ensures.inside in
     let within : c.last_up_to-place.result < length (insts_of d k) = omega arith in
-    not_none (instance_number d c.last_up_to-place.result k) (c.requires.judged.known k c.last_up_to-place.result c.requires.reached within) (sym c.model_of.ensures ∙ c.in-None.is)
+    not_none (instance_number d c.last_up_to-place.result k) (c.design.ensures.judged.known k c.last_up_to-place.result c.requires.reached within) (sym c.model_of.ensures ∙ c.in-None.is)

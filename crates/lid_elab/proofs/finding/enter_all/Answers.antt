@@ -8,14 +8,14 @@ use Rattle.lid_elab.proofs.finding.enter_all.Goals as goal
 
 pub loop-spot-init : goal.loop-spot-init
 loop-spot-init c =
-    let d = c.args.survey.now in
+    let d = c.args.judged.now in
     let n = c.args.number in
     subst (λ (p : List ℕ). IsSpot d p c.design.result.now.root n n) (sym (ap reverse c.requires.none))
     (subst (λ (e : Design). IsSpot d [] e.root n n) (sym c.design.ensures.same) (root_spot d n c.requires.exists))
 
 pub loop-spot-preserved : goal.loop-spot-preserved
 loop-spot-preserved c =
-    let d = c.args.survey.now in
+    let d = c.args.judged.now in
     let old = c.loop-spot.path.items in
     let spot = c.loop-spot.spot in
     let i = c.enter-inst.result.0 in
@@ -26,6 +26,6 @@ loop-spot-preserved c =
 
 pub loop-spot-smaller : goal.loop-spot-smaller
 loop-spot-smaller c =
-    let d = c.args.survey.now in
+    let d = c.args.judged.now in
     let k = c.loop-spot.spot.model in
-    lighter d k c.enter-inst.result.0 c.enter-inst.result.1.model (shallow_of d c.requires.judged k (reverse c.loop-spot.path.items, c.loop-spot.invariant.leads)) c.enter-inst.ensures.model
+    lighter d k c.enter-inst.result.0 c.enter-inst.result.1.model (shallow_of d c.design.ensures.judged k (reverse c.loop-spot.path.items, c.loop-spot.invariant.leads)) c.enter-inst.ensures.model

@@ -6,7 +6,7 @@ use Rattle.lid_elab.proofs.finding.net_of.Goals as goal
 
 pub unreachable-requires : goal.unreachable-requires
 unreachable-requires c =
-    let names = model_nets c.args.survey.now c.args.spot.model in
+    let names = model_nets c.args.judged.now c.args.spot.model in
     let found = get_of names c.args.spot.number c.requires.exists in
     let none : slice_get names c.args.spot.number ≡ None = sym c.net_at.ensures ∙ ap (option_map (λ (r : Bor (List ℕ)). r.now)) c.in-None.is in
     absurd (let e : None ≡ Some found.0 = sym none ∙ found.1 in cc)

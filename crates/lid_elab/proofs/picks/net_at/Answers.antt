@@ -6,4 +6,4 @@ use Rattle.lid_elab.proofs.picks.net_at.Goals as goal
 
 pub returns-in-None : goal.returns-in-None
 returns-in-None c =
-    get_none (model_nets c.args.survey.now c.args.model) c.args.place [] (sym c.net_at.ensures ∙ ap (option_map (λ (r : Bor (List ℕ)). r.now)) c.in-None.is)
+    get_none (model_nets c.args.judged.now c.args.model) c.args.place [] (sym c.net_at.ensures ∙ ap (option_map (λ (r : Bor (List ℕ)). r.now)) c.in-None.is)

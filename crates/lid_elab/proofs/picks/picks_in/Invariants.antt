@@ -6,5 +6,5 @@ use Rattle.lid_elab.proofs.picks.picks_in.Given as goal
 
 abbrev pub invariant-loop-place : goal.invariant-loop-place
 invariant-loop-place l =
-    l.picks.items ++ map (λ net. position_or_len (bytes_eq net) l.set) (drop l.place (model_nets l.survey l.model))
-    ≡ map (λ net. position_or_len (bytes_eq net) l.set) (model_nets l.survey l.model)
+    l.picks.items ++ map (λ net. position_or_len (bytes_eq net) l.set) (drop l.place (model_nets l.judged l.model))
+    ≡ map (λ net. position_or_len (bytes_eq net) l.set) (model_nets l.judged l.model)

@@ -4,6 +4,6 @@ use Rattle.lid_elab.proofs.places.count_nets.Goals as goal
 
 pub overflow_cast-result : goal.overflow_cast-result
 overflow_cast-result c =
-    let few = nets_small c.args.survey.now c.requires.judged c.args.model c.requires.reached in
+    let few = nets_small c.args.judged.now c.design.ensures.judged c.args.model c.requires in
     let same = c.count_nets.ensures.value in
     omega arith

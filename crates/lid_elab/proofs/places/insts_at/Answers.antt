@@ -11,5 +11,5 @@ returns-clause-same c = c.as_slice.ensures ∙ sym (ap (λ (o : Option Model). o
 
 pub returns-clause-few : goal.returns-clause-few
 returns-clause-few c =
-    let same : c.as_slice.result.now ≡ insts_of c.args.survey.now c.args.model = c.as_slice.ensures ∙ sym (ap (λ (o : Option Model). option_map_or (λ m. m.insts) o []) c.model_at.ensures) in
-    subst (λ (is : List Inst). length is < 2 ^ 32) (sym same) (few_insts c.args.survey.now c.requires.judged.formed c.args.model)
+    let same : c.as_slice.result.now ≡ insts_of c.args.judged.now c.args.model = c.as_slice.ensures ∙ sym (ap (λ (o : Option Model). option_map_or (λ m. m.insts) o []) c.model_at.ensures) in
+    subst (λ (is : List Inst). length is < 2 ^ 32) (sym same) (few_insts c.args.judged.now c.design.ensures.judged.formed c.args.model)

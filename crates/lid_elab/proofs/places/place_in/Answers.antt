@@ -8,9 +8,9 @@ use Rattle.lid_elab.proofs.places.place_in.Goals as goal
 
 pub overflow_cast-result : goal.overflow_cast-result
 overflow_cast-result c =
-    let few = nets_small c.args.survey.now c.requires.judged c.args.model c.requires.reached in
-    let below = position_below (bytes_eq c.args.net.now) (model_nets c.args.survey.now c.args.model) c.in-Some.place (sym c.place_of.ensures ∙ c.in-Some.is) in
+    let few = nets_small c.args.judged.now c.design.ensures.judged c.args.model c.requires in
+    let below = position_below (bytes_eq c.args.net.now) (model_nets c.args.judged.now c.args.model) c.in-Some.place (sym c.place_of.ensures ∙ c.in-Some.is) in
     omega arith
 
 pub returns-in-None : goal.returns-in-None
-returns-in-None c = c.count_nets.ensures ∙ position_past (bytes_eq c.args.net.now) (model_nets c.args.survey.now c.args.model) (sym c.place_of.ensures ∙ c.in-None.is)
+returns-in-None c = c.count_nets.ensures ∙ position_past (bytes_eq c.args.net.now) (model_nets c.args.judged.now c.args.model) (sym c.place_of.ensures ∙ c.in-None.is)

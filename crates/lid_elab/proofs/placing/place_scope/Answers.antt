@@ -16,65 +16,65 @@ use Rattle.lid_elab.proofs.placing.place_scope.Goals as goal
 pub bounds-templates-scope : goal.bounds-templates-scope
 bounds-templates-scope c =
     let there = c.requires.there in
-    template_within c.args.survey.now c.args.templates.now c.requires.templates c.args.scope.model (there.0, there.1.leads)
+    template_within c.args.judged.now c.args.templates.now c.requires.templates c.args.scope.model (there.0, there.1.leads)
 
 pub push_drivers-requires-clause-start : goal.push_drivers-requires-clause-start
 push_drivers-requires-clause-start c =
     let there = c.requires.there in
-    let few = few_columns c.args.survey.now c.requires.judged in
-    let inside = within c.args.survey.now c.requires.judged there.0 c.args.scope.model there.1.leads in
+    let few = few_columns c.args.judged.now c.design.ensures.judged in
+    let inside = within c.args.judged.now c.design.ensures.judged there.0 c.args.scope.model there.1.leads in
     let start = there.1.start in
     omega arith
 
 pub push_drivers-requires-clause-picks : goal.push_drivers-requires-clause-picks
 push_drivers-requires-clause-picks c =
     let there = c.requires.there in
-    let d = c.args.survey.now in
+    let d = c.args.judged.now in
     let k = c.args.scope.model in
     let t = c.index-templates-scope.result in
     let is = template_at d c.args.templates.now c.requires.templates k (there.0, there.1.leads) t c.index-templates-scope.is in
     let outer = c.around_of-around.ensures there.0 there.1 in
-    let all = picks_within d c.requires.judged there.0 k there.1.leads t is (seen_around c.around_of-around.result) outer in
+    let all = picks_within d c.design.ensures.judged there.0 k there.1.leads t is (seen_around c.around_of-around.result) outer in
     subst (λ (xs : List ℕ). All (λ pick. pick < length c.as_slice-2.result.now) xs) (sym c.as_slice-3.ensures)
     (subst (λ (ls : List LocalDriver). All (λ pick. pick < length ls) t.picks) (sym c.as_slice-2.ensures) all)
 
 pub push_drivers-requires-clause-small : goal.push_drivers-requires-clause-small
 push_drivers-requires-clause-small c =
     let there = c.requires.there in
-    let d = c.args.survey.now in
+    let d = c.args.judged.now in
     let k = c.args.scope.model in
     let t = c.index-templates-scope.result in
     let around = seen_around c.around_of-around.result in
     let is = template_at d c.args.templates.now c.requires.templates k (there.0, there.1.leads) t c.index-templates-scope.is in
     let outer = c.around_of-around.ensures there.0 there.1 in
-    let all = picks_small d c.requires.judged there.0 k there.1.leads t is around outer in
-    subst (λ (os : List ℕ). All (λ pick. IsSmallAt os around (slice_get c.as_slice-2.result.now pick)) c.as_slice-3.result.now) (sym c.as_slice.ensures)
-    (subst (λ (xs : List ℕ). All (λ pick. IsSmallAt t.offsets around (slice_get c.as_slice-2.result.now pick)) xs) (sym c.as_slice-3.ensures)
-    (subst (λ (ls : List LocalDriver). All (λ pick. IsSmallAt t.offsets around (slice_get ls pick)) t.picks) (sym c.as_slice-2.ensures) all))
+    let all = picks_small d c.design.ensures.judged there.0 k there.1.leads t is around outer in
+    subst (λ (os : List ℕ). All (λ pick. IsSmallAt d os around (slice_get c.as_slice-2.result.now pick)) c.as_slice-3.result.now) (sym c.as_slice.ensures)
+    (subst (λ (xs : List ℕ). All (λ pick. IsSmallAt d t.offsets around (slice_get c.as_slice-2.result.now pick)) xs) (sym c.as_slice-3.ensures)
+    (subst (λ (ls : List LocalDriver). All (λ pick. IsSmallAt d t.offsets around (slice_get ls pick)) t.picks) (sym c.as_slice-2.ensures) all))
 
 pub returns-clause-after : goal.returns-clause-after
 returns-clause-after c =
     let there = c.requires.there in
-    let d = c.args.survey.now in
+    let d = c.args.judged.now in
     let k = c.args.scope.model in
     let t = c.index-templates-scope.result in
     let around = seen_around c.around_of-around.result in
     let is = template_at d c.args.templates.now c.requires.templates k (there.0, there.1.leads) t c.index-templates-scope.is in
     let outer = c.around_of-around.ensures there.0 there.1 in
-    let old : List (Driver ℕ) = map shown_driver c.args.drivers.now.items in
-    let new : List (Driver ℕ) = map shown_driver c.push_drivers.new.drivers.items in
-    let network = same_network c.args.scope.start (start_of d there.0) c.as_slice.result.now t.offsets around c.as_slice-2.result.now t.locals c.as_slice-3.result.now t.picks (sym there.1.start) c.as_slice.ensures c.as_slice-2.ensures c.as_slice-3.ensures in
-    let long : length old ≡ length c.args.drivers.now.items = length-map c.args.drivers.now.items shown_driver in
+    let old : List (Driver ℕ) = map (shown_driver d) c.args.drivers.now.items in
+    let new : List (Driver ℕ) = map (shown_driver d) c.push_drivers.new.drivers.items in
+    let network = same_network d c.args.scope.start (start_of d there.0) c.as_slice.result.now t.offsets around c.as_slice-2.result.now t.locals c.as_slice-3.result.now t.picks (sym there.1.start) c.as_slice.ensures c.as_slice-2.ensures c.as_slice-3.ensures in
+    let long : length old ≡ length c.args.drivers.now.items = length-map c.args.drivers.now.items (shown_driver d) in
     let start : start_of d there.0 ≡ length old = there.1.start ∙ c.requires.next ∙ sym long in
-    on_ok (λ whole. placed_more d c.requires.judged there.0 k there.1.leads t is around outer old new start c.requires.before (whole ∙ ap (λ (ss : List (Driver ℕ)). old ++ ss) network)) c.push_drivers.result c.push_drivers.ensures
+    on_ok (λ whole. placed_more d c.design.ensures.judged there.0 k there.1.leads t is around outer old new start c.requires.before (whole ∙ ap (λ (ss : List (Driver ℕ)). old ++ ss) network)) c.push_drivers.result c.push_drivers.ensures
 
 pub returns-clause-long : goal.returns-clause-long
 returns-clause-long c =
     let there = c.requires.there in
-    let d = c.args.survey.now in
+    let d = c.args.judged.now in
     let k = c.args.scope.model in
     let t = c.index-templates-scope.result in
     let around = seen_around c.around_of-around.result in
     let is = template_at d c.args.templates.now c.requires.templates k (there.0, there.1.leads) t c.index-templates-scope.is in
     let picks : length c.as_slice-3.result.now ≡ length (model_nets d k) = ap length c.as_slice-3.ensures ∙ is.picked.long in
-    on_ok (λ whole. lengths shown_driver (picked c.args.scope.start c.as_slice.result.now around c.as_slice-2.result.now) c.push_drivers.new.drivers.items c.args.drivers.now.items c.as_slice-3.result.now whole ∙ ap (λ (n : ℕ). length c.args.drivers.now.items + n) picks) c.push_drivers.result c.push_drivers.ensures
+    on_ok (λ whole. lengths (shown_driver d) (picked d c.args.scope.start c.as_slice.result.now around c.as_slice-2.result.now) c.push_drivers.new.drivers.items c.args.drivers.now.items c.as_slice-3.result.now whole ∙ ap (λ (n : ℕ). length c.args.drivers.now.items + n) picks) c.push_drivers.result c.push_drivers.ensures

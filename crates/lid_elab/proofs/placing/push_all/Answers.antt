@@ -9,9 +9,9 @@ use Rattle.lid_elab.proofs.placing.push_all.Goals as goal
 
 pub loop-scope-init : goal.loop-scope-init
 loop-scope-init c = record {
-  written = λ n column driver at here. absurd (let e : None ≡ Some driver = ap (λ (ds : List ColumnDriver). slice_get (map shown_driver ds) n) (sym c.requires.none) ∙ here in cc);
+  written = λ n column driver at here. absurd (let e : None ≡ Some driver = ap (λ (ds : List ColumnDriver). slice_get (map (shown_driver c.args.judged.now) ds) n) (sym c.requires.none) ∙ here in cc);
   next =
-      let d = c.args.survey.now in
+      let d = c.args.judged.now in
       let first : Design → List Scope = (λ (e : Design). record { model = e.root; start = 0; around = None } ∷ []) in
       let stack : reverse c.push.new.self.items ≡ first d = ap reverse (c.in_ok-push.ensures.items ∙ ap (λ (ps : List Scope). ps ++ first c.design.result.now) c.new-stack.ensures.items) ∙ ap first c.design.ensures.same in
       let none : length c.args.drivers.now.items ≡ 0 = ap length c.requires.none in

@@ -5,9 +5,9 @@ use Rattle.lid_elab.proofs.placing.push_all.Given as goal
 
 abbrev pub invariant-loop-scope : goal.invariant-loop-scope
 invariant-loop-scope l = record {
-  written : ArePlaced l.survey (map shown_driver l.drivers.items);
-  next : AreNext l.survey (length l.drivers.items) (reverse l.stack.items);
+  written : ArePlaced l.judged (map (shown_driver l.judged) l.drivers.items);
+  next : AreNext l.judged (length l.drivers.items) (reverse l.stack.items);
 }
 
 abbrev pub decreases-loop-scope : goal.decreases-loop-scope
-decreases-loop-scope l = weights l.survey (reverse l.stack.items)
+decreases-loop-scope l = weights l.judged (reverse l.stack.items)

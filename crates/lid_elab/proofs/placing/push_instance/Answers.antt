@@ -10,19 +10,19 @@ use Rattle.lid_elab.proofs.placing.push_instance.Goals as goal
 pub overflow_add-scope : goal.overflow_add-scope
 overflow_add-scope c =
     let there = c.requires.there in
-    let d = c.args.survey.now in
+    let d = c.args.judged.now in
     let names : instance_number d c.args.i c.args.scope.model ≡ Some c.in-Some.model = sym c.model_of.ensures ∙ c.in-Some.is in
     let off = c.requires.offset c.args.i (get_or c.args.offsets.now c.args.i 0) (slice_get-get_or c.args.offsets.now c.args.i 0 c.requires.exists) in
     let at = inst_at d there.0 c.args.scope there.1 c.args.i c.in-Some.model (get_or c.args.offsets.now c.args.i 0) names off in
-    let inside = within d c.requires.judged (c.args.i ∷ there.0) c.in-Some.model at.leads in
-    let few = few_columns d c.requires.judged in
+    let inside = within d c.design.ensures.judged (c.args.i ∷ there.0) c.in-Some.model at.leads in
+    let few = few_columns d c.design.ensures.judged in
     let start = at.start in
     omega arith
 
 pub returns-in_ok-push-clause-next : goal.returns-in_ok-push-clause-next
 returns-in_ok-push-clause-next c =
     let there = c.requires.there in
-    let d = c.args.survey.now in
+    let d = c.args.judged.now in
     let k = c.args.scope.model in
     let i = c.args.i in
     let o = get_or c.args.offsets.now i 0 in
@@ -36,7 +36,7 @@ returns-in_ok-push-clause-next c =
 
 pub returns-in_ok-push-clause-heavier : goal.returns-in_ok-push-clause-heavier
 returns-in_ok-push-clause-heavier c =
-    let d = c.args.survey.now in
+    let d = c.args.judged.now in
     let k = c.args.scope.model in
     let i = c.args.i in
     let names : instance_number d i k ≡ Some c.in-Some.model = sym c.model_of.ensures ∙ c.in-Some.is in

@@ -7,8 +7,8 @@ use Rattle.lid_elab.proofs.placing.push_instances.Given as goal
 abbrev pub invariant-loop-i : goal.invariant-loop-i
 invariant-loop-i l = record {
   inside : l.i ≤ length l.offsets;
-  next : AreNext l.survey (l.scope.start + offset_of l.survey l.scope.model l.i) (reverse l.stack.items);
-  heavy : weights l.survey (reverse l.stack.items) + over_insts l.survey (weight_of l.survey) (take l.i (insts_of l.survey l.scope.model)) ≡ weights l.survey (reverse l.fn.stack.items) + over_insts l.survey (weight_of l.survey) (insts_of l.survey l.scope.model);
+  next : AreNext l.judged (l.scope.start + offset_of l.judged l.scope.model l.i) (reverse l.stack.items);
+  heavy : weights l.judged (reverse l.stack.items) + over_insts l.judged (weight_of l.judged) (take l.i (insts_of l.judged l.scope.model)) ≡ weights l.judged (reverse l.fn.stack.items) + over_insts l.judged (weight_of l.judged) (insts_of l.judged l.scope.model);
 }
 
 abbrev pub decreases-loop-i : goal.decreases-loop-i

@@ -13,14 +13,14 @@ pub sum_sizes-size-requires-clause-sizes : goal.sum_sizes-size-requires-clause-s
 sum_sizes-size-requires-clause-sizes c =
     let h : c.loop-model.model-index < length c.order-order.result.now = omega arith in
     let order = c.order-order.result.now in
-    let d = c.args.survey.now in
+    let d = c.args.judged.now in
     subst (λ (ns : List (Option ℕ)). HasSizes d (get_or order c.loop-model.model-index 0) ns) (sym c.as_slice.ensures.value) (sizes_known d order c.order-order.ensures c.loop-model.model-index h c.loop-model.sizes.items c.loop-model.invariant)
 
 pub put_size-requires : goal.put_size-requires
 put_size-requires c =
     let h : c.loop-model.model-index < length c.order-order.result.now = omega arith in
     let at = get_or c.order-order.result.now c.loop-model.model-index 0 in
-    let below = model_below c.args.survey.now c.requires at (c.order-order.ensures.only at (among_at c.order-order.result.now c.loop-model.model-index 0 h)) in
+    let below = model_below c.args.judged.now c.design.ensures.judged at (c.order-order.ensures.only at (among_at c.order-order.result.now c.loop-model.model-index 0 h)) in
     let long = c.loop-model.invariant.long in
     omega arith
 
@@ -29,11 +29,11 @@ loop-model-preserved c =
     let h : c.loop-model.model-index < length c.order-order.result.now = omega arith in
     let order = c.order-order.result.now in
     let at = get_or order c.loop-model.model-index 0 in
-    let d = c.args.survey.now in
-    let below = model_below d c.requires at (c.order-order.ensures.only at (among_at order c.loop-model.model-index 0 h)) in
+    let d = c.args.judged.now in
+    let below = model_below d c.design.ensures.judged at (c.order-order.ensures.only at (among_at order c.loop-model.model-index 0 h)) in
     sizes_next d order c.order-order.ensures c.loop-model.model-index h c.loop-model.sizes.items c.loop-model.invariant c.put_size.new.sizes.items below (c.put_size.ensures ∙ ap (λ (n : ℕ). set c.loop-model.sizes.items at (Some n)) c.sum_sizes-size.ensures)
 
 pub returns : goal.returns
 returns c =
     let past : length c.order-order.result.now ≤ c.loop-model.model-index = let f = c.loop-model-test.false in omega arith in
-    sizes_end c.args.survey.now c.order-order.result.now c.order-order.ensures c.loop-model.model-index past c.loop-model.sizes.items c.loop-model.invariant
+    sizes_end c.args.judged.now c.order-order.result.now c.order-order.ensures c.loop-model.model-index past c.loop-model.sizes.items c.loop-model.invariant

@@ -4,4 +4,4 @@ use Rattle.lid_elab.specs.Parts.{AreSizes}
 use Rattle.lid_elab.proofs.sizes.find_sizes.Given as goal
 
 abbrev pub invariant-loop-model : goal.invariant-loop-model
-invariant-loop-model l = AreSizes l.survey (λ k. Among k (take l.model-index l.order)) l.sizes.items
+invariant-loop-model l = AreSizes l.judged (λ k. Among k (take l.model-index l.order)) l.sizes.items

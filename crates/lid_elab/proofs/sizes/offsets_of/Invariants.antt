@@ -4,7 +4,7 @@ use Rattle.lid_elab.proofs.sizes.offsets_of.Given as goal
 
 abbrev pub invariant-loop-inst : goal.invariant-loop-inst
 invariant-loop-inst l = record {
-  offset : l.offset ≡ offset_of l.survey l.model l.inst;
+  offset : l.offset ≡ offset_of l.judged l.model l.inst;
   few : length l.offsets.items ≡ l.inst;
-  each : (i o : ℕ) → slice_get l.offsets.items i ≡ Some o → o ≡ offset_of l.survey l.model i;
+  each : (i o : ℕ) → slice_get l.offsets.items i ≡ Some o → o ≡ offset_of l.judged l.model i;
 }

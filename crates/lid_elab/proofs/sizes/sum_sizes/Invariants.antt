@@ -3,4 +3,4 @@ use Rattle.lid_elab.specs.Numbers.{offset_of}
 use Rattle.lid_elab.proofs.sizes.sum_sizes.Given as goal
 
 abbrev pub invariant-loop-inst : goal.invariant-loop-inst
-invariant-loop-inst l = l.size ≡ offset_of l.survey l.model l.inst
+invariant-loop-inst l = l.size ≡ offset_of l.judged l.model l.inst

@@ -4,4 +4,4 @@ use Rattle.lid_elab.specs.Parts.{AreTemplates}
 use Rattle.lid_elab.proofs.template.find_templates.Goals as goal
 
 pub returns : goal.returns
-returns c = subst (λ (ts : List Template). AreTemplates c.args.survey.now ts) (sym c.from_vec.ensures) c.in_ok-push_templates.ensures
+returns c = subst (λ (ts : List Template). AreTemplates c.args.judged.now ts) (sym c.from_vec.ensures) c.in_ok-push_templates.ensures

@@ -7,5 +7,5 @@ use Rattle.lid_elab.proofs.template.push_templates.Given as goal
 abbrev pub invariant-loop-model : goal.invariant-loop-model
 invariant-loop-model l = record {
   long : length l.templates.items ≡ l.model;
-  each : (k : ℕ) → k < l.model → IsReached l.survey k → (t : Template) × (slice_get l.templates.items k ≡ Some t) × IsTemplate l.survey k t;
+  each : (k : ℕ) → k < l.model → IsReached l.judged k → (t : Template) × (slice_get l.templates.items k ≡ Some t) × IsTemplate l.judged k t;
 }

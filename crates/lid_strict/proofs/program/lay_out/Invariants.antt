@@ -6,4 +6,4 @@ use Rattle.lid_strict.proofs.program.lay_out.Given as goal
 abbrev pub invariant-loop-number : goal.invariant-loop-number
 invariant-loop-number l =
     IsWhole l.program
-    × (shown_program l.program ++ in_order (map shown_driver l.drivers) (drop l.number-index l.order) ≡ in_order (map shown_driver l.drivers) l.order)
+    × (shown_program l.program ++ in_order (map (shown_driver l.design) l.drivers) (drop l.number-index l.order) ≡ in_order (map (shown_driver l.design) l.drivers) l.order)

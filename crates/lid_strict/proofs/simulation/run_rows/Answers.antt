@@ -10,15 +10,15 @@ use Rattle.lid_strict.proofs.simulation.run_rows.Goals as goal
 
 pub run_row-requires-clause-covers : goal.run_row-requires-clause-covers
 run_row-requires-clause-covers c =
-    let network = map shown_driver c.args.drivers.now in
-    let covers = all_map HasCover shown_driver c.args.drivers.now c.requires.covers in
+    let network = map (shown_driver c.args.design.now) c.args.drivers.now in
+    let covers = all_map HasCover (shown_driver c.args.design.now) c.args.drivers.now c.requires.covers in
     subst (AllByRecursion HasCover) (sym c.requires.laid.steps)
     (covers_in_order network covers c.args.order.now (order_below network c.args.order.now c.requires.laid.ordered))
 
 pub run_row-requires-clause-below : goal.run_row-requires-clause-below
 run_row-requires-clause-below c =
-    let network = map shown_driver c.args.drivers.now in
-    let wide = length-map c.args.drivers.now shown_driver ∙ sym (ap length c.as_mut_slice.ensures.value ∙ c.loop-t.invariant.0) in
+    let network = map (shown_driver c.args.design.now) c.args.drivers.now in
+    let wide = length-map c.args.drivers.now (shown_driver c.args.design.now) ∙ sym (ap length c.as_mut_slice.ensures.value ∙ c.loop-t.invariant.0) in
     below_same network (length c.as_mut_slice.result.now) wide c.args.order.now (order_below network c.args.order.now c.requires.laid.ordered)
 
 pub run_row-requires-clause-outs : goal.run_row-requires-clause-outs
@@ -28,12 +28,12 @@ run_row-requires-clause-outs c =
 
 pub loop-t-preserved : goal.loop-t-preserved
 loop-t-preserved c =
-    let network = map shown_driver c.args.drivers.now in
+    let network = map (shown_driver c.args.design.now) c.args.drivers.now in
     let outs = c.args.outs.now in
     let rows = c.args.rows.now in
     let t = c.loop-t.t in
     let h : t < length rows = omega arith in
-    let long = length-map c.args.drivers.now shown_driver in
+    let long = length-map c.args.drivers.now (shown_driver c.args.design.now) in
     let run = subst (λ (bits : List Bool). IsRun network outs rows t bits c.loop-t.results.items) (sym c.as_slice.ensures.value) c.loop-t.invariant.1 in
     let same_row = c.as_slice-row.ensures ∙ c.index-rows-t.is ∙ get_or_default rows t c.index-rows-t.result [] h in
     let size = c.run_row.ensures.size ∙ ap length c.as_mut_slice.ensures.value ∙ c.loop-t.invariant.0 ∙ sym long in

@@ -1,19 +1,14 @@
-use Rattle.std.proofs.Common.{Bool, List, subst}
+use Rattle.std.proofs.Common.{sym, subst}
 use Rattle.lid_design.specs.declared.Design.{Design}
-use Rattle.lid_design.specs.Columns.{IsStrictOutput}
-use Rattle.lid_strict.proofs.Outputs.{output_height, output_width}
+use Rattle.lid_check.specs.Networks.{IsNetwork}
+use Rattle.lid_strict.proofs.Outputs.{output_shape}
 use Rattle.lid_strict.proofs.whole.strict.Goals as goal
 
+pub run-requires-clause-network : goal.run-requires-clause-network
+run-requires-clause-network c = subst (λ (d : Design). IsNetwork d c.network.result.now) (sym c.design.ensures.same) c.network.ensures
+
 pub returns-clause-height : goal.returns-clause-height
-returns-clause-height c =
-    let rows = c.args.rows.now.bits in
-    let out = c.in_ok-bits.bits in
-    output_height c.args.checked.now rows out
-    (subst (λ (d : Design). IsStrictOutput d rows out) c.design.ensures.same (subst (λ (rs : List (List Bool)). IsStrictOutput c.design.result.now rs out) c.as_slice.ensures c.in_ok-bits.ensures))
+returns-clause-height c = (output_shape _ _ _ _ _ c.design.ensures.same c.as_slice.ensures c.in_ok-bits.ensures).height
 
 pub returns-clause-width : goal.returns-clause-width
-returns-clause-width c =
-    let rows = c.args.rows.now.bits in
-    let out = c.in_ok-bits.bits in
-    output_width c.args.checked.now rows out
-    (subst (λ (d : Design). IsStrictOutput d rows out) c.design.ensures.same (subst (λ (rs : List (List Bool)). IsStrictOutput c.design.result.now rs out) c.as_slice.ensures c.in_ok-bits.ensures))
+returns-clause-width c = (output_shape _ _ _ _ _ c.design.ensures.same c.as_slice.ensures c.in_ok-bits.ensures).width

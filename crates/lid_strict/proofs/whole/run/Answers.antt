@@ -1,0 +1,45 @@
+use Rattle.std.proofs.Common.{◌≡◌, ℕ, Bool, List, ◌<◌, length, map, sym, ◌∙◌, subst}
+use Rattle.std.specs.List.{AllByRecursion}
+use Rattle.lid_design.specs.Network.{Table, IsStrict}
+use Rattle.lid_design.specs.Columns.{IsStrictOutput}
+use Rattle.lid_digraph.specs.Graphs.{IsOrder}
+use Rattle.lid_elab.specs.declared.driver.ColumnDriver.{ColumnDriver}
+use Rattle.lid_elab.specs.Elaborations.{shown_driver}
+use Rattle.lid_strict.specs.Networks.{HasCover, AreHeldBelow, driver_of, reads_of, rows_at}
+use Rattle.lid_strict.proofs.Outputs.{covers, held_below, strict_output}
+use Rattle.lid_strict.proofs.Running.{if_ok}
+use Rattle.lid_strict.proofs.whole.run.Goals as goal
+
+pub simulate-requires-clause-ordered : goal.simulate-requires-clause-ordered
+simulate-requires-clause-ordered c =
+    let d = c.args.design.now in
+    subst (λ (order : List ℕ). IsOrder (reads_of (map (shown_driver d) c.as_slice-drivers.result.now)) order) (sym c.as_slice-order.ensures)
+    (subst (λ (ds : List ColumnDriver). IsOrder (reads_of (map (shown_driver d) ds)) c.args.network.now.order) (sym c.as_slice-drivers.ensures) c.requires.network.ordered)
+
+pub simulate-requires-clause-covers : goal.simulate-requires-clause-covers
+simulate-requires-clause-covers c =
+    let d = c.args.design.now in
+    subst (AllByRecursion (λ (driver : ColumnDriver). HasCover (shown_driver d driver))) (sym c.as_slice-drivers.ensures)
+    (covers d c.args.network.now.columns.drivers c.args.network.now.columns.starts c.requires.network.elaborated c.requires.formed)
+
+pub simulate-requires-clause-held : goal.simulate-requires-clause-held
+simulate-requires-clause-held c =
+    let d = c.args.design.now in
+    subst (λ (ds : List ColumnDriver). AreHeldBelow (map (shown_driver d) ds)) (sym c.as_slice-drivers.ensures)
+    (held_below d c.args.network.now.columns.drivers c.args.network.now.columns.starts c.requires.network.elaborated)
+
+pub simulate-requires-clause-outs : goal.simulate-requires-clause-outs
+simulate-requires-clause-outs c =
+    subst (λ (outs : List ℕ). AllByRecursion (λ (k : ℕ). k < length c.as_slice-drivers.result.now) outs) (sym c.as_slice-outs.ensures)
+    (subst (λ (ds : List ColumnDriver). AllByRecursion (λ (k : ℕ). k < length ds) c.args.network.now.outputs) (sym c.as_slice-drivers.ensures) c.requires.network.outputs.below)
+
+pub returns : goal.returns
+returns c =
+    let d = c.args.design.now in
+    let n = c.args.network.now in
+    let rows = c.args.rows.now in
+    if_ok (λ (out : List (List Bool)). (b : Table ℕ) → IsStrict (driver_of (map (shown_driver d) c.as_slice-drivers.result.now)) rows b → out ≡ rows_at c.as_slice-outs.result.now b (length rows)) (IsStrictOutput d rows)
+    (λ out every. strict_output d n.columns.drivers n.columns.starts c.requires.network.elaborated n.order n.outputs c.requires.network.ordered c.requires.network.outputs rows out
+    (subst (λ (outs : List ℕ). (b : Table ℕ) → IsStrict (driver_of (map (shown_driver d) n.columns.drivers)) rows b → out ≡ rows_at outs b (length rows)) c.as_slice-outs.ensures
+    (subst (λ (ds : List ColumnDriver). (b : Table ℕ) → IsStrict (driver_of (map (shown_driver d) ds)) rows b → out ≡ rows_at c.as_slice-outs.result.now b (length rows)) c.as_slice-drivers.ensures every)))
+    c.simulate.result c.simulate.ensures
