@@ -45,8 +45,8 @@ fn gather(alloc: Global, bits: &[bool], numbers: &[u32]) -> Result<Items<bool>, 
     Ok(Items::from_vec(row))
 }
 
-/// Fills the bits of a row, from what latches hold, and moves that on. It is compiled by itself: inlined
-/// into its callers a long run was 7 % slower.
+/// Fills the bits of a row, from what latches hold, and moves that on. It is compiled by itself, since
+/// such a loop was once slower when it was inlined into its callers.
 #[inline(never)]
 fn run_row(
     layout: &Layout,
