@@ -13,18 +13,8 @@ use Rattle.lid_design.specs.Walks.{read_now}
 use Rattle.lid_design.specs.Flat.{flat_drivers, latch_out, ReadEarlier, IsFlat}
 use Rattle.lid_design.proofs.Parts.{input_drives, latch_drives, cover_drives}
 use Rattle.lid_settle.specs.Rows.{bit_at, after}
-use Rattle.lid_settle.proofs.Settling.{take_at, earlier_at}
+use Rattle.lid_settle.proofs.Settling.{take_at, after_keeps, after_has, earlier_at}
 use Rattle.lid_pearl.specs.Inside.{held, is_picked, IsFed, AreMarked}
-
--- what is known stays known
-pub after_keeps : (known : List ℕ) (cs : List FlatCover) (k : ℕ) → Among k known → Among k (after known cs)
-after_keeps known [] k among = among
-after_keeps known (c ∷ cs) k among = after_keeps (c.out ∷ known) cs k (inr among)
-
-pub after_has : (known : List ℕ) (cs : List FlatCover) (c : FlatCover) → Among c cs → Among c.out (after known cs)
-after_has known [] c among = absurd among
-after_has known (d ∷ cs) c (inl same) = after_keeps (d.out ∷ known) cs c.out (inl (ap (λ (c : FlatCover). c.out) same))
-after_has known (d ∷ cs) c (inr among) = after_has (d.out ∷ known) cs c among
 
 -- what is known was so before, or is the output of a cover
 pub after_cases : (known : List ℕ) (cs : List FlatCover) (k : ℕ) → Among k (after known cs) → Among k known ⊎ ((c : FlatCover) × Among c cs × (k ≡ c.out))

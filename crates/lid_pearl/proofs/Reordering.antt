@@ -14,7 +14,8 @@ use Rattle.lid_design.specs.Flat.{inputs_at, latch_at, cover_at, flat_drivers, l
 use Rattle.lid_settle.specs.Rows.{after}
 use Rattle.lid_pearl.specs.Pearls.{IsSplit, IsReordered}
 use Rattle.lid_pearl.specs.Inside.{held, is_picked, IsFed, AreMarked}
-use Rattle.lid_pearl.proofs.Marking.{after_keeps, after_has, early_of, late_of, early_reads, late_reads, early_known, late_known, fed_unless_marked}
+use Rattle.lid_settle.proofs.Settling.{after_keeps, after_has}
+use Rattle.lid_pearl.proofs.Marking.{early_of, late_of, early_reads, late_reads, early_known, late_known, fed_unless_marked}
 
 pub all_from_each : {A : Type 0} (P : A → Type 0) (xs : List A) → ((x : A) → Among x xs → P x) → AllByRecursion P xs
 all_from_each P [] each = tt

@@ -9,7 +9,9 @@ ghost use Rattle.lid_pearl.specs.Inside.{held, AreSettled, IsOrdered, IsKept};
 
 use crate::split::{find_marks, lay_out};
 use lid_design::{Flat, FlatLatch};
-use lid_settle::{Program, copy_of, put_bits, put_state, settle, take_bits, take_state};
+use lid_settle::{
+    Program, copy_of, first_state, put_bits, put_state, settle, take_bits, take_state,
+};
 use std::alloc::{AllocError, Global};
 use std::marker::Model;
 
@@ -200,17 +202,6 @@ fn first_row(alloc: Global, flat: &Flat, early: &Program) -> Result<Row, AllocEr
     let mut bits = Vec::from_elem(alloc, false, flat.nets as usize + 1)?;
     settle_state(latches, early, state.as_slice(), bits.as_mut_slice());
     Ok(Row { state, bits })
-}
-
-/// The bits that latches begin with.
-fn first_state(alloc: Global, latches: &[FlatLatch]) -> Result<Vec<bool>, AllocError>
-    ensures { IfOk result (λ state. state.items ≡ map latch_init latches.now) }
-{
-    let mut state = Vec::with_capacity(alloc, latches.len())?;
-    for latch in latches {
-        state.push(latch.init)?;
-    }
-    Ok(state)
 }
 
 /// Equal nets.

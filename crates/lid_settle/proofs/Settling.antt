@@ -49,6 +49,16 @@ pub after_push : (known : List ℕ) (covers : List FlatCover) (c : FlatCover) �
 after_push known [] c = refl
 after_push known (d ∷ covers) c = after_push (d.out ∷ known) covers c
 
+-- what is known stays known
+pub after_keeps : (known : List ℕ) (cs : List FlatCover) (k : ℕ) → Among k known → Among k (after known cs)
+after_keeps known [] k among = among
+after_keeps known (c ∷ cs) k among = after_keeps (c.out ∷ known) cs k (inr among)
+
+pub after_has : (known : List ℕ) (cs : List FlatCover) (c : FlatCover) → Among c cs → Among c.out (after known cs)
+after_has known [] c among = absurd among
+after_has known (d ∷ cs) c (inl same) = after_keeps (d.out ∷ known) cs c.out (inl (ap (λ (c : FlatCover). c.out) same))
+after_has known (d ∷ cs) c (inr among) = after_has (d.out ∷ known) cs c among
+
 -- a cover reads what is known once those before it are run
 pub earlier_at : (known : List ℕ) (covers : List FlatCover) (i : ℕ) (c : FlatCover) → ReadEarlier known covers → slice_get covers i ≡ Some c → AllByRecursion (λ k. Among k (after known (take i covers))) c.ins
 earlier_at known [] i c earlier here = absurd (let e : None ≡ Some c = here in cc)

@@ -7,4 +7,4 @@ mod row;
 mod truth;
 
 pub use program::{Part, Program, Step, copy_of};
-pub use row::{put_bits, put_state, settle, take_bits, take_state};
+pub use row::{first_state, put_bits, put_state, settle, take_bits, take_state};

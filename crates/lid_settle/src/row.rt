@@ -1,12 +1,12 @@
 //! The bits of one row: given ones are put in, covers settle the others, and those that are asked for
-//! are taken. Nothing here takes memory.
+//! are taken.
 
-ghost use Rattle.std.specs.Prelude.{◌≡◌, ◌≤◌, ◌<◌, ◌+◌, ◌++◌, ℕ, Bool, List, length, map, take, drop};
+ghost use Rattle.std.specs.Prelude.{◌≡◌, ◌≤◌, ◌<◌, ◌+◌, ◌++◌, ℕ, Bool, List, length, map, take, drop, IfOk};
 ghost use Rattle.std.specs.List.{AllByRecursion, list_any};
 ghost use Rattle.lid_cover.specs.Cover.{cover_value, IsCover};
 ghost use Rattle.lid_cover.specs.Masks.{packed, is_met};
 ghost use Rattle.lid_design.specs.declared.FlatCover.{FlatCover};
-ghost use Rattle.lid_design.specs.Flat.{IsRow, ReadEarlier, latch_out, latch_input};
+ghost use Rattle.lid_design.specs.Flat.{IsRow, ReadEarlier, latch_out, latch_input, latch_init};
 ghost use Rattle.lid_settle.specs.Truth.{is_set, IsTable};
 ghost use Rattle.lid_settle.specs.Programs.{cover_of, step_cover, shown, IsStep, IsReady};
 ghost use Rattle.lid_settle.specs.Rows.{bit_at, AgreesAt, after};
@@ -15,6 +15,7 @@ use crate::program::{Program, Step};
 use crate::truth::{TABLE_INPUTS, value_of};
 use lid_cover::Cube;
 use lid_design::FlatLatch;
+use std::alloc::{AllocError, Global};
 
 /// The bits of some nets as one number: bit j is that of the j-th.
 fn pack(bits: &[bool], nets: &[u32]) -> u64
@@ -105,6 +106,17 @@ pub fn put_bits(bits: &mut [bool], nets: &[u32], values: &[bool])
     for i in 0..nets.len() {
         bits[nets[i] as usize] = values[i];
     }
+}
+
+/// The bits that latches begin with.
+pub fn first_state(alloc: Global, latches: &[FlatLatch]) -> Result<Vec<bool>, AllocError>
+    ensures { IfOk result (λ state. state.items ≡ map latch_init latches.now) }
+{
+    let mut state = Vec::with_capacity(alloc, latches.len())?;
+    for latch in latches {
+        state.push(latch.init)?;
+    }
+    Ok(state)
 }
 
 /// Gives the outputs of latches their bits, in order. What was right stays right.

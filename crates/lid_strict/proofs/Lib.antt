@@ -1,5 +1,3 @@
-pub mod Packing
-pub mod Settling
 pub mod Running
 pub mod Tables
 pub mod Covered
@@ -7,5 +5,4 @@ pub mod Outputs
 pub mod Descent
 pub mod Levels
 pub mod Accepted
-pub mod Laying
-pub mod Steps
+pub mod Layouts

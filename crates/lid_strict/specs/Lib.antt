@@ -1,2 +1,2 @@
 pub mod Networks
-pub mod Programs
+pub mod Layouts

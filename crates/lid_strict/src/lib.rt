@@ -2,7 +2,7 @@
 #![tactic(auto)]
 
 mod laws;
-mod program;
+mod layout;
 mod simulation;
 mod whole;
 

@@ -1,23 +1,21 @@
 //! Runs of networks that are laid out.
 
-ghost use Rattle.std.specs.Prelude.{◌≡◌, ◌<◌, ◌≤◌, ◌++◌, if◌then◌else◌, ℕ, Bool, List, [], length, map, IfOk, OnOk};
-ghost use Rattle.std.specs.List.{AllByRecursion, list_any};
-ghost use Rattle.lid_base.specs.Lists.{Among};
-ghost use Rattle.lid_cover.specs.Cover.{cover_value, IsCover};
-ghost use Rattle.lid_cover.specs.Masks.{packed, is_met};
-ghost use Rattle.lid_design.specs.Network.{Driver, Table, IsStrict};
+ghost use Rattle.std.specs.Prelude.{◌≡◌, ◌+◌, ◌<◌, ℕ, Bool, [], length, map, IfOk, OnOk};
+ghost use Rattle.std.specs.List.{AllByRecursion};
+ghost use Rattle.lid_design.specs.Network.{Table, IsStrict};
+ghost use Rattle.lid_design.specs.Flat.{latch_init, latch_input};
 ghost use Rattle.lid_digraph.specs.Graphs.{IsOrder};
 ghost use Rattle.lid_elab.specs.Elaborations.{shown_driver};
-ghost use Rattle.lid_strict.specs.Networks.{driver_of, bit_at, reads_of, AreHeldBelow, HasCover, bit_from, FitsRow, AgreesAt, rows_at};
-ghost use Rattle.lid_strict.specs.Programs.{cover_of, shown_step, shown_program, IsThere, IsWhole, IsLaidOut};
+ghost use Rattle.lid_settle.specs.Rows.{bit_at};
+ghost use Rattle.lid_strict.specs.Networks.{driver_of, reads_of, AreHeldBelow, HasCover, rows_at};
+ghost use Rattle.lid_strict.specs.Layouts.{IsRunnable, FitsRow, FitsTable};
 
-use crate::program::{Program, Step, lay_out};
+use crate::layout::{Layout, lay_out};
 use lid_base::Items;
-use lid_cover::Cube;
 use lid_design::Design;
 use lid_elab::ColumnDriver;
+use lid_settle::{first_state, put_bits, put_state, settle, take_state};
 use std::alloc::{AllocError, Global};
-use std::mem::swap;
 
 /// The bit of a number, and 0 where there is none.
 fn bit_of(bits: &[bool], number: u32) -> bool
@@ -26,98 +24,13 @@ fn bit_of(bits: &[bool], number: u32) -> bool
     bits.get(number as usize).copied().unwrap_or(false)
 }
 
-/// A bit as a number.
-fn value_of(bit: bool) -> u64
-    ensures value { result ≡ (if bit then 1 else 0) }
-    ensures small { result ≤ 1 }
+/// Writes the bits of some places of a row, and 0 where it has none.
+fn read_row(row: &[bool], places: &[u32], into: &mut [bool])
+    requires { length into.old ≡ length places.now }
+    ensures { into.new ≡ map (bit_at row.now) places.now }
 {
-    if bit { 1 } else { 0 }
-}
-
-/// The bits of some numbers as one number: bit j is that of the j-th.
-fn pack(bits: &[bool], numbers: &[u32]) -> u64
-    requires { length numbers.now ≤ 64 }
-    ensures { result ≡ packed (map (bit_at bits.now) numbers.now) }
-{
-    let mut packed = 0u64;
-    let mut left = numbers.len();
-    while left > 0 {
-        left -= 1;
-        packed = packed * 2 + value_of(bit_of(bits, numbers[left]));
-    }
-    packed
-}
-
-/// Whether some row of a cover agrees with packed inputs. All rows are looked at: most covers have
-/// few, and a branch that is often guessed wrong costs more.
-fn any_met(cubes: &[Cube], bits: u64) -> bool
-    ensures { result ≡ list_any (is_met bits) cubes.now }
-{
-    let mut found = false;
-    for cube in cubes {
-        found |= (bits ^ cube.value) & cube.care == 0;
-    }
-    found
-}
-
-/// The value of a cover, by its rows and the numbers that it reads.
-fn cover_bit(on: bool, cubes: &[Cube], numbers: &[u32], bits: &[bool]) -> bool
-    requires { IsCover (cover_of (length numbers.now) on cubes.now) }
-    ensures { result ≡ cover_value (cover_of (length numbers.now) on cubes.now) (map (bit_at bits.now) numbers.now) }
-{
-    any_met(cubes, pack(bits, numbers)) == on
-}
-
-/// What a step gives in a row.
-fn step_bit(
-    program: &Program,
-    step: Step,
-    row: &[bool],
-    is_first: bool,
-    before: &[bool],
-    now: &[bool],
-) -> bool
-    requires there { IsThere program.now.reads.items program.now.cubes.items step }
-    requires cover { HasCover (shown_step program.now.reads.items program.now.cubes.items step) }
-    ensures { result ≡ bit_from row.now is_first before.now (bit_at now.now) (shown_step program.now.reads.items program.now.cubes.items step) }
-{
-    match step {
-        Step::Input(place) => bit_of(row, place),
-        Step::Latch { first, input } => {
-            if is_first {
-                first
-            } else {
-                bit_of(before, input)
-            }
-        }
-        Step::Cover { on, reads, cubes } => cover_bit(
-            on,
-            &program.cubes.as_slice()[cubes.start..cubes.end],
-            &program.reads.as_slice()[reads.start..reads.end],
-            now,
-        ),
-        Step::Connection(other) => bit_of(now, other),
-    }
-}
-
-/// Fills the bits of a row, in an order in which each number stands after all that it reads.
-fn settle(
-    program: &Program,
-    order: &[u32],
-    row: &[bool],
-    is_first: bool,
-    before: &[bool],
-    now: &mut [bool],
-)
-    requires whole { IsWhole program.now }
-    requires covers { AllByRecursion HasCover (shown_program program.now) }
-    requires long { length order.now ≡ length program.now.steps.items }
-    requires below { AllByRecursion (λ k. k < length now.old) order.now }
-    ensures size { length now.new ≡ length now.old }
-    ensures bits { (network : List (Driver ℕ)) → IsLaidOut network order.now program.now → (f : ℕ → Bool) → FitsRow network row.now is_first before.now f → AgreesAt f order.now now.new }
-{
-    for i in 0..order.len() {
-        now[order[i] as usize] = step_bit(program, program.steps[i], row, is_first, before, now);
+    for i in 0..places.len() {
+        into[i] = bit_of(row, places[i]);
     }
 }
 
@@ -132,30 +45,32 @@ fn gather(alloc: Global, bits: &[bool], numbers: &[u32]) -> Result<Items<bool>, 
     Ok(Items::from_vec(row))
 }
 
-/// Fills the bits of a row, and answers those of some numbers. It is compiled by itself: inlined into its
-/// callers a long run was 7 % slower.
+/// Fills the bits of a row, from what latches hold, and moves that on. It is compiled by itself, since
+/// such a loop was once slower when it was inlined into its callers.
 #[inline(never)]
 fn run_row(
-    alloc: Global,
-    program: &Program,
-    order: &[u32],
-    outs: &[u32],
+    layout: &Layout,
     row: &[bool],
-    is_first: bool,
-    before: &[bool],
-    now: &mut [bool],
-) -> Result<Items<bool>, AllocError>
-    requires whole { IsWhole program.now }
-    requires covers { AllByRecursion HasCover (shown_program program.now) }
-    requires long { length order.now ≡ length program.now.steps.items }
-    requires below { AllByRecursion (λ k. k < length now.old) order.now }
-    requires outs { AllByRecursion (λ k. k < length now.old) outs.now }
-    ensures size { length now.new ≡ length now.old }
-    ensures bits { (network : List (Driver ℕ)) → IsLaidOut network order.now program.now → (f : ℕ → Bool) → FitsRow network row.now is_first before.now f → (k : ℕ) → k < length network → bit_at now.new k ≡ f k }
-    ensures out { IfOk result (λ out. (network : List (Driver ℕ)) → IsLaidOut network order.now program.now → length network ≡ length now.old → (f : ℕ → Bool) → FitsRow network row.now is_first before.now f → out ≡ map f outs.now) }
+    state: &mut [bool],
+    inputs: &mut [bool],
+    bits: &mut [bool],
+)
+    requires runnable { IsRunnable layout.now }
+    requires state { length state.old ≡ length layout.now.latches.items }
+    requires inputs { length inputs.old ≡ length layout.now.places.items }
+    requires bits { length bits.old ≡ layout.now.program.nets + 1 }
+    ensures state_size { length state.new ≡ length layout.now.latches.items }
+    ensures inputs_size { length inputs.new ≡ length layout.now.places.items }
+    ensures bits_size { length bits.new ≡ layout.now.program.nets + 1 }
+    ensures state { state.new ≡ map (bit_at bits.new) (map latch_input layout.now.latches.items) }
+    ensures bits { (f : ℕ → Bool) → FitsRow layout.now row.now state.old f → (k : ℕ) → k < layout.now.program.nets → bit_at bits.new k ≡ f k }
 {
-    settle(program, order, row, is_first, before, now);
-    gather(alloc, now, outs)
+    let latches = layout.latches.as_slice();
+    read_row(row, layout.places.as_slice(), inputs);
+    put_state(bits, latches, state);
+    put_bits(bits, layout.ins.as_slice(), inputs);
+    settle(&layout.program, bits);
+    take_state(bits, latches, state);
 }
 
 /// Runs a network row by row, in an order in which each number stands after all that it reads, and
@@ -174,58 +89,65 @@ pub fn simulate(
     requires outs { AllByRecursion (λ k. k < length drivers.now) outs.now }
     ensures { IfOk result (λ out. (b : Table ℕ) → IsStrict (driver_of (map (shown_driver design.now) drivers.now)) rows.now b → out ≡ rows_at outs.now b (length rows.now)) }
 {
-    let program = lay_out(alloc, design, drivers, order)?;
+    let layout = lay_out(alloc, design, drivers, order)?;
     let mut results = Vec::with_capacity(alloc, rows.len())?;
-    run_rows(
-        alloc,
-        design,
-        drivers,
-        &program,
-        order,
-        outs,
-        rows,
-        &mut results,
-    )?;
+    run_layout(alloc, &layout, outs, rows, &mut results)?;
     Ok(Items::from_vec(results))
 }
 
-/// Runs a network that is laid out row by row, and pushes the bits of some numbers in each row, where
-/// there are none yet.
-fn run_rows(
+/// Runs what is laid out row by row from the first bits of its latches on, and pushes the bits of some
+/// numbers in each row, where there are none yet.
+fn run_layout(
     alloc: Global,
-    design: &Design,
-    drivers: &[ColumnDriver],
-    program: &Program,
-    order: &[u32],
+    layout: &Layout,
     outs: &[u32],
     rows: &[Items<bool>],
     results: &mut Vec<Items<bool>>,
 ) -> Result<(), AllocError>
-    requires laid { IsLaidOut (map (shown_driver design.now) drivers.now) order.now program.now }
-    requires whole { IsWhole program.now }
-    requires covers { AllByRecursion (λ driver. HasCover (shown_driver design.now driver)) drivers.now }
-    requires held { AreHeldBelow (map (shown_driver design.now) drivers.now) }
-    requires outs { AllByRecursion (λ k. k < length drivers.now) outs.now }
+    requires runnable { IsRunnable layout.now }
+    requires outs { AllByRecursion (λ k. k < layout.now.program.nets) outs.now }
     requires none { results.old.items ≡ [] }
-    ensures { OnOk result ((b : Table ℕ) → IsStrict (driver_of (map (shown_driver design.now) drivers.now)) rows.now b → results.new.items ≡ rows_at outs.now b (length rows.now)) }
+    ensures { OnOk result ((b : Table ℕ) → FitsTable layout.now rows.now b → results.new.items ≡ rows_at outs.now b (length rows.now)) }
 {
-    let _ = design;
-    let mut before = Vec::from_elem(alloc, false, drivers.len())?;
-    let mut now = Vec::from_elem(alloc, false, drivers.len())?;
+    let mut state = first_state(alloc, layout.latches.as_slice())?;
+    let mut inputs = Vec::from_elem(alloc, false, layout.places.len())?;
+    let mut bits = Vec::from_elem(alloc, false, layout.program.nets as usize + 1)?;
+    run_rows(
+        alloc,
+        layout,
+        outs,
+        rows,
+        state.as_mut_slice(),
+        inputs.as_mut_slice(),
+        bits.as_mut_slice(),
+        results,
+    )
+}
+
+/// Runs what is laid out row by row, and pushes the bits of some numbers in each row, where there are
+/// none yet.
+fn run_rows(
+    alloc: Global,
+    layout: &Layout,
+    outs: &[u32],
+    rows: &[Items<bool>],
+    state: &mut [bool],
+    inputs: &mut [bool],
+    bits: &mut [bool],
+    results: &mut Vec<Items<bool>>,
+) -> Result<(), AllocError>
+    requires runnable { IsRunnable layout.now }
+    requires outs { AllByRecursion (λ k. k < layout.now.program.nets) outs.now }
+    requires state { state.old ≡ map latch_init layout.now.latches.items }
+    requires inputs { length inputs.old ≡ length layout.now.places.items }
+    requires bits { length bits.old ≡ layout.now.program.nets + 1 }
+    requires none { results.old.items ≡ [] }
+    ensures { OnOk result ((b : Table ℕ) → FitsTable layout.now rows.now b → results.new.items ≡ rows_at outs.now b (length rows.now)) }
+{
     for t in 0..rows.len() {
-        let row = rows[t].as_slice();
-        let out = run_row(
-            alloc,
-            program,
-            order,
-            outs,
-            row,
-            t == 0,
-            before.as_slice(),
-            now.as_mut_slice(),
-        )?;
+        run_row(layout, rows[t].as_slice(), state, inputs, bits);
+        let out = gather(alloc, bits, outs)?;
         results.push(out)?;
-        swap(&mut before, &mut now);
     }
     Ok(())
 }

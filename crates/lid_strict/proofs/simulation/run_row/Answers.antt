@@ -1,23 +1,21 @@
-use Rattle.std.proofs.Common.{ℕ, List, ◌<◌, length, sym, ◌∙◌, subst, arith}
-use Rattle.std.proofs.lemmas.List.{length-map}
-use Rattle.lid_base.specs.Lists.{Among}
-use Rattle.lid_design.specs.Network.{Driver}
-use Rattle.lid_design.specs.Walks.{read_now}
-use Rattle.lid_digraph.specs.Graphs.{IsOrder}
-use Rattle.lid_strict.specs.Networks.{bit_at, reads_of}
-use Rattle.lid_strict.proofs.Running.{map_agree, if_ok}
+use Rattle.std.proofs.Common.{[], ◌++◌, ℕ, List, map, sym, ◌∙◌, ap, subst}
+use Rattle.lid_design.specs.declared.FlatLatch.{FlatLatch}
+use Rattle.lid_design.specs.Flat.{latch_out, latch_input}
+use Rattle.lid_settle.specs.Rows.{bit_at, AgreesAt}
+use Rattle.lid_strict.specs.Layouts.{known_first}
 use Rattle.lid_strict.proofs.simulation.run_row.Goals as goal
 
-among_order : (network : List (Driver ℕ)) (order : List ℕ) → IsOrder (reads_of network) order → (k : ℕ) → k < length network → Among k order
-among_order network order ordered k h =
-    let long = length-map network read_now in
-    ordered.all k (omega arith)
+pub returns-clause-state : goal.returns-clause-state
+returns-clause-state c = c.take_state.ensures ∙ ap (λ (ls : List FlatLatch). map (bit_at c.settle.new.bits) (map latch_input ls)) c.as_slice-latches.ensures.value
 
 pub returns-clause-bits : goal.returns-clause-bits
-returns-clause-bits c network laid f fits k h = c.settle.ensures.bits network laid f fits k (among_order network c.args.order.now laid.ordered k h)
-
-pub returns-clause-out : goal.returns-clause-out
-returns-clause-out c =
-    if_ok _ _
-    (λ out e network laid same f fits. e ∙ map_agree (bit_at c.settle.new.now) f (length c.args.now.now) c.args.outs.now c.requires.outs (λ k h. c.settle.ensures.bits network laid f fits k (among_order network c.args.order.now laid.ordered k (subst (λ (n : ℕ). k < n) (sym same) h))))
-    c.gather.result c.gather.ensures
+returns-clause-bits c f fits k h =
+    let p = c.args.layout.now in
+    let latches = p.latches.items in
+    let value = c.as_slice-latches.ensures.value in
+    let read = c.read_row.ensures ∙ ap (map (bit_at c.args.row.now)) c.as_slice.ensures.value in
+    let held = c.put_state.ensures.bits f [] (ap (λ (ls : List FlatLatch). map f (map latch_out ls)) value ∙ fits.latches) (λ k none. absurd none) in
+    let held' = subst (λ (ls : List FlatLatch). AgreesAt f (map latch_out ls ++ []) c.put_state.new.bits) value held in
+    let put = c.put_bits.ensures.bits f (map latch_out latches ++ []) (ap (map f) c.as_slice-2.ensures.value ∙ fits.inputs ∙ sym read) held' in
+    let put' = subst (λ (ks : List ℕ). AgreesAt f (ks ++ (map latch_out latches ++ [])) c.put_bits.new.bits) c.as_slice-2.ensures.value put in
+    c.settle.ensures.bits f (known_first p) fits.covers c.requires.runnable.earlier put' k (c.requires.runnable.all k h)

@@ -1,8 +1,10 @@
-use Rattle.std.proofs.Common.{◌≡◌, length, map}
-use Rattle.lid_elab.specs.Elaborations.{shown_driver}
-use Rattle.lid_strict.specs.Networks.{IsRun}
+use Rattle.std.proofs.Common.{◌≡◌, ◌+◌, length}
+use Rattle.lid_strict.specs.Layouts.{IsRun}
 use Rattle.lid_strict.proofs.simulation.run_rows.Given as goal
 
 abbrev pub invariant-loop-t : goal.invariant-loop-t
 invariant-loop-t l =
-    (length l.now.items ≡ length l.drivers) × IsRun (map (shown_driver l.design) l.drivers) l.outs l.rows l.t l.before.items l.results.items
+    (length l.state ≡ length l.layout.latches.items)
+    × (length l.inputs ≡ length l.layout.places.items)
+    × (length l.bits ≡ l.layout.program.nets + 1)
+    × IsRun l.layout l.outs l.rows l.t l.state l.results.items

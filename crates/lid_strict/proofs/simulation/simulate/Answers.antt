@@ -1,14 +1,20 @@
-use Rattle.std.proofs.Common.{length, map, ◌∙◌}
+use Rattle.std.proofs.Common.{◌<◌, ℕ, map, sym, ◌∙◌, subst}
+use Rattle.std.specs.List.{AllByRecursion}
 use Rattle.std.proofs.lemmas.List.{length-map}
 use Rattle.lid_elab.specs.Elaborations.{shown_driver}
-use Rattle.lid_strict.proofs.Steps.{order_below}
-use Rattle.lid_strict.proofs.Running.{below_same}
+use Rattle.lid_strict.proofs.Layouts.{runnable, strict_fits}
 use Rattle.lid_strict.proofs.simulation.simulate.Goals as goal
 
-pub lay_out-requires-clause-below : goal.lay_out-requires-clause-below
-lay_out-requires-clause-below c =
-    let network = map (shown_driver c.args.design.now) c.args.drivers.now in
-    below_same network (length c.args.drivers.now) (length-map c.args.drivers.now (shown_driver c.args.design.now)) c.args.order.now (order_below network c.args.order.now c.requires.ordered)
+pub run_layout-requires-clause-runnable : goal.run_layout-requires-clause-runnable
+run_layout-requires-clause-runnable c =
+    runnable (map (shown_driver c.args.design.now) c.args.drivers.now) c.args.order.now c.requires.ordered c.in_ok-layout.layout c.in_ok-layout.ensures c.requires.held
+
+pub run_layout-requires-clause-outs : goal.run_layout-requires-clause-outs
+run_layout-requires-clause-outs c =
+    let long = length-map c.args.drivers.now (shown_driver c.args.design.now) in
+    subst (λ (n : ℕ). AllByRecursion (λ k. k < n) c.args.outs.now) (sym (c.in_ok-layout.ensures.nets ∙ long)) c.requires.outs
 
 pub returns : goal.returns
-returns c b strict = c.from_vec.ensures ∙ c.in_ok-run_rows.ensures b strict
+returns c b strict =
+    c.from_vec.ensures
+    ∙ c.in_ok-run_layout.ensures b (strict_fits (map (shown_driver c.args.design.now) c.args.drivers.now) c.args.order.now c.requires.ordered c.in_ok-layout.layout c.in_ok-layout.ensures c.args.rows.now b strict)

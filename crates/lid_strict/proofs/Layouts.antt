@@ -1,0 +1,280 @@
+-- What is laid out runs in its order, and the rows of strict tables are those of its runs.
+use Rattle.std.proofs.Common.{◌≡◌, ◌<◌, ◌+◌, ℕ, zero, suc, Bool, true, false, List, [], ◌∷◌, ◌++◌, length, map, take, drop, Option, Some, None, slice_get, slice_index_or, option_to_list, option_map, inl, inr, refl, sym, ◌∙◌, ap, subst, arith}
+use Rattle.std.specs.List.{AllByRecursion, flat_map}
+use Rattle.std.proofs.lemmas.List.{length-map, length-append, take_more, take-append-drop}
+use Rattle.std.proofs.Math.Seq.{take-append_seam, get_or-append_seam}
+use Rattle.std.proofs.lemmas.Grind.{flat_map-append}
+use Rattle.std.proofs.lemmas.Option.{slice_get-get_or, slice_get-map, get_or_from_slice_get}
+use Rattle.lid_base.specs.Lists.{Among}
+use Rattle.lid_base.proofs.Lists.{among_left, among_right, among_flat, among_map, among_push, among_at, all_append, all_at}
+use Rattle.lid_cover.specs.Cover.{cover_value}
+use Rattle.lid_design.specs.declared.Design.{Design}
+use Rattle.lid_design.specs.declared.FlatLatch.{FlatLatch}
+use Rattle.lid_design.specs.declared.FlatCover.{FlatCover}
+use Rattle.lid_design.specs.Network.{Driver, from_input, from_latch, from_cover, from_connection, Table, IsStrict, bit_of, latch_bit}
+use Rattle.lid_design.specs.Walks.{read_now, read_before}
+use Rattle.lid_design.specs.Flat.{latch_out, latch_input, latch_init, ReadEarlier, IsRow}
+use Rattle.lid_digraph.specs.Graphs.{reads_at, IsOrder}
+use Rattle.lid_elab.specs.declared.driver.ColumnDriver.{ColumnDriver}
+use Rattle.lid_elab.specs.Elaborations.{shown_driver}
+use Rattle.lid_settle.specs.Rows.{bit_at, after}
+use Rattle.lid_settle.proofs.Settling.{after_keeps, after_has}
+use Rattle.lid_strict.specs.Networks.{driver_of, reads_of, AreHeldBelow}
+use Rattle.lid_strict.specs.Layouts.{buffer, driver_at, input_nets, input_places, latches_of, cells_of, nets_in, places_in, latches_in, cells_in, IsLaidOut, known_first, IsRunnable, held_bits, FitsTable}
+use Rattle.lid_strict.specs.declared.layout.Layout.{Layout}
+
+all_flat : {A B : Type 0} (P : B → Type 0) (f : A → List B) (xs : List A) → ((x : A) → Among x xs → AllByRecursion P (f x)) → AllByRecursion P (flat_map f xs)
+all_flat P f [] each = tt
+all_flat P f (x ∷ xs) each = all_append P (f x) (flat_map f xs) (each x (inl refl)) (all_flat P f xs (λ y among. each y (inr among)))
+
+all_map : {A B : Type 0} (P : B → Type 0) (f : A → B) (xs : List A) → AllByRecursion (λ x. P (f x)) xs → AllByRecursion P (map f xs)
+all_map P f [] all = tt
+all_map P f (x ∷ xs) all = (all.0, all_map P f xs all.1)
+
+all_of_each : {A : Type 0} (P : A → Type 0) (xs : List A) → ((x : A) → Among x xs → P x) → AllByRecursion P xs
+all_of_each P [] each = tt
+all_of_each P (x ∷ xs) each = (each x (inl refl), all_of_each P xs (λ y among. each y (inr among)))
+
+append_nothing : {A : Type 0} (xs : List A) → xs ++ [] ≡ xs
+append_nothing [] = refl
+append_nothing (x ∷ xs) = ap (λ ys. x ∷ ys) (append_nothing xs)
+
+-- what is laid out so far, with what of one number more
+pub laid_next : {B : Type 0} (g : ℕ → Driver ℕ → List B) (network : List (Driver ℕ)) (order : List ℕ) (i : ℕ) → i < length order → (s : Driver ℕ) → s ≡ driver_at network (slice_index_or order i 0) → (old new : List B) → old ≡ flat_map (λ k. g k (driver_at network k)) (take i order) → new ≡ old ++ g (slice_index_or order i 0) s → new ≡ flat_map (λ k. g k (driver_at network k)) (take (i + 1) order)
+laid_next {B} g network order i h s same old new so_far pushed =
+    let k = slice_index_or order i 0 in
+    let f : ℕ → List B = λ k. g k (driver_at network k) in
+    pushed
+    ∙ ap (λ (xs : List B). xs ++ g k s) so_far
+    ∙ ap (λ (r : Driver ℕ). flat_map f (take i order) ++ g k r) same
+    ∙ ap (λ (xs : List B). flat_map f (take i order) ++ xs) (sym (append_nothing (f k)))
+    ∙ sym (flat_map-append f (take i order) (k ∷ []))
+    ∙ ap (flat_map f) (sym (take_more order i 0 h))
+
+pub driver_here : (drivers : List ColumnDriver) (k : ℕ) (driver : ColumnDriver) → k < length drivers → driver ≡ slice_index_or drivers k driver → slice_get drivers k ≡ Some driver
+driver_here drivers k driver h is = slice_get-get_or drivers k driver h ∙ ap Some (sym is)
+
+-- a driver as one of a network
+pub driver_is : (d : Design) (drivers : List ColumnDriver) (k : ℕ) (driver : ColumnDriver) → slice_get drivers k ≡ Some driver → shown_driver d driver ≡ driver_at (map (shown_driver d) drivers) k
+driver_is d drivers k driver here =
+    let show : ColumnDriver → Driver ℕ = shown_driver d in
+    let shown : slice_get (map show drivers) k ≡ Some (show driver) = slice_get-map show drivers k ∙ ap (option_map show) here in
+    sym (get_or_from_slice_get (map show drivers) k (show driver) (from_input 0) shown)
+
+buffered : (v : Bool) → cover_value buffer (v ∷ []) ≡ v
+unfolding cover_value
+buffered true = refl
+buffered false = refl
+
+-- the drivers of some numbers in a row of a table
+module _ (rows : List (List Bool)) (b : Table ℕ) (t : ℕ) where
+  abbrev Has : ℕ → Driver ℕ → Type 0
+  Has k s = b t k ≡ bit_of rows b t s
+
+  has_cells : (k : ℕ) (s : Driver ℕ) → Has k s → IsRow (cells_of k s) (b t)
+  has_cells k (from_input j) e = tt
+  has_cells k (from_latch first input) e = tt
+  has_cells k (from_cover cover inputs) e = (e, tt)
+  has_cells k (from_connection other) e = (e ∙ sym (buffered (b t other)), tt)
+
+  has_latches : (k : ℕ) (s : Driver ℕ) → Has k s → AllByRecursion (λ l. b t l.out ≡ latch_bit b l.init l.input t) (latches_of k s)
+  has_latches k (from_input j) e = tt
+  has_latches k (from_latch first input) e = (e, tt)
+  has_latches k (from_cover cover inputs) e = tt
+  has_latches k (from_connection other) e = tt
+
+  has_inputs : (k : ℕ) (s : Driver ℕ) (nets places : List ℕ) → Has k s → map (b t) nets ≡ map (bit_at (slice_index_or rows t [])) places → map (b t) (input_nets k s ++ nets) ≡ map (bit_at (slice_index_or rows t [])) (input_places s ++ places)
+  has_inputs k (from_input j) nets places e later =
+      let head : b t k ≡ bit_at (slice_index_or rows t []) j = e in
+      cc
+  has_inputs k (from_latch first input) nets places e later = later
+  has_inputs k (from_cover cover inputs) nets places e later = later
+  has_inputs k (from_connection other) nets places e later = later
+
+  all_inputs : (network : List (Driver ℕ)) (order : List ℕ) → ((k : ℕ) → Among k order → Has k (driver_at network k)) → map (b t) (nets_in network order) ≡ map (bit_at (slice_index_or rows t [])) (places_in network order)
+  all_inputs network [] each = refl
+  all_inputs network (k ∷ order) each = has_inputs k (driver_at network k) (nets_in network order) (places_in network order) (each k (inl refl)) (all_inputs network order (λ j among. each j (inr among)))
+
+held_all : (b : Table ℕ) (t : ℕ) (latches : List FlatLatch) → AllByRecursion (λ l. b t l.out ≡ latch_bit b l.init l.input t) latches → map (b t) (map latch_out latches) ≡ held_bits latches b t
+held_all b zero [] all = refl
+held_all b zero (l ∷ latches) all =
+    let head : b 0 l.out ≡ l.init = all.0 in
+    let tail : map (b 0) (map latch_out latches) ≡ map latch_init latches = held_all b zero latches all.1 in
+    cc
+held_all b (suc t) [] all = refl
+held_all b (suc t) (l ∷ latches) all =
+    let head : b (suc t) l.out ≡ b t l.input = all.0 in
+    let tail : map (b (suc t)) (map latch_out latches) ≡ map (b t) (map latch_input latches) = held_all b (suc t) latches all.1 in
+    cc
+
+reads_of_driver : (network : List (Driver ℕ)) (k : ℕ) (s : Driver ℕ) → slice_get network k ≡ Some s → reads_at (reads_of network) k ≡ read_now s
+reads_of_driver [] k s h = absurd (let e : None ≡ Some s = h in cc)
+reads_of_driver (r ∷ network) zero s h = let e : Some r ≡ Some s = h in let f : r ≡ s = cc in ap read_now f
+reads_of_driver (r ∷ network) (suc k) s h = reads_of_driver network k s h
+
+push_append : (done rest : List ℕ) (k : ℕ) → (done ++ k ∷ []) ++ rest ≡ done ++ k ∷ rest
+push_append [] rest k = refl
+push_append (x ∷ done) rest k = ap (λ (xs : List ℕ). x ∷ xs) (push_append done rest k)
+
+-- of one number
+inputs_below : (n k : ℕ) (s : Driver ℕ) → k < n → AllByRecursion (λ a. a < n) (input_nets k s)
+inputs_below n k (from_input j) h = (h, tt)
+inputs_below n k (from_latch first input) h = tt
+inputs_below n k (from_cover cover inputs) h = tt
+inputs_below n k (from_connection other) h = tt
+
+held_below : (n k : ℕ) (s : Driver ℕ) → k < n → AllByRecursion (λ l. l.out < n) (latches_of k s)
+held_below n k (from_input j) h = tt
+held_below n k (from_latch first input) h = (h, tt)
+held_below n k (from_cover cover inputs) h = tt
+held_below n k (from_connection other) h = tt
+
+taken_below : (n k : ℕ) (s : Driver ℕ) → AllByRecursion (λ a. a < n) (read_before s) → AllByRecursion (λ l. l.input < n) (latches_of k s)
+taken_below n k (from_input j) h = tt
+taken_below n k (from_latch first input) h = (h.0, tt)
+taken_below n k (from_cover cover inputs) h = tt
+taken_below n k (from_connection other) h = tt
+
+one_place : (k : ℕ) (s : Driver ℕ) (nets places : List ℕ) → length places ≡ length nets → length (input_places s ++ places) ≡ length (input_nets k s ++ nets)
+one_place k (from_input j) nets places e = ap suc e
+one_place k (from_latch first input) nets places e = e
+one_place k (from_cover cover inputs) nets places e = e
+one_place k (from_connection other) nets places e = e
+
+pub same_places : (network : List (Driver ℕ)) (order : List ℕ) → length (places_in network order) ≡ length (nets_in network order)
+same_places network [] = refl
+same_places network (k ∷ order) = one_place k (driver_at network k) (nets_in network order) (places_in network order) (same_places network order)
+
+module _ (network : List (Driver ℕ)) (order : List ℕ) (ordered : IsOrder (reads_of network) order) where
+  pub order_below : (k : ℕ) → Among k order → k < length network
+  order_below k among =
+      let within = ordered.within k among in
+      let long = length-map network read_now in
+      omega arith
+
+  -- what a number of the order reads has a number
+  pub reads_below : (i : ℕ) → i < length order → AllByRecursion (λ a. a < length network) (read_now (driver_at network (slice_index_or order i 0)))
+  reads_below i h =
+      let k = slice_index_or order i 0 in
+      let here = slice_get-get_or network k (from_input 0) (order_below k (among_at order i 0 h)) in
+      let reads = reads_of_driver network k (driver_at network k) here in
+      all_of_each (λ a. a < length network) (read_now (driver_at network k)) (λ a among. order_below a (subst (Among a) (take-append-drop i order) (among_left a (take i order) (drop i order) (ordered.earlier i a h (subst (Among a) (sym reads) among)))))
+
+  abbrev base : List ℕ
+  base = nets_in network order ++ (map latch_out (latches_in network order) ++ [])
+
+  abbrev in_base : ℕ → Driver ℕ → Type 0
+  in_base k s = length (cells_of k s) ≡ 0 → Among k base
+
+  -- what is no cover is known before any is run
+  source_known : (k : ℕ) → Among k order → (s : Driver ℕ) → driver_at network k ≡ s → in_base k s
+  source_known k among (from_input j) is none =
+      among_left k (nets_in network order) (map latch_out (latches_in network order) ++ [])
+      (among_flat (λ k. input_nets k (driver_at network k)) k k order among (subst (λ (s : Driver ℕ). Among k (input_nets k s)) (sym is) (inl refl)))
+  source_known k among (from_latch first input) is none =
+      let latch : FlatLatch = record { input = input; out = k; init = first } in
+      among_right k (nets_in network order) (map latch_out (latches_in network order) ++ [])
+      (among_left k (map latch_out (latches_in network order)) []
+      (among_map latch_out latch (latches_in network order)
+      (among_flat (λ k. latches_of k (driver_at network k)) k latch order among (subst (λ (s : Driver ℕ). Among latch (latches_of k s)) (sym is) (inl refl)))))
+  source_known k among (from_cover cover inputs) is none = absurd (omega arith)
+  source_known k among (from_connection other) is none = absurd (omega arith)
+
+  -- a number reads what stands before it
+  before : (done rest : List ℕ) (k : ℕ) → done ++ k ∷ rest ≡ order → (a : ℕ) → Among a (read_now (driver_at network k)) → Among a done
+  before done rest k e a among =
+      let long : length order ≡ length done + length (k ∷ rest) = ap length (sym e) ∙ length-append done (k ∷ rest) in
+      let h : length done < length order = omega arith in
+      let at : slice_index_or order (length done) 0 ≡ k = ap (λ (xs : List ℕ). slice_index_or xs (length done) 0) (sym e) ∙ get_or-append_seam done k rest 0 in
+      let here = slice_get-get_or network k (from_input 0) (order_below k (subst (Among k) e (among_right k done (k ∷ rest) (inl refl)))) in
+      let reads = subst (Among a) (sym (reads_of_driver network k (driver_at network k) here)) among in
+      let took = ordered.earlier (length done) a h (subst (λ (x : ℕ). Among a (reads_at (reads_of network) x)) (sym at) reads) in
+      subst (Among a) (ap (take (length done)) (sym e) ∙ take-append_seam done (k ∷ rest)) took
+
+  abbrev Rest : List ℕ → Type 0
+  Rest rest = (done : List ℕ) → done ++ rest ≡ order → (known : List ℕ) → ((a : ℕ) → Among a done → Among a known) → ((a : ℕ) → Among a base → Among a known) → ReadEarlier known (cells_in network rest)
+
+  pushed : (done known : List ℕ) (k : ℕ) → ((a : ℕ) → Among a done → Among a known) → Among k known → (a : ℕ) → Among a (done ++ k ∷ []) → Among a known
+  pushed done known k all here a among = elim (among_push a k done among) [
+    | inl earlier ↦ all a earlier
+    | inr same ↦ subst (λ (x : ℕ). Among x known) (sym same) here
+  ]
+
+  module _ (done rest : List ℕ) (k : ℕ) (e : done ++ k ∷ rest ≡ order) (known : List ℕ) (run : (a : ℕ) → Among a done → Among a known) (first : (a : ℕ) → Among a base → Among a known) where
+    there : Among k order
+    there = subst (Among k) e (among_right k done (k ∷ rest) (inl refl))
+
+    cell_reads : (s : Driver ℕ) → driver_at network k ≡ s → AllByRecursion (λ a. Among a known) (read_now s)
+    cell_reads s is = all_of_each (λ a. Among a known) (read_now s) (λ a among. run a (before done rest k e a (subst (λ (s : Driver ℕ). Among a (read_now s)) (sym is) among)))
+
+    cell_next : Rest rest → ReadEarlier (k ∷ known) (cells_in network rest)
+    cell_next next = next (done ++ k ∷ []) (push_append done rest k ∙ e) (k ∷ known) (pushed done (k ∷ known) k (λ a among. inr (run a among)) (inl refl)) (λ a among. inr (first a among))
+
+    source_next : Among k known → Rest rest → ReadEarlier known (cells_in network rest)
+    source_next here next = next (done ++ k ∷ []) (push_append done rest k ∙ e) known (pushed done known k run here) first
+
+    one_earlier : (s : Driver ℕ) → driver_at network k ≡ s → Rest rest → ReadEarlier known (cells_of k s ++ cells_in network rest)
+    one_earlier (from_input j) is next = source_next (first k (source_known k there (from_input j) is refl)) next
+    one_earlier (from_latch b input) is next = source_next (first k (source_known k there (from_latch b input) is refl)) next
+    one_earlier (from_cover cover inputs) is next = (cell_reads (from_cover cover inputs) is, cell_next next)
+    one_earlier (from_connection other) is next = (cell_reads (from_connection other) is, cell_next next)
+
+  all_earlier : (rest : List ℕ) → Rest rest
+  all_earlier [] done e known run first = tt
+  all_earlier (k ∷ rest) done e known run first = one_earlier done rest k e known run first (driver_at network k) refl (all_earlier rest)
+
+  pub earlier : ReadEarlier base (cells_in network order)
+  earlier = all_earlier order [] refl base (λ a none. absurd none) (λ a among. among)
+
+  cell_known : (k : ℕ) → Among k order → (s : Driver ℕ) → driver_at network k ≡ s → (c : FlatCover) → Among c (cells_of k s) → Among c.out (after base (cells_in network order))
+  cell_known k among s is c cell = after_has base (cells_in network order) c (among_flat (λ k. cells_of k (driver_at network k)) k c order among (subst (λ (s : Driver ℕ). Among c (cells_of k s)) (sym is) cell))
+
+  known_by : (k : ℕ) → Among k order → (s : Driver ℕ) → driver_at network k ≡ s → Among k (after base (cells_in network order))
+  known_by k among (from_input j) is = after_keeps base (cells_in network order) k (source_known k among (from_input j) is refl)
+  known_by k among (from_latch first input) is = after_keeps base (cells_in network order) k (source_known k among (from_latch first input) is refl)
+  known_by k among (from_cover cover inputs) is = cell_known k among (from_cover cover inputs) is (record { ins = inputs; out = k; cover = cover }) (inl refl)
+  known_by k among (from_connection other) is = cell_known k among (from_connection other) is (record { ins = other ∷ []; out = k; cover = buffer }) (inl refl)
+
+  pub all_known : (k : ℕ) → k < length network → Among k (after base (cells_in network order))
+  all_known k h = known_by k (ordered.all k (let long = length-map network read_now in omega arith)) (driver_at network k) refl
+
+  module _ (p : Layout) (laid : IsLaidOut network order p) where
+    base_is : base ≡ known_first p
+    base_is = ap (λ (ks : List ℕ). ks ++ (map latch_out (latches_in network order) ++ [])) (sym laid.ins) ∙ ap (λ (ls : List FlatLatch). p.ins.items ++ (map latch_out ls ++ [])) (sym laid.latches)
+
+    below_nets : {A : Type 0} (f : A → ℕ) (xs ys : List A) → xs ≡ ys → AllByRecursion (λ x. f x < length network) ys → AllByRecursion (λ x. f x < p.program.nets) xs
+    below_nets {A} f xs ys same all =
+        subst (λ (n : ℕ). AllByRecursion (λ x. f x < n) xs) (sym laid.nets)
+        (subst (AllByRecursion (λ (x : A). f x < length network)) (sym same) all)
+
+    -- what is laid out in an order runs
+    pub runnable : AreHeldBelow network → IsRunnable p
+    runnable below = record {
+      ready = laid.ready;
+      ins = below_nets (λ k. k) p.ins.items (nets_in network order) laid.ins
+          (all_flat (λ k. k < length network) (λ k. input_nets k (driver_at network k)) order (λ k among. inputs_below (length network) k (driver_at network k) (order_below k among)));
+      held = all_map (λ k. k < p.program.nets) latch_out p.latches.items (below_nets latch_out p.latches.items (latches_in network order) laid.latches
+          (all_flat (λ l. l.out < length network) (λ k. latches_of k (driver_at network k)) order (λ k among. held_below (length network) k (driver_at network k) (order_below k among))));
+      taken = all_map (λ k. k < p.program.nets) latch_input p.latches.items (below_nets latch_input p.latches.items (latches_in network order) laid.latches
+          (all_flat (λ l. l.input < length network) (λ k. latches_of k (driver_at network k)) order (λ k among. taken_below (length network) k (driver_at network k)
+          (all_at (λ (s : Driver ℕ). AllByRecursion (λ a. a < length network) (read_before s)) network k (driver_at network k) below (slice_get-get_or network k (from_input 0) (order_below k among))))));
+      pairs = ap length laid.places ∙ same_places network order ∙ sym (ap length laid.ins);
+      earlier = subst (ReadEarlier (known_first p)) (sym laid.covers) (subst (λ (ks : List ℕ). ReadEarlier ks (cells_in network order)) base_is earlier);
+      all = λ k h. subst (λ (cs : List FlatCover). Among k (after (known_first p) cs)) (sym laid.covers)
+          (subst (λ (ks : List ℕ). Among k (after ks (cells_in network order))) base_is (all_known k (subst (λ (n : ℕ). k < n) laid.nets h)));
+    }
+
+    -- a strict table is one of its runs
+    pub strict_fits : (rows : List (List Bool)) (b : Table ℕ) → IsStrict (driver_of network) rows b → FitsTable p rows b
+    strict_fits rows b strict t h = record {
+      covers = subst (λ (cs : List FlatCover). IsRow cs (b t)) (sym laid.covers)
+          (all_flat (λ c. b t c.out ≡ cover_value c.cover (map (b t) c.ins)) (λ k. cells_of k (driver_at network k)) order (λ k among. has_cells rows b t k (driver_at network k) (value k among)));
+      latches = subst (λ (ls : List FlatLatch). map (b t) (map latch_out ls) ≡ held_bits ls b t) (sym laid.latches)
+          (held_all b t (latches_in network order) (all_flat (λ l. b t l.out ≡ latch_bit b l.init l.input t) (λ k. latches_of k (driver_at network k)) order (λ k among. has_latches rows b t k (driver_at network k) (value k among))));
+      inputs = ap (map (b t)) laid.ins ∙ all_inputs rows b t network order value ∙ ap (map (bit_at (slice_index_or rows t []))) (sym laid.places);
+    }
+      where
+        value : (k : ℕ) → Among k order → b t k ≡ bit_of rows b t (driver_at network k)
+        value k among =
+            let here = slice_get-get_or network k (from_input 0) (order_below k among) in
+            (subst (λ (o : Option (Driver ℕ)). AllByRecursion (λ r. b t k ≡ bit_of rows b t r) (option_to_list o)) here (strict t k h)).0

@@ -1,0 +1,103 @@
+-- Networks laid out for running, in an order of their numbers.
+use Rattle.std.specs.Prelude.{◌≡◌, ◌++◌, ◌<◌, ℕ, Bool, true, zero, suc, List, [], ◌∷◌, length, map, slice_index_or}
+use Rattle.std.specs.List.{AllByRecursion, flat_map}
+use Rattle.lid_base.specs.Lists.{Among}
+use Rattle.lid_cover.specs.declared.Cover.{Cover}
+use Rattle.lid_design.specs.declared.FlatLatch.{FlatLatch}
+use Rattle.lid_design.specs.declared.FlatCover.{FlatCover}
+use Rattle.lid_design.specs.Network.{Driver, from_input, from_latch, from_cover, from_connection, Table}
+use Rattle.lid_design.specs.Flat.{latch_out, latch_input, latch_init, ReadEarlier, IsRow}
+use Rattle.lid_settle.specs.Programs.{shown, IsReady}
+use Rattle.lid_settle.specs.Rows.{bit_at, after}
+use Rattle.lid_strict.specs.Networks.{rows_at}
+use Rattle.lid_strict.specs.declared.layout.Layout.{Layout}
+
+-- the cover that gives its one input
+abbrev pub buffer : Cover
+buffer = record { inputs = 1; on = true; cubes = record { care = 1; value = 1 } ∷ [] }
+
+abbrev pub driver_at : List (Driver ℕ) → ℕ → Driver ℕ
+driver_at network k = slice_index_or network k (from_input 0)
+
+-- number k where it is an input, and the place of the input
+abbrev pub input_nets : ℕ → Driver ℕ → List ℕ
+input_nets k (from_input j) = k ∷ []
+input_nets k (from_latch first input) = []
+input_nets k (from_cover cover inputs) = []
+input_nets k (from_connection other) = []
+
+abbrev pub input_places : Driver ℕ → List ℕ
+input_places (from_input j) = j ∷ []
+input_places (from_latch first input) = []
+input_places (from_cover cover inputs) = []
+input_places (from_connection other) = []
+
+-- the latch that gives number k its bit
+abbrev pub latches_of : ℕ → Driver ℕ → List FlatLatch
+latches_of k (from_input j) = []
+latches_of k (from_latch first input) = record { input = input; out = k; init = first } ∷ []
+latches_of k (from_cover cover inputs) = []
+latches_of k (from_connection other) = []
+
+-- the cover that gives number k its bit, which is a buffer where a connection does
+abbrev pub cells_of : ℕ → Driver ℕ → List FlatCover
+cells_of k (from_input j) = []
+cells_of k (from_latch first input) = []
+cells_of k (from_cover cover inputs) = record { ins = inputs; out = k; cover = cover } ∷ []
+cells_of k (from_connection other) = record { ins = other ∷ []; out = k; cover = buffer } ∷ []
+
+-- what of each number of an order, one after the other
+abbrev pub nets_in : List (Driver ℕ) → List ℕ → List ℕ
+nets_in network order = flat_map (λ k. input_nets k (driver_at network k)) order
+
+abbrev pub places_in : List (Driver ℕ) → List ℕ → List ℕ
+places_in network order = flat_map (λ k. input_places (driver_at network k)) order
+
+abbrev pub latches_in : List (Driver ℕ) → List ℕ → List FlatLatch
+latches_in network order = flat_map (λ k. latches_of k (driver_at network k)) order
+
+abbrev pub cells_in : List (Driver ℕ) → List ℕ → List FlatCover
+cells_in network order = flat_map (λ k. cells_of k (driver_at network k)) order
+
+-- the layout of a network in an order
+pub record IsLaidOut (network : List (Driver ℕ)) (order : List ℕ) (p : Layout) : Type 0 where
+  pub ready : IsReady p.program
+  pub nets : p.program.nets ≡ length network
+  pub covers : shown p.program ≡ cells_in network order
+  pub ins : p.ins.items ≡ nets_in network order
+  pub places : p.places.items ≡ places_in network order
+  pub latches : p.latches.items ≡ latches_in network order
+
+-- what is known in a row before covers are run
+abbrev pub known_first : Layout → List ℕ
+known_first p = p.ins.items ++ (map latch_out p.latches.items ++ [])
+
+-- each cover reads what is known when it is run, and all numbers are known in the end
+pub record IsRunnable (p : Layout) : Type 0 where
+  pub ready : IsReady p.program
+  pub ins : AllByRecursion (λ k. k < p.program.nets) p.ins.items
+  pub held : AllByRecursion (λ k. k < p.program.nets) (map latch_out p.latches.items)
+  pub taken : AllByRecursion (λ k. k < p.program.nets) (map latch_input p.latches.items)
+  pub pairs : length p.places.items ≡ length p.ins.items
+  pub earlier : ReadEarlier (known_first p) (shown p.program)
+  pub all : (k : ℕ) → k < p.program.nets → Among k (after (known_first p) (shown p.program))
+
+-- the bits that latches hold in a row: first those that they begin with, later those of their inputs in
+-- the row before
+abbrev pub held_bits : List FlatLatch → Table ℕ → ℕ → List Bool
+held_bits latches b zero = map latch_init latches
+held_bits latches b (suc t) = map (b t) (map latch_input latches)
+
+-- the bits of a row, from the input row and the bits that latches hold in it
+pub record FitsRow (p : Layout) (row state : List Bool) (bit : ℕ → Bool) : Type 0 where
+  pub covers : IsRow (shown p.program) bit
+  pub latches : map bit (map latch_out p.latches.items) ≡ state
+  pub inputs : map bit p.ins.items ≡ map (bit_at row) p.places.items
+
+-- a table whose rows are those of a run
+abbrev pub FitsTable : Layout → List (List Bool) → Table ℕ → Type 0
+FitsTable p rows b = (t : ℕ) → t < length rows → FitsRow p (slice_index_or rows t []) (held_bits p.latches.items b t) (b t)
+
+-- what latches hold and the rows so far are those of each table that fits
+abbrev pub IsRun : Layout → List ℕ → List (List Bool) → ℕ → List Bool → List (List Bool) → Type 0
+IsRun p outs rows t state out = (b : Table ℕ) → FitsTable p rows b → (state ≡ held_bits p.latches.items b t) × (out ≡ rows_at outs b t)

@@ -1,0 +1,146 @@
+//! Networks laid out for running: inputs, latches, and a program of all that is read in the same row, in
+//! an order in which each number stands after all that it reads.
+
+ghost use Rattle.std.specs.Prelude.{◌≡◌, ◌<◌, ◌++◌, [], length, map, IfOk, OnOk};
+ghost use Rattle.std.specs.List.{AllByRecursion};
+ghost use Rattle.lid_design.specs.Walks.{read_now};
+ghost use Rattle.lid_digraph.specs.Graphs.{IsOrder};
+ghost use Rattle.lid_elab.specs.Covers.{no_cover};
+ghost use Rattle.lid_elab.specs.Elaborations.{shown_driver};
+ghost use Rattle.lid_settle.specs.Programs.{shown, IsProgram};
+ghost use Rattle.lid_strict.specs.Networks.{reads_of, HasCover};
+ghost use Rattle.lid_strict.specs.Layouts.{buffer, input_nets, input_places, latches_of, cells_of, IsLaidOut};
+
+use lid_base::Items;
+use lid_cover::{Cover, Cube};
+use lid_design::{Design, FlatLatch};
+use lid_elab::{ColumnDriver, cover_at};
+use lid_settle::Program;
+use std::alloc::{AllocError, Global};
+
+/// What gives each number of a network its bit.
+#[derive(Drop)]
+pub struct Layout {
+    /// The covers, and each connection as a cover of one input.
+    pub program: Program,
+    /// The numbers of data inputs of the root.
+    pub ins: Vec<u32>,
+    /// The place of each of them among the inputs of the root.
+    pub places: Vec<u32>,
+    pub latches: Vec<FlatLatch>,
+}
+
+/// Covers that no model has.
+#[derive(Drop)]
+struct PlainCovers {
+    /// The value of its one input.
+    buffer: Cover,
+    /// The constant 0, where there is no cover.
+    none: Cover,
+}
+
+/// Lays out the drivers of some numbers, in their order.
+pub fn lay_out(
+    alloc: Global,
+    design: &Design,
+    drivers: &[ColumnDriver],
+    order: &[u32],
+) -> Result<Layout, AllocError>
+    requires ordered { IsOrder (reads_of (map (shown_driver design.now) drivers.now)) order.now }
+    requires covers { AllByRecursion (λ driver. HasCover (shown_driver design.now driver)) drivers.now }
+    ensures { IfOk result (IsLaidOut (map (shown_driver design.now) drivers.now) order.now) }
+{
+    let plain = plain_covers(alloc)?;
+    let mut layout = no_layout(alloc, drivers.len())?;
+    for number in order {
+        let driver = &drivers[*number as usize];
+        push_driver(&mut layout, &plain, design, *number, driver)?;
+    }
+    layout.program.finish()?;
+    Ok(layout)
+}
+
+/// A layout of nothing, for so many numbers.
+fn no_layout(alloc: Global, size: usize) -> Result<Layout, AllocError>
+    ensures program { IfOk result (λ layout. IsProgram 0 layout.program) }
+    ensures nets { IfOk result (λ layout. layout.program.nets ≡ size) }
+    ensures covers { IfOk result (λ layout. shown layout.program ≡ []) }
+    ensures ins { IfOk result (λ layout. layout.ins.items ≡ []) }
+    ensures places { IfOk result (λ layout. layout.places.items ≡ []) }
+    ensures latches { IfOk result (λ layout. layout.latches.items ≡ []) }
+{
+    match u32::try_from(size) {
+        Ok(nets) => Ok(Layout {
+            program: Program::new(alloc, nets),
+            ins: Vec::new(alloc),
+            places: Vec::new(alloc),
+            latches: Vec::new(alloc),
+        }),
+        Err(_) => Err(AllocError),
+    }
+}
+
+/// The covers that no model has.
+fn plain_covers(alloc: Global) -> Result<PlainCovers, AllocError>
+    ensures buffer { IfOk result (λ plain. plain.buffer ≡ buffer) }
+    ensures none { IfOk result (λ plain. plain.none ≡ no_cover) }
+{
+    let mut cubes = Vec::new(alloc);
+    cubes.push(Cube { care: 1, value: 1 })?;
+    Ok(PlainCovers {
+        buffer: Cover {
+            inputs: 1,
+            on: true,
+            cubes: Items::from_vec(cubes),
+        },
+        none: Cover {
+            inputs: 0,
+            on: false,
+            cubes: Items::from_vec(Vec::new(alloc)),
+        },
+    })
+}
+
+/// Adds what gives a number its bit.
+fn push_driver(
+    layout: &mut Layout,
+    plain: &PlainCovers,
+    design: &Design,
+    number: u32,
+    driver: &ColumnDriver,
+) -> Result<(), AllocError>
+    requires buffer { plain.now.buffer ≡ buffer }
+    requires none { plain.now.none ≡ no_cover }
+    requires program { IsProgram 0 layout.old.program }
+    requires number { number < layout.old.program.nets }
+    requires reads { AllByRecursion (λ k. k < layout.old.program.nets) (read_now (shown_driver design.now driver.now)) }
+    requires cover { HasCover (shown_driver design.now driver.now) }
+    ensures program { OnOk result (IsProgram 0 layout.new.program) }
+    ensures nets { OnOk result (layout.new.program.nets ≡ layout.old.program.nets) }
+    ensures covers { OnOk result (shown layout.new.program ≡ shown layout.old.program ++ cells_of number (shown_driver design.now driver.now)) }
+    ensures ins { OnOk result (layout.new.ins.items ≡ layout.old.ins.items ++ input_nets number (shown_driver design.now driver.now)) }
+    ensures places { OnOk result (layout.new.places.items ≡ layout.old.places.items ++ input_places (shown_driver design.now driver.now)) }
+    ensures latches { OnOk result (layout.new.latches.items ≡ layout.old.latches.items ++ latches_of number (shown_driver design.now driver.now)) }
+{
+    match driver {
+        ColumnDriver::Input(place) => {
+            layout.ins.push(number)?;
+            layout.places.push(*place)?;
+        }
+        ColumnDriver::Latch { first, input } => layout.latches.push(FlatLatch {
+            input: *input,
+            out: number,
+            init: *first,
+        })?,
+        ColumnDriver::Cover {
+            model,
+            cell,
+            inputs,
+        } => {
+            let cover = cover_at(design, *model, *cell).unwrap_or(&plain.none);
+            layout.program.push(inputs.as_slice(), number, cover)?;
+        }
+        ColumnDriver::Connection(other) => layout.program.push(&[*other], number, &plain.buffer)?,
+    }
+    Ok(())
+}
