@@ -159,22 +159,11 @@ fn late_rows(alloc: Global) -> Result<String, Fail> {
     Ok(outs)
 }
 
-/// Runs a netlist, and compares the outputs.
-fn expect<R: Threads + AllocGlobal + Sync + Abort>(
-    rt: &R,
-    net: &str,
-    rows: &str,
-    out: &str,
-) -> Result<(), AllocError> {
-    let left = done(out);
-    expect_strict(rt, net, rows, left)
-}
-
 #[test]
 fn a_pipeline_delays_by_four_and_feeds_one_bit_back(rt: HostRuntime) -> Result<(), Fail> {
     let rows = counted_rows(rt.alloc())?;
     let outs = late_rows(rt.alloc())?;
-    expect(&rt, PIPE, rows.as_str(), outs.as_str())?;
+    expect_strict(&rt, PIPE, rows.as_str(), done(outs.as_str()))?;
     Ok(())
 }
 
@@ -226,6 +215,6 @@ fn thirty_three_ports_lead_from_one_instance_to_another(rt: HostRuntime) -> Resu
     let net = wide_net(rt.alloc())?;
     let rows = same_rows(rt.alloc(), "-\n", "-\n")?;
     let outs = same_rows(rt.alloc(), "z\n", "0\n")?;
-    expect(&rt, net.as_str(), rows.as_str(), outs.as_str())?;
+    expect_strict(&rt, net.as_str(), rows.as_str(), done(outs.as_str()))?;
     Ok(())
 }

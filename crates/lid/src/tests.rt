@@ -186,18 +186,6 @@ pub fn expect_outputs<R: Threads + AllocGlobal + Sync + Abort>(
     Ok(())
 }
 
-/// Runs `strict` of netlists and rows that are refused, and compares the line.
-pub fn expect_refused<R: Threads + AllocGlobal + Sync + Abort>(
-    rt: &R,
-    cases: &[(&str, &str, &str)],
-) -> Result<(), AllocError> {
-    for (net, rows, err) in cases {
-        let left = ended(1, err);
-        expect_strict(rt, net, rows, left)?;
-    }
-    Ok(())
-}
-
 /// Netlists that run, with their rows and outputs.
 static RUNS: &[(&str, &str, &str)] = &[
     // a register delays its rows by one
@@ -229,50 +217,48 @@ fn small_netlists_run(rt: HostRuntime) -> Result<(), Fail> {
     Ok(())
 }
 
-/// Netlists and rows that do not read, with what is told.
-static UNREAD: &[(&str, &str, &str)] = &[
-    (REGISTER, "d\n10\n", "lid: rows Width 2\n"),
-    (REGISTER, "e\n1\n", "lid: rows Header\n"),
-    (REGISTER, "d\nx\n", "lid: rows Char 2\n"),
-    (REGISTER, "", "lid: rows Header\n"),
-    (REGISTER, "d\n1\n\u{7f}\n", "lid: rows Char 3\n"),
-    ("", "d\n", "lid: blif NoModel 0\n"),
-    (".inputs a\n", "d\n", "lid: blif NoModel 1\n"),
+/// Rows that do not read for the register, with what is told.
+static UNREAD_ROWS: &[(&str, &str)] = &[
+    ("d\n10\n", "lid: rows Width 2\n"),
+    ("e\n1\n", "lid: rows Header\n"),
+    ("d\nx\n", "lid: rows Char 2\n"),
+    ("", "lid: rows Header\n"),
+    ("d\n1\n\u{7f}\n", "lid: rows Char 3\n"),
+];
+
+/// Netlists that do not read, with what is told.
+static UNREAD_NETS: &[(&str, &str)] = &[
+    ("", "lid: blif NoModel 0\n"),
+    (".inputs a\n", "lid: blif NoModel 1\n"),
     (
         ".model m\n.gate nand2 A=a\n.end\n",
-        "d\n",
         "lid: blif Unsupported 2\n",
     ),
-    (".model m n\n", "d\n", "lid: blif Arity 1\n"),
-    (".model m\n1 1\n", "d\n", "lid: blif RowOutside 2\n"),
+    (".model m n\n", "lid: blif Arity 1\n"),
+    (".model m\n1 1\n", "lid: blif RowOutside 2\n"),
     (
         ".model m\n.inputs a\n.names a q\n1\n",
-        "d\n",
         "lid: blif RowShape 4\n",
     ),
     (
         ".model m\n.inputs a\n.names a x\n1 1\n0 0\n.latch x q 0\n.end\n",
-        "d\n",
         "lid: blif MixedRows 5\n",
     ),
-    (
-        ".model m\n.latch a q ah c 0\n",
-        "d\n",
-        "lid: blif LatchType 2\n",
-    ),
-    (".model m\n.latch a q 4\n", "d\n", "lid: blif LatchInit 2\n"),
-    (".model m\n.subckt n a\n", "d\n", "lid: blif BindShape 2\n"),
-    (
-        ".model m\n.end\n.model m\n",
-        "d\n",
-        "lid: blif DuplicateModel 3\n",
-    ),
-    (".model m\n.inputs \u{8}\n", "d\n", "lid: blif BadByte 2\n"),
+    (".model m\n.latch a q ah c 0\n", "lid: blif LatchType 2\n"),
+    (".model m\n.latch a q 4\n", "lid: blif LatchInit 2\n"),
+    (".model m\n.subckt n a\n", "lid: blif BindShape 2\n"),
+    (".model m\n.end\n.model m\n", "lid: blif DuplicateModel 3\n"),
+    (".model m\n.inputs \u{8}\n", "lid: blif BadByte 2\n"),
 ];
 
 #[test]
 fn texts_that_do_not_read_are_told(rt: HostRuntime) -> Result<(), Fail> {
-    expect_refused(&rt, UNREAD)?;
+    for (rows, told) in UNREAD_ROWS {
+        expect_strict(&rt, REGISTER, rows, ended(1, told))?;
+    }
+    for (net, told) in UNREAD_NETS {
+        expect_strict(&rt, net, "d\n", ended(1, told))?;
+    }
     Ok(())
 }
 

@@ -189,14 +189,6 @@ static LISTS: [Case; 7] = [
     ),
 ];
 
-#[test]
-fn faulty_lists_and_instances_are_told(rt: HostRuntime) -> Result<(), Fail> {
-    for case in &LISTS {
-        expect(&rt, rt.alloc(), case)?;
-    }
-    Ok(())
-}
-
 /// Netlists with faulty nets, clocks and cells.
 static NETS: [Case; 9] = [
     (
@@ -266,7 +258,10 @@ static NETS: [Case; 9] = [
 ];
 
 #[test]
-fn faulty_nets_clocks_and_cells_are_told(rt: HostRuntime) -> Result<(), Fail> {
+fn faulty_models_are_told(rt: HostRuntime) -> Result<(), Fail> {
+    for case in &LISTS {
+        expect(&rt, rt.alloc(), case)?;
+    }
     for case in &NETS {
         expect(&rt, rt.alloc(), case)?;
     }
