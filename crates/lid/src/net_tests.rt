@@ -105,30 +105,26 @@ fn netlists_with_instances_run(rt: HostRuntime) -> Result<(), Fail> {
     Ok(())
 }
 
-/// The files of the runs of the ring with another root.
+/// The files of the runs of the ring with a root that is told.
 static FILES: &[(&str, &str)] = &[
     ("n.blif", RING),
     ("d.vec", "d\n1\n0\n1\n"),
     ("none.vec", "-\n-\n"),
 ];
 
-/// Runs the ring with another root.
-fn expect_rooted<R: Threads + AllocGlobal + Sync + Abort>(
-    rt: &R,
-    root: &str,
-    vec: &str,
-    out: &str,
-) -> Result<(), AllocError> {
-    let left = done(out);
-    let words = ["strict", "n.blif", vec, "--root", root];
-    expect_run(rt, &words, FILES, NONE_FAILS, left)
-}
+/// Roots of the ring's netlist, each with its rows and what is written.
+static ROOTS: &[(&str, &str, &str)] = &[
+    ("reg0", "d.vec", "q\n0\n1\n0\n"),
+    ("reg1", "d.vec", "q\n1\n1\n0\n"),
+    ("ring", "none.vec", "y\n1\n"),
+];
 
 #[test]
 fn each_model_can_be_the_root(rt: HostRuntime) -> Result<(), Fail> {
-    expect_rooted(&rt, "reg0", "d.vec", "q\n0\n1\n0\n")?;
-    expect_rooted(&rt, "reg1", "d.vec", "q\n1\n1\n0\n")?;
-    expect_rooted(&rt, "ring", "none.vec", "y\n1\n")?;
+    for (root, vec, out) in ROOTS {
+        let words = ["strict", "n.blif", vec, "--root", root];
+        expect_run(&rt, &words, FILES, NONE_FAILS, done(out))?;
+    }
     Ok(())
 }
 
