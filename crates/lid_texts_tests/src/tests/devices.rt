@@ -1,6 +1,6 @@
 //! Outputs over writers that take little, and files that are pipes.
 
-use crate::base::is_fetched;
+use crate::tests::base::is_fetched;
 use lid_base::{DirShelf, Shelf, Sink, StdSink};
 use std::alloc::Global;
 use std::io;
