@@ -10,7 +10,6 @@ use Rattle.lid_lines.specs.Texts.{Words, line_text}
 use Rattle.lid_reports.specs.Pieces.{node_name, hex_word}
 use Rattle.lid_reports.specs.declared.report.Report.{Report}
 use Rattle.lid_reports.specs.declared.report.ChannelLine.{ChannelLine}
-use Rattle.lid_reports.specs.declared.tallies.Finish.{Finish}
 use Rattle.lid_reports.specs.declared.trace.Trace.{Trace}
 
 -- how often a node fired
@@ -54,9 +53,9 @@ abbrev pub workers_text : ℕ → List Tally → List ℕ
 workers_text i tallies = flat_map (λ p. line_text (tally_words p)) (enumerate_from i tallies)
 
 -- the tallies of the workers, and the sweeps that ended the run with their firings
-unfoldable pub tallies_text : List Tally → Finish → List ℕ
-tallies_text tallies finish =
-    workers_text 0 tallies ++ line_text (codes "finish" ∷ decimal finish.sweeps ∷ codes "fired" ∷ decimal finish.fired ∷ [])
+unfoldable pub tallies_text : List Tally → ℕ → ℕ → List ℕ
+tallies_text tallies finish finish_fired =
+    workers_text 0 tallies ++ line_text (codes "finish" ∷ decimal finish ∷ codes "fired" ∷ decimal finish_fired ∷ [])
 
 -- a channel of a system with so many nodes
 abbrev pub channel_words : ℕ → ChannelLine → Words

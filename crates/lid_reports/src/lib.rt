@@ -13,5 +13,5 @@ pub use answers::print_answer;
 pub use cycles::print_cycles;
 pub use report::{ChannelLine, Report, print_report};
 pub use schedule::{SchedFault, read_schedule};
-pub use tallies::{Finish, print_tallies};
+pub use tallies::print_tallies;
 pub use trace::{Trace, TraceFault, print_trace, trace_fits};

@@ -10,13 +10,6 @@ use lid_base::Tally;
 use lid_lines::cut_back;
 use std::alloc::AllocError;
 
-/// How a free run ended: by so many sweeps over all actors, in which so many fired.
-#[derive(Clone, Copy)]
-pub struct Finish {
-    pub sweeps: u64,
-    pub fired: u64,
-}
-
 /// Appends the line of a worker.
 fn append_worker(worker: u64, tally: &Tally, into: &mut Vec<u8>) -> Result<(), AllocError>
     ensures ok { OnOk result (into.new.items ≡ into.old.items ++ line_text (tally_words (worker, tally.now))) }
@@ -56,16 +49,21 @@ fn append_workers(tallies: &[Tally], into: &mut Vec<u8>) -> Result<(), AllocErro
 
 /// Appends the lines.
 #[tactic(auto, unfolding(crate::specs::Runs::tallies_text))]
-fn append_tallies(tallies: &[Tally], finish: Finish, into: &mut Vec<u8>) -> Result<(), AllocError>
-    ensures ok { OnOk result (into.new.items ≡ into.old.items ++ tallies_text tallies.now finish) }
+fn append_tallies(
+    tallies: &[Tally],
+    finish: u64,
+    finish_fired: u64,
+    into: &mut Vec<u8>,
+) -> Result<(), AllocError>
+    ensures ok { OnOk result (into.new.items ≡ into.old.items ++ tallies_text tallies.now finish finish_fired) }
     ensures kept { Keeps into.old.items into.new.items }
 {
     append_workers(tallies, into)?;
     let line = [
         Piece::Text(b"finish"),
-        Piece::Number(finish.sweeps),
+        Piece::Number(finish),
         Piece::Text(b"fired"),
-        Piece::Number(finish.fired),
+        Piece::Number(finish_fired),
     ];
     append_pieces(&line, into)
 }
@@ -76,11 +74,16 @@ fn append_tallies(tallies: &[Tally], finish: Finish, into: &mut Vec<u8>) -> Resu
 /// Want of memory. Then nothing was appended.
 pub fn print_tallies(
     tallies: &[Tally],
-    finish: Finish,
+    finish: u64,
+    finish_fired: u64,
     into: &mut Vec<u8>,
 ) -> Result<(), AllocError>
-    ensures ok { OnOk result (into.new.items ≡ into.old.items ++ tallies_text tallies.now finish) }
+    ensures ok { OnOk result (into.new.items ≡ into.old.items ++ tallies_text tallies.now finish finish_fired) }
     ensures err { OnErr result (into.new.items ≡ into.old.items) }
 {
-    cut_back(into.len(), append_tallies(tallies, finish, into), into)
+    cut_back(
+        into.len(),
+        append_tallies(tallies, finish, finish_fired, into),
+        into,
+    )
 }

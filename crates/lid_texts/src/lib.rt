@@ -10,8 +10,8 @@ mod walk;
 mod writer;
 
 pub use lid_reports::{
-    ChannelLine, Finish, Report, SchedFault, Trace, TraceFault, print_answer, print_cycles,
-    print_report, print_tallies, print_trace, read_schedule, trace_fits,
+    ChannelLine, Report, SchedFault, Trace, TraceFault, print_answer, print_cycles, print_report,
+    print_tallies, print_trace, read_schedule, trace_fits,
 };
 pub use reader::read_rows;
 pub use rows::{Rows, VecFault};

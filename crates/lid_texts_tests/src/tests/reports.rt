@@ -2,8 +2,8 @@
 
 use lid_base::{Answer, Items, Name, Shown, Tally, Which};
 use lid_texts::{
-    ChannelLine, Finish, Report, SchedFault, Trace, TraceFault, print_answer, print_cycles,
-    print_report, print_tallies, print_trace, read_schedule, trace_fits,
+    ChannelLine, Report, SchedFault, Trace, TraceFault, print_answer, print_cycles, print_report,
+    print_tallies, print_trace, read_schedule, trace_fits,
 };
 use std::alloc::Global;
 
@@ -202,11 +202,7 @@ fn are_tallied(alloc: Global) -> bool {
         dones: 0,
     };
     let mut into = Vec::new(alloc);
-    let finish = Finish {
-        sweeps: 6,
-        fired: 7,
-    };
-    print_tallies(&[tally, none], finish, &mut into).is_ok()
+    print_tallies(&[tally, none], 6, 7, &mut into).is_ok()
         && into.as_slice()
             == b"worker 0 turns 10 fired 1 voids 2 stops 3 dones 4\nworker 1 turns 0 fired 0 voids 0 stops 0 dones 0\nfinish 6 fired 7\n".as_slice()
 }
