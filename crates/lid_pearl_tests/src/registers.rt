@@ -64,8 +64,8 @@ fn logic_of(
     Ok(Items::from_vec(covers))
 }
 
-/// The flat part of a register with some inputs.
-fn part_of(
+/// A register with some inputs.
+fn register_of(
     alloc: Global,
     inputs: u32,
     init: bool,
@@ -76,7 +76,13 @@ fn part_of(
 ) -> Result<Flat, AllocError>
     requires few { inputs < 63 }
     requires narrow { length reads.now < 64 }
-    ensures { IfOk result (λ flat. flat ≡ register inputs init reads.now (cover_of (length reads.now) on cubes.now) outs.now) }
+    requires reads { AllByRecursion (λ k. k < inputs + 1) reads.now }
+    requires cover { IsCover (cover_of (length reads.now) on cubes.now) }
+    requires outs { AllByRecursion (λ k. k ≡ inputs) outs.now }
+    ensures part { IfOk result (λ flat. flat ≡ register inputs init reads.now (cover_of (length reads.now) on cubes.now) outs.now) }
+    ensures rules { IfOk result IsFlat }
+    ensures ins { IfOk result (λ flat. length flat.ins ≡ inputs) }
+    ensures outs { IfOk result (λ flat. length flat.outs ≡ length outs.now) }
 {
     let ins = nets_below(alloc, inputs)?;
     let outs = items_of(alloc, outs)?;
@@ -98,26 +104,13 @@ fn part_of(
     })
 }
 
-/// A register with some inputs.
-fn register_of(
-    alloc: Global,
-    inputs: u32,
-    init: bool,
-    reads: &[u32],
-    on: bool,
-    cubes: &[Cube],
-    outs: &[u32],
-) -> Result<Pearl, AllocError>
-    requires few { inputs < 63 }
-    requires narrow { length reads.now < 64 }
-    requires reads { AllByRecursion (λ k. k < inputs + 1) reads.now }
-    requires cover { IsCover (cover_of (length reads.now) on cubes.now) }
-    requires outs { AllByRecursion (λ k. k ≡ inputs) outs.now }
-    ensures ins { IfOk result (λ pearl. length pearl.flat.ins ≡ inputs) }
-    ensures outs { IfOk result (λ pearl. length pearl.flat.outs ≡ length outs.now) }
+/// A part's pearl.
+fn pearl_of(alloc: Global, part: Flat) -> Result<Pearl, AllocError>
+    requires { IsFlat part }
+    ensures ins { IfOk result (λ pearl. length pearl.flat.ins ≡ length part.ins) }
+    ensures outs { IfOk result (λ pearl. length pearl.flat.outs ≡ length part.outs) }
 {
-    let flat = part_of(alloc, inputs, init, reads, on, cubes, outs)?;
-    let pearl = Pearl::make(alloc, &flat)?;
+    let pearl = Pearl::make(alloc, &part)?;
     Ok(pearl)
 }
 
@@ -184,7 +177,8 @@ static PARITY: [Row; 5] = [
 
 #[test]
 fn a_register_keeps_the_parity_of_its_bits(rt: HostRuntime) -> Result<(), AllocError> {
-    let mut pearl = register_of(rt.alloc(), 1, true, &[0, 1], true, &XOR, &[1])?;
+    let part = register_of(rt.alloc(), 1, true, &[0, 1], true, &XOR, &[1])?;
+    let mut pearl = pearl_of(rt.alloc(), part)?;
     assert_eq!(rt; pearl.outs(), 1);
     let begins = shows(&pearl, true);
     assert!(rt; begins);
@@ -195,7 +189,8 @@ fn a_register_keeps_the_parity_of_its_bits(rt: HostRuntime) -> Result<(), AllocE
 
 #[test]
 fn a_copy_goes_on_from_where_it_was_made(rt: HostRuntime) -> Result<(), AllocError> {
-    let mut pearl = register_of(rt.alloc(), 1, true, &[0, 1], true, &XOR, &[1])?;
+    let part = register_of(rt.alloc(), 1, true, &[0, 1], true, &XOR, &[1])?;
+    let mut pearl = pearl_of(rt.alloc(), part)?;
     let mut out = [false];
     pearl.step(&[true], &mut out);
     let mut copy = pearl.copy()?;
@@ -228,7 +223,8 @@ static TURNS: [Row; 3] = [
 
 #[test]
 fn a_toggle_without_inputs_turns(rt: HostRuntime) -> Result<(), AllocError> {
-    let mut pearl = register_of(rt.alloc(), 0, false, &[0], true, &NOT, &[0])?;
+    let part = register_of(rt.alloc(), 0, false, &[0], true, &NOT, &[0])?;
+    let mut pearl = pearl_of(rt.alloc(), part)?;
     let begins = shows(&pearl, false);
     assert!(rt; begins);
     let goes = gives(&mut pearl, 0, &TURNS);
@@ -238,7 +234,8 @@ fn a_toggle_without_inputs_turns(rt: HostRuntime) -> Result<(), AllocError> {
 
 #[test]
 fn a_pearl_without_outputs_steps(rt: HostRuntime) -> Result<(), AllocError> {
-    let mut pearl = register_of(rt.alloc(), 1, false, &[0, 1], true, &XOR, &[])?;
+    let part = register_of(rt.alloc(), 1, false, &[0, 1], true, &XOR, &[])?;
+    let mut pearl = pearl_of(rt.alloc(), part)?;
     assert_eq!(rt; pearl.outs(), 0);
     pearl.step(&[true], &mut []);
     pearl.outputs(&mut []);
@@ -278,7 +275,7 @@ static SEVEN: [Row; 4] = [
 
 #[test]
 fn a_cover_of_seven_inputs_is_run_by_its_rows(rt: HostRuntime) -> Result<(), AllocError> {
-    let mut pearl = register_of(
+    let part = register_of(
         rt.alloc(),
         7,
         false,
@@ -287,6 +284,7 @@ fn a_cover_of_seven_inputs_is_run_by_its_rows(rt: HostRuntime) -> Result<(), All
         &OF_SEVEN,
         &[7],
     )?;
+    let mut pearl = pearl_of(rt.alloc(), part)?;
     let goes = gives(&mut pearl, 7, &SEVEN);
     assert!(rt; goes);
     Ok(())
