@@ -149,6 +149,16 @@ fn shows(pearl: &Pearl, want: bool) -> bool
     out[0] == want
 }
 
+/// Whether the pearl of a part with one output begins with a bit, and then gives the bits of some rows.
+fn runs(alloc: Global, part: Flat, first: bool, rows: &[Row]) -> Result<bool, AllocError>
+    requires rules { IsFlat part }
+    requires outs { length part.outs ≡ 1 }
+{
+    let ins = part.ins.len();
+    let mut pearl = pearl_of(alloc, part)?;
+    Ok(shows(&pearl, first) && gives(&mut pearl, ins, rows))
+}
+
 static XOR: [Cube; 2] = [Cube { care: 3, value: 1 }, Cube { care: 3, value: 2 }];
 
 /// The parity of the bits so far, with the first 1 in the latch at the start.
@@ -224,10 +234,7 @@ static TURNS: [Row; 3] = [
 #[test]
 fn a_toggle_without_inputs_turns(rt: HostRuntime) -> Result<(), AllocError> {
     let part = register_of(rt.alloc(), 0, false, &[0], true, &NOT, &[0])?;
-    let mut pearl = pearl_of(rt.alloc(), part)?;
-    let begins = shows(&pearl, false);
-    assert!(rt; begins);
-    let goes = gives(&mut pearl, 0, &TURNS);
+    let goes = runs(rt.alloc(), part, false, &TURNS)?;
     assert!(rt; goes);
     Ok(())
 }
@@ -284,8 +291,7 @@ fn a_cover_of_seven_inputs_is_run_by_its_rows(rt: HostRuntime) -> Result<(), All
         &OF_SEVEN,
         &[7],
     )?;
-    let mut pearl = pearl_of(rt.alloc(), part)?;
-    let goes = gives(&mut pearl, 7, &SEVEN);
+    let goes = runs(rt.alloc(), part, false, &SEVEN)?;
     assert!(rt; goes);
     Ok(())
 }
