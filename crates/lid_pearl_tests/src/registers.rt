@@ -115,10 +115,7 @@ fn pearl_of(alloc: Global, part: Flat) -> Result<Pearl, AllocError>
 }
 
 /// The inputs of a row, and the output after it.
-struct Row {
-    inputs: &'static [bool],
-    out: bool,
-}
+type Row = (&'static [bool], bool);
 
 /// Whether a pearl with one output gives the bits of some rows.
 fn gives(pearl: &mut Pearl, ins: usize, rows: &[Row]) -> bool
@@ -128,12 +125,13 @@ fn gives(pearl: &mut Pearl, ins: usize, rows: &[Row]) -> bool
     ensures outs { length pearl.new.flat.outs ≡ 1 }
 {
     for i in 0..rows.len() {
-        if rows[i].inputs.len() != ins {
+        let (inputs, after) = rows[i];
+        if inputs.len() != ins {
             return false;
         }
         let mut out = [false];
-        pearl.step(rows[i].inputs, &mut out);
-        if out[0] != rows[i].out {
+        pearl.step(inputs, &mut out);
+        if out[0] != after {
             return false;
         }
     }
@@ -163,26 +161,11 @@ static XOR: [Cube; 2] = [Cube { care: 3, value: 1 }, Cube { care: 3, value: 2 }]
 
 /// The parity of the bits so far, with the first 1 in the latch at the start.
 static PARITY: [Row; 5] = [
-    Row {
-        inputs: &[false],
-        out: true,
-    },
-    Row {
-        inputs: &[true],
-        out: false,
-    },
-    Row {
-        inputs: &[true],
-        out: true,
-    },
-    Row {
-        inputs: &[false],
-        out: true,
-    },
-    Row {
-        inputs: &[true],
-        out: false,
-    },
+    (&[false], true),
+    (&[true], false),
+    (&[true], true),
+    (&[false], true),
+    (&[true], false),
 ];
 
 #[test]
@@ -216,20 +199,7 @@ fn a_copy_goes_on_from_where_it_was_made(rt: HostRuntime) -> Result<(), AllocErr
 
 static NOT: [Cube; 1] = [Cube { care: 1, value: 0 }];
 
-static TURNS: [Row; 3] = [
-    Row {
-        inputs: &[],
-        out: true,
-    },
-    Row {
-        inputs: &[],
-        out: false,
-    },
-    Row {
-        inputs: &[],
-        out: true,
-    },
-];
+static TURNS: [Row; 3] = [(&[], true), (&[], false), (&[], true)];
 
 #[test]
 fn a_toggle_without_inputs_turns(rt: HostRuntime) -> Result<(), AllocError> {
@@ -262,22 +232,10 @@ static OF_SEVEN: [Cube; 2] = [
 ];
 
 static SEVEN: [Row; 4] = [
-    Row {
-        inputs: &[true, true, true, true, true, true, false],
-        out: false,
-    },
-    Row {
-        inputs: &[true, true, true, true, true, true, true],
-        out: true,
-    },
-    Row {
-        inputs: &[false, false, false, false, false, false, true],
-        out: false,
-    },
-    Row {
-        inputs: &[false, false, false, false, false, true, true],
-        out: true,
-    },
+    (&[true, true, true, true, true, true, false], false),
+    (&[true, true, true, true, true, true, true], true),
+    (&[false, false, false, false, false, false, true], false),
+    (&[false, false, false, false, false, true, true], true),
 ];
 
 #[test]
