@@ -1,10 +1,10 @@
 -- Marks of what is known in a state, and the covers that they pick.
-use Rattle.std.proofs.Common.{◌≡◌, ◌≢◌, ◌⊎◌, ℕ, zero, suc, ◌+◌, ◌<◌, ◌≤◌, eqb, Bool, true, false, not, cond, ◌&&◌, List, [], ◌∷◌, ◌++◌, length, filter, take, set, Some, None, slice_get, inl, inr, refl, sym, ◌∙◌, ap, subst, arith}
+use Rattle.std.proofs.Common.{◌≡◌, ◌≢◌, ◌⊎◌, ℕ, zero, suc, ◌+◌, ◌<◌, ◌≤◌, eqb, Bool, true, false, not, cond, ◌&&◌, List, [], ◌∷◌, ◌++◌, length, filter, take, set, Some, None, slice_get, slice_index_or, inl, inr, refl, sym, ◌∙◌, ap, subst, arith}
 use Rattle.std.specs.List.{AllByRecursion, list_all}
 use Rattle.std.proofs.lemmas.List.{get_or-set_same, get_or-set_other}
 use Rattle.std.proofs.lemmas.Bool.Decides.{eqb_tells}
 use Rattle.lid_base.specs.Lists.{Among}
-use Rattle.lid_base.proofs.Lists.{among_append, among_left, among_right, all_among, last_case, among_get, map_among}
+use Rattle.lid_base.proofs.Lists.{among_append, among_left, among_right, all_among, all_at, last_case, among_get, map_among}
 use Rattle.lid_design.specs.declared.Flat.{Flat}
 use Rattle.lid_design.specs.declared.FlatLatch.{FlatLatch}
 use Rattle.lid_design.specs.declared.FlatCover.{FlatCover}
@@ -13,7 +13,7 @@ use Rattle.lid_design.specs.Walks.{read_now}
 use Rattle.lid_design.specs.Flat.{flat_drivers, latch_out, ReadEarlier, IsFlat}
 use Rattle.lid_design.proofs.Parts.{input_drives, latch_drives, cover_drives}
 use Rattle.lid_settle.specs.Rows.{bit_at, after}
-use Rattle.lid_settle.proofs.Settling.{take_at, after_keeps, after_has, earlier_at}
+use Rattle.lid_settle.proofs.Settling.{take_at, after_keeps, after_has, earlier_at, no_latch, latch_at}
 use Rattle.lid_pearl.specs.Inside.{held, is_picked, IsFed, AreMarked}
 
 -- what is known was so before, or is the output of a cover
@@ -57,79 +57,80 @@ list_all_same m n (k ∷ ks) same =
     let tail : list_all m ks ≡ list_all n ks = list_all_same m n ks same.1 in
     cc
 
-one_driver : (xs : List (Driver ℕ)) (s r : Driver ℕ) → length xs ≤ 1 → Among s xs → Among r xs → s ≡ r
-one_driver [] s r few i j = absurd i
-one_driver (x ∷ []) s r few (inl e) (inl e') = e ∙ sym e'
-one_driver (x ∷ []) s r few (inl e) (inr j) = absurd j
-one_driver (x ∷ []) s r few (inr i) j = absurd i
-one_driver (x ∷ y ∷ xs) s r few i j = absurd (omega arith)
+-- a latch that is read gives a net below what all are below
+pub latch_below : (n : ℕ) (latches : List FlatLatch) (i : ℕ) → i < length latches → AllByRecursion (λ k. k < n) (held latches) → (slice_index_or latches i no_latch).out < n
+latch_below n latches i inside below = all_at (λ (k : ℕ). k < n) (held latches) i (slice_index_or latches i no_latch).out below (latch_at latch_out latches i inside)
+
+-- in a list of at most one, all are one
+pub same_driver : (xs : List (Driver ℕ)) (s r : Driver ℕ) → length xs ≤ 1 → Among s xs → Among r xs → s ≡ r
+same_driver [] s r few i j = absurd i
+same_driver (x ∷ []) s r few (inl e) (inl e') = e ∙ sym e'
+same_driver (x ∷ []) s r few (inl e) (inr j) = absurd j
+same_driver (x ∷ []) s r few (inr i) j = absurd i
+same_driver (x ∷ y ∷ xs) s r few i j = absurd (omega arith)
 
 -- what a cover reads
 abbrev reads_of : Driver ℕ → List ℕ
 reads_of s = read_now s
 
+is_input : Driver ℕ → Bool
+is_input (from_input i) = true
+is_input s = false
+
+is_latch : Driver ℕ → Bool
+is_latch (from_latch first input) = true
+is_latch s = false
+
 module _ (f : Flat) (flat : IsFlat f) where
   abbrev base : List ℕ
   base = f.ins ++ held f.latches
 
+  -- what drives a net
+  cover_there : (d : FlatCover) → Among d f.covers → (k : ℕ) → k ≡ d.out → Among {A = Driver ℕ} (from_cover d.cover d.ins) (flat_drivers f k)
+  cover_there d among k same = subst (λ (k : ℕ). Among {A = Driver ℕ} (from_cover d.cover d.ins) (flat_drivers f k)) (sym same) (cover_drives f d among)
+
+  latch_there : (k : ℕ) → Among k (held f.latches) → (l : FlatLatch) × Among {A = Driver ℕ} (from_latch l.init l.input) (flat_drivers f k)
+  latch_there k here =
+      let found = map_among {A = FlatLatch} {B = ℕ} latch_out k f.latches here in
+      let latch = found.0 in (
+        latch,
+        subst (λ (k : ℕ). Among {A = Driver ℕ} (from_latch latch.init latch.input) (flat_drivers f k)) (sym found.2) (latch_drives f latch found.1),
+      )
+
+  -- an input is driven as one alone, and so is a latch's output
+  input_alone : (k : ℕ) → Among k f.ins → (s : Driver ℕ) → Among s (flat_drivers f k) → is_input s ≡ true
+  unfolding is_input
+  input_alone k here s among =
+      let found = among_get f.ins k here in
+      ap is_input (same_driver (flat_drivers f k) s (from_input found.0) (flat.once k) among (input_drives f k found.0 found.1))
+
+  latch_alone : (k : ℕ) → Among k (held f.latches) → (s : Driver ℕ) → Among s (flat_drivers f k) → is_latch s ≡ true
+  unfolding is_latch
+  latch_alone k here s among =
+      let found = latch_there k here in
+      ap is_latch (same_driver (flat_drivers f k) s (from_latch found.0.init found.0.input) (flat.once k) among found.1)
+
   -- a cover's output is no input and no latch's output
   not_input : (d : FlatCover) → Among d f.covers → (k : ℕ) → k ≡ d.out → Among k f.ins → ⊥
-  not_input d among k same here =
-      let found = among_get f.ins k here in
-      let one : Among {A = Driver ℕ} (from_input found.0) (flat_drivers f k) = input_drives f k found.0 found.1 in
-      let two : Among {A = Driver ℕ} (from_cover d.cover d.ins) (flat_drivers f k) = subst (λ (k : ℕ). Among {A = Driver ℕ} (from_cover d.cover d.ins) (flat_drivers f k)) (sym same) (cover_drives f d among) in
-      clash (one_driver (flat_drivers f k) (from_input found.0) (from_cover d.cover d.ins) (flat.once k) one two)
-    where
-      is_input : Driver ℕ → Bool
-      is_input (from_input i) = true
-      is_input (from_latch first input) = false
-      is_input (from_cover cover ins) = false
-      is_input s = false
-
-      clash : {i : ℕ} → from_input i ≡ from_cover d.cover d.ins → ⊥
-      clash e = let t : true ≡ false = ap is_input e in cc
+  unfolding is_input
+  not_input d among k same here = let e : false ≡ true = input_alone k here (from_cover d.cover d.ins) (cover_there d among k same) in cc
 
   not_held : (d : FlatCover) → Among d f.covers → (k : ℕ) → k ≡ d.out → Among k (held f.latches) → ⊥
-  not_held d among k same here =
-      let found = map_among {A = FlatLatch} {B = ℕ} latch_out k f.latches here in
-      let latch = found.0 in
-      let one : Among {A = Driver ℕ} (from_latch latch.init latch.input) (flat_drivers f k) = subst (λ (k : ℕ). Among {A = Driver ℕ} (from_latch latch.init latch.input) (flat_drivers f k)) (sym found.2) (latch_drives f latch found.1) in
-      let two : Among {A = Driver ℕ} (from_cover d.cover d.ins) (flat_drivers f k) = subst (λ (k : ℕ). Among {A = Driver ℕ} (from_cover d.cover d.ins) (flat_drivers f k)) (sym same) (cover_drives f d among) in
-      clash (one_driver (flat_drivers f k) (from_latch latch.init latch.input) (from_cover d.cover d.ins) (flat.once k) one two)
-    where
-      is_latch : Driver ℕ → Bool
-      is_latch (from_latch first input) = true
-      is_latch (from_input i) = false
-      is_latch (from_cover cover ins) = false
-      is_latch s = false
-
-      clash : {b : Bool} {i : ℕ} → from_latch b i ≡ from_cover d.cover d.ins → ⊥
-      clash e = let t : true ≡ false = ap is_latch e in cc
+  unfolding is_latch
+  not_held d among k same here = let e : false ≡ true = latch_alone k here (from_cover d.cover d.ins) (cover_there d among k same) in cc
 
   pub input_not_held : (k : ℕ) → Among k f.ins → Among k (held f.latches) → ⊥
+  unfolding is_input
   input_not_held k here there =
-      let found = among_get f.ins k here in
-      let latch' = map_among {A = FlatLatch} {B = ℕ} latch_out k f.latches there in
-      let latch = latch'.0 in
-      let one : Among {A = Driver ℕ} (from_input found.0) (flat_drivers f k) = input_drives f k found.0 found.1 in
-      let two : Among {A = Driver ℕ} (from_latch latch.init latch.input) (flat_drivers f k) = subst (λ (k : ℕ). Among {A = Driver ℕ} (from_latch latch.init latch.input) (flat_drivers f k)) (sym latch'.2) (latch_drives f latch latch'.1) in
-      clash (one_driver (flat_drivers f k) (from_input found.0) (from_latch latch.init latch.input) (flat.once k) one two)
-    where
-      is_input : Driver ℕ → Bool
-      is_input (from_input i) = true
-      is_input (from_latch first input) = false
-      is_input (from_cover cover ins) = false
-      is_input s = false
-
-      clash : {b : Bool} {i j : ℕ} → from_input i ≡ from_latch b j → ⊥
-      clash e = let t : true ≡ false = ap is_input e in cc
+      let found = latch_there k there in
+      let e : false ≡ true = input_alone k here (from_latch found.0.init found.0.input) found.1 in cc
 
   -- covers with the same output read the same
   same_reads : (c d : FlatCover) → Among c f.covers → Among d f.covers → c.out ≡ d.out → c.ins ≡ d.ins
   same_reads c d here there same =
-      let one : Among {A = Driver ℕ} (from_cover c.cover c.ins) (flat_drivers f d.out) = subst (λ (k : ℕ). Among {A = Driver ℕ} (from_cover c.cover c.ins) (flat_drivers f k)) same (cover_drives f c here) in
-      let two : Among {A = Driver ℕ} (from_cover d.cover d.ins) (flat_drivers f d.out) = cover_drives f d there in
-      ap reads_of (one_driver (flat_drivers f d.out) (from_cover c.cover c.ins) (from_cover d.cover d.ins) (flat.once d.out) one two)
+      let one = cover_there c here d.out (sym same) in
+      let two = cover_drives f d there in
+      ap reads_of (same_driver (flat_drivers f d.out) (from_cover c.cover c.ins) (from_cover d.cover d.ins) (flat.once d.out) one two)
 
   -- one more cover is marked
   module _ (marks : List Bool) (i : ℕ) (d : FlatCover) (at : slice_get f.covers i ≡ Some d) (room : d.out < length marks) (so_far : AreMarked f (take i f.covers) (bit_at marks)) where

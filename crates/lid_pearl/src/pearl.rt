@@ -70,7 +70,13 @@ impl Pearl {
         ensures rules { IfOk result (λ pearl. IsFlat pearl.flat) }
         ensures state { IfOk result (λ pearl. pearl.state ≡ map latch_init flat.now.latches) }
     {
-        let shape = shape_of(alloc, flat)?;
+        let shape = shape_of(
+            alloc,
+            flat.nets,
+            flat.ins.as_slice(),
+            flat.outs.as_slice(),
+            flat.latches.as_slice(),
+        )?;
         let plan = plan_of(alloc, flat)?;
         let row = first_row(alloc, flat, &plan.early)?;
         Ok(Pearl { shape, plan, row })
@@ -80,7 +86,13 @@ impl Pearl {
     pub fn copy(&self) -> Result<Pearl, AllocError>
         ensures { IfOk result (λ copy. copy ≡ self.now) }
     {
-        let shape = copy_shape(&self.shape)?;
+        let shape = shape_of(
+            *self.shape.ins.allocator(),
+            self.shape.nets,
+            self.shape.ins.as_slice(),
+            self.shape.outs.as_slice(),
+            self.shape.latches.as_slice(),
+        )?;
         let plan = copy_plan(&self.plan)?;
         let row = copy_row(&self.row)?;
         Ok(Pearl { shape, plan, row })
@@ -156,18 +168,24 @@ fn run(
     take_bits(bits, shape.outs.as_slice(), into);
 }
 
-/// The nets of a flat part.
-fn shape_of(alloc: Global, flat: &Flat) -> Result<Shape, AllocError>
-    ensures nets { IfOk result (λ shape. shape.nets ≡ flat.now.nets) }
-    ensures ins { IfOk result (λ shape. shape.ins.items ≡ flat.now.ins) }
-    ensures outs { IfOk result (λ shape. shape.outs.items ≡ flat.now.outs) }
-    ensures latches { IfOk result (λ shape. shape.latches.items ≡ flat.now.latches) }
+/// So many nets, and some of them as inputs, outputs and latches.
+fn shape_of(
+    alloc: Global,
+    nets: u32,
+    ins: &[u32],
+    outs: &[u32],
+    latches: &[FlatLatch],
+) -> Result<Shape, AllocError>
+    ensures nets { IfOk result (λ shape. shape.nets ≡ nets) }
+    ensures ins { IfOk result (λ shape. shape.ins.items ≡ ins.now) }
+    ensures outs { IfOk result (λ shape. shape.outs.items ≡ outs.now) }
+    ensures latches { IfOk result (λ shape. shape.latches.items ≡ latches.now) }
 {
-    let ins = copy_of(alloc, flat.ins.as_slice())?;
-    let outs = copy_of(alloc, flat.outs.as_slice())?;
-    let latches = copy_of(alloc, flat.latches.as_slice())?;
+    let ins = copy_of(alloc, ins)?;
+    let outs = copy_of(alloc, outs)?;
+    let latches = copy_of(alloc, latches)?;
     Ok(Shape {
-        nets: flat.nets,
+        nets,
         ins,
         outs,
         latches,
@@ -202,25 +220,6 @@ fn first_row(alloc: Global, flat: &Flat, early: &Program) -> Result<Row, AllocEr
     let mut bits = Vec::from_elem(alloc, false, flat.nets as usize + 1)?;
     settle_state(latches, early, state.as_slice(), bits.as_mut_slice());
     Ok(Row { state, bits })
-}
-
-/// Equal nets.
-fn copy_shape(shape: &Shape) -> Result<Shape, AllocError>
-    ensures nets { IfOk result (λ copy. copy.nets ≡ shape.now.nets) }
-    ensures ins { IfOk result (λ copy. copy.ins.items ≡ shape.now.ins.items) }
-    ensures outs { IfOk result (λ copy. copy.outs.items ≡ shape.now.outs.items) }
-    ensures latches { IfOk result (λ copy. copy.latches.items ≡ shape.now.latches.items) }
-{
-    let alloc = *shape.ins.allocator();
-    let ins = copy_of(alloc, shape.ins.as_slice())?;
-    let outs = copy_of(alloc, shape.outs.as_slice())?;
-    let latches = copy_of(alloc, shape.latches.as_slice())?;
-    Ok(Shape {
-        nets: shape.nets,
-        ins,
-        outs,
-        latches,
-    })
 }
 
 /// Equal covers.

@@ -110,7 +110,10 @@ pub fn lay_out(
     ensures shown { IfOk result (λ program. shown program ≡ filter (is_picked (bit_at marks.now) wanted) flat.now.covers) }
 {
     let mut program = Program::new(alloc, flat.nets);
-    push_wanted(&mut program, flat, marks, wanted)?;
+    let covers = flat.covers.as_slice();
+    for i in 0..covers.len() {
+        push_if(&mut program, &covers[i], marks, wanted)?;
+    }
     program.finish()?;
     Ok(program)
 }
@@ -134,27 +137,4 @@ fn push_if(
         return Ok(());
     }
     program.push(cover.ins.as_slice(), cover.out, &cover.cover)
-}
-
-/// Adds the covers whose outputs are marked, or those whose outputs are not.
-fn push_wanted(
-    program: &mut Program,
-    flat: &Flat,
-    marks: &[bool],
-    wanted: bool,
-) -> Result<(), AllocError>
-    requires laid { IsProgram 0 program.old }
-    requires none { shown program.old ≡ [] }
-    requires nets { program.old.nets ≡ flat.now.nets }
-    requires size { length marks.now ≡ flat.now.nets + 1 }
-    requires rules { IsFlat flat.now }
-    ensures laid { OnOk result (IsProgram 0 program.new) }
-    ensures nets { program.new.nets ≡ program.old.nets }
-    ensures shown { OnOk result (shown program.new ≡ filter (is_picked (bit_at marks.now) wanted) flat.now.covers) }
-{
-    let covers = flat.covers.as_slice();
-    for i in 0..covers.len() {
-        push_if(program, &covers[i], marks, wanted)?;
-    }
-    Ok(())
 }

@@ -9,10 +9,13 @@ use Rattle.lid_base.proofs.Lists.{among_left, among_right, all_among}
 use Rattle.lid_cover.specs.declared.Cover.{Cover}
 use Rattle.lid_cover.specs.Cover.{IsCover}
 use Rattle.lid_design.specs.declared.Flat.{Flat}
+use Rattle.lid_design.specs.declared.FlatLatch.{FlatLatch}
+use Rattle.lid_design.specs.declared.FlatCover.{FlatCover}
 use Rattle.lid_design.specs.Network.{Driver, from_input, from_latch, from_cover}
 use Rattle.lid_design.specs.Walks.{read_now, Walk, IsDrivenOnce}
 use Rattle.lid_design.specs.Flat.{inputs_at, flat_drivers, IsFlat}
 use Rattle.lid_design.proofs.Parts.{latch_drives}
+use Rattle.lid_pearl.proofs.Marking.{same_driver}
 use Rattle.lid_pearl.proofs.Reordering.{all_from_each}
 use Rattle.lid_pearl_tests.specs.Registers.{nets_from, register}
 
@@ -64,13 +67,6 @@ one_input k j p (suc n) low high = by (p == k) refl (λ low. one_input k (j + 1)
     by true e next = (let same = eqb-true p k e in let none = no_input k (j + 1) (p + 1) n (inl (omega arith)) in ap suc none)
     by false e next = next (elim (eq-or-lt_of_le low) [ inl same ↦ absurd (let f : (p == k) ≡ true = eq-eqb p k same in let g : true ≡ false = sym f ∙ e in cc) | inr less ↦ omega arith ])
 
-same_driver : (xs : List (Driver ℕ)) (s r : Driver ℕ) → length xs ≤ 1 → Among s xs → Among r xs → s ≡ r
-same_driver [] s r few i j = absurd i
-same_driver (x ∷ []) s r few (inl e) (inl e') = e ∙ sym e'
-same_driver (x ∷ []) s r few (inl e) (inr j) = absurd j
-same_driver (x ∷ []) s r few (inr i) j = absurd i
-same_driver (x ∷ y ∷ xs) s r few i j = absurd (omega arith)
-
 eqb_no : (a b : ℕ) → (a ≡ b → ⊥) → (a == b) ≡ false
 eqb_no a b differ = by (a == b) refl
   where
@@ -87,6 +83,14 @@ module _ (n : ℕ) (init : Bool) (reads : List ℕ) (cover : Cover) (outs : List
 
   abbrev cover_there : Driver ℕ
   cover_there = from_cover cover reads
+
+  -- the register, of parts that equal its own
+  pub register_of_parts : (ins outs' : List ℕ) (latches : List FlatLatch) (covers : List FlatCover) → ins ≡ part.ins → outs' ≡ outs → latches ≡ part.latches → covers ≡ part.covers → record { nets = n + 2; ins = ins; outs = outs'; latches = latches; covers = covers } ≡ part
+  register_of_parts ins outs' latches covers a b c d =
+      ap (λ (ins : List ℕ). record { nets = n + 2; ins = ins; outs = outs'; latches = latches; covers = covers }) a
+      ∙ ap (λ (outs : List ℕ). record { nets = n + 2; ins = part.ins; outs = outs; latches = latches; covers = covers }) b
+      ∙ ap (λ (latches : List FlatLatch). record { nets = n + 2; ins = part.ins; outs = outs; latches = latches; covers = covers }) c
+      ∙ ap (λ (covers : List FlatCover). record { nets = n + 2; ins = part.ins; outs = outs; latches = part.latches; covers = covers }) d
 
   one_driver : (k : ℕ) → (k < n + 2 → length (flat_drivers part k) ≡ 1) × (n + 2 ≤ k → length (flat_drivers part k) ≡ 0)
   unfolding flat_drivers

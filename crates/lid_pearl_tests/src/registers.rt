@@ -64,8 +64,8 @@ fn logic_of(
     Ok(Items::from_vec(covers))
 }
 
-/// The flat part of a register with some inputs.
-fn part_of(
+/// A register with some inputs.
+fn register_of(
     alloc: Global,
     inputs: u32,
     init: bool,
@@ -76,7 +76,13 @@ fn part_of(
 ) -> Result<Flat, AllocError>
     requires few { inputs < 63 }
     requires narrow { length reads.now < 64 }
-    ensures { IfOk result (λ flat. flat ≡ register inputs init reads.now (cover_of (length reads.now) on cubes.now) outs.now) }
+    requires reads { AllByRecursion (λ k. k < inputs + 1) reads.now }
+    requires cover { IsCover (cover_of (length reads.now) on cubes.now) }
+    requires outs { AllByRecursion (λ k. k ≡ inputs) outs.now }
+    ensures part { IfOk result (λ flat. flat ≡ register inputs init reads.now (cover_of (length reads.now) on cubes.now) outs.now) }
+    ensures rules { IfOk result IsFlat }
+    ensures ins { IfOk result (λ flat. length flat.ins ≡ inputs) }
+    ensures outs { IfOk result (λ flat. length flat.outs ≡ length outs.now) }
 {
     let ins = nets_below(alloc, inputs)?;
     let outs = items_of(alloc, outs)?;
@@ -98,34 +104,18 @@ fn part_of(
     })
 }
 
-/// A register with some inputs.
-fn register_of(
-    alloc: Global,
-    inputs: u32,
-    init: bool,
-    reads: &[u32],
-    on: bool,
-    cubes: &[Cube],
-    outs: &[u32],
-) -> Result<Pearl, AllocError>
-    requires few { inputs < 63 }
-    requires narrow { length reads.now < 64 }
-    requires reads { AllByRecursion (λ k. k < inputs + 1) reads.now }
-    requires cover { IsCover (cover_of (length reads.now) on cubes.now) }
-    requires outs { AllByRecursion (λ k. k ≡ inputs) outs.now }
-    ensures ins { IfOk result (λ pearl. length pearl.flat.ins ≡ inputs) }
-    ensures outs { IfOk result (λ pearl. length pearl.flat.outs ≡ length outs.now) }
+/// A part's pearl.
+fn pearl_of(alloc: Global, part: Flat) -> Result<Pearl, AllocError>
+    requires { IsFlat part }
+    ensures ins { IfOk result (λ pearl. length pearl.flat.ins ≡ length part.ins) }
+    ensures outs { IfOk result (λ pearl. length pearl.flat.outs ≡ length part.outs) }
 {
-    let flat = part_of(alloc, inputs, init, reads, on, cubes, outs)?;
-    let pearl = Pearl::make(alloc, &flat)?;
+    let pearl = Pearl::make(alloc, &part)?;
     Ok(pearl)
 }
 
 /// The inputs of a row, and the output after it.
-struct Row {
-    inputs: &'static [bool],
-    out: bool,
-}
+type Row = (&'static [bool], bool);
 
 /// Whether a pearl with one output gives the bits of some rows.
 fn gives(pearl: &mut Pearl, ins: usize, rows: &[Row]) -> bool
@@ -135,12 +125,13 @@ fn gives(pearl: &mut Pearl, ins: usize, rows: &[Row]) -> bool
     ensures outs { length pearl.new.flat.outs ≡ 1 }
 {
     for i in 0..rows.len() {
-        if rows[i].inputs.len() != ins {
+        let (inputs, after) = rows[i];
+        if inputs.len() != ins {
             return false;
         }
         let mut out = [false];
-        pearl.step(rows[i].inputs, &mut out);
-        if out[0] != rows[i].out {
+        pearl.step(inputs, &mut out);
+        if out[0] != after {
             return false;
         }
     }
@@ -156,35 +147,31 @@ fn shows(pearl: &Pearl, want: bool) -> bool
     out[0] == want
 }
 
+/// Whether the pearl of a part with one output begins with a bit, and then gives the bits of some rows.
+fn runs(alloc: Global, part: Flat, first: bool, rows: &[Row]) -> Result<bool, AllocError>
+    requires rules { IsFlat part }
+    requires outs { length part.outs ≡ 1 }
+{
+    let ins = part.ins.len();
+    let mut pearl = pearl_of(alloc, part)?;
+    Ok(shows(&pearl, first) && gives(&mut pearl, ins, rows))
+}
+
 static XOR: [Cube; 2] = [Cube { care: 3, value: 1 }, Cube { care: 3, value: 2 }];
 
 /// The parity of the bits so far, with the first 1 in the latch at the start.
 static PARITY: [Row; 5] = [
-    Row {
-        inputs: &[false],
-        out: true,
-    },
-    Row {
-        inputs: &[true],
-        out: false,
-    },
-    Row {
-        inputs: &[true],
-        out: true,
-    },
-    Row {
-        inputs: &[false],
-        out: true,
-    },
-    Row {
-        inputs: &[true],
-        out: false,
-    },
+    (&[false], true),
+    (&[true], false),
+    (&[true], true),
+    (&[false], true),
+    (&[true], false),
 ];
 
 #[test]
 fn a_register_keeps_the_parity_of_its_bits(rt: HostRuntime) -> Result<(), AllocError> {
-    let mut pearl = register_of(rt.alloc(), 1, true, &[0, 1], true, &XOR, &[1])?;
+    let part = register_of(rt.alloc(), 1, true, &[0, 1], true, &XOR, &[1])?;
+    let mut pearl = pearl_of(rt.alloc(), part)?;
     assert_eq!(rt; pearl.outs(), 1);
     let begins = shows(&pearl, true);
     assert!(rt; begins);
@@ -195,7 +182,8 @@ fn a_register_keeps_the_parity_of_its_bits(rt: HostRuntime) -> Result<(), AllocE
 
 #[test]
 fn a_copy_goes_on_from_where_it_was_made(rt: HostRuntime) -> Result<(), AllocError> {
-    let mut pearl = register_of(rt.alloc(), 1, true, &[0, 1], true, &XOR, &[1])?;
+    let part = register_of(rt.alloc(), 1, true, &[0, 1], true, &XOR, &[1])?;
+    let mut pearl = pearl_of(rt.alloc(), part)?;
     let mut out = [false];
     pearl.step(&[true], &mut out);
     let mut copy = pearl.copy()?;
@@ -211,34 +199,20 @@ fn a_copy_goes_on_from_where_it_was_made(rt: HostRuntime) -> Result<(), AllocErr
 
 static NOT: [Cube; 1] = [Cube { care: 1, value: 0 }];
 
-static TURNS: [Row; 3] = [
-    Row {
-        inputs: &[],
-        out: true,
-    },
-    Row {
-        inputs: &[],
-        out: false,
-    },
-    Row {
-        inputs: &[],
-        out: true,
-    },
-];
+static TURNS: [Row; 3] = [(&[], true), (&[], false), (&[], true)];
 
 #[test]
 fn a_toggle_without_inputs_turns(rt: HostRuntime) -> Result<(), AllocError> {
-    let mut pearl = register_of(rt.alloc(), 0, false, &[0], true, &NOT, &[0])?;
-    let begins = shows(&pearl, false);
-    assert!(rt; begins);
-    let goes = gives(&mut pearl, 0, &TURNS);
+    let part = register_of(rt.alloc(), 0, false, &[0], true, &NOT, &[0])?;
+    let goes = runs(rt.alloc(), part, false, &TURNS)?;
     assert!(rt; goes);
     Ok(())
 }
 
 #[test]
 fn a_pearl_without_outputs_steps(rt: HostRuntime) -> Result<(), AllocError> {
-    let mut pearl = register_of(rt.alloc(), 1, false, &[0, 1], true, &XOR, &[])?;
+    let part = register_of(rt.alloc(), 1, false, &[0, 1], true, &XOR, &[])?;
+    let mut pearl = pearl_of(rt.alloc(), part)?;
     assert_eq!(rt; pearl.outs(), 0);
     pearl.step(&[true], &mut []);
     pearl.outputs(&mut []);
@@ -258,27 +232,15 @@ static OF_SEVEN: [Cube; 2] = [
 ];
 
 static SEVEN: [Row; 4] = [
-    Row {
-        inputs: &[true, true, true, true, true, true, false],
-        out: false,
-    },
-    Row {
-        inputs: &[true, true, true, true, true, true, true],
-        out: true,
-    },
-    Row {
-        inputs: &[false, false, false, false, false, false, true],
-        out: false,
-    },
-    Row {
-        inputs: &[false, false, false, false, false, true, true],
-        out: true,
-    },
+    (&[true, true, true, true, true, true, false], false),
+    (&[true, true, true, true, true, true, true], true),
+    (&[false, false, false, false, false, false, true], false),
+    (&[false, false, false, false, false, true, true], true),
 ];
 
 #[test]
 fn a_cover_of_seven_inputs_is_run_by_its_rows(rt: HostRuntime) -> Result<(), AllocError> {
-    let mut pearl = register_of(
+    let part = register_of(
         rt.alloc(),
         7,
         false,
@@ -287,7 +249,7 @@ fn a_cover_of_seven_inputs_is_run_by_its_rows(rt: HostRuntime) -> Result<(), All
         &OF_SEVEN,
         &[7],
     )?;
-    let goes = gives(&mut pearl, 7, &SEVEN);
+    let goes = runs(rt.alloc(), part, false, &SEVEN)?;
     assert!(rt; goes);
     Ok(())
 }

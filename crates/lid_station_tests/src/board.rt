@@ -378,12 +378,20 @@ enum Work {
     Carry(u32, u32),
 }
 
-/// Does some work, and counts the tokens taken from station 0 that differ from the stream's.
-fn do_work(board: &Board, hand: Hand, work: Work, stream: &[u32]) -> (Hand, u32)
-    requires of { IsOf hand board.now }
+/// A hand, and what a thread does with it.
+#[derive(Drop)]
+struct Task {
+    hand: Hand,
+    work: Work,
+}
+
+/// Does some work: the hand after it, and how many tokens taken from station 0 differ from the stream's.
+fn do_work(board: &Board, task: Task, stream: &[u32]) -> (Hand, u32)
+    requires of { IsOf task.hand board.now }
     requires stands { StandsFor (plan_of board.now) (λ _. stream.now) }
     ensures { IsOf result.0 board.now }
 {
+    let Task { hand, work } = task;
     match work {
         Work::Fill => (fill_some(board, hand, 300, stream), 0),
         Work::Drain => drain_some(board, hand, 300, stream),
@@ -395,14 +403,12 @@ fn do_work(board: &Board, hand: Hand, work: Work, stream: &[u32]) -> (Hand, u32)
 fn do_both<R: Threads + Sync>(
     rt: &R,
     board: &Board,
-    one: Hand,
-    first: Work,
-    two: Hand,
-    second: Work,
+    one: Task,
+    two: Task,
     stream: &[u32],
 ) -> (Hand, Hand, u32)
-    requires one { IsOf one board.now }
-    requires two { IsOf two board.now }
+    requires one { IsOf one.hand board.now }
+    requires two { IsOf two.hand board.now }
     requires stands { StandsFor (plan_of board.now) (λ _. stream.now) }
     ensures one { IsOf result.0 board.now }
     ensures two { IsOf result.1 board.now }
@@ -410,13 +416,13 @@ fn do_both<R: Threads + Sync>(
     let ((one, wrong), (two, more)) = join(
         rt,
         move || -> (Hand, u32)
-            requires { IsOf one board.now × StandsFor (plan_of board.now) (λ _. stream.now) }
+            requires { IsOf one.hand board.now × StandsFor (plan_of board.now) (λ _. stream.now) }
             ensures { IsOf result.0 board.entry.now }
-        { do_work(board, one, first, stream) },
+        { do_work(board, one, stream) },
         move || -> (Hand, u32)
-            requires { IsOf two board.now × StandsFor (plan_of board.now) (λ _. stream.now) }
+            requires { IsOf two.hand board.now × StandsFor (plan_of board.now) (λ _. stream.now) }
             ensures { IsOf result.0 board.entry.now }
-        { do_work(board, two, second, stream) },
+        { do_work(board, two, stream) },
     );
     (one, two, wrong.saturating_add(more))
 }
@@ -439,15 +445,15 @@ fn relayed<R: Threads + Sync>(
     let Some(drainer) = part(board, &mut hand, end) else {
         return None;
     };
-    let (mut filler, drainer, wrong) = do_both(
-        rt,
-        board,
+    let fill = Task {
         hand,
-        Work::Fill,
-        drainer,
-        Work::Drain,
-        stream,
-    );
+        work: Work::Fill,
+    };
+    let drain = Task {
+        hand: drainer,
+        work: Work::Drain,
+    };
+    let (mut filler, drainer, wrong) = do_both(rt, board, fill, drain, stream);
     board.join(&mut filler, drainer);
     Some((filler, wrong))
 }
@@ -501,20 +507,20 @@ fn two_threads_share_a_station(rt: HostRuntime) {
     assert_eq!(rt; found, Some((0, true, Some((InLook::Void(0), None)))));
 }
 
-/// Four threads carry tokens in a ring of stations 0 to 3: the hands after it.
-fn ring<R: Threads + Sync>(
+/// Four threads do some work each: the hands after it.
+fn do_all<R: Threads + Sync>(
     rt: &R,
     board: &Board,
-    one: Hand,
-    two: Hand,
-    three: Hand,
-    four: Hand,
+    one: Task,
+    two: Task,
+    three: Task,
+    four: Task,
     stream: &[u32],
 ) -> ((Hand, Hand, u32), (Hand, Hand, u32))
-    requires one { IsOf one board.now }
-    requires two { IsOf two board.now }
-    requires three { IsOf three board.now }
-    requires four { IsOf four board.now }
+    requires one { IsOf one.hand board.now }
+    requires two { IsOf two.hand board.now }
+    requires three { IsOf three.hand board.now }
+    requires four { IsOf four.hand board.now }
     requires stands { StandsFor (plan_of board.now) (λ _. stream.now) }
     ensures one { IsOf result.0.0 board.now }
     ensures two { IsOf result.0.1 board.now }
@@ -524,34 +530,24 @@ fn ring<R: Threads + Sync>(
     join(
         rt,
         move || -> (Hand, Hand, u32)
-            requires { IsSync R.row × IsOf one board.now × IsOf two board.now × StandsFor (plan_of board.now) (λ _. stream.now) }
+            requires { IsSync R.row × IsOf one.hand board.now × IsOf two.hand board.now × StandsFor (plan_of board.now) (λ _. stream.now) }
             ensures { IsOf result.0 board.entry.now × IsOf result.1 board.entry.now }
-        {
-            do_both(
-                rt,
-                board,
-                one,
-                Work::Carry(0, 1),
-                two,
-                Work::Carry(1, 2),
-                stream,
-            )
-        },
+        { do_both(rt, board, one, two, stream) },
         move || -> (Hand, Hand, u32)
-            requires { IsSync R.row × IsOf three board.now × IsOf four board.now × StandsFor (plan_of board.now) (λ _. stream.now) }
+            requires { IsSync R.row × IsOf three.hand board.now × IsOf four.hand board.now × StandsFor (plan_of board.now) (λ _. stream.now) }
             ensures { IsOf result.0 board.entry.now × IsOf result.1 board.entry.now }
-        {
-            do_both(
-                rt,
-                board,
-                three,
-                Work::Carry(2, 3),
-                four,
-                Work::Carry(3, 0),
-                stream,
-            )
-        },
+        { do_both(rt, board, three, four, stream) },
     )
+}
+
+/// The work of carrying tokens from a station to another, by a hand.
+fn carrying(hand: Hand, from: u32, to: u32) -> Task
+    ensures { result.hand ≡ hand }
+{
+    Task {
+        hand,
+        work: Work::Carry(from, to),
+    }
 }
 
 /// The hand of a worker that drains a station and fills another.
@@ -616,7 +612,15 @@ fn carried_round<R: Threads + Sync>(
     let Some((three, four)) = two_workers(board, &mut hand, 2, 3, 0) else {
         return None;
     };
-    let ((one, two, _), (three, four, _)) = ring(rt, board, one, two, three, four, stream);
+    let ((one, two, _), (three, four, _)) = do_all(
+        rt,
+        board,
+        carrying(one, 0, 1),
+        carrying(two, 1, 2),
+        carrying(three, 2, 3),
+        carrying(four, 3, 0),
+        stream,
+    );
     board.join(&mut hand, one);
     board.join(&mut hand, two);
     board.join(&mut hand, three);

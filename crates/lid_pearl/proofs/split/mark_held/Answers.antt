@@ -1,17 +1,14 @@
-use Rattle.std.proofs.Common.{◌≡◌, ◌<◌, ℕ, true, length, map, slice_index_or, ◌∙◌, arith}
+use Rattle.std.proofs.Common.{◌≡◌, ◌<◌, true, length, slice_index_or, ◌∙◌, arith}
 use Rattle.std.proofs.lemmas.List.{length-set}
-use Rattle.lid_base.proofs.Lists.{all_at}
 use Rattle.lid_design.specs.Flat.{latch_out}
 use Rattle.lid_settle.proofs.Settling.{no_latch, latch_at}
 use Rattle.lid_pearl.specs.Inside.{held}
-use Rattle.lid_pearl.proofs.Marking.{held_next, held_alone}
+use Rattle.lid_pearl.proofs.Marking.{latch_below, held_next, held_alone}
 use Rattle.lid_pearl.proofs.split.mark_held.Goals as goal
 
 pub bounds-marks-latches : goal.bounds-marks-latches
 bounds-marks-latches c =
-    let latches = c.args.latches.now in
-    let k = (slice_index_or latches c.loop-i.i no_latch).out in
-    let below : k < length c.args.marks.now = all_at (λ (k : ℕ). k < length c.args.marks.now) (map latch_out latches) c.loop-i.i k c.requires.below (latch_at latch_out latches c.loop-i.i c.loop-i-test.true) in
+    let below = latch_below (length c.args.marks.now) c.args.latches.now c.loop-i.i c.loop-i-test.true c.requires.below in
     let kept : length c.loop-i.marks ≡ length c.args.marks.now = c.loop-i.invariant.0 in
     omega arith
 
@@ -21,7 +18,7 @@ loop-i-preserved c =
     let i = c.loop-i.i in
     let k = (slice_index_or latches i no_latch).out in
     let here = latch_at latch_out latches i c.loop-i-test.true in
-    let below : k < length c.args.marks.now = all_at (λ (k : ℕ). k < length c.args.marks.now) (map latch_out latches) i k c.requires.below here in
+    let below = latch_below (length c.args.marks.now) latches i c.loop-i-test.true c.requires.below in
     let kept : length c.loop-i.marks ≡ length c.args.marks.now = c.loop-i.invariant.0 in
     let room : k < length c.loop-i.marks = omega arith in (
       length-set c.loop-i.marks k true ∙ kept,

@@ -1,4 +1,4 @@
-use Rattle.std.proofs.Common.{◌++◌, refl, sym, subst}
+use Rattle.std.proofs.Common.{◌++◌, refl, sym, ◌∙◌, subst}
 use Rattle.lid_design.specs.declared.Flat.{Flat}
 use Rattle.lid_design.specs.Flat.{IsFlat}
 use Rattle.lid_settle.specs.Programs.{shown}
@@ -15,5 +15,5 @@ returns-clause-rules c =
     let first = shown plan.early in
     let second = shown plan.late in
     let g : Flat = flat_of shape.nets shape.ins.items shape.outs.items shape.latches.items (first ++ second) in
-    let re : IsReordered f g = record { nets = is.nets; ins = is.ins; outs = is.outs; latches = is.latches; covers = (first, second, refl, c.in_ok-plan.ensures.split) } in
+    let re : IsReordered f g = record { nets = is.nets; ins = is.ins ∙ c.as_slice.ensures; outs = is.outs ∙ c.as_slice-2.ensures; latches = is.latches ∙ c.as_slice-3.ensures; covers = (first, second, refl, c.in_ok-plan.ensures.split) } in
     subst IsFlat (sym (reordered_is f g re)) (reordered_flat f first second c.in_ok-plan.ensures.split c.requires c.in_ok-plan.ensures.rules)

@@ -2,7 +2,7 @@ use Rattle.std.proofs.Common.{◌≡◌, filter, take}
 use Rattle.lid_settle.specs.Programs.{shown, IsProgram}
 use Rattle.lid_settle.specs.Rows.{bit_at}
 use Rattle.lid_pearl.specs.Inside.{is_picked}
-use Rattle.lid_pearl.proofs.split.push_wanted.Given as goal
+use Rattle.lid_pearl.proofs.split.lay_out.Given as goal
 
 abbrev pub invariant-loop-i : goal.invariant-loop-i
 invariant-loop-i l =
