@@ -6,7 +6,7 @@ use Rattle.lid_rules.specs.declared.fault.CheckFault.TheVariants.{NoRoot}
 use Rattle.lid_check.specs.Acceptance.{with_root, IsAccepted, IsRefused, IsRefusal}
 use Rattle.lid_cli.specs.declared.job.Job.{Job}
 use Rattle.lid_cli.specs.declared.job.Job.TheVariants.{Strict}
-use Rattle.lid_top.specs.Faults.{check_line}
+use Rattle.lid_refusals.specs.Faults.{check_line}
 use Rattle.lid_top.specs.Outputs.{strict_output}
 use Rattle.lid_top.specs.Scripts.{Ending, refuses, gives, Script, fetch, again, decide, end, Rereading, Reading, good, bad, step, net_limit, rows_limit, net_reading, vec_reading, rows_script, check_script, strict_script, script_of, IsFetched, IsReread, IsChanged, IsChecked, IsUnchecked, EndsIn, Reaches}
 use Rattle.lid_top.specs.Statuses.{TellsAll}

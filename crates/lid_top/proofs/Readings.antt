@@ -17,7 +17,7 @@ use Rattle.lid_texts.specs.declared.rows.VecFault.{VecFault}
 use Rattle.lid_texts.specs.declared.rows.VecFault.TheVariants as rows
 use Rattle.lid_texts.specs.Rows.{rows_reading, IsWide}
 use Rattle.lid_top.specs.Scripts.{Reading, good, bad, unless_faulty, net_reading, IsUnchecked, vec_reading, bits_read}
-use Rattle.lid_top.specs.Faults.{blif_line, rows_line, check_line}
+use Rattle.lid_refusals.specs.Faults.{blif_line, rows_line, check_line}
 use Rattle.lid_top.specs.Causes.{Declines, FailsCheck, stop_of_blif, stop_of_rows, stop_of_check}
 
 -- a design that is read

@@ -1,8 +1,8 @@
 -- Why a run does not end with its whole output: the cause that a value of the program tells.
 use Rattle.std.specs.Prelude.{◌≡◌, ℕ, List, Option}
 use Rattle.lid_base.specs.Outside.{Rose}
-use Rattle.lid_top.specs.declared.fault.Refusal.{Refusal}
-use Rattle.lid_top.specs.declared.fault.Refusal.TheVariants.{Blif, Check, Rows}
+use Rattle.lid_refusals.specs.declared.refusal.Refusal.{Refusal}
+use Rattle.lid_refusals.specs.declared.refusal.Refusal.TheVariants.{Blif, Check, Rows}
 use Rattle.lid_top.specs.declared.fault.Stop.{Stop}
 use Rattle.lid_top.specs.declared.fault.Stop.TheVariants.{Refused, Read, Memory, Denied}
 use Rattle.lid_top.specs.declared.fault.End.{End}
@@ -14,13 +14,9 @@ use Rattle.lid_texts.specs.declared.rows.VecFault.TheVariants as rows
 use Rattle.lid_design.specs.declared.Design.{Design}
 use Rattle.lid_rules.specs.declared.fault.CheckFault.{CheckFault}
 use Rattle.lid_rules.specs.declared.fault.CheckFault.TheVariants as check
-use Rattle.lid_top.specs.Faults.{blif_line, rows_line, check_line, read_line, write_line, memory_line, denied_line}
+use Rattle.lid_refusals.specs.Faults.{read_line, write_line, memory_line, denied_line}
+use Rattle.lid_refusals.specs.Refusals.{refusal_line}
 use Rattle.lid_top.specs.Scripts.{refuses, denies, Script, Reading, good, bad, IsFetched, IsUnchecked, EndsIn, Reaches}
-
-abbrev pub refusal_line : Refusal → List ℕ
-refusal_line (Blif fault) = blif_line fault
-refusal_line (Check fault) = check_line fault
-refusal_line (Rows fault) = rows_line fault
 
 -- a fault that is want of memory is no refusal
 abbrev pub stop_of_blif : BlifFault → Stop

@@ -1,6 +1,4 @@
 pub mod Causes
-pub mod Faults
 pub mod Outputs
 pub mod Scripts
 pub mod Statuses
-pub mod Told

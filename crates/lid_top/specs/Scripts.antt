@@ -15,7 +15,7 @@ use Rattle.lid_texts.specs.declared.rows.VecFault.TheVariants.{Changed}
 use Rattle.lid_texts.specs.Rows.{rows_reading}
 use Rattle.lid_cli.specs.declared.job.Job.{Job}
 use Rattle.lid_cli.specs.declared.job.Job.TheVariants.{Strict}
-use Rattle.lid_top.specs.Faults.{blif_line, rows_line, check_line}
+use Rattle.lid_refusals.specs.Faults.{blif_line, rows_line, check_line}
 use Rattle.lid_top.specs.Outputs.{Output, strict_output}
 
 -- what a reading makes of a value

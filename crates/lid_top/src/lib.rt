@@ -5,10 +5,8 @@ mod fault;
 mod job;
 mod laws;
 mod program;
-mod saying;
 mod steps;
 mod strict;
-mod told;
 mod top;
 
 pub use laws::a_told_job_ends_in_one_way;

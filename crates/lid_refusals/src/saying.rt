@@ -3,9 +3,9 @@
 ghost use Rattle.std.specs.Prelude.{◌≡◌, ◌∷◌, [], codes, map};
 ghost use Rattle.std.specs.Fmt.{decimal};
 ghost use Rattle.lid_io.specs.Telling.{fault_line, path_text, spelled};
-ghost use Rattle.lid_top.specs.Statuses.{Says};
-ghost use Rattle.lid_top.specs.Faults.{which_word, at_line, over_limit, at_inst, with_names};
-ghost use Rattle.lid_top.specs.Told.{told_words};
+ghost use Rattle.lid_refusals.specs.Saying.{Says};
+ghost use Rattle.lid_refusals.specs.Faults.{which_word, at_line, over_limit, at_inst, with_names};
+ghost use Rattle.lid_refusals.specs.Told.{told_words};
 
 use crate::told::Told;
 use lid_base::{Items, Name, Sink, Which};

@@ -1,12 +1,12 @@
 //! What a refusal tells: its name and its fields, as the words of one line.
 
 ghost use Rattle.std.specs.Prelude.{◌≡◌};
-ghost use Rattle.lid_top.specs.Faults.{text_words, blif_words, rows_words, check_words};
-ghost use Rattle.lid_top.specs.Told.{told_words};
+ghost use Rattle.lid_refusals.specs.Faults.{text_words, blif_words, rows_words, check_words};
+ghost use Rattle.lid_refusals.specs.Told.{told_words};
 
 use lid_base::{Items, Name, TextFault, Which};
 use lid_blif::BlifFault;
-use lid_check::CheckFault;
+use lid_rules::CheckFault;
 use lid_texts::VecFault;
 
 /// A refusal by its name and its fields.

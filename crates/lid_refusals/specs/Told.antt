@@ -2,9 +2,9 @@
 use Rattle.std.specs.Prelude.{ℕ, List, [], ◌∷◌, codes}
 use Rattle.std.specs.Fmt.{decimal}
 use Rattle.lid_io.specs.Telling.{path_text}
-use Rattle.lid_top.specs.declared.told.Told.{Told}
-use Rattle.lid_top.specs.declared.told.Told.TheVariants.{Bare, At, Over, Changed, One, Two, Three, Inst, Loop, Nothing}
-use Rattle.lid_top.specs.Faults.{at_line, over_limit, at_inst, with_names}
+use Rattle.lid_refusals.specs.declared.told.Told.{Told}
+use Rattle.lid_refusals.specs.declared.told.Told.TheVariants.{Bare, At, Over, Changed, One, Two, Three, Inst, Loop, Nothing}
+use Rattle.lid_refusals.specs.Faults.{at_line, over_limit, at_inst, with_names}
 
 -- the words of the name and the fields
 abbrev pub told_words : Told → List (List ℕ)
