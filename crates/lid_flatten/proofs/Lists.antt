@@ -79,3 +79,9 @@ flat_more {A} f order i h =
     ap (flat_map f) (take_more order i 0 h)
     ∙ flat_map-append f (take i order) (get_or order i 0 ∷ [])
     ∙ ap (λ (ys : List A). flat_map f (take i order) ++ ys) (append-nil (f (get_or order i 0)))
+
+pub range_more : (a n : ℕ) → range_with_len a (n + 1) ≡ range_with_len a n ++ (a + n) ∷ []
+range_more a zero = ap (λ (k : ℕ). k ∷ []) (let e : a ≡ a + 0 = omega arith in e)
+range_more a (suc n) =
+    ap (λ (ks : List ℕ). a ∷ ks) (range_more (a + 1) n)
+    ∙ ap (λ (k : ℕ). (a ∷ range_with_len (a + 1) n) ++ k ∷ []) (let e : a + 1 + n ≡ a + suc n = omega arith in e)

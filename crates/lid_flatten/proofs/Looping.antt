@@ -22,7 +22,7 @@ use Rattle.lid_flatten.specs.Standing.{PassesOn, StandsFor, IsInput, StandsForAl
 use Rattle.lid_flatten.specs.Parts.{driver_at, IsIn, StaysIn, IsPart, HasCover, IsFlattened}
 use Rattle.lid_flatten.specs.Inner.{buffer, counted_from, inner_driver, inner_drivers, latches_in, covers_in}
 use Rattle.lid_flatten.specs.declared.part.Part.{Part}
-use Rattle.lid_flatten.proofs.Nets.{is_input, as_net, IsMade, input_driver, cell_driver}
+use Rattle.lid_flatten.proofs.Nets.{is_input, as_net, IsMade, input_driver, cell_driver, no_driver}
 use Rattle.lid_flatten.proofs.Rules.{numbers_of, reads_here, below_or_not, rules}
 
 -- a number of a part, counted from its first
@@ -186,12 +186,21 @@ module _ (drivers : List ColumnDriver) (part : Part) (is : IsPart drivers part) 
         by (inl same) = same
         by (inr none) = absurd none
 
+    past : (k : ℕ) → f.nets ≤ k → flat_drivers f k ≡ []
+    past k h = no_driver d inner order part.inputs f made k (let e = nets in let long_inner = long in omega arith)
+
+    driven : (k : ℕ) (s : Driver ℕ) → Among s (flat_drivers f k) → k < part.nets
+    driven k s among = elim (below_or_not k part.nets) [
+      | inl here ↦ here
+      | inr none ↦ absurd (subst (λ (xs : List (Driver ℕ)). Among s xs) (past k (let e = nets in omega arith)) among)
+    ]
+
     each : StandsForAll (λ k. shown_driver d (driver_at drivers k) ∷ []) (λ k. part.start + k) f
-    each k s h among = elim (below_or_not k part.inputs) [
+    each k s among = elim (below_or_not k part.inputs) [
       | inl given ↦
           inl (subst (λ (r : Driver ℕ). IsInput r) (sym (only s (from_input k) (flat_drivers f k) (input_driver d inner order part.inputs f made k given) among)) tt)
       | inr past ↦
-          (let here : k < part.nets = (let e = nets in omega arith) in
+          (let here : k < part.nets = driven k s among in
           let r = driver_at drivers (part.start + k) in
           let long_inner = long in
           let driver = cell_driver d inner order part.inputs f made k past (omega arith) in
@@ -205,5 +214,6 @@ module _ (drivers : List ColumnDriver) (part : Part) (is : IsPart drivers part) 
       nets = nets;
       ins = ins;
       outs = outs;
+      past = past;
       each = each;
     }
