@@ -32,16 +32,16 @@ back part a inside = let first = inside.first in omega arith
 short : (part : Part) (a : ℕ) → IsIn part a → a - part.start < part.nets
 short part a inside = let first = inside.first in let last = inside.last in omega arith
 
-back_all : (part : Part) (as : List ℕ) → AllByRecursion (IsIn part) as → map (λ k. part.start + k) (map (λ a. a - part.start) as) ≡ as
+back_all : (part : Part) (ns : List ℕ) → AllByRecursion (IsIn part) ns → map (λ k. part.start + k) (map (λ a. a - part.start) ns) ≡ ns
 back_all part [] all = refl
-back_all part (a ∷ as) all =
+back_all part (a ∷ ns) all =
     let head = back part a all.0 in
-    let tail = back_all part as all.1 in
+    let tail = back_all part ns all.1 in
     cc
 
-short_all : (part : Part) (as : List ℕ) → AllByRecursion (IsIn part) as → AllByRecursion (λ a. a < part.nets) (map (λ a. a - part.start) as)
+short_all : (part : Part) (ns : List ℕ) → AllByRecursion (IsIn part) ns → AllByRecursion (λ a. a < part.nets) (map (λ a. a - part.start) ns)
 short_all part [] all = tt
-short_all part (a ∷ as) all = (short part a all.0, short_all part as all.1)
+short_all part (a ∷ ns) all = (short part a all.0, short_all part ns all.1)
 
 stays_below : (part : Part) (s : ColumnDriver) → StaysIn part s → AllByRecursion (λ a. a < part.nets) (numbers_of (counted_from part.start s))
 stays_below part (Input place) stays = absurd stays
@@ -217,3 +217,18 @@ module _ (drivers : List ColumnDriver) (part : Part) (is : IsPart drivers part) 
       past = past;
       each = each;
     }
+
+  pub graph_by : (own : List ColumnDriver) → own ≡ inner → length drivers ≤ 1048576 → IsGraph (map driver_reads own)
+  graph_by own same few = subst (λ (xs : List ColumnDriver). IsGraph (map driver_reads xs)) (sym same) (is_graph few)
+
+  pub loops_by : (own : List ColumnDriver) → own ≡ inner → HasNoLoop (map driver_reads drivers) → HasNoLoop (map driver_reads own)
+  loops_by own same none = subst (λ (xs : List ColumnDriver). HasNoLoop (map driver_reads xs)) (sym same) (no_loop none)
+
+  pub flattened_by :
+      (own : List ColumnDriver) → own ≡ inner → (d : Design) (f : Flat) (order : List ℕ) → length drivers ≤ 1048576 → IsOrder (map driver_reads own) order
+      → AllByRecursion (HasCover d) drivers → f.nets ≡ part.nets → f.ins ≡ range_with_len 0 part.inputs → f.outs ≡ range_with_len part.inputs part.outputs
+      → f.latches ≡ latches_in own order → f.covers ≡ covers_in d own order → IsFlattened d drivers part f
+  flattened_by own same d f order few ordered covered nets ins outs latches covers =
+      flattened d f order few (subst (λ (xs : List ColumnDriver). IsOrder (map driver_reads xs) order) same ordered) covered nets ins outs
+      (latches ∙ ap (λ (xs : List ColumnDriver). latches_in xs order) same)
+      (covers ∙ ap (λ (xs : List ColumnDriver). covers_in d xs order) same)
