@@ -1,8 +1,13 @@
 //! Systems: nodes that are joined by channels, and the tokens that pass them.
 #![tactic(auto)]
 
+mod laws;
 mod token;
 
+pub use laws::{
+    channels_have_one_stream, shells_follow_tables, some_system_is_well_formed,
+    systems_have_one_output, systems_have_one_table, tokens_carry_bits,
+};
 pub use token::{pack, unpack};
 
 use lid_base::{Items, Name};
