@@ -7,13 +7,15 @@ ghost use Rattle.lid_design.specs.Walks.{IsDriven, HasTable, HasOneTable};
 ghost use Rattle.lid_design.specs.Flat.{flat_drivers, latch_init, state_at};
 ghost use Rattle.lid_cover.specs.Masks.{packed};
 ghost use Rattle.lid_settle.specs.Rows.{bit_at};
+ghost use Rattle.lid_settle.specs.Truth.{is_set};
 ghost use Rattle.lid_pearl.specs.Pearls.{View, Shows, Steps};
 ghost use Rattle.lid_system.specs.declared.System.{System};
 ghost use Rattle.lid_system.specs.declared.Node.TheVariants.{Shell};
 ghost use Rattle.lid_system.specs.declared.InBit.{InBit};
+ghost use Rattle.lid_system.specs.declared.InBit.TheVariants.{Port};
 ghost use Rattle.lid_system.specs.declared.Channel.{Channel};
-ghost use Rattle.lid_system.specs.Systems.{Point, shell_net, ports_at, IsRead, IsWellFormed};
-ghost use Rattle.lid_system.specs.Tables.{system_drivers, IsTable, nets_of, in_bit, input_bits, port_bits, carried, carried_at};
+ghost use Rattle.lid_system.specs.Systems.{Point, shell_net, ports_at, IsWellFormed};
+ghost use Rattle.lid_system.specs.Tables.{system_drivers, IsTable, nets_of, in_bit, input_bits, port_bits};
 ghost use Rattle.lid_system.specs.Streams.{token_at, IsStream, IsOutput};
 
 /// A well-formed system has exactly one table for any rows: two tables agree at each port and at each
@@ -43,12 +45,12 @@ pub fn systems_have_one_output()
     ensures long { (s : System) (rows outs : List (List Bool)) → IsOutput s rows outs → length outs ≡ length rows }
 {}
 
-/// Tokens carry bits of ports. The ports' bits of a channel's producer, packed, are its token, and a bit
-/// of the token is what an input of the node that it leads to reads. This does nothing; its contract is
+/// Tokens carry bits of ports. The bits of a node's ports, packed for a channel that comes from the
+/// node, are the channel's token, and a bit of the token is what an input that reads it has. This does nothing; its contract is
 /// the law.
 pub fn tokens_carry_bits()
-    ensures packs { (s : System) (b : Table Point) (t : ℕ) (channel : Channel) → IsWellFormed s → (c : ℕ) → slice_get s.channels c ≡ Some channel → packed (map (bit_at (port_bits s b channel.from t)) channel.ports) ≡ token_at s b channel t }
-    ensures unpacks { (s : System) (b : Table Point) (t i bit : ℕ) (c : ℕ) (channel : Channel) → slice_get s.channels c ≡ Some channel → bit < length channel.ports → bit_at (map (b t) (carried s channel)) bit ≡ b t (carried_at s c bit) }
+    ensures packs { (s : System) (b : Table Point) (t : ℕ) (c : ℕ) (channel : Channel) → IsWellFormed s → slice_get s.channels c ≡ Some channel → packed (map (bit_at (port_bits s b channel.from t)) channel.ports) ≡ token_at s b channel t }
+    ensures unpacks { (s : System) (b : Table Point) (t chan bit : ℕ) (channel : Channel) → slice_get s.channels chan ≡ Some channel → bit < length channel.ports → is_set (token_at s b channel t) bit ≡ in_bit s b t (Port chan bit) }
 {}
 
 /// The nets of a shell are a strict table of its flat part, with the bits of the shell's inputs as its
