@@ -1,0 +1,4 @@
+pub mod Points
+pub mod Walking
+pub mod Shelling
+pub mod Streaming
