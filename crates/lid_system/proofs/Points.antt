@@ -1,5 +1,5 @@
 -- Points of a system: what drives them, which of them ports are, and what inputs read.
-use Rattle.std.proofs.Common.{◌≡◌, ◌⊎◌, ℕ, zero, suc, ◌+◌, ◌<◌, ◌≤◌, ◌==◌, Bool, true, false, nat_lt, lt-ltb, cond, List, [], ◌∷◌, ◌++◌, length, get_or, map, Some, None, slice_get, inl, inr, refl, sym, ◌∙◌, ap, subst, Option, arith}
+use Rattle.std.proofs.Common.{◌≡◌, ◌⊎◌, ℕ, zero, suc, ◌+◌, ◌<◌, ◌≤◌, ◌==◌, Bool, true, false, nat_lt, lt-ltb, ltb-true, ◌-◌, cond, List, [], ◌∷◌, ◌++◌, length, get_or, map, Some, None, slice_get, inl, inr, refl, sym, ◌∙◌, ap, subst, Option, arith}
 use Rattle.std.specs.Bool.{⊤}
 use Rattle.std.specs.List.{AllByRecursion, flat_map}
 use Rattle.std.specs.Option.{option_map_or}
@@ -117,6 +117,18 @@ module _ (s : System) where
   unfolding system_drivers
   port_driver j r among = if_is (nat_lt j (option_map_or source_width (slice_get s.nodes 0) 0)) (from_input j) r among
 
+  -- and only where it has a column
+  pub port_within : (j : ℕ) (r : Driver Point) (columns : List (List ℕ)) → slice_get s.nodes 0 ≡ Some (Source columns) → Among r (system_drivers s (source_port j)) → j < length columns
+  unfolding system_drivers
+  port_within j r columns here among = by (nat_lt j (option_map_or source_width (slice_get s.nodes 0) 0)) refl among
+    where
+      wide : option_map_or source_width (slice_get s.nodes 0) 0 ≡ length columns
+      wide = ap (λ o. option_map_or source_width o 0) here
+
+      by : (b : Bool) → nat_lt j (option_map_or source_width (slice_get s.nodes 0) 0) ≡ b → Among r (cond b (from_input j ∷ []) []) → j < length columns
+      by true e among = ltb-true j (length columns) (ap (λ (n : ℕ). nat_lt j n) (sym wide) ∙ e)
+      by false e none = absurd none
+
   pub port_driven : (j : ℕ) (columns : List (List ℕ)) → slice_get s.nodes 0 ≡ Some (Source columns) → j < length columns → IsDriven (system_drivers s) (source_port j)
   unfolding system_drivers
   port_driven j columns here below =
@@ -131,6 +143,46 @@ module _ (s : System) where
   module _ (well : IsWellFormed s) where
     pub shell_is : (i : ℕ) (pearl : View) (ins : List InBit) → slice_get s.nodes i ≡ Some (Shell pearl ins) → IsShell s i pearl ins
     shell_is i pearl ins here = well.each_node i (Shell pearl ins) here
+
+    -- the source is first, the sink is last, and shells are between
+    pub first_node : (columns : List (List ℕ)) × (slice_get s.nodes 0 ≡ Some (Source columns))
+    first_node = by s.nodes refl well.least
+      where
+        of_node : (node : Node) → slice_get s.nodes 0 ≡ Some node → IsNode s 0 node → (columns : List (List ℕ)) × (slice_get s.nodes 0 ≡ Some (Source columns))
+        of_node (Source columns) here is = (columns, here)
+        of_node (Shell pearl ins) here is = absurd (let first = is.after_source in omega arith)
+        of_node (Sink columns ins) here is = absurd (let last = is.last in let least = well.least in omega arith)
+
+        by : (nodes : List Node) → s.nodes ≡ nodes → 2 ≤ length s.nodes → (columns : List (List ℕ)) × (slice_get s.nodes 0 ≡ Some (Source columns))
+        by [] same least = absurd (let none : length s.nodes ≡ 0 = ap length same in omega arith)
+        by (node ∷ nodes) same least =
+            let here : slice_get s.nodes 0 ≡ Some node = ap (λ (xs : List Node). slice_get xs 0) same in
+            of_node node here (well.each_node 0 node here)
+
+    pub last_node : (columns : List (List ℕ)) × (ins : List InBit) × (slice_get s.nodes (length s.nodes - 1) ≡ Some (Sink columns ins))
+    last_node = of_node found.0 found.1 (well.each_node i found.0 found.1)
+      where
+        i : ℕ
+        i = length s.nodes - 1
+
+        found : (node : Node) × (slice_get s.nodes i ≡ Some node)
+        found = let least = well.least in (get_or s.nodes i (Source []), slice_get-get_or s.nodes i (Source []) (omega arith))
+
+        of_node : (node : Node) → slice_get s.nodes i ≡ Some node → IsNode s i node → (columns : List (List ℕ)) × (ins : List InBit) × (slice_get s.nodes i ≡ Some (Sink columns ins))
+        of_node (Source columns) here is = absurd (let first : i ≡ 0 = is in let least = well.least in omega arith)
+        of_node (Shell pearl ins) here is = absurd (let before : i + 1 < length s.nodes = is.before_sink in omega arith)
+        of_node (Sink columns ins) here is = (columns, ins, here)
+
+    pub inner_node : (i : ℕ) → 0 < i → i + 1 < length s.nodes → (pearl : View) × (ins : List InBit) × (slice_get s.nodes i ≡ Some (Shell pearl ins))
+    inner_node i after before = of_node found.0 found.1 (well.each_node i found.0 found.1)
+      where
+        found : (node : Node) × (slice_get s.nodes i ≡ Some node)
+        found = (get_or s.nodes i (Source []), slice_get-get_or s.nodes i (Source []) (omega arith))
+
+        of_node : (node : Node) → slice_get s.nodes i ≡ Some node → IsNode s i node → (pearl : View) × (ins : List InBit) × (slice_get s.nodes i ≡ Some (Shell pearl ins))
+        of_node (Source columns) here is = absurd (let first : i ≡ 0 = is in omega arith)
+        of_node (Shell pearl ins) here is = (pearl, ins, here)
+        of_node (Sink columns ins) here is = absurd (let last = is.last in omega arith)
 
     -- what an input reads that is not a constant is a port of a node
     pub carried_port : (i chan bit : ℕ) → IsRead s i (Port chan bit) → (n : ℕ) × Among (carried_at s chan bit) (ports_at s n)

@@ -58,7 +58,7 @@ module _ (s : System) (rows : List (List Bool)) (b : Table Point) (i : ℕ) (pea
   pub ports_are : (t : ℕ) → port_bits s b i t ≡ map (nets t) pearl.flat.outs
   ports_are t = ap (λ o. map (b t) (option_map_or (ports_of i) o [])) here ∙ map-map (b t) (shell_net i) pearl.flat.outs
 
-  read_bit : (t : ℕ) (x : InBit) → bit_of rows b t (driver_of s x) ≡ in_bit s b t x
+  pub read_bit : (t : ℕ) (x : InBit) → bit_of rows b t (driver_of s x) ≡ in_bit s b t x
   read_bit t (Const bit) = constant_value bit
   read_bit t (Port chan bit) = refl
 

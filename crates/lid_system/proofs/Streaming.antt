@@ -28,7 +28,7 @@ use Rattle.lid_system.proofs.Walking.{limit, points_end, points_reads_driven}
 use Rattle.lid_system.proofs.Shelling.{each_length, each_get}
 
 -- lists of so many numbers' values that agree
-each_same : {A : Type 0} (f g : ℕ → A) (k n : ℕ) → ((t : ℕ) → t < k + n → f t ≡ g t) → from_each f k n ≡ from_each g k n
+pub each_same : {A : Type 0} (f g : ℕ → A) (k n : ℕ) → ((t : ℕ) → t < k + n → f t ≡ g t) → from_each f k n ≡ from_each g k n
 each_same f g k zero same = refl
 each_same f g k (suc n) same =
     let head : f k ≡ g k = same k (omega arith) in
@@ -44,7 +44,7 @@ item_at [] i h = absurd (omega arith)
 item_at (x ∷ xs) zero h = (x, refl)
 item_at (x ∷ xs) (suc i) h = item_at xs i (omega arith)
 
-same_some : {A : Type 0} (o : Option A) (x y : A) → o ≡ Some x → o ≡ Some y → x ≡ y
+pub same_some : {A : Type 0} (o : Option A) (x y : A) → o ≡ Some x → o ≡ Some y → x ≡ y
 same_some o x y e e' = let f : Some x ≡ Some y = sym e ∙ e' in cc
 
 module _ (s : System) where
@@ -156,7 +156,7 @@ module _ (s : System) where
         let found = carried_port s well i chan bit read in
         tables_agree b b' table table' t below found.0 (carried_at s chan bit) found.1
 
-    inputs_agree : (b b' : Table Point) → IsTable s rows b → IsTable s rows b' → (i t : ℕ) → t < length rows → input_bits s b i t ≡ input_bits s b' i t
+    pub inputs_agree : (b b' : Table Point) → IsTable s rows b → IsTable s rows b' → (i t : ℕ) → t < length rows → input_bits s b i t ≡ input_bits s b' i t
     inputs_agree b b' table table' i t below = by (slice_get s.nodes i) refl
       where
         by : (o : Option Node) → slice_get s.nodes i ≡ o → map (in_bit s b t) (option_map_or ins_of o []) ≡ map (in_bit s b' t) (option_map_or ins_of o [])

@@ -1,6 +1,6 @@
 //! Laws of systems, their tables and their streams.
 
-ghost use Rattle.std.specs.Prelude.{◌≡◌, ◌<◌, ◌+◌, ◌^◌, ℕ, Bool, List, Some, length, map, slice_get};
+ghost use Rattle.std.specs.Prelude.{◌≡◌, ◌<◌, ◌+◌, ◌-◌, ◌^◌, ℕ, Bool, List, Some, length, map, slice_get};
 ghost use Rattle.std.specs.List.{AllByRecursion};
 ghost use Rattle.lid_design.specs.Network.{Table, IsStrict, from_each};
 ghost use Rattle.lid_design.specs.Walks.{IsDriven, HasTable, HasOneTable};
@@ -10,7 +10,7 @@ ghost use Rattle.lid_settle.specs.Rows.{bit_at};
 ghost use Rattle.lid_settle.specs.Truth.{is_set};
 ghost use Rattle.lid_pearl.specs.Pearls.{View, Shows, Steps};
 ghost use Rattle.lid_system.specs.declared.System.{System};
-ghost use Rattle.lid_system.specs.declared.Node.TheVariants.{Shell};
+ghost use Rattle.lid_system.specs.declared.Node.TheVariants.{Source, Shell, Sink};
 ghost use Rattle.lid_system.specs.declared.InBit.{InBit};
 ghost use Rattle.lid_system.specs.declared.InBit.TheVariants.{Port};
 ghost use Rattle.lid_system.specs.declared.Channel.{Channel};
@@ -19,6 +19,14 @@ ghost use Rattle.lid_system.specs.Tables.{system_drivers, IsTable, nets_of, in_b
 ghost use Rattle.lid_system.specs.Streams.{token_at, IsStream, IsOutput};
 
 use lid_design::some_flat_part_meets_its_rules;
+
+/// A well-formed system has its source first, its sink last, and shells between them. This does nothing;
+/// its contract is the law.
+pub fn shells_stand_between_source_and_sink()
+    ensures first { (s : System) → IsWellFormed s → (columns : List (List ℕ)) × (slice_get s.nodes 0 ≡ Some (Source columns)) }
+    ensures last { (s : System) → IsWellFormed s → (columns : List (List ℕ)) × (ins : List InBit) × (slice_get s.nodes (length s.nodes - 1) ≡ Some (Sink columns ins)) }
+    ensures between { (s : System) (i : ℕ) → IsWellFormed s → 0 < i → i + 1 < length s.nodes → (pearl : View) × (ins : List InBit) × (slice_get s.nodes i ≡ Some (Shell pearl ins)) }
+{}
 
 /// A well-formed system has exactly one table for any rows: two tables agree at each port and at each
 /// net of a shell, since these are driven. This does nothing; its contract is the law.

@@ -5,8 +5,8 @@ mod laws;
 mod token;
 
 pub use laws::{
-    channels_have_one_stream, shells_follow_tables, some_system_is_well_formed,
-    systems_have_one_output, systems_have_one_table, tokens_carry_bits,
+    channels_have_one_stream, shells_follow_tables, shells_stand_between_source_and_sink,
+    some_system_is_well_formed, systems_have_one_output, systems_have_one_table, tokens_carry_bits,
 };
 use lid_base::{Items, Name};
 use lid_pearl::Pearl;
