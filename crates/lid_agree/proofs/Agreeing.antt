@@ -1,6 +1,5 @@
 -- A strict table of a design, seen at the points of its system, is a table of the system.
-use Rattle.std.proofs.Common.{◌≡◌, ◌⊎◌, ℕ, zero, suc, ◌+◌, ◌-◌, ◌<◌, ◌≤◌, Bool, true, false, List, [], ◌∷◌, length, get_or, map, option_map, Option, Some, None, slice_get, inl, inr, refl, sym, ◌∙◌, ap, subst, arith}
-use Rattle.std.specs.Bool.{⊤}
+use Rattle.std.proofs.Common.{◌≡◌, ◌⊎◌, ℕ, zero, suc, ◌+◌, ◌-◌, ◌<◌, ◌≤◌, Bool, false, List, [], ◌∷◌, length, get_or, map, option_map, Option, Some, None, slice_get, inl, inr, refl, sym, ◌∙◌, ap, subst, arith}
 use Rattle.std.specs.List.{AllByRecursion}
 use Rattle.std.specs.Option.{option_map_or}
 use Rattle.std.proofs.lemmas.List.{length-map}
@@ -8,7 +7,6 @@ use Rattle.std.proofs.lemmas.Option.{slice_get-get_or, slice_get-map, slice_get_
 use Rattle.std.proofs.lemmas.Simd.{map-map}
 use Rattle.lid_base.specs.Lists.{Among}
 use Rattle.lid_base.proofs.Lists.{all_among, among_get}
-use Rattle.lid_cover.specs.declared.Cover.{Cover}
 use Rattle.lid_cover.specs.Cover.{cover_value}
 use Rattle.lid_cover.specs.Masks.{packed}
 use Rattle.lid_design.specs.declared.Design.{Design}
@@ -27,17 +25,17 @@ use Rattle.lid_system.specs.declared.System.{System}
 use Rattle.lid_system.specs.declared.Node.{Node}
 use Rattle.lid_system.specs.declared.Node.TheVariants.{Source, Shell, Sink}
 use Rattle.lid_system.specs.declared.InBit.{InBit}
-use Rattle.lid_system.specs.declared.InBit.TheVariants.{Const, Port}
+use Rattle.lid_system.specs.declared.InBit.TheVariants.{Const}
 use Rattle.lid_system.specs.declared.Channel.{Channel}
 use Rattle.lid_system.specs.Systems.{Point, source_port, shell_net, ports_of, ports_at, IsWellFormed}
-use Rattle.lid_system.specs.Tables.{carried, driver_of, in_shell, in_bit, ins_of, input_bits, system_drivers, IsTable}
+use Rattle.lid_system.specs.Tables.{carried, in_shell, in_bit, ins_of, system_drivers, IsTable}
 use Rattle.lid_system.specs.Streams.{token_at, tokens_of, output_row as system_row, IsStream, IsOutput}
 use Rattle.lid_system.proofs.Points.{input_among, drives_shell, other_drivers, source_drivers, sink_drivers, port_driver, port_within, shell_is, first_node, last_node}
 use Rattle.lid_system.proofs.Walking.{limit, points_end, points_reads_driven}
 use Rattle.lid_system.proofs.Shelling.{read_bit}
 use Rattle.lid_system.proofs.Streaming.{each_same, inputs_agree, same_some}
-use Rattle.lid_agree.specs.Standing.{PassesOn, StandsFor, IsInput, StandsForAll}
-use Rattle.lid_agree.specs.Agreement.{column_of, seen, AreLed, IsShellOf, IsSystemOf}
+use Rattle.lid_agree.specs.Standing.{StandsFor, IsInput}
+use Rattle.lid_agree.specs.Agreement.{column_of, seen, IsShellOf, IsSystemOf}
 use Rattle.lid_agree.proofs.Inputs.{root_input_drives}
 use Rattle.lid_agree.proofs.Leading.{passed_value, given_bit, led_bit, led_bits}
 
@@ -200,7 +198,7 @@ each_name d columns k (name ∷ names) same =
     let first : get_or (root_inputs d) k [] ≡ name = ap (λ (n : ℕ). get_or (root_inputs d) n []) place ∙ same 0 (omega arith) in
     let head : column [] (get_or (root_inputs d) k []) ≡ column [] name = ap (column []) first in
     let tail : map (column_of d columns) (from_each source_port (k + 1) (length names)) ≡ map (column []) names =
-        each_name d columns (k + 1) names (λ j h. (let next : (k + 1) + j ≡ k + suc j = omega arith in ap (λ (n : ℕ). get_or (root_inputs d) n []) next ∙ same (suc j) (omega arith))) in
+    each_name d columns (k + 1) names (λ j h. (let next : (k + 1) + j ≡ k + suc j = omega arith in ap (λ (n : ℕ). get_or (root_inputs d) n []) next ∙ same (suc j) (omega arith))) in
     cc
 
 pub source_ports : (d : Design) (s : System) (of : IsSystemOf d s) → IsWellFormed s → map (column_of d of.columns) (ports_at s 0) ≡ map (column []) (root_inputs d)

@@ -1,5 +1,5 @@
 -- The data inputs of the root are driven by the rows.
-use Rattle.std.proofs.Common.{◌≡◌, ◌⊎◌, ℕ, zero, suc, ◌+◌, ◌<◌, Bool, true, false, not, cond, List, [], ◌∷◌, ◌++◌, length, get_or, Option, Some, None, slice_get, inl, inr, refl, sym, ◌∙◌, ap, subst, arith}
+use Rattle.std.proofs.Common.{◌≡◌, ℕ, zero, suc, ◌+◌, ◌<◌, Bool, true, false, not, cond, List, [], ◌∷◌, ◌++◌, length, get_or, Option, Some, None, slice_get, inl, refl, sym, subst, arith}
 use Rattle.std.specs.List.{flat_map, enumerate_from}
 use Rattle.std.specs.Option.{option_map_or}
 use Rattle.std.specs.Str.{bytes_eq}
@@ -8,7 +8,7 @@ use Rattle.lid_base.proofs.Lists.{among_left, among_right, among_at, filter_amon
 use Rattle.lid_design.specs.declared.Design.{Design}
 use Rattle.lid_design.specs.declared.Model.{Model}
 use Rattle.lid_design.specs.Network.{Driver, from_input}
-use Rattle.lid_design.specs.Columns.{Column, column, model_at, is_clock, data_inputs, places_of, port_at, cell_at, output_at, drivers_in, drivers, root_inputs}
+use Rattle.lid_design.specs.Columns.{Column, column, model_at, is_clock, data_inputs, places_of, cell_at, output_at, drivers_in, drivers, root_inputs}
 
 place_among : (names : List (List ℕ)) (k j : ℕ) → j < length names → Among {A = Driver Column} (from_input (k + j)) (places_of (get_or names j []) k names)
 place_among [] k j below = absurd (omega arith)

@@ -1,5 +1,5 @@
 -- What is led back has the same bit in each row of a strict table.
-use Rattle.std.proofs.Common.{◌≡◌, ◌⊎◌, ℕ, zero, suc, ◌<◌, Bool, true, false, List, [], ◌∷◌, length, map, Some, slice_get, inl, inr, refl, sym, ◌∙◌, ap, arith}
+use Rattle.std.proofs.Common.{◌≡◌, ℕ, zero, suc, ◌<◌, Bool, true, false, List, [], ◌∷◌, length, map, inl, inr, refl, sym, ◌∙◌, ap, arith}
 use Rattle.lid_base.specs.Lists.{Among}
 use Rattle.lid_base.proofs.Lists.{all_among}
 use Rattle.lid_cover.specs.declared.Cover.{Cover}

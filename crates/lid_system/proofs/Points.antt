@@ -4,17 +4,16 @@ use Rattle.std.specs.Bool.{⊤}
 use Rattle.std.specs.List.{AllByRecursion, flat_map}
 use Rattle.std.specs.Option.{option_map_or}
 use Rattle.std.proofs.lemmas.List.{length-map, get_or-map}
-use Rattle.std.proofs.lemmas.Option.{slice_get-get_or, get_or_from_slice_get, slice_get_within}
+use Rattle.std.proofs.lemmas.Option.{slice_get-get_or}
 use Rattle.std.proofs.lemmas.Bool.{eqb-true}
 use Rattle.lid_base.specs.Lists.{Among}
-use Rattle.lid_base.proofs.Lists.{among_left, among_right, among_append, flat_among, among_map, map_among, among_at, get_among, all_among, all_at}
+use Rattle.lid_base.proofs.Lists.{among_append, flat_among, among_map, map_among, among_at, all_among, all_at}
 use Rattle.lid_design.specs.declared.Flat.{Flat}
 use Rattle.lid_design.specs.declared.FlatLatch.{FlatLatch}
 use Rattle.lid_design.specs.declared.FlatCover.{FlatCover}
 use Rattle.lid_design.specs.Network.{Driver, from_input, from_latch, from_cover, from_connection, from_each}
 use Rattle.lid_design.specs.Walks.{read_now, read_before, IsDriven, IsDrivenOnce}
-use Rattle.lid_design.specs.Flat.{inputs_at, latch_at, cover_at, flat_drivers, latch_out, latch_init, IsFlat}
-use Rattle.lid_design.proofs.Parts.{input_drives, IsDriverOf, driver_is, flat_reads_driven}
+use Rattle.lid_design.specs.Flat.{inputs_at, latch_at, cover_at, flat_drivers}
 use Rattle.lid_pearl.specs.Pearls.{View}
 use Rattle.lid_system.specs.declared.System.{System}
 use Rattle.lid_system.specs.declared.Node.{Node}
@@ -22,7 +21,7 @@ use Rattle.lid_system.specs.declared.Node.TheVariants.{Source, Shell, Sink}
 use Rattle.lid_system.specs.declared.InBit.{InBit}
 use Rattle.lid_system.specs.declared.InBit.TheVariants.{Const, Port}
 use Rattle.lid_system.specs.declared.Channel.{Channel}
-use Rattle.lid_system.specs.Systems.{Point, source_port, shell_net, ports_of, ports_at, IsRead, IsShell, IsSink, IsNode, IsChannel, IsWellFormed}
+use Rattle.lid_system.specs.Systems.{Point, source_port, shell_net, ports_of, ports_at, IsRead, IsShell, IsNode, IsChannel, IsWellFormed}
 use Rattle.lid_system.specs.Tables.{carried, carried_at, driver_of, in_shell, source_width, net_drivers, system_drivers}
 
 -- a driver that is no input of the rows

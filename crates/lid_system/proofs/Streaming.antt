@@ -1,5 +1,5 @@
 -- Tokens and output rows are those of each table, since two tables agree where ports are.
-use Rattle.std.proofs.Common.{◌≡◌, ◌⊎◌, ℕ, zero, suc, ◌+◌, ◌-◌, ◌^◌, ◌<◌, ◌≤◌, Bool, false, List, [], ◌∷◌, length, get_or, map, Option, Some, None, slice_get, refl, sym, ◌∙◌, ap, subst, arith}
+use Rattle.std.proofs.Common.{◌≡◌, ℕ, zero, suc, ◌+◌, ◌-◌, ◌^◌, ◌<◌, ◌≤◌, Bool, false, List, [], ◌∷◌, length, get_or, map, Option, Some, None, slice_get, refl, sym, ◌∙◌, ap, subst, arith}
 use Rattle.std.specs.List.{AllByRecursion}
 use Rattle.std.specs.Option.{option_map_or}
 use Rattle.std.proofs.lemmas.List.{length-map, get_or-map}
@@ -9,7 +9,6 @@ use Rattle.lid_base.specs.Lists.{Among}
 use Rattle.lid_base.proofs.Lists.{all_among, all_at, map_among, among_at}
 use Rattle.lid_cover.specs.Masks.{packed}
 use Rattle.lid_design.specs.Network.{Table, from_each}
-use Rattle.lid_design.specs.Walks.{IsDriven}
 use Rattle.lid_design.proofs.Tables.{map_agree, has_table, has_one_table}
 use Rattle.lid_settle.specs.Rows.{bit_at}
 use Rattle.lid_settle.specs.Truth.{is_set}
