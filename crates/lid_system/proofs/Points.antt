@@ -80,6 +80,10 @@ input_among f k j among = by (among_append s (inputs_at k 0 f.ins) (flat_map (la
     by (inl here) = at_place k 0 f.ins s here
     by (inr later) = by_cell (among_append s (flat_map (latch_at k) f.latches) (flat_map (cover_at k) f.covers) later)
 
+some_driver : (rs : List (Driver Point)) (r : Driver Point) → Among r rs → 0 < length rs
+some_driver [] r among = absurd among
+some_driver (q ∷ rs) r among = omega arith
+
 module _ (s : System) where
   -- what drives a net of a shell
   pub shell_drivers : (i k : ℕ) (pearl : View) (ins : List InBit) → slice_get s.nodes i ≡ Some (Shell pearl ins) → system_drivers s (shell_net i k) ≡ map (in_shell s i ins) (flat_drivers pearl.flat k)
@@ -116,6 +120,13 @@ module _ (s : System) where
   unfolding system_drivers
   port_driver j r among = if_is (nat_lt j (option_map_or source_width (slice_get s.nodes 0) 0)) (from_input j) r among
 
+  pub port_drives : (j : ℕ) (columns : List (List ℕ)) → slice_get s.nodes 0 ≡ Some (Source columns) → j < length columns → Among {A = Driver Point} (from_input j) (system_drivers s (source_port j))
+  unfolding system_drivers
+  port_drives j columns here below =
+      let wide : option_map_or source_width (slice_get s.nodes 0) 0 ≡ length columns = ap (λ o. option_map_or source_width o 0) here in
+      let is : nat_lt j (option_map_or source_width (slice_get s.nodes 0) 0) ≡ true = ap (λ (n : ℕ). nat_lt j n) wide ∙ lt-ltb j (length columns) below in
+      subst (λ (b : Bool). Among {A = Driver Point} (from_input j) (cond b (from_input j ∷ []) [])) (sym is) (inl refl)
+
   -- and only where it has a column
   pub port_within : (j : ℕ) (r : Driver Point) (columns : List (List ℕ)) → slice_get s.nodes 0 ≡ Some (Source columns) → Among r (system_drivers s (source_port j)) → j < length columns
   unfolding system_drivers
@@ -129,11 +140,7 @@ module _ (s : System) where
       by false e none = absurd none
 
   pub port_driven : (j : ℕ) (columns : List (List ℕ)) → slice_get s.nodes 0 ≡ Some (Source columns) → j < length columns → IsDriven (system_drivers s) (source_port j)
-  unfolding system_drivers
-  port_driven j columns here below =
-      let wide : option_map_or source_width (slice_get s.nodes 0) 0 ≡ length columns = ap (λ o. option_map_or source_width o 0) here in
-      let is : nat_lt j (option_map_or source_width (slice_get s.nodes 0) 0) ≡ true = ap (λ (n : ℕ). nat_lt j n) wide ∙ lt-ltb j (length columns) below in
-      subst (λ (b : Bool). 0 < length {A = Driver Point} (cond b (from_input j ∷ []) [])) (sym is) (omega arith)
+  port_driven j columns here below = some_driver (system_drivers s (source_port j)) (from_input j) (port_drives j columns here below)
 
   -- a bit of a channel is one of the ports that it carries
   pub carried_is : (chan bit : ℕ) (c : Channel) → slice_get s.channels chan ≡ Some c → carried_at s chan bit ≡ get_or (carried s c) bit (source_port 0)
