@@ -140,7 +140,7 @@ module _ (s : System) where
         let port = get_or c.ports bit 0 in
         let inside : port < length (ports_at s c.from) = all_among (λ (p : ℕ). p < length (ports_at s c.from)) c.ports port is.below (among_at c.ports bit 0 read.3) in
         let at : carried_at s chan bit ≡ get_or (ports_at s c.from) port (source_port 0) =
-            carried_is chan bit c read.1 ∙ get_or-map (λ (p : ℕ). get_or (ports_at s c.from) p (source_port 0)) c.ports bit 0 (source_port 0) read.3 in
+        carried_is chan bit c read.1 ∙ get_or-map (λ (p : ℕ). get_or (ports_at s c.from) p (source_port 0)) c.ports bit 0 (source_port 0) read.3 in
         (c.from, subst (λ (p : Point). Among p (ports_at s c.from)) (sym at) (among_at (ports_at s c.from) port (source_port 0) inside))
 
     -- what the driver of an input reads is a port of a node

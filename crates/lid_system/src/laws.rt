@@ -18,6 +18,8 @@ ghost use Rattle.lid_system.specs.Systems.{Point, shell_net, ports_at, IsWellFor
 ghost use Rattle.lid_system.specs.Tables.{system_drivers, IsTable, nets_of, in_bit, input_bits, port_bits};
 ghost use Rattle.lid_system.specs.Streams.{token_at, IsStream, IsOutput};
 
+use lid_design::some_flat_part_meets_its_rules;
+
 /// A well-formed system has exactly one table for any rows: two tables agree at each port and at each
 /// net of a shell, since these are driven. This does nothing; its contract is the law.
 pub fn systems_have_one_table()
@@ -69,4 +71,6 @@ pub fn shells_follow_tables()
 /// The rules of systems can be met by a system with a shell. This does nothing; its contract is the law.
 pub fn some_system_is_well_formed()
     ensures { (s : System) × IsWellFormed s × (length s.nodes ≡ 3) × (length s.channels ≡ 2) }
-{}
+{
+    some_flat_part_meets_its_rules();
+}

@@ -8,10 +8,9 @@ pub use laws::{
     channels_have_one_stream, shells_follow_tables, some_system_is_well_formed,
     systems_have_one_output, systems_have_one_table, tokens_carry_bits,
 };
-pub use token::{pack, unpack};
-
 use lid_base::{Items, Name};
 use lid_pearl::Pearl;
+pub use token::{pack, unpack};
 
 /// Nodes and the channels between them. Node 0 is the source, the last node is the sink, and the
 /// others are shells.
@@ -26,7 +25,9 @@ pub struct System {
 #[derive(Drop)]
 pub enum Node {
     /// Gives the input rows: its port j has the bits of column j.
-    Source { columns: Items<Name> },
+    Source {
+        columns: Items<Name>,
+    },
     /// Runs a pearl, whose outputs are its ports.
     Shell {
         pearl: Pearl,
