@@ -132,9 +132,10 @@ impl Checked {
         self.facts.defaulted
     }
 
-    /// The data inputs of the root, in order.
+    /// The data inputs of the root, in order. There are at most as many as columns.
     pub fn inputs(&self) -> &[Name]
-        ensures { result.now ≡ root_inputs self.now }
+        ensures names { result.now ≡ root_inputs self.now }
+        ensures few { length result.now ≤ 1048576 }
     {
         self.facts.inputs.as_slice()
     }
