@@ -11,6 +11,8 @@ use Rattle.lid_texts.specs.declared.rows.VecFault.{VecFault}
 use Rattle.lid_texts.specs.declared.rows.VecFault.TheVariants as rows
 use Rattle.lid_rules.specs.declared.fault.CheckFault.{CheckFault}
 use Rattle.lid_rules.specs.declared.fault.CheckFault.TheVariants as check
+use Rattle.lid_channels.specs.declared.fault.NetFault.{NetFault}
+use Rattle.lid_channels.specs.declared.fault.NetFault.TheVariants as net
 use Rattle.lid_io.specs.Telling.{fault_line, path_text}
 
 abbrev pub which_word : Which → List ℕ
@@ -92,6 +94,10 @@ check_words (check.CombLoop path name) = codes "CombLoop" ∷ path_text path ∷
 check_words (check.OutputFromInput model output input) = codes "OutputFromInput" ∷ model ∷ output ∷ input ∷ []
 check_words check.Memory = []
 
+abbrev pub net_words : NetFault → List (List ℕ)
+net_words (net.TooManyChannels count) = codes "TooManyChannels" ∷ decimal count ∷ []
+net_words net.Memory = []
+
 -- status 1: the stage, the variant and its fields
 abbrev pub blif_line : BlifFault → List ℕ
 blif_line fault = fault_line (codes "blif" ∷ blif_words fault)
@@ -101,6 +107,9 @@ rows_line fault = fault_line (codes "rows" ∷ rows_words fault)
 
 abbrev pub check_line : CheckFault → List ℕ
 check_line fault = fault_line (codes "check" ∷ check_words fault)
+
+abbrev pub net_line : NetFault → List ℕ
+net_line fault = fault_line (codes "net" ∷ net_words fault)
 
 -- status 2
 abbrev pub usage_line : List ℕ

@@ -6,9 +6,10 @@ ghost use Rattle.lid_refusals.specs.Refusals.{refusal_line};
 ghost use Rattle.lid_refusals.specs.Saying.{Says};
 
 use crate::saying::{say, say_told};
-use crate::told::{told_of_blif, told_of_check, told_of_rows};
+use crate::told::{told_of_blif, told_of_check, told_of_net, told_of_rows};
 use lid_base::Sink;
 use lid_blif::BlifFault;
+use lid_channels::NetFault;
 use lid_io::Word;
 use lid_rules::CheckFault;
 use lid_texts::VecFault;
@@ -18,6 +19,7 @@ use lid_texts::VecFault;
 pub enum Refusal {
     Blif(BlifFault),
     Check(CheckFault),
+    Net(NetFault),
     Rows(VecFault),
 }
 
@@ -28,6 +30,7 @@ pub fn say_refusal<E: Sink>(err: &mut E, refusal: &Refusal)
     match refusal {
         Refusal::Blif(fault) => say_told(err, "blif", told_of_blif(*fault)),
         Refusal::Check(fault) => say_told(err, "check", told_of_check(fault)),
+        Refusal::Net(fault) => say_told(err, "net", told_of_net(*fault)),
         Refusal::Rows(fault) => say_told(err, "rows", told_of_rows(*fault)),
     }
 }

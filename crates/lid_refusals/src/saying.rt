@@ -66,6 +66,16 @@ fn say_limit<E: Sink>(err: &mut E, stage: &str, which: Which, count: u64)
     );
 }
 
+/// Says how many there are of what may not be so many.
+fn say_many<'a, E: Sink>(err: &mut E, stage: &'a str, fault: &'a str, count: u64)
+    ensures { Says E.written E.faults err.old err.new (fault_line (stage.now ∷ fault.now ∷ decimal count ∷ [])) }
+{
+    say(
+        err,
+        &[Word::Text(stage), Word::Text(fault), Word::Number(count)],
+    );
+}
+
 /// Says that rows were not the same at a second reading.
 fn say_changed<E: Sink>(err: &mut E, stage: &str, rows: u64, found: u64)
     ensures { Says E.written E.faults err.old err.new (fault_line (stage.now ∷ codes "Changed" ∷ decimal rows ∷ decimal found ∷ [])) }
@@ -192,6 +202,7 @@ pub fn say_told<'a, E: Sink>(err: &mut E, stage: &'a str, told: Told<'a>)
         Told::Bare(fault) => say_bare(err, stage, fault),
         Told::At(fault, line) => say_at(err, stage, fault, line),
         Told::Over(which, count) => say_limit(err, stage, which, count),
+        Told::Many(fault, count) => say_many(err, stage, fault, count),
         Told::Changed(rows, found) => say_changed(err, stage, rows, found),
         Told::One(fault, name) => say_name(err, stage, fault, name),
         Told::Two(fault, first, second) => say_names(err, stage, fault, first, second),

@@ -1,11 +1,12 @@
 //! What a refusal tells: its name and its fields, as the words of one line.
 
 ghost use Rattle.std.specs.Prelude.{◌≡◌};
-ghost use Rattle.lid_refusals.specs.Faults.{text_words, blif_words, rows_words, check_words};
+ghost use Rattle.lid_refusals.specs.Faults.{text_words, blif_words, rows_words, net_words, check_words};
 ghost use Rattle.lid_refusals.specs.Told.{told_words};
 
 use lid_base::{Items, Name, TextFault, Which};
 use lid_blif::BlifFault;
+use lid_channels::NetFault;
 use lid_rules::CheckFault;
 use lid_texts::VecFault;
 
@@ -18,6 +19,8 @@ pub enum Told<'a> {
     At(&'a str, u32),
     /// A limit that is exceeded, and the count.
     Over(Which, u64),
+    /// How many there are of what may not be so many.
+    Many(&'a str, u64),
     /// How many rows there were at first, and how many were found then.
     Changed(u64, u64),
     /// A name.
@@ -78,6 +81,16 @@ pub fn told_of_rows(fault: VecFault) -> Told<'static>
         VecFault::Limit { which, count } => Told::Over(which, count),
         VecFault::Changed { rows, found } => Told::Changed(rows, found),
         VecFault::Memory => Told::Nothing,
+    }
+}
+
+/// What a refusal of a system tells.
+pub fn told_of_net(fault: NetFault) -> Told<'static>
+    ensures { told_words result ≡ net_words fault }
+{
+    match fault {
+        NetFault::TooManyChannels { count } => Told::Many("TooManyChannels", count),
+        NetFault::Memory => Told::Nothing,
     }
 }
 

@@ -8,7 +8,7 @@ use Rattle.lid_cli.specs.declared.job.Job.{Job}
 use Rattle.lid_cli.specs.declared.job.Job.TheVariants.{Strict}
 use Rattle.lid_refusals.specs.Faults.{check_line}
 use Rattle.lid_top.specs.Outputs.{strict_output}
-use Rattle.lid_top.specs.Scripts.{Ending, refuses, gives, Script, fetch, again, decide, end, Rereading, Reading, good, bad, step, net_limit, rows_limit, net_reading, vec_reading, rows_script, check_script, strict_script, script_of, IsFetched, IsReread, IsChanged, IsChecked, IsUnchecked, EndsIn, Reaches}
+use Rattle.lid_top.specs.Scripts.{Ending, refuses, gives, Script, fetch, again, decide, end, Rereading, Reading, good, bad, step, net_limit, rows_limit, net_reading, vec_reading, rows_script, checked_script, strict_script, script_of, IsFetched, IsReread, IsChanged, IsChecked, IsUnchecked, EndsIn, Reaches}
 use Rattle.lid_top.specs.Statuses.{TellsAll}
 
 -- each step of the script without a fetch has one outcome
@@ -73,10 +73,10 @@ module _ (apart : (d : Design) (fault : CheckFault) → IsAccepted d → IsRefus
   )
 
   settled_job : (held : List ℕ → Option (List ℕ)) (job : Job) → IsSettled held (script_of job)
-  unfolding strict_script check_script rows_script
+  unfolding strict_script checked_script rows_script
   settled_job held (Strict net vec root) = λ bytes _.
       let rows : (d : Design) → IsSettled held (rows_script d vec) = λ d text _. settled_step held (vec_reading d text) (λ bits. end (gives (strict_output d bits))) (λ _. tt) in
-      settled_step held (net_reading bytes) (λ d. check_script d vec root)
+      settled_step held (net_reading bytes) (λ d. checked_script d vec root)
       (λ d. checked_once held root d (λ c. rows_script c vec) rows)
 
   pub told_job_ends_once : (held : List ℕ → Option (List ℕ)) (job : Job) (x y : Ending) → TellsAll held (script_of job) → EndsIn held (script_of job) x → EndsIn held (script_of job) y → x ≡ y

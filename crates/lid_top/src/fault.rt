@@ -2,11 +2,12 @@
 
 ghost use Rattle.std.specs.Prelude.{◌≡◌};
 ghost use Rattle.lid_refusals.specs.Saying.{Says};
-ghost use Rattle.lid_top.specs.Causes.{stop_status, stop_line, end_status, end_line, stop_of_blif, stop_of_rows, stop_of_check};
+ghost use Rattle.lid_top.specs.Causes.{stop_status, stop_line, end_status, end_line, stop_of_blif, stop_of_rows, stop_of_check, stop_of_net};
 
 use lid_base::Sink;
 use lid_blif::BlifFault;
 use lid_check::CheckFault;
+use lid_net::NetFault;
 use lid_refusals::{Refusal, say_denied, say_memory, say_read, say_refusal, say_write};
 use lid_texts::VecFault;
 
@@ -57,6 +58,16 @@ pub fn check_stop<'a>(fault: CheckFault) -> Stop<'a>
     match fault {
         CheckFault::Memory => Stop::Memory,
         _ => Stop::Refused(Refusal::Check(fault)),
+    }
+}
+
+/// Why a design has no system.
+pub fn net_stop<'a>(fault: NetFault) -> Stop<'a>
+    ensures { result ≡ stop_of_net fault }
+{
+    match fault {
+        NetFault::Memory => Stop::Memory,
+        _ => Stop::Refused(Refusal::Net(fault)),
     }
 }
 

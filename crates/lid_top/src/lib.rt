@@ -1,6 +1,7 @@
 //! The top call: a job's words, its files, and what it writes.
 #![tactic(auto)]
 
+mod check;
 mod fault;
 mod job;
 mod laws;
