@@ -1,5 +1,5 @@
 -- Lists that are made along an order, in which each number stands once.
-use Rattle.std.proofs.Common.{◌≡◌, ◌<◌, ◌≤◌, ◌+◌, ℕ, zero, suc, List, [], ◌∷◌, ◌++◌, length, map, take, get_or, inl, inr, refl, sym, ◌∙◌, ap, subst, arith}
+use Rattle.std.proofs.Common.{◌≡◌, ◌⊎◌, ◌<◌, ◌≤◌, ◌+◌, ℕ, zero, suc, List, [], ◌∷◌, ◌++◌, length, map, take, get_or, inl, inr, refl, sym, ◌∙◌, ap, subst, arith}
 use Rattle.std.specs.List.{AllByRecursion, flat_map, range_with_len}
 use Rattle.std.proofs.lemmas.List.{take_more, append-nil}
 use Rattle.std.proofs.lemmas.Grind.{flat_map-append}
@@ -79,3 +79,23 @@ flat_more {A} f order i h =
     ap (flat_map f) (take_more order i 0 h)
     ∙ flat_map-append f (take i order) (get_or order i 0 ∷ [])
     ∙ ap (λ (ys : List A). flat_map f (take i order) ++ ys) (append-nil (f (get_or order i 0)))
+
+pub range_more : (a n : ℕ) → range_with_len a (n + 1) ≡ range_with_len a n ++ (a + n) ∷ []
+range_more a zero = ap (range_with_len a) (let e : 0 + 1 ≡ 1 = omega arith in e) ∙ ap (λ (k : ℕ). k ∷ []) (let e : a ≡ a + 0 = omega arith in e)
+range_more a (suc n) =
+    let last : a + 1 + n ≡ a + suc n = omega arith in
+    let next : suc n + 1 ≡ suc (n + 1) = omega arith in
+    ap (range_with_len a) next ∙ ap (λ (ks : List ℕ). a ∷ ks) (range_more (a + 1) n ∙ ap (λ (k : ℕ). range_with_len (a + 1) n ++ k ∷ []) last)
+
+-- one more step of a list that is pushed along an order
+pub pushed_more : {A : Type 0} (f : ℕ → List A) (order : List ℕ) (i : ℕ) → i < length order → (old before new xs : List A) → xs ≡ f (get_or order i 0) → before ≡ old ++ flat_map f (take i order) → new ≡ before ++ xs → new ≡ old ++ flat_map f (take (i + 1) order)
+pushed_more {A} f order i h old before new xs is so_far pushed =
+    pushed
+    ∙ ap (λ (ys : List A). before ++ ys) is
+    ∙ ap (λ (ys : List A). ys ++ f (get_or order i 0)) so_far
+    ∙ append_assoc old (flat_map f (take i order)) (f (get_or order i 0))
+    ∙ ap (λ (ys : List A). old ++ ys) (sym (flat_more f order i h))
+  where
+    append_assoc : {B : Type 0} (xs ys zs : List B) → (xs ++ ys) ++ zs ≡ xs ++ (ys ++ zs)
+    append_assoc [] ys zs = refl
+    append_assoc {B} (x ∷ xs) ys zs = ap (λ (ws : List B). x ∷ ws) (append_assoc xs ys zs)

@@ -22,7 +22,7 @@ use Rattle.lid_flatten.specs.Standing.{PassesOn, StandsFor, IsInput, StandsForAl
 use Rattle.lid_flatten.specs.Parts.{driver_at, IsIn, StaysIn, IsPart, HasCover, IsFlattened}
 use Rattle.lid_flatten.specs.Inner.{buffer, counted_from, inner_driver, inner_drivers, latches_in, covers_in}
 use Rattle.lid_flatten.specs.declared.part.Part.{Part}
-use Rattle.lid_flatten.proofs.Nets.{is_input, as_net, IsMade, input_driver, cell_driver}
+use Rattle.lid_flatten.proofs.Nets.{is_input, as_net, IsMade, input_driver, cell_driver, no_driver}
 use Rattle.lid_flatten.proofs.Rules.{numbers_of, reads_here, below_or_not, rules}
 
 -- a number of a part, counted from its first
@@ -32,16 +32,16 @@ back part a inside = let first = inside.first in omega arith
 short : (part : Part) (a : ℕ) → IsIn part a → a - part.start < part.nets
 short part a inside = let first = inside.first in let last = inside.last in omega arith
 
-back_all : (part : Part) (as : List ℕ) → AllByRecursion (IsIn part) as → map (λ k. part.start + k) (map (λ a. a - part.start) as) ≡ as
+back_all : (part : Part) (ns : List ℕ) → AllByRecursion (IsIn part) ns → map (λ k. part.start + k) (map (λ a. a - part.start) ns) ≡ ns
 back_all part [] all = refl
-back_all part (a ∷ as) all =
+back_all part (a ∷ ns) all =
     let head = back part a all.0 in
-    let tail = back_all part as all.1 in
+    let tail = back_all part ns all.1 in
     cc
 
-short_all : (part : Part) (as : List ℕ) → AllByRecursion (IsIn part) as → AllByRecursion (λ a. a < part.nets) (map (λ a. a - part.start) as)
+short_all : (part : Part) (ns : List ℕ) → AllByRecursion (IsIn part) ns → AllByRecursion (λ a. a < part.nets) (map (λ a. a - part.start) ns)
 short_all part [] all = tt
-short_all part (a ∷ as) all = (short part a all.0, short_all part as all.1)
+short_all part (a ∷ ns) all = (short part a all.0, short_all part ns all.1)
 
 stays_below : (part : Part) (s : ColumnDriver) → StaysIn part s → AllByRecursion (λ a. a < part.nets) (numbers_of (counted_from part.start s))
 stays_below part (Input place) stays = absurd stays
@@ -186,12 +186,21 @@ module _ (drivers : List ColumnDriver) (part : Part) (is : IsPart drivers part) 
         by (inl same) = same
         by (inr none) = absurd none
 
+    past : (k : ℕ) → f.nets ≤ k → flat_drivers f k ≡ []
+    past k h = no_driver d inner order part.inputs f made k (let e = nets in let long_inner = long in omega arith)
+
+    driven : (k : ℕ) (s : Driver ℕ) → Among s (flat_drivers f k) → k < part.nets
+    driven k s among = elim (below_or_not k part.nets) [
+      | inl here ↦ here
+      | inr none ↦ absurd (subst (λ (xs : List (Driver ℕ)). Among s xs) (past k (let e = nets in omega arith)) among)
+    ]
+
     each : StandsForAll (λ k. shown_driver d (driver_at drivers k) ∷ []) (λ k. part.start + k) f
-    each k s h among = elim (below_or_not k part.inputs) [
+    each k s among = elim (below_or_not k part.inputs) [
       | inl given ↦
           inl (subst (λ (r : Driver ℕ). IsInput r) (sym (only s (from_input k) (flat_drivers f k) (input_driver d inner order part.inputs f made k given) among)) tt)
       | inr past ↦
-          (let here : k < part.nets = (let e = nets in omega arith) in
+          (let here : k < part.nets = driven k s among in
           let r = driver_at drivers (part.start + k) in
           let long_inner = long in
           let driver = cell_driver d inner order part.inputs f made k past (omega arith) in
@@ -205,5 +214,21 @@ module _ (drivers : List ColumnDriver) (part : Part) (is : IsPart drivers part) 
       nets = nets;
       ins = ins;
       outs = outs;
+      past = past;
       each = each;
     }
+
+  pub graph_by : (own : List ColumnDriver) → own ≡ inner → length drivers ≤ 1048576 → IsGraph (map driver_reads own)
+  graph_by own same few = subst (λ (xs : List ColumnDriver). IsGraph (map driver_reads xs)) (sym same) (is_graph few)
+
+  pub loops_by : (own : List ColumnDriver) → own ≡ inner → HasNoLoop (map driver_reads drivers) → HasNoLoop (map driver_reads own)
+  loops_by own same none = subst (λ (xs : List ColumnDriver). HasNoLoop (map driver_reads xs)) (sym same) (no_loop none)
+
+  pub flattened_by :
+      (own : List ColumnDriver) → own ≡ inner → (d : Design) (f : Flat) (order : List ℕ) → length drivers ≤ 1048576 → IsOrder (map driver_reads own) order
+      → AllByRecursion (HasCover d) drivers → f.nets ≡ part.nets → f.ins ≡ range_with_len 0 part.inputs → f.outs ≡ range_with_len part.inputs part.outputs
+      → f.latches ≡ latches_in own order → f.covers ≡ covers_in d own order → IsFlattened d drivers part f
+  flattened_by own same d f order few ordered covered nets ins outs latches covers =
+      flattened d f order few (subst (λ (xs : List ColumnDriver). IsOrder (map driver_reads xs) order) same ordered) covered nets ins outs
+      (latches ∙ ap (λ (xs : List ColumnDriver). latches_in xs order) same)
+      (covers ∙ ap (λ (xs : List ColumnDriver). covers_in d xs order) same)

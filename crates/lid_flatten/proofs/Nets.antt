@@ -48,6 +48,15 @@ inputs_one k a (suc n) first last = by (a == k) refl (inputs_one k (a + 1) n)
         past (suc a) zero h apart = absurd (omega arith)
         past (suc a) (suc k) h apart = let r = past a k (omega arith) (λ e. apart (ap suc e)) in omega arith
 
+-- a driver that was read
+pub read_at : (inner : List ColumnDriver) (k : ℕ) (s : ColumnDriver) → k < length inner → s ≡ get_or inner k s → s ≡ driver_at inner k
+read_at inner k s h is = is ∙ get_default inner k h
+  where
+    get_default : (xs : List ColumnDriver) (i : ℕ) → i < length xs → get_or xs i s ≡ get_or xs i (Input 0)
+    get_default [] i h = absurd (omega arith)
+    get_default (x ∷ xs) zero h = refl
+    get_default (x ∷ xs) (suc i) h = get_default xs i (omega arith)
+
 latch_elsewhere : (k j : ℕ) (s : ColumnDriver) → (j ≡ k → ⊥) → flat_map (latch_at k) (latches_of j s) ≡ []
 latch_elsewhere k j (Latch first input) apart = ap (λ (b : Bool). cond b (from_latch first input ∷ []) [] ++ []) (ne_eqb j k apart)
 latch_elsewhere k j (Input place) apart = refl
@@ -129,11 +138,11 @@ module _ (d : Design) (inner : List ColumnDriver) (order : List ℕ) (inputs : �
       let among = in_order k h in
       parts k
       ∙ ap (λ (ss : List (Driver ℕ)). drivers_by k ss (flat_map (cover_at k) (covers_in d inner order)))
-          (flat_flat (latch_at k) (λ j. latches_of j (driver_at inner j)) order
-          ∙ flat_one (latched k) k (λ j other. latch_elsewhere k j (driver_at inner j) other) order apart among)
+      (flat_flat (latch_at k) (λ j. latches_of j (driver_at inner j)) order
+      ∙ flat_one (latched k) k (λ j other. latch_elsewhere k j (driver_at inner j) other) order apart among)
       ∙ ap (λ (ss : List (Driver ℕ)). drivers_by k (latched k k) ss)
-          (flat_flat (cover_at k) (λ j. covers_of d j (driver_at inner j)) order
-          ∙ flat_one (covered k) k (λ j other. cover_elsewhere d k j (driver_at inner j) other) order apart among)
+      (flat_flat (cover_at k) (λ j. covers_of d j (driver_at inner j)) order
+      ∙ flat_one (covered k) k (λ j other. cover_elsewhere d k j (driver_at inner j) other) order apart among)
 
   pub input_driver : (k : ℕ) → k < inputs → flat_drivers f k ≡ from_input k ∷ []
   input_driver k h =
@@ -156,7 +165,7 @@ module _ (d : Design) (inner : List ColumnDriver) (order : List ℕ) (inputs : �
       parts k
       ∙ ap (λ (ss : List (Driver ℕ)). ss ++ (flat_map (latch_at k) (latches_in inner order) ++ flat_map (cover_at k) (covers_in d inner order))) (inputs_none k 0 inputs (λ i first last e. absurd (omega arith)))
       ∙ ap (λ (ss : List (Driver ℕ)). ss ++ flat_map (cover_at k) (covers_in d inner order))
-          (flat_flat (latch_at k) (λ j. latches_of j (driver_at inner j)) order
-          ∙ flat_none (latched k) k (λ j other. latch_elsewhere k j (driver_at inner j) other) order not_there)
+      (flat_flat (latch_at k) (λ j. latches_of j (driver_at inner j)) order
+      ∙ flat_none (latched k) k (λ j other. latch_elsewhere k j (driver_at inner j) other) order not_there)
       ∙ flat_flat (cover_at k) (λ j. covers_of d j (driver_at inner j)) order
       ∙ flat_none (covered k) k (λ j other. cover_elsewhere d k j (driver_at inner j) other) order not_there

@@ -54,10 +54,11 @@ pub record IsUnjudged (f : Flat) : Type 0 where
   pub covers : AllByRecursion IsFlatCover f.covers
 
 -- a part as a flat part: its net k is number `start + k`, the first nets are inputs, those after them
--- outputs, and each driver stands for that of the number
+-- outputs, each driver stands for that of the number, and nothing drives a number that is no net
 pub record IsFlattened (d : Design) (drivers : List ColumnDriver) (part : Part) (f : Flat) : Type 0 where
   pub rules : IsUnjudged f
   pub nets : f.nets ≡ part.nets
   pub ins : f.ins ≡ range_with_len 0 part.inputs
   pub outs : f.outs ≡ range_with_len part.inputs part.outputs
+  pub past : (k : ℕ) → f.nets ≤ k → flat_drivers f k ≡ []
   pub each : StandsForAll (λ k. shown_driver d (driver_at drivers k) ∷ []) (λ k. part.start + k) f

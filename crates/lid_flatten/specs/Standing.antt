@@ -1,5 +1,5 @@
 -- What the drivers of a flat part stand for, where its nets stand for columns.
-use Rattle.std.specs.Prelude.{◌≡◌, ◌⊎◌, ◌<◌, ⊤, ℕ, Bool, true, false, List, [], ◌∷◌, map}
+use Rattle.std.specs.Prelude.{◌≡◌, ◌⊎◌, ⊤, ℕ, Bool, true, false, List, [], ◌∷◌, map}
 use Rattle.lid_base.specs.Lists.{Among}
 use Rattle.lid_cover.specs.declared.Cover.{Cover}
 use Rattle.lid_cover.specs.Cover.{cover_value}
@@ -29,6 +29,5 @@ IsInput (from_connection k) = ⊥
 abbrev pub StandsForAll : {C : Type 0} → (C → List (Driver C)) → (ℕ → C) → Flat → Type 0
 StandsForAll {C} drivers col f =
     (k : ℕ) (s : Driver ℕ)
-    → k < f.nets
     → Among s (flat_drivers f k)
     → IsInput s ⊎ ((r : Driver C) × Among r (drivers (col k)) × StandsFor col s r)

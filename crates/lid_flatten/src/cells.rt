@@ -1,6 +1,6 @@
 //! The latches and covers of a flat part, in an order of its nets.
 
-ghost use Rattle.std.specs.Prelude.{◌≡◌, ◌++◌, ◌<◌, length, map, IfOk, OnOk};
+ghost use Rattle.std.specs.Prelude.{◌≡◌, ◌++◌, [], ◌∷◌, map, IfOk, OnOk};
 ghost use Rattle.lid_digraph.specs.Graphs.{IsOrder};
 ghost use Rattle.lid_elab.specs.Covers.{cover_in};
 ghost use Rattle.lid_elab.specs.Elaborations.{driver_reads};
@@ -97,9 +97,7 @@ fn push_cell(
             model,
             cell,
             inputs,
-        } => cells
-            .covers
-            .push(cell_cover(alloc, design, *model, *cell, inputs.as_slice(), net)?)?,
+        } => cells.covers.push(cell_cover(alloc, design, *model, *cell, inputs.as_slice(), net)?)?,
         ColumnDriver::Connection(other) => cells.covers.push(buffer_of(alloc, *other, net)?)?,
     }
     Ok(())

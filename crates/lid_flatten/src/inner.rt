@@ -23,11 +23,7 @@ fn count_all(alloc: Global, part: Part, numbers: &[u32]) -> Result<Items<u32>, A
 }
 
 /// A driver that reads numbers of a part alone, with these counted from the part's first.
-fn count_from(
-    alloc: Global,
-    part: Part,
-    driver: &ColumnDriver,
-) -> Result<ColumnDriver, AllocError>
+fn count_from(alloc: Global, part: Part, driver: &ColumnDriver) -> Result<ColumnDriver, AllocError>
     requires { StaysIn part driver.now }
     ensures { IfOk result (λ counted. counted ≡ counted_from part.start driver.now) }
 {

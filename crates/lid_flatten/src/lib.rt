@@ -2,9 +2,9 @@
 #![tactic(auto)]
 
 mod cells;
-mod flatten;
+mod flat;
 mod inner;
 mod part;
 
-pub use flatten::flatten;
+pub use flat::flatten;
 pub use part::Part;

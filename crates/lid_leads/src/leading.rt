@@ -2,12 +2,11 @@
 
 ghost use Rattle.std.specs.Prelude.{◌≡◌, ◌<◌, length, map};
 ghost use Rattle.std.specs.List.{AllByRecursion};
-ghost use Rattle.lid_design.specs.Walks.{read_now};
 ghost use Rattle.lid_digraph.specs.Graphs.{IsOrder};
 ghost use Rattle.lid_elab.specs.Covers.{no_cover};
-ghost use Rattle.lid_elab.specs.Elaborations.{shown_driver};
-ghost use Rattle.lid_strict.specs.Networks.{HasCover};
-ghost use Rattle.lid_leads.specs.Steps.{origin_at, origin_after, step_from, AreOrigins};
+ghost use Rattle.lid_elab.specs.Elaborations.{driver_reads};
+ghost use Rattle.lid_flatten.specs.Parts.{HasCover};
+ghost use Rattle.lid_leads.specs.Steps.{origin_at, origin_after, known_or, step_from, AreOrigins};
 
 use crate::origin::Origin;
 use crate::step::{Step, step_of};
@@ -27,16 +26,34 @@ pub fn lead_back(
 )
     requires none { none.now ≡ no_cover }
     requires size { length origins.old ≡ length drivers.now }
-    requires ordered { IsOrder (map read_now (map (shown_driver design.now) drivers.now)) order.now }
-    requires covers { AllByRecursion (λ driver. HasCover (shown_driver design.now driver)) drivers.now }
+    requires ordered { IsOrder (map driver_reads drivers.now) order.now }
+    requires covers { AllByRecursion (HasCover design.now) drivers.now }
     ensures size { length origins.new ≡ length drivers.now }
-    ensures origins { AreOrigins origins.old (map (shown_driver design.now) drivers.now) origins.new }
+    ensures origins { AreOrigins design.now drivers.now origins.old origins.new }
 {
     for number in order {
         let k = *number as usize;
-        if origins[k].is_none() {
-            origins[k] = next_origin(design, none, &drivers[k], origins);
-        }
+        let origin = found_origin(design, none, &drivers[k], k, origins);
+        origins[k] = origin;
+    }
+}
+
+/// The origin of a number: the one that is known, and else that by the step back from its driver.
+fn found_origin(
+    design: &Design,
+    none: &Cover,
+    driver: &ColumnDriver,
+    k: usize,
+    origins: &[Option<Origin>],
+) -> Option<Origin>
+    requires none { none.now ≡ no_cover }
+    requires cover { HasCover design.now driver.now }
+    requires there { k < length origins.now }
+    ensures { result ≡ known_or (origin_at origins.now k) (origin_after origins.now (step_from design.now driver.now)) }
+{
+    match origins[k] {
+        Some(origin) => Some(origin),
+        None => next_origin(design, none, driver, origins),
     }
 }
 
@@ -48,8 +65,8 @@ fn next_origin(
     origins: &[Option<Origin>],
 ) -> Option<Origin>
     requires none { none.now ≡ no_cover }
-    requires cover { HasCover (shown_driver design.now driver.now) }
-    ensures { result ≡ origin_after origins.now (step_from (shown_driver design.now driver.now)) }
+    requires cover { HasCover design.now driver.now }
+    ensures { result ≡ origin_after origins.now (step_from design.now driver.now) }
 {
     match step_of(design, none, driver) {
         Step::Ends(origin) => Some(origin),

@@ -3,8 +3,7 @@
 ghost use Rattle.std.specs.Prelude.{◌≡◌, [], ◌∷◌, length};
 ghost use Rattle.lid_cover.specs.Cover.{IsCover};
 ghost use Rattle.lid_elab.specs.Covers.{no_cover};
-ghost use Rattle.lid_elab.specs.Elaborations.{shown_driver};
-ghost use Rattle.lid_strict.specs.Networks.{HasCover};
+ghost use Rattle.lid_flatten.specs.Parts.{HasCover};
 ghost use Rattle.lid_leads.specs.Steps.{passes_on, cover_step, step_from};
 
 use crate::origin::Origin;
@@ -26,8 +25,8 @@ pub enum Step {
 /// The step back from what is driven so; `none` is a cover without inputs and rows.
 pub(crate) fn step_of(design: &Design, none: &Cover, driver: &ColumnDriver) -> Step
     requires none { none.now ≡ no_cover }
-    requires cover { HasCover (shown_driver design.now driver.now) }
-    ensures { result ≡ step_from (shown_driver design.now driver.now) }
+    requires cover { HasCover design.now driver.now }
+    ensures { result ≡ step_from design.now driver.now }
 {
     match driver {
         ColumnDriver::Input(place) => Step::Ends(Origin::Port {
@@ -80,5 +79,7 @@ fn is_buffer(cover: &Cover) -> bool
     requires inputs { cover.now.inputs ≡ 1 }
     ensures { result ≡ passes_on cover.now }
 {
-    !eval(cover, 0) && eval(cover, 1)
+    let zero = eval(cover, 0);
+    let one = eval(cover, 1);
+    !zero && one
 }

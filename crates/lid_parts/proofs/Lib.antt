@@ -1,0 +1,4 @@
+pub mod Inside
+pub mod Reading
+pub mod Beginning
+pub mod Assembling
