@@ -1,5 +1,5 @@
 -- The system of a design: whose nets stand for which columns, and where inputs are led back to.
-use Rattle.std.specs.Prelude.{◌≡◌, ◌⊎◌, ◌+◌, ◌<◌, ℕ, zero, suc, Bool, List, [], ◌∷◌, length, map, Some, slice_get, slice_index_or}
+use Rattle.std.specs.Prelude.{◌≡◌, ◌⊎◌, ◌+◌, ℕ, zero, suc, List, [], ◌∷◌, length, map, Some, slice_get, slice_index_or}
 use Rattle.lid_base.specs.Lists.{Among}
 use Rattle.lid_cover.specs.declared.Cover.{Cover}
 use Rattle.lid_cover.specs.Cover.{cover_value}
@@ -15,7 +15,7 @@ use Rattle.lid_system.specs.declared.InBit.{InBit}
 use Rattle.lid_system.specs.declared.InBit.TheVariants.{Const, Port}
 use Rattle.lid_system.specs.Systems.{Point, source_port, shell_net}
 use Rattle.lid_system.specs.Tables.{carried_at}
-use Rattle.lid_agree.specs.Standing.{PassesOn, StandsForAll}
+use Rattle.lid_flatten.specs.Standing.{PassesOn, StandsForAll}
 
 -- the column of a point, where net k of node i stands for `columns i k`: a port of the source stands for
 -- a data input of the root

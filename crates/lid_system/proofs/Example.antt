@@ -1,7 +1,6 @@
 -- A well-formed system: a source of one column, a shell with one input and one output, and a sink of one
 -- column, one after the other.
-use Rattle.std.proofs.Common.{◌≡◌, ◌⊎◌, ℕ, zero, suc, ◌+◌, ◌<◌, ◌≤◌, List, [], ◌∷◌, length, map, Some, None, slice_get, inl, inr, refl, sym, ◌∙◌, ap, subst, arith}
-use Rattle.std.specs.List.{AllByRecursion}
+use Rattle.std.proofs.Common.{◌≡◌, ℕ, zero, suc, ◌<◌, [], ◌∷◌, length, map, Some, None, slice_get, inl, refl, sym, ◌∙◌, subst, arith}
 use Rattle.std.proofs.lemmas.List.{length-map}
 use Rattle.lid_design.specs.declared.Flat.{Flat}
 use Rattle.lid_design.specs.Flat.{latch_init, IsFlat}
@@ -9,10 +8,9 @@ use Rattle.lid_pearl.specs.Pearls.{View}
 use Rattle.lid_system.specs.declared.System.{System}
 use Rattle.lid_system.specs.declared.Node.{Node}
 use Rattle.lid_system.specs.declared.Node.TheVariants.{Source, Shell, Sink}
-use Rattle.lid_system.specs.declared.InBit.{InBit}
-use Rattle.lid_system.specs.declared.InBit.TheVariants.{Const, Port}
+use Rattle.lid_system.specs.declared.InBit.TheVariants.{Port}
 use Rattle.lid_system.specs.declared.Channel.{Channel}
-use Rattle.lid_system.specs.Systems.{ports_at, IsRead, IsShell, IsSink, IsNode, IsChannel, Precedes, IsWellFormed}
+use Rattle.lid_system.specs.Systems.{ports_at, IsShell, IsSink, IsNode, IsChannel, Precedes, IsWellFormed}
 
 module _ (f : Flat) (rules : IsFlat f) (one_in : length f.ins ≡ 1) (one_out : length f.outs ≡ 1) where
   abbrev pearl : View

@@ -4,3 +4,4 @@ pub mod Shelling
 pub mod Streaming
 pub mod Packing
 pub mod Example
+pub mod Giving

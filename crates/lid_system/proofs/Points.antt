@@ -1,20 +1,19 @@
 -- Points of a system: what drives them, which of them ports are, and what inputs read.
-use Rattle.std.proofs.Common.{◌≡◌, ◌⊎◌, ℕ, zero, suc, ◌+◌, ◌<◌, ◌≤◌, ◌==◌, Bool, true, false, nat_lt, lt-ltb, cond, List, [], ◌∷◌, ◌++◌, length, get_or, map, Some, None, slice_get, inl, inr, refl, sym, ◌∙◌, ap, subst, Option, arith}
+use Rattle.std.proofs.Common.{◌≡◌, ◌⊎◌, ℕ, zero, suc, ◌+◌, ◌<◌, ◌≤◌, ◌==◌, Bool, true, false, nat_lt, lt-ltb, ltb-true, ◌-◌, cond, List, [], ◌∷◌, ◌++◌, length, get_or, map, Some, None, slice_get, inl, inr, refl, sym, ◌∙◌, ap, subst, Option, arith}
 use Rattle.std.specs.Bool.{⊤}
 use Rattle.std.specs.List.{AllByRecursion, flat_map}
 use Rattle.std.specs.Option.{option_map_or}
 use Rattle.std.proofs.lemmas.List.{length-map, get_or-map}
-use Rattle.std.proofs.lemmas.Option.{slice_get-get_or, get_or_from_slice_get, slice_get_within}
+use Rattle.std.proofs.lemmas.Option.{slice_get-get_or}
 use Rattle.std.proofs.lemmas.Bool.{eqb-true}
 use Rattle.lid_base.specs.Lists.{Among}
-use Rattle.lid_base.proofs.Lists.{among_left, among_right, among_append, flat_among, among_map, map_among, among_at, get_among, all_among, all_at}
+use Rattle.lid_base.proofs.Lists.{among_append, flat_among, among_map, map_among, among_at, all_among, all_at}
 use Rattle.lid_design.specs.declared.Flat.{Flat}
 use Rattle.lid_design.specs.declared.FlatLatch.{FlatLatch}
 use Rattle.lid_design.specs.declared.FlatCover.{FlatCover}
 use Rattle.lid_design.specs.Network.{Driver, from_input, from_latch, from_cover, from_connection, from_each}
 use Rattle.lid_design.specs.Walks.{read_now, read_before, IsDriven, IsDrivenOnce}
-use Rattle.lid_design.specs.Flat.{inputs_at, latch_at, cover_at, flat_drivers, latch_out, latch_init, IsFlat}
-use Rattle.lid_design.proofs.Parts.{input_drives, IsDriverOf, driver_is, flat_reads_driven}
+use Rattle.lid_design.specs.Flat.{inputs_at, latch_at, cover_at, flat_drivers}
 use Rattle.lid_pearl.specs.Pearls.{View}
 use Rattle.lid_system.specs.declared.System.{System}
 use Rattle.lid_system.specs.declared.Node.{Node}
@@ -22,7 +21,7 @@ use Rattle.lid_system.specs.declared.Node.TheVariants.{Source, Shell, Sink}
 use Rattle.lid_system.specs.declared.InBit.{InBit}
 use Rattle.lid_system.specs.declared.InBit.TheVariants.{Const, Port}
 use Rattle.lid_system.specs.declared.Channel.{Channel}
-use Rattle.lid_system.specs.Systems.{Point, source_port, shell_net, ports_of, ports_at, IsRead, IsShell, IsSink, IsNode, IsChannel, IsWellFormed}
+use Rattle.lid_system.specs.Systems.{Point, source_port, shell_net, ports_of, ports_at, IsRead, IsShell, IsNode, IsChannel, IsWellFormed}
 use Rattle.lid_system.specs.Tables.{carried, carried_at, driver_of, in_shell, source_width, net_drivers, system_drivers}
 
 -- a driver that is no input of the rows
@@ -81,6 +80,10 @@ input_among f k j among = by (among_append s (inputs_at k 0 f.ins) (flat_map (la
     by (inl here) = at_place k 0 f.ins s here
     by (inr later) = by_cell (among_append s (flat_map (latch_at k) f.latches) (flat_map (cover_at k) f.covers) later)
 
+some_driver : (rs : List (Driver Point)) (r : Driver Point) → Among r rs → 0 < length rs
+some_driver [] r among = absurd among
+some_driver (q ∷ rs) r among = omega arith
+
 module _ (s : System) where
   -- what drives a net of a shell
   pub shell_drivers : (i k : ℕ) (pearl : View) (ins : List InBit) → slice_get s.nodes i ≡ Some (Shell pearl ins) → system_drivers s (shell_net i k) ≡ map (in_shell s i ins) (flat_drivers pearl.flat k)
@@ -117,12 +120,27 @@ module _ (s : System) where
   unfolding system_drivers
   port_driver j r among = if_is (nat_lt j (option_map_or source_width (slice_get s.nodes 0) 0)) (from_input j) r among
 
-  pub port_driven : (j : ℕ) (columns : List (List ℕ)) → slice_get s.nodes 0 ≡ Some (Source columns) → j < length columns → IsDriven (system_drivers s) (source_port j)
+  pub port_drives : (j : ℕ) (columns : List (List ℕ)) → slice_get s.nodes 0 ≡ Some (Source columns) → j < length columns → Among {A = Driver Point} (from_input j) (system_drivers s (source_port j))
   unfolding system_drivers
-  port_driven j columns here below =
+  port_drives j columns here below =
       let wide : option_map_or source_width (slice_get s.nodes 0) 0 ≡ length columns = ap (λ o. option_map_or source_width o 0) here in
       let is : nat_lt j (option_map_or source_width (slice_get s.nodes 0) 0) ≡ true = ap (λ (n : ℕ). nat_lt j n) wide ∙ lt-ltb j (length columns) below in
-      subst (λ (b : Bool). 0 < length {A = Driver Point} (cond b (from_input j ∷ []) [])) (sym is) (omega arith)
+      subst (λ (b : Bool). Among {A = Driver Point} (from_input j) (cond b (from_input j ∷ []) [])) (sym is) (inl refl)
+
+  -- and only where it has a column
+  pub port_within : (j : ℕ) (r : Driver Point) (columns : List (List ℕ)) → slice_get s.nodes 0 ≡ Some (Source columns) → Among r (system_drivers s (source_port j)) → j < length columns
+  unfolding system_drivers
+  port_within j r columns here among = by (nat_lt j (option_map_or source_width (slice_get s.nodes 0) 0)) refl among
+    where
+      wide : option_map_or source_width (slice_get s.nodes 0) 0 ≡ length columns
+      wide = ap (λ o. option_map_or source_width o 0) here
+
+      by : (b : Bool) → nat_lt j (option_map_or source_width (slice_get s.nodes 0) 0) ≡ b → Among r (cond b (from_input j ∷ []) []) → j < length columns
+      by true e among = ltb-true j (length columns) (ap (λ (n : ℕ). nat_lt j n) (sym wide) ∙ e)
+      by false e none = absurd none
+
+  pub port_driven : (j : ℕ) (columns : List (List ℕ)) → slice_get s.nodes 0 ≡ Some (Source columns) → j < length columns → IsDriven (system_drivers s) (source_port j)
+  port_driven j columns here below = some_driver (system_drivers s (source_port j)) (from_input j) (port_drives j columns here below)
 
   -- a bit of a channel is one of the ports that it carries
   pub carried_is : (chan bit : ℕ) (c : Channel) → slice_get s.channels chan ≡ Some c → carried_at s chan bit ≡ get_or (carried s c) bit (source_port 0)
@@ -131,6 +149,46 @@ module _ (s : System) where
   module _ (well : IsWellFormed s) where
     pub shell_is : (i : ℕ) (pearl : View) (ins : List InBit) → slice_get s.nodes i ≡ Some (Shell pearl ins) → IsShell s i pearl ins
     shell_is i pearl ins here = well.each_node i (Shell pearl ins) here
+
+    -- the source is first, the sink is last, and shells are between
+    pub first_node : (columns : List (List ℕ)) × (slice_get s.nodes 0 ≡ Some (Source columns))
+    first_node = by s.nodes refl well.least
+      where
+        of_node : (node : Node) → slice_get s.nodes 0 ≡ Some node → IsNode s 0 node → (columns : List (List ℕ)) × (slice_get s.nodes 0 ≡ Some (Source columns))
+        of_node (Source columns) here is = (columns, here)
+        of_node (Shell pearl ins) here is = absurd (let first = is.after_source in omega arith)
+        of_node (Sink columns ins) here is = absurd (let last = is.last in let least = well.least in omega arith)
+
+        by : (nodes : List Node) → s.nodes ≡ nodes → 2 ≤ length s.nodes → (columns : List (List ℕ)) × (slice_get s.nodes 0 ≡ Some (Source columns))
+        by [] same least = absurd (let none : length s.nodes ≡ 0 = ap length same in omega arith)
+        by (node ∷ nodes) same least =
+            let here : slice_get s.nodes 0 ≡ Some node = ap (λ (xs : List Node). slice_get xs 0) same in
+            of_node node here (well.each_node 0 node here)
+
+    pub last_node : (columns : List (List ℕ)) × (ins : List InBit) × (slice_get s.nodes (length s.nodes - 1) ≡ Some (Sink columns ins))
+    last_node = of_node found.0 found.1 (well.each_node i found.0 found.1)
+      where
+        i : ℕ
+        i = length s.nodes - 1
+
+        found : (node : Node) × (slice_get s.nodes i ≡ Some node)
+        found = let least = well.least in (get_or s.nodes i (Source []), slice_get-get_or s.nodes i (Source []) (omega arith))
+
+        of_node : (node : Node) → slice_get s.nodes i ≡ Some node → IsNode s i node → (columns : List (List ℕ)) × (ins : List InBit) × (slice_get s.nodes i ≡ Some (Sink columns ins))
+        of_node (Source columns) here is = absurd (let first : i ≡ 0 = is in let least = well.least in omega arith)
+        of_node (Shell pearl ins) here is = absurd (let before : i + 1 < length s.nodes = is.before_sink in omega arith)
+        of_node (Sink columns ins) here is = (columns, ins, here)
+
+    pub inner_node : (i : ℕ) → 0 < i → i + 1 < length s.nodes → (pearl : View) × (ins : List InBit) × (slice_get s.nodes i ≡ Some (Shell pearl ins))
+    inner_node i after before = of_node found.0 found.1 (well.each_node i found.0 found.1)
+      where
+        found : (node : Node) × (slice_get s.nodes i ≡ Some node)
+        found = (get_or s.nodes i (Source []), slice_get-get_or s.nodes i (Source []) (omega arith))
+
+        of_node : (node : Node) → slice_get s.nodes i ≡ Some node → IsNode s i node → (pearl : View) × (ins : List InBit) × (slice_get s.nodes i ≡ Some (Shell pearl ins))
+        of_node (Source columns) here is = absurd (let first : i ≡ 0 = is in omega arith)
+        of_node (Shell pearl ins) here is = (pearl, ins, here)
+        of_node (Sink columns ins) here is = absurd (let last = is.last in omega arith)
 
     -- what an input reads that is not a constant is a port of a node
     pub carried_port : (i chan bit : ℕ) → IsRead s i (Port chan bit) → (n : ℕ) × Among (carried_at s chan bit) (ports_at s n)

@@ -1,13 +1,10 @@
 -- The nets of a shell are a strict table of its flat part, so its pearl follows them.
-use Rattle.std.proofs.Common.{◌≡◌, ℕ, zero, suc, ◌+◌, ◌<◌, Bool, true, false, List, [], ◌∷◌, length, get_or, map, Some, slice_get, refl, sym, ◌∙◌, ap, subst, arith}
-use Rattle.std.specs.List.{AllByRecursion}
+use Rattle.std.proofs.Common.{◌≡◌, ℕ, zero, suc, ◌+◌, ◌<◌, Bool, true, false, List, [], length, get_or, map, Some, slice_get, refl, sym, ◌∙◌, ap, subst, arith}
 use Rattle.std.specs.Option.{option_map_or}
 use Rattle.std.proofs.lemmas.List.{length-map}
 use Rattle.std.proofs.lemmas.Simd.{map-map}
 use Rattle.std.proofs.Math.ListN.{get_or-map}
-use Rattle.lid_base.specs.Lists.{Among}
 use Rattle.lid_base.proofs.Lists.{all_among}
-use Rattle.lid_cover.specs.declared.Cover.{Cover}
 use Rattle.lid_cover.specs.Cover.{cover_value}
 use Rattle.lid_design.specs.declared.Flat.{Flat}
 use Rattle.lid_design.specs.Network.{Driver, from_input, from_latch, from_cover, from_connection, Table, bit_of, IsStrict, from_each}
@@ -16,11 +13,10 @@ use Rattle.lid_pearl.specs.Pearls.{View, Shows, Steps}
 use Rattle.lid_pearl.proofs.Following.{shown_outs, next_state, next_outs}
 use Rattle.lid_pearl.proofs.Reordering.{all_from_each}
 use Rattle.lid_system.specs.declared.System.{System}
-use Rattle.lid_system.specs.declared.Node.{Node}
-use Rattle.lid_system.specs.declared.Node.TheVariants.{Source, Shell, Sink}
+use Rattle.lid_system.specs.declared.Node.TheVariants.{Shell}
 use Rattle.lid_system.specs.declared.InBit.{InBit}
 use Rattle.lid_system.specs.declared.InBit.TheVariants.{Const, Port}
-use Rattle.lid_system.specs.Systems.{Point, source_port, shell_net, ports_of, ports_at, IsWellFormed}
+use Rattle.lid_system.specs.Systems.{Point, shell_net, ports_of, IsWellFormed}
 use Rattle.lid_system.specs.Tables.{constant, driver_of, in_shell, in_bit, ins_of, input_bits, port_bits, nets_of, system_drivers, IsTable}
 use Rattle.lid_system.proofs.Points.{shell_drives, shell_is}
 
@@ -58,7 +54,7 @@ module _ (s : System) (rows : List (List Bool)) (b : Table Point) (i : ℕ) (pea
   pub ports_are : (t : ℕ) → port_bits s b i t ≡ map (nets t) pearl.flat.outs
   ports_are t = ap (λ o. map (b t) (option_map_or (ports_of i) o [])) here ∙ map-map (b t) (shell_net i) pearl.flat.outs
 
-  read_bit : (t : ℕ) (x : InBit) → bit_of rows b t (driver_of s x) ≡ in_bit s b t x
+  pub read_bit : (t : ℕ) (x : InBit) → bit_of rows b t (driver_of s x) ≡ in_bit s b t x
   read_bit t (Const bit) = constant_value bit
   read_bit t (Port chan bit) = refl
 

@@ -1,5 +1,5 @@
 -- Tokens and output rows are those of each table, since two tables agree where ports are.
-use Rattle.std.proofs.Common.{◌≡◌, ◌⊎◌, ℕ, zero, suc, ◌+◌, ◌-◌, ◌^◌, ◌<◌, ◌≤◌, Bool, false, List, [], ◌∷◌, length, get_or, map, Option, Some, None, slice_get, refl, sym, ◌∙◌, ap, subst, arith}
+use Rattle.std.proofs.Common.{◌≡◌, ℕ, zero, suc, ◌+◌, ◌-◌, ◌^◌, ◌<◌, ◌≤◌, Bool, false, List, [], ◌∷◌, length, get_or, map, Option, Some, None, slice_get, refl, sym, ◌∙◌, ap, subst, arith}
 use Rattle.std.specs.List.{AllByRecursion}
 use Rattle.std.specs.Option.{option_map_or}
 use Rattle.std.proofs.lemmas.List.{length-map, get_or-map}
@@ -9,7 +9,6 @@ use Rattle.lid_base.specs.Lists.{Among}
 use Rattle.lid_base.proofs.Lists.{all_among, all_at, map_among, among_at}
 use Rattle.lid_cover.specs.Masks.{packed}
 use Rattle.lid_design.specs.Network.{Table, from_each}
-use Rattle.lid_design.specs.Walks.{IsDriven}
 use Rattle.lid_design.proofs.Tables.{map_agree, has_table, has_one_table}
 use Rattle.lid_settle.specs.Rows.{bit_at}
 use Rattle.lid_settle.specs.Truth.{is_set}
@@ -28,7 +27,7 @@ use Rattle.lid_system.proofs.Walking.{limit, points_end, points_reads_driven}
 use Rattle.lid_system.proofs.Shelling.{each_length, each_get}
 
 -- lists of so many numbers' values that agree
-each_same : {A : Type 0} (f g : ℕ → A) (k n : ℕ) → ((t : ℕ) → t < k + n → f t ≡ g t) → from_each f k n ≡ from_each g k n
+pub each_same : {A : Type 0} (f g : ℕ → A) (k n : ℕ) → ((t : ℕ) → t < k + n → f t ≡ g t) → from_each f k n ≡ from_each g k n
 each_same f g k zero same = refl
 each_same f g k (suc n) same =
     let head : f k ≡ g k = same k (omega arith) in
@@ -44,7 +43,7 @@ item_at [] i h = absurd (omega arith)
 item_at (x ∷ xs) zero h = (x, refl)
 item_at (x ∷ xs) (suc i) h = item_at xs i (omega arith)
 
-same_some : {A : Type 0} (o : Option A) (x y : A) → o ≡ Some x → o ≡ Some y → x ≡ y
+pub same_some : {A : Type 0} (o : Option A) (x y : A) → o ≡ Some x → o ≡ Some y → x ≡ y
 same_some o x y e e' = let f : Some x ≡ Some y = sym e ∙ e' in cc
 
 module _ (s : System) where
@@ -156,7 +155,7 @@ module _ (s : System) where
         let found = carried_port s well i chan bit read in
         tables_agree b b' table table' t below found.0 (carried_at s chan bit) found.1
 
-    inputs_agree : (b b' : Table Point) → IsTable s rows b → IsTable s rows b' → (i t : ℕ) → t < length rows → input_bits s b i t ≡ input_bits s b' i t
+    pub inputs_agree : (b b' : Table Point) → IsTable s rows b → IsTable s rows b' → (i t : ℕ) → t < length rows → input_bits s b i t ≡ input_bits s b' i t
     inputs_agree b b' table table' i t below = by (slice_get s.nodes i) refl
       where
         by : (o : Option Node) → slice_get s.nodes i ≡ o → map (in_bit s b t) (option_map_or ins_of o []) ≡ map (in_bit s b' t) (option_map_or ins_of o [])

@@ -1,22 +1,20 @@
 -- No walk of a system is long: the last entry into a shell comes from a port, and a walk to a port
 -- never left the shell whose port it is.
-use Rattle.std.proofs.Common.{◌≡◌, ◌⊎◌, ℕ, zero, suc, ◌+◌, ◌*◌, ◌<◌, ◌≤◌, Bool, false, List, [], ◌∷◌, ◌++◌, length, get_or, map, Option, Some, None, slice_get, inl, inr, append-nil, eq-zero-or-pos, ◌-◌, refl, sym, ◌∙◌, ap, subst, arith}
-use Rattle.std.specs.List.{AllByRecursion}
+use Rattle.std.proofs.Common.{◌≡◌, ◌⊎◌, ℕ, zero, suc, ◌+◌, ◌<◌, ◌≤◌, false, List, [], ◌∷◌, ◌++◌, length, get_or, map, Option, Some, None, slice_get, inl, inr, append-nil, eq-zero-or-pos, ◌-◌, refl, sym, ap, subst, arith}
 use Rattle.std.specs.Option.{option_map_or}
 use Rattle.lid_base.specs.Lists.{Among}
-use Rattle.lid_base.proofs.Lists.{among_left, among_map, map_among}
-use Rattle.lid_design.specs.declared.Flat.{Flat}
-use Rattle.lid_design.specs.Network.{Driver, from_input, from_latch, from_cover, from_connection, from_each}
+use Rattle.lid_base.proofs.Lists.{among_left, map_among}
+use Rattle.lid_design.specs.Network.{Driver, from_input, from_latch, from_cover, from_connection}
 use Rattle.lid_design.specs.Walks.{read_now, read_before, Feeds, Walk, WalksEnd, IsDriven, AreReadsDriven}
-use Rattle.lid_design.specs.Flat.{flat_drivers, IsFlat}
+use Rattle.lid_design.specs.Flat.{flat_drivers}
 use Rattle.lid_design.proofs.Parts.{flat_walks_end, flat_reads_driven}
 use Rattle.lid_pearl.specs.Pearls.{View}
 use Rattle.lid_system.specs.declared.System.{System}
 use Rattle.lid_system.specs.declared.Node.{Node}
 use Rattle.lid_system.specs.declared.Node.TheVariants.{Source, Shell, Sink}
 use Rattle.lid_system.specs.declared.InBit.{InBit}
-use Rattle.lid_system.specs.declared.InBit.TheVariants.{Const, Port}
-use Rattle.lid_system.specs.Systems.{Point, source_port, shell_net, ports_of, ports_at, IsShell, IsNode, IsWellFormed}
+use Rattle.lid_system.specs.declared.InBit.TheVariants.{Const}
+use Rattle.lid_system.specs.Systems.{Point, source_port, shell_net, ports_of, ports_at, IsShell, IsWellFormed}
 use Rattle.lid_system.specs.Tables.{driver_of, in_shell, system_drivers}
 use Rattle.lid_system.proofs.Points.{among_each, input_among, drives_shell, shell_driven, other_drivers, source_drivers, sink_drivers, port_driver, read_port, each_read, ports_driven, shell_is}
 

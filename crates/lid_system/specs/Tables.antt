@@ -1,8 +1,8 @@
 -- The table of a system: a bit for each row, port of the source and net of a shell.
-use Rattle.std.specs.Prelude.{◌≡◌, ◌<◌, ℕ, Bool, false, not, if◌then◌else◌, List, [], ◌∷◌, length, map, nat_lt, slice_get, slice_index_or}
+use Rattle.std.specs.Prelude.{ℕ, Bool, false, not, if◌then◌else◌, List, [], ◌∷◌, length, map, nat_lt, slice_get, slice_index_or}
 use Rattle.std.specs.Option.{option_map_or}
 use Rattle.lid_cover.specs.declared.Cover.{Cover}
-use Rattle.lid_design.specs.Network.{Driver, from_input, from_latch, from_cover, from_connection, Table, IsStrict, from_each}
+use Rattle.lid_design.specs.Network.{Driver, from_input, from_latch, from_cover, from_connection, Table, IsStrict}
 use Rattle.lid_design.specs.Flat.{flat_drivers}
 use Rattle.lid_system.specs.declared.System.{System}
 use Rattle.lid_system.specs.declared.Node.{Node}

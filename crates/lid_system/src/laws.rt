@@ -1,6 +1,6 @@
 //! Laws of systems, their tables and their streams.
 
-ghost use Rattle.std.specs.Prelude.{◌≡◌, ◌<◌, ◌+◌, ◌^◌, ℕ, Bool, List, Some, length, map, slice_get};
+ghost use Rattle.std.specs.Prelude.{◌≡◌, ◌<◌, ◌+◌, ◌-◌, ◌^◌, ◌++◌, ℕ, Bool, List, Some, length, map, slice_get, take};
 ghost use Rattle.std.specs.List.{AllByRecursion};
 ghost use Rattle.lid_design.specs.Network.{Table, IsStrict, from_each};
 ghost use Rattle.lid_design.specs.Walks.{IsDriven, HasTable, HasOneTable};
@@ -10,7 +10,7 @@ ghost use Rattle.lid_settle.specs.Rows.{bit_at};
 ghost use Rattle.lid_settle.specs.Truth.{is_set};
 ghost use Rattle.lid_pearl.specs.Pearls.{View, Shows, Steps};
 ghost use Rattle.lid_system.specs.declared.System.{System};
-ghost use Rattle.lid_system.specs.declared.Node.TheVariants.{Shell};
+ghost use Rattle.lid_system.specs.declared.Node.TheVariants.{Source, Shell, Sink};
 ghost use Rattle.lid_system.specs.declared.InBit.{InBit};
 ghost use Rattle.lid_system.specs.declared.InBit.TheVariants.{Port};
 ghost use Rattle.lid_system.specs.declared.Channel.{Channel};
@@ -19,6 +19,14 @@ ghost use Rattle.lid_system.specs.Tables.{system_drivers, IsTable, nets_of, in_b
 ghost use Rattle.lid_system.specs.Streams.{token_at, IsStream, IsOutput};
 
 use lid_design::some_flat_part_meets_its_rules;
+
+/// A well-formed system has its source first, its sink last, and shells between them. This does nothing;
+/// its contract is the law.
+pub fn shells_stand_between_source_and_sink()
+    ensures first { (s : System) → IsWellFormed s → (columns : List (List ℕ)) × (slice_get s.nodes 0 ≡ Some (Source columns)) }
+    ensures last { (s : System) → IsWellFormed s → (columns : List (List ℕ)) × (ins : List InBit) × (slice_get s.nodes (length s.nodes - 1) ≡ Some (Sink columns ins)) }
+    ensures between { (s : System) (i : ℕ) → IsWellFormed s → 0 < i → i + 1 < length s.nodes → (pearl : View) × (ins : List InBit) × (slice_get s.nodes i ≡ Some (Shell pearl ins)) }
+{}
 
 /// A well-formed system has exactly one table for any rows: two tables agree at each port and at each
 /// net of a shell, since these are driven. This does nothing; its contract is the law.
@@ -53,6 +61,20 @@ pub fn systems_have_one_output()
 pub fn tokens_carry_bits()
     ensures packs { (s : System) (b : Table Point) (t : ℕ) (c : ℕ) (channel : Channel) → IsWellFormed s → slice_get s.channels c ≡ Some channel → packed (map (bit_at (port_bits s b channel.from t)) channel.ports) ≡ token_at s b channel t }
     ensures unpacks { (s : System) (b : Table Point) (t chan bit : ℕ) (channel : Channel) → slice_get s.channels chan ≡ Some channel → bit < length channel.ports → is_set (token_at s b channel t) bit ≡ in_bit s b t (Port chan bit) }
+{}
+
+/// The ports of the source have the bits of the row. This does nothing; its contract is the law.
+pub fn sources_give_rows()
+    ensures { (s : System) (rows : List (List Bool)) (b : Table Point) (t : ℕ) (columns : List (List ℕ)) (row : List Bool) → slice_get s.nodes 0 ≡ Some (Source columns) → IsTable s rows b → slice_get rows t ≡ Some row → length row ≡ length columns → port_bits s b 0 t ≡ row }
+{}
+
+/// The bits of the first rows do not depend on later rows: a table of all rows is one of the first rows,
+/// and these have the first tokens of each stream and the first output rows. This does nothing; its
+/// contract is the law.
+pub fn first_rows_have_the_first_tokens()
+    ensures table { (s : System) (rows more : List (List Bool)) (b : Table Point) → IsTable s (rows ++ more) b → IsTable s rows b }
+    ensures stream { (s : System) (rows more : List (List Bool)) (c : ℕ) (tokens : List ℕ) → IsWellFormed s → c < length s.channels → IsStream s (rows ++ more) c tokens → IsStream s rows c (take (length rows) tokens) }
+    ensures output { (s : System) (rows more outs : List (List Bool)) → IsWellFormed s → IsOutput s (rows ++ more) outs → IsOutput s rows (take (length rows) outs) }
 {}
 
 /// The nets of a shell are a strict table of its flat part, with the bits of the shell's inputs as its

@@ -5,7 +5,8 @@ mod laws;
 mod token;
 
 pub use laws::{
-    channels_have_one_stream, shells_follow_tables, some_system_is_well_formed,
+    channels_have_one_stream, first_rows_have_the_first_tokens, shells_follow_tables,
+    shells_stand_between_source_and_sink, some_system_is_well_formed, sources_give_rows,
     systems_have_one_output, systems_have_one_table, tokens_carry_bits,
 };
 use lid_base::{Items, Name};

@@ -1,4 +1,4 @@
-use Rattle.std.proofs.Common.{◌<◌, ◌+◌, length, arith}
+use Rattle.std.proofs.Common.{◌<◌, length, arith}
 use Rattle.lid_system.proofs.Points.{shell_is}
 use Rattle.lid_system.proofs.Shelling.{shell_table, shell_shows, shell_goes, shell_gives}
 use Rattle.lid_system.proofs.laws.shells_follow_tables.Goals as goal
