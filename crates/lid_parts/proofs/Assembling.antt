@@ -94,10 +94,10 @@ module _ (d : Design) (judged : IsJudged d) (drivers_of : List ColumnDriver) (st
   pub ports_few : part.inputs + part.outputs ≤ part.nets
   ports_few =
       let whole : length own ≡ length (data_inputs d m) + (length m.outputs + length begin.0) =
-          ap length begin.1
-          ∙ length-append (map (column path) (data_inputs d m)) (map (column path) m.outputs ++ begin.0)
-          ∙ ap (λ (n : ℕ). n + length (map (column path) m.outputs ++ begin.0)) (length-map (data_inputs d m) (column path))
-          ∙ ap (λ (n : ℕ). length (data_inputs d m) + n) (length-append (map (column path) m.outputs) begin.0 ∙ ap (λ (n : ℕ). n + length begin.0) (length-map m.outputs (column path))) in
+      ap length begin.1
+      ∙ length-append (map (column path) (data_inputs d m)) (map (column path) m.outputs ++ begin.0)
+      ∙ ap (λ (n : ℕ). n + length (map (column path) m.outputs ++ begin.0)) (length-map (data_inputs d m) (column path))
+      ∙ ap (λ (n : ℕ). length (data_inputs d m) + n) (length-append (map (column path) m.outputs) begin.0 ∙ ap (λ (n : ℕ). n + length begin.0) (length-map m.outputs (column path))) in
       let ins : part.inputs ≡ length (data_inputs d m) = inputs ∙ ap length data_are in
       let outs : part.outputs ≡ length m.outputs = outputs ∙ ap length outputs_are in
       omega arith
@@ -106,7 +106,7 @@ module _ (d : Design) (judged : IsJudged d) (drivers_of : List ColumnDriver) (st
   there =
       let first = stands.long in
       let whole : length (columns d) ≡ length stands.before + (length own + length stands.after) =
-          ap length stands.parts ∙ length-append stands.before (own ++ stands.after) ∙ ap (λ (n : ℕ). length stands.before + n) (length-append own stands.after) in
+      ap length stands.parts ∙ length-append stands.before (own ++ stands.after) ∙ ap (λ (n : ℕ). length stands.before + n) (length-append own stands.after) in
       let all = is.whole in
       let drivers_long = length-map drivers_of (shown_driver d) in
       omega arith
@@ -238,5 +238,5 @@ module _ (d : Design) (judged : IsJudged d) (drivers_of : List ColumnDriver) (st
     begins = begin.1;
     inputs = inputs ∙ ap length data_are;
     outputs = outputs ∙ ap length outputs_are;
-    part = record { ports = ports_few; there = there; inner = stays };
+    inner = record { ports = ports_few; there = there; inner = stays };
   }

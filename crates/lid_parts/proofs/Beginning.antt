@@ -1,5 +1,5 @@
 -- The columns of a pearl begin with those of its data inputs and of its outputs.
-use Rattle.std.proofs.Common.{◌≡◌, ℕ, zero, suc, ◌+◌, ◌<◌, ◌≤◌, ◌==◌, Bool, true, false, not, ◌&&◌, ◌||◌, cond, List, [], ◌∷◌, ◌++◌, length, map, filter, Option, Some, None, option_and_then, slice_get, inl, inr, refl, sym, ◌∙◌, ap, subst, arith}
+use Rattle.std.proofs.Common.{◌≡◌, ◌⊎◌, ℕ, zero, suc, ◌+◌, ◌<◌, ◌≤◌, ◌==◌, Bool, true, false, not, ◌&&◌, ◌||◌, cond, List, [], ◌∷◌, ◌++◌, length, map, filter, Option, Some, None, option_and_then, slice_get, inl, inr, refl, sym, ◌∙◌, ap, subst, arith}
 use Rattle.std.specs.Option.{option_map_or}
 use Rattle.std.specs.List.{flat_map, count_by, enumerate_from}
 use Rattle.std.specs.Str.{bytes_eq}
@@ -148,11 +148,11 @@ module _ (d : Design) (judged : IsJudged d) (k : ℕ) (reached : IsReached d k) 
       let bound = flat_map actual_names m.insts in
       let after = m.clocks ++ (cells ++ bound) in
       let whole : occurrences m ≡ (m.inputs ++ m.outputs) ++ after =
-          append_assoc ((m.inputs ++ m.outputs) ++ m.clocks) cells bound ∙ append_assoc (m.inputs ++ m.outputs) m.clocks (cells ++ bound) in
+      append_assoc ((m.inputs ++ m.outputs) ++ m.clocks) cells bound ∙ append_assoc (m.inputs ++ m.outputs) m.clocks (cells ++ bound) in
       let kept : filter free (occurrences m) ≡ (ins ++ m.outputs) ++ filter free after =
-          ap (filter free) whole
-          ∙ filter_append free (m.inputs ++ m.outputs) after
-          ∙ ap (λ (xs : List (List ℕ)). xs ++ filter free after) (filter_append free m.inputs m.outputs ∙ ap (λ (xs : List (List ℕ)). ins ++ xs) (filter_whole free m.outputs output_free)) in
+      ap (filter free) whole
+      ∙ filter_append free (m.inputs ++ m.outputs) after
+      ∙ ap (λ (xs : List (List ℕ)). xs ++ filter free after) (filter_append free m.inputs m.outputs ∙ ap (λ (xs : List (List ℕ)). ins ++ xs) (filter_whole free m.outputs output_free)) in
       let begin = firsts_begin (ins ++ m.outputs) (filter free after) (apart_append ins m.outputs (apart_filter free m.inputs inputs_apart) outputs_apart none) in (
         begin.0,
         ap (λ (o : Option Model). option_map_or (nets d) o []) here

@@ -2,3 +2,4 @@ pub mod Inside
 pub mod Reading
 pub mod Beginning
 pub mod Assembling
+pub mod Finding

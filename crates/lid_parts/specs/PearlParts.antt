@@ -41,7 +41,7 @@ pub record IsPearlPart (d : Design) (drivers : List ColumnDriver) (pearl : ℕ) 
   pub begins : columns_in (length d.models) d path number ≡ map (column path) (data_inputs d model) ++ (map (column path) model.outputs ++ more)
   pub inputs : part.inputs ≡ length (data_inputs d model)
   pub outputs : part.outputs ≡ length model.outputs
-  pub part : IsPart drivers part
+  pub inner : IsPart drivers part
 
 -- a part for each pearl, in order
 pub record ArePearlParts (d : Design) (drivers : List ColumnDriver) (parts : List Part) : Type 0 where

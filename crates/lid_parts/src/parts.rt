@@ -67,6 +67,20 @@ fn inst_part(columns: &Elaboration<'_>, i: usize) -> Part
     }
 }
 
+/// A part for each instance of the root, in order.
+fn inst_parts(alloc: Global, columns: &Elaboration<'_>) -> Result<Items<Part>, AllocError>
+    requires apart { ArePortsApart columns.now.design }
+    requires some { 0 < length columns.now.starts }
+    ensures { IfOk result (ArePearlParts columns.now.design columns.now.drivers) }
+{
+    let _ = columns.judged();
+    let mut parts = Vec::new(alloc);
+    for i in 0..columns.starts().len() {
+        parts.push(inst_part(columns, i))?;
+    }
+    Ok(Items::from_vec(parts))
+}
+
 /// A part for each pearl, in order.
 ///
 /// # Errors
@@ -76,12 +90,9 @@ pub fn find_parts(alloc: Global, columns: &Elaboration<'_>) -> Result<Items<Part
     ensures { IfOk result (ArePearlParts columns.now.design columns.now.drivers) }
 {
     let _ = columns.judged();
-    let mut parts = Vec::new(alloc);
     if columns.starts().is_empty() {
-        parts.push(whole_part(columns))?;
+        let whole = whole_part(columns);
+        return Ok(Items::from_vec(vec![in alloc; whole]?));
     }
-    for i in 0..columns.starts().len() {
-        parts.push(inst_part(columns, i))?;
-    }
-    Ok(Items::from_vec(parts))
+    inst_parts(alloc, columns)
 }
