@@ -1,23 +1,20 @@
 -- A strict table of a design, seen at the points of its system, is a table of the system.
 use Rattle.std.proofs.Common.{◌≡◌, ◌⊎◌, ℕ, zero, suc, ◌+◌, ◌-◌, ◌<◌, ◌≤◌, Bool, false, List, [], ◌∷◌, length, get_or, map, option_map, Option, Some, None, slice_get, inl, inr, refl, sym, ◌∙◌, ap, subst, arith}
-use Rattle.std.specs.List.{AllByRecursion}
 use Rattle.std.specs.Option.{option_map_or}
 use Rattle.std.proofs.lemmas.List.{length-map}
 use Rattle.std.proofs.lemmas.Option.{slice_get-get_or, slice_get-map, slice_get_within}
 use Rattle.std.proofs.lemmas.Simd.{map-map}
 use Rattle.lid_base.specs.Lists.{Among}
-use Rattle.lid_base.proofs.Lists.{all_among, among_get}
+use Rattle.lid_base.proofs.Lists.{among_get}
 use Rattle.lid_cover.specs.Cover.{cover_value}
 use Rattle.lid_cover.specs.Masks.{packed}
 use Rattle.lid_design.specs.declared.Design.{Design}
 use Rattle.lid_design.specs.declared.Flat.{Flat}
-use Rattle.lid_design.specs.declared.FlatLatch.{FlatLatch}
-use Rattle.lid_design.specs.declared.FlatCover.{FlatCover}
 use Rattle.lid_design.specs.Network.{Driver, from_input, from_latch, from_cover, from_connection, Table, latch_bit, bit_of, IsStrict, from_each}
 use Rattle.lid_design.specs.Walks.{IsDriven}
 use Rattle.lid_design.specs.Flat.{flat_drivers, IsFlat}
 use Rattle.lid_design.specs.Columns.{Column, column, drivers, root_inputs, root_outputs, output_row, output_rows, IsStrictOutput}
-use Rattle.lid_design.proofs.Parts.{input_drives, IsDriverOf, driver_is}
+use Rattle.lid_design.proofs.Parts.{input_drives}
 use Rattle.lid_design.proofs.Tables.{has_one_table}
 use Rattle.lid_pearl.specs.Pearls.{View}
 use Rattle.lid_pearl.proofs.Reordering.{all_from_each}
@@ -34,7 +31,7 @@ use Rattle.lid_system.proofs.Points.{input_among, drives_shell, other_drivers, s
 use Rattle.lid_system.proofs.Walking.{limit, points_end, points_reads_driven}
 use Rattle.lid_system.proofs.Shelling.{read_bit}
 use Rattle.lid_system.proofs.Streaming.{each_same, inputs_agree, same_some}
-use Rattle.lid_agree.specs.Standing.{StandsFor, IsInput}
+use Rattle.lid_flatten.specs.Standing.{StandsFor, IsInput}
 use Rattle.lid_agree.specs.Agreement.{column_of, seen, IsShellOf, IsSystemOf}
 use Rattle.lid_agree.proofs.Inputs.{root_input_drives}
 use Rattle.lid_agree.proofs.Leading.{passed_value, given_bit, led_bit, led_bits}
@@ -60,19 +57,6 @@ input_place f k j flat among =
     place_of (from_latch first k) = 0
     place_of (from_cover cover ks) = 0
     place_of (from_connection k) = 0
-
--- what is driven is a net of the part
-driven_below : (f : Flat) (k : ℕ) (r : Driver ℕ) → IsFlat f → Among r (flat_drivers f k) → k < f.nets
-driven_below f k r flat among = by (driver_is f k r among)
-  where
-    by : IsDriverOf f k r → k < f.nets
-    by (inl input) = all_among (λ (k : ℕ). k < f.nets) f.ins k flat.below.ins (input_among f k input.0 (subst (λ (r : Driver ℕ). Among r (flat_drivers f k)) input.1 among))
-    by (inr (inl latch)) =
-        let below = all_among {A = FlatLatch} (λ latch. (latch.input < f.nets) × (latch.out < f.nets)) f.latches latch.0 flat.below.latches latch.1 in
-        subst (λ (k : ℕ). k < f.nets) latch.2 below.1
-    by (inr (inr cover)) =
-        let below = all_among {A = FlatCover} (λ c. AllByRecursion (λ k. k < f.nets) c.ins × (c.out < f.nets)) f.covers cover.0 flat.below.covers cover.1 in
-        subst (λ (k : ℕ). k < f.nets) cover.2 below.1
 
 module _ (d : Design) (s : System) (of : IsSystemOf d s) (well : IsWellFormed s) (rows : List (List Bool)) (b : Table Column) (strict : IsStrict (drivers d) rows b) where
   abbrev at : Table Point
@@ -134,7 +118,7 @@ module _ (d : Design) (s : System) (of : IsSystemOf d s) (well : IsWellFormed s)
       net_bit : (k : ℕ) (r : Driver Point) → Among r (system_drivers s (shell_net i k)) → HasBit (col k) r
       net_bit k r among =
           let found = drives_shell s i k pearl ins here r among in
-          subst (HasBit (col k)) (sym found.2) (by_driver k found.0 found.1 (shell.each k found.0 (driven_below pearl.flat k found.0 rules found.1) found.1))
+          subst (HasBit (col k)) (sym found.2) (by_driver k found.0 found.1 (shell.each k found.0 found.1))
 
     node_bit : (i : ℕ) (node : Node) → slice_get s.nodes i ≡ Some node → (k : ℕ) (r : Driver Point) → Among r (system_drivers s (shell_net i k)) → HasBit (of.columns i k) r
     node_bit i (Source columns) here k r among = absurd (subst (λ (rs : List (Driver Point)). Among r rs) (source_drivers s i k columns here) among)

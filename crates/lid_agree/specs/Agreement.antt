@@ -15,7 +15,7 @@ use Rattle.lid_system.specs.declared.InBit.{InBit}
 use Rattle.lid_system.specs.declared.InBit.TheVariants.{Const, Port}
 use Rattle.lid_system.specs.Systems.{Point, source_port, shell_net}
 use Rattle.lid_system.specs.Tables.{carried_at}
-use Rattle.lid_agree.specs.Standing.{PassesOn, StandsForAll}
+use Rattle.lid_flatten.specs.Standing.{PassesOn, StandsForAll}
 
 -- the column of a point, where net k of node i stands for `columns i k`: a port of the source stands for
 -- a data input of the root

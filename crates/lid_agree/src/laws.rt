@@ -15,7 +15,7 @@ ghost use Rattle.lid_system.specs.declared.Channel.{Channel};
 ghost use Rattle.lid_system.specs.Systems.{Point, ports_at, IsWellFormed};
 ghost use Rattle.lid_system.specs.Tables.{system_drivers, carried, IsTable};
 ghost use Rattle.lid_system.specs.Streams.{IsStream, IsOutput};
-ghost use Rattle.lid_agree.specs.Standing.{StandsForAll};
+ghost use Rattle.lid_flatten.specs.Standing.{StandsForAll};
 ghost use Rattle.lid_agree.specs.Agreement.{column_of, seen, IsSystemOf};
 
 /// A design and its system agree. A strict table of the design, seen at the points of the system, is a

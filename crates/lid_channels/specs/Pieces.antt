@@ -1,5 +1,5 @@
 -- Channels as pieces of the ports that a node reads of another.
-use Rattle.std.specs.Prelude.{◌≡◌, ◌<◌, ◌≤◌, ◌+◌, ◌^◌, ◌==◌, nat_lt, ℕ, Bool, ◌&&◌, if◌then◌else◌, List, [], ◌∷◌, ◌++◌, length, map, flat_map, reverse, ⊤, Option, Some, None}
+use Rattle.std.specs.Prelude.{◌≡◌, ◌<◌, ◌≤◌, ◌+◌, ◌^◌, ◌==◌, nat_lt, ℕ, Bool, true, false, ◌&&◌, if◌then◌else◌, List, [], ◌∷◌, ◌++◌, length, map, flat_map, reverse, ⊤, Option, Some, None}
 use Rattle.lid_system.specs.declared.Channel.{Channel}
 use Rattle.lid_channels.specs.declared.reads.Read.{Read}
 
@@ -14,12 +14,15 @@ reads_in c = map (read_by c) c.ports
 abbrev pub is_beside : Channel → Channel → Bool
 is_beside c next = (c.from == next.from) && (c.to == next.to)
 
--- the channel has the number that its piece should have after those before it, the last of which comes
--- first: it is the first piece of its two nodes, or the next one where the one before it is full
+-- the number of a piece after another, which joins the same nodes and is full, or other nodes
+abbrev pub IsPieceAfter : Bool → Channel → Channel → Type 0
+IsPieceAfter true before c = (length before.ports ≡ 31) × (c.piece ≡ before.piece + 1)
+IsPieceAfter false before c = c.piece ≡ 0
+
+-- the channel has the number of its piece, after those before it, the last of which comes first
 abbrev pub IsNextPiece : Channel → List Channel → Type 0
 IsNextPiece c [] = c.piece ≡ 0
-IsNextPiece c (before ∷ earlier) =
-    if is_beside before c then (length before.ports ≡ 31) × (c.piece ≡ before.piece + 1) else (c.piece ≡ 0)
+IsNextPiece c (before ∷ earlier) = IsPieceAfter (is_beside before c) before c
 
 -- channels, the last of them first, are pieces of 1 to 31 ports, of which only the last of two nodes is not
 -- full
@@ -71,7 +74,13 @@ abbrev pub last_width : List Channel → ℕ
 last_width [] = 0
 last_width (c ∷ before) = length c.ports
 
--- the last channel has a piece number below that of channels, and there are not more than 2^20
+-- whether the last of some reads is between the nodes of another
+abbrev pub joins : List Read → Read → Bool
+joins [] r = false
+joins (last ∷ earlier) r = (last.from == r.from) && (last.to == r.to)
+
+-- channels, the last first, are no more than a system may have, and the last has no greater piece than
+-- there are channels before it
 abbrev pub ArePieced : List Channel → Type 0
 ArePieced [] = ⊤
 ArePieced (c ∷ before) = (c.piece ≤ length before) × (length before < 16384)

@@ -1,9 +1,10 @@
 //! Channels cut from reads.
 
-ghost use Rattle.std.specs.Prelude.{◌≡◌, ◌≤◌, ◌<◌, ◌⊎◌, ◌+◌, ◌==◌, ◌&&◌, List, length, reverse, take, IfOk, IfErr, OnOk};
+ghost use Rattle.std.specs.Prelude.{◌≡◌, ◌≤◌, ◌<◌, ◌⊎◌, ◌+◌, ◌==◌, ◌&&◌, List, length, reverse, take, slice_index_or, if◌then◌else◌, IfOk, IfErr, OnOk};
 ghost use Rattle.lid_system.specs.declared.Channel.{Channel};
+ghost use Rattle.lid_channels.specs.declared.reads.Read.{Read};
 ghost use Rattle.lid_channels.specs.declared.fault.NetFault.TheVariants.{TooManyChannels, Memory};
-ghost use Rattle.lid_channels.specs.Pieces.{AreChannelsOf, begun, with_port, extended, piece_for, grown, cut_back, last_width, ArePieced};
+ghost use Rattle.lid_channels.specs.Pieces.{AreChannelsOf, begun, with_port, extended, piece_for, grown, cut_back, last_width, joins, ArePieced};
 
 use crate::fault::NetFault;
 use crate::reads::Read;
@@ -45,9 +46,7 @@ fn count_channels(reads: &[Read]) -> u64
     let mut width = 0u64;
     for i in 0..reads.len() {
         width = width_after(reads, i, width);
-        if width == 1 {
-            count += 1;
-        }
+        count += one_if(width == 1);
     }
     count
 }
@@ -58,11 +57,28 @@ fn width_after(reads: &[Read], i: usize, width: u64) -> u64
     requires width { width ≡ last_width (cut_back (reverse (take i reads.now))) }
     ensures { result ≡ last_width (cut_back (reverse (take (i + 1) reads.now))) }
 {
-    if width < MOST_PORTS && i > 0 && is_same_pair(&reads[i - 1], &reads[i]) {
-        width + 1
-    } else {
-        1
+    if !goes_on(reads, i) {
+        return 1;
     }
+    if width < MOST_PORTS { width + 1 } else { 1 }
+}
+
+/// 1 where it is so, and else 0.
+fn one_if(is: bool) -> u64
+    ensures { result ≡ (if is then 1 else 0) }
+{
+    if is { 1 } else { 0 }
+}
+
+/// Whether a read is between the same nodes as the one before it.
+fn goes_on(reads: &[Read], i: usize) -> bool
+    requires { i < length reads.now }
+    ensures { (r : Read) → r ≡ slice_index_or reads.now i r → result ≡ joins (reverse (take i reads.now)) r }
+{
+    if i == 0 {
+        return false;
+    }
+    is_same_pair(&reads[i - 1], &reads[i])
 }
 
 /// Whether two reads are between the same nodes.
@@ -75,7 +91,7 @@ fn is_same_pair(a: &Read, b: &Read) -> bool
 /// The channels of some reads.
 fn cut_all(alloc: Global, reads: &[Read]) -> Result<Items<Channel>, AllocError>
     requires { length (cut_back (reverse reads.now)) ≤ 16384 }
-    ensures { IfOk result (AreChannelsOf reads.now) }
+    ensures { IfOk result (λ channels. reverse channels ≡ cut_back (reverse reads.now)) }
 {
     let mut channels = Vec::new(alloc);
     for read in reads {
@@ -146,7 +162,7 @@ fn begin(alloc: Global, read: Read, piece: u32) -> Result<Channel, AllocError>
 
 /// A channel with a port more.
 fn add_port(channel: Channel, read: Read) -> Result<Channel, AllocError>
-    ensures { IfOk result (λ longer. longer ≡ with_port channel.entry read) }
+    ensures { IfOk result (λ longer. longer ≡ with_port channel read) }
 {
     let Channel {
         from,

@@ -76,7 +76,7 @@ fn next_origin(
 }
 
 /// The origin of a number; none past the last.
-fn origin_of(origins: &[Option<Origin>], number: u32) -> Option<Origin>
+pub fn origin_of(origins: &[Option<Origin>], number: u32) -> Option<Origin>
     ensures { result ≡ origin_at origins.now number }
 {
     match origins.get(number as usize) {

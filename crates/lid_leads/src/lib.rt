@@ -6,6 +6,6 @@ mod leading;
 mod origin;
 mod step;
 
-pub use leading::lead_back;
+pub use leading::{lead_back, origin_of};
 pub use origin::Origin;
 pub use step::Step;

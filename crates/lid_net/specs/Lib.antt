@@ -1,1 +1,4 @@
-pub mod Graphs
+pub mod Marks
+pub mod Reads
+pub mod Nodes
+
