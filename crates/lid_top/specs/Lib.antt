@@ -1,4 +1,5 @@
 pub mod Causes
 pub mod Outputs
+pub mod Reported
 pub mod Scripts
 pub mod Statuses

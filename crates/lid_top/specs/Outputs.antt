@@ -6,7 +6,6 @@ use Rattle.lid_design.specs.Columns.{root_inputs, root_outputs, IsStrictOutput}
 use Rattle.lid_design.specs.Loops.{pearls}
 use Rattle.lid_design.specs.Elaboration.{count_latches, count_defaulted}
 use Rattle.lid_system.specs.declared.Channel.{Channel}
-use Rattle.lid_net.specs.Graphs.{HasChannels}
 use Rattle.lid_texts.specs.RowsText.{rows_text}
 use Rattle.lid_reports.specs.declared.report.Report.{Report}
 use Rattle.lid_reports.specs.declared.report.ChannelLine.{ChannelLine}
@@ -42,12 +41,6 @@ report_of d channels = record {
   defaulted = count_defaulted d;
   channels = map channel_line channels;
 }
-
--- `check` writes the report of the channels that the design has
-pub record IsReported (d : Design) (text : List ℕ) : Type 0 where
-  pub channels : List Channel
-  pub has : HasChannels d channels
-  pub written : text ≡ report_text (report_of d channels)
 
 -- the texts of an output
 abbrev pub IsTextOf : Output → List ℕ → Type 0

@@ -10,8 +10,8 @@ use Rattle.lid_blif.specs.Faults.{blif_fault}
 use Rattle.lid_rules.specs.declared.fault.CheckFault.{CheckFault}
 use Rattle.lid_check.specs.Acceptance.{with_root, IsAccepted, IsRefused}
 use Rattle.lid_system.specs.declared.Channel.{Channel}
-use Rattle.lid_channels.specs.declared.fault.NetFault.{NetFault}
-use Rattle.lid_net.specs.Graphs.{HasChannels, TellsTooMany}
+use Rattle.lid_channels.specs.declared.fault.NetFault.TheVariants.{TooManyChannels}
+use Rattle.lid_net.specs.Graphs.{IsGraphOf}
 use Rattle.lid_texts.specs.declared.rows.Rows.{Rows}
 use Rattle.lid_texts.specs.declared.rows.VecFault.{VecFault}
 use Rattle.lid_texts.specs.declared.rows.VecFault.TheVariants.{Changed}
@@ -126,11 +126,17 @@ pub record IsUnchecked (root : Option (List ℕ)) (d : Design) (line : List ℕ)
 abbrev pub check_step : Option (List ℕ) → Design → (Design → Script) → Script
 check_step root d next = decide (IsChecked root d) (IsUnchecked root d) next
 
+-- the channels of a design, which are not too many
+pub record HasChannels (d : Design) (channels : List Channel) : Type 0 where
+  pub graph : IsGraphOf d channels
+  pub few : length channels ≤ 16384
+
 -- the channels of a design are too many, and told so
 pub record IsOverfull (d : Design) (line : List ℕ) : Type 0 where
-  pub fault : NetFault
-  pub many : TellsTooMany d fault
-  pub told : line ≡ net_line fault
+  pub channels : List Channel
+  pub graph : IsGraphOf d channels
+  pub many : 16384 < length channels
+  pub told : line ≡ net_line (TooManyChannels (length channels))
 
 -- the system of an accepted design is built, which has these channels
 abbrev pub net_step : Design → (List Channel → Script) → Script

@@ -6,8 +6,9 @@ ghost use Rattle.lid_design.specs.WellFormed.{IsWellFormed};
 ghost use Rattle.lid_design.specs.declared.Model.{Model};
 ghost use Rattle.lid_reports.specs.Runs.{report_text};
 ghost use Rattle.lid_system.specs.Systems.{IsWellFormed as IsSystem};
-ghost use Rattle.lid_top.specs.Outputs.{channel_line, report_of, root_name, IsReported};
+ghost use Rattle.lid_top.specs.Outputs.{channel_line, report_of, root_name};
 ghost use Rattle.lid_top.specs.Scripts.{report_script, check_step, check_script};
+ghost use Rattle.lid_top.specs.Reported.{IsReported};
 ghost use Rattle.lid_top.specs.Causes.{IsCause, IsWant, FailsNet};
 ghost use Rattle.lid_top.specs.Statuses.{HasText};
 

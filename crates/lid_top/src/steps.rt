@@ -5,8 +5,7 @@ ghost use Rattle.std.specs.List.{AllByRecursion};
 ghost use Rattle.lid_design.specs.Columns.{root_inputs};
 ghost use Rattle.lid_design.specs.WellFormed.{IsWellFormed};
 ghost use Rattle.lid_system.specs.Systems.{IsWellFormed as IsSystem};
-ghost use Rattle.lid_net.specs.Graphs.{HasChannels};
-ghost use Rattle.lid_top.specs.Scripts.{IsFetched, good, net_limit, rows_limit, net_reading, vec_reading, IsChecked};
+ghost use Rattle.lid_top.specs.Scripts.{IsFetched, good, net_limit, rows_limit, net_reading, vec_reading, IsChecked, HasChannels};
 ghost use Rattle.lid_top.specs.Causes.{Declines, MissesFile, Got, Misses, FailsCheck, FailsNet};
 
 use crate::fault::{Stop, blif_stop, check_stop, net_stop, rows_stop};
