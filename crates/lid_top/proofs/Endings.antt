@@ -1,8 +1,7 @@
 -- Where the shelf tells its contents, a script ends in one way.
-use Rattle.std.proofs.Common.{◌≡◌, ◌≢◌, ℕ, ◌+◌, ◌≤◌, ◌<◌, Bool, List, length, take, Option, Some, None, is_some, true≢false, IsSome, IfSome, ◌⊎◌, inl, inr, refl, sym, ◌∙◌, ap, subst, arith}
+use Rattle.std.proofs.Common.{◌≡◌, ℕ, ◌+◌, Bool, List, length, take, Option, Some, None, is_some, true≢false, IsSome, IfSome, inl, inr, refl, sym, ◌∙◌, ap, subst, arith}
 use Rattle.lid_design.specs.declared.Design.{Design}
 use Rattle.lid_rules.specs.declared.fault.CheckFault.{CheckFault}
-use Rattle.lid_rules.specs.declared.fault.CheckFault.TheVariants.{NoRoot}
 use Rattle.lid_check.specs.Acceptance.{with_root, IsAccepted, IsRefused, IsRefusal}
 use Rattle.lid_system.specs.declared.Channel.{Channel}
 use Rattle.lid_channels.specs.declared.fault.NetFault.TheVariants.{TooManyChannels}
@@ -11,7 +10,7 @@ use Rattle.lid_cli.specs.declared.job.Job.{Job}
 use Rattle.lid_cli.specs.declared.job.Job.TheVariants.{Check, Strict}
 use Rattle.lid_refusals.specs.Faults.{check_line, net_line}
 use Rattle.lid_top.specs.Outputs.{strict_output, report}
-use Rattle.lid_top.specs.Scripts.{Ending, refuses, gives, Script, fetch, again, decide, end, Rereading, Reading, good, bad, step, net_limit, rows_limit, net_reading, vec_reading, check_step, net_step, report_script, check_script, rows_script, checked_script, strict_script, script_of, IsFetched, IsReread, IsChanged, IsChecked, IsUnchecked, EndsIn, Reaches}
+use Rattle.lid_top.specs.Scripts.{Ending, refuses, gives, Script, fetch, again, decide, end, Reading, good, bad, step, net_reading, vec_reading, check_step, net_step, report_script, check_script, rows_script, checked_script, strict_script, script_of, IsFetched, IsReread, IsChecked, IsUnchecked, EndsIn}
 use Rattle.lid_top.specs.Statuses.{TellsAll}
 
 -- each step of the script without a fetch has one outcome

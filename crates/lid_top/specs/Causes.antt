@@ -1,7 +1,6 @@
 -- Why a run does not end with its whole output: the cause that a value of the program tells.
 use Rattle.std.specs.Prelude.{◌≡◌, ℕ, List, Option}
 use Rattle.lid_base.specs.Outside.{Rose}
-use Rattle.lid_refusals.specs.declared.refusal.Refusal.{Refusal}
 use Rattle.lid_refusals.specs.declared.refusal.Refusal.TheVariants.{Blif, Check, Net, Rows}
 use Rattle.lid_top.specs.declared.fault.Stop.{Stop}
 use Rattle.lid_top.specs.declared.fault.Stop.TheVariants.{Refused, Read, Memory, Denied}

@@ -99,11 +99,7 @@ fn system_text<'a>(alloc: Global, checked: &Checked) -> Result<Vec<u8>, Stop<'a>
 }
 
 /// What `check` writes after it has read a netlist, whatever the shelf holds.
-fn checked_text<'a>(
-    alloc: Global,
-    design: Design,
-    root: &Option<Name>,
-) -> Result<Vec<u8>, Stop<'a>>
+fn checked_text<'a>(alloc: Global, design: Design, root: &Option<Name>) -> Result<Vec<u8>, Stop<'a>>
     requires { IsWellFormed design }
     ensures ok { IfOk result (λ text. (held : List ℕ → Option (List ℕ)) → HasText held (check_step root.now design report_script) text.items) }
     ensures err { IfErr result (λ stop. (held : List ℕ → Option (List ℕ)) (before after : List ℕ → ℕ) → IsCause held (check_step root.now design report_script) before after stop) }

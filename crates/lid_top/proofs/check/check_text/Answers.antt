@@ -1,4 +1,3 @@
-use Rattle.std.proofs.Common.{List, ℕ, Option, subst}
 use Rattle.lid_design.specs.declared.Design.{Design}
 use Rattle.lid_base.proofs.Results.{if_ok, if_err}
 use Rattle.lid_top.specs.Scripts.{Script, net_limit, net_reading, check_step, report_script, check_script}

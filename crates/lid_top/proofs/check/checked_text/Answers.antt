@@ -1,8 +1,7 @@
-use Rattle.std.proofs.Common.{List, ℕ, Option, refl}
+use Rattle.std.proofs.Common.{refl}
 use Rattle.lid_base.proofs.Results.{if_ok, if_err}
-use Rattle.lid_system.specs.declared.Channel.{Channel}
 use Rattle.lid_top.specs.Outputs.{report}
-use Rattle.lid_top.specs.Scripts.{Script, end, gives, HasChannels, IsOverfull, report_script}
+use Rattle.lid_top.specs.Scripts.{end, gives, HasChannels, IsOverfull, report_script}
 use Rattle.lid_top.proofs.Composition.{text_checked, cause_checked, cause_unchecked, text_decided, cause_undecided}
 use Rattle.lid_top.proofs.check.checked_text.Goals as goal
 

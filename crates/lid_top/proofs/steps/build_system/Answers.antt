@@ -1,5 +1,4 @@
-use Rattle.std.proofs.Common.{◌≡◌, subst, sym}
-use Rattle.lid_system.specs.declared.System.{System}
+use Rattle.std.proofs.Common.{subst, sym}
 use Rattle.lid_top.specs.Causes.{FailsNet}
 use Rattle.lid_top.proofs.Readings.{net_fails}
 use Rattle.lid_top.proofs.steps.build_system.Goals as goal
