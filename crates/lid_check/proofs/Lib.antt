@@ -8,5 +8,6 @@ pub mod Numbered
 pub mod Exclusive
 pub mod Widths
 pub mod Placing
-pub mod Blocked
 pub mod Cutting
+pub mod Covered
+pub mod Flats

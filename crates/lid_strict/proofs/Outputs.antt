@@ -14,7 +14,7 @@ use Rattle.lid_elab.specs.Elaborations.{shown_driver, map_driver, column_at, IsE
 use Rattle.lid_check.proofs.Numbered.{column_here}
 use Rattle.lid_check.specs.Networks.{AreNumbersOf}
 use Rattle.lid_strict.specs.Networks.{driver_of, reads_of, HasCover, AreHeldBelow, rows_at}
-use Rattle.lid_strict.proofs.Covered.{IsCovered, all_covered}
+use Rattle.lid_check.proofs.Covered.{IsCovered, all_covered}
 use Rattle.lid_strict.proofs.Tables.{map_map, numbered, table}
 
 -- what holds of the item at each place holds of all
