@@ -29,8 +29,7 @@ use Rattle.lid_flatten.specs.Standing.{IsInput, StandsFor, StandsForAll}
 use Rattle.lid_flatten.specs.Parts.{driver_at, HasCover, IsFlattened}
 use Rattle.lid_parts.specs.PearlParts.{ArePortsApart, IsPearlPart, ArePearlParts}
 use Rattle.lid_parts.proofs.Inside.{column_inside}
-use Rattle.lid_check.specs.declared.blocks.Block.{Block}
-use Rattle.lid_check.specs.Acceptance.{DependsOn, HasNoDependence}
+use Rattle.lid_check.specs.Acceptance.{HasNoDependence}
 use Rattle.lid_check.specs.Blocks.{IsBlock}
 use Rattle.lid_check.specs.Flats.{IsFlatOf}
 use Rattle.lid_check.proofs.Covered.{IsCovered, all_covered}

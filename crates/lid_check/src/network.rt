@@ -26,7 +26,10 @@ pub struct Network {
 ///
 /// # Errors
 /// Where there is no memory.
-pub(crate) fn number_outputs(alloc: Global, columns: &Elaboration<'_>) -> Result<Items<u32>, AllocError>
+pub(crate) fn number_outputs(
+    alloc: Global,
+    columns: &Elaboration<'_>,
+) -> Result<Items<u32>, AllocError>
     ensures { IfOk result (AreNumbersOf columns.now.design (length columns.now.drivers)) }
 {
     let judged = columns.judged();

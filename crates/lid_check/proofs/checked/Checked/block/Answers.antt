@@ -1,4 +1,4 @@
-use Rattle.std.proofs.Common.{◌≡◌, ◌+◌, ◌<◌, ◌^◌, ℕ, List, length, slice_index_or, sym, ap, subst, arith}
+use Rattle.std.proofs.Common.{◌≡◌, ◌+◌, ◌<◌, List, length, slice_index_or, sym, ap, subst, arith}
 use Rattle.lid_design.specs.declared.Design.{Design}
 use Rattle.lid_design.specs.Loops.{pearls}
 use Rattle.lid_flatten.specs.declared.part.Part.{Part}

@@ -1,8 +1,7 @@
-use Rattle.std.proofs.Common.{◌≡◌, ◌<◌, ℕ, List, length, map, IfOk, slice_index_or, sym, ap, subst}
+use Rattle.std.proofs.Common.{◌<◌, List, length, map, IfOk, slice_index_or, sym, subst}
 use Rattle.std.specs.List.{AllByRecursion}
 use Rattle.lid_base.proofs.Results.{if_ok}
 use Rattle.lid_design.specs.declared.Design.{Design}
-use Rattle.lid_design.specs.declared.Flat.{Flat}
 use Rattle.lid_design.specs.Flat.{IsFlat}
 use Rattle.lid_design.specs.Loops.{pearls}
 use Rattle.lid_digraph.specs.Graphs.{HasNoLoop}
