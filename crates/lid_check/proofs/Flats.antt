@@ -29,11 +29,11 @@ use Rattle.lid_flatten.specs.Standing.{IsInput, StandsFor, StandsForAll}
 use Rattle.lid_flatten.specs.Parts.{driver_at, HasCover, IsFlattened}
 use Rattle.lid_parts.specs.PearlParts.{ArePortsApart, IsPearlPart, ArePearlParts}
 use Rattle.lid_parts.proofs.Inside.{column_inside}
-use Rattle.lid_check.specs.Acceptance.{HasNoDependence}
+use Rattle.lid_flaws.specs.Dependence.{HasNoDependence}
 use Rattle.lid_check.specs.Blocks.{IsBlock}
 use Rattle.lid_check.specs.Flats.{IsFlatOf}
 use Rattle.lid_check.proofs.Covered.{IsCovered, all_covered}
-use Rattle.lid_check.proofs.Numbered.{reads_shown}
+use Rattle.lid_flaws.proofs.Numbered.{reads_shown}
 
 -- no data input of a pearl is an output where no output depends on an input
 pub ports_apart : (d : Design) → HasNoDependence d → ArePortsApart d

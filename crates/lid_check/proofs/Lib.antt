@@ -1,13 +1,6 @@
-pub mod Apart
-pub mod Assembly
-pub mod Geometry
-pub mod Leads
-pub mod Lists
-pub mod Marking
-pub mod Numbered
-pub mod Exclusive
-pub mod Widths
-pub mod Placing
-pub mod Cutting
 pub mod Covered
+pub mod Exclusive
 pub mod Flats
+pub mod Placing
+pub mod Refusing
+pub mod Widths

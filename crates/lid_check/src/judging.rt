@@ -7,12 +7,11 @@ ghost use Rattle.lid_elab.specs.Elaborations.{driver_reads};
 ghost use Rattle.lid_check.specs.Acceptance.{IsAccepted, IsRefusal};
 ghost use Rattle.lid_check.specs.Facts.{AreCounts, AreFindings, ArePorts, AreFacts};
 
-use crate::flaws::{Verdict, find_flaw, tell_flaw};
 use crate::network::{Network, number_outputs};
-use crate::pearls::find_inputs;
 use lid_base::{Items, Name};
 use lid_design::Design;
 use lid_elab::{Elaboration, elaborate};
+use lid_flaws::{Verdict, find_flaw, find_inputs, tell_flaw};
 use lid_hierarchy::Survey;
 use lid_judge::{check_models, count_latches};
 use lid_parts::{Part, find_parts};

@@ -7,7 +7,7 @@ use Rattle.lid_elab.specs.declared.driver.ColumnDriver.{ColumnDriver}
 use Rattle.lid_elab.specs.Elaborations.{shown_driver, IsElaborated}
 use Rattle.lid_parts.specs.PearlParts.{ArePearlParts}
 use Rattle.lid_check.specs.Networks.{AreNumbersOf}
-use Rattle.lid_check.proofs.Numbered.{reads_shown}
+use Rattle.lid_flaws.proofs.Numbered.{reads_shown}
 use Rattle.lid_check.proofs.judging.facts_of.Goals as goal
 
 pub returns : goal.returns

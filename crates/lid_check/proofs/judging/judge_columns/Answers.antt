@@ -1,9 +1,9 @@
 use Rattle.std.proofs.Common.{inr, sym, subst}
 use Rattle.lid_design.specs.declared.Design.{Design}
 use Rattle.lid_rules.specs.Acceptance.{ModelsPass}
-use Rattle.lid_check.specs.declared.flaws.Verdict.{Verdict}
-use Rattle.lid_check.specs.Flaws.{IsVerdict, IsFirstFlaw, TellsFlaw}
-use Rattle.lid_check.proofs.Leads.{told_refuses}
+use Rattle.lid_flaws.specs.declared.flaws.Verdict.{Verdict}
+use Rattle.lid_flaws.specs.Flaws.{IsVerdict, IsFirstFlaw, TellsFlaw}
+use Rattle.lid_check.proofs.Refusing.{told_refuses}
 use Rattle.lid_check.proofs.judging.judge_columns.Goals as goal
 
 pub findings_of-requires-clause-accepted : goal.findings_of-requires-clause-accepted
