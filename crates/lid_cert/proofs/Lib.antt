@@ -1,4 +1,3 @@
 pub mod Ascending
 pub mod Consequences
 pub mod Parts
-pub mod Seated

@@ -4,7 +4,6 @@ ghost use Rattle.std.specs.Prelude.{◌≡◌, ◌<◌, ℕ, ◌↔◌, ◌∷�
 ghost use Rattle.std.specs.List.{All, count_by};
 ghost use Rattle.lid_graph.specs.Walks.{walk_start};
 ghost use Rattle.lid_cert.specs.Certificates.{ascends, has_node, least_node, IsEdgeMet, IsStartMet, IsNodeMet, IsPart, IsPartInRange, IsInRange, Certifies};
-ghost use Rattle.lid_cert.specs.Indexed.{IsPartAlone};
 
 use crate::cert::{Cert, Part};
 use crate::places::{ascends, has_node};
@@ -50,10 +49,10 @@ fn are_nodes_met(graph: &Graph, part: &Part) -> bool
     nodes.iter().all(|v| is_node_met(graph, part, start, *v))
 }
 
-/// Whether the rules but that for edges hold for a part.
-pub(crate) fn is_part_alone(graph: &Graph, part: &Part) -> bool
+/// Whether the rules hold for a part.
+fn is_part(graph: &Graph, part: &Part) -> bool
     requires { IsPartInRange part.now }
-    ensures { IsTrue result ↔ IsPartAlone graph.now part.now }
+    ensures { IsTrue result ↔ IsPart graph.now part.now }
 {
     if part.nodes.is_empty() || !are_lists(part) {
         return false;
@@ -67,21 +66,10 @@ pub(crate) fn is_part_alone(graph: &Graph, part: &Part) -> bool
     if !is_closed_walk(graph, part.cycle.as_slice()) || !has_ratio(graph, part) {
         return false;
     }
-    if !is_walk_start_met(graph, part) {
+    if !are_edges_met(graph, part) || !is_walk_start_met(graph, part) {
         return false;
     }
     are_nodes_met(graph, part)
-}
-
-/// Whether the rules hold for a part.
-fn is_part(graph: &Graph, part: &Part) -> bool
-    requires { IsPartInRange part.now }
-    ensures { IsTrue result ↔ IsPart graph.now part.now }
-{
-    if !is_part_alone(graph, part) {
-        return false;
-    }
-    are_edges_met(graph, part)
 }
 
 /// Whether the rules hold for each part.
@@ -98,7 +86,7 @@ fn are_parts(graph: &Graph, parts: &[Part]) -> bool
 }
 
 /// Whether the parts stand in the order of their least transition.
-pub(crate) fn are_in_order(parts: &[Part]) -> bool
+fn are_in_order(parts: &[Part]) -> bool
     ensures { result ≡ ascends (map least_node parts.now) }
 {
     let mut low: u64 = 0;

@@ -3,15 +3,12 @@
 
 mod cert;
 mod checking;
-mod indexed;
 mod laws;
 mod places;
 mod rules;
 
 pub use cert::{Cert, Part};
 pub use checking::check;
-pub use indexed::check_by_index;
 pub use laws::{
     caps_are_reached, each_is_shown, lags_bound_firings, leads_bound_firings, ratio_is_shown,
 };
-pub use places::{find_lag, find_part};

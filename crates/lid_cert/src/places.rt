@@ -1,10 +1,9 @@
 //! Where transitions stand in a part, and what the part says of them.
 
 ghost use Rattle.std.specs.Prelude.{◌≡◌, ◌+◌, ◌<◌, true, None, position, option_map, slice_index, slice_index_or, ◌==◌};
-ghost use Rattle.std.specs.List.{All};
 ghost use Rattle.lid_cert.specs.Certificates.{ascends, rises, place_in, has_node, lag_of, lead_of, depth_of, via_of, AreLists};
 
-use crate::cert::{Cert, Part};
+use crate::cert::Part;
 
 /// Whether each number is above the one before.
 pub(crate) fn ascends(numbers: &[u32]) -> bool
@@ -75,17 +74,8 @@ fn at(numbers: &[u64], place: usize) -> u64
     }
 }
 
-/// The part in which a transition stands, by its place among the parts; `None` where it stands in none.
-pub fn find_part(cert: &Cert, v: u32) -> Option<usize>
-    requires { All (λ part. ascends part.nodes ≡ true) cert.now.parts }
-    ensures { result ≡ position (λ part. has_node part v) cert.now.parts }
-{
-    let parts = cert.parts.as_slice();
-    parts.iter().position(|part| has_node(part, v))
-}
-
 /// The lag of a transition, where it stands in the part.
-pub fn find_lag(part: &Part, v: u32) -> Option<u64>
+pub(crate) fn lag_at(part: &Part, v: u32) -> Option<u64>
     requires { ascends part.now.nodes ≡ true }
     ensures { result ≡ option_map (λ i. slice_index part.now.lag i) (place_in part.now v) }
 {

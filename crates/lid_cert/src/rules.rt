@@ -6,11 +6,11 @@ ghost use Rattle.lid_graph.specs.Walks.{IsWalk, IsClosedWalk, walk_start, walk_t
 ghost use Rattle.lid_cert.specs.Certificates.{ascends, AreLists, IsEdgeMet, IsStartMet, IsVia, IsNodeMet, IsPartInRange};
 
 use crate::cert::Part;
-use crate::places::{depth_of, find_lag, has_node, lead_of, via_of};
+use crate::places::{depth_of, has_node, lag_at, lead_of, via_of};
 use lid_graph::{Edge, Graph};
 
 /// A product. It can't overflow.
-pub(crate) fn product(a: u64, b: u64) -> u128
+fn product(a: u64, b: u64) -> u128
     ensures value { result ≡ a * b }
     ensures small { result ≤ 18446744073709551615 * 18446744073709551615 }
 {
@@ -112,7 +112,7 @@ pub(crate) fn is_edge_met(part: &Part, edge: &Edge) -> bool
     ensures { IsTrue result ↔ IsEdgeMet part.now edge.now }
 {
     let tokens = u64::from(edge.tokens);
-    match (find_lag(part, edge.from), find_lag(part, edge.to)) {
+    match (lag_at(part, edge.from), lag_at(part, edge.to)) {
         (Some(from), Some(to)) => {
             u128::from(from) + u128::from(part.p) <= u128::from(to) + product(part.q, tokens)
         }
