@@ -13,13 +13,13 @@ use Rattle.lid_graph.proofs.Journeys.{joined_step, joined_back}
 use Rattle.lid_cert.specs.declared.cert.Part.{Part}
 use Rattle.lid_cert.specs.Certificates.{has_node, lag_of, lead_of, depth_of, via_of, AreLists, IsEdgeMet, IsStartMet, IsVia, IsNodeMet, IsPart, ascends}
 use Rattle.lid_cert.proofs.Parts.{lag_along, stays_back}
-use Rattle.lid_rate.specs.WalksBack.{IsWalkBack, MeetsOnce}
-use Rattle.lid_rate.specs.Relaxation.{AreEdges}
-use Rattle.lid_rate.specs.CycleRatios.{IsRate}
-use Rattle.lid_rate.specs.SpanningTrees.{is_reached, IsTree, IsSpanning}
+use Rattle.lid_ratio.specs.WalksBack.{IsWalkBack, MeetsOnce}
+use Rattle.lid_ratio.specs.Relaxation.{AreEdges}
+use Rattle.lid_ratio.specs.CycleRatios.{IsRate}
+use Rattle.lid_ratio.specs.SpanningTrees.{is_reached, IsTree, IsSpanning}
 use Rattle.lid_rate.specs.Rates.{IsRateable, numbers_where, AreLabels, is_labelled, edges_of, IsPartOf}
-use Rattle.lid_rate.proofs.Backward.{tokens_reverse, chain_walk}
-use Rattle.lid_rate.proofs.Settles.{contains_within}
+use Rattle.lid_ratio.proofs.Backward.{tokens_reverse, chain_walk}
+use Rattle.lid_ratio.proofs.Settles.{contains_within}
 use Rattle.lid_rate.proofs.NumbersWhere.{Stands, those_only, those_all, those_ascends, those_has, those_has_not, those_few, column_at}
 
 pub start_of : (g : Graph) (ks : List ℕ) (u v : ℕ) → IsWalk g u ks v → 0 < length ks → walk_start g ks ≡ u

@@ -9,8 +9,8 @@ use Rattle.lid_graph.specs.declared.graph.Edge.{Edge}
 use Rattle.lid_graph.specs.declared.graph.Graph.{Graph}
 use Rattle.lid_graph.specs.Walks.{edge_at, walk_start, IsPaired, IsClosedWalk}
 use Rattle.lid_cert.specs.declared.cert.Part.{Part}
-use Rattle.lid_rate.specs.CycleRatios.{IsRate, IsOneTokenLoop}
-use Rattle.lid_rate.specs.SpanningTrees.{IsTree, IsSpanning}
+use Rattle.lid_ratio.specs.CycleRatios.{IsRate, IsOneTokenLoop}
+use Rattle.lid_ratio.specs.SpanningTrees.{IsTree, IsSpanning}
 use Rattle.lid_rate.specs.Rates.{IsRateable, numbers_where, AreLabels, is_labelled, edges_of, IsPartOf, IsLoopAt, is_loop_edge, Assembles}
 use Rattle.lid_rate.proofs.NumbersWhere.{those_only}
 use Rattle.lid_rate.proofs.Components.{edge_listed, stands_contains, is_closed_walk, starts, part_of_label}

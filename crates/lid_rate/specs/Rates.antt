@@ -7,7 +7,7 @@ use Rattle.lid_graph.specs.Walks.{edge_at, IsPaired, IsClosedWalk, IsLeastJoined
 use Rattle.lid_graph.specs.Ratios.{IsRatio, IsLag}
 use Rattle.lid_cert.specs.declared.cert.Part.{Part}
 use Rattle.lid_cert.specs.Certificates.{has_node, lag_of, least_node, IsPart, IsPartInRange}
-use Rattle.lid_rate.specs.WalksBack.{MeetsOnce}
+use Rattle.lid_ratio.specs.WalksBack.{MeetsOnce}
 
 -- each closed walk has a token
 abbrev pub WalksHaveTokens : Graph → Type 0

@@ -1,7 +1,7 @@
 use Rattle.std.proofs.Common.{ℕ, ◌<◌, length, map, ap, ◌∙◌, arith}
 use Rattle.std.proofs.lemmas.List.{take_all}
 use Rattle.std.proofs.lemmas.List.Elements.{All-get_or}
-use Rattle.lid_rate.proofs.Written.{column_more}
+use Rattle.lid_ratio.proofs.Written.{column_more}
 use Rattle.lid_rate.proofs.parts.at_nodes.Goals as goal
 
 pub loop-v-preserved : goal.loop-v-preserved

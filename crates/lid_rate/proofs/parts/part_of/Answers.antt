@@ -1,6 +1,6 @@
 use Rattle.std.proofs.Common.{◌≤◌, ◌^◌, ℕ, List, length, sym, ◌∙◌, subst}
-use Rattle.lid_rate.specs.Relaxation.{AreEdges}
-use Rattle.lid_rate.specs.CycleRatios.{IsOneTokenLoop}
+use Rattle.lid_ratio.specs.Relaxation.{AreEdges}
+use Rattle.lid_ratio.specs.CycleRatios.{IsOneTokenLoop}
 use Rattle.lid_rate.specs.Rates.{Assembles, IsPartOf}
 use Rattle.lid_rate.proofs.Components.{are_edges, few_edges_of}
 use Rattle.lid_rate.proofs.Finishing.{first_loop, nodes_low, first_within, start_within, part_made, if_ok_on}
