@@ -6,6 +6,6 @@ pub mod Backward
 pub mod Rates
 pub mod Growing
 pub mod Written
-pub mod Judging
+pub mod Tested
 pub mod Searched
 pub mod Reached

@@ -3,7 +3,7 @@ use Rattle.std.specs.Prelude.{◌≡◌, ℕ, ◌+◌, ◌*◌, ◌^◌, ◌<◌
 use Rattle.std.specs.Option.{MatchOption}
 use Rattle.std.specs.List.{All}
 use Rattle.lid_graph.specs.declared.graph.Graph.{Graph}
-use Rattle.lid_graph.specs.Walks.{edge_at}
+use Rattle.lid_graph.specs.Walks.{edge_at, walk_start}
 use Rattle.lid_ratio.specs.WalksBack.{predecessor_of}
 use Rattle.lid_ratio.specs.Relaxation.{IsMet}
 
@@ -15,6 +15,11 @@ LeadsOn g at seen (k ∷ ks) end =
     × ((edge_at g k).from ≡ at)
     × (slice_index_or seen (edge_at g k).to false ≡ false)
     × LeadsOn g (edge_at g k).to (slice_set seen (edge_at g k).to true) ks end
+
+-- the edges lead on from where the first begins back to there
+abbrev pub IsSeenRound : Graph → List ℕ → Type 0
+IsSeenRound g walk =
+    (seen : List Bool) × (length seen ≡ g.nodes) × LeadsOn g (walk_start g walk) seen walk (walk_start g walk)
 
 -- an edge to v, from a transition of lesser rank, that asks for all of v's lag
 pub record IsTight (g : Graph) (p q : ℕ) (lags ranks : List ℕ) (v k : ℕ) : Type 0 where

@@ -6,7 +6,7 @@ ghost use Rattle.std.specs.List.{All};
 ghost use Rattle.lid_graph.specs.Walks.{edge_at, walk_start};
 ghost use Rattle.lid_ratio.specs.Relaxation.{AreAtMost, IsMet};
 ghost use Rattle.lid_ratio.specs.Components.{IsSmallGraph, IsCycle, HasRate};
-ghost use Rattle.lid_ratio.specs.Tests.{LeadsOn, IsTight, IsShown, AreShown};
+ghost use Rattle.lid_ratio.specs.Tests.{LeadsOn, IsSeenRound, IsTight, IsShown, AreShown};
 
 use crate::lowest_terms::{Ratio, lowest, tokens_on};
 use crate::relaxation::edge;
@@ -52,7 +52,7 @@ fn is_round(graph: &Graph, walk: &[u32], seen: &mut [bool], start: u32) -> bool
 /// Whether edges make a closed walk that meets no transition twice.
 fn is_cycle(alloc: Global, graph: &Graph, walk: &[u32]) -> Result<bool, AllocError>
     requires { IsSmallGraph graph.now }
-    ensures { IfOk result (λ closed. IsTrue closed → (seen : List Bool) × (length seen ≡ graph.now.nodes) × LeadsOn graph.now (walk_start graph.now walk.now) seen walk.now (walk_start graph.now walk.now)) }
+    ensures { IfOk result (λ closed. IsTrue closed → IsSeenRound graph.now walk.now) }
 {
     let mut seen = Vec::from_elem(alloc, false, graph.nodes as usize)?;
     let start = walk_start(graph, walk);

@@ -1,7 +1,7 @@
 //! The ratio of a graph whose transitions are all joined, and its lags: by a guess that is tested, and
 //! by a search where the test fails.
 
-ghost use Rattle.std.specs.Prelude.{◌≡◌, ℕ, ◌<◌, length, slice_index, IfOk};
+ghost use Rattle.std.specs.Prelude.{◌≡◌, ◌<◌, ◌^◌, length, IfOk};
 ghost use Rattle.lid_ratio.specs.Components.{IsSmallGraph, IsLoop, HasRate};
 ghost use Rattle.lid_ratio.specs.Numbers.{AreAllNumbers};
 
