@@ -12,3 +12,4 @@ pub use checking::check;
 pub use laws::{
     caps_are_reached, each_is_shown, lags_bound_firings, leads_bound_firings, ratio_is_shown,
 };
+pub use places::place_of;

@@ -23,7 +23,7 @@ pub(crate) fn ascends(numbers: &[u32]) -> bool
 
 /// Where a number stands in an ascending list. It is found at once where the list has all numbers
 /// from 0 on, and otherwise in time logarithmic in the length.
-fn search(numbers: &[u32], wanted: u32) -> Option<usize>
+pub fn place_of(numbers: &[u32], wanted: u32) -> Option<usize>
     requires { ascends numbers.now ≡ true }
     ensures { result ≡ position (λ n. n == wanted) numbers.now }
 {
@@ -52,7 +52,7 @@ pub(crate) fn place_in(part: &Part, v: u32) -> Option<usize>
     requires { ascends part.now.nodes ≡ true }
     ensures { result ≡ place_in part.now v }
 {
-    search(part.nodes.as_slice(), v)
+    place_of(part.nodes.as_slice(), v)
 }
 
 /// Whether a transition stands in a part.

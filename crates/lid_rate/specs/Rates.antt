@@ -1,5 +1,5 @@
 -- Graphs whose components have certificates, and what the search answers.
-use Rattle.std.specs.Prelude.{◌≡◌, ℕ, zero, suc, ◌^◌, ◌<◌, ◌≤◌, ◌==◌, ◌&&◌, true, Bool, if◌then◌else◌, List, [], ◌∷◌, ◌++◌, length, map, slice_index, slice_index_or, Option, None}
+use Rattle.std.specs.Prelude.{◌≡◌, ℕ, zero, suc, ◌^◌, ◌<◌, ◌≤◌, ◌==◌, ◌&&◌, true, Bool, if◌then◌else◌, List, [], ◌∷◌, ◌++◌, length, map, slice_index}
 use Rattle.std.specs.List.{All, count_by}
 use Rattle.lid_graph.specs.declared.graph.Edge.{Edge}
 use Rattle.lid_graph.specs.declared.graph.Graph.{Graph}
@@ -45,6 +45,7 @@ pub record IsPartOf (g : Graph) (least : List ℕ) (r : ℕ) (part : Part) : Typ
   pub nodes_are : part.nodes ≡ numbers_where (is_labelled least r) (length least)
   pub meets : IsPart g part
   pub once : MeetsOnce g part.cycle
+  pub short : length part.cycle ≤ length part.nodes
   pub in_range : IsPartInRange part
   pub lags : (v : ℕ) → has_node part v ≡ true → IsLag g part.p part.q v (lag_of part v)
 
@@ -57,17 +58,6 @@ pub record IsLoopAt (g : Graph) (v k : ℕ) : Type 0 where
 
 abbrev pub is_loop_edge : Edge → ℕ → Bool
 is_loop_edge e v = (e.from == v) && ((e.to == v) && (e.tokens == 1))
-
--- the part with these transitions and these numbers for all transitions of the graph
-pub record Assembles (nodes : List ℕ) (p q : ℕ) (walk lags : List ℕ) (via : List (Option ℕ)) (lead depth : List ℕ) (part : Part) : Type 0 where
-  pub nodes_are : part.nodes ≡ nodes
-  pub p_is : part.p ≡ p
-  pub q_is : part.q ≡ q
-  pub cycle_is : part.cycle ≡ walk
-  pub lag_is : part.lag ≡ map (λ v. slice_index lags v) part.nodes
-  pub lead_is : part.lead ≡ map (λ v. slice_index lead v) part.nodes
-  pub via_is : part.via ≡ map (λ v. slice_index_or via v None) part.nodes
-  pub depth_is : part.depth ≡ map (λ v. slice_index depth v) part.nodes
 
 -- p/q is the ratio of the component, each lag is the number that it bounds, the walk meets no
 -- transition twice, and all numbers are in the ranges of a certificate's text

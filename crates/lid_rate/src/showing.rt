@@ -6,7 +6,7 @@ ghost use Rattle.lid_graph.specs.Walks.{edge_at};
 ghost use Rattle.lid_rate.specs.Rates.{IsLoopAt, WalksHaveTokens, is_loop_edge};
 ghost use Rattle.lid_rate.specs.Shown.{IsBack, LeadsUp, IsEdgeShown, IsShown};
 
-use crate::relaxation::edge;
+use lid_ratio::edge;
 use lid_graph::Graph;
 
 /// Whether `back` is an edge from the end of another edge to its beginning.

@@ -15,3 +15,4 @@ pub use branching::{tree_by, tree_of};
 pub use cycle_ratio::Rate;
 pub use lowest_terms::Ratio;
 pub use rating::{rate_by, rate_of};
+pub use relaxation::edge;

@@ -15,7 +15,7 @@ pub(crate) struct Potentials {
 }
 
 /// The edge with this number.
-pub(crate) fn edge(graph: &Graph, k: u32) -> Edge
+pub fn edge(graph: &Graph, k: u32) -> Edge
     requires { k < length graph.now.edges }
     ensures { result ≡ edge_at graph.now k }
 {

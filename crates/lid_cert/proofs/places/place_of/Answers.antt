@@ -1,6 +1,6 @@
 use Rattle.std.proofs.Common.{◌+◌, ◌-◌, ◌/◌, ◌<◌, get_or, sym, arith}
 use Rattle.lid_cert.proofs.Ascending.{place_found, place_missing, below_middle, above_middle, none_between}
-use Rattle.lid_cert.proofs.places.search.Goals as goal
+use Rattle.lid_cert.proofs.places.place_of.Goals as goal
 
 pub returns-then-numbers-guess : goal.returns-then-numbers-guess
 returns-then-numbers-guess c = sym (place_found c.args.numbers.now c.args.wanted c.args.wanted c.requires c.if-guess-numbers.true c.if-numbers-guess.true)
