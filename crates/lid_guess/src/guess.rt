@@ -93,11 +93,7 @@ fn walk_of(alloc: Global, graph: &Graph, plan: &Plan) -> Result<Vec<u32>, AllocE
 }
 
 /// The lags, and how they were settled.
-fn settled(
-    alloc: Global,
-    graph: &Graph,
-    plan: &Plan,
-) -> Result<(Vec<u64>, Settling), AllocError> {
+fn settled(alloc: Global, graph: &Graph, plan: &Plan) -> Result<(Vec<u64>, Settling), AllocError> {
     let mut heap = heap_by_values(alloc, graph, plan)?;
     let settling = settle(alloc, graph, &mut heap, plan)?;
     let lags = lags_of(alloc, &heap, plan)?;

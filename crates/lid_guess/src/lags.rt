@@ -54,13 +54,7 @@ fn relax_from(
 }
 
 /// Settles all transitions, least key first.
-fn settle_all(
-    heap: &mut Heap,
-    settling: &mut Settling,
-    fans: &Fans,
-    edges: &[Edge],
-    plan: &Plan,
-) {
+fn settle_all(heap: &mut Heap, settling: &mut Settling, fans: &Fans, edges: &[Edge], plan: &Plan) {
     let mut rank: u32 = 0;
     for _ in 0..plan.policy.choices.len() {
         let v = pop(heap);

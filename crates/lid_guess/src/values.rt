@@ -137,13 +137,7 @@ pub(crate) fn evaluate(
 }
 
 /// Chooses each edge into a transition that lowers the value where it begins. Answers whether one does.
-fn improve_into(
-    policy: &mut Policy,
-    fans: &Fans,
-    edges: &[Edge],
-    cycle: Cycle,
-    v: u32,
-) -> bool {
+fn improve_into(policy: &mut Policy, fans: &Fans, edges: &[Edge], cycle: Cycle, v: u32) -> bool {
     let mut lowered = false;
     let first = get(&fans.starts, v, 0);
     let end = get(&fans.starts, v.wrapping_add(1), 0);

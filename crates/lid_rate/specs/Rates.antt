@@ -1,11 +1,12 @@
 -- Graphs whose components have certificates, and what the search answers.
-use Rattle.std.specs.Prelude.{◌≡◌, ℕ, zero, suc, ◌^◌, ◌<◌, ◌≤◌, ◌==◌, ◌&&◌, true, Bool, if◌then◌else◌, List, [], ◌∷◌, ◌++◌, length, map, slice_index}
-use Rattle.std.specs.List.{All, count_by}
+use Rattle.std.specs.Prelude.{◌≡◌, ℕ, zero, suc, ◌^◌, ◌<◌, ◌≤◌, ◌==◌, nat_lt, ◌&&◌, true, Bool, if◌then◌else◌, List, [], ◌∷◌, ◌++◌, length, map, slice_index}
+use Rattle.std.specs.List.{All, count_by, sum_by}
 use Rattle.lid_graph.specs.declared.graph.Edge.{Edge}
 use Rattle.lid_graph.specs.declared.graph.Graph.{Graph}
 use Rattle.lid_graph.specs.Walks.{edge_at, IsPaired, IsClosedWalk, IsLeastJoined, walk_tokens}
 use Rattle.lid_graph.specs.Ratios.{IsRatio, IsLag}
 use Rattle.lid_cert.specs.declared.cert.Part.{Part}
+use Rattle.lid_cert.specs.declared.cert.Cert.{Cert}
 use Rattle.lid_cert.specs.Certificates.{has_node, lag_of, least_node, IsPart, IsPartInRange}
 use Rattle.lid_ratio.specs.WalksBack.{MeetsOnce}
 
@@ -71,9 +72,16 @@ pub record IsExact (g : Graph) (part : Part) : Type 0 where
 abbrev pub is_own : List ℕ → ℕ → Bool
 is_own least v = slice_index least v == v
 
+-- in each part the closed walk has no more edges than there are transitions, and all parts together have no
+-- more transitions than the graph
+pub record IsShort (g : Graph) (cert : Cert) : Type 0 where
+  pub walks : All (λ part. length part.cycle ≤ length part.nodes) cert.parts
+  pub nodes : sum_by (λ part. length part.nodes) cert.parts ≤ g.nodes
+
 -- the parts of the labels below n
 pub record AreParts (g : Graph) (least : List ℕ) (n : ℕ) (parts : List Part) : Type 0 where
   pub heads : map least_node parts ≡ numbers_where (is_own least) n
   pub each : All (λ part. IsPartOf g least (least_node part) part) parts
   pub counted : (w : ℕ) → w < g.nodes → slice_index least w < n → count_by (λ part. has_node part w) parts ≡ 1
+  pub sized : sum_by (λ part. length part.nodes) parts ≤ count_by (λ l. nat_lt l n) least
   pub uncounted : (w : ℕ) → w < g.nodes → n ≤ slice_index least w → count_by (λ part. has_node part w) parts ≡ 0

@@ -160,12 +160,7 @@ fn assemble(named: Numbering, found: Findings) -> Part
 }
 
 /// The part that says of the graph what was found of its piece.
-fn lifted(
-    alloc: Global,
-    nodes: &[u32],
-    edges: &[u32],
-    found: Findings,
-) -> Result<Part, AllocError>
+fn lifted(alloc: Global, nodes: &[u32], edges: &[u32], found: Findings) -> Result<Part, AllocError>
     ensures { IfOk result (IsLifted nodes.now edges.now found.rate.ratio.p found.rate.ratio.q found.rate.walk found.rate.lags found.tree.via found.tree.lead found.tree.depth) }
 {
     let named = numbering_of(alloc, nodes, edges, &found)?;
