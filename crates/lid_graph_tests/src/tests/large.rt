@@ -7,7 +7,7 @@ ghost use Rattle.lid_rate.specs.Rates.{IsRateable};
 use crate::tests::designs::{DIAMOND, Station, are_large, graph_of};
 use crate::tests::rate::{certified, is_taken};
 use lid_base::Items;
-use lid_cert::{Cert, Part, check};
+use lid_cert::{Cert, Part, check_by_owners};
 use lid_certtext::{print_cert, read_cert};
 use lid_graph::Graph;
 use lid_guess::Guess;
@@ -53,7 +53,7 @@ fn is_carried(alloc: Global, graph: &Graph, cert: &Cert) -> bool
         return false;
     }
     match read_cert(alloc, text.as_slice()) {
-        Ok(again) => check(graph, &again),
+        Ok(again) => check_by_owners(alloc, graph, &again),
         Err(_) => false,
     }
 }
@@ -86,7 +86,12 @@ fn carries(alloc: Global, nodes: u32, stations: &[Station], shown: (usize, u64, 
 /// The same of a hub with so many stages.
 fn carries_hub(alloc: Global, stages: u32, p: u64, q: u64) -> bool {
     match hub_of(alloc, stages) {
-        Ok(stations) => carries(alloc, 3 * (stages % 100_000) + 1, stations.as_slice(), (1, p, q)),
+        Ok(stations) => carries(
+            alloc,
+            3 * (stages % 100_000) + 1,
+            stations.as_slice(),
+            (1, p, q),
+        ),
         Err(_) => false,
     }
 }
@@ -103,7 +108,12 @@ fn carries_rings(alloc: Global, count: u32) -> bool {
     match rings_of(alloc, count) {
         Ok(stations) => {
             let count = count % 100_000;
-            carries(alloc, 15 * count, stations.as_slice(), (count as usize, 1, 15))
+            carries(
+                alloc,
+                15 * count,
+                stations.as_slice(),
+                (count as usize, 1, 15),
+            )
         }
         Err(_) => false,
     }
@@ -115,7 +125,12 @@ fn rates_many_rings(rt: HostRuntime) {
 }
 
 /// A guess of the diamond's ratio: some numbers may be wrong.
-type Guessed = (&'static [u32], &'static [u64], &'static [Option<u32>], &'static [u32]);
+type Guessed = (
+    &'static [u32],
+    &'static [u64],
+    &'static [Option<u32>],
+    &'static [u32],
+);
 
 /// The closed walk of the diamond.
 const WALK: &[u32] = &[2, 4, 6, 8, 15, 11];

@@ -7,7 +7,7 @@ ghost use Rattle.lid_rate.specs.Rates.{IsRateable};
 
 use crate::tests::designs::{DIAMOND, RING, Station, are, are_large, graph_of};
 use crate::tests::walks::rate_at;
-use lid_cert::{Cert, Part, check};
+use lid_cert::{Cert, Part, check_by_owners};
 use lid_graph::Graph;
 use lid_rate::{find, is_rateable};
 use std::alloc::{AllocError, Global};
@@ -80,7 +80,7 @@ pub(crate) fn certified(alloc: Global, graph: &Graph, stations: usize) -> Option
         return None;
     }
     match find(alloc, graph) {
-        Ok(cert) if check(graph, &cert) => Some(cert),
+        Ok(cert) if check_by_owners(alloc, graph, &cert) => Some(cert),
         _ => None,
     }
 }
