@@ -30,7 +30,7 @@ pub(crate) struct Plan {
 }
 
 /// Makes all marks 0.
-fn clear(marks: &mut [u32]) {
+pub(crate) fn clear(marks: &mut [u32]) {
     for k in 0..marks.len() {
         marks[k] = 0;
     }
@@ -66,7 +66,7 @@ fn improved(alloc: Global, policy: &mut Policy, graph: &Graph) -> Result<Cycle, 
 }
 
 /// The policy of the fewest tokens.
-fn first_policy(alloc: Global, graph: &Graph) -> Result<Policy, AllocError> {
+pub(crate) fn first_policy(alloc: Global, graph: &Graph) -> Result<Policy, AllocError> {
     let choices = first_choices(alloc, graph)?;
     let values = Vec::from_elem(alloc, 0, graph.nodes as usize)?;
     Ok(Policy { choices, values })
@@ -80,7 +80,7 @@ fn plan_of(alloc: Global, graph: &Graph) -> Result<Plan, AllocError> {
 }
 
 /// The edges of the closed walk.
-fn walk_of(alloc: Global, graph: &Graph, plan: &Plan) -> Result<Vec<u32>, AllocError> {
+pub(crate) fn walk_of(alloc: Global, graph: &Graph, plan: &Plan) -> Result<Vec<u32>, AllocError> {
     let edges = graph.edges.as_slice();
     let mut walk = Vec::new(alloc);
     let mut at = plan.cycle.start;

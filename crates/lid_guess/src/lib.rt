@@ -6,11 +6,14 @@
 mod fans;
 mod guess;
 mod heap;
+mod labels;
 mod lags;
 mod policy;
+mod queue;
 mod tables;
 mod tree;
 mod values;
 
 pub use guess::{Guess, propose};
+pub use labels::{Labels, propose_labels};
 pub use tree::{Branches, propose_tree};

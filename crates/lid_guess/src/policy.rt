@@ -4,6 +4,9 @@ use crate::tables::{edge_at, get, put};
 use lid_graph::{Edge, Graph};
 use std::alloc::{AllocError, Global};
 
+/// Stands for a transition's choice where its walks end there.
+pub(crate) const STOP: u32 = u32::MAX;
+
 /// A closed walk of a policy: a transition on it, and its sums.
 #[derive(Clone, Copy)]
 pub(crate) struct Cycle {
@@ -32,12 +35,8 @@ pub(crate) fn first_choices(alloc: Global, graph: &Graph) -> Result<Vec<u32>, Al
     Ok(choices)
 }
 
-/// Where the choice of a transition leads.
-fn next(edges: &[Edge], choices: &[u32], v: u32) -> u32 {
-    edge_at(edges, get(choices, v, 0)).to
-}
-
 /// Follows the choices from a transition on to the first that is marked, and marks all on the way.
+/// Where they stop it is no transition.
 fn follow(marks: &mut [u32], edges: &[Edge], choices: &[u32], from: u32, mark: u32) -> u32 {
     let mut at = from;
     for _ in 0..choices.len() {
@@ -45,7 +44,11 @@ fn follow(marks: &mut [u32], edges: &[Edge], choices: &[u32], from: u32, mark: u
             return at;
         }
         put(marks, at, mark);
-        at = next(edges, choices, at);
+        let k = get(choices, at, STOP);
+        if k == STOP {
+            return STOP;
+        }
+        at = edge_at(edges, k).to;
     }
     at
 }

@@ -1,10 +1,11 @@
 //! Values of a policy, and the choices that lower them.
 //!
 //! At the ratio T/L an edge costs tokens*L - T. A value is what the choices cost from a transition to
-//! where the closed walk starts. Values count from 2^62, so that those below it are numbers too.
+//! where the closed walk starts, or to where walks end that do not come there. Values count from 2^62,
+//! so that those below it are numbers too.
 
 use crate::fans::Fans;
-use crate::policy::Cycle;
+use crate::policy::{Cycle, STOP};
 use crate::tables::{edge_at, get, put};
 use lid_graph::{Edge, Graph};
 use std::alloc::{AllocError, Global};
@@ -118,6 +119,32 @@ fn search_back(
     }
 }
 
+/// Puts down that the walks of each transition that was not seen end there: no edges lead from it to the
+/// closed walk.
+fn stop_unseen(search: &mut Search, policy: &mut Policy) {
+    let mut v: u32 = 0;
+    for _ in 0..search.seen.len() {
+        if get(&search.seen, v, 0) != search.round {
+            put(&mut policy.choices, v, STOP);
+            put(&mut policy.values, v, ORIGIN);
+            see(search, v);
+        }
+        v = v.wrapping_add(1);
+    }
+}
+
+/// Begins a search at the transitions where walks end.
+fn see_stops(search: &mut Search, policy: &mut Policy) {
+    let mut v: u32 = 0;
+    for _ in 0..search.seen.len() {
+        if get(&policy.choices, v, 0) == STOP && get(&search.seen, v, 0) != search.round {
+            put(&mut policy.values, v, ORIGIN);
+            see(search, v);
+        }
+        v = v.wrapping_add(1);
+    }
+}
+
 /// Gives each transition its value. Where the choices do not lead to the closed walk they are changed.
 pub(crate) fn evaluate(
     search: &mut Search,
@@ -128,11 +155,17 @@ pub(crate) fn evaluate(
 ) {
     search.round = search.round.wrapping_add(1);
     search.count = 0;
-    put(&mut policy.values, cycle.start, ORIGIN);
-    see(search, cycle.start);
+    if (cycle.start as usize) < policy.choices.len() {
+        put(&mut policy.values, cycle.start, ORIGIN);
+        see(search, cycle.start);
+    }
+    see_stops(search, policy);
     search_back(search, policy, fans, edges, cycle, false);
     if (search.count as usize) < policy.choices.len() {
         search_back(search, policy, fans, edges, cycle, true);
+    }
+    if (search.count as usize) < policy.choices.len() {
+        stop_unseen(search, policy);
     }
 }
 
