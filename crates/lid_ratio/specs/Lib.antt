@@ -7,3 +7,4 @@ pub mod SpanningTrees
 pub mod Components
 pub mod Tests
 pub mod Numbers
+pub mod Bounds

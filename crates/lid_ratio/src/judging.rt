@@ -60,7 +60,11 @@ fn is_cycle(alloc: Global, graph: &Graph, walk: &[u32]) -> Result<bool, AllocErr
 }
 
 /// The ratio of a closed walk that meets no transition twice, or none where the edges are no such walk.
-fn ratio_of(alloc: Global, graph: &Graph, walk: &[u32]) -> Result<Option<Ratio>, AllocError>
+pub(crate) fn ratio_of(
+    alloc: Global,
+    graph: &Graph,
+    walk: &[u32],
+) -> Result<Option<Ratio>, AllocError>
     requires { IsSmallGraph graph.now }
     ensures { IfOk result (λ found. IfSome found (λ ratio. IsCycle graph.now ratio.p ratio.q walk.now)) }
 {
@@ -74,7 +78,7 @@ fn ratio_of(alloc: Global, graph: &Graph, walk: &[u32]) -> Result<Option<Ratio>,
 }
 
 /// Whether no lag is too large.
-fn are_small(lags: &[u64]) -> bool
+pub(crate) fn are_small(lags: &[u64]) -> bool
     ensures { IsTrue result ↔ All (λ n. n ≤ 2 ^ 60) lags.now }
 {
     lags.iter().all(|n| *n <= MOST)
@@ -95,7 +99,7 @@ fn is_met(edge: Edge, lags: &[u64], ratio: Ratio) -> bool
 }
 
 /// Whether the lags are as large as the edges ask.
-fn are_met(graph: &Graph, lags: &[u64], ratio: Ratio) -> bool
+pub(crate) fn are_met(graph: &Graph, lags: &[u64], ratio: Ratio) -> bool
     requires graph { IsSmallGraph graph.now }
     requires count { length lags.now ≡ graph.now.nodes }
     requires small { AreAtMost lags.now (2 ^ 60) }

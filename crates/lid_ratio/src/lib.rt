@@ -5,6 +5,7 @@ mod bellman_ford;
 mod branching;
 mod cycle_ratio;
 mod cycles;
+mod holding;
 mod judging;
 mod lowest_terms;
 mod rating;
@@ -13,6 +14,7 @@ mod spanning_tree;
 
 pub use branching::{tree_by, tree_of};
 pub use cycle_ratio::Rate;
+pub use holding::{Bound, holds, holds_by};
 pub use lowest_terms::Ratio;
 pub use rating::{rate_by, rate_of};
 pub use relaxation::edge;
