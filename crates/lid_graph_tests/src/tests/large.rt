@@ -10,8 +10,8 @@ use lid_base::Items;
 use lid_cert::{Cert, Part, check_by_owners};
 use lid_certtext::{print_cert, read_cert};
 use lid_graph::Graph;
-use lid_guess::Guess;
-use lid_ratio::{Rate, edge, rate_by};
+use lid_guess::{Guess, Labels};
+use lid_ratio::{Bound, Rate, Ratio, edge, holds, holds_by, rate_by};
 use std::alloc::{AllocError, Global};
 
 /// Stages of three transitions each in a row, every one of which leads back to a hub.
@@ -201,5 +201,64 @@ fn finds_in_spite_of(alloc: Global, guessed: &Guessed) -> bool {
 fn finds_the_rate_in_spite_of_wrong_guesses(rt: HostRuntime) {
     for case in &GUESSED {
         assert!(rt; finds_in_spite_of(rt.alloc(), case));
+    }
+}
+
+/// Ratios, labels to begin with, and whether no closed walk of the diamond has a lower ratio: its ratio
+/// is 1/2.
+static HELD: [(u64, u64, &[u64], bool); 7] = [
+    (1, 2, &[], true),
+    (1, 2, LAGS, true),
+    (1, 2, &[9, 0, 0, 0, 0, 0, 0, 0, 0, 0], true),
+    (0, 1, &[], true),
+    (3, 7, &[], true),
+    (4, 7, LAGS, false),
+    (1, 1, &[], false),
+];
+
+/// Whether labels for all transitions, or a closed walk of more than one edge, are the answer.
+fn is_bound(answer: Bound, labels: bool) -> bool {
+    match answer {
+        Bound::At(found) => labels && found.len() == 8,
+        Bound::Lower(walk) => !labels && walk.len() >= 2,
+    }
+}
+
+/// Whether it is this that holds of a graph at a ratio, both with a hint and in spite of a wrong guess.
+fn is_held(alloc: Global, graph: &Graph, aim: Ratio, hint: &[u64], labels: bool) -> bool
+    requires { IsRateable graph.now }
+{
+    if aim.p > 1000 || aim.q > 1000 {
+        return false;
+    }
+    let guess = Labels {
+        labels: Items::from_vec(Vec::new(alloc)),
+        walk: Items::from_vec(Vec::new(alloc)),
+    };
+    let (Ok(first), Ok(second)) = (
+        holds(alloc, graph, aim, hint),
+        holds_by(alloc, graph, aim, guess),
+    ) else {
+        return false;
+    };
+    is_bound(first, labels) && is_bound(second, labels)
+}
+
+/// The same of the diamond.
+fn is_held_of_diamond(alloc: Global, case: &(u64, u64, &[u64], bool)) -> bool {
+    let Ok(graph) = graph_of(alloc, 8, &DIAMOND) else {
+        return false;
+    };
+    let aim = Ratio {
+        p: case.0,
+        q: case.1,
+    };
+    is_taken(alloc, &graph, 16) == Ok(true) && is_held(alloc, &graph, aim, case.2, case.3)
+}
+
+#[test]
+fn tells_whether_a_ratio_is_kept(rt: HostRuntime) {
+    for case in &HELD {
+        assert!(rt; is_held_of_diamond(rt.alloc(), case));
     }
 }
