@@ -1,3 +1,4 @@
 pub mod Ascending
 pub mod Consequences
 pub mod Parts
+pub mod Owning

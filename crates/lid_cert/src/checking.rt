@@ -1,17 +1,20 @@
 //! The check of a certificate.
 
-ghost use Rattle.std.specs.Prelude.{◌≡◌, ◌<◌, ℕ, ◌↔◌, ◌∷◌, true, IsTrue, map};
+ghost use Rattle.std.specs.Prelude.{◌≡◌, ◌<◌, ℕ, ◌↔◌, ◌∷◌, true, IsTrue, map, replicate, None};
 ghost use Rattle.std.specs.List.{All, count_by};
 ghost use Rattle.lid_graph.specs.Walks.{walk_start};
 ghost use Rattle.lid_cert.specs.Certificates.{ascends, has_node, least_node, IsEdgeMet, IsStartMet, IsNodeMet, IsPart, IsPartInRange, IsInRange, Certifies};
+ghost use Rattle.lid_cert.specs.Owners.{Owns, AreOwned, IsPartInside};
 
 use crate::cert::{Cert, Part};
+use crate::owners::{are_all_owned, are_edges_owned, owners_of};
 use crate::places::{ascends, has_node};
 use crate::rules::{
     are_lists, has_ratio, is_closed_walk, is_edge_met, is_lowest, is_node_met, is_start_met,
     walk_start,
 };
 use lid_graph::Graph;
+use std::alloc::Global;
 
 /// Whether all transitions of a part are transitions of the graph.
 fn are_within(graph: &Graph, part: &Part) -> bool
@@ -49,10 +52,10 @@ fn are_nodes_met(graph: &Graph, part: &Part) -> bool
     nodes.iter().all(|v| is_node_met(graph, part, start, *v))
 }
 
-/// Whether the rules hold for a part.
-fn is_part(graph: &Graph, part: &Part) -> bool
+/// Whether the rules hold for a part, but those for edges.
+fn is_part_inside(graph: &Graph, part: &Part) -> bool
     requires { IsPartInRange part.now }
-    ensures { IsTrue result ↔ IsPart graph.now part.now }
+    ensures { IsTrue result ↔ IsPartInside graph.now part.now }
 {
     if part.nodes.is_empty() || !are_lists(part) {
         return false;
@@ -66,10 +69,31 @@ fn is_part(graph: &Graph, part: &Part) -> bool
     if !is_closed_walk(graph, part.cycle.as_slice()) || !has_ratio(graph, part) {
         return false;
     }
-    if !are_edges_met(graph, part) || !is_walk_start_met(graph, part) {
+    if !is_walk_start_met(graph, part) {
         return false;
     }
     are_nodes_met(graph, part)
+}
+
+/// The same of each part.
+fn are_parts_inside(graph: &Graph, parts: &[Part]) -> bool
+    requires { All IsPartInRange parts.now }
+    ensures { IsTrue result ↔ All (IsPartInside graph.now) parts.now }
+{
+    for part in parts {
+        if !is_part_inside(graph, part) {
+            return false;
+        }
+    }
+    true
+}
+
+/// Whether the rules hold for a part.
+fn is_part(graph: &Graph, part: &Part) -> bool
+    requires { IsPartInRange part.now }
+    ensures { IsTrue result ↔ IsPart graph.now part.now }
+{
+    is_part_inside(graph, part) && are_edges_met(graph, part)
 }
 
 /// Whether the rules hold for each part.
@@ -144,4 +168,44 @@ pub fn check(graph: &Graph, cert: &Cert) -> bool
         return false;
     }
     is_each_once(graph.nodes, parts)
+}
+
+/// Whether the rules hold for all parts, where it is known which part owns each transition.
+fn are_owned(graph: &Graph, parts: &[Part], owners: &[Option<u32>]) -> bool
+    requires range { All IsPartInRange parts.now }
+    requires owners { Owns 0 (replicate graph.now.nodes None) parts.now owners.now }
+    ensures { IsTrue result ↔ AreOwned graph.now parts.now owners.now }
+{
+    if parts.is_empty() || !are_parts_inside(graph, parts) || !are_in_order(parts) {
+        return false;
+    }
+    if !are_all_owned(owners) {
+        return false;
+    }
+    are_edges_owned(graph, parts, owners)
+}
+
+/// Whether a certificate shows the ratio of each component of a graph, where it is known which part owns
+/// each transition.
+fn check_owned(graph: &Graph, cert: &Cert, owners: &[Option<u32>]) -> bool
+    requires range { IsInRange cert.now }
+    requires owners { Owns 0 (replicate graph.now.nodes None) cert.now.parts owners.now }
+    ensures { IsTrue result ↔ Certifies graph.now cert.now }
+{
+    are_owned(graph, cert.parts.as_slice(), owners)
+}
+
+/// Whether a certificate shows the ratio of each component of a graph.
+///
+/// With memory for one number for each transition its time is linear in the graph and the certificate,
+/// but for the finding of transitions in a part, which is logarithmic. Without, or where a transition
+/// stands in two parts, it is that of [`check`].
+pub fn check_by_owners(alloc: Global, graph: &Graph, cert: &Cert) -> bool
+    requires { IsInRange cert.now }
+    ensures { IsTrue result ↔ Certifies graph.now cert.now }
+{
+    match owners_of(alloc, graph, cert.parts.as_slice()) {
+        Ok(Some(owners)) => check_owned(graph, cert, &owners),
+        _ => check(graph, cert),
+    }
 }

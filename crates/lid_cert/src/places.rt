@@ -1,9 +1,11 @@
 //! Where transitions stand in a part, and what the part says of them.
 
-ghost use Rattle.std.specs.Prelude.{◌≡◌, ◌+◌, ◌<◌, true, None, position, option_map, slice_index, slice_index_or, ◌==◌};
+ghost use Rattle.std.specs.List.{All};
+ghost use Rattle.lid_cert.specs.Owners.{part_at};
+ghost use Rattle.std.specs.Prelude.{ℕ, length, false, IfSome, IsNone, ◌≡◌, ◌+◌, ◌<◌, true, None, position, option_map, slice_index, slice_index_or, ◌==◌};
 ghost use Rattle.lid_cert.specs.Certificates.{ascends, rises, place_in, has_node, lag_of, lead_of, depth_of, via_of, AreLists};
 
-use crate::cert::Part;
+use crate::cert::{Cert, Part};
 
 /// Whether each number is above the one before.
 pub(crate) fn ascends(numbers: &[u32]) -> bool
@@ -23,7 +25,7 @@ pub(crate) fn ascends(numbers: &[u32]) -> bool
 
 /// Where a number stands in an ascending list. It is found at once where the list has all numbers
 /// from 0 on, and otherwise in time logarithmic in the length.
-fn search(numbers: &[u32], wanted: u32) -> Option<usize>
+pub fn place_of(numbers: &[u32], wanted: u32) -> Option<usize>
     requires { ascends numbers.now ≡ true }
     ensures { result ≡ position (λ n. n == wanted) numbers.now }
 {
@@ -52,7 +54,7 @@ pub(crate) fn place_in(part: &Part, v: u32) -> Option<usize>
     requires { ascends part.now.nodes ≡ true }
     ensures { result ≡ place_in part.now v }
 {
-    search(part.nodes.as_slice(), v)
+    place_of(part.nodes.as_slice(), v)
 }
 
 /// Whether a transition stands in a part.
@@ -75,7 +77,7 @@ fn at(numbers: &[u64], place: usize) -> u64
 }
 
 /// The lag of a transition, where it stands in the part.
-pub(crate) fn lag_at(part: &Part, v: u32) -> Option<u64>
+pub fn lag_at(part: &Part, v: u32) -> Option<u64>
     requires { ascends part.now.nodes ≡ true }
     ensures { result ≡ option_map (λ i. slice_index part.now.lag i) (place_in part.now v) }
 {
@@ -86,7 +88,7 @@ pub(crate) fn lag_at(part: &Part, v: u32) -> Option<u64>
 }
 
 /// The lead of a transition, or 0 where it is not in the part.
-pub(crate) fn lead_of(part: &Part, v: u32) -> u64
+pub fn lead_of(part: &Part, v: u32) -> u64
     requires { ascends part.now.nodes ≡ true }
     ensures { result ≡ lead_of part.now v }
 {
@@ -118,4 +120,20 @@ pub(crate) fn via_of(part: &Part, v: u32) -> Option<u32>
         Some(place) if place < vias.len() => vias[place],
         _ => None,
     }
+}
+
+/// The number of the first part that a transition stands in, if there is one.
+pub fn part_with(cert: &Cert, v: u32) -> Option<usize>
+    requires { All (λ part. ascends part.nodes ≡ true) cert.now.parts }
+    ensures some { IfSome result (λ k. (k < length cert.now.parts) × (has_node (part_at cert.now.parts k) v ≡ true)) }
+    ensures none { IsNone result → (k : ℕ) → k < length cert.now.parts → has_node (part_at cert.now.parts k) v ≡ false }
+    ensures first { IfSome result (λ k. (j : ℕ) → j < k → has_node (part_at cert.now.parts j) v ≡ false) }
+{
+    let parts = cert.parts.as_slice();
+    for k in 0..parts.len() {
+        if has_node(&parts[k], v) {
+            return Some(k);
+        }
+    }
+    None
 }

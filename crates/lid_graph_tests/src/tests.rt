@@ -3,6 +3,7 @@
 mod cert;
 mod designs;
 mod graph;
+mod large;
 mod order;
 mod rate;
 mod walks;

@@ -1,38 +1,23 @@
--- The part of a component meets the rules.
-use Rattle.std.proofs.Common.{◌≡◌, ℕ, ◌+◌, ◌-◌, ◌*◌, ◌^◌, ◌<◌, ◌≤◌, ◌==◌, ◌⊎◌, inl, inr, Bool, true, false, ◌||◌, List, [], ◌∷◌, length, get_or, map, reverse, position, Option, Some, None, is_some, refl, sym, ◌∙◌, ap, subst, arith}
+-- The piece of a component, and the part that it gives.
+use Rattle.std.proofs.Common.{◌≡◌, ℕ, zero, suc, ◌+◌, ◌-◌, ◌*◌, ◌^◌, ◌<◌, ◌≤◌, ◌≢◌, ◌==◌, ◌⊎◌, inl, inr, Bool, true, false, List, [], ◌∷◌, length, get_or, map, position, Option, Some, None, is_some, option_map, refl, sym, ◌∙◌, ap, subst, arith}
 use Rattle.std.specs.List.{Contains, All}
-use Rattle.std.specs.Option.{MatchOption}
+use Rattle.std.specs.Option.{MatchOption, option_map_or}
 use Rattle.std.specs.Int.{IsGcd}
-use Rattle.std.proofs.Math.Nat.{mul-le-mul_right}
-use Rattle.std.proofs.lemmas.Bool.{cases_lt, eq-eqb, eqb-true, ne_eqb}
-use Rattle.std.proofs.lemmas.List.{length-reverse, length-map, get_or-map, get_or_default, get_or-reverse}
+use Rattle.std.proofs.lemmas.Bool.{cases_lt, cases_eq, eq-eqb, eqb-true, ne_eqb}
+use Rattle.std.proofs.lemmas.List.{length-map, get_or-map, get_or_default}
 use Rattle.lid_graph.specs.declared.graph.Graph.{Graph}
 use Rattle.lid_graph.specs.Walks.{no_edge, edge_at, walk_start, walk_tokens, IsWalk, IsClosedWalk, IsJoined}
 use Rattle.lid_graph.specs.Ratios.{IsLag}
 use Rattle.lid_graph.proofs.Journeys.{joined_step, joined_back}
 use Rattle.lid_cert.specs.declared.cert.Part.{Part}
-use Rattle.lid_cert.specs.Certificates.{has_node, lag_of, lead_of, depth_of, via_of, AreLists, IsEdgeMet, IsStartMet, IsVia, IsNodeMet, IsPart, ascends}
+use Rattle.lid_cert.specs.Certificates.{place_in, has_node, lag_of, lead_of, depth_of, via_of, AreLists, IsEdgeMet, IsStartMet, IsVia, IsNodeMet, IsPart, ascends}
+use Rattle.lid_cert.proofs.Ascending.{rises_pair, place_found}
 use Rattle.lid_cert.proofs.Parts.{lag_along, stays_back}
-use Rattle.lid_rate.specs.WalksBack.{IsWalkBack, MeetsOnce}
-use Rattle.lid_rate.specs.Relaxation.{AreEdges}
-use Rattle.lid_rate.specs.CycleRatios.{IsRate}
-use Rattle.lid_rate.specs.SpanningTrees.{is_reached, IsTree, IsSpanning}
-use Rattle.lid_rate.specs.Rates.{IsRateable, numbers_where, AreLabels, is_labelled, edges_of, IsPartOf}
-use Rattle.lid_rate.proofs.Backward.{tokens_reverse, chain_walk}
-use Rattle.lid_rate.proofs.Settles.{contains_within}
-use Rattle.lid_rate.proofs.NumbersWhere.{Stands, those_only, those_all, those_ascends, those_has, those_has_not, those_few, column_at}
-
-pub start_of : (g : Graph) (ks : List ℕ) (u v : ℕ) → IsWalk g u ks v → 0 < length ks → walk_start g ks ≡ u
-start_of g [] u v walk some = absurd (omega arith)
-start_of g (k ∷ ks) u v walk some = walk.1
-
-once_back : (g : Graph) (ks : List ℕ) → MeetsOnce g ks → MeetsOnce g (reverse ks)
-once_back g ks once i j hi hj same =
-    let long = length-reverse ks in
-    let at_i : get_or (reverse ks) i 0 ≡ get_or ks (length ks - 1 - i) 0 = get_or-reverse ks i 0 (omega arith) in
-    let at_j : get_or (reverse ks) j 0 ≡ get_or ks (length ks - 1 - j) 0 = get_or-reverse ks j 0 (omega arith) in
-    let both : length ks - 1 - i ≡ length ks - 1 - j = once (length ks - 1 - i) (length ks - 1 - j) (omega arith) (omega arith) (ap (λ (n : ℕ). (edge_at g n).to) (sym at_i) ∙ (same ∙ ap (λ (n : ℕ). (edge_at g n).to) at_j)) in
-    omega arith
+use Rattle.lid_ratio.specs.WalksBack.{MeetsOnce}
+use Rattle.lid_ratio.specs.Components.{IsSmallGraph, IsLoop, AreAllJoined, IsBranch}
+use Rattle.lid_rate.specs.Rates.{IsRateable, numbers_where, AreLabels, is_labelled, edges_of, IsPartOf, IsLoopAt}
+use Rattle.lid_rate.specs.Pieces.{IsInside, IsPiece, IsFound, IsLifted}
+use Rattle.lid_rate.proofs.NumbersWhere.{Stands, those_only, those_all, those_ascends, those_has, those_has_not, those_few}
 
 module _ (g : Graph) (ok : IsRateable g) (least : List ℕ) (labels : AreLabels g least) where
   pub same_label : (u v : ℕ) → u < g.nodes → v < g.nodes → IsJoined g u v → get_or least u 0 ≡ get_or least v 0
@@ -62,73 +47,156 @@ module _ (g : Graph) (ok : IsRateable g) (least : List ℕ) (labels : AreLabels 
     abbrev Inside : ℕ → Type 0
     Inside v = get_or least v 0 ≡ r
 
-    pub are_edges : AreEdges g (edges_of g least r)
-    are_edges = record {
-      within = λ i h. (those_only (λ k. is_labelled least r (edge_at g k).from) (length g.edges) i h).0;
-      from = λ k h. (ok.paired.ends k h).from;
-      to = λ k h. (ok.paired.ends k h).to;
-      tokens = ok.tokens;
-    }
-
     pub edge_listed : (k : ℕ) → k < length g.edges → Inside (edge_at g k).from → Stands (edges_of g least r) k
     edge_listed k h inside = those_all (λ k. is_labelled least r (edge_at g k).from) (length g.edges) k h (eq-eqb (get_or least (edge_at g k).from 0) r inside)
 
     pub stands_contains : (k : ℕ) → Stands (edges_of g least r) k → Contains (edges_of g least r) k
     stands_contains k at = (at.place, at.within, get_or_default (edges_of g least r) at.place k 0 at.within ∙ at.is)
 
-    listed_inside : (k : ℕ) → Contains (edges_of g least r) k → Inside (edge_at g k).from
-    listed_inside k at =
-        let key : get_or (edges_of g least r) at.0 0 ≡ k = get_or_default (edges_of g least r) at.0 0 k at.1 ∙ at.2 in
-        let pass : is_labelled least r (edge_at g (get_or (edges_of g least r) at.0 0)).from ≡ true = (those_only (λ k. is_labelled least r (edge_at g k).from) (length g.edges) at.0 at.1).1 in
-        ap (λ (n : ℕ). get_or least (edge_at g n).from 0) (sym key) ∙ eqb-true (get_or least (edge_at g (get_or (edges_of g least r) at.0 0)).from 0) r pass
+    -- the transitions of the piece, and its edges
+    pub node_is : (i : ℕ) → i < length (numbers_where (is_labelled least r) (length least)) → (get_or (numbers_where (is_labelled least r) (length least)) i 0 < g.nodes) × Inside (get_or (numbers_where (is_labelled least r) (length least)) i 0)
+    node_is i h =
+        let only = those_only (is_labelled least r) (length least) i h in
+        let count = labels.count in
+        (omega (arith, only.0), eqb-true (get_or least (get_or (numbers_where (is_labelled least r) (length least)) i 0) 0) r only.1)
 
-    pub few_edges_of : length (edges_of g least r) ≤ 2 ^ 19
-    few_edges_of = let e = ok.edges in let few = those_few (λ k. is_labelled least r (edge_at g k).from) (length g.edges) in omega arith
+    pub node_stands : (v : ℕ) → v < g.nodes → Inside v → Stands (numbers_where (is_labelled least r) (length least)) v
+    node_stands v h inside = those_all (is_labelled least r) (length least) v (let c = labels.count in omega arith) (eq-eqb (get_or least v 0) r inside)
 
-    module _ (p q : ℕ) (walk lags : List ℕ) (rate : IsRate g (edges_of g least r) p q walk lags) where
-      abbrev at : ℕ
-      at = rate.rated.cycle.at
+    pub edge_is : (i : ℕ) → i < length (edges_of g least r) → (get_or (edges_of g least r) i 0 < length g.edges) × Inside (edge_at g (get_or (edges_of g least r) i 0)).from
+    edge_is i h =
+        let only = those_only (λ k. is_labelled least r (edge_at g k).from) (length g.edges) i h in
+        (only.0, eqb-true (get_or least (edge_at g (get_or (edges_of g least r) i 0)).from 0) r only.1)
 
-      pub walk_long : length walk ≡ length rate.rated.cycle.chain
-      walk_long = ap length rate.rated.cycle.walk_is ∙ length-reverse rate.rated.cycle.chain
+    contains : (xs : List ℕ) (v : ℕ) → Stands xs v → Contains xs v
+    contains xs v at = (at.place, at.within, get_or_default xs at.place v 0 at.within ∙ at.is)
 
-      closed : IsWalk g rate.rated.cycle.at walk rate.rated.cycle.at
-      closed = subst (λ (l : List ℕ). IsWalk g rate.rated.cycle.at l rate.rated.cycle.at) (sym rate.rated.cycle.walk_is) (chain_walk g (edges_of g least r) are_edges rate.rated.cycle.chain rate.rated.cycle.at rate.rated.cycle.at rate.rated.cycle.chained)
+    pub nodes_ascend : ascends (numbers_where (is_labelled least r) (length least)) ≡ true
+    nodes_ascend = those_ascends (is_labelled least r) (length least)
 
-      pub walk_some : 0 < length walk
-      walk_some = let l = walk_long in let s = rate.rated.cycle.some in omega arith
+    pub edges_ascend : ascends (edges_of g least r) ≡ true
+    edges_ascend = those_ascends (λ k. is_labelled least r (edge_at g k).from) (length g.edges)
 
-      pub starts : walk_start g walk ≡ rate.rated.cycle.at
-      starts = start_of g walk rate.rated.cycle.at rate.rated.cycle.at closed walk_some
+    pub few_nodes : length (numbers_where (is_labelled least r) (length least)) ≤ 2 ^ 18
+    few_nodes = let n = ok.nodes in let c = labels.count in let few = those_few (is_labelled least r) (length least) in omega arith
 
-      pub is_closed_walk : IsClosedWalk g walk
-      is_closed_walk = record { some = walk_some; closed = subst (λ (n : ℕ). IsWalk g n walk n) (sym starts) closed }
+    pub few_edges : length (edges_of g least r) < 2 ^ 19
+    few_edges = let e = ok.edges in let few = those_few (λ k. is_labelled least r (edge_at g k).from) (length g.edges) in omega arith
 
-      tokens_same : walk_tokens g walk ≡ walk_tokens g rate.rated.cycle.chain
-      tokens_same = ap (walk_tokens g) rate.rated.cycle.walk_is ∙ tokens_reverse g rate.rated.cycle.chain
+    pub edges_inside : (i : ℕ) → i < length (edges_of g least r) → IsInside g (numbers_where (is_labelled least r) (length least)) (get_or (edges_of g least r) i 0)
+    edges_inside i h =
+        let at = edge_is i h in
+        let k = get_or (edges_of g least r) i 0 in
+        record {
+          within = at.0;
+          from = contains (numbers_where (is_labelled least r) (length least)) (edge_at g k).from (node_stands (edge_at g k).from ((ok.paired.ends k at.0).from) at.1);
+          to = contains (numbers_where (is_labelled least r) (length least)) (edge_at g k).to (node_stands (edge_at g k).to ((ok.paired.ends k at.0).to) (sym (edge_label k at.0) ∙ at.1));
+        }
 
-      ratio_same : walk_tokens g walk * q ≡ p * length walk
-      ratio_same =
-          let same = rate.rated.lowest.same in
-          let tokens : walk_tokens g walk * q ≡ walk_tokens g rate.rated.cycle.chain * q = ap (λ (n : ℕ). n * q) tokens_same in
-          let long : p * length walk ≡ p * length rate.rated.cycle.chain = ap (λ (n : ℕ). p * n) walk_long in
+    pub loop_listed : (k : ℕ) → IsLoopAt g r k → Contains (edges_of g least r) k
+    loop_listed k loop = contains (edges_of g least r) k (edge_listed k loop.within (ap (λ (n : ℕ). get_or least n 0) loop.from ∙ own))
+
+    -- each transition stands in one place
+    one_place : (i j : ℕ) → i < length (numbers_where (is_labelled least r) (length least)) → j < length (numbers_where (is_labelled least r) (length least)) → get_or (numbers_where (is_labelled least r) (length least)) i 0 ≡ get_or (numbers_where (is_labelled least r) (length least)) j 0 → i ≡ j
+    one_place i j hi hj same = by_order (cases_lt i j) (cases_lt j i)
+      where
+        by_order : (i < j) ⊎ (j ≤ i) → (j < i) ⊎ (i ≤ j) → i ≡ j
+        by_order (inl less) more = let pair = rises_pair (numbers_where (is_labelled least r) (length least)) 0 i j nodes_ascend less hj in absurd (omega arith)
+        by_order (inr a) (inl less) = let pair = rises_pair (numbers_where (is_labelled least r) (length least)) 0 j i nodes_ascend less hi in absurd (omega arith)
+        by_order (inr a) (inr b) = omega arith
+
+    module _ (piece : Graph) (cut : IsPiece g (numbers_where (is_labelled least r) (length least)) (edges_of g least r) piece) where
+      abbrev node : ℕ → ℕ
+      node i = get_or (numbers_where (is_labelled least r) (length least)) i 0
+
+      abbrev number : ℕ → ℕ
+      number k = get_or (edges_of g least r) k 0
+
+      pub small_piece : IsSmallGraph piece
+      small_piece = record {
+        nodes = (let c = cut.node_count in let f = few_nodes in omega arith);
+        edges = (let c = cut.edge_count in let f = few_edges in omega arith);
+        from = λ k h. (let c = cut.node_count in let e = cut.edge_count in let f = (cut.images k (omega arith)).from_within in omega arith);
+        to = λ k h. (let c = cut.node_count in let e = cut.edge_count in let f = (cut.images k (omega arith)).to_within in omega arith);
+        tokens = λ k h. (let e = cut.edge_count in let at = edge_is k (omega arith) in let few = ok.tokens (number k) at.0 in let t = (cut.images k (omega arith)).tokens in omega arith);
+      }
+
+      pub piece_loop : (k j : ℕ) → IsLoopAt g r k → j < length (edges_of g least r) → number j ≡ k → IsLoop piece j
+      piece_loop k j loop h is =
+          let image = cut.images j h in
+          let from : node (edge_at piece j).from ≡ r = image.from ∙ (ap (λ (n : ℕ). (edge_at g n).from) is ∙ loop.from) in
+          let to : node (edge_at piece j).to ≡ r = image.to ∙ (ap (λ (n : ℕ). (edge_at g n).to) is ∙ loop.to) in
+          record {
+            within = (let c = cut.edge_count in omega arith);
+            loops = one_place (edge_at piece j).from (edge_at piece j).to image.from_within image.to_within (from ∙ sym to);
+            token = image.tokens ∙ (ap (λ (n : ℕ). (edge_at g n).tokens) is ∙ loop.token);
+          }
+
+      -- a walk of the graph from a transition of the component is one of the piece
+      lowered : (ks : List ℕ) (u v a : ℕ) → IsWalk g u ks v → a < length (numbers_where (is_labelled least r) (length least)) → node a ≡ u → (b : ℕ) × (b < length (numbers_where (is_labelled least r) (length least))) × (node b ≡ v) × IsJoined piece a b
+      lowered [] u v a walk h at = (a, h, at ∙ walk, ([], refl))
+      lowered (k ∷ ks) u v a walk h at =
+          let inside : Inside (edge_at g k).from = ap (λ (n : ℕ). get_or least n 0) (walk.1 ∙ sym at) ∙ (node_is a h).1 in
+          let stands = edge_listed k walk.0 inside in
+          let image = cut.images stands.place stands.within in
+          let from : node (edge_at piece stands.place).from ≡ (edge_at g k).from = image.from ∙ ap (λ (n : ℕ). (edge_at g n).from) stands.is in
+          let to : node (edge_at piece stands.place).to ≡ (edge_at g k).to = image.to ∙ ap (λ (n : ℕ). (edge_at g n).to) stands.is in
+          let begins : (edge_at piece stands.place).from ≡ a = one_place (edge_at piece stands.place).from a image.from_within h (from ∙ (walk.1 ∙ sym at)) in
+          let later = lowered ks (edge_at g k).to v (edge_at piece stands.place).to walk.2 image.to_within to in
+          let within : stands.place < length piece.edges = (let w = stands.within in let c = cut.edge_count in omega arith) in
+          (later.0, later.1, later.2, (stands.place ∷ later.3.0, (within, begins, later.3.1)))
+
+      pub all_joined : (a : ℕ) → a < piece.nodes → AreAllJoined piece a
+      all_joined a h b l =
+          let c = cut.node_count in
+          let at_a = node_is a (omega arith) in
+          let at_b = node_is b (omega arith) in
+          let way = joined_by (node a) (node b) at_a.0 at_b.0 (at_a.1 ∙ sym at_b.1) in
+          let low = lowered way.0 (node a) (node b) a way.1 (omega arith) refl in
+          subst (IsJoined piece a) (one_place low.0 b low.1 (omega arith) low.2) low.3
+
+      -- a walk of the piece is one of the graph
+      raised : (ks : List ℕ) (a b : ℕ) → IsWalk piece a ks b → IsWalk g (node a) (map number ks) (node b)
+      raised [] a b walk = ap node walk
+      raised (k ∷ ks) a b walk =
+          let h : k < length (edges_of g least r) = (let c = cut.edge_count in let w = walk.0 in omega arith) in
+          let image = cut.images k h in
+          let rest = raised ks (edge_at piece k).to b walk.2 in
+          ((edge_is k h).0, sym image.from ∙ ap node walk.1, subst (λ (n : ℕ). IsWalk g n (map number ks) (node b)) image.to rest)
+
+      same_tokens : (ks : List ℕ) (a b : ℕ) → IsWalk piece a ks b → walk_tokens g (map number ks) ≡ walk_tokens piece ks
+      same_tokens [] a b walk = refl
+      same_tokens (k ∷ ks) a b walk =
+          let h : k < length (edges_of g least r) = (let c = cut.edge_count in let w = walk.0 in omega arith) in
+          let here = (cut.images k h).tokens in
+          let rest = same_tokens ks (edge_at piece k).to b walk.2 in
           omega arith
 
-      once_walk : MeetsOnce g walk
-      once_walk = subst (MeetsOnce g) (sym rate.rated.cycle.walk_is) (once_back g rate.rated.cycle.chain rate.rated.cycle.once)
+      raised_start : (ks : List ℕ) (a b : ℕ) → IsWalk piece a ks b → 0 < length ks → walk_start g (map number ks) ≡ node (walk_start piece ks)
+      raised_start [] a b walk some = absurd (omega arith)
+      raised_start (k ∷ ks) a b walk some = sym (cut.images k (let c = cut.edge_count in let w = walk.0 in omega arith)).from
 
-      at_of : (ks : List ℕ) (v u : ℕ) → 0 < length ks → IsWalkBack g (edges_of g least r) v ks u → (v < g.nodes) × Inside v
-      at_of [] v u some chain = absurd (omega arith)
-      at_of (k ∷ ks) v u some chain =
-          let h : k < length g.edges = contains_within g (edges_of g least r) k are_edges chain.0 in
-          (subst (λ (n : ℕ). n < g.nodes) chain.1 ((ok.paired.ends k h).to), ap (λ (n : ℕ). get_or least n 0) (sym chain.1) ∙ (sym (edge_label k h) ∙ listed_inside k chain.0))
+      walk_within : (ks : List ℕ) (a b i : ℕ) → IsWalk piece a ks b → i < length ks → get_or ks i 0 < length (edges_of g least r)
+      walk_within [] a b i walk h = absurd (omega arith)
+      walk_within (k ∷ ks) a b zero walk h = let c = cut.edge_count in let w = walk.0 in omega arith
+      walk_within (k ∷ ks) a b (suc i) walk h = walk_within ks (edge_at piece k).to b i walk.2 (omega arith)
 
-      pub at_inside : (rate.rated.cycle.at < g.nodes) × Inside rate.rated.cycle.at
-      at_inside = at_of rate.rated.cycle.chain rate.rated.cycle.at rate.rated.cycle.at rate.rated.cycle.some rate.rated.cycle.chained
+      raised_once : (ks : List ℕ) (a b : ℕ) → IsWalk piece a ks b → MeetsOnce piece ks → MeetsOnce g (map number ks)
+      raised_once ks a b walk once i j hi hj same =
+          let long = length-map ks number in
+          let at_i : get_or (map number ks) i 0 ≡ number (get_or ks i 0) = get_or-map number ks i 0 0 (omega arith) in
+          let at_j : get_or (map number ks) j 0 ≡ number (get_or ks j 0) = get_or-map number ks j 0 0 (omega arith) in
+          let image_i = cut.images (get_or ks i 0) (walk_within ks a b i walk (omega arith)) in
+          let image_j = cut.images (get_or ks j 0) (walk_within ks a b j walk (omega arith)) in
+          let ends : (edge_at g (number (get_or ks i 0))).to ≡ (edge_at g (number (get_or ks j 0))).to = ap (λ (n : ℕ). (edge_at g n).to) (sym at_i) ∙ (same ∙ ap (λ (n : ℕ). (edge_at g n).to) at_j) in
+          once i j (omega arith) (omega arith) (one_place (edge_at piece (get_or ks i 0)).to (edge_at piece (get_or ks j 0)).to image_i.to_within image_j.to_within (image_i.to ∙ (ends ∙ sym image_j.to)))
 
-      module _ (via : List (Option ℕ)) (lead depth : List ℕ) (first : ℕ) (tree : IsTree g (edges_of g least r) rate.rated.cycle.at q first via lead depth) (all : IsSpanning g (edges_of g least r) rate.rated.cycle.at (length (edges_of g least r)) via) (first_is : q * (length walk - 1) ≤ first + p * (length walk - 1)) (first_low : first ≤ 2 ^ 40) (part : Part) (nodes_are : part.nodes ≡ numbers_where (is_labelled least r) (length least)) (p_is : part.p ≡ p) (q_is : part.q ≡ q) (cycle_is : part.cycle ≡ walk) (lag_is : part.lag ≡ map (λ v. get_or lags v 0) part.nodes) (lead_is : part.lead ≡ map (λ v. get_or lead v 0) part.nodes) (via_is : part.via ≡ map (λ v. get_or via v None) part.nodes) (depth_is : part.depth ≡ map (λ v. get_or depth v 0) part.nodes) where
+      module _ (p q : ℕ) (walk lags : List ℕ) (via : List (Option ℕ)) (lead depth : List ℕ) (is_found : IsFound piece p q walk lags via lead depth) (part : Part) (lift : IsLifted (numbers_where (is_labelled least r) (length least)) (edges_of g least r) p q walk lags via lead depth part) where
+        abbrev start : ℕ
+        start = walk_start piece walk
+
         has : (v : ℕ) → v < g.nodes → has_node part v ≡ is_labelled least r v
-        has v h = ap (λ (l : List ℕ). is_some (position (λ n. n == v) l)) nodes_are ∙ those_has (is_labelled least r) (length least) v (let c = labels.count in omega arith)
+        has v h = ap (λ (l : List ℕ). is_some (position (λ n. n == v) l)) lift.nodes_are ∙ those_has (is_labelled least r) (length least) v (let c = labels.count in omega arith)
 
         has_inside : (v : ℕ) → v < g.nodes → Inside v → has_node part v ≡ true
         has_inside v h inside = has v h ∙ eq-eqb (get_or least v 0) r inside
@@ -139,39 +207,42 @@ module _ (g : Graph) (ok : IsRateable g) (least : List ℕ) (labels : AreLabels 
             by_order : (v < g.nodes) ⊎ (g.nodes ≤ v) → (v < g.nodes) × Inside v
             by_order (inl h) = (h, eqb-true (get_or least v 0) r (sym (has v h) ∙ e))
             by_order (inr h) =
-                let none : has_node part v ≡ false = ap (λ (l : List ℕ). is_some (position (λ n. n == v) l)) nodes_are ∙ those_has_not (is_labelled least r) (length least) v (let c = labels.count in omega arith) in
+                let none : has_node part v ≡ false = ap (λ (l : List ℕ). is_some (position (λ n. n == v) l)) lift.nodes_are ∙ those_has_not (is_labelled least r) (length least) v (let c = labels.count in omega arith) in
                 cc
 
-        own_lag : (v : ℕ) → v < g.nodes → Inside v → lag_of part v ≡ get_or lags v 0
-        own_lag v h inside = subst (λ (l : List ℕ). part.lag ≡ map (λ w. get_or lags w 0) l → lag_of (record part { nodes = l }) v ≡ get_or lags v 0) (sym nodes_are) (λ is. column_at (is_labelled least r) (length least) v (λ w. get_or lags w 0) 0 part.lag is (let c = labels.count in omega arith) (eq-eqb (get_or least v 0) r inside)) lag_is
+        -- what the part says of the transition in a place
+        placed : (a v : ℕ) → a < length (numbers_where (is_labelled least r) (length least)) → node a ≡ v → place_in part v ≡ Some a
+        placed a v h is = ap (λ (l : List ℕ). position (λ n. n == v) l) lift.nodes_are ∙ place_found (numbers_where (is_labelled least r) (length least)) v a nodes_ascend h is
 
-        own_lead : (v : ℕ) → v < g.nodes → Inside v → lead_of part v ≡ get_or lead v 0
-        own_lead v h inside = subst (λ (l : List ℕ). part.lead ≡ map (λ w. get_or lead w 0) l → lead_of (record part { nodes = l }) v ≡ get_or lead v 0) (sym nodes_are) (λ is. column_at (is_labelled least r) (length least) v (λ w. get_or lead w 0) 0 part.lead is (let c = labels.count in omega arith) (eq-eqb (get_or least v 0) r inside)) lead_is
+        lag_at : (a v : ℕ) → a < length (numbers_where (is_labelled least r) (length least)) → node a ≡ v → lag_of part v ≡ get_or lags a 0
+        lag_at a v h is = ap (λ (o : Option ℕ). option_map_or (λ i. get_or part.lag i 0) o 0) (placed a v h is) ∙ ap (λ (l : List ℕ). get_or l a 0) lift.lag_is
 
-        own_depth : (v : ℕ) → v < g.nodes → Inside v → depth_of part v ≡ get_or depth v 0
-        own_depth v h inside = subst (λ (l : List ℕ). part.depth ≡ map (λ w. get_or depth w 0) l → depth_of (record part { nodes = l }) v ≡ get_or depth v 0) (sym nodes_are) (λ is. column_at (is_labelled least r) (length least) v (λ w. get_or depth w 0) 0 part.depth is (let c = labels.count in omega arith) (eq-eqb (get_or least v 0) r inside)) depth_is
+        lead_at : (a v : ℕ) → a < length (numbers_where (is_labelled least r) (length least)) → node a ≡ v → lead_of part v ≡ get_or lead a 0
+        lead_at a v h is = ap (λ (o : Option ℕ). option_map_or (λ i. get_or part.lead i 0) o 0) (placed a v h is) ∙ ap (λ (l : List ℕ). get_or l a 0) lift.lead_is
 
-        own_via : (v : ℕ) → v < g.nodes → Inside v → via_of part v ≡ get_or via v None
-        own_via v h inside = subst (λ (l : List ℕ). part.via ≡ map (λ w. get_or via w None) l → via_of (record part { nodes = l }) v ≡ get_or via v None) (sym nodes_are) (λ is. column_at (is_labelled least r) (length least) v (λ w. get_or via w None) None part.via is (let c = labels.count in omega arith) (eq-eqb (get_or least v 0) r inside)) via_is
+        depth_at : (a v : ℕ) → a < length (numbers_where (is_labelled least r) (length least)) → node a ≡ v → depth_of part v ≡ get_or depth a 0
+        depth_at a v h is = ap (λ (o : Option ℕ). option_map_or (λ i. get_or part.depth i 0) o 0) (placed a v h is) ∙ ap (λ (l : List ℕ). get_or l a 0) lift.depth_is
 
-        r_stands : Stands (numbers_where (is_labelled least r) (length least)) r
-        r_stands = those_all (is_labelled least r) (length least) r (let c = labels.count in omega arith) (eq-eqb (get_or least r 0) r own)
+        via_at : (a v : ℕ) → a < length (numbers_where (is_labelled least r) (length least)) → node a ≡ v → via_of part v ≡ option_map number (get_or via a None)
+        via_at a v h is =
+            let count = is_found.tree.via_count in
+            let c = cut.node_count in
+            ap (λ (o : Option ℕ). option_map_or (λ i. get_or part.via i None) o None) (placed a v h is) ∙ (ap (λ (l : List (Option ℕ)). get_or l a None) lift.via_is ∙ get_or-map (λ o. option_map number o) via a None None (omega arith))
 
         lists : AreLists part
-        lists = record {
-          lag = ap length lag_is ∙ length-map part.nodes (λ v. get_or lags v 0);
-          lead = ap length lead_is ∙ length-map part.nodes (λ v. get_or lead v 0);
-          via = ap length via_is ∙ length-map part.nodes (λ v. get_or via v None);
-          depth = ap length depth_is ∙ length-map part.nodes (λ v. get_or depth v 0);
-        }
-
-        node_at : (i d : ℕ) → i < length part.nodes → (get_or part.nodes i d < g.nodes) × Inside (get_or part.nodes i d)
-        node_at i d h =
-            let count = labels.count in
-            let l : i < length (numbers_where (is_labelled least r) (length least)) = subst (λ (xs : List ℕ). i < length xs) nodes_are h in
-            let is : get_or part.nodes i d ≡ get_or (numbers_where (is_labelled least r) (length least)) i 0 = get_or_default part.nodes i d 0 h ∙ ap (λ (xs : List ℕ). get_or xs i 0) nodes_are in
-            let only = those_only (is_labelled least r) (length least) i l in
-            (omega (arith, only.0), ap (λ (n : ℕ). get_or least n 0) is ∙ eqb-true (get_or least (get_or (numbers_where (is_labelled least r) (length least)) i 0) 0) r only.1)
+        lists =
+            let c = cut.node_count in
+            let n : length part.nodes ≡ length (numbers_where (is_labelled least r) (length least)) = ap length lift.nodes_are in
+            let lag : length part.lag ≡ length lags = ap length lift.lag_is in
+            let leads : length part.lead ≡ length lead = ap length lift.lead_is in
+            let vias : length part.via ≡ length via = ap length lift.via_is ∙ length-map via (λ o. option_map number o) in
+            let depths : length part.depth ≡ length depth = ap length lift.depth_is in
+            record {
+              lag = (let l = is_found.rate.are_lags.count in omega arith);
+              lead = (let l = is_found.tree.lead_count in omega arith);
+              via = (let l = is_found.tree.via_count in omega arith);
+              depth = (let l = is_found.tree.depth_count in omega arith);
+            }
 
         edge_met : (k : ℕ) → k < length g.edges → IsEdgeMet part (edge_at g k)
         edge_met k h = record {
@@ -181,153 +252,139 @@ module _ (g : Graph) (ok : IsRateable g) (least : List ℕ) (labels : AreLabels 
           where
             met : ((edge_at g k).to < g.nodes) × Inside (edge_at g k).to → lag_of part (edge_at g k).from + part.p ≤ lag_of part (edge_at g k).to + part.q * (edge_at g k).tokens
             met to =
-                let inside : Inside (edge_at g k).from = edge_label k h ∙ to.1 in
-                let stands = edge_listed k h inside in
-                let rule : get_or lags (edge_at g k).from 0 + p ≤ get_or lags (edge_at g k).to 0 + q * (edge_at g k).tokens = subst (λ (l : ℕ). get_or lags (edge_at g l).from 0 + p ≤ get_or lags (edge_at g l).to 0 + q * (edge_at g l).tokens) stands.is (rate.are_lags.met stands.place stands.within) in
-                let low = own_lag (edge_at g k).from ((ok.paired.ends k h).from) inside in
-                let high = own_lag (edge_at g k).to to.0 to.1 in
-                let scaled : part.q * (edge_at g k).tokens ≡ q * (edge_at g k).tokens = ap (λ (n : ℕ). n * (edge_at g k).tokens) q_is in
+                let stands = edge_listed k h (edge_label k h ∙ to.1) in
+                let image = cut.images stands.place stands.within in
+                let rule : get_or lags (edge_at piece stands.place).from 0 + p ≤ get_or lags (edge_at piece stands.place).to 0 + q * (edge_at piece stands.place).tokens = is_found.rate.are_lags.met stands.place (let c = cut.edge_count in let w = stands.within in omega arith) in
+                let low = lag_at (edge_at piece stands.place).from (edge_at g k).from image.from_within (image.from ∙ ap (λ (n : ℕ). (edge_at g n).from) stands.is) in
+                let high = lag_at (edge_at piece stands.place).to (edge_at g k).to image.to_within (image.to ∙ ap (λ (n : ℕ). (edge_at g n).to) stands.is) in
+                let scaled : part.q * (edge_at g k).tokens ≡ q * (edge_at piece stands.place).tokens = ap (λ (n : ℕ). n * (edge_at g k).tokens) lift.q_is ∙ ap (λ (n : ℕ). q * n) (sym (image.tokens ∙ ap (λ (n : ℕ). (edge_at g n).tokens) stands.is)) in
+                let p_is = lift.p_is in
                 omega arith
 
-        -- all that edges of the component lead to is reached
-        reached_along : (ks : List ℕ) (u v : ℕ) → IsWalk g u ks v → Inside u → is_reached rate.rated.cycle.at via u ≡ true → is_reached rate.rated.cycle.at via v ≡ true
-        reached_along [] u v walk_is inside reached = subst (λ (n : ℕ). is_reached rate.rated.cycle.at via n ≡ true) walk_is reached
-        reached_along (k ∷ ks) u v walk_is inside reached =
-            let from : Inside (edge_at g k).from = ap (λ (n : ℕ). get_or least n 0) walk_is.1 ∙ inside in
-            let to : Inside (edge_at g k).to = sym (edge_label k walk_is.0) ∙ from in
-            let stands = edge_listed k walk_is.0 from in
-            let here : is_reached rate.rated.cycle.at via (edge_at g k).from ≡ true = ap (is_reached rate.rated.cycle.at via) walk_is.1 ∙ reached in
-            let on : is_reached rate.rated.cycle.at via (edge_at g k).from ≡ true → is_reached rate.rated.cycle.at via (edge_at g k).to ≡ true = subst (λ (l : ℕ). is_reached rate.rated.cycle.at via (edge_at g l).from ≡ true → is_reached rate.rated.cycle.at via (edge_at g l).to ≡ true) stands.is (all stands.place stands.within) in
-            reached_along ks (edge_at g k).to v walk_is.2 to (on here)
+        closed : IsWalk piece start walk start
+        closed = is_found.rate.cycle.closed.closed
 
-        at_reached : is_reached rate.rated.cycle.at via rate.rated.cycle.at ≡ true
-        at_reached = let e : rate.rated.cycle.at == rate.rated.cycle.at ≡ true = eq-eqb rate.rated.cycle.at rate.rated.cycle.at refl in rw e refl
+        start_within : start < length (numbers_where (is_labelled least r) (length least))
+        start_within = let c = cut.node_count in at walk start is_found.rate.cycle.closed.some closed
+          where
+            at : (ks : List ℕ) (b : ℕ) → 0 < length ks → IsWalk piece (walk_start piece ks) ks b → walk_start piece ks < length (numbers_where (is_labelled least r) (length least))
+            at [] b some way = absurd (omega arith)
+            at (k ∷ ks) b some way = (cut.images k (let c = cut.edge_count in let w = way.0 in omega arith)).from_within
 
-        reached : (v : ℕ) → v < g.nodes → Inside v → is_reached rate.rated.cycle.at via v ≡ true
-        reached v h inside =
-            let way = joined_by rate.rated.cycle.at v at_inside.0 h (at_inside.1 ∙ sym inside) in
-            reached_along way.0 rate.rated.cycle.at v way.1 at_inside.1 at_reached
+        start_is : walk_start g part.cycle ≡ node start
+        start_is = ap (walk_start g) lift.cycle_is ∙ raised_start walk start start closed is_found.rate.cycle.closed.some
 
-        is_via : (v k : ℕ) → v < g.nodes → Inside v → get_or via v None ≡ Some k → IsVia g part v k
-        is_via v k h inside e =
-            let listed = (tree.edges v k e).listed in
-            let within : k < length g.edges = contains_within g (edges_of g least r) k are_edges listed in
-            let from : Inside (edge_at g k).from = listed_inside k listed in
-            let from_within = (ok.paired.ends k within).from in
-            let deep = (tree.edges v k e).deeper in
-            let leads = (tree.edges v k e).leads in
-            let depth_v = own_depth v h inside in
-            let depth_u = own_depth (edge_at g k).from from_within from in
-            let lead_v = own_lead v h inside in
-            let lead_u = own_lead (edge_at g k).from from_within from in
-            let scaled : part.q * (edge_at g k).tokens ≡ q * (edge_at g k).tokens = ap (λ (n : ℕ). n * (edge_at g k).tokens) q_is in
+        long : length part.cycle ≡ length walk
+        long = ap length lift.cycle_is ∙ length-map walk number
+
+        is_closed : IsClosedWalk g part.cycle
+        is_closed = record {
+          some = (let s = is_found.rate.cycle.closed.some in let l = long in omega arith);
+          closed = subst (λ (n : ℕ). IsWalk g n part.cycle n) (sym start_is) (subst (λ (l : List ℕ). IsWalk g (node start) l (node start)) (sym lift.cycle_is) (raised walk start start closed));
+        }
+
+        ratio_part : walk_tokens g part.cycle * part.q ≡ part.p * length part.cycle
+        ratio_part =
+            let lowest = is_found.rate.cycle.lowest.same in
+            let tokens : walk_tokens g part.cycle ≡ walk_tokens piece walk = ap (walk_tokens g) lift.cycle_is ∙ same_tokens walk start start closed in
+            let a : walk_tokens g part.cycle * part.q ≡ walk_tokens piece walk * q = ap (λ (n : ℕ). n * part.q) tokens ∙ ap (λ (n : ℕ). walk_tokens piece walk * n) lift.q_is in
+            let b : part.p * length part.cycle ≡ p * length walk = ap (λ (n : ℕ). part.p * n) long ∙ ap (λ (n : ℕ). n * length walk) lift.p_is in
+            omega arith
+
+        start_met : IsStartMet part (walk_start g part.cycle)
+        start_met = subst (IsStartMet part) (sym start_is) (record {
+          inside = (let at = node_is start start_within in has_inside (node start) at.0 at.1);
+          depth = depth_at start (node start) start_within refl ∙ is_found.tree.root.no_depth;
+          via = via_at start (node start) start_within refl ∙ ap (λ (o : Option ℕ). option_map number o) is_found.tree.root.no_edge;
+          lead = start_lead;
+        })
+          where
+            start_lead : part.q * (length part.cycle - 1) ≤ lead_of part (node start) + part.p * (length part.cycle - 1)
+            start_lead =
+                let is = lead_at start (node start) start_within refl ∙ is_found.tree.root.first_lead in
+                let a : part.q * (length part.cycle - 1) ≡ q * (length walk - 1) = ap (λ (n : ℕ). n * (length part.cycle - 1)) lift.q_is ∙ ap (λ (n : ℕ). q * (n - 1)) long in
+                let b : part.p * (length part.cycle - 1) ≡ p * (length walk - 1) = ap (λ (n : ℕ). n * (length part.cycle - 1)) lift.p_is ∙ ap (λ (n : ℕ). p * (n - 1)) long in
+                let e = is_found.enough in
+                omega arith
+
+        is_via : (a k : ℕ) → a < length (numbers_where (is_labelled least r) (length least)) → IsBranch piece q lead depth a k → IsVia g part (node a) (number k)
+        is_via a k h branch =
+            let l : k < length (edges_of g least r) = (let w = branch.within in let c = cut.edge_count in omega arith) in
+            let image = cut.images k l in
+            let at = edge_is k l in
+            let from = (ok.paired.ends (number k) at.0).from in
+            let deep = branch.deeper in
+            let leads = branch.leads in
+            let depth_v = depth_at a (node a) h refl in
+            let depth_u = depth_at (edge_at piece k).from (edge_at g (number k)).from image.from_within image.from in
+            let lead_v = lead_at a (node a) h refl in
+            let lead_u = lead_at (edge_at piece k).from (edge_at g (number k)).from image.from_within image.from in
+            let scaled : part.q * (edge_at g (number k)).tokens ≡ q * (edge_at piece k).tokens = ap (λ (n : ℕ). n * (edge_at g (number k)).tokens) lift.q_is ∙ ap (λ (n : ℕ). q * n) (sym image.tokens) in
             record {
-              within = within;
-              ends = (tree.edges v k e).ends;
-              begins = has_inside (edge_at g k).from from_within from;
+              within = at.0;
+              ends = sym image.to ∙ ap node branch.ends;
+              begins = has_inside (edge_at g (number k)).from from at.1;
               depth = omega arith;
               lead = omega arith;
             }
 
-        node_met : (v : ℕ) → v < g.nodes → Inside v → IsNodeMet g part (walk_start g part.cycle) v
-        node_met v h inside other = subst (λ (o : Option ℕ). MatchOption o ⊥ (IsVia g part v)) (sym (own_via v h inside)) (by_via (get_or via v None) refl)
+        node_met : (a : ℕ) → a < length (numbers_where (is_labelled least r) (length least)) → IsNodeMet g part (walk_start g part.cycle) (node a)
+        node_met a h other =
+            let c = cut.node_count in
+            let not_start : a ≢ start = (λ same. other (ap node same ∙ sym start_is)) in
+            subst (λ (o : Option ℕ). MatchOption o ⊥ (IsVia g part (node a))) (sym (via_at a (node a) h refl)) (by_via (get_or via a None) (is_found.tree.branches a (omega arith) not_start))
           where
-            start_is : walk_start g part.cycle ≡ rate.rated.cycle.at
-            start_is = ap (walk_start g) cycle_is ∙ starts
+            by_via : (o : Option ℕ) → MatchOption o ⊥ (IsBranch piece q lead depth a) → MatchOption (option_map number o) ⊥ (IsVia g part (node a))
+            by_via None none = none
+            by_via (Some k) branch = is_via a k h branch
 
-            not_start : v == rate.rated.cycle.at ≡ false
-            not_start = ne_eqb v rate.rated.cycle.at (λ same. other (same ∙ sym start_is))
+        part_node : (i d : ℕ) → i < length part.nodes → (i < length (numbers_where (is_labelled least r) (length least))) × (get_or part.nodes i d ≡ node i)
+        part_node i d h =
+            let l : i < length (numbers_where (is_labelled least r) (length least)) = subst (λ (xs : List ℕ). i < length xs) lift.nodes_are h in
+            (l, get_or_default part.nodes i d 0 h ∙ ap (λ (xs : List ℕ). get_or xs i 0) lift.nodes_are)
 
-            by_via : (o : Option ℕ) → get_or via v None ≡ o → MatchOption o ⊥ (IsVia g part v)
-            by_via None e =
-                let yes_reached = reached v h inside in
-                let no_reached : is_reached rate.rated.cycle.at via v ≡ false = ap (λ (b : Bool). b || is_some (get_or via v None)) not_start ∙ ap is_some e in
-                absurd (cc)
-            by_via (Some k) e = is_via v k h inside e
-
-        start_met : IsStartMet part (walk_start g part.cycle)
-        start_met = subst (IsStartMet part) (sym (ap (walk_start g) cycle_is ∙ starts)) (record {
-          inside = has_inside rate.rated.cycle.at at_inside.0 at_inside.1;
-          depth = own_depth rate.rated.cycle.at at_inside.0 at_inside.1 ∙ tree.root.no_depth;
-          via = own_via rate.rated.cycle.at at_inside.0 at_inside.1 ∙ tree.root.no_edge;
-          lead = start_lead;
-        })
-          where
-            start_lead : part.q * (length part.cycle - 1) ≤ lead_of part rate.rated.cycle.at + part.p * (length part.cycle - 1)
-            start_lead =
-                let is = own_lead rate.rated.cycle.at at_inside.0 at_inside.1 ∙ tree.root.first_lead in
-                let long : length part.cycle ≡ length walk = ap length cycle_is in
-                let a : part.q * (length part.cycle - 1) ≡ q * (length walk - 1) = ap (λ (n : ℕ). n * (length part.cycle - 1)) q_is ∙ ap (λ (n : ℕ). q * (n - 1)) long in
-                let b : part.p * (length part.cycle - 1) ≡ p * (length walk - 1) = ap (λ (n : ℕ). n * (length part.cycle - 1)) p_is ∙ ap (λ (n : ℕ). p * (n - 1)) long in
-                omega arith
-
-        ratio_part : walk_tokens g part.cycle * part.q ≡ part.p * length part.cycle
-        ratio_part =
-            let same = ratio_same in
-            let a : walk_tokens g part.cycle * part.q ≡ walk_tokens g walk * q = ap (λ (l : List ℕ). walk_tokens g l * part.q) cycle_is ∙ ap (λ (n : ℕ). walk_tokens g walk * n) q_is in
-            let b : part.p * length part.cycle ≡ p * length walk = ap (λ (l : List ℕ). part.p * length l) cycle_is ∙ ap (λ (n : ℕ). n * length walk) p_is in
-            omega arith
-
-        pub is_part : IsPart g part
+        is_part : IsPart g part
         is_part = record {
-          some = (let w = r_stands.within in let e = ap length nodes_are in omega arith);
+          some = (let s = start_within in let e = ap length lift.nodes_are in omega arith);
           lists = lists;
-          ascending = ap ascends nodes_are ∙ those_ascends (is_labelled least r) (length least);
-          within = λ i d h. (node_at i d h).0;
-          positive = (let o = rate.rated.lowest.positive in omega arith);
-          lowest = subst (λ (n : ℕ). IsGcd n part.q 1) (sym p_is) (subst (λ (n : ℕ). IsGcd p n 1) (sym q_is) rate.rated.lowest.coprime);
-          walk = subst (IsClosedWalk g) (sym cycle_is) is_closed_walk;
+          ascending = ap ascends lift.nodes_are ∙ nodes_ascend;
+          within = λ i d h. (let at = part_node i d h in subst (λ (n : ℕ). n < g.nodes) (sym at.1) (node_is i at.0).0);
+          positive = (let o = is_found.rate.cycle.lowest.positive in let e = lift.q_is in omega arith);
+          lowest = subst (λ (n : ℕ). IsGcd n part.q 1) (sym lift.p_is) (subst (λ (n : ℕ). IsGcd p n 1) (sym lift.q_is) is_found.rate.cycle.lowest.coprime);
+          walk = is_closed;
           ratio = ratio_part;
           edges = λ k d h. subst (IsEdgeMet part) (get_or_default g.edges k no_edge d h) (edge_met k h);
           start = start_met;
-          nodes = λ i d h. node_met (get_or part.nodes i d) (node_at i d h).0 (node_at i d h).1;
+          nodes = λ i d h. (let at = part_node i d h in subst (IsNodeMet g part (walk_start g part.cycle)) (sym at.1) (node_met i at.0));
         }
 
         lag_of_node : (v : ℕ) → has_node part v ≡ true → IsLag g part.p part.q v (lag_of part v)
-        lag_of_node v e =
-            let inside = inside_has v e in
-            let is = own_lag v inside.0 inside.1 in
-            let way = rate.are_lags.attained v inside.0 in
-            let walk_v : IsWalk g way.0 (reverse way.1) v = chain_walk g (edges_of g least r) are_edges way.1 v way.0 way.2 in
-            let far : p * length way.1 ≡ get_or lags v 0 + q * walk_tokens g way.1 = way.3 in
-            let tokens : q * walk_tokens g (reverse way.1) ≡ q * walk_tokens g way.1 = ap (λ (n : ℕ). q * n) (tokens_reverse g way.1) in
-            let long : p * length (reverse way.1) ≡ p * length way.1 = ap (λ (n : ℕ). p * n) (length-reverse way.1) in
-            let a : part.p * length (reverse way.1) ≡ p * length (reverse way.1) = ap (λ (n : ℕ). n * length (reverse way.1)) p_is in
-            let b : part.q * walk_tokens g (reverse way.1) ≡ q * walk_tokens g (reverse way.1) = ap (λ (n : ℕ). n * walk_tokens g (reverse way.1)) q_is in
-            record {
-              all = λ u ks walk_is. (let along = lag_along g part is_part ks u v walk_is (stays_back g part is_part ks u v walk_is e) in omega arith);
-              some = (way.0, reverse way.1, walk_v, omega arith);
-            }
-
-        lags_low : All (λ n. n < 2 ^ 62) part.lag
-        lags_low i d h =
-            let l : i < length part.nodes = (let e = lists.lag in omega arith) in
-            let column : get_or part.lag i d ≡ get_or lags (get_or part.nodes i 0) 0 = ap (λ (xs : List ℕ). get_or xs i d) lag_is ∙ get_or-map (λ v. get_or lags v 0) part.nodes i 0 d l in
-            let low = rate.are_lags.small (get_or part.nodes i 0) in
-            omega arith
-
-        leads_low : All (λ n. n < 2 ^ 62) part.lead
-        leads_low i d h =
-            let l : i < length part.nodes = (let e = lists.lead in omega arith) in
-            let column : get_or part.lead i d ≡ get_or lead (get_or part.nodes i 0) 0 = ap (λ (xs : List ℕ). get_or xs i d) lead_is ∙ get_or-map (λ v. get_or lead v 0) part.nodes i 0 d l in
-            let small = tree.small (get_or part.nodes i 0) in
-            let shallow = tree.shallow (get_or part.nodes i 0) in
-            let nodes = ok.nodes in
-            let least_q = rate.rated.lowest.least_q in
-            let short = rate.rated.cycle.short in
-            let scaled : q * get_or depth (get_or part.nodes i 0) 0 ≤ 2 ^ 18 * get_or depth (get_or part.nodes i 0) 0 = mul-le-mul_right (get_or depth (get_or part.nodes i 0) 0) (omega arith) in
-            omega arith
+        lag_of_node v e = record {
+          all = λ u ks walk_is. (let along = lag_along g part is_part ks u v walk_is (stays_back g part is_part ks u v walk_is e) in omega arith);
+          some = by_place (let at = inside_has v e in node_stands v at.0 at.1);
+        }
+          where
+            by_place : Stands (numbers_where (is_labelled least r) (length least)) v → (u : ℕ) × (ks : List ℕ) × IsWalk g u ks v × (part.p * length ks ≡ lag_of part v + part.q * walk_tokens g ks)
+            by_place at =
+                let c = cut.node_count in
+                let way = is_found.rate.are_lags.asked at.place (let w = at.within in omega arith) in
+                let is = lag_at at.place v at.within at.is in
+                let far : p * length way.1 ≡ get_or lags at.place 0 + q * walk_tokens piece way.1 = way.3 in
+                let tokens : part.q * walk_tokens g (map number way.1) ≡ q * walk_tokens piece way.1 = ap (λ (n : ℕ). n * walk_tokens g (map number way.1)) lift.q_is ∙ ap (λ (n : ℕ). q * n) (same_tokens way.1 way.0 at.place way.2) in
+                let steps : part.p * length (map number way.1) ≡ p * length way.1 = ap (λ (n : ℕ). n * length (map number way.1)) lift.p_is ∙ ap (λ (n : ℕ). p * n) (length-map way.1 number) in
+                (node way.0, map number way.1, subst (IsWalk g (node way.0) (map number way.1)) at.is (raised way.1 way.0 at.place way.2), omega arith)
 
         pub part_of_label : IsPartOf g least r part
         part_of_label = record {
-          nodes_are = nodes_are;
+          nodes_are = lift.nodes_are;
           meets = is_part;
-          once = subst (MeetsOnce g) (sym cycle_is) once_walk;
+          once = subst (MeetsOnce g) (sym lift.cycle_is) (raised_once walk start start closed is_found.rate.cycle.once);
+          short = (let l = long in let s = is_found.rate.cycle.short in let c = cut.node_count in let n : length part.nodes ≡ length (numbers_where (is_labelled least r) (length least)) = ap length lift.nodes_are in omega arith);
           in_range = record {
-            p = (let a = rate.rated.few in let b = rate.rated.cycle.short in let n = ok.nodes in omega arith);
-            q = (let a = rate.rated.lowest.least_q in let b = rate.rated.cycle.short in let n = ok.nodes in omega arith);
-            lag = lags_low;
-            lead = leads_low;
+            p = (let a = is_found.rate.cycle.few in let b = is_found.rate.cycle.short in let n = small_piece.nodes in let e = lift.p_is in omega arith);
+            q = (let a = is_found.rate.cycle.lowest.least_q in let b = is_found.rate.cycle.short in let n = small_piece.nodes in let e = lift.q_is in omega arith);
+            lag = λ i d h. (let low = is_found.rate.are_lags.small i in let is : get_or part.lag i d ≡ get_or lags i 0 = get_or_default part.lag i d 0 h ∙ ap (λ (l : List ℕ). get_or l i 0) lift.lag_is in omega arith);
+            lead = λ i d h. (let low = is_found.tree.small i in let is : get_or part.lead i d ≡ get_or lead i 0 = get_or_default part.lead i d 0 h ∙ ap (λ (l : List ℕ). get_or l i 0) lift.lead_is in omega arith);
           };
           lags = lag_of_node;
         }

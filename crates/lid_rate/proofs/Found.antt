@@ -1,17 +1,17 @@
 -- All parts, from the least label on.
-use Rattle.std.proofs.Common.{◌≡◌, ℕ, zero, suc, ◌+◌, ◌<◌, ◌≤◌, ◌≢◌, ◌==◌, ◌⊎◌, inl, inr, Bool, true, false, cond, List, [], ◌∷◌, ◌++◌, length, get_or, map, position, is_some, refl, sym, ◌∙◌, ap, subst, arith, add-one}
-use Rattle.std.specs.List.{All, count_by}
-use Rattle.std.proofs.lemmas.Bool.{cases_eq, cases_lt, eq-eqb, eqb-true, ne_eqb}
+use Rattle.std.proofs.Common.{◌≡◌, ℕ, zero, suc, ◌+◌, ◌<◌, ◌≤◌, ◌≢◌, ◌==◌, ◌⊎◌, inl, inr, Bool, true, false, cond, nat_lt, List, [], ◌∷◌, ◌++◌, length, get_or, map, position, is_some, refl, sym, ◌∙◌, ap, subst, arith, add-one}
+use Rattle.std.specs.List.{All, count_by, sum_by}
+use Rattle.std.proofs.lemmas.Bool.{cases_eq, cases_lt, eq-eqb, eqb-true, ne_eqb, lt-ltb, le-ltb}
 use Rattle.std.proofs.lemmas.List.{map-append, length-append, get_or_append_left, get_or_default}
 use Rattle.std.proofs.Math.Seq.{get_or-append_seam}
-use Rattle.std.proofs.lemmas.List.Sums.{sum_by-append, count_by-le-length}
+use Rattle.std.proofs.lemmas.List.Sums.{sum_by-append, sum_by-cons, count_by-le-length}
 use Rattle.lid_graph.specs.declared.graph.Graph.{Graph}
 use Rattle.lid_cert.specs.declared.cert.Part.{Part}
 use Rattle.lid_cert.specs.declared.cert.Cert.{Cert}
 use Rattle.lid_cert.specs.Certificates.{has_node, least_node, parts_with, ascends, Certifies, IsInRange}
 use Rattle.lid_cert.proofs.Ascending.{rises_pair}
 use Rattle.lid_cert.proofs.Consequences.{ratio_is_shown}
-use Rattle.lid_rate.specs.Rates.{IsRateable, numbers_where, AreLabels, is_labelled, IsPartOf, IsExact, is_own, AreParts}
+use Rattle.lid_rate.specs.Rates.{IsRateable, numbers_where, AreLabels, is_labelled, IsPartOf, IsExact, IsShort, is_own, AreParts}
 use Rattle.lid_rate.proofs.NumbersWhere.{Stands, those_only, those_all, those_ascends, those_has}
 use Rattle.lid_rate.proofs.Components.{same_label}
 
@@ -38,6 +38,52 @@ all_end P xs x each here k d h = by_order (cases_lt k (length xs))
         let long : length (xs ++ x ∷ []) ≡ length xs + 1 = length-append xs (x ∷ []) in
         let is : k ≡ length xs = omega arith in
         subst P (sym (ap (λ (n : ℕ). get_or (xs ++ x ∷ []) n d) is ∙ get_or-append_seam xs x [] d)) here
+
+-- how many of the numbers below n pass a test
+abbrev passing : (ℕ → ℕ) → ℕ → ℕ
+passing f zero = 0
+passing f (suc n) = passing f n + f n
+
+length_where : (p : ℕ → Bool) (n : ℕ) → length (numbers_where p n) ≡ passing (λ i. bit (p i)) n
+length_where p zero = refl
+length_where p (suc n) = by_test (length_where p n) (p n)
+  where
+    by_test : length (numbers_where p n) ≡ passing (λ i. bit (p i)) n → (b : Bool) → length (cond b (numbers_where p n ++ n ∷ []) (numbers_where p n)) ≡ passing (λ i. bit (p i)) n + bit b
+    by_test before true = let long : length (numbers_where p n ++ n ∷ []) ≡ length (numbers_where p n) + 1 = length-append (numbers_where p n) (n ∷ []) in omega arith
+    by_test before false = omega arith
+
+passing_first : (f : ℕ → ℕ) (n : ℕ) → passing f (suc n) ≡ f 0 + passing (λ i. f (suc i)) n
+passing_first f zero = omega arith
+passing_first f (suc n) = let before = passing_first f n in omega arith
+
+passing_items : (f : ℕ → ℕ) (xs : List ℕ) → passing (λ i. f (get_or xs i 0)) (length xs) ≡ sum_by f xs
+passing_items f [] = refl
+passing_items f (x ∷ xs) =
+    let first : passing (λ i. f (get_or (x ∷ xs) i 0)) (suc (length xs)) ≡ f x + passing (λ i. f (get_or xs i 0)) (length xs) = passing_first (λ i. f (get_or (x ∷ xs) i 0)) (length xs) in
+    let rest = passing_items f xs in
+    let sums = sum_by-cons f x xs in
+    omega arith
+
+labelled_count : (least : List ℕ) (r : ℕ) → length (numbers_where (is_labelled least r) (length least)) ≡ count_by (λ l. l == r) least
+labelled_count least r = length_where (is_labelled least r) (length least) ∙ passing_items (λ l. bit (l == r)) least
+
+bits_next : (x v : ℕ) → bit (nat_lt x v) + bit (x == v) ≤ bit (nat_lt x (v + 1))
+bits_next x v = by_order (cases_lt x v) (cases_eq x v)
+  where
+    by_order : (x < v) ⊎ (v ≤ x) → (x ≡ v) ⊎ (x ≢ v) → bit (nat_lt x v) + bit (x == v) ≤ bit (nat_lt x (v + 1))
+    by_order (inl less) e = rw (lt-ltb x v less, ne_eqb x v (λ is. omega arith), lt-ltb x (v + 1) (omega arith)) (omega arith)
+    by_order (inr more) (inl is) = rw (le-ltb x v more, eq-eqb x v is, lt-ltb x (v + 1) (omega arith)) (omega arith)
+    by_order (inr more) (inr other) = rw (le-ltb x v more, ne_eqb x v other) (omega arith)
+
+below_next : (xs : List ℕ) (v : ℕ) → count_by (λ l. nat_lt l v) xs + count_by (λ l. l == v) xs ≤ count_by (λ l. nat_lt l (v + 1)) xs
+below_next [] v = omega arith
+below_next (x ∷ xs) v =
+    let rest = below_next xs v in
+    let here = bits_next x v in
+    let a : count_by (λ l. nat_lt l v) (x ∷ xs) ≡ bit (nat_lt x v) + count_by (λ l. nat_lt l v) xs = sum_by-cons (λ l. bit (nat_lt l v)) x xs in
+    let b : count_by (λ l. l == v) (x ∷ xs) ≡ bit (x == v) + count_by (λ l. l == v) xs = sum_by-cons (λ l. bit (l == v)) x xs in
+    let c : count_by (λ l. nat_lt l (v + 1)) (x ∷ xs) ≡ bit (nat_lt x (v + 1)) + count_by (λ l. nat_lt l (v + 1)) xs = sum_by-cons (λ l. bit (nat_lt l (v + 1))) x xs in
+    omega arith
 
 module _ (g : Graph) (ok : IsRateable g) (least : List ℕ) (labels : AreLabels g least) where
   least_le : (v : ℕ) → v < g.nodes → get_or least v 0 ≤ v
@@ -68,6 +114,7 @@ module _ (g : Graph) (ok : IsRateable g) (least : List ℕ) (labels : AreLabels 
   pub parts_start : AreParts g least 0 []
   parts_start = record {
     heads = refl;
+    sized = omega arith;
     each = λ k d h. absurd (omega arith);
     counted = λ w h l. absurd (omega arith);
     uncounted = λ w h l. refl;
@@ -76,11 +123,20 @@ module _ (g : Graph) (ok : IsRateable g) (least : List ℕ) (labels : AreLabels 
   pub parts_push : (v : ℕ) (parts : List Part) (part : Part) → v < g.nodes → get_or least v 0 ≡ v → IsPartOf g least v part → AreParts g least v parts → AreParts g least (v + 1) (parts ++ part ∷ [])
   parts_push v parts part h own of so = record {
     heads = heads;
+    sized = sized;
     each = all_end (λ (x : Part). IsPartOf g least (least_node x) x) parts part so.each (subst (λ (n : ℕ). IsPartOf g least n part) (sym head) of);
     counted = λ w l low. counted w l low (cases_eq (get_or least w 0) v);
     uncounted = λ w l high. (let no_here = not_here w l (λ e. omega arith) in let none = so.uncounted w l (omega arith) in count_no (λ x. has_node x w) parts part no_here ∙ none);
   }
     where
+      sized : sum_by (λ x. length x.nodes) (parts ++ part ∷ []) ≤ count_by (λ l. nat_lt l (v + 1)) least
+      sized =
+          let sums : sum_by (λ (x : Part). length x.nodes) (parts ++ part ∷ []) ≡ sum_by (λ (x : Part). length x.nodes) parts + (0 + length part.nodes) = sum_by-append (λ (x : Part). length x.nodes) parts (part ∷ []) in
+          let here : length part.nodes ≡ count_by (λ l. l == v) least = ap length of.nodes_are ∙ labelled_count least v in
+          let before = so.sized in
+          let all = below_next least v in
+          omega arith
+
       head : least_node part ≡ v
       head = head_is v part h own of
 
@@ -106,6 +162,7 @@ module _ (g : Graph) (ok : IsRateable g) (least : List ℕ) (labels : AreLabels 
   pub parts_skip : (v : ℕ) (parts : List Part) → get_or least v 0 ≢ v → AreParts g least v parts → AreParts g least (v + 1) parts
   parts_skip v parts other so = record {
     heads = so.heads ∙ sym same;
+    sized = (let before = so.sized in let all = below_next least v in omega arith);
     each = so.each;
     counted = λ w l low. so.counted w l (let no_one = none w l in omega arith);
     uncounted = λ w l high. so.uncounted w l (omega arith);
@@ -139,3 +196,9 @@ module _ (g : Graph) (ok : IsRateable g) (least : List ℕ) (labels : AreLabels 
 
     pub in_range : IsInRange cert
     in_range = λ k d h. (so.each k d h).in_range
+
+    pub short : IsShort g cert
+    short = record {
+      walks = λ k d h. (so.each k d h).short;
+      nodes = (let a = so.sized in let b = count_by-le-length (λ l. nat_lt l g.nodes) least in let c = labels.count in omega arith);
+    }

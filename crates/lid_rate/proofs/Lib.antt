@@ -1,16 +1,9 @@
-pub mod Relaxing
-pub mod Traces
-pub mod Settles
-pub mod Ratios
-pub mod Backward
-pub mod Rates
-pub mod Growing
 pub mod NumbersWhere
 pub mod Components
+pub mod Cutting
 pub mod Finishing
 pub mod Found
 pub mod Numbered
 pub mod Lagging
 pub mod Signs
 pub mod Grouped
-pub mod Written

@@ -1,10 +1,5 @@
-pub mod WalksBack
-pub mod Relaxation
-pub mod Cycles
-pub mod BellmanFord
-pub mod CycleRatios
-pub mod SpanningTrees
 pub mod Rates
+pub mod Pieces
 pub mod Grouping
 pub mod Shown
 pub mod Laws

@@ -1,13 +1,14 @@
 -- Graphs whose components have certificates, and what the search answers.
-use Rattle.std.specs.Prelude.{◌≡◌, ℕ, zero, suc, ◌^◌, ◌<◌, ◌≤◌, ◌==◌, ◌&&◌, true, Bool, if◌then◌else◌, List, [], ◌∷◌, ◌++◌, length, map, slice_index, slice_index_or, Option, None}
-use Rattle.std.specs.List.{All, count_by}
+use Rattle.std.specs.Prelude.{◌≡◌, ℕ, zero, suc, ◌^◌, ◌<◌, ◌≤◌, ◌==◌, nat_lt, ◌&&◌, true, Bool, if◌then◌else◌, List, [], ◌∷◌, ◌++◌, length, map, slice_index}
+use Rattle.std.specs.List.{All, count_by, sum_by}
 use Rattle.lid_graph.specs.declared.graph.Edge.{Edge}
 use Rattle.lid_graph.specs.declared.graph.Graph.{Graph}
 use Rattle.lid_graph.specs.Walks.{edge_at, IsPaired, IsClosedWalk, IsLeastJoined, walk_tokens}
 use Rattle.lid_graph.specs.Ratios.{IsRatio, IsLag}
 use Rattle.lid_cert.specs.declared.cert.Part.{Part}
+use Rattle.lid_cert.specs.declared.cert.Cert.{Cert}
 use Rattle.lid_cert.specs.Certificates.{has_node, lag_of, least_node, IsPart, IsPartInRange}
-use Rattle.lid_rate.specs.WalksBack.{MeetsOnce}
+use Rattle.lid_ratio.specs.WalksBack.{MeetsOnce}
 
 -- each closed walk has a token
 abbrev pub WalksHaveTokens : Graph → Type 0
@@ -45,6 +46,7 @@ pub record IsPartOf (g : Graph) (least : List ℕ) (r : ℕ) (part : Part) : Typ
   pub nodes_are : part.nodes ≡ numbers_where (is_labelled least r) (length least)
   pub meets : IsPart g part
   pub once : MeetsOnce g part.cycle
+  pub short : length part.cycle ≤ length part.nodes
   pub in_range : IsPartInRange part
   pub lags : (v : ℕ) → has_node part v ≡ true → IsLag g part.p part.q v (lag_of part v)
 
@@ -58,17 +60,6 @@ pub record IsLoopAt (g : Graph) (v k : ℕ) : Type 0 where
 abbrev pub is_loop_edge : Edge → ℕ → Bool
 is_loop_edge e v = (e.from == v) && ((e.to == v) && (e.tokens == 1))
 
--- the part with these transitions and these numbers for all transitions of the graph
-pub record Assembles (nodes : List ℕ) (p q : ℕ) (walk lags : List ℕ) (via : List (Option ℕ)) (lead depth : List ℕ) (part : Part) : Type 0 where
-  pub nodes_are : part.nodes ≡ nodes
-  pub p_is : part.p ≡ p
-  pub q_is : part.q ≡ q
-  pub cycle_is : part.cycle ≡ walk
-  pub lag_is : part.lag ≡ map (λ v. slice_index lags v) part.nodes
-  pub lead_is : part.lead ≡ map (λ v. slice_index lead v) part.nodes
-  pub via_is : part.via ≡ map (λ v. slice_index_or via v None) part.nodes
-  pub depth_is : part.depth ≡ map (λ v. slice_index depth v) part.nodes
-
 -- p/q is the ratio of the component, each lag is the number that it bounds, the walk meets no
 -- transition twice, and all numbers are in the ranges of a certificate's text
 pub record IsExact (g : Graph) (part : Part) : Type 0 where
@@ -81,9 +72,16 @@ pub record IsExact (g : Graph) (part : Part) : Type 0 where
 abbrev pub is_own : List ℕ → ℕ → Bool
 is_own least v = slice_index least v == v
 
+-- in each part the closed walk has no more edges than there are transitions, and all parts together have no
+-- more transitions than the graph
+pub record IsShort (g : Graph) (cert : Cert) : Type 0 where
+  pub walks : All (λ part. length part.cycle ≤ length part.nodes) cert.parts
+  pub nodes : sum_by (λ part. length part.nodes) cert.parts ≤ g.nodes
+
 -- the parts of the labels below n
 pub record AreParts (g : Graph) (least : List ℕ) (n : ℕ) (parts : List Part) : Type 0 where
   pub heads : map least_node parts ≡ numbers_where (is_own least) n
   pub each : All (λ part. IsPartOf g least (least_node part) part) parts
   pub counted : (w : ℕ) → w < g.nodes → slice_index least w < n → count_by (λ part. has_node part w) parts ≡ 1
+  pub sized : sum_by (λ part. length part.nodes) parts ≤ count_by (λ l. nat_lt l n) least
   pub uncounted : (w : ℕ) → w < g.nodes → n ≤ slice_index least w → count_by (λ part. has_node part w) parts ≡ 0

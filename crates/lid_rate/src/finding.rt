@@ -4,7 +4,7 @@ ghost use Rattle.std.specs.Prelude.{◌≤◌, IfOk};
 ghost use Rattle.std.specs.List.{All};
 ghost use Rattle.lid_cert.specs.Certificates.{Certifies, IsInRange};
 ghost use Rattle.lid_rate.specs.Grouping.{AreSorted};
-ghost use Rattle.lid_rate.specs.Rates.{IsRateable, IsExact, AreLabels, AreParts, WalksHaveTokens};
+ghost use Rattle.lid_rate.specs.Rates.{IsRateable, IsExact, IsShort, AreLabels, AreParts, WalksHaveTokens};
 
 use crate::grouping::{Sorted, places_of, sort};
 use crate::parts::part_of;
@@ -41,7 +41,8 @@ fn all_parts(
 /// Finds a certificate of the ratio of each component of a graph: the ratio itself, the least lags, and
 /// a closed walk that meets no transition twice. A graph that has a transition, is paired and has at
 /// most 262,144 transitions, fewer than 524,288 edges and at most 16 tokens on an edge has one. No
-/// ratio is 0 where each closed walk has a token.
+/// ratio is 0 where each closed walk has a token. The text of the certificate has at most 11 bytes, and 139
+/// for each transition.
 ///
 /// # Errors
 /// Where there is no memory.
@@ -50,6 +51,7 @@ pub fn find(alloc: Global, graph: &Graph) -> Result<Cert, AllocError>
     ensures certifies { IfOk result (Certifies graph.now) }
     ensures exact { IfOk result (λ cert. All (IsExact graph.now) cert.parts) }
     ensures in_range { IfOk result IsInRange }
+    ensures short { IfOk result (IsShort graph.now) }
     ensures positive { IfOk result (λ cert. WalksHaveTokens graph.now → All (λ part. 1 ≤ part.p) cert.parts) }
 {
     let least = components(alloc, graph)?;

@@ -1,29 +1,87 @@
-//! The part of one component.
+//! The part of one component: what is found of its piece, said of the graph.
 
-ghost use Rattle.std.specs.Prelude.{◌≡◌, ℕ, ◌+◌, ◌-◌, ◌*◌, ◌<◌, ◌≤◌, ◌^◌, length, map, slice_index, slice_index_or, None, IfOk};
-ghost use Rattle.std.specs.List.{All};
-ghost use Rattle.lid_graph.specs.Walks.{edge_at, IsPaired};
-ghost use Rattle.lid_rate.specs.Rates.{IsRateable, AreLabels, IsPartOf, IsLoopAt, is_loop_edge, Assembles, numbers_where, is_labelled, edges_of};
+ghost use Rattle.std.specs.Prelude.{◌≡◌, ℕ, ◌+◌, ◌-◌, ◌*◌, ◌<◌, ◌≤◌, ◌^◌, length, map, slice_index, option_map, IfOk};
+ghost use Rattle.lid_graph.specs.Walks.{walk_start, IsClosedWalk};
+ghost use Rattle.lid_ratio.specs.Components.{IsSmallGraph, IsLoop, AreAllJoined};
+ghost use Rattle.lid_rate.specs.Rates.{IsRateable, AreLabels, IsPartOf, IsLoopAt, numbers_where, is_labelled, edges_of};
+ghost use Rattle.lid_rate.specs.Pieces.{IsFound, IsLifted};
 
-use crate::cycle_ratio::{Rate, least_ratio};
-use crate::lowest_terms::Ratio;
-use crate::relaxation::edge;
-use crate::spanning_tree::{Tree, span};
+use crate::pieces::{piece_of, place};
 use lid_base::Items;
 use lid_cert::Part;
 use lid_graph::Graph;
+use lid_guess::Branches;
+use lid_ratio::{Rate, Ratio, edge, rate_of, tree_of};
 use std::alloc::{AllocError, Global};
 
-/// What a list has at the transitions.
-fn at_nodes<T: Copy>(alloc: Global, nodes: &[u32], all: &[T]) -> Result<Items<T>, AllocError>
-    requires { All (λ v. v < length all.now) nodes.now }
-    ensures { IfOk result (λ column. (default : T) → column ≡ map (λ v. slice_index_or all.now v default) nodes.now) }
+/// What is found of a piece.
+#[derive(Drop)]
+struct Findings {
+    rate: Rate,
+    tree: Branches,
+}
+
+/// The lists of a part that number the graph's transitions and edges.
+#[derive(Drop)]
+struct Numbering {
+    nodes: Items<u32>,
+    cycle: Items<u32>,
+    via: Items<Option<u32>>,
+}
+
+/// The number at a place, or 0 past the end.
+fn at(numbers: &[u32], place: u32) -> u32
+    ensures { result ≡ slice_index numbers.now place }
 {
-    let mut column = Vec::new(alloc);
-    for v in nodes {
-        column.push(all[*v as usize])?;
+    let place = place as usize;
+    if place < numbers.len() {
+        numbers[place]
+    } else {
+        0
     }
-    Ok(Items::from_vec(column))
+}
+
+/// The numbers at these places.
+fn all_at(alloc: Global, numbers: &[u32], places: &[u32]) -> Result<Items<u32>, AllocError>
+    ensures { IfOk result (λ all. all ≡ map (λ k. slice_index numbers.now k) places.now) }
+{
+    let mut all = Vec::with_capacity(alloc, places.len())?;
+    for place in places {
+        all.push(at(numbers, *place))?;
+    }
+    Ok(Items::from_vec(all))
+}
+
+/// The number at a place, if there is one.
+fn maybe_at(numbers: &[u32], place: Option<u32>) -> Option<u32>
+    ensures { result ≡ option_map (λ k. slice_index numbers.now k) place }
+{
+    match place {
+        Some(place) => Some(at(numbers, place)),
+        None => None,
+    }
+}
+
+/// The numbers at those places that there are.
+fn each_at(
+    alloc: Global,
+    numbers: &[u32],
+    places: &[Option<u32>],
+) -> Result<Items<Option<u32>>, AllocError>
+    ensures { IfOk result (λ all. all ≡ map (λ o. option_map (λ k. slice_index numbers.now k) o) places.now) }
+{
+    let mut all = Vec::with_capacity(alloc, places.len())?;
+    for place in places {
+        all.push(maybe_at(numbers, *place))?;
+    }
+    Ok(Items::from_vec(all))
+}
+
+/// The numbers of a list.
+fn copy(alloc: Global, numbers: &[u32]) -> Result<Items<u32>, AllocError>
+    ensures { IfOk result (λ all. all ≡ numbers.now) }
+{
+    Ok(Items::from_vec(Vec::from_slice(alloc, numbers)?))
 }
 
 /// The lead where a closed walk of so many edges starts.
@@ -37,36 +95,76 @@ fn first_lead(ratio: Ratio, count: usize) -> u64
     ratio.q.saturating_sub(ratio.p) * (count as u64 - 1)
 }
 
-/// The part with these numbers.
-fn assemble(alloc: Global, nodes: Vec<u32>, rate: Rate, tree: &Tree) -> Result<Part, AllocError>
-    requires lags { All (λ v. v < length rate.lags) nodes.items }
-    requires via { All (λ v. v < length tree.now.via.items) nodes.items }
-    requires lead { All (λ v. v < length tree.now.lead.items) nodes.items }
-    requires depth { All (λ v. v < length tree.now.depth.items) nodes.items }
-    ensures { IfOk result (Assembles nodes.items rate.ratio.p rate.ratio.q rate.walk rate.lags tree.now.via.items tree.now.lead.items tree.now.depth.items) }
+/// Where the first edge of a closed walk begins.
+fn start_of(piece: &Graph, walk: &[u32]) -> u32
+    requires { IsClosedWalk piece.now walk.now }
+    ensures { result ≡ walk_start piece.now walk.now }
 {
-    let Rate { ratio, walk, lags } = rate;
-    let lag = at_nodes(alloc, &nodes, lags.as_slice())?;
-    let lead = at_nodes(alloc, &nodes, &tree.lead)?;
-    let via = at_nodes(alloc, &nodes, &tree.via)?;
-    let depth = at_nodes(alloc, &nodes, &tree.depth)?;
-    Ok(Part {
-        nodes: Items::from_vec(nodes),
-        p: ratio.p,
-        q: ratio.q,
-        cycle: walk,
-        lag,
-        lead,
-        via,
-        depth,
-    })
+    edge(piece, walk[0]).from
 }
 
-/// The numbers of a list.
-fn copy(alloc: Global, numbers: &[u32]) -> Result<Vec<u32>, AllocError>
-    ensures { IfOk result (λ all. all.items ≡ numbers.now) }
+/// The rate of a piece, and a tree from where its closed walk starts.
+fn search_piece(alloc: Global, piece: &Graph, first: u32) -> Result<Findings, AllocError>
+    requires piece { IsSmallGraph piece.now }
+    requires first { IsLoop piece.now first }
+    requires joined { (u : ℕ) → u < piece.now.nodes → AreAllJoined piece.now u }
+    ensures { IfOk result (λ all. IsFound piece.now all.rate.ratio.p all.rate.ratio.q all.rate.walk all.rate.lags all.tree.via all.tree.lead all.tree.depth) }
 {
-    Vec::from_slice(alloc, numbers)
+    let rate = rate_of(alloc, piece, first)?;
+    let start = start_of(piece, rate.walk.as_slice());
+    let lead = first_lead(rate.ratio, rate.walk.len());
+    let tree = tree_of(alloc, piece, start, rate.ratio.q, lead)?;
+    Ok(Findings { rate, tree })
+}
+
+/// The transitions and edges by the graph's numbers.
+fn numbering_of(
+    alloc: Global,
+    nodes: &[u32],
+    edges: &[u32],
+    found: &Findings,
+) -> Result<Numbering, AllocError>
+    ensures nodes { IfOk result (λ all. all.nodes ≡ nodes.now) }
+    ensures cycle { IfOk result (λ all. all.cycle ≡ map (λ k. slice_index edges.now k) found.now.rate.walk) }
+    ensures via { IfOk result (λ all. all.via ≡ map (λ o. option_map (λ k. slice_index edges.now k) o) found.now.tree.via) }
+{
+    let cycle = all_at(alloc, edges, found.rate.walk.as_slice())?;
+    let via = each_at(alloc, edges, found.tree.via.as_slice())?;
+    let nodes = copy(alloc, nodes)?;
+    Ok(Numbering { nodes, cycle, via })
+}
+
+/// The part with these lists.
+fn assemble(named: Numbering, found: Findings) -> Part
+    ensures nodes { result.nodes ≡ named.nodes }
+    ensures p { result.p ≡ found.rate.ratio.p }
+    ensures q { result.q ≡ found.rate.ratio.q }
+    ensures cycle { result.cycle ≡ named.cycle }
+    ensures lag { result.lag ≡ found.rate.lags }
+    ensures lead { result.lead ≡ found.tree.lead }
+    ensures via { result.via ≡ named.via }
+    ensures depth { result.depth ≡ found.tree.depth }
+{
+    let Numbering { nodes, cycle, via } = named;
+    let Findings { rate, tree } = found;
+    Part {
+        nodes,
+        p: rate.ratio.p,
+        q: rate.ratio.q,
+        cycle,
+        lag: rate.lags,
+        lead: tree.lead,
+        via,
+        depth: tree.depth,
+    }
+}
+
+/// The part that says of the graph what was found of its piece.
+fn lifted(alloc: Global, nodes: &[u32], edges: &[u32], found: Findings) -> Result<Part, AllocError>
+    ensures { IfOk result (IsLifted nodes.now edges.now found.rate.ratio.p found.rate.ratio.q found.rate.walk found.rate.lags found.tree.via found.tree.lead found.tree.depth) }
+{
+    let named = numbering_of(alloc, nodes, edges, &found)?;
+    Ok(assemble(named, found))
 }
 
 /// The part of the component whose least transition is `label`, of these transitions and edges. `first`
@@ -94,11 +192,7 @@ pub(crate) fn part_of(
 {
     let _ = least;
     let _ = label;
-    let rate = least_ratio(alloc, graph, edges, first)?;
-    let walk = rate.walk.as_slice();
-    let start = edge(graph, walk[0]).from;
-    let lead = first_lead(rate.ratio, walk.len());
-    let tree = span(alloc, graph, edges, start, rate.ratio.q, lead)?;
-    let nodes = copy(alloc, inside)?;
-    assemble(alloc, nodes, rate, &tree)
+    let piece = piece_of(alloc, graph, inside, edges)?;
+    let all = search_piece(alloc, &piece, place(edges, first))?;
+    lifted(alloc, inside, edges, all)
 }

@@ -6,8 +6,8 @@ ghost use Rattle.lid_graph.specs.Walks.{edge_at};
 ghost use Rattle.lid_rate.specs.Rates.{IsLoopAt, WalksHaveTokens, is_loop_edge};
 ghost use Rattle.lid_rate.specs.Shown.{IsBack, LeadsUp, IsEdgeShown, IsShown};
 
-use crate::relaxation::edge;
 use lid_graph::Graph;
+use lid_ratio::edge;
 
 /// Whether `back` is an edge from the end of another edge to its beginning.
 fn is_back(graph: &Graph, k: u32, back: u32) -> bool

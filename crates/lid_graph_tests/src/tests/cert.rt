@@ -4,7 +4,7 @@ ghost use Rattle.std.specs.List.{All};
 ghost use Rattle.lid_cert.specs.Certificates.{AreLists};
 
 use crate::tests::designs::{DIAMOND, RING, Station, are, are_large, graph_of};
-use lid_cert::{Cert, Part, check};
+use lid_cert::{Cert, Part, check, check_by_owners};
 use lid_certtext::{CertFault, print_cert, read_cert};
 use std::alloc::{AllocError, Global};
 
@@ -71,7 +71,9 @@ fn is_checked(alloc: Global, nodes: u32, stations: &[Station], text: &[u8], want
         return false;
     };
     match read_cert(alloc, text) {
-        Ok(cert) => check(&graph, &cert) == want,
+        Ok(cert) => {
+            check(&graph, &cert) == want && check_by_owners(alloc, &graph, &cert) == want
+        }
         Err(_) => false,
     }
 }

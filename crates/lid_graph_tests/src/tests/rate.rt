@@ -1,11 +1,13 @@
 //! Small graphs, with answers worked out by hand, and a slow search beside the fast one.
 
-ghost use Rattle.std.specs.Prelude.{IfOk, IsTrue};
+ghost use Rattle.std.specs.Prelude.{IfOk, IfSome, IsTrue};
+ghost use Rattle.std.specs.List.{All};
+ghost use Rattle.lid_cert.specs.Certificates.{AreLists};
 ghost use Rattle.lid_rate.specs.Rates.{IsRateable};
 
 use crate::tests::designs::{DIAMOND, RING, Station, are, are_large, graph_of};
 use crate::tests::walks::rate_at;
-use lid_cert::{Cert, Part, check};
+use lid_cert::{Cert, Part, check_by_owners};
 use lid_graph::Graph;
 use lid_rate::{find, is_rateable};
 use std::alloc::{AllocError, Global};
@@ -29,28 +31,34 @@ fn backs_of(alloc: Global, pairs: u32, edges: u32) -> Result<Vec<u32>, AllocErro
     Ok(backs)
 }
 
-/// Raises the number of the end of each edge without tokens.
-fn raise(graph: &Graph, numbers: &mut [u32]) {
+/// Raises the number of the end of each edge without tokens. Answers whether one rose.
+fn raise(graph: &Graph, numbers: &mut [u32]) -> bool {
+    let mut rose = false;
     for edge in graph.edges.as_slice() {
         let (from, to) = (edge.from as usize, edge.to as usize);
         if edge.tokens == 0 && from < numbers.len() && to < numbers.len() {
-            numbers[to] = numbers[to].max(numbers[from].saturating_add(1));
+            let least = numbers[from].saturating_add(1);
+            rose = rose || numbers[to] < least;
+            numbers[to] = numbers[to].max(least);
         }
     }
+    rose
 }
 
 /// Numbers that rise along each edge without tokens, where there are such: each edge raises the number
-/// of its end, as often as there are transitions.
+/// of its end, until none rises, or as often as there are transitions.
 fn numbers_of(alloc: Global, graph: &Graph) -> Result<Vec<u32>, AllocError> {
     let mut numbers = Vec::from_elem(alloc, 0, graph.nodes as usize)?;
     for _ in 0..graph.nodes {
-        raise(graph, numbers.as_mut_slice());
+        if !raise(graph, numbers.as_mut_slice()) {
+            break;
+        }
     }
     Ok(numbers)
 }
 
 /// Whether a graph of so many edges for stations is one that the search takes.
-fn is_taken(alloc: Global, graph: &Graph, pairs: u32) -> Result<bool, AllocError>
+pub(crate) fn is_taken(alloc: Global, graph: &Graph, pairs: u32) -> Result<bool, AllocError>
     ensures { IfOk result (λ taken. IsTrue taken → IsRateable graph.now) }
 {
     let edges = pairs.saturating_add(graph.nodes);
@@ -62,7 +70,9 @@ fn is_taken(alloc: Global, graph: &Graph, pairs: u32) -> Result<bool, AllocError
 
 /// The certificate that is found of a graph of so many stations, where the graph is one that the
 /// search takes, and the certificate is accepted.
-fn certified(alloc: Global, graph: &Graph, stations: usize) -> Option<Cert> {
+pub(crate) fn certified(alloc: Global, graph: &Graph, stations: usize) -> Option<Cert>
+    ensures { IfSome result (λ cert. All AreLists cert.parts) }
+{
     let pairs = u32::try_from(stations)
         .unwrap_or(u32::MAX)
         .saturating_mul(2);
@@ -70,7 +80,7 @@ fn certified(alloc: Global, graph: &Graph, stations: usize) -> Option<Cert> {
         return None;
     }
     match find(alloc, graph) {
-        Ok(cert) if check(graph, &cert) => Some(cert),
+        Ok(cert) if check_by_owners(alloc, graph, &cert) => Some(cert),
         _ => None,
     }
 }

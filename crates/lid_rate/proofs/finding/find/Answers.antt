@@ -1,6 +1,6 @@
 use Rattle.std.proofs.Common.{sym, subst}
 use Rattle.lid_rate.specs.Rates.{AreLabels, AreParts}
-use Rattle.lid_rate.proofs.Found.{certifies, exact, in_range}
+use Rattle.lid_rate.proofs.Found.{certifies, exact, in_range, short}
 use Rattle.lid_rate.proofs.Numbered.{positive}
 use Rattle.lid_rate.proofs.finding.find.Goals as goal
 
@@ -18,5 +18,6 @@ returns c =
       certifies = certifies c.args.graph.now c.requires c.as_slice-labels.result.now labels (record { parts = c.from_vec.result }) parts;
       exact = exact c.args.graph.now c.requires c.as_slice-labels.result.now labels (record { parts = c.from_vec.result }) parts;
       positive = λ tokens. positive c.args.graph.now (record { parts = c.from_vec.result }) tokens (certifies c.args.graph.now c.requires c.as_slice-labels.result.now labels (record { parts = c.from_vec.result }) parts);
+      short = short c.args.graph.now c.requires c.as_slice-labels.result.now labels (record { parts = c.from_vec.result }) parts;
       in_range = in_range c.args.graph.now c.requires c.as_slice-labels.result.now labels (record { parts = c.from_vec.result }) parts;
     }

@@ -1,44 +1,49 @@
-use Rattle.std.proofs.Common.{◌≤◌, ◌^◌, ℕ, List, length, sym, ◌∙◌, subst}
-use Rattle.lid_rate.specs.Relaxation.{AreEdges}
-use Rattle.lid_rate.specs.CycleRatios.{IsOneTokenLoop}
-use Rattle.lid_rate.specs.Rates.{Assembles, IsPartOf}
-use Rattle.lid_rate.proofs.Components.{are_edges, few_edges_of}
-use Rattle.lid_rate.proofs.Finishing.{first_loop, nodes_low, first_within, start_within, part_made, if_ok_on}
+use Rattle.std.proofs.Common.{ℕ, ◌<◌, List, length, get_or, true, sym, ◌∙◌, ap, subst, arith}
+use Rattle.std.specs.List.{Contains}
+use Rattle.std.proofs.lemmas.Result.{IfOk-weaker}
+use Rattle.lid_cert.specs.Certificates.{ascends}
+use Rattle.lid_rate.specs.Rates.{numbers_where, is_labelled, edges_of}
+use Rattle.lid_rate.specs.Pieces.{IsInside, IsPiece, IsLifted}
+use Rattle.lid_rate.proofs.Components.{nodes_ascend, edges_ascend, few_nodes, few_edges, edges_inside, loop_listed, small_piece, piece_loop, all_joined, part_of_label}
 use Rattle.lid_rate.proofs.parts.part_of.Goals as goal
 
-pub least_ratio-requires-clause-edges : goal.least_ratio-requires-clause-edges
-least_ratio-requires-clause-edges c = subst (AreEdges c.args.graph.now) (sym c.requires.edges) (are_edges c.args.graph.now c.requires.graph c.args.least.now c.requires.labels c.args.label c.requires.own c.requires.within)
+pub piece_of-requires-clause-ascending : goal.piece_of-requires-clause-ascending
+piece_of-requires-clause-ascending c = ap ascends c.requires.nodes ∙ nodes_ascend c.args.graph.now c.requires.graph c.args.least.now c.requires.labels c.args.label c.requires.own c.requires.within
 
-pub least_ratio-requires-clause-few : goal.least_ratio-requires-clause-few
-least_ratio-requires-clause-few c = subst (λ (l : List ℕ). length l ≤ 2 ^ 19) (sym c.requires.edges) (few_edges_of c.args.graph.now c.requires.graph c.args.least.now c.requires.labels c.args.label c.requires.own c.requires.within)
+pub piece_of-requires-clause-few : goal.piece_of-requires-clause-few
+piece_of-requires-clause-few c = let few = few_nodes c.args.graph.now c.requires.graph c.args.least.now c.requires.labels c.args.label c.requires.own c.requires.within in let long = ap length c.requires.nodes in omega arith
 
-pub least_ratio-requires-clause-first : goal.least_ratio-requires-clause-first
-least_ratio-requires-clause-first c = subst (λ (l : List ℕ). IsOneTokenLoop c.args.graph.now l c.args.first) (sym c.requires.edges) (first_loop c.args.graph.now c.requires.graph c.args.least.now c.requires.labels c.args.label c.requires.own c.requires.within c.args.first c.requires.first)
+pub piece_of-requires-clause-inside : goal.piece_of-requires-clause-inside
+piece_of-requires-clause-inside c i h =
+    let l : i < length (edges_of c.args.graph.now c.args.least.now c.args.label) = subst (λ (l : List ℕ). i < length l) c.requires.edges h in
+    subst (λ (l : List ℕ). IsInside c.args.graph.now l (get_or c.args.edges.now i 0)) (sym c.requires.nodes) (subst (λ (l : List ℕ). IsInside c.args.graph.now (numbers_where (is_labelled c.args.least.now c.args.label) (length c.args.least.now)) (get_or l i 0)) (sym c.requires.edges) (edges_inside c.args.graph.now c.requires.graph c.args.least.now c.requires.labels c.args.label c.requires.own c.requires.within i l))
 
-pub edge-start-requires : goal.edge-start-requires
-edge-start-requires c = first_within c.args.graph.now c.requires.graph c.args.least.now c.requires.labels c.args.label c.requires.own c.requires.within c.args.edges.now c.requires.edges c.in_ok-rate.rate.ratio.p c.in_ok-rate.rate.ratio.q c.in_ok-rate.rate.walk c.in_ok-rate.rate.lags c.in_ok-rate.ensures c.as_slice-walk.result.now c.as_slice-walk.ensures
+pub place-requires-clause-ascending : goal.place-requires-clause-ascending
+place-requires-clause-ascending c = ap ascends c.requires.edges ∙ edges_ascend c.args.graph.now c.requires.graph c.args.least.now c.requires.labels c.args.label c.requires.own c.requires.within
 
-pub span-requires-clause-edges : goal.span-requires-clause-edges
-span-requires-clause-edges c = subst (AreEdges c.args.graph.now) (sym c.requires.edges) (are_edges c.args.graph.now c.requires.graph c.args.least.now c.requires.labels c.args.label c.requires.own c.requires.within)
+pub place-requires-clause-few : goal.place-requires-clause-few
+place-requires-clause-few c = let few = few_edges c.args.graph.now c.requires.graph c.args.least.now c.requires.labels c.args.label c.requires.own c.requires.within in let long = ap length c.requires.edges in omega arith
 
-pub span-requires-clause-start : goal.span-requires-clause-start
-span-requires-clause-start c = start_within c.args.graph.now c.requires.graph c.args.least.now c.requires.labels c.args.label c.requires.own c.requires.within c.args.edges.now c.requires.edges c.in_ok-rate.rate.ratio.p c.in_ok-rate.rate.ratio.q c.in_ok-rate.rate.walk c.in_ok-rate.rate.lags c.in_ok-rate.ensures c.as_slice-walk.result.now c.edge-start.result c.as_slice-walk.ensures c.edge-start.ensures
+pub place-requires-clause-listed : goal.place-requires-clause-listed
+place-requires-clause-listed c = subst (λ (l : List ℕ). Contains l c.args.first) (sym c.requires.edges) (loop_listed c.args.graph.now c.requires.graph c.args.least.now c.requires.labels c.args.label c.requires.own c.requires.within c.args.first c.requires.first)
 
-pub assemble-requires-clause-lags : goal.assemble-requires-clause-lags
-assemble-requires-clause-lags c = nodes_low c.args.graph.now c.requires.graph c.args.least.now c.requires.labels c.args.label c.requires.own c.requires.within (length c.in_ok-rate.rate.lags) c.in_ok-nodes.nodes.items c.in_ok-rate.ensures.are_lags.count (c.in_ok-nodes.ensures ∙ c.requires.nodes)
+pub search_piece-requires-clause-piece : goal.search_piece-requires-clause-piece
+search_piece-requires-clause-piece c =
+    let cut : IsPiece c.args.graph.now (numbers_where (is_labelled c.args.least.now c.args.label) (length c.args.least.now)) (edges_of c.args.graph.now c.args.least.now c.args.label) c.in_ok-piece.piece = subst (λ (l : List ℕ). IsPiece c.args.graph.now l (edges_of c.args.graph.now c.args.least.now c.args.label) c.in_ok-piece.piece) c.requires.nodes (subst (λ (l : List ℕ). IsPiece c.args.graph.now c.args.inside.now l c.in_ok-piece.piece) c.requires.edges c.in_ok-piece.ensures) in
+    small_piece c.args.graph.now c.requires.graph c.args.least.now c.requires.labels c.args.label c.requires.own c.requires.within c.in_ok-piece.piece cut
 
-pub assemble-requires-clause-via : goal.assemble-requires-clause-via
-assemble-requires-clause-via c = nodes_low c.args.graph.now c.requires.graph c.args.least.now c.requires.labels c.args.label c.requires.own c.requires.within (length c.in_ok-tree.tree.via.items) c.in_ok-nodes.nodes.items c.in_ok-tree.ensures.tree.via_count (c.in_ok-nodes.ensures ∙ c.requires.nodes)
+pub search_piece-requires-clause-first : goal.search_piece-requires-clause-first
+search_piece-requires-clause-first c =
+    let cut : IsPiece c.args.graph.now (numbers_where (is_labelled c.args.least.now c.args.label) (length c.args.least.now)) (edges_of c.args.graph.now c.args.least.now c.args.label) c.in_ok-piece.piece = subst (λ (l : List ℕ). IsPiece c.args.graph.now l (edges_of c.args.graph.now c.args.least.now c.args.label) c.in_ok-piece.piece) c.requires.nodes (subst (λ (l : List ℕ). IsPiece c.args.graph.now c.args.inside.now l c.in_ok-piece.piece) c.requires.edges c.in_ok-piece.ensures) in
+    piece_loop c.args.graph.now c.requires.graph c.args.least.now c.requires.labels c.args.label c.requires.own c.requires.within c.in_ok-piece.piece cut c.args.first c.place.result c.requires.first (subst (λ (l : List ℕ). c.place.result < length l) c.requires.edges c.place.ensures.within) (ap (λ (l : List ℕ). get_or l c.place.result 0) (sym c.requires.edges) ∙ c.place.ensures.here)
 
-pub assemble-requires-clause-lead : goal.assemble-requires-clause-lead
-assemble-requires-clause-lead c = nodes_low c.args.graph.now c.requires.graph c.args.least.now c.requires.labels c.args.label c.requires.own c.requires.within (length c.in_ok-tree.tree.lead.items) c.in_ok-nodes.nodes.items c.in_ok-tree.ensures.tree.lead_count (c.in_ok-nodes.ensures ∙ c.requires.nodes)
-
-pub assemble-requires-clause-depth : goal.assemble-requires-clause-depth
-assemble-requires-clause-depth c = nodes_low c.args.graph.now c.requires.graph c.args.least.now c.requires.labels c.args.label c.requires.own c.requires.within (length c.in_ok-tree.tree.depth.items) c.in_ok-nodes.nodes.items c.in_ok-tree.ensures.tree.depth_count (c.in_ok-nodes.ensures ∙ c.requires.nodes)
+pub search_piece-requires-clause-joined : goal.search_piece-requires-clause-joined
+search_piece-requires-clause-joined c =
+    let cut : IsPiece c.args.graph.now (numbers_where (is_labelled c.args.least.now c.args.label) (length c.args.least.now)) (edges_of c.args.graph.now c.args.least.now c.args.label) c.in_ok-piece.piece = subst (λ (l : List ℕ). IsPiece c.args.graph.now l (edges_of c.args.graph.now c.args.least.now c.args.label) c.in_ok-piece.piece) c.requires.nodes (subst (λ (l : List ℕ). IsPiece c.args.graph.now c.args.inside.now l c.in_ok-piece.piece) c.requires.edges c.in_ok-piece.ensures) in
+    all_joined c.args.graph.now c.requires.graph c.args.least.now c.requires.labels c.args.label c.requires.own c.requires.within c.in_ok-piece.piece cut
 
 pub returns : goal.returns
-returns c = if_ok_on c.assemble.result
-    (Assembles c.in_ok-nodes.nodes.items c.in_ok-rate.rate.ratio.p c.in_ok-rate.rate.ratio.q c.in_ok-rate.rate.walk c.in_ok-rate.rate.lags c.in_ok-tree.tree.via.items c.in_ok-tree.tree.lead.items c.in_ok-tree.tree.depth.items)
-    (IsPartOf c.args.graph.now c.args.least.now c.args.label)
-    (λ part made. part_made c.args.graph.now c.requires.graph c.args.least.now c.requires.labels c.args.label c.requires.own c.requires.within c.args.edges.now c.requires.edges c.in_ok-rate.rate.ratio.p c.in_ok-rate.rate.ratio.q c.in_ok-rate.rate.walk c.in_ok-rate.rate.lags c.in_ok-rate.ensures c.as_slice-walk.result.now c.edge-start.result c.first_lead-lead.result c.in_ok-tree.tree.via.items c.in_ok-tree.tree.lead.items c.in_ok-tree.tree.depth.items c.in_ok-nodes.nodes.items part c.as_slice-walk.ensures c.edge-start.ensures c.first_lead-lead.ensures.enough c.first_lead-lead.ensures.low c.in_ok-tree.ensures.tree c.in_ok-tree.ensures.all (c.in_ok-nodes.ensures ∙ c.requires.nodes) made)
-    c.assemble.ensures
+returns c =
+    let cut : IsPiece c.args.graph.now (numbers_where (is_labelled c.args.least.now c.args.label) (length c.args.least.now)) (edges_of c.args.graph.now c.args.least.now c.args.label) c.in_ok-piece.piece = subst (λ (l : List ℕ). IsPiece c.args.graph.now l (edges_of c.args.graph.now c.args.least.now c.args.label) c.in_ok-piece.piece) c.requires.nodes (subst (λ (l : List ℕ). IsPiece c.args.graph.now c.args.inside.now l c.in_ok-piece.piece) c.requires.edges c.in_ok-piece.ensures) in
+    let all = c.in_ok-all.all in
+    IfOk-weaker c.lifted.result _ _ (λ part lift. part_of_label c.args.graph.now c.requires.graph c.args.least.now c.requires.labels c.args.label c.requires.own c.requires.within c.in_ok-piece.piece cut all.rate.ratio.p all.rate.ratio.q all.rate.walk all.rate.lags all.tree.via all.tree.lead all.tree.depth c.in_ok-all.ensures part (subst (λ (l : List ℕ). IsLifted l (edges_of c.args.graph.now c.args.least.now c.args.label) all.rate.ratio.p all.rate.ratio.q all.rate.walk all.rate.lags all.tree.via all.tree.lead all.tree.depth part) c.requires.nodes (subst (λ (l : List ℕ). IsLifted c.args.inside.now l all.rate.ratio.p all.rate.ratio.q all.rate.walk all.rate.lags all.tree.via all.tree.lead all.tree.depth part) c.requires.edges lift))) c.lifted.ensures

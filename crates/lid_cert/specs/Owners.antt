@@ -1,0 +1,60 @@
+-- For the check of certificates with many parts: which part owns each transition.
+use Rattle.std.specs.Prelude.{◌≡◌, ℕ, ◌+◌, ◌*◌, ◌<◌, ◌≤◌, true, List, [], ◌∷◌, length, map, slice_index_or, slice_set, Option, Some, None, is_some}
+use Rattle.std.specs.Int.{IsGcd}
+use Rattle.std.specs.List.{All}
+use Rattle.std.specs.Option.{MatchOption}
+use Rattle.lid_graph.specs.declared.graph.Edge.{Edge}
+use Rattle.lid_graph.specs.declared.graph.Graph.{Graph}
+use Rattle.lid_graph.specs.Walks.{walk_start, walk_tokens, IsClosedWalk}
+use Rattle.lid_cert.specs.declared.cert.Part.{Part}
+use Rattle.lid_cert.specs.Certificates.{ascends, least_node, AreLists, IsEdgeMet, IsStartMet, IsNodeMet}
+
+-- the number of the part that owns a transition
+abbrev pub owner_of : List (Option ℕ) → ℕ → Option ℕ
+owner_of owners v = slice_index_or owners v None
+
+-- transitions that no part owned get the same owner, one after the other
+abbrev pub Claims : ℕ → List (Option ℕ) → List ℕ → List (Option ℕ) → Type 0
+Claims number before [] after = after ≡ before
+Claims number before (v ∷ vs) after =
+    (v < length before) × (owner_of before v ≡ None) × Claims number (slice_set before v (Some number)) vs after
+
+-- each part, numbered from `number` on, claims its transitions
+abbrev pub Owns : ℕ → List (Option ℕ) → List Part → List (Option ℕ) → Type 0
+Owns number before [] after = after ≡ before
+Owns number before (part ∷ parts) after =
+    (between : List (Option ℕ)) × Claims number before part.nodes between × Owns (number + 1) between parts after
+
+-- what stands past the last part
+abbrev pub no_part : Part
+no_part = record { nodes = []; p = 0; q = 0; cycle = []; lag = []; lead = []; via = []; depth = [] }
+
+abbrev pub part_at : List Part → ℕ → Part
+part_at parts number = slice_index_or parts number no_part
+
+-- the part that owns where an edge begins meets the rule for the edge; where none owns it, none owns the
+-- end
+abbrev pub IsEdgeOwned : List Part → List (Option ℕ) → Edge → Type 0
+IsEdgeOwned parts owners e =
+    MatchOption (owner_of owners e.from) (owner_of owners e.to ≡ None) (λ number. IsEdgeMet (part_at parts number) e)
+
+-- the rules for one part but those for edges
+pub record IsPartInside (g : Graph) (part : Part) : Type 0 where
+  pub some : 1 ≤ length part.nodes
+  pub lists : AreLists part
+  pub ascending : ascends part.nodes ≡ true
+  pub within : All (λ v. v < g.nodes) part.nodes
+  pub positive : 1 ≤ part.q
+  pub lowest : IsGcd part.p part.q 1
+  pub walk : IsClosedWalk g part.cycle
+  pub ratio : walk_tokens g part.cycle * part.q ≡ part.p * length part.cycle
+  pub start : IsStartMet part (walk_start g part.cycle)
+  pub nodes : All (IsNodeMet g part (walk_start g part.cycle)) part.nodes
+
+-- the rules for all parts, where each transition has its owner
+pub record AreOwned (g : Graph) (parts : List Part) (owners : List (Option ℕ)) : Type 0 where
+  pub some : 1 ≤ length parts
+  pub inside : All (IsPartInside g) parts
+  pub ascending : ascends (map least_node parts) ≡ true
+  pub owned : All (λ o. is_some o ≡ true) owners
+  pub edges : All (IsEdgeOwned parts owners) g.edges

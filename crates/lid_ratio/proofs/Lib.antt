@@ -1,0 +1,11 @@
+pub mod Relaxing
+pub mod Traces
+pub mod Settles
+pub mod Ratios
+pub mod Backward
+pub mod Rates
+pub mod Growing
+pub mod Written
+pub mod Tested
+pub mod Searched
+pub mod Reached

@@ -1,0 +1,10 @@
+pub mod WalksBack
+pub mod Relaxation
+pub mod Cycles
+pub mod BellmanFord
+pub mod CycleRatios
+pub mod SpanningTrees
+pub mod Components
+pub mod Tests
+pub mod Numbers
+pub mod Bounds
