@@ -1,2 +1,1 @@
 pub mod Wired
-pub mod Once

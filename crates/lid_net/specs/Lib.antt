@@ -1,4 +1,4 @@
 pub mod Marks
 pub mod Reads
 pub mod Nodes
-pub mod Graphs
+
