@@ -1,1 +1,3 @@
 pub mod Wired
+pub mod Numbering
+pub mod Joining
