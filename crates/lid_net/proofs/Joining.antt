@@ -3,13 +3,14 @@ use Rattle.std.proofs.Common.{◌≡◌, ◌<◌, ◌≤◌, ◌+◌, ◌⊎◌,
 use Rattle.std.specs.Option.{option_map_or}
 use Rattle.std.specs.List.{AllByRecursion, flat_map}
 use Rattle.std.proofs.lemmas.List.{length-map}
-use Rattle.std.proofs.lemmas.Option.{slice_get_within}
+use Rattle.std.proofs.lemmas.Option.{slice_get_within, get_or_from_slice_get}
 use Rattle.std.proofs.lemmas.Bool.{cases_lt}
 use Rattle.lid_base.specs.Lists.{Among}
 use Rattle.lid_base.proofs.Lists.{among_flat, among_map, get_among, among_get}
 use Rattle.lid_design.specs.declared.Design.{Design}
 use Rattle.lid_design.specs.declared.Model.{Model}
-use Rattle.lid_design.specs.Network.{from_each}
+use Rattle.lid_design.specs.Network.{Driver, from_input, from_latch, from_cover, from_connection, from_each}
+use Rattle.lid_flatten.specs.Standing.{IsInput, StandsFor}
 use Rattle.lid_design.specs.Columns.{Column, column, model_at, data_inputs, drivers, root_inputs, root_outputs}
 use Rattle.lid_design.specs.Elaboration.{columns}
 use Rattle.lid_design.specs.Flat.{IsFlat, latch_init}
@@ -124,3 +125,243 @@ standing inputs outputs shells ins (suc i) node here = by shells i here
 
     by : (xs : List Node) (j : ℕ) → slice_get (xs ++ Sink outputs ins ∷ []) j ≡ Some node → Standing inputs outputs xs ins (suc j) node
     by xs j h = elim (split xs j h) [ inl e ↦ inner j (omega arith) e | inr e ↦ final (let l = e.0 in omega arith) e.1 ]
+
+-- the shell of a part
+part_shell : (channels : List Channel) (origins : List (Option Origin)) (node : ℕ) (parts : List Part) (shells : List Node) (j : ℕ) (part : Part) → AreShells channels origins node parts shells → slice_get parts j ≡ Some part → (shell : Node) × (slice_get shells j ≡ Some shell) × IsShellFor channels origins (node + j) part shell
+part_shell channels origins node [] xs j part h here = absurd (let e : None ≡ Some part = here in cc)
+part_shell channels origins node (p ∷ ps) [] j part h here = absurd h
+part_shell channels origins node (p ∷ ps) (x ∷ xs) zero part h here =
+    let e : p ≡ part = (let f : Some p ≡ Some part = here in cc) in
+    let n : node ≡ node + 0 = omega arith in
+    (x, refl, subst (λ (m : ℕ). IsShellFor channels origins m part x) n (subst (λ (q : Part). IsShellFor channels origins node q x) e h.0))
+part_shell channels origins node (p ∷ ps) (x ∷ xs) (suc j) part h here =
+    let at = part_shell channels origins (node + 1) ps xs j part h.1 here in
+    let n : (node + 1) + j ≡ node + suc j = omega arith in
+    (at.0, at.1, subst (λ (m : ℕ). IsShellFor channels origins m part at.0) n at.2)
+
+get_left : (xs ys : List Node) (j : ℕ) (x : Node) → slice_get xs j ≡ Some x → slice_get (xs ++ ys) j ≡ Some x
+get_left [] ys j x h = absurd (let e : None ≡ Some x = h in cc)
+get_left (y ∷ xs) ys zero x h = h
+get_left (y ∷ xs) ys (suc j) x h = get_left xs ys j x h
+
+got_here : {A : Type 0} (xs : List A) (j : ℕ) → j < length xs → (x : A) × (slice_get xs j ≡ Some x)
+got_here [] j h = absurd (omega arith)
+got_here (x ∷ xs) zero h = (x, refl)
+got_here (x ∷ xs) (suc j) h = got_here xs j (omega arith)
+
+got_map : {A B : Type 0} (f : A → B) (xs : List A) (j : ℕ) (y : B) → slice_get (map f xs) j ≡ Some y → (x : A) × (slice_get xs j ≡ Some x) × (y ≡ f x)
+got_map f [] j y h = absurd (let e : None ≡ Some y = h in cc)
+got_map f (x ∷ xs) zero y h = (x, refl, (let e : Some (f x) ≡ Some y = h in cc))
+got_map f (x ∷ xs) (suc j) y h = got_map f xs j y h
+
+got_all : {A : Type 0} (P : A → Type 0) (xs : List A) (j : ℕ) (x : A) → AllByRecursion P xs → slice_get xs j ≡ Some x → P x
+got_all P [] j x h here = absurd (let e : None ≡ Some x = here in cc)
+got_all {A} P (y ∷ xs) zero x h here = subst P (let e : Some y ≡ Some x = here in cc) h.0
+got_all P (y ∷ xs) (suc j) x h here = got_all P xs j x h.1 here
+
+map_twice : {A B C : Type 0} (f : A → B) (g : B → C) (xs : List A) → map g (map f xs) ≡ map (λ x. g (f x)) xs
+map_twice f g [] = refl
+map_twice {A} {B} {C} f g (x ∷ xs) = ap (λ (ys : List C). g (f x) ∷ ys) (map_twice f g xs)
+
+-- the ports of a source stand for its columns
+source_columns : (d : Design) (cols : ℕ → ℕ → Column) (whole names : List (List ℕ)) (k : ℕ) → ((j : ℕ) (name : List ℕ) → slice_get names j ≡ Some name → get_or whole (k + j) [] ≡ name) → map (λ p. column [] (get_or whole p [])) (from_each (λ j. j) k (length names)) ≡ map (column []) names
+source_columns d cols whole [] k at = refl
+source_columns d cols whole (name ∷ names) k at =
+    let e : k ≡ k + 0 = omega arith in
+    let head : column [] (get_or whole k []) ≡ column [] name = ap (λ (n : ℕ). column [] (get_or whole n [])) e ∙ ap (column []) (at 0 name refl) in
+    let tail = source_columns d cols whole names (k + 1) (λ j other here. (let f : (k + 1) + j ≡ k + suc j = omega arith in ap (λ (n : ℕ). get_or whole n []) f) ∙ at (suc j) other here) in
+    ap (λ (c : Column). c ∷ map (λ p. column [] (get_or whole p [])) (from_each (λ j. j) (k + 1) (length names))) head ∙ ap (λ (cs : List Column). column [] name ∷ cs) tail
+
+each_map : {A : Type 0} (f : ℕ → A) (k n : ℕ) → from_each f k n ≡ map f (from_each (λ j. j) k n)
+each_map f k zero = refl
+each_map {A} f k (suc n) = ap (λ (xs : List A). f k ∷ xs) (each_map f (k + 1) n)
+
+map_same : {A B : Type 0} (f g : A → B) (xs : List A) → ((x : A) → f x ≡ g x) → map f xs ≡ map g xs
+map_same f g [] e = refl
+map_same f g (x ∷ xs) e = let head = e x in let tail = map_same f g xs e in cc
+
+-- a driver stands for the same where nets stand for the same columns
+stands_same : (of : Column → List (Driver Column)) (f g : ℕ → Column) → ((k : ℕ) → f k ≡ g k) → (k : ℕ) (r : Driver ℕ) → IsInput r ⊎ ((x : Driver Column) × Among x (of (g k)) × StandsFor g r x) → IsInput r ⊎ ((x : Driver Column) × Among x (of (f k)) × StandsFor f r x)
+stands_same of f g e k r (inl h) = inl h
+stands_same of f g e k r (inr (x, among, h)) = inr (x, subst (λ (c : Column). Among x (of c)) (sym (e k)) among, by r h)
+  where
+    by : (t : Driver ℕ) → StandsFor g t x → StandsFor f t x
+    by (from_input j) h = absurd h
+    by (from_latch bit a) h = h ∙ ap (from_latch bit) (sym (e a))
+    by (from_cover cover ks) (inl h) = inl (h ∙ ap (from_cover cover) (sym (map_same f g ks e)))
+    by (from_cover cover ks) (inr (a, one, passes, h)) = inr (a, one, passes, h ∙ ap from_connection (sym (e a)))
+    by (from_connection a) h = absurd h
+
+port_node : (d : Design) (c : Column) (node place : ℕ) → IsPort d c node place → node ≤ length (pearls d)
+unfolding ports_of
+port_node d c zero place h = omega arith
+port_node d c (suc j) place h = by (slice_get (pearls d) j) refl h
+  where
+    by : (o : Option (List ℕ)) → slice_get (pearls d) j ≡ o → slice_get (option_map_or (outputs_at d) o []) place ≡ Some c → suc j ≤ length (pearls d)
+    by None e h = absurd (let f : None ≡ Some c = h in cc)
+    by (Some path) e h = let less = slice_get_within (pearls d) j path e in omega arith
+
+module _ (d : Design) (parts : List Part) (origins : List (Option Origin)) (channels : List Channel) (nodes : List Node) (reads : List Read)
+    (are : ArePartsOf d (length (columns d)) parts) (leads : AreLeads d origins reads) (cut : AreChannelsOf reads channels) (made : AreNodesOf d parts origins channels nodes)
+    (few_channels : length channels ≤ 16384) (few : length (pearls d) ≤ 4096) where
+  abbrev pub s : System
+  s = record { nodes = nodes; channels = channels }
+
+  pub at_part : (j : ℕ) (o : Option Part) → slice_get parts j ≡ o → ℕ → Column
+  at_part j None e k = column [] []
+  at_part j (Some p) e k = (are.each j p e).col k
+
+  abbrev pub cols : ℕ → ℕ → Column
+  cols zero k = column [] []
+  cols (suc j) k = at_part j (slice_get parts j) refl k
+
+  record Picked (j : ℕ) (part : Part) : Type 0 where
+    pub is : IsPartOf d (length (columns d)) j part
+    pub col : (k : ℕ) → cols (suc j) k ≡ is.col k
+
+  picked : (j : ℕ) (part : Part) → slice_get parts j ≡ Some part → Picked j part
+  unfolding at_part
+  picked j part here = let got = by (slice_get parts j) refl here in record { is = got.0; col = got.1 }
+    where
+      by : (o : Option Part) (e : slice_get parts j ≡ o) → o ≡ Some part → (q : IsPartOf d (length (columns d)) j part) × ((k : ℕ) → at_part j o e k ≡ q.col k)
+      by None e h = absurd (let f : None ≡ Some part = h in cc)
+      by (Some p) e h =
+          let same : p ≡ part = (let f : Some p ≡ Some part = h in cc) in
+          subst (λ (r : Part). (q : IsPartOf d (length (columns d)) j r) × ((k : ℕ) → at_part j (Some p) e k ≡ q.col k)) same (are.each j p e, λ k. refl)
+
+  nodes_are : (i : ℕ) (node : Node) → slice_get nodes i ≡ Some node → Standing (root_inputs d) (root_outputs d) made.are.shells made.are.ins i node
+  nodes_are i node here = standing (root_inputs d) (root_outputs d) made.are.shells made.are.ins i node (ap (λ (ns : List Node). slice_get ns i) (sym made.are.is) ∙ here)
+
+  shells_are : length made.are.shells ≡ length parts
+  shells_are = shells_long channels origins 1 parts made.are.shells made.are.each
+
+  nodes_long : length nodes ≡ length (pearls d) + 2
+  nodes_long =
+      let a = ap length made.are.is in
+      let b = length-append made.are.shells (Sink (root_outputs d) made.are.ins ∷ []) in
+      let e = shells_are in
+      let f = are.long in
+      omega arith
+
+  first_node : slice_get nodes 0 ≡ Some (Source (root_inputs d))
+  first_node = ap (λ (ns : List Node). slice_get ns 0) made.are.is
+
+  shell_node : (j : ℕ) (part : Part) → slice_get parts j ≡ Some part → (ins : List InBit) × (slice_get nodes (suc j) ≡ Some (Shell part.pearl ins))
+  shell_node j part here =
+      let at = part_shell channels origins 1 parts made.are.shells j part made.are.each here in
+      (at.2.ins,
+        ap (λ (ns : List Node). slice_get ns (suc j)) made.are.is
+        ∙ get_left made.are.shells (Sink (root_outputs d) made.are.ins ∷ []) j at.0 at.1
+        ∙ ap Some at.2.is)
+
+  -- the ports of the nodes of the system stand for those of the design
+  port_columns : (node : ℕ) → node ≤ length (pearls d) → map (column_of d cols) (ports_at s node) ≡ ports_of d node
+  unfolding ports_of
+  port_columns zero h =
+      ap (λ (o : Option Node). map (column_of d cols) (option_map_or (system_ports 0) o [])) first_node
+      ∙ ap (map (column_of d cols)) (each_map source_port 0 (length (root_inputs d)))
+      ∙ map_twice source_port (column_of d cols) (from_each (λ j. j) 0 (length (root_inputs d)))
+      ∙ source_columns d cols (root_inputs d) (root_inputs d) 0 (λ j name here. (let e : 0 + j ≡ j = zero-add j in ap (λ (n : ℕ). get_or (root_inputs d) n []) e) ∙ get_or_from_slice_get (root_inputs d) j name [] here)
+  port_columns (suc j) h =
+      let part = got_here parts j (let l = are.long in omega arith) in
+      let shell = shell_node j part.0 part.1 in
+      let pick = picked j part.0 part.1 in
+      ap (λ (o : Option Node). map (column_of d cols) (option_map_or (system_ports (suc j)) o [])) shell.1
+      ∙ map_twice (shell_net (suc j)) (column_of d cols) part.0.pearl.flat.outs
+      ∙ map_same (cols (suc j)) pick.is.col part.0.pearl.flat.outs pick.col
+      ∙ pick.is.outputs
+      ∙ sym (ap (λ (o : Option (List ℕ)). option_map_or (outputs_at d) o []) pick.is.here ∙ ap (λ (o : Option Model). option_map_or (λ m. map (column pick.is.path) m.outputs) o []) pick.is.body)
+
+  -- what a column is led back to, as what an input reads
+  back : (to n : ℕ) (c : Column) (o : Origin) (x : InBit) → LeadsIn d n c o → IsBitOfOrigin channels to (Some o) x → LeadsBack d s cols n c x
+  back to zero c (Const bit) x h is = subst (LeadsBack d s cols zero c) (sym is) (h.1, h.2, h.3)
+  back to zero c (Port node place) (bits.Const bit) h is = absurd is
+  back to zero c (Port node place) (bits.Port chan bit) h is =
+      let ports = ap (λ (m : ℕ). map (column_of d cols) (ports_at s m)) is.from ∙ port_columns node (port_node d c node place h) in
+      sym (carried_column d s cols chan bit place is.c c is.here is.port (ap (λ (cs : List Column). slice_get cs place) ports ∙ h))
+  back to (suc n) c o x h is = (h.1, h.2, back to n h.1 o x h.3 is)
+
+  led : (to k : ℕ) (x : InBit) → k < length (columns d) → IsBitFor channels origins to k x → IsLed d s cols (column_at d k) x
+  led to k x less is = by (origin_at origins k) refl is
+    where
+      by : (o : Option Origin) → origin_at origins k ≡ o → IsBitOfOrigin channels to o x → IsLed d s cols (column_at d k) x
+      by None e h = absurd h
+      by (Some o) e h = let way = (leads.led k o less).0 e in (way.0, back to way.0 (column_at d k) o x way.1 h)
+
+  all_led : (to : ℕ) (ks : List ℕ) (xs : List InBit) → AllByRecursion (λ k. k < length (columns d)) ks → AreBits channels origins to ks xs → AreLed d s cols (map (column_at d) ks) xs
+  all_led to ks xs below is j c x here there =
+      let at = got_map (column_at d) ks j c here in
+      subst (λ (a : Column). IsLed d s cols a x) (sym at.2)
+      (led to at.0 x (got_all (λ k. k < length (columns d)) ks j at.0 below at.1) (bits_at channels origins to ks xs j at.0 x is at.1 there))
+
+  -- the shell of a node
+  record Shelled (i : ℕ) (pearl : View) (ins : List InBit) : Type 0 where
+    pub j : ℕ
+    pub place : i ≡ suc j
+    pub part : Part
+    pub here : slice_get parts j ≡ Some part
+    pub pearl_is : pearl ≡ part.pearl
+    pub bits : AreBits channels origins i part.ins ins
+
+  shelled : (i : ℕ) (pearl : View) (ins : List InBit) → slice_get nodes i ≡ Some (Shell pearl ins) → Shelled i pearl ins
+  shelled i pearl ins here = by (nodes_are i (Shell pearl ins) here)
+    where
+      by : Standing (root_inputs d) (root_outputs d) made.are.shells made.are.ins i (Shell pearl ins) → Shelled i pearl ins
+      by (first e is) = absurd (let f : Shell pearl ins ≡ Source (root_inputs d) = is in cc)
+      by (final e is) = absurd (let f : Shell pearl ins ≡ Sink (root_outputs d) made.are.ins = is in cc)
+      by (inner j e at) =
+          let shell = shell_at channels origins 1 parts made.are.shells j (Shell pearl ins) made.are.each at in
+          let same : Shell pearl ins ≡ Shell shell.part.pearl shell.is.ins = shell.is.is in
+          let p : pearl ≡ shell.part.pearl = cc in
+          let x : shell.is.ins ≡ ins = cc in
+          let n : 1 + j ≡ i = omega arith in
+          record {
+            j = j; place = omega arith; part = shell.part; here = shell.here; pearl_is = p;
+            bits = subst (λ (m : ℕ). AreBits channels origins m shell.part.ins ins) n (subst (λ (xs : List InBit). AreBits channels origins (1 + j) shell.part.ins xs) x shell.is.bits);
+          }
+
+  shell_of : (i : ℕ) (pearl : View) (ins : List InBit) → slice_get nodes i ≡ Some (Shell pearl ins) → IsShellOf d s cols i pearl ins
+  shell_of i pearl ins here =
+      let at = shelled i pearl ins here in
+      let pick = picked at.j at.part at.here in
+      let q = pick.is in
+      subst (λ (p : View). IsShellOf d s cols i p ins) (sym at.pearl_is)
+      (subst (λ (m : ℕ). IsShellOf d s cols m at.part.pearl ins) (sym at.place) (record {
+        number = at.j;
+        place = omega arith;
+        path = q.path;
+        here = q.here;
+        model = q.model;
+        body = q.body;
+        inputs = map_same (cols (suc at.j)) q.col at.part.pearl.flat.ins pick.col ∙ q.inputs;
+        outputs = map_same (cols (suc at.j)) q.col at.part.pearl.flat.outs pick.col ∙ q.outputs;
+        each = λ k r among. stands_same (drivers d) (cols (suc at.j)) q.col pick.col k r (q.each k r among);
+        led = subst (λ (cs : List Column). AreLed d s cols cs ins) (q.ins ∙ sym q.inputs ∙ sym (map_same (cols (suc at.j)) q.col at.part.pearl.flat.ins pick.col)) (all_led i at.part.ins ins q.ins_below at.bits);
+      }))
+
+  pub system_is : IsSystemOf d s
+  system_is = record {
+    nodes = nodes_long;
+    columns = cols;
+    source = λ i names here. source_at i names (nodes_are i (Source names) here);
+    shells = shell_of;
+    sink = λ i names ins here. sink_at i names ins (nodes_are i (Sink names ins) here);
+  }
+    where
+      source_at : (i : ℕ) (names : List (List ℕ)) → Standing (root_inputs d) (root_outputs d) made.are.shells made.are.ins i (Source names) → names ≡ root_inputs d
+      source_at i names (first e is) = let f : Source names ≡ Source (root_inputs d) = is in cc
+      source_at i names (inner j e at) =
+          let shell = shell_at channels origins 1 parts made.are.shells j (Source names) made.are.each at in
+          absurd (let f : Source names ≡ Shell shell.part.pearl shell.is.ins = shell.is.is in cc)
+      source_at i names (final e is) = absurd (let f : Source names ≡ Sink (root_outputs d) made.are.ins = is in cc)
+
+      sink_at : (i : ℕ) (names : List (List ℕ)) (ins : List InBit) → Standing (root_inputs d) (root_outputs d) made.are.shells made.are.ins i (Sink names ins) → (names ≡ root_outputs d) × AreLed d s cols (map (column []) (root_outputs d)) ins
+      sink_at i names ins (first e is) = absurd (let f : Sink names ins ≡ Source (root_inputs d) = is in cc)
+      sink_at i names ins (inner j e at) =
+          let shell = shell_at channels origins 1 parts made.are.shells j (Sink names ins) made.are.each at in
+          absurd (let f : Sink names ins ≡ Shell shell.part.pearl shell.is.ins = shell.is.is in cc)
+      sink_at i names ins (final e is) =
+          let f : Sink names ins ≡ Sink (root_outputs d) made.are.ins = is in
+          let n : names ≡ root_outputs d = cc in
+          let x : made.are.ins ≡ ins = cc in
+          (n, subst (λ (cs : List Column). AreLed d s cols cs ins) made.outputs.columns_are (subst (λ (xs : List InBit). AreLed d s cols (map (column_at d) made.numbers) xs) x (all_led (length parts + 1) made.numbers made.are.ins made.outputs.below made.are.bits)))
