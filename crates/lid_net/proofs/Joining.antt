@@ -34,6 +34,7 @@ use Rattle.lid_channels.specs.Bits.{IsBitOf, Carries}
 use Rattle.lid_leads.specs.declared.origin.Origin.{Origin}
 use Rattle.lid_leads.specs.declared.origin.Origin.TheVariants.{Const, Port}
 use Rattle.lid_leads.specs.Steps.{origin_at}
+use Rattle.lid_net.proofs.Rising.{channels_rise, channel_ports, first_port, all_by}
 use Rattle.lid_net.specs.declared.part.Part.{Part}
 use Rattle.lid_net.specs.Reads.{read_of}
 use Rattle.lid_net.specs.Nodes.{IsBitFor, IsBitOfOrigin, AreBits, IsShellFor, AreShells, AreNodes}
@@ -201,6 +202,19 @@ port_node d c (suc j) place h = by (slice_get (pearls d) j) refl h
     by None e h = absurd (let f : None ≡ Some c = h in cc)
     by (Some path) e h = let less = slice_get_within (pearls d) j path e in omega arith
 
+reader_node : (d : Design) (to : ℕ) (c : Column) → Among c (inputs_of d to) → (0 < to) × (to ≤ length (pearls d) + 1)
+unfolding inputs_of
+reader_node d zero c h = absurd h
+reader_node d (suc i) c h = by (eqb i (length (pearls d))) refl h
+  where
+    by : (b : Bool) → eqb i (length (pearls d)) ≡ b → Among c (cond b (map (column []) (root_outputs d)) (option_map_or (inputs_at d) (slice_get (pearls d) i) [])) → (0 < suc i) × (suc i ≤ length (pearls d) + 1)
+    by true e h = (omega arith, (let f : i ≡ length (pearls d) = grind (arith, e) in omega arith))
+    by false e h = at (slice_get (pearls d) i) refl h
+      where
+        at : (o : Option (List ℕ)) → slice_get (pearls d) i ≡ o → Among c (option_map_or (inputs_at d) o []) → (0 < suc i) × (suc i ≤ length (pearls d) + 1)
+        at None g h = absurd h
+        at (Some path) g h = let less = slice_get_within (pearls d) i path g in (omega arith, omega arith)
+
 module _ (d : Design) (parts : List Part) (origins : List (Option Origin)) (channels : List Channel) (nodes : List Node) (reads : List Read)
     (are : ArePartsOf d (length (columns d)) parts) (leads : AreLeads d origins reads) (cut : AreChannelsOf reads channels) (made : AreNodesOf d parts origins channels nodes)
     (few_channels : length channels ≤ 16384) (few : length (pearls d) ≤ 4096) where
@@ -365,3 +379,81 @@ module _ (d : Design) (parts : List Part) (origins : List (Option Origin)) (chan
           let n : names ≡ root_outputs d = cc in
           let x : made.are.ins ≡ ins = cc in
           (n, subst (λ (cs : List Column). AreLed d s cols cs ins) made.outputs.columns_are (subst (λ (xs : List InBit). AreLed d s cols (map (column_at d) made.numbers) xs) x (all_led (length parts + 1) made.numbers made.are.ins made.outputs.below made.are.bits)))
+
+  read_in : (c : Channel) (port : ℕ) → Among c channels → Among port c.ports → IsReadBy d (read_by c port)
+  read_in c port here there = (leads.exact (read_by c port)).0 (subst (λ (rs : List Read). Among (read_by c port) rs) cut.carry (among_flat reads_in c (read_by c port) channels here (among_map (read_by c) port c.ports there)))
+
+  channel_is : (c : Channel) → Among c channels → IsChannel s c
+  channel_is c here =
+      let sizes = channel_ports channels c cut.cut here in
+      let first = first_port c sizes.0 in
+      let read = read_in c first.0 here first.1 in
+      let ends = lead_end d read.2.0 read.0 c.from first.0 read.2.1 in
+      let from = port_node d ends.0 c.from first.0 ends.1 in
+      let to = reader_node d c.to read.0 read.1 in
+      let long = nodes_long in
+      record {
+        comes = omega arith;
+        leads = to.0;
+        ends = (let most = to.1 in omega arith);
+        some = sizes.0;
+        few = sizes.1;
+        below = all_by (λ port. port < length (ports_at s c.from)) c.ports (λ port among.
+            let other = read_in c port here among in
+            let end = lead_end d other.2.0 other.0 c.from port other.2.1 in
+            let inside = slice_get_within (ports_of d c.from) port end.0 end.1 in
+            let same : length (ports_of d c.from) ≡ length (ports_at s c.from) = ap length (sym (port_columns c.from from)) ∙ length-map (ports_at s c.from) (column_of d cols) in
+            omega arith);
+      }
+
+  node_is : (i : ℕ) (node : Node) → slice_get nodes i ≡ Some node → IsNode s i node
+  node_is i node here = by (nodes_are i node here)
+    where
+      shell_ok : (j : ℕ) → i ≡ suc j → (part : Part) → slice_get parts j ≡ Some part → (ins : List InBit) → AreBits channels origins i part.ins ins → IsShell s i part.pearl ins
+      shell_ok j e part at ins bits =
+          let is = are.each j part at in
+          let inside = slice_get_within parts j part at in
+          let long = nodes_long in
+          let count = are.long in
+          let a = bits_long channels origins i part.ins ins bits in
+          let b = sym (length-map part.ins (column_at d)) ∙ ap length (is.ins ∙ sym is.inputs) ∙ length-map part.pearl.flat.ins is.col in
+          record {
+            after_source = omega arith;
+            before_sink = omega arith;
+            rules = is.rules;
+            begins = is.begins;
+            width = sym a ∙ b;
+            reads = bits_read s origins i part.ins ins bits;
+          }
+
+      by : Standing (root_inputs d) (root_outputs d) made.are.shells made.are.ins i node → IsNode s i node
+      by (first e is) = subst (IsNode s i) (sym is) e
+      by (inner j e at) =
+          let shell = shell_at channels origins 1 parts made.are.shells j node made.are.each at in
+          let n : 1 + j ≡ i = omega arith in
+          subst (IsNode s i) (sym shell.is.is) (shell_ok j (omega arith) shell.part shell.here shell.is.ins (subst (λ (m : ℕ). AreBits channels origins m shell.part.ins shell.is.ins) n shell.is.bits))
+      by (final e is) =
+          let long = nodes_long in
+          let count = are.long in
+          let same = shells_are in
+          let n : length parts + 1 ≡ i = omega arith in
+          let bits = subst (λ (m : ℕ). AreBits channels origins m made.numbers made.are.ins) n made.are.bits in
+          let a = bits_long channels origins i made.numbers made.are.ins bits in
+          let b = sym (length-map made.numbers (column_at d)) ∙ ap length made.outputs.columns_are ∙ length-map (root_outputs d) (column []) in
+          subst (IsNode s i) (sym is) (record {
+            last = omega arith;
+            width = sym a ∙ b;
+            reads = bits_read s origins i made.numbers made.are.ins bits;
+          })
+
+  pub formed : IsWellFormed s
+  formed =
+      let long = nodes_long in
+      record {
+        least = omega arith;
+        most = omega arith;
+        each_node = node_is;
+        few = few_channels;
+        each_channel = all_by (IsChannel s) channels channel_is;
+        ascending = channels_rise channels (subst AreAscending (sym cut.carry) leads.ascending) cut.cut;
+      }

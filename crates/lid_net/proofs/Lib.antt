@@ -1,3 +1,4 @@
 pub mod Wired
 pub mod Numbering
+pub mod Rising
 pub mod Joining
