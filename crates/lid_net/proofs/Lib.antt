@@ -1,4 +1,6 @@
 pub mod Wired
 pub mod Numbering
 pub mod Rising
+pub mod Accepted
+pub mod Leading
 pub mod Joining

@@ -1,5 +1,5 @@
 -- Pearls of a design with the numbers of the columns of their inputs and outputs.
-use Rattle.std.specs.Prelude.{◌≡◌, ◌<◌, ◌+◌, ℕ, List, length, map, slice_get, Some}
+use Rattle.std.specs.Prelude.{◌≡◌, ◌<◌, ◌≤◌, ◌+◌, ℕ, List, length, map, slice_get, Some}
 use Rattle.std.specs.List.{AllByRecursion}
 use Rattle.lid_design.specs.declared.Design.{Design}
 use Rattle.lid_design.specs.declared.Model.{Model}
@@ -29,9 +29,10 @@ pub record IsPartOf (d : Design) (count i : ℕ) (part : Part) : Type 0 where
   pub outputs : map col part.pearl.flat.outs ≡ map (column path) model.outputs
   pub each : StandsForAll (drivers d) col part.pearl.flat
 
--- a part for each pearl, in order
+-- a part for each pearl, in order, of which there are no more than the limit
 pub record ArePartsOf (d : Design) (count : ℕ) (parts : List Part) : Type 0 where
   pub long : length parts ≡ length (pearls d)
+  pub few : length (pearls d) ≤ 4096
   pub each : (i : ℕ) (part : Part) → slice_get parts i ≡ Some part → IsPartOf d count i part
 
 -- the part of a flat part whose net k is number `start + k`

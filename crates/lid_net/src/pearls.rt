@@ -21,6 +21,7 @@ use std::alloc::{AllocError, Global};
 pub(crate) fn collect_parts(alloc: Global, checked: &Checked) -> Result<Vec<Part>, AllocError>
     ensures { IfOk result (λ parts. ArePartsOf checked.now (length (columns checked.now)) parts.items) }
 {
+    let _ = checked.design();
     let mut parts = Vec::new(alloc);
     for pearl in 0..checked.pearls() {
         parts.push(part_of(alloc, checked, pearl)?)?;

@@ -1,6 +1,7 @@
 use Rattle.std.proofs.Common.{◌≡◌, ◌+◌, ◌++◌, ◌∷◌, [], length, arith, ◌∙◌, ap, length-append, subst, sym}
 use Rattle.lid_design.specs.Elaboration.{columns}
 use Rattle.lid_net.proofs.Numbering.{parts_more}
+use Rattle.lid_net.proofs.Accepted.{few_pearls}
 use Rattle.lid_net.proofs.pearls.collect_parts.Goals as goal
 
 pub loop-pearl-preserved : goal.loop-pearl-preserved
@@ -10,4 +11,4 @@ loop-pearl-preserved c = record {
 }
 
 pub returns : goal.returns
-returns c = record { long = c.loop-pearl.invariant.long ∙ (let a = c.loop-pearl-test.false in let b = c.loop-pearl.auto.pearl-end in let e = c.pearls-pearl-end.ensures in omega arith); each = c.loop-pearl.invariant.each }
+returns c = record { long = c.loop-pearl.invariant.long ∙ (let a = c.loop-pearl-test.false in let b = c.loop-pearl.auto.pearl-end in let e = c.pearls-pearl-end.ensures in omega arith); few = few_pearls c.args.checked.now c.design.ensures.accepted.models; each = c.loop-pearl.invariant.each }
