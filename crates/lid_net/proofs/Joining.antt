@@ -145,17 +145,17 @@ get_left [] ys j x h = absurd (let e : None ≡ Some x = h in cc)
 get_left (y ∷ xs) ys zero x h = h
 get_left (y ∷ xs) ys (suc j) x h = get_left xs ys j x h
 
-got_here : {A : Type 0} (xs : List A) (j : ℕ) → j < length xs → (x : A) × (slice_get xs j ≡ Some x)
+pub got_here : {A : Type 0} (xs : List A) (j : ℕ) → j < length xs → (x : A) × (slice_get xs j ≡ Some x)
 got_here [] j h = absurd (omega arith)
 got_here (x ∷ xs) zero h = (x, refl)
 got_here (x ∷ xs) (suc j) h = got_here xs j (omega arith)
 
-got_map : {A B : Type 0} (f : A → B) (xs : List A) (j : ℕ) (y : B) → slice_get (map f xs) j ≡ Some y → (x : A) × (slice_get xs j ≡ Some x) × (y ≡ f x)
+pub got_map : {A B : Type 0} (f : A → B) (xs : List A) (j : ℕ) (y : B) → slice_get (map f xs) j ≡ Some y → (x : A) × (slice_get xs j ≡ Some x) × (y ≡ f x)
 got_map f [] j y h = absurd (let e : None ≡ Some y = h in cc)
 got_map f (x ∷ xs) zero y h = (x, refl, (let e : Some (f x) ≡ Some y = h in cc))
 got_map f (x ∷ xs) (suc j) y h = got_map f xs j y h
 
-got_all : {A : Type 0} (P : A → Type 0) (xs : List A) (j : ℕ) (x : A) → AllByRecursion P xs → slice_get xs j ≡ Some x → P x
+pub got_all : {A : Type 0} (P : A → Type 0) (xs : List A) (j : ℕ) (x : A) → AllByRecursion P xs → slice_get xs j ≡ Some x → P x
 got_all P [] j x h here = absurd (let e : None ≡ Some x = here in cc)
 got_all {A} P (y ∷ xs) zero x h here = subst P (let e : Some y ≡ Some x = here in cc) h.0
 got_all P (y ∷ xs) (suc j) x h here = got_all P xs j x h.1 here

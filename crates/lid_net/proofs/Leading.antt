@@ -110,7 +110,7 @@ module _ (d : Design) (n : Network) (is : IsNetwork d n) (covers : AllByRecursio
       by : (x : ColumnDriver) → from_input place ≡ map_driver (column_at d) (shown_driver d x) → x ≡ Input place
       by (Input p) e = let f : from_input place ≡ from_input p = e in cc
       by (Latch b a) e = absurd (let f : from_input place ≡ from_latch b (column_at d a) = e in cc)
-      by (OfCover m c as) e = absurd (let f : from_input place ≡ from_cover (cover_in d m c) (map (column_at d) as) = e in cc)
+      by (OfCover m c ks) e = absurd (let f : from_input place ≡ from_cover (cover_in d m c) (map (column_at d) ks) = e in cc)
       by (Connection a) e = absurd (let f : from_input place ≡ from_connection (column_at d a) = e in cc)
 
   no_port : (k : ℕ) → k < length ds → origin_at marks k ≡ None → ((place : ℕ) → driver_at ds k ≡ Input place → ⊥) → IsNoPort d (column_at d k)
@@ -118,11 +118,11 @@ module _ (d : Design) (n : Network) (is : IsNetwork d n) (covers : AllByRecursio
   no_port k less none other (suc i) place h = right.all k i place less h none
 
   unmarked : (k : ℕ) → k < length ds → IsNoPort d (column_at d k) → origin_at marks k ≡ None
-  unmarked k less no = by (origin_at marks k) refl
+  unmarked k less portless = by (origin_at marks k) refl
     where
       by : (o : Option Origin) → origin_at marks k ≡ o → o ≡ None
       by None e = refl
-      by (Some o) e = let m = right.only k o less e in absurd (no (suc m.0) m.1 m.3)
+      by (Some o) e = let m = right.only k o less e in absurd (portless (suc m.0) m.1 m.3)
 
   cover_here : (k : ℕ) → k < length ds → HasCover d (driver_at ds k)
   cover_here k less = all_among (HasCover d) ds (driver_at ds k) covers (among_at ds k (Input 0) less)
@@ -148,7 +148,7 @@ module _ (d : Design) (n : Network) (is : IsNetwork d n) (covers : AllByRecursio
           chosen : (v : Bool) → cond v (Passes a) Stops ≡ Ends o → LeadsIn d 0 (column_at d k) o
           chosen true g = absurd (let i : Passes a ≡ Ends o = g in cc)
           chosen false g = absurd (let i : Stops ≡ Ends o = g in cc)
-      by (OfCover m c (a ∷ b ∷ as)) e h = absurd (let g : Stops ≡ Ends o = h in cc)
+      by (OfCover m c (a ∷ b ∷ more)) e h = absurd (let g : Stops ≡ Ends o = h in cc)
       by (Connection a) e h = absurd (let g : Passes a ≡ Ends o = h in cc)
 
   pub record Passed (k a : ℕ) : Type 0 where
@@ -179,7 +179,7 @@ module _ (d : Design) (n : Network) (is : IsNetwork d n) (covers : AllByRecursio
                 on = inr (cover_in d m c, (has.1, bits.0, bits.1), subst (λ (rs : List (Driver Column)). Among {A = Driver Column} (from_cover (cover_in d m c) (column_at d b ∷ [])) rs) (sym (only k less ∙ ap (λ (x : ColumnDriver). map_driver (column_at d) (shown_driver d x) ∷ []) e)) (inl refl));
               })
           chosen false p g = absurd (let i : Stops ≡ Passes a = g in cc)
-      by (OfCover m c (b ∷ f ∷ as)) e h = absurd (let g : Stops ≡ Passes a = h in cc)
+      by (OfCover m c (b ∷ f ∷ more)) e h = absurd (let g : Stops ≡ Passes a = h in cc)
       by (Connection b) e h =
           let same : b ≡ a = (let i : Passes b ≡ Passes a = h in cc) in
           subst (Passed k) same (record {
@@ -194,3 +194,98 @@ module _ (d : Design) (n : Network) (is : IsNetwork d n) (covers : AllByRecursio
   down (suc m) k o less h =
       let passed = passes_here k h.1 less h.2 in
       (no_port k less h.0 passed.no, column_at d h.1, passed.on, down m h.1 o passed.within h.3)
+
+  -- from columns to numbers
+  at_port : (k node place : ℕ) → k < length ds → IsPort d (column_at d k) node place → LeadsWithin d ds marks 0 k (Port node place)
+  at_port k zero place less h = by (origin_at marks k) refl
+    where
+      by : (o : Option Origin) → origin_at marks k ≡ o → LeadsWithin d ds marks 0 k (Port 0 place)
+      by None e = inr (e, ap (step_from d) (given k place less h))
+      by (Some o) e =
+          let m = right.only k o less e in
+          let same = (once (column_at d k) 0 (suc m.0) place m.1 h m.3).0 in
+          absurd (omega arith)
+  at_port k (suc i) place less h = by (origin_at marks k) refl
+    where
+      by : (o : Option Origin) → origin_at marks k ≡ o → LeadsWithin d ds marks 0 k (Port (suc i) place)
+      by None e = absurd (right.all k i place less h e)
+      by (Some o) e =
+          let m = right.only k o less e in
+          let same = once (column_at d k) (suc m.0) (suc i) m.1 place m.3 h in
+          inl (e ∙ ap Some (m.2 ∙ ap (λ (x : ℕ). Port x m.1) same.0 ∙ ap (Port (suc i)) same.1))
+
+  none_left : (ks : List ℕ) → [] ≡ map (column_at d) ks → ks ≡ []
+  none_left [] e = refl
+  none_left (k ∷ ks) e = absurd (let f : [] ≡ column_at d k ∷ map (column_at d) ks = e in cc)
+
+  one_left : (a : Column) (ks : List ℕ) → a ∷ [] ≡ map (column_at d) ks → (k : ℕ) × (ks ≡ k ∷ []) × (a ≡ column_at d k)
+  one_left a [] e = absurd (let f : a ∷ [] ≡ [] = e in cc)
+  one_left a (k ∷ []) e = (k, refl, (let f : a ∷ [] ≡ column_at d k ∷ [] = e in cc))
+  one_left a (k ∷ j ∷ ks) e = absurd (let f : a ∷ [] ≡ column_at d k ∷ column_at d j ∷ map (column_at d) ks = e in cc)
+
+  at_constant : (k : ℕ) (bit : Bool) (cover : Cover) → k < length ds → IsNoPort d (column_at d k) → Among {A = Driver Column} (from_cover cover []) (drivers d (column_at d k)) → cover_value cover [] ≡ bit → LeadsWithin d ds marks 0 k (Const bit)
+  at_constant k bit cover less portless among value = inr (unmarked k less portless, by (driver_at ds k) refl (driver_is k (from_cover cover []) less among))
+    where
+      by : (x : ColumnDriver) → driver_at ds k ≡ x → from_cover cover [] ≡ map_driver (column_at d) (shown_driver d x) → step_from d (driver_at ds k) ≡ Ends (Const bit)
+      by (Input p) e h = absurd (let f : from_cover cover [] ≡ from_input p = h in cc)
+      by (Latch b a) e h = absurd (let f : from_cover cover [] ≡ from_latch b (column_at d a) = h in cc)
+      by (Connection a) e h = absurd (let f : from_cover cover [] ≡ from_connection (column_at d a) = h in cc)
+      by (OfCover m c ks) e h =
+          let f : from_cover cover [] ≡ from_cover (cover_in d m c) (map (column_at d) ks) = h in
+          let same : cover_in d m c ≡ cover = cc in
+          let none : [] ≡ map (column_at d) ks = cc in
+          let empty = none_left ks none in
+          ap (step_from d) (e ∙ ap (OfCover m c) empty) ∙ ap (λ (x : Cover). Ends (Const (cover_value x []))) same ∙ ap (λ (b : Bool). Ends (Const b)) value
+
+  record Stepped (k : ℕ) (a : Column) : Type 0 where
+    pub j : ℕ
+    pub step : step_from d (driver_at ds k) ≡ Passes j
+    pub same : a ≡ column_at d j
+    pub within : j < length ds
+
+  stepped : (k : ℕ) (a : Column) → k < length ds → IsPassedOn d a (column_at d k) → Stepped k a
+  stepped k a less (inl among) = by (driver_at ds k) refl (driver_is k (from_connection a) less among)
+    where
+      by : (x : ColumnDriver) → driver_at ds k ≡ x → from_connection a ≡ map_driver (column_at d) (shown_driver d x) → Stepped k a
+      by (Input p) e h = absurd (let f : from_connection a ≡ from_input p = h in cc)
+      by (Latch b i) e h = absurd (let f : from_connection a ≡ from_latch b (column_at d i) = h in cc)
+      by (OfCover m c ks) e h = absurd (let f : from_connection a ≡ from_cover (cover_in d m c) (map (column_at d) ks) = h in cc)
+      by (Connection j) e h = record {
+        j = j; step = ap (step_from d) e; same = (let f : from_connection a ≡ from_connection (column_at d j) = h in cc);
+        within = below k j less (subst (λ (y : ColumnDriver). Among j (read_now (shown_driver d y))) (sym e) (inl refl));
+      }
+  stepped k a less (inr (cover, passes, among)) = by (driver_at ds k) refl (driver_is k (from_cover cover (a ∷ [])) less among)
+    where
+      by : (x : ColumnDriver) → driver_at ds k ≡ x → from_cover cover (a ∷ []) ≡ map_driver (column_at d) (shown_driver d x) → Stepped k a
+      by (Input p) e h = absurd (let f : from_cover cover (a ∷ []) ≡ from_input p = h in cc)
+      by (Latch b i) e h = absurd (let f : from_cover cover (a ∷ []) ≡ from_latch b (column_at d i) = h in cc)
+      by (Connection i) e h = absurd (let f : from_cover cover (a ∷ []) ≡ from_connection (column_at d i) = h in cc)
+      by (OfCover m c ks) e h =
+          let f : from_cover cover (a ∷ []) ≡ from_cover (cover_in d m c) (map (column_at d) ks) = h in
+          let same : cover_in d m c ≡ cover = cc in
+          let list : a ∷ [] ≡ map (column_at d) ks = cc in
+          let one = one_left a ks list in
+          let whole : driver_at ds k ≡ OfCover m c (one.0 ∷ []) = e ∙ ap (OfCover m c) one.1 in
+          let true_of : passes_on (cover_in d m c) ≡ true = ap passes_on same ∙ does_pass cover passes in
+          record {
+            j = one.0;
+            step = ap (step_from d) whole ∙ ap (λ (v : Bool). cond v (Passes one.0) Stops) true_of;
+            same = one.2;
+            within = below k one.0 less (subst (λ (y : ColumnDriver). Among one.0 (read_now (shown_driver d y))) (sym whole) (inl refl));
+          }
+
+  up : (m k : ℕ) (o : Origin) → k < length ds → LeadsIn d m (column_at d k) o → LeadsWithin d ds marks m k o
+  up zero k (Port node place) less h = at_port k node place less h
+  up zero k (Const bit) less h = at_constant k bit h.1 less h.0 h.2 h.3
+  up (suc m) k o less h =
+      let step = stepped k h.1 less h.2 in
+      (unmarked k less h.0, step.j, step.step, up m step.j o step.within (subst (λ (c : Column). LeadsIn d m c o) step.same h.3))
+
+  -- so what is found of numbers is said of columns
+  pub columns_led : (origins : List (Option Origin)) → AreOrigins d ds marks origins → AreColumnsLed d origins
+  columns_led origins found k o within =
+      let whole = is.elaborated.whole in
+      let l = long in
+      let less : k < length ds = omega arith in
+      ((λ e. let led = (found k less o).0 e in (led.0, down led.0 k o less led.1)),
+        λ led. (found k less o).1 (led.0, up led.0 k o less led.1))

@@ -3,4 +3,5 @@ pub mod Numbering
 pub mod Rising
 pub mod Accepted
 pub mod Leading
+pub mod Marking
 pub mod Joining
