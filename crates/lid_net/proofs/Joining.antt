@@ -202,7 +202,7 @@ port_node d c (suc j) place h = by (slice_get (pearls d) j) refl h
     by None e h = absurd (let f : None ≡ Some c = h in cc)
     by (Some path) e h = let less = slice_get_within (pearls d) j path e in omega arith
 
-reader_node : (d : Design) (to : ℕ) (c : Column) → Among c (inputs_of d to) → (0 < to) × (to ≤ length (pearls d) + 1)
+pub reader_node : (d : Design) (to : ℕ) (c : Column) → Among c (inputs_of d to) → (0 < to) × (to ≤ length (pearls d) + 1)
 unfolding inputs_of
 reader_node d zero c h = absurd h
 reader_node d (suc i) c h = by (eqb i (length (pearls d))) refl h

@@ -80,29 +80,33 @@ pub record AreShellMarks (d : Design) (count : ℕ) (marks : List (Option Origin
   pub only : (k : ℕ) (o : Origin) → k < count → origin_at marks k ≡ Some o → (i : ℕ) × (place : ℕ) × (o ≡ Port (suc i) place) × IsPort d (column_at d k) (suc i) place
   pub all : (k i place : ℕ) → k < count → IsPort d (column_at d k) (suc i) place → origin_at marks k ≡ None → ⊥
 
+module _ (d : Design) (n : Network) (is : IsNetwork d n) where
+  abbrev pub drivers_list : List ColumnDriver
+  drivers_list = n.columns.drivers
+
+  pub long : length (map (shown_driver d) n.columns.drivers) ≡ length n.columns.drivers
+  long = length-map n.columns.drivers (shown_driver d)
+
+  pub driven_of : (k : ℕ) → k < length n.columns.drivers → IsDrivenBy d (map (shown_driver d) n.columns.drivers) k (column_at d k)
+  driven_of k less = let whole = is.elaborated.whole in let l = long in is.elaborated.each k (column_at d k) (slice_get-get_or (columns d) k (column [] []) (omega arith))
+
+  pub only : (k : ℕ) → k < length n.columns.drivers → drivers d (column_at d k) ≡ map_driver (column_at d) (shown_driver d (driver_at n.columns.drivers k)) ∷ []
+  only k less = let by = driven_of k less in by.only ∙ ap (λ (s : Driver ℕ). map_driver (column_at d) s ∷ []) (shown_at d n.columns.drivers k by.driver less by.here)
+
 module _ (d : Design) (n : Network) (is : IsNetwork d n) (covers : AllByRecursion (HasCover d) n.columns.drivers) (marks : List (Option Origin)) (right : AreShellMarks d (length n.columns.drivers) marks) (once : ArePortsOnce d) (inputs : AreInputsPorts d) where
   abbrev ds : List ColumnDriver
   ds = n.columns.drivers
 
-  long : length (map (shown_driver d) ds) ≡ length ds
-  long = length-map ds (shown_driver d)
-
-  driven : (k : ℕ) → k < length ds → IsDrivenBy d (map (shown_driver d) ds) k (column_at d k)
-  driven k less = let whole = is.elaborated.whole in let l = long in is.elaborated.each k (column_at d k) (slice_get-get_or (columns d) k (column [] []) (omega arith))
-
-  only : (k : ℕ) → k < length ds → drivers d (column_at d k) ≡ map_driver (column_at d) (shown_driver d (driver_at ds k)) ∷ []
-  only k less = let by = driven k less in by.only ∙ ap (λ (s : Driver ℕ). map_driver (column_at d) s ∷ []) (shown_at d ds k by.driver less by.here)
-
   below : (k a : ℕ) → k < length ds → Among a (read_now (shown_driver d (driver_at ds k))) → a < length ds
   below k a less among =
-      let by = driven k less in
-      let l = long in
+      let by = driven_of d n is k less in
+      let l = long d n is in
       let here : Among a (read_now by.driver) = subst (λ (s : Driver ℕ). Among a (read_now s)) (sym (shown_at d ds k by.driver less by.here)) among in
       let h = all_among (λ (b : ℕ). b < length (map (shown_driver d) ds)) (read_now by.driver ++ read_before by.driver) a by.below (among_left a (read_now by.driver) (read_before by.driver) here) in
       omega arith
 
   driver_is : (k : ℕ) (r : Driver Column) → k < length ds → Among r (drivers d (column_at d k)) → r ≡ map_driver (column_at d) (shown_driver d (driver_at ds k))
-  driver_is k r less among = one_of r (map_driver (column_at d) (shown_driver d (driver_at ds k))) (subst (λ (rs : List (Driver Column)). Among r rs) (only k less) among)
+  driver_is k r less among = one_of r (map_driver (column_at d) (shown_driver d (driver_at ds k))) (subst (λ (rs : List (Driver Column)). Among r rs) (only d n is k less) among)
 
   given : (k place : ℕ) → k < length ds → IsPort d (column_at d k) 0 place → driver_at ds k ≡ Input place
   given k place less h = by (driver_at ds k) (driver_is k (from_input place) less (source_driven d (column_at d k) place h))
@@ -134,14 +138,14 @@ module _ (d : Design) (n : Network) (is : IsNetwork d n) (covers : AllByRecursio
       by : (x : ColumnDriver) → driver_at ds k ≡ x → step_from d x ≡ Ends o → LeadsIn d 0 (column_at d k) o
       by (Input place) e h =
           let f : Port 0 place ≡ o = (let g : Ends (Port 0 place) ≡ Ends o = h in cc) in
-          subst (LeadsIn d 0 (column_at d k)) f (inputs (column_at d k) place (only k less ∙ ap (λ (x : ColumnDriver). map_driver (column_at d) (shown_driver d x) ∷ []) e))
+          subst (LeadsIn d 0 (column_at d k)) f (inputs (column_at d k) place (only d n is k less ∙ ap (λ (x : ColumnDriver). map_driver (column_at d) (shown_driver d x) ∷ []) e))
       by (Latch b a) e h = absurd (let g : Stops ≡ Ends o = h in cc)
       by (OfCover m c []) e h =
           let f : Const (cover_value (cover_in d m c) []) ≡ o = (let g : Ends (Const (cover_value (cover_in d m c) [])) ≡ Ends o = h in cc) in
           subst (LeadsIn d 0 (column_at d k)) f
           (no_port k less none (λ place g. absurd (let i : OfCover m c [] ≡ Input place = sym e ∙ g in cc)),
             cover_in d m c,
-            subst (λ (rs : List (Driver Column)). Among {A = Driver Column} (from_cover (cover_in d m c) []) rs) (sym (only k less ∙ ap (λ (x : ColumnDriver). map_driver (column_at d) (shown_driver d x) ∷ []) e)) (inl refl),
+            subst (λ (rs : List (Driver Column)). Among {A = Driver Column} (from_cover (cover_in d m c) []) rs) (sym (only d n is k less ∙ ap (λ (x : ColumnDriver). map_driver (column_at d) (shown_driver d x) ∷ []) e)) (inl refl),
             refl)
       by (OfCover m c (a ∷ [])) e h = chosen (passes_on (cover_in d m c)) h
         where
@@ -176,7 +180,7 @@ module _ (d : Design) (n : Network) (is : IsNetwork d n) (covers : AllByRecursio
               subst (Passed k) same (record {
                 within = subst (λ (y : ℕ). y < length ds) (sym same) (reads (OfCover m c (b ∷ [])) e (subst (λ (y : ℕ). Among y (b ∷ [])) same (inl refl)));
                 no = λ place i. absurd (let j : OfCover m c (b ∷ []) ≡ Input place = sym e ∙ i in cc);
-                on = inr (cover_in d m c, (has.1, bits.0, bits.1), subst (λ (rs : List (Driver Column)). Among {A = Driver Column} (from_cover (cover_in d m c) (column_at d b ∷ [])) rs) (sym (only k less ∙ ap (λ (x : ColumnDriver). map_driver (column_at d) (shown_driver d x) ∷ []) e)) (inl refl));
+                on = inr (cover_in d m c, (has.1, bits.0, bits.1), subst (λ (rs : List (Driver Column)). Among {A = Driver Column} (from_cover (cover_in d m c) (column_at d b ∷ [])) rs) (sym (only d n is k less ∙ ap (λ (x : ColumnDriver). map_driver (column_at d) (shown_driver d x) ∷ []) e)) (inl refl));
               })
           chosen false p g = absurd (let i : Stops ≡ Passes a = g in cc)
       by (OfCover m c (b ∷ f ∷ more)) e h = absurd (let g : Stops ≡ Passes a = h in cc)
@@ -185,7 +189,7 @@ module _ (d : Design) (n : Network) (is : IsNetwork d n) (covers : AllByRecursio
           subst (Passed k) same (record {
             within = subst (λ (y : ℕ). y < length ds) (sym same) (reads (Connection b) e (subst (λ (y : ℕ). Among y (b ∷ [])) same (inl refl)));
             no = λ place i. absurd (let j : Connection b ≡ Input place = sym e ∙ i in cc);
-            on = inl (subst (λ (rs : List (Driver Column)). Among {A = Driver Column} (from_connection (column_at d b)) rs) (sym (only k less ∙ ap (λ (x : ColumnDriver). map_driver (column_at d) (shown_driver d x) ∷ []) e)) (inl refl));
+            on = inl (subst (λ (rs : List (Driver Column)). Among {A = Driver Column} (from_connection (column_at d b)) rs) (sym (only d n is k less ∙ ap (λ (x : ColumnDriver). map_driver (column_at d) (shown_driver d x) ∷ []) e)) (inl refl));
           })
 
   down : (m k : ℕ) (o : Origin) → k < length ds → LeadsWithin d ds marks m k o → LeadsIn d m (column_at d k) o
@@ -285,7 +289,7 @@ module _ (d : Design) (n : Network) (is : IsNetwork d n) (covers : AllByRecursio
   pub columns_led : (origins : List (Option Origin)) → AreOrigins d ds marks origins → AreColumnsLed d origins
   columns_led origins found k o within =
       let whole = is.elaborated.whole in
-      let l = long in
+      let l = long d n is in
       let less : k < length ds = omega arith in
       ((λ e. let led = (found k less o).0 e in (led.0, down led.0 k o less led.1)),
         λ led. (found k less o).1 (led.0, up led.0 k o less led.1))

@@ -4,4 +4,6 @@ pub mod Rising
 pub mod Accepted
 pub mod Leading
 pub mod Marking
+pub mod Reading
+pub mod Facts
 pub mod Joining
