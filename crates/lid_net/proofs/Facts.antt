@@ -1,5 +1,7 @@
 -- What acceptance says of ports, inputs and drivers.
-use Rattle.std.proofs.Common.{◌≡◌, ◌<◌, ◌≤◌, ◌⊎◌, ◌+◌, ℕ, zero, suc, Bool, true, false, cond, List, [], ◌∷◌, ◌++◌, length, map, get_or, take, drop, Option, Some, None, slice_get, inl, inr, refl, sym, ◌∙◌, ap, subst, arith, append-nil}
+use Rattle.std.proofs.Common.{◌≡◌, ◌<◌, ◌≤◌, ◌⊎◌, ◌+◌, ℕ, zero, suc, Bool, true, false, cond, List, [], ◌∷◌, ◌++◌, length, map, get_or, take, drop, Option, Some, None, option_map, slice_get, inl, inr, refl, sym, ◌∙◌, ap, subst, arith, append-nil}
+use Rattle.std.specs.Option.{option_map_or}
+use Rattle.std.proofs.lemmas.Option.{slice_get_within, get_or_from_slice_get, slice_get-map}
 use Rattle.std.specs.List.{AllByRecursion}
 use Rattle.std.proofs.lemmas.List.{length-map, take_all}
 use Rattle.lid_base.specs.Lists.{Among}
@@ -8,7 +10,7 @@ use Rattle.lid_cover.specs.Cover.{IsCover}
 use Rattle.lid_design.specs.declared.Design.{Design}
 use Rattle.lid_design.specs.declared.Model.{Model}
 use Rattle.lid_design.specs.Network.{Driver, from_input, from_latch, from_cover, from_connection}
-use Rattle.lid_design.specs.Columns.{Column, column, drivers, root_inputs}
+use Rattle.lid_design.specs.Columns.{Column, column, model_at, data_inputs, drivers_in, drivers, root_inputs}
 use Rattle.lid_design.specs.Elaboration.{columns}
 use Rattle.lid_design.specs.Loops.{pearls}
 use Rattle.lid_design.specs.Walks.{IsDriven}
@@ -24,23 +26,66 @@ use Rattle.lid_check.specs.Networks.{IsNetwork}
 use Rattle.lid_check.specs.declared.network.Network.{Network}
 use Rattle.lid_strict.proofs.Covered.{IsCovered, all_covered}
 use Rattle.lid_leads.specs.declared.origin.Origin.{Origin}
-use Rattle.lid_leads.specs.Steps.{origin_at}
+use Rattle.lid_system.specs.declared.Channel.{Channel}
+use Rattle.lid_system.specs.declared.InBit.{InBit}
+use Rattle.lid_channels.specs.declared.reads.Read.{Read}
+use Rattle.lid_channels.specs.Bits.{CarryAll}
 use Rattle.lid_net.specs.declared.part.Part.{Part}
 use Rattle.lid_net.specs.Marks.{part_outs}
-use Rattle.lid_net.specs.Graphs.{inputs_of, IsPort, LeadsTo}
+use Rattle.lid_parts.proofs.Reading.{IsNear, driver_near}
+use Rattle.lid_agree.proofs.Inputs.{root_input_drives}
+use Rattle.lid_net.specs.Graphs.{ports_of, inputs_of, IsPort, LeadsTo}
 use Rattle.lid_net.specs.PearlParts.{IsPartOf, ArePartsOf}
 use Rattle.lid_net.specs.Systems.{AreOutputs}
 use Rattle.lid_net.proofs.Rising.{all_by}
 use Rattle.lid_net.proofs.Joining.{got_all}
-use Rattle.lid_net.proofs.Leading.{ArePortsOnce, AreInputsPorts, only}
+use Rattle.lid_net.proofs.Leading.{ArePortsOnce, AreInputsPorts, only, one_of}
 
 -- no column is a port twice
 pub ports_once : (d : Design) → IsWellFormed d → IsAccepted d → ArePortsOnce d
 ports_once d formed accepted = ?
 
+root_model : (d : Design) (m : Model) → model_at d [] ≡ Some m → slice_get d.models d.root ≡ Some m
+unfolding model_at
+root_model d m h = h
+
+none_driven : (d : Design) (c : Column) (r : Driver Column) → model_at d c.path ≡ None → Among r (drivers d c) → ⊥
+unfolding drivers
+none_driven d c r here among = subst (λ (o : Option Model). Among r (option_map_or (drivers_in d c.path c.net) o [])) here among
+
+source_port : (d : Design) (c : Column) (place : ℕ) → option_map (column []) (slice_get (root_inputs d) place) ≡ Some c → IsPort d c 0 place
+unfolding ports_of
+source_port d c place h = slice_get-map (column []) (root_inputs d) place ∙ h
+
 -- each column that the rows drive is a port of the source
 pub inputs_ports : (d : Design) → IsWellFormed d → IsAccepted d → AreInputsPorts d
-inputs_ports d formed accepted = ?
+inputs_ports d formed accepted c j only_driver = by (model_at d c.path) refl
+  where
+    among : Among {A = Driver Column} (from_input j) (drivers d c)
+    among = subst (λ (rs : List (Driver Column)). Among {A = Driver Column} (from_input j) rs) (sym only_driver) (inl refl)
+
+    at_root : (m : Model) → model_at d c.path ≡ Some m → c.path ≡ [] → Among c.net (data_inputs d m) → IsPort d c 0 j
+    at_root m here path given =
+        let root : slice_get d.models d.root ≡ Some m = root_model d m (ap (model_at d) (sym path) ∙ here) in
+        let names : root_inputs d ≡ data_inputs d m = ap (λ (o : Option Model). option_map_or (data_inputs d) o []) root in
+        let at = among_get (data_inputs d m) c.net given in
+        let there : slice_get (root_inputs d) at.0 ≡ Some c.net = ap (λ (ns : List (List ℕ)). slice_get ns at.0) names ∙ at.1 in
+        let less = slice_get_within (root_inputs d) at.0 c.net there in
+        let name : get_or (root_inputs d) at.0 [] ≡ c.net = get_or_from_slice_get (root_inputs d) at.0 c.net [] there in
+        let col : column [] (get_or (root_inputs d) at.0 []) ≡ c = ap (column []) name ∙ ap (λ (p : List ℕ). column p c.net) (sym path) in
+        let driven : Among {A = Driver Column} (from_input at.0) (drivers d c) = subst (λ (x : Column). Among {A = Driver Column} (from_input at.0) (drivers d x)) col (root_input_drives d at.0 less) in
+        let same : from_input at.0 ≡ from_input j = one_of (from_input at.0) (from_input j) (subst (λ (rs : List (Driver Column)). Among {A = Driver Column} (from_input at.0) rs) only_driver driven) in
+        let place : at.0 ≡ j = cc in
+        subst (λ (x : ℕ). IsPort d c 0 x) place (source_port d c at.0 (ap (option_map (column [])) there ∙ ap (λ (p : List ℕ). Some (column p c.net)) (sym path)))
+
+    by : (o : Option Model) → model_at d c.path ≡ o → IsPort d c 0 j
+    by None here = absurd (none_driven d c (from_input j) here among)
+    by (Some m) here = near (driver_near d c.path c.net m here (from_input j) among)
+      where
+        near : IsNear d m c.path c.net (from_input j) → IsPort d c 0 j
+        near (inr local) = absurd (local.cell tt)
+        near (inl (given, inl outer)) = absurd (outer.cell tt)
+        near (inl (given, inr path)) = at_root m here path given
 
 -- each input of a node is led back to something
 pub inputs_led : (d : Design) → IsWellFormed d → IsAccepted d → (i : ℕ) (c : Column) → Among c (inputs_of d (suc i)) → (o : Origin) × LeadsTo d c o
@@ -95,3 +140,10 @@ refilled {A} len new old long size = ap (λ (xs : List A). take len (new ++ xs))
     gone zero (x ∷ xs) h = absurd (omega arith)
     gone (suc n) [] h = refl
     gone (suc n) (x ∷ xs) h = gone n xs (omega arith)
+
+-- there is a bit for each read
+pub carry_long : (channels : List Channel) (rs : List Read) (bs : List InBit) → CarryAll channels rs bs → length bs ≡ length rs
+carry_long channels [] [] h = refl
+carry_long channels [] (b ∷ bs) h = absurd h
+carry_long channels (r ∷ rs) [] h = absurd h
+carry_long channels (r ∷ rs) (b ∷ bs) h = ap suc (carry_long channels rs bs h.1)

@@ -31,7 +31,7 @@ use Rattle.lid_leads.specs.Steps.{passes_on, step_from, origin_at, LeadsWithin, 
 use Rattle.lid_net.specs.Graphs.{ports_of, IsPort, IsNoPort, LeadsIn, LeadsTo}
 use Rattle.lid_net.specs.Systems.{AreColumnsLed}
 
-one_of : {A : Type 0} (s t : A) → Among s (t ∷ []) → s ≡ t
+pub one_of : {A : Type 0} (s t : A) → Among s (t ∷ []) → s ≡ t
 one_of s t (inl e) = e
 one_of s t (inr none) = absurd none
 

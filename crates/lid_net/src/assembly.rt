@@ -113,6 +113,7 @@ fn lead_columns(
     ensures led { AreColumnsLed checked.now origins.new }
 {
     let network = checked.network();
+    let design = checked.design();
     let none = Cover {
         inputs: 0,
         on: false,
@@ -120,7 +121,7 @@ fn lead_columns(
     };
     mark_ports(parts, origins);
     lead_back(
-        checked.design(),
+        design,
         &none,
         network.columns.drivers.as_slice(),
         network.order.as_slice(),
@@ -142,6 +143,7 @@ fn nodes_of(
     requires few { length channels.now ≤ 16384 }
     ensures { IfOk result (λ nodes. AreNodesOf checked.now parts.items leads.origins.items channels.now nodes) }
 {
+    let _ = checked.design();
     let Leads { origins, reads } = leads;
     let bits = name_bits(alloc, reads.as_slice(), channels)?;
     let wiring = Wiring {
