@@ -17,7 +17,11 @@ use Rattle.lid_wiring.specs.Judged.{IsJudged}
 use Rattle.lid_wiring.proofs.Clocking.{model_at_number}
 use Rattle.lid_strict.proofs.Accepted.{judged_of}
 use Rattle.lid_parts.specs.PearlParts.{ArePortsApart}
-use Rattle.lid_parts.proofs.Beginning.{AreApart, apart_filter, inputs_apart, outputs_apart, nets_begin}
+use Rattle.lid_parts.proofs.Beginning.{AreApart, apart_filter, inputs_apart, outputs_apart, nets_begin, columns_begin}
+use Rattle.lid_wiring.proofs.Limits.{few_columns}
+use Rattle.lid_elab.specs.Numbers.{columns_in, start_of}
+use Rattle.lid_elab.proofs.Numbering.{numbering}
+use Rattle.lid_net.proofs.Numbering.{stands_few}
 use Rattle.lid_parts.proofs.Finding.{whole_pearls, inst_count, inst_pearl}
 use Rattle.std.proofs.lemmas.Bool.{cases_lt}
 use Rattle.lid_design.specs.Loops.{pearls}
@@ -202,12 +206,21 @@ inputs_ports d formed accepted c j only_driver = by (model_at d c.path) refl
         near (inl (given, inr path)) = at_root m here path given
 
 -- each input of a node is led back to something
-pub inputs_led : (d : Design) → IsWellFormed d → IsAccepted d → (i : ℕ) (c : Column) → Among c (inputs_of d (suc i)) → (o : Origin) × LeadsTo d c o
-inputs_led d formed accepted i c among = ?
+pub inputs_led : (d : Design) (n : Network) → IsWellFormed d → IsAccepted d → IsNetwork d n → (i k : ℕ) → k < length n.columns.drivers → Among (column_at d k) (inputs_of d (suc i)) → (o : Origin) × LeadsTo d (column_at d k) o
+inputs_led d n formed accepted is i k less among = ?
 
 -- a reached model has no more nets than there are columns
 net_count_few : (d : Design) → IsWellFormed d → IsAccepted d → (k : ℕ) → IsReached d k → length (model_nets d k) ≤ 1048576
-net_count_few d formed accepted k reached = ?
+net_count_few d formed accepted k reached =
+    let j = judged d formed accepted in
+    let stands = numbering d j reached.0 k reached.1 in
+    let begin = columns_begin d (length d.models) reached.0 k in
+    let few = stands_few (columns d) (columns_in (length d.models) d reached.0 k) (start_of d reached.0) stands in
+    let most = few_columns d j in
+    let a = ap length begin.1 in
+    let b = length-append (map (column reached.0) (model_nets d k)) begin.0 in
+    let e = length-map (model_nets d k) (column reached.0) in
+    omega arith
 
 -- a pearl has no more outputs than there are columns
 pub outputs_few : (d : Design) → IsWellFormed d → IsAccepted d → (count i : ℕ) (part : Part) → IsPartOf d count i part → length part.outs ≤ 1048576

@@ -4,6 +4,7 @@ pub mod Rising
 pub mod Accepted
 pub mod Leading
 pub mod Marking
+pub mod Rooted
 pub mod Reading
 pub mod Facts
 pub mod Joining

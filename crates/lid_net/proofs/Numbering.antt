@@ -63,7 +63,7 @@ stands_get : {A : Type 0} (whole part : List A) (start j : ℕ) (x : A) → Stan
 stands_get whole part start j x at here =
     ap (λ (xs : List _). slice_get xs (start + j)) at.parts ∙ ap (λ (n : ℕ). slice_get (at.before ++ (part ++ at.after)) (n + j)) (sym at.long) ∙ get_in at.before part at.after j x here
 
-stands_few : {A : Type 0} (whole part : List A) (start : ℕ) → StandsAt whole start part → start + length part ≤ length whole
+pub stands_few : {A : Type 0} (whole part : List A) (start : ℕ) → StandsAt whole start part → start + length part ≤ length whole
 stands_few whole part start at =
     let a = ap length at.parts in
     let b = length-append at.before (part ++ at.after) in

@@ -179,7 +179,7 @@ module _ (d : Design) (parts : List Part) (numbers : List ℕ) (are : ArePartsOf
       back r h = (same r).1 (at_node r.to r.from r.port h)
 
   -- each input of a node can be read
-  pub inputs_read : (w : Wiring) → AreLeads d w.origins.items w.reads.items → ((i : ℕ) (c : Column) → Among c (inputs_of d (suc i)) → (o : Origin) × LeadsTo d c o) → CanReadAll w 1 all
+  pub inputs_read : (w : Wiring) → AreLeads d w.origins.items w.reads.items → ((i k : ℕ) → k < length (columns d) → Among (column_at d k) (inputs_of d (suc i)) → (o : Origin) × LeadsTo d (column_at d k) o) → CanReadAll w 1 all
   inputs_read w leads some = from 1 all (λ i ins here. can_read i ins (consumes i ins here))
     where
       can_read : (i : ℕ) (ins : List ℕ) → Consumes i ins → AllByRecursion (CanRead w (1 + i)) ins
@@ -188,7 +188,7 @@ module _ (d : Design) (parts : List Part) (numbers : List ℕ) (are : ArePartsOf
           by : (k : ℕ) → Among k ins → (o : Option Origin) → origin_at w.origins.items k ≡ o → IsReadable w.reads.items (1 + i) o
           by k among None e =
               let less = all_among (λ k. k < length (columns d)) ins k of.below among in
-              let way = some i (column_at d k) (subst (λ (cs : List Column). Among (column_at d k) cs) (sym of.columns_are) (among_map (column_at d) k ins among)) in
+              let way = some i k less (subst (λ (cs : List Column). Among (column_at d k) cs) (sym of.columns_are) (among_map (column_at d) k ins among)) in
               absurd (let f : None ≡ Some way.0 = sym e ∙ (leads.led k way.0 less).1 way.1 in cc)
           by k among (Some (Const bit)) e = tt
           by k among (Some (Port node place)) e =

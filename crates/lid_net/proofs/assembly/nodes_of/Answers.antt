@@ -1,4 +1,4 @@
-use Rattle.std.proofs.Common.{◌≡◌, ℕ, List, [], ◌∷◌, ◌++◌, map, length, sym, subst, ◌∙◌, ap}
+use Rattle.std.proofs.Common.{◌≡◌, ◌<◌, ℕ, List, [], ◌∷◌, ◌++◌, map, length, sym, subst, ◌∙◌, ap}
 use Rattle.lid_base.proofs.Results.{if_ok}
 use Rattle.lid_design.specs.Columns.{root_outputs}
 use Rattle.lid_channels.specs.declared.reads.Read.{Read}
@@ -6,7 +6,7 @@ use Rattle.lid_channels.specs.Bits.{CarryAll}
 use Rattle.lid_net.specs.declared.nodes.Wiring.{Wiring}
 use Rattle.lid_net.specs.Marks.{part_ins}
 use Rattle.lid_net.specs.Nodes.{CanReadAll, AreNodes}
-use Rattle.lid_net.proofs.Facts.{carry_long, outputs_are, inputs_led}
+use Rattle.lid_net.proofs.Facts.{carry_long, outputs_are, inputs_led, count_is}
 use Rattle.lid_net.proofs.Reading.{inputs_read}
 use Rattle.lid_net.proofs.assembly.nodes_of.Goals as goal
 
@@ -19,7 +19,7 @@ make_nodes-requires-clause-led c =
     let n = c.network.result.now in
     let w : Wiring = record { origins = c.args.leads.origins; reads = c.args.leads.reads; bits = c.in_ok-bits.bits } in
     subst (λ (xs : List ℕ). CanReadAll w 1 (map part_ins c.args.parts.items ++ xs ∷ [])) (sym c.as_slice-2.ensures)
-    (inputs_read d c.args.parts.items n.outputs c.requires.parts (outputs_are d n c.network.ensures) w c.requires.leads (inputs_led d c.design.ensures.formed c.design.ensures.accepted))
+    (inputs_read d c.args.parts.items n.outputs c.requires.parts (outputs_are d n c.network.ensures) w c.requires.leads (λ i k less among. inputs_led d n c.design.ensures.formed c.design.ensures.accepted c.network.ensures i k (subst (λ (m : ℕ). k < m) (sym (count_is d n c.network.ensures)) less) among))
 
 pub returns : goal.returns
 returns c =
