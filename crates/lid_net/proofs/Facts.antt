@@ -53,11 +53,11 @@ use Rattle.lid_net.proofs.Rising.{all_by}
 use Rattle.lid_net.proofs.Joining.{got_all, got_map}
 use Rattle.lid_net.proofs.Leading.{ArePortsOnce, AreInputsPorts, only, one_of}
 
-root_model : (d : Design) (m : Model) → model_at d [] ≡ Some m → slice_get d.models d.root ≡ Some m
+pub root_model : (d : Design) (m : Model) → model_at d [] ≡ Some m → slice_get d.models d.root ≡ Some m
 unfolding model_at
 root_model d m h = h
 
-judged : (d : Design) → IsWellFormed d → IsAccepted d → IsJudged d
+pub judged : (d : Design) → IsWellFormed d → IsAccepted d → IsJudged d
 judged d formed accepted = judged_of d formed accepted.models
 
 apart_places : (names : List (List ℕ)) (i j : ℕ) (net : List ℕ) → AreApart names → slice_get names i ≡ Some net → slice_get names j ≡ Some net → i ≡ j
@@ -114,13 +114,13 @@ root_apart d formed accepted = by (slice_get d.models d.root) refl
     by (Some m) e = apart_filter (λ net. not (is_clock d m net)) m.inputs (inputs_apart d (judged d formed accepted) d.root ([], refl) m e)
 
 -- the name of a port of the source
-source_name : (d : Design) (c : Column) (place : ℕ) → IsPort d c 0 place → (slice_get (root_inputs d) place ≡ Some c.net) × (c.path ≡ [])
+pub source_name : (d : Design) (c : Column) (place : ℕ) → IsPort d c 0 place → (slice_get (root_inputs d) place ≡ Some c.net) × (c.path ≡ [])
 unfolding ports_of
 source_name d c place h =
     let at = got_map (column []) (root_inputs d) place c h in
     (at.1 ∙ ap (λ (x : Column). Some x.net) (sym at.2), ap (λ (x : Column). x.path) at.2)
 
-record IsNamed (d : Design) (c : Column) (p place : ℕ) : Type 0 where
+pub record IsNamed (d : Design) (c : Column) (p place : ℕ) : Type 0 where
   pub path : List ℕ
   pub here : slice_get (pearls d) p ≡ Some path
   pub model : Model
@@ -129,7 +129,7 @@ record IsNamed (d : Design) (c : Column) (p place : ℕ) : Type 0 where
   pub at : c.path ≡ path
 
 -- the name of a port of a shell
-shell_name : (d : Design) (c : Column) (p place : ℕ) → IsPort d c (suc p) place → IsNamed d c p place
+pub shell_name : (d : Design) (c : Column) (p place : ℕ) → IsPort d c (suc p) place → IsNamed d c p place
 unfolding ports_of
 shell_name d c p place h = by (slice_get (pearls d) p) refl h
   where
@@ -204,10 +204,6 @@ inputs_ports d formed accepted c j only_driver = by (model_at d c.path) refl
         near (inr local) = absurd (local.cell tt)
         near (inl (given, inl outer)) = absurd (outer.cell tt)
         near (inl (given, inr path)) = at_root m here path given
-
--- each input of a node is led back to something
-pub inputs_led : (d : Design) (n : Network) → IsWellFormed d → IsAccepted d → IsNetwork d n → (i k : ℕ) → k < length n.columns.drivers → Among (column_at d k) (inputs_of d (suc i)) → (o : Origin) × LeadsTo d (column_at d k) o
-inputs_led d n formed accepted is i k less among = ?
 
 -- a reached model has no more nets than there are columns
 net_count_few : (d : Design) → IsWellFormed d → IsAccepted d → (k : ℕ) → IsReached d k → length (model_nets d k) ≤ 1048576

@@ -63,7 +63,7 @@ source_port_is d c place h = by (root_inputs d) place h
     by (name ∷ names) (suc j) e = let l = by names j e in (omega arith, l.1)
 
 -- a port of the source is driven by the rows
-source_driven : (d : Design) (c : Column) (place : ℕ) → IsPort d c 0 place → Among {A = Driver Column} (from_input place) (drivers d c)
+pub source_driven : (d : Design) (c : Column) (place : ℕ) → IsPort d c 0 place → Among {A = Driver Column} (from_input place) (drivers d c)
 source_driven d c place h =
     let is = source_port_is d c place h in
     subst (λ (x : Column). Among {A = Driver Column} (from_input place) (drivers d x)) (sym is.1) (root_input_drives d place is.0)

@@ -7,4 +7,5 @@ pub mod Marking
 pub mod Rooted
 pub mod Reading
 pub mod Facts
+pub mod Led
 pub mod Joining

@@ -6,7 +6,8 @@ use Rattle.lid_channels.specs.Bits.{CarryAll}
 use Rattle.lid_net.specs.declared.nodes.Wiring.{Wiring}
 use Rattle.lid_net.specs.Marks.{part_ins}
 use Rattle.lid_net.specs.Nodes.{CanReadAll, AreNodes}
-use Rattle.lid_net.proofs.Facts.{carry_long, outputs_are, inputs_led, count_is}
+use Rattle.lid_net.proofs.Facts.{carry_long, outputs_are, count_is}
+use Rattle.lid_net.proofs.Led.{inputs_led}
 use Rattle.lid_net.proofs.Reading.{inputs_read}
 use Rattle.lid_net.proofs.assembly.nodes_of.Goals as goal
 
