@@ -262,11 +262,12 @@ module _ (d : Design) (parts : List Part) (origins : List (Option Origin)) (chan
 
   shell_node : (j : ℕ) (part : Part) → slice_get parts j ≡ Some part → (ins : List InBit) × (slice_get nodes (suc j) ≡ Some (Shell part.pearl ins))
   shell_node j part here =
-      let at = part_shell channels origins 1 parts made.are.shells j part made.are.each here in
-      (at.2.ins,
+      let at = part_shell channels origins 1 parts made.are.shells j part made.are.each here in (
+        at.2.ins,
         ap (λ (ns : List Node). slice_get ns (suc j)) made.are.is
-        ∙ get_left made.are.shells (Sink (root_outputs d) made.are.ins ∷ []) j at.0 at.1
-        ∙ ap Some at.2.is)
+            ∙ get_left made.are.shells (Sink (root_outputs d) made.are.ins ∷ []) j at.0 at.1
+            ∙ ap Some at.2.is,
+      )
 
   -- the ports of the nodes of the system stand for those of the design
   port_columns : (node : ℕ) → node ≤ length (pearls d) → map (column_of d cols) (ports_at s node) ≡ ports_of d node
@@ -330,7 +331,11 @@ module _ (d : Design) (parts : List Part) (origins : List (Option Origin)) (chan
           let x : shell.is.ins ≡ ins = cc in
           let n : 1 + j ≡ i = omega arith in
           record {
-            j = j; place = omega arith; part = shell.part; here = shell.here; pearl_is = p;
+            j = j;
+            place = omega arith;
+            part = shell.part;
+            here = shell.here;
+            pearl_is = p;
             bits = subst (λ (m : ℕ). AreBits channels origins m shell.part.ins ins) n (subst (λ (xs : List InBit). AreBits channels origins (1 + j) shell.part.ins xs) x shell.is.bits);
           }
 

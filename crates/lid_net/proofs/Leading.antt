@@ -142,11 +142,12 @@ module _ (d : Design) (n : Network) (is : IsNetwork d n) (covers : AllByRecursio
       by (Latch b a) e h = absurd (let g : Stops ≡ Ends o = h in cc)
       by (OfCover m c []) e h =
           let f : Const (cover_value (cover_in d m c) []) ≡ o = (let g : Ends (Const (cover_value (cover_in d m c) [])) ≡ Ends o = h in cc) in
-          subst (LeadsIn d 0 (column_at d k)) f
-          (no_port k less none (λ place g. absurd (let i : OfCover m c [] ≡ Input place = sym e ∙ g in cc)),
+          subst (LeadsIn d 0 (column_at d k)) f (
+            no_port k less none (λ place g. absurd (let i : OfCover m c [] ≡ Input place = sym e ∙ g in cc)),
             cover_in d m c,
             subst (λ (rs : List (Driver Column)). Among {A = Driver Column} (from_cover (cover_in d m c) []) rs) (sym (only d n is k less ∙ ap (λ (x : ColumnDriver). map_driver (column_at d) (shown_driver d x) ∷ []) e)) (inl refl),
-            refl)
+            refl,
+          )
       by (OfCover m c (a ∷ [])) e h = chosen (passes_on (cover_in d m c)) h
         where
           chosen : (v : Bool) → cond v (Passes a) Stops ≡ Ends o → LeadsIn d 0 (column_at d k) o
@@ -255,7 +256,9 @@ module _ (d : Design) (n : Network) (is : IsNetwork d n) (covers : AllByRecursio
       by (Latch b i) e h = absurd (let f : from_connection a ≡ from_latch b (column_at d i) = h in cc)
       by (OfCover m c ks) e h = absurd (let f : from_connection a ≡ from_cover (cover_in d m c) (map (column_at d) ks) = h in cc)
       by (Connection j) e h = record {
-        j = j; step = ap (step_from d) e; same = (let f : from_connection a ≡ from_connection (column_at d j) = h in cc);
+        j = j;
+        step = ap (step_from d) e;
+        same = (let f : from_connection a ≡ from_connection (column_at d j) = h in cc);
         within = below k j less (subst (λ (y : ColumnDriver). Among j (read_now (shown_driver d y))) (sym e) (inl refl));
       }
   stepped k a less (inr (cover, passes, among)) = by (driver_at ds k) refl (driver_is k (from_cover cover (a ∷ [])) less among)
@@ -290,6 +293,7 @@ module _ (d : Design) (n : Network) (is : IsNetwork d n) (covers : AllByRecursio
   columns_led origins found k o within =
       let whole = is.elaborated.whole in
       let l = long d n is in
-      let less : k < length ds = omega arith in
-      ((λ e. let led = (found k less o).0 e in (led.0, down led.0 k o less led.1)),
-        λ led. (found k less o).1 (led.0, up led.0 k o less led.1))
+      let less : k < length ds = omega arith in (
+        (λ e. let led = (found k less o).0 e in (led.0, down led.0 k o less led.1)),
+        λ led. (found k less o).1 (led.0, up led.0 k o less led.1),
+      )

@@ -114,22 +114,46 @@ module _ (d : Design) (n : Network) (formed : IsWellFormed d) (accepted : IsAcce
       where
         by : RootShape d (driver_of k) → ((j : ℕ) (a : List ℕ) → j < count → column_at d j ≡ column [] a → HasNoWalk (drivers d) f (column_at d j) → (o : Origin) × LeadsTo d (column_at d j) o) → (o : Origin) × LeadsTo d (column_at d k) o
         by (given j s) next = (Port 0 j, (0, inputs_ports d formed accepted (column_at d k) j (only d n is k less ∙ ap (λ (r : Driver Column). r ∷ []) s)))
-        by (constant cover s) next =
-            (Const (cover_value cover []), (0, (
+        by (constant cover s) next = (
+          Const (cover_value cover []),
+          (
+            0,
+            (
               root_portless k net less e (λ j g. absurd (let x : from_cover cover [] ≡ from_input j = sym s ∙ g in cc)),
-              cover, subst (λ (r : Driver Column). Among r (drivers d (column_at d k))) s (driver_in k less), refl)))
+              cover,
+              subst (λ (r : Driver Column). Among r (drivers d (column_at d k))) s (driver_in k less),
+              refl,
+            ),
+          ),
+        )
         by (buffer cover a s passes) next =
             let mem : Among {A = Driver Column} (from_cover cover (column [] a ∷ [])) (drivers d (column_at d k)) = subst (λ (r : Driver Column). Among r (drivers d (column_at d k))) s (driver_in k less) in
             let j = read_at k (column [] a) less (from_cover cover (column [] a ∷ []), mem, inl refl) in
             let mem_j : Among {A = Driver Column} (from_cover cover (column_at d j.0 ∷ [])) (drivers d (column_at d k)) = subst (λ (c : Column). Among {A = Driver Column} (from_cover cover (c ∷ [])) (drivers d (column_at d k))) (sym j.2) mem in
-            let led = next j.0 a j.1 j.2 (λ b w. nowalk b (column_at d j.0, w, (from_cover cover (column_at d j.0 ∷ []), mem_j, inl refl))) in
-            (led.0, (suc led.1.0, (
-              root_portless k net less e (λ i g. absurd (let x : from_cover cover (column [] a ∷ []) ≡ from_input i = sym s ∙ g in cc)),
-              column_at d j.0, inr (cover, passes, mem_j), led.1.1)))
-        by (output i place formal s port) next =
-            (Port (suc i) place, (1, (
+            let led = next j.0 a j.1 j.2 (λ b w. nowalk b (column_at d j.0, w, (from_cover cover (column_at d j.0 ∷ []), mem_j, inl refl))) in (
+              led.0,
+              (
+                suc led.1.0,
+                (
+                  root_portless k net less e (λ i g. absurd (let x : from_cover cover (column [] a ∷ []) ≡ from_input i = sym s ∙ g in cc)),
+                  column_at d j.0,
+                  inr (cover, passes, mem_j),
+                  led.1.1,
+                ),
+              ),
+            )
+        by (output i place formal s port) next = (
+          Port (suc i) place,
+          (
+            1,
+            (
               root_portless k net less e (λ j g. absurd (let x : from_connection (column (i ∷ []) formal) ≡ from_input j = sym s ∙ g in cc)),
-              column (i ∷ []) formal, inl (subst (λ (r : Driver Column). Among r (drivers d (column_at d k))) s (driver_in k less)), port)))
+              column (i ∷ []) formal,
+              inl (subst (λ (r : Driver Column). Among r (drivers d (column_at d k))) s (driver_in k less)),
+              port,
+            ),
+          ),
+        )
 
     ends : WalksEnd (drivers d) (suc (length (columns d)))
     ends = walks_end (drivers d) (λ c loop. accepted.loops c loop) (columns d) (column_of d (judged d formed accepted))
@@ -147,18 +171,19 @@ module _ (d : Design) (n : Network) (formed : IsWellFormed d) (accepted : IsAcce
         let bind = map_among formal_of net inst.0.binds (to_among net (formals inst.0) (sound.bound net among)) in
         let b = bind.0 in
         let here : Among {A = Driver Column} (from_connection (column [] b.actual)) (actuals_of [] net inst.0) =
-            among_flat (λ (x : Bind). cond (bytes_eq x.formal net) (from_connection (column [] x.actual) ∷ []) []) b (from_connection (column [] b.actual)) inst.0.binds bind.1
-            (subst (λ (v : Bool). Among {A = Driver Column} (from_connection (column [] b.actual)) (cond v (from_connection (column [] b.actual) ∷ []) [])) (sym (bytes_same b.formal net (sym bind.2))) (inl refl)) in
+        among_flat (λ (x : Bind). cond (bytes_eq x.formal net) (from_connection (column [] x.actual) ∷ []) []) b (from_connection (column [] b.actual)) inst.0.binds bind.1
+        (subst (λ (v : Bool). Among {A = Driver Column} (from_connection (column [] b.actual)) (cond v (from_connection (column [] b.actual) ∷ []) [])) (sym (bytes_same b.formal net (sym bind.2))) (inl refl)) in
         let free : is_clock d sub net ≡ false = no_of (is_clock d sub net) kept.1 in
         let port : Among {A = Driver Column} (from_connection (column [] b.actual)) (port_at d sub (i ∷ []) net) =
-            subst (λ (v : Bool). Among {A = Driver Column} (from_connection (column [] b.actual)) (cond v (option_map_or (actuals_of [] net) (option_and_then (λ around. slice_get around.insts i) (model_at d [])) []) [])) (sym (from_among net sub.inputs kept.0))
-            (subst (λ (o : Option Inst). Among {A = Driver Column} (from_connection (column [] b.actual)) (option_map_or (actuals_of [] net) o [])) (sym (ap (option_and_then (λ (around : Model). slice_get around.insts i)) (at_root d root.0 root.1) ∙ inst.1)) here) in
+        subst (λ (v : Bool). Among {A = Driver Column} (from_connection (column [] b.actual)) (cond v (option_map_or (actuals_of [] net) (option_and_then (λ around. slice_get around.insts i) (model_at d [])) []) [])) (sym (from_among net sub.inputs kept.0))
+        (subst (λ (o : Option Inst). Among {A = Driver Column} (from_connection (column [] b.actual)) (option_map_or (actuals_of [] net) o [])) (sym (ap (option_and_then (λ (around : Model). slice_get around.insts i)) (at_root d root.0 root.1) ∙ inst.1)) here) in
         let cells = flat_map (cell_at (i ∷ []) net) sub.cells in
-        let outs = flat_map (output_at d (i ∷ []) net) (enumerate_from 0 sub.insts) in
-        (b.actual,
+        let outs = flat_map (output_at d (i ∷ []) net) (enumerate_from 0 sub.insts) in (
+          b.actual,
           subst (λ (o : Option Model). Among {A = Driver Column} (from_connection (column [] b.actual)) (option_map_or (drivers_in d (i ∷ []) net) o [])) (sym body)
-          (subst (λ (v : Bool). Among {A = Driver Column} (from_connection (column [] b.actual)) (cond v [] ((port_at d sub (i ∷ []) net ++ cells) ++ outs))) (sym free)
-          (among_left (from_connection (column [] b.actual)) (port_at d sub (i ∷ []) net ++ cells) outs (among_left (from_connection (column [] b.actual)) (port_at d sub (i ∷ []) net) cells port))))
+              (subst (λ (v : Bool). Among {A = Driver Column} (from_connection (column [] b.actual)) (cond v [] ((port_at d sub (i ∷ []) net ++ cells) ++ outs))) (sym free)
+              (among_left (from_connection (column [] b.actual)) (port_at d sub (i ∷ []) net ++ cells) outs (among_left (from_connection (column [] b.actual)) (port_at d sub (i ∷ []) net) cells port))),
+        )
       where
         no_of : (b : Bool) → not b ≡ true → b ≡ false
         no_of true e = absurd (let f : false ≡ true = e in cc)
@@ -178,12 +203,18 @@ module _ (d : Design) (n : Network) (formed : IsWellFormed d) (accepted : IsAcce
         let bound = bound_to i sub net body among in
         let mem : Among {A = Driver Column} (from_connection (column [] bound.0)) (drivers d (column_at d k)) = subst (λ (c : Column). Among {A = Driver Column} (from_connection (column [] bound.0)) (drivers d c)) (sym e) bound.1 in
         let j = read_at k (column [] bound.0) less (from_connection (column [] bound.0), mem, inl refl) in
-        let led = from_root j.0 bound.0 j.1 j.2 in
-        (led.0, (suc led.1.0, (
-          subst (IsNoPort d) (sym e) (shell_portless i sub net body among),
-          column_at d j.0,
-          inl (subst (λ (c : Column). Among {A = Driver Column} (from_connection c) (drivers d (column_at d k))) (sym j.2) mem),
-          led.1.1)))
+        let led = from_root j.0 bound.0 j.1 j.2 in (
+          led.0,
+          (
+            suc led.1.0,
+            (
+              subst (IsNoPort d) (sym e) (shell_portless i sub net body among),
+              column_at d j.0,
+              inl (subst (λ (c : Column). Among {A = Driver Column} (from_connection c) (drivers d (column_at d k))) (sym j.2) mem),
+              led.1.1,
+            ),
+          ),
+        )
 
     -- an input of a node, where the root has instances
     some_led : (i k : ℕ) → k < count → Among (column_at d k) (inputs_of d (suc i)) → (o : Origin) × LeadsTo d (column_at d k) o

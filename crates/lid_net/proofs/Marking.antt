@@ -146,9 +146,12 @@ shell_marks d parts old new count are whole apart size none is = record { only =
         by (inr h) =
             let part = got_map part_outs parts h.i h.outs h.there in
             let of = are.each h.i part.0 part.1 in
-            let n : 1 + h.i ≡ suc h.i = omega arith in
-            (h.i, h.j, h.is ∙ ap (λ (x : ℕ). Port x h.j) n,
-              ap (λ (cs : List Column). slice_get cs h.j) (ports_are d (length (columns d)) h.i part.0 of) ∙ map_got (column_at d) part.0.outs h.j k (ap (λ (xs : List ℕ). slice_get xs h.j) (sym part.2) ∙ h.here))
+            let n : 1 + h.i ≡ suc h.i = omega arith in (
+              h.i,
+              h.j,
+              h.is ∙ ap (λ (x : ℕ). Port x h.j) n,
+              ap (λ (cs : List Column). slice_get cs h.j) (ports_are d (length (columns d)) h.i part.0 of) ∙ map_got (column_at d) part.0.outs h.j k (ap (λ (xs : List ℕ). slice_get xs h.j) (sym part.2) ∙ h.here),
+            )
 
     all : (k i place : ℕ) → k < count → IsPort d (column_at d k) (suc i) place → origin_at new k ≡ None → ⊥
     all k i place less port e =

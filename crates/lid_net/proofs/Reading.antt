@@ -157,10 +157,11 @@ module _ (d : Design) (parts : List Part) (numbers : List ℕ) (are : ArePartsOf
           let at = reads_only origins 1 all r (subst (λ (rs : List Read). Among r rs) is ((same r).0 h)) in
           let of = consumes at.i at.ins at.there in
           let less = all_among (λ k. k < length (columns d)) at.ins at.k of.below at.among in
-          let n : suc at.i ≡ r.to = (let e = at.to_is in omega arith) in
-          (column_at d at.k,
+          let n : suc at.i ≡ r.to = (let e = at.to_is in omega arith) in (
+            column_at d at.k,
             subst (λ (m : ℕ). Among (column_at d at.k) (inputs_of d m)) n (subst (λ (cs : List Column). Among (column_at d at.k) cs) (sym of.columns_are) (among_map (column_at d) at.k at.ins at.among)),
-            (led at.k (Port r.from r.port) less).0 at.origin)
+            (led at.k (Port r.from r.port) less).0 at.origin,
+          )
 
       at_node : (to from port : ℕ) → IsReadBy d (read_of from to port) → Among (read_of from to port) found
       at_node zero from port h = absurd (let e = (reader_node d zero h.0 h.1).0 in omega arith)
@@ -194,12 +195,15 @@ module _ (d : Design) (parts : List Part) (numbers : List ℕ) (are : ArePartsOf
           by k among (Some (Port node place)) e =
               let less = all_among (λ k. k < length (columns d)) ins k of.below among in
               let n : suc i ≡ 1 + i = omega arith in
-              (leads.exact (read_of node (1 + i) place)).1 (column_at d k,
+              (leads.exact (read_of node (1 + i) place)).1 (
+                column_at d k,
                 subst (λ (m : ℕ). Among (column_at d k) (inputs_of d m)) n (subst (λ (cs : List Column). Among (column_at d k) cs) (sym of.columns_are) (among_map (column_at d) k ins among)),
-                (leads.led k (Port node place) less).0 e)
+                (leads.led k (Port node place) less).0 e,
+              )
 
       from : (to : ℕ) (rest_of : List (List ℕ)) → ((i : ℕ) (ins : List ℕ) → slice_get rest_of i ≡ Some ins → AllByRecursion (CanRead w (to + i)) ins) → CanReadAll w to rest_of
       from to [] h = tt
-      from to (ins ∷ more) h =
-          (subst (λ (m : ℕ). AllByRecursion (CanRead w m) ins) (let n : to + 0 ≡ to = omega arith in n) (h 0 ins refl),
-            from (to + 1) more (λ i xs here. subst (λ (m : ℕ). AllByRecursion (CanRead w m) xs) (let n : to + suc i ≡ (to + 1) + i = omega arith in n) (h (suc i) xs here)))
+      from to (ins ∷ more) h = (
+        subst (λ (m : ℕ). AllByRecursion (CanRead w m) ins) (let n : to + 0 ≡ to = omega arith in n) (h 0 ins refl),
+        from (to + 1) more (λ i xs here. subst (λ (m : ℕ). AllByRecursion (CanRead w m) xs) (let n : to + suc i ≡ (to + 1) + i = omega arith in n) (h (suc i) xs here)),
+      )

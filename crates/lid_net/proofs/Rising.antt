@@ -48,12 +48,13 @@ descend : (bs : List Channel) → AreAscending (flat_map reads_in (reverse bs)) 
 descend [] h = tt
 descend (e ∷ before) h =
     let whole : flat_map reads_in (reverse (e ∷ before)) ≡ flat_map reads_in (reverse before) ++ reads_in e =
-        ap (flat_map reads_in) (reverse-append (e ∷ []) before) ∙ flat_map-append reads_in (reverse before) (e ∷ []) ∙ ap (λ (rs : List Read). flat_map reads_in (reverse before) ++ rs) (append-nil (reads_in e)) in
-    let parts = parts_ascend (flat_map reads_in (reverse before)) (reads_in e) (subst AreAscending whole h) in
-    (all_of (λ c. Comes c e) before (λ c i p q j k. parts.1 (read_by c p) (read_by e q)
-      (among_flat reads_in c (read_by c p) (reverse before) (turned c before i) (among_map (read_by c) p c.ports j))
-      (among_map (read_by e) q e.ports k)),
-    descend before parts.0)
+    ap (flat_map reads_in) (reverse-append (e ∷ []) before) ∙ flat_map-append reads_in (reverse before) (e ∷ []) ∙ ap (λ (rs : List Read). flat_map reads_in (reverse before) ++ rs) (append-nil (reads_in e)) in
+    let parts = parts_ascend (flat_map reads_in (reverse before)) (reads_in e) (subst AreAscending whole h) in (
+      all_of (λ c. Comes c e) before (λ c i p q j k. parts.1 (read_by c p) (read_by e q)
+          (among_flat reads_in c (read_by c p) (reverse before) (turned c before i) (among_map (read_by c) p c.ports j))
+          (among_map (read_by e) q e.ports k)),
+      descend before parts.0,
+    )
 
 precedes_after : (a b c : Channel) → Precedes a b → Precedes b c → Precedes a c
 precedes_after a b c (inl x) (inl y) = inl (omega arith)

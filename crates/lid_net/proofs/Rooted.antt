@@ -90,11 +90,12 @@ module _ (d : Design) (m : Model) (root : model_at d [] ≡ Some m) (here : slic
       let body : model_at d (i ∷ []) ≡ Some sub = ap (option_and_then (instance_model d i)) root ∙ ap (option_and_then (λ inst. model_named d inst.model)) at ∙ named in
       let less = slice_get_within m.insts i inst at in
       let insts : length (insts_of d d.root) ≡ length m.insts = ap (λ (o : Option Model). length (option_map_or (λ m. m.insts) o [])) here in
-      let pearl = inst_pearl d i (omega arith) in
-      (place.0,
+      let pearl = inst_pearl d i (omega arith) in (
+        place.0,
         ap (λ (o : Option (List ℕ)). slice_get (option_map_or (outputs_at d) o []) place.0) pearl
-        ∙ ap (λ (o : Option Model). slice_get (option_map_or (λ m. map (column (i ∷ [])) m.outputs) o []) place.0) body
-        ∙ got (column (i ∷ [])) sub.outputs place.0 formal place.1)
+            ∙ ap (λ (o : Option Model). slice_get (option_map_or (λ m. map (column (i ∷ [])) m.outputs) o []) place.0) body
+            ∙ got (column (i ∷ [])) sub.outputs place.0 formal place.1,
+      )
     where
       got : (f : List ℕ → Column) (xs : List (List ℕ)) (j : ℕ) (x : List ℕ) → slice_get xs j ≡ Some x → slice_get (map f xs) j ≡ Some (f x)
       got f [] j x h = absurd (let e : None ≡ Some x = h in cc)
@@ -143,7 +144,7 @@ root_plain d m here some none cell among =
     let at_root : logic_in m ≡ None = ap (option_and_then logic_in) (sym here) ∙ none in
     let other : eqb (length m.insts) 0 ≡ false = grind (arith, some) in
     let found : option_map (λ cell. RootLogic (cell_out cell)) (find (λ cell. not (is_buffer cell || is_constant cell)) m.cells) ≡ None =
-        ap (λ (b : Bool). cond b None (option_map (λ cell. RootLogic (cell_out cell)) (find (λ cell. not (is_buffer cell || is_constant cell)) m.cells))) (sym other) ∙ at_root in
+    ap (λ (b : Bool). cond b None (option_map (λ cell. RootLogic (cell_out cell)) (find (λ cell. not (is_buffer cell || is_constant cell)) m.cells))) (sym other) ∙ at_root in
     yes_of (is_buffer cell || is_constant cell) (none_found (λ cell. not (is_buffer cell || is_constant cell)) m.cells (map_none (λ cell. RootLogic (cell_out cell)) (find (λ cell. not (is_buffer cell || is_constant cell)) m.cells) found) cell among)
   where
     yes_of : (b : Bool) → not b ≡ false → b ≡ true

@@ -100,12 +100,7 @@ fn find_origins(
 }
 
 /// Leads each column back, where none has an origin yet.
-fn lead_columns(
-    alloc: Global,
-    checked: &Checked,
-    parts: &[Part],
-    origins: &mut [Option<Origin>],
-)
+fn lead_columns(alloc: Global, checked: &Checked, parts: &[Part], origins: &mut [Option<Origin>])
     requires parts { ArePartsOf checked.now (length (columns checked.now)) parts.now }
     requires size { length origins.old ≡ length (columns checked.now) }
     requires none { (k : ℕ) → origin_at origins.old k ≡ None }

@@ -9,7 +9,7 @@ use Rattle.lid_net.proofs.assembly.join.Goals as goal
 pub returns-in-Err-cut_channels-clause-err : goal.returns-in-Err-cut_channels-clause-err
 returns-in-Err-cut_channels-clause-err c =
     elim c.in-Err-cut_channels.ensures.err [
-      inl e ↦ inl e
+      | inl e ↦ inl e
       | inr h ↦ inr (h.0, graph_of c.args.checked.now c.in-Ok.leads.origins.items c.in-Ok.leads.reads.items h.0 c.in-Ok.ensures (subst (λ (rs : List Read). AreChannelsOf rs h.0) c.as_slice-2.ensures.value h.1), h.2, h.3)
     ]
 

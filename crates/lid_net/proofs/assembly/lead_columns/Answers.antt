@@ -41,7 +41,7 @@ returns-clause-led c =
     let formed = c.design-design.ensures.formed in
     let accepted = c.design-design.ensures.accepted in
     let marks = shell_marks d c.args.parts.now c.args.origins.now c.mark_ports.new.origins (length n.columns.drivers) c.requires.parts (count_is d n c.network-network.ensures) (numbers_apart d n c.network-network.ensures)
-        (c.requires.size ∙ sym (count_is d n c.network-network.ensures)) c.requires.none c.mark_ports.ensures.marks in
+    (c.requires.size ∙ sym (count_is d n c.network-network.ensures)) c.requires.none c.mark_ports.ensures.marks in
     columns_led d n c.network-network.ensures (all_cover d n formed c.network-network.ensures) c.mark_ports.new.origins marks (ports_once d formed accepted) (inputs_ports d formed accepted) c.lead_back.new.origins
     (subst (λ (e : Design). AreOrigins e n.columns.drivers c.mark_ports.new.origins c.lead_back.new.origins) c.design-design.ensures.same
     (subst (λ (ds : List ColumnDriver). AreOrigins c.design-design.result.now ds c.mark_ports.new.origins c.lead_back.new.origins) c.as_slice.ensures c.lead_back.ensures.origins))
