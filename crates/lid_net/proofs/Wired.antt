@@ -84,9 +84,10 @@ shells_more w parts left before part old new after shell sofar is pushed ins mad
       few = omega arith;
       first = pop.first;
       each = λ channels carry.
-          subst (λ (ps : List Part). AreShells channels w.origins.items (length left + 1) ps (shell ∷ sofar.shells)) (sym (drop_here parts (length left) part less pop.is))
-          (record { ins = ins; is = made; bits = bits channels carry },
-            subst (λ (n : ℕ). AreShells channels w.origins.items (n + 1) (drop n parts) sofar.shells) long (sofar.each channels carry));
+          subst (λ (ps : List Part). AreShells channels w.origins.items (length left + 1) ps (shell ∷ sofar.shells)) (sym (drop_here parts (length left) part less pop.is)) (
+            record { ins = ins; is = made; bits = bits channels carry },
+            subst (λ (n : ℕ). AreShells channels w.origins.items (n + 1) (drop n parts) sofar.shells) long (sofar.each channels carry),
+          );
     }
 
 pub read_shells : (w : Wiring) (to : ℕ) (all : List (List ℕ)) (last : List ℕ) → CanReadAll w to (all ++ last ∷ []) → CanReadAll w to all × AllByRecursion (CanRead w (to + length all)) last

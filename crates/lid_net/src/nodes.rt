@@ -26,6 +26,7 @@ pub struct Wiring {
 }
 
 /// The root's data inputs and outputs, and the numbers of the columns of the outputs.
+#[derive(Clone, Copy)]
 pub struct Ends<'c> {
     pub inputs: &'c [Name],
     pub outputs: &'c [Name],
@@ -54,12 +55,7 @@ fn bit_of(wiring: &Wiring, to: u32, number: u32) -> InBit
 }
 
 /// What the inputs of a node read.
-fn bits_of(
-    alloc: Global,
-    wiring: &Wiring,
-    to: u32,
-    ins: &[u32],
-) -> Result<Items<InBit>, AllocError>
+fn bits_of(alloc: Global, wiring: &Wiring, to: u32, ins: &[u32]) -> Result<Items<InBit>, AllocError>
     requires wired { IsWired wiring.now }
     requires led { AllByRecursion (CanRead wiring.now to) ins.now }
     ensures { IfOk result (λ bits. (channels : List Channel) → CarryAll channels wiring.now.reads.items wiring.now.bits.items → AreBits channels wiring.now.origins.items to ins.now bits) }
