@@ -1,13 +1,10 @@
 -- What the making of a part needs.
-use Rattle.std.proofs.Common.{◌≡◌, ℕ, ◌+◌, ◌-◌, ◌*◌, ◌^◌, ◌<◌, ◌≤◌, ◌≢◌, ◌==◌, ◌&&◌, ◌⊎◌, inl, inr, Bool, true, false, List, [], ◌∷◌, length, get_or, Option, Result, Ok, Err, refl, sym, ◌∙◌, ap, subst, arith}
-use Rattle.std.specs.List.{All}
-use Rattle.std.specs.Result.{IfOk}
+use Rattle.std.proofs.Common.{◌≡◌, ℕ, ◌+◌, ◌-◌, ◌*◌, ◌<◌, ◌≤◌, ◌≢◌, ◌==◌, ◌&&◌, ◌⊎◌, inl, inr, Bool, true, false, length, refl, sym, ◌∙◌, ap, subst, arith}
 use Rattle.std.proofs.lemmas.Bool.{cases_eq, cases_lt, eq-eqb, eqb-true, and_parts}
-use Rattle.std.proofs.lemmas.List.{get_or_default}
 use Rattle.std.proofs.Math.Nat.{mul-le-mul_right}
 use Rattle.lid_graph.specs.declared.graph.Edge.{Edge}
 use Rattle.lid_graph.specs.declared.graph.Graph.{Graph}
-use Rattle.lid_graph.specs.Walks.{edge_at, walk_start, IsPaired, IsClosedWalk}
+use Rattle.lid_graph.specs.Walks.{edge_at, IsPaired}
 use Rattle.lid_rate.specs.Rates.{IsLoopAt, is_loop_edge}
 
 pub lead_enough : (p q s n : ℕ) → s ≡ q - p → q * n ≤ s * n + p * n
