@@ -41,17 +41,11 @@ module _ (g : Graph) (ok : IsRateable g) (least : List ℕ) (labels : AreLabels 
       joined_step g u (get_or least u 0) v to_label (subst (λ (n : ℕ). IsJoined g n v) (sym same) back)
 
   module _ (r : ℕ) (own : get_or least r 0 ≡ r) (r_within : r < g.nodes) where
-    abbrev es : List ℕ
-    es = edges_of g least r
-
     abbrev Inside : ℕ → Type 0
     Inside v = get_or least v 0 ≡ r
 
     pub edge_listed : (k : ℕ) → k < length g.edges → Inside (edge_at g k).from → Stands (edges_of g least r) k
     edge_listed k h inside = those_all (λ k. is_labelled least r (edge_at g k).from) (length g.edges) k h (eq-eqb (get_or least (edge_at g k).from 0) r inside)
-
-    pub stands_contains : (k : ℕ) → Stands (edges_of g least r) k → Contains (edges_of g least r) k
-    stands_contains k at = (at.place, at.within, get_or_default (edges_of g least r) at.place k 0 at.within ∙ at.is)
 
     -- the transitions of the piece, and its edges
     pub node_is : (i : ℕ) → i < length (numbers_where (is_labelled least r) (length least)) → (get_or (numbers_where (is_labelled least r) (length least)) i 0 < g.nodes) × Inside (get_or (numbers_where (is_labelled least r) (length least)) i 0)
