@@ -1,10 +1,11 @@
 #!/usr/bin/env python3
-"""Compares `lid strict` with an independent reading of its manual (reference.py) on random designs.
+"""Compares `lid check` and `lid strict` with an independent reading of their manual (reference.py) on
+random designs.
 
     tools/compare.py SEED COUNT
 
 Small designs are made that mostly are accepted, some faults are put in, and status, output and error
-line are compared. It prints how often each answer came, and stops at the first difference. `./lid` is
+line of both commands are compared. It prints how often each answer came, and stops at the first difference. `./lid` is
 built first where it is not built yet.
 """
 
@@ -15,7 +16,7 @@ import tempfile
 from collections import Counter
 from pathlib import Path
 
-from reference import Cover, Judge, Latch, Model, Refused, firsts, simulate
+from reference import Cover, Judge, Latch, Model, Refused, firsts, report, simulate
 
 LID = Path(__file__).parent.parent / "lid"
 
@@ -159,19 +160,30 @@ def rows_text(names: list[str], rows: list[list[int]]) -> str:
     return "".join((line or "-") + "\n" for line in lines)
 
 
-def expected(models: list[Model], root: Model | None, dice: random.Random) -> tuple[str, str, str, int]:
-    """The rows to run, and the output, error line and status that are wanted."""
+def expected(models: list[Model], root: Model | None, dice: random.Random) -> tuple[str, list, list]:
+    """The rows to run, and the output, error line and status that are wanted of `check` and of `strict`."""
     try:
         if root is None:
             raise Refused("NoRoot")
         judge = Judge(models, root)
         whole = judge.run()
     except Refused as fault:
-        return "-\n", "", f"lid: check {fault}\n", 1
+        refused = ["", f"lid: check {fault}\n", 1]
+        return "-\n", refused, refused
     names = judge.data_inputs(root)
     rows = [[dice.randint(0, 1) for _ in names] for _ in range(dice.randint(0, 6))]
     outs = simulate(whole, root, [dict(zip(names, row)) for row in rows])
-    return rows_text(names, rows), rows_text(root.outputs, outs), "", 0
+    lines = "".join(line + "\n" for line in report(whole, judge))
+    return rows_text(names, rows), [lines, "", 0], [rows_text(root.outputs, outs), "", 0]
+
+
+def compare(words: list, wanted: list):
+    """Runs the program, and stops where it answers otherwise."""
+    ran = subprocess.run([LID, *words], capture_output=True, text=True, check=False)
+    if [ran.stdout, ran.stderr, ran.returncode] != wanted:
+        print(*(Path(word).read_text() for word in words if isinstance(word, Path)), sep="\n")
+        print(words, "wanted", wanted, "came", ran, sep="\n")
+        sys.exit(1)
 
 
 def main():
@@ -184,14 +196,12 @@ def main():
             names = [m.name for m in models]
             chosen = maker.dice.choice(names + ["nope"]) if maker.dice.random() < 0.3 else None
             root = next((m for m in models if m.name == (chosen or names[0])), None)
-            rows, *wanted = expected(models, root, maker.dice)
+            rows, checked, wanted = expected(models, root, maker.dice)
             net.write_text(text_of(models))
             vec.write_text(rows)
-            words = [LID, "strict", net, vec] + (["--root", chosen] if chosen else [])
-            ran = subprocess.run(words, capture_output=True, text=True, check=False)
-            if [ran.stdout, ran.stderr, ran.returncode] != wanted:
-                print(net.read_text(), rows, chosen, "wanted", wanted, "came", ran, sep="\n")
-                sys.exit(1)
+            option = ["--root", chosen] if chosen else []
+            compare(["check", net] + option, checked)
+            compare(["strict", net, vec] + option, wanted)
             came[wanted[1].split()[2] if wanted[2] else "accepted"] += 1
     print(*(f"{count:6} {answer}" for answer, count in came.most_common()), sep="\n")
 

@@ -1,7 +1,9 @@
-"""An independent reading of docs/ACCEPTANCE.md and docs/STRICT.md, slow and plain.
+"""An independent reading of docs/ACCEPTANCE.md, docs/STRICT.md and docs/SYSTEM.md, slow and plain.
 
 It shares no code with the crates. `judge` tells the line of the first condition that applies (all but
-the limits), or elaborates; `simulate` gives the strict outputs of what was elaborated.
+the limits), or elaborates; `simulate` gives the strict outputs of what was elaborated; `channels` and
+`report` give the channels of its system and what `check` prints; `flat_part` gives a pearl with
+numbered nets.
 """
 
 from collections import defaultdict
@@ -282,3 +284,102 @@ def simulate(whole: Elaborated, root: Model, rows: list[dict[str, int]]) -> list
         before = settle(whole, row, before)
         outs.append([before[(), net] for net in root.outputs])
     return outs
+
+
+def pearls(judge: Judge) -> list[tuple[tuple[int, ...], Model]]:
+    """The path and the model of each pearl."""
+    insts = [((i,), judge.by_name[name]) for i, (name, _) in enumerate(judge.root.insts)]
+    return insts or [((), judge.root)]
+
+
+def ports(judge: Judge) -> dict[tuple, tuple[int, int]]:
+    """The port of a column: the node that has it, and its place among the ports of that node."""
+    found = {((), net): (0, j) for j, net in enumerate(judge.data_inputs(judge.root))}
+    if judge.root.insts:
+        shells = enumerate(pearls(judge), 1)
+        found |= {(path, net): (i, j) for i, (path, m) in shells for j, net in enumerate(m.outputs)}
+    return found
+
+
+def source_of(whole: Elaborated, named: dict, column: tuple) -> tuple[int, int] | bool:
+    """The port or the bit of the constant that a column outside the pearls is led back to."""
+    while column not in named:
+        kind, *what = whole.driver[column]
+        if kind == "made" and not what[0].inputs:
+            return bool(what[0].value([]))
+        column = what[0] if kind == "same" else what[1][0]
+    return named[column]
+
+
+def consumers(whole: Elaborated, judge: Judge) -> list[list]:
+    """For each shell and then for the sink, what each of its inputs is led back to."""
+    if not judge.root.insts:
+        given = [(0, j) for j in range(len(judge.data_inputs(judge.root)))]
+        return [given, [(1, j) for j in range(len(judge.root.outputs))]]
+    named = ports(judge)
+    shells = [
+        [source_of(whole, named, whole.driver[path, net][1]) for net in judge.data_inputs(m)] for path, m in pearls(judge)
+    ]
+    return shells + [[source_of(whole, named, ((), net)) for net in judge.root.outputs]]
+
+
+def channels(whole: Elaborated, judge: Judge) -> list[tuple[int, int, int, list[int]]]:
+    """Each channel with its producer, its consumer, its piece and the ports of the producer in it."""
+    read = {(port[0], to, port[1]) for to, ins in enumerate(consumers(whole, judge), 1) for port in ins if type(port) is tuple}
+    found = []
+    for a, b in sorted({(a, b) for a, b, _ in read}):
+        these = sorted(j for x, y, j in read if (x, y) == (a, b))
+        found += [(a, b, k // 31, these[k : k + 31]) for k in range(0, len(these), 31)]
+    return found
+
+
+def report(whole: Elaborated, judge: Judge) -> list[str]:
+    """The lines of `check`."""
+    last = len(pearls(judge)) + 1
+    node = lambda i: "in" if i == 0 else "out" if i == last else f"u{i - 1}"
+    latches = [c.init for m in each_model(judge, judge.root) for c in m.cells if isinstance(c, Latch)]
+    found = channels(whole, judge)
+    counts = [
+        ("shells", last - 1),
+        ("inputs", len(judge.data_inputs(judge.root))),
+        ("outputs", len(judge.root.outputs)),
+        ("latches", len(latches)),
+        ("defaulted", sum(init in "23" for init in latches)),
+        ("channels", len(found)),
+    ]
+    lines = [f"{word} {count}" for word, count in counts]
+    return [f"root {judge.root.name}", *lines] + [f"channel {node(a)} {node(b)} {k} ports {len(js)}" for a, b, k, js in found]
+
+
+def each_model(judge: Judge, m: Model) -> list[Model]:
+    """The model of each instance from one of this model on."""
+    return [m] + [below for name, _ in m.insts for below in each_model(judge, judge.by_name[name])]
+
+
+def flat_part(whole: Elaborated, judge: Judge, pearl: int) -> dict:
+    """A pearl with its columns numbered in order: inputs, outputs, latches, and covers by their outputs.
+
+    A column that is bound to another is a buffer of it, told as `same`.
+    """
+    path, m = pearls(judge)[pearl]
+    inside = [column for column in whole.columns if column[0][: len(path)] == path]
+    number = {column: k for k, column in enumerate(inside)}
+    ins = [number[path, net] for net in judge.data_inputs(m)]
+    latches, covers = [], []
+    for column in inside:
+        kind, *what = whole.driver[column]
+        if number[column] in ins:
+            continue  # the pearl does not see what drives its inputs
+        if kind == "held":
+            latches.append((number[what[1]], number[column], what[0]))
+        elif kind == "same":
+            covers.append((number[column], [number[what[0]]], "same"))
+        else:
+            covers.append((number[column], [number[other] for other in what[1]], what[0].rows))
+    return {
+        "nets": len(inside),
+        "ins": ins,
+        "outs": [number[path, net] for net in m.outputs],
+        "latches": latches,
+        "covers": covers,
+    }

@@ -1,5 +1,6 @@
 //! lid: latency-insensitive design from BLIF netlists (Berkeley Logic Interchange Format).
 //!
+//! `lid check NET [--root NAME]` prints the nodes and channels of a netlist that is accepted, and
 //! `lid strict NET VEC [--root NAME]` prints the strict outputs of a netlist for rows of input bits.
 #![tactic(auto)]
 
@@ -7,6 +8,8 @@
 mod check_tests;
 #[cfg(test)]
 mod net_tests;
+#[cfg(test)]
+mod report_tests;
 #[cfg(test)]
 mod tests;
 

@@ -1,5 +1,5 @@
--- The outputs of the root of an accepted design are some of its nets, each once.
-use Rattle.std.proofs.Common.{◌≡◌, ℕ, zero, suc, ◌+◌, ◌≤◌, ◌==◌, cond, Bool, true, false, not, ◌&&◌, ◌||◌, List, [], ◌∷◌, length, Option, Some, None, option_and_then, slice_get, inl, inr, refl, sym, ◌∙◌, ap, arith}
+-- The outputs and the data inputs of the root of an accepted design are some of its nets, each once.
+use Rattle.std.proofs.Common.{◌≡◌, ℕ, zero, suc, ◌+◌, ◌≤◌, ◌==◌, cond, Bool, true, false, not, ◌&&◌, ◌||◌, List, [], ◌∷◌, length, Option, Some, None, option_and_then, filter, slice_get, inl, inr, refl, sym, ◌∙◌, ap, arith}
 use Rattle.std.specs.List.{AllByRecursion, flat_map, IsDistinct, count_by, enumerate_from, sum_by}
 use Rattle.std.specs.Option.{option_map_or}
 use Rattle.std.specs.Str.{bytes_eq}
@@ -8,10 +8,10 @@ use Rattle.std.proofs.lemmas.Bool.{ltb-false, ltb-true}
 use Rattle.std.proofs.lemmas.List.Sums.{sum_by-cons}
 use Rattle.std.proofs.lemmas.Map.Made.{length-le_from_is_member}
 use Rattle.lid_base.specs.Lists.{Among}
-use Rattle.lid_base.proofs.Lists.{among_left, among_right, among_filter, same_bytes, bytes_same}
+use Rattle.lid_base.proofs.Lists.{among_left, among_right, among_filter, filter_among, same_bytes, bytes_same}
 use Rattle.lid_design.specs.declared.Design.{Design}
 use Rattle.lid_design.specs.declared.Model.{Model}
-use Rattle.lid_design.specs.Columns.{is_among, is_clock, root_outputs}
+use Rattle.lid_design.specs.Columns.{is_among, is_clock, data_inputs, root_inputs, root_outputs}
 use Rattle.lid_design.specs.Models.{occurrences, firsts, nets, read_names, inner_drivers, insts_of, number_named, number_from, IsReached, is_twice}
 use Rattle.lid_design.specs.Elaboration.{Instance, instance, instances, instances_in, model_nets, count_nets}
 use Rattle.lid_design.specs.WellFormed.{IsWellFormed}
@@ -26,6 +26,17 @@ use Rattle.lid_wiring.proofs.Limits.{few_nets}
 output_occurs : (m : Model) (net : List ℕ) → Among net m.outputs → Among net (occurrences m)
 unfolding occurrences
 output_occurs m net out = among_left net _ _ (among_left net _ _ (among_left net _ _ (among_right net m.inputs m.outputs out)))
+
+input_occurs : (m : Model) (net : List ℕ) → Among net m.inputs → Among net (occurrences m)
+unfolding occurrences
+input_occurs m net given = among_left net _ _ (among_left net _ _ (among_left net _ _ (among_left net m.inputs m.outputs given)))
+
+-- a data input is a net
+data_input_net : (d : Design) (m : Model) (net : List ℕ) → Among net (data_inputs d m) → Among net (nets d m)
+unfolding data_inputs nets
+data_input_net d m net among =
+    let found = filter_among (λ n. not (is_clock d m n)) net m.inputs among in
+    among_filter (λ n. not (is_clock d m n)) net (firsts (occurrences m)) (firsts_among net (occurrences m) (input_occurs m net found.0)) found.1
 
 output_read : (d : Design) (m : Model) (net : List ℕ) → Among net m.outputs → is_among net (read_names d m) ≡ true
 unfolding read_names
@@ -121,6 +132,46 @@ outputs_few d pass k m reached here =
     length-le_from_is_member names_equal m.outputs (nets d m) (distinct_from m.outputs (outputs_once d pass k m reached here))
     (λ q among. from_among q (nets d m) (output_net d m (sound_model d pass k m reached here) q (to_among q m.outputs among)))
 
+or_none_first : (a b : Bool) → a || b ≡ false → a ≡ false
+or_none_first false b h = refl
+or_none_first true b h = absurd (let f : true ≡ false = h in cc)
+
+-- no input of a reached model stands twice among its inputs
+inputs_once : (d : Design) → ModelsPass d → (k : ℕ) (m : Model) → IsReached d k → slice_get d.models k ≡ Some m → (net : List ℕ) → Among net m.inputs → is_twice m.inputs net ≡ false
+unfolding fault_before_recursion duplicate_name
+inputs_once d pass k m reached here net given =
+    let early = or_none (duplicate_name d pass.ks) (unknown_model d pass.ks) pass.before in
+    let among = (pass.reached.each k).1 reached in
+    let at_k = none_told (λ (k : ℕ). option_and_then (duplicate_in (k == d.root)) (slice_get d.models k)) pass.ks early.0 k among in
+    let at_m : duplicate_in (k == d.root) m ≡ None = ap (option_and_then (duplicate_in (k == d.root))) (sym here) ∙ at_k in
+    let none = none_found (is_duplicate (k == d.root) m) (occurrences m) (map_none _ _ at_m) net (input_occurs m net given) in
+    or_none_first (is_twice m.inputs net) _ none
+
+-- what is picked of distinct names is distinct
+apart_picked : (p : List ℕ → Bool) (x : List ℕ) (ys : List (List ℕ)) → AllByRecursion (λ y. bytes_eq x y ≡ false) ys → AllByRecursion (λ y. bytes_eq x y ≡ false) (filter p ys)
+apart_picked p x [] all = tt
+apart_picked p x (y ∷ ys) all = by (p y) (apart_picked p x ys all.1)
+  where
+    by : (b : Bool) → AllByRecursion (λ y. bytes_eq x y ≡ false) (filter p ys) → AllByRecursion (λ y. bytes_eq x y ≡ false) (cond b (y ∷ filter p ys) (filter p ys))
+    by true rest = (all.0, rest)
+    by false rest = rest
+
+distinct_picked : (p : List ℕ → Bool) (xs : List (List ℕ)) → IsDistinct bytes_eq xs → IsDistinct bytes_eq (filter p xs)
+unfolding IsDistinct
+distinct_picked p [] all = tt
+distinct_picked p (x ∷ xs) all = by (p x) (distinct_picked p xs all.1)
+  where
+    by : (b : Bool) → IsDistinct bytes_eq (filter p xs) → IsDistinct bytes_eq (cond b (x ∷ filter p xs) (filter p xs))
+    by true rest = (apart_picked p x xs all.0, rest)
+    by false rest = rest
+
+data_inputs_few : (d : Design) → ModelsPass d → (k : ℕ) (m : Model) → IsReached d k → slice_get d.models k ≡ Some m → length (data_inputs d m) ≤ length (nets d m)
+unfolding data_inputs
+data_inputs_few d pass k m reached here =
+    length-le_from_is_member names_equal (data_inputs d m) (nets d m)
+    (distinct_picked (λ net. not (is_clock d m net)) m.inputs (distinct_from m.inputs (inputs_once d pass k m reached here)))
+    (λ q among. from_among q (nets d m) (data_input_net d m q (to_among q (data_inputs d m) among)))
+
 -- the nets of the root are some of the columns
 first : (d : Design) (k : ℕ) (ps : List Instance) → length (model_nets d k) ≤ sum_by (λ (p : Instance). length (model_nets d p.model)) (instance [] k ∷ ps)
 first d k ps = let e = sum_by-cons (λ (p : Instance). length (model_nets d p.model)) (instance [] k) ps in omega arith
@@ -138,6 +189,20 @@ few_outputs d formed pass = by (slice_get d.models d.root) refl
     by None e = omega arith
     by (Some m) e =
         let outs = outputs_few d pass d.root m ([], refl) e in
+        let here : length (model_nets d d.root) ≡ length (nets d m) = ap (λ (o : Option Model). length (option_map_or (nets d) o [])) e in
+        let counted = root_counted (length d.models) d d.root in
+        let few = few_nets d (no_limit d pass.ks pass.after) in
+        omega arith
+
+-- and as many data inputs
+pub few_inputs : (d : Design) → IsWellFormed d → ModelsPass d → length (root_inputs d) ≤ 1048576
+unfolding count_nets instances number_from
+few_inputs d formed pass = by (slice_get d.models d.root) refl
+  where
+    by : (o : Option Model) → slice_get d.models d.root ≡ o → length (option_map_or (data_inputs d) o []) ≤ 1048576
+    by None e = omega arith
+    by (Some m) e =
+        let ins = data_inputs_few d pass d.root m ([], refl) e in
         let here : length (model_nets d d.root) ≡ length (nets d m) = ap (λ (o : Option Model). length (option_map_or (nets d) o [])) e in
         let counted = root_counted (length d.models) d d.root in
         let few = few_nets d (no_limit d pass.ks pass.after) in

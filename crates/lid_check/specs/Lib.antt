@@ -1,6 +1,5 @@
 pub mod Acceptance
 pub mod Blocks
 pub mod Facts
-pub mod Flaws
+pub mod Flats
 pub mod Networks
-pub mod Pearls

@@ -2,21 +2,24 @@ ghost use Rattle.std.specs.Prelude.{◌≡◌, ◌⊎◌, ◌<◌, ◌≤◌, �
 ghost use denote.Ref.{Bor};
 ghost use Rattle.std.specs.Str.{bytes_eq};
 ghost use Rattle.lid_design.specs.Columns.{root_inputs, root_outputs};
+ghost use Rattle.lid_design.specs.Flat.{IsFlat};
 ghost use Rattle.lid_design.specs.Loops.{pearls};
 ghost use Rattle.lid_design.specs.Elaboration.{count_latches, count_defaulted};
 ghost use Rattle.lid_design.specs.WellFormed.{IsWellFormed};
 ghost use Rattle.lid_rules.specs.declared.fault.CheckFault.TheVariants.{Memory};
 ghost use Rattle.lid_check.specs.Blocks.{IsBlock};
+ghost use Rattle.lid_check.specs.Flats.{IsFlatOf};
 ghost use Rattle.lid_check.specs.Networks.{IsNetwork};
 ghost use Rattle.lid_check.specs.Acceptance.{rooted_at, with_root, IsAccepted, IsRefused};
 
-use crate::blocks::{Block, block_of};
+use crate::blocks::Block;
 use crate::judging::{Facts, accept};
 use crate::network::Network;
 use lid_base::Name;
-use lid_design::Design;
+use lid_design::{Design, Flat};
+use lid_flatten::flatten;
 use lid_rules::CheckFault;
-use std::alloc::Global;
+use std::alloc::{AllocError, Global};
 use std::marker::Model;
 
 /// A design that was accepted, with its root. A contract sees the design.
@@ -113,26 +116,27 @@ impl Checked {
     pub fn pearls(&self) -> u32
         ensures { result ≡ length (pearls self.now) }
     {
-        self.facts.pearls
+        self.facts.counts.pearls
     }
 
     /// How many latches there are, over all paths.
     pub fn latches(&self) -> u64
         ensures { result ≡ count_latches self.now }
     {
-        self.facts.latches
+        self.facts.counts.latches
     }
 
     /// How many latches begin at 0 because their first bit was left open, over all paths.
     pub fn defaulted(&self) -> u64
         ensures { result ≡ count_defaulted self.now }
     {
-        self.facts.defaulted
+        self.facts.counts.defaulted
     }
 
-    /// The data inputs of the root, in order.
+    /// The data inputs of the root, in order. There are at most as many as columns.
     pub fn inputs(&self) -> &[Name]
-        ensures { result.now ≡ root_inputs self.now }
+        ensures names { result.now ≡ root_inputs self.now }
+        ensures few { length result.now ≤ 1048576 }
     {
         self.facts.inputs.as_slice()
     }
@@ -157,7 +161,26 @@ impl Checked {
         requires { pearl < length (pearls self.now) }
         ensures { IsBlock self.now pearl result }
     {
-        block_of(&self.facts.network.columns, pearl)
+        let part = self.facts.parts.as_slice()[pearl as usize];
+        Block {
+            start: part.start,
+            end: part.start + part.nets,
+        }
+    }
+
+    /// The flat part of a pearl: its columns with numbers from 0 on, and what drives each. It takes time
+    /// in the size of the pearl, which is measured and not proved.
+    ///
+    /// # Errors
+    /// Where there is no memory.
+    pub fn flat(&self, alloc: Global, pearl: u32) -> Result<Flat, AllocError>
+        requires { pearl < length (pearls self.now) }
+        ensures rules { IfOk result IsFlat }
+        ensures part { IfOk result (IsFlatOf self.now pearl) }
+    {
+        let drivers = self.facts.network.columns.drivers.as_slice();
+        let part = self.facts.parts.as_slice()[pearl as usize];
+        flatten(alloc, &self.design, drivers, part)
     }
 
     /// The root.

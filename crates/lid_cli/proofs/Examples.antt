@@ -1,13 +1,23 @@
 -- Some words, and the jobs that they are by the definitions alone.
 use Rattle.std.proofs.Common.{◌≡◌, refl, [], ◌∷◌, Some, None, codes}
 use Rattle.clap.proofs.OnLiterals.{clap_on_literals}
-use Rattle.lid_cli.specs.declared.job.Job.TheVariants.{Strict}
+use Rattle.lid_cli.specs.declared.job.Job.TheVariants.{Check, Strict}
 use Rattle.lid_cli.specs.Reading.{lid_app, given_in}
-use Rattle.lid_cli.specs.Jobs.{is_given, is_tallied, files_in, file_at, is_allowed, has_only, has_each, is_within, fits, option_fits, has_both, has_form, strict_job, job_made, job_formed, form_in, job_given, job_of}
+use Rattle.lid_cli.specs.Jobs.{is_given, is_tallied, files_in, file_at, is_allowed, has_only, has_each, is_within, fits, option_fits, has_both, has_form, check_job, strict_job, job_made, job_formed, form_in, job_given, job_of}
 
 unfoldable words_on_literals : Unit {0}
-unfolding clap_on_literals lid_app given_in is_given is_tallied files_in file_at is_allowed has_only has_each is_within fits option_fits has_both has_form strict_job job_made job_formed form_in job_given job_of
+unfolding clap_on_literals lid_app given_in is_given is_tallied files_in file_at is_allowed has_only has_each is_within fits option_fits has_both has_form check_job strict_job job_made job_formed form_in job_given job_of
 words_on_literals = tt
+
+-- `check --root m a`
+check_with_root : job_of (codes "check" ∷ codes "--root" ∷ codes "m" ∷ codes "a" ∷ []) ≡ Some (Check (codes "a") (Some (codes "m")))
+unfolding words_on_literals
+check_with_root = refl
+
+-- `check a b` has two files
+check_with_two_files : job_of (codes "check" ∷ codes "a" ∷ codes "b" ∷ []) ≡ None
+unfolding words_on_literals
+check_with_two_files = refl
 
 -- `strict a b --root=m`
 strict_with_root : job_of (codes "strict" ∷ codes "a" ∷ codes "b" ∷ codes "--root=m" ∷ []) ≡ Some (Strict (codes "a") (codes "b") (Some (codes "m")))

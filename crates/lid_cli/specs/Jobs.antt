@@ -10,7 +10,7 @@ use Rattle.lid_cli.specs.declared.table.TheConstants.{COMMAND, FILES, TALLY, ROO
 use Rattle.lid_cli.specs.declared.table.Command.{Command}
 use Rattle.lid_cli.specs.declared.table.Command.TheVariants as command
 use Rattle.lid_cli.specs.declared.job.Job.{Job}
-use Rattle.lid_cli.specs.declared.job.Job.TheVariants.{Strict}
+use Rattle.lid_cli.specs.declared.job.Job.TheVariants.{Check, Strict}
 use Rattle.lid_cli.specs.Table.{Form, form, table, Range, range, ranges}
 use Rattle.lid_cli.specs.Reading.{option_names, given_in}
 
@@ -93,13 +93,17 @@ has_form form found =
     && (not (has_both found)
     && (form.has_tally || not (is_tallied found)))))))
 
+-- the job of `check`
+unfoldable pub check_job : List Row → Option Job
+check_job found = Some (Check (file_at 0 found) (first_of ROOT.now found))
+
 -- the job of `strict`
 unfoldable pub strict_job : List Row → Option Job
 strict_job found = Some (Strict (file_at 0 found) (file_at 1 found) (first_of ROOT.now found))
 
 -- the job of a command whose form the words have; a command that is not built yet has none
 unfoldable pub job_made : Command → List Row → Option Job
-job_made command.Check found = None
+job_made command.Check found = check_job found
 job_made command.Strict found = strict_job found
 job_made command.Clock found = None
 job_made command.Walk found = None

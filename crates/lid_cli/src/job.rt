@@ -4,6 +4,7 @@ ghost use Rattle.std.specs.Prelude.{◌≡◌, IfOk};
 ghost use Rattle.lid_cli.specs.Reading.{matches_in};
 ghost use Rattle.lid_cli.specs.Jobs.{form_shown, job_made, job_formed, job_given, job_of};
 
+use crate::check::check_job;
 use crate::form::{form_of, has_form};
 use crate::reader::parse;
 use crate::strict::strict_job;
@@ -15,6 +16,13 @@ use std::alloc::{AllocError, Global};
 /// What the words ask for.
 #[derive(Drop)]
 pub enum Job {
+    /// `check NET`: whether a netlist is accepted, and its nodes and channels.
+    Check {
+        /// The name of the file with the netlist.
+        net: Text,
+        /// The name of the model that is to be the root, as for `strict`.
+        root: Option<Name>,
+    },
     /// `strict NET VEC`: the strict outputs of a netlist for rows of input bits.
     Strict {
         /// The name of the file with the netlist.
@@ -37,10 +45,10 @@ fn make_job(
     ensures { IfOk result (λ job. job ≡ job_made command (matches_in given.now)) }
 {
     match command {
+        Command::Check => check_job(alloc, given),
         Command::Strict => strict_job(alloc, given),
         // not built yet
-        Command::Check
-        | Command::Clock
+        Command::Clock
         | Command::Walk
         | Command::Free
         | Command::Rate

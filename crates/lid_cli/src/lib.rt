@@ -1,6 +1,7 @@
 //! What the words of a command line ask for.
 #![tactic(auto)]
 
+mod check;
 mod form;
 mod given;
 mod job;

@@ -132,6 +132,22 @@ static CASES: [(&[&str], Option<Strict>); 77] = [
     (&["strict", "a", "b", "--tally", "--tally"], None),
 ];
 
+/// The file and the root of a job `check`.
+type Check = (&'static str, Option<&'static str>);
+
+/// Words and their job `check`, where they are one.
+static CHECKS: [(&[&str], Option<Check>); 9] = [
+    (&["check", "a"], Some(("a", None))),
+    (&["check", "strict"], Some(("strict", None))),
+    (&["--root=m", "check", "a"], Some(("a", Some("m")))),
+    (&["check", "a", "--root", "m"], Some(("a", Some("m")))),
+    (&["check", "--", "--root"], Some(("--root", None))),
+    (&["check"], None),
+    (&["check", "a", "b"], None),
+    (&["check", "a", "--tally"], None),
+    (&["check", "a", "--stations=c"], None),
+];
+
 /// Options with a value that other commands have.
 static OTHERS: [&str; 10] = [
     "--stations=c",
@@ -172,6 +188,16 @@ fn is_expected(job: Option<&Job>, expected: Option<Strict>) -> bool {
     }
 }
 
+fn is_check(job: Option<&Job>, expected: Option<Check>) -> bool {
+    match (job, expected) {
+        (Some(Job::Check { net, root }), Some((a, m))) => {
+            net.as_str() == a && is_root(root.as_ref(), m)
+        }
+        (None, None) => true,
+        _ => false,
+    }
+}
+
 fn job_of(alloc: Global, words: &[&str]) -> Result<Option<Job>, AllocError> {
     let texts = texts_of(alloc, words)?;
     read_words(alloc, &texts)
@@ -185,6 +211,14 @@ fn are_words_of(alloc: Global, words: &[&str], expected: Option<Strict>) -> bool
     }
 }
 
+/// Whether words are this job `check`, or none.
+fn are_words_of_check(alloc: Global, words: &[&str], expected: Option<Check>) -> bool {
+    match job_of(alloc, words) {
+        Ok(job) => is_check(job.as_ref(), expected),
+        Err(_) => false,
+    }
+}
+
 /// Whether `strict a b` with one more option is no job.
 fn is_refused(alloc: Global, option: &str) -> bool {
     are_words_of(alloc, &["strict", "a", "b", option], None)
@@ -194,6 +228,9 @@ fn is_refused(alloc: Global, option: &str) -> bool {
 fn words_are_the_jobs_of_the_table(rt: HostRuntime) {
     for (words, expected) in &CASES {
         assert!(rt; are_words_of(rt.alloc(), words, *expected), "{words:?}");
+    }
+    for (words, expected) in &CHECKS {
+        assert!(rt; are_words_of_check(rt.alloc(), words, *expected), "{words:?}");
     }
     for option in &OTHERS {
         assert!(rt; is_refused(rt.alloc(), option), "{option}");

@@ -52,6 +52,10 @@ abbrev pub walk_tokens : Graph → List ℕ → ℕ
 walk_tokens g [] = 0
 walk_tokens g (k ∷ ks) = (edge_at g k).tokens + walk_tokens g ks
 
+-- each closed walk has a token
+abbrev pub WalksHaveTokens : Graph → Type 0
+WalksHaveTokens g = (ks : List ℕ) → IsClosedWalk g ks → 0 < walk_tokens g ks
+
 -- some walk leads from u to v
 abbrev pub IsJoined : Graph → ℕ → ℕ → Type 0
 IsJoined g u v = (ks : List ℕ) × IsWalk g u ks v

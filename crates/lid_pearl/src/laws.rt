@@ -6,7 +6,7 @@ ghost use Rattle.lid_design.specs.Network.{Table, IsStrict};
 ghost use Rattle.lid_design.specs.Flat.{flat_drivers, IsFlat, latch_init, state_at};
 ghost use Rattle.lid_pearl.specs.Pearls.{View, IsReordered, Shows, Steps};
 
-/// Steps are rows of strict tables. A pearl whose latches begin has the state of row 0; one with the
+/// Steps are rows of strict tables. A pearl whose latches begin has the state of the first row; one with the
 /// state of row t shows the output bits of row t, and a step with the inputs of row t takes it to the
 /// state of row t + 1, and to the outputs of that row where there is one. This does nothing; its
 /// contract is the law.

@@ -15,7 +15,8 @@ use Rattle.lid_cert.proofs.Ascending.{rises_pair, place_found}
 use Rattle.lid_cert.proofs.Parts.{lag_along, stays_back}
 use Rattle.lid_ratio.specs.WalksBack.{MeetsOnce}
 use Rattle.lid_ratio.specs.Components.{IsSmallGraph, IsLoop, AreAllJoined, IsBranch}
-use Rattle.lid_rate.specs.Rates.{IsRateable, numbers_where, AreLabels, is_labelled, edges_of, IsPartOf, IsLoopAt}
+use Rattle.lid_graph.specs.Rateable.{IsRateable}
+use Rattle.lid_rate.specs.Rates.{numbers_where, AreLabels, is_labelled, edges_of, IsPartOf, IsLoopAt}
 use Rattle.lid_rate.specs.Pieces.{IsInside, IsPiece, IsFound, IsLifted}
 use Rattle.lid_rate.proofs.NumbersWhere.{Stands, those_only, those_all, those_ascends, those_has, those_has_not, those_few}
 

@@ -11,7 +11,8 @@ use Rattle.lid_cert.specs.declared.cert.Cert.{Cert}
 use Rattle.lid_cert.specs.Certificates.{has_node, least_node, parts_with, ascends, Certifies, IsInRange}
 use Rattle.lid_cert.proofs.Ascending.{rises_pair}
 use Rattle.lid_cert.proofs.Consequences.{ratio_is_shown}
-use Rattle.lid_rate.specs.Rates.{IsRateable, numbers_where, AreLabels, is_labelled, IsPartOf, IsExact, IsShort, is_own, AreParts}
+use Rattle.lid_graph.specs.Rateable.{IsRateable}
+use Rattle.lid_rate.specs.Rates.{numbers_where, AreLabels, is_labelled, IsPartOf, IsExact, IsShort, is_own, AreParts}
 use Rattle.lid_rate.proofs.NumbersWhere.{Stands, those_only, those_all, those_ascends, those_has}
 use Rattle.lid_rate.proofs.Components.{same_label}
 

@@ -10,19 +10,6 @@ use Rattle.lid_cert.specs.declared.cert.Cert.{Cert}
 use Rattle.lid_cert.specs.Certificates.{has_node, lag_of, least_node, IsPart, IsPartInRange}
 use Rattle.lid_ratio.specs.WalksBack.{MeetsOnce}
 
--- each closed walk has a token
-abbrev pub WalksHaveTokens : Graph → Type 0
-WalksHaveTokens g = (ks : List ℕ) → IsClosedWalk g ks → 0 < walk_tokens g ks
-
--- a paired graph of at most 2^18 transitions and fewer than 2^19 edges, with at most 16 tokens on an
--- edge
-pub record IsRateable (g : Graph) : Type 0 where
-  pub paired : IsPaired g
-  pub some : 1 ≤ g.nodes
-  pub nodes : g.nodes ≤ 2 ^ 18
-  pub edges : length g.edges < 2 ^ 19
-  pub tokens : (k : ℕ) → k < length g.edges → (edge_at g k).tokens ≤ 16
-
 -- a filter of the numbers below n: those that pass a test, in order
 abbrev pub numbers_where : (ℕ → Bool) → ℕ → List ℕ
 numbers_where p zero = []

@@ -2,7 +2,8 @@
 use Rattle.std.specs.Prelude.{◌≡◌, ℕ, ◌<◌, ◌≤◌, List, length, slice_index}
 use Rattle.lid_graph.specs.declared.graph.Graph.{Graph}
 use Rattle.lid_graph.specs.Walks.{edge_at}
-use Rattle.lid_rate.specs.Rates.{IsRateable, IsLoopAt}
+use Rattle.lid_graph.specs.Rateable.{IsRateable}
+use Rattle.lid_rate.specs.Rates.{IsLoopAt}
 
 -- an edge leads from the end of another to its beginning
 pub record IsBack (g : Graph) (k back : ℕ) : Type 0 where

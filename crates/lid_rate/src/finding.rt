@@ -4,7 +4,9 @@ ghost use Rattle.std.specs.Prelude.{◌≤◌, IfOk};
 ghost use Rattle.std.specs.List.{All};
 ghost use Rattle.lid_cert.specs.Certificates.{Certifies, IsInRange};
 ghost use Rattle.lid_rate.specs.Grouping.{AreSorted};
-ghost use Rattle.lid_rate.specs.Rates.{IsRateable, IsExact, IsShort, AreLabels, AreParts, WalksHaveTokens};
+ghost use Rattle.lid_graph.specs.Rateable.{IsRateable};
+ghost use Rattle.lid_graph.specs.Walks.{WalksHaveTokens};
+ghost use Rattle.lid_rate.specs.Rates.{IsExact, IsShort, AreLabels, AreParts};
 
 use crate::grouping::{Sorted, places_of, sort};
 use crate::parts::part_of;

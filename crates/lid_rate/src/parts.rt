@@ -3,7 +3,8 @@
 ghost use Rattle.std.specs.Prelude.{◌≡◌, ℕ, ◌+◌, ◌-◌, ◌*◌, ◌<◌, ◌≤◌, ◌^◌, length, map, slice_index, option_map, IfOk};
 ghost use Rattle.lid_graph.specs.Walks.{walk_start, IsClosedWalk};
 ghost use Rattle.lid_ratio.specs.Components.{IsSmallGraph, IsLoop, AreAllJoined};
-ghost use Rattle.lid_rate.specs.Rates.{IsRateable, AreLabels, IsPartOf, IsLoopAt, numbers_where, is_labelled, edges_of};
+ghost use Rattle.lid_graph.specs.Rateable.{IsRateable};
+ghost use Rattle.lid_rate.specs.Rates.{AreLabels, IsPartOf, IsLoopAt, numbers_where, is_labelled, edges_of};
 ghost use Rattle.lid_rate.specs.Pieces.{IsFound, IsLifted};
 
 use crate::pieces::{piece_of, place};

@@ -3,7 +3,8 @@
 ghost use Rattle.std.specs.Prelude.{◌≡◌, ℕ, ◌<◌, ◌≤◌, ◌^◌, ◌↔◌, length, slice_index, IsTrue};
 ghost use Rattle.lid_graph.specs.declared.graph.Edge.{Edge};
 ghost use Rattle.lid_graph.specs.Walks.{edge_at};
-ghost use Rattle.lid_rate.specs.Rates.{IsLoopAt, WalksHaveTokens, is_loop_edge};
+ghost use Rattle.lid_graph.specs.Walks.{WalksHaveTokens};
+ghost use Rattle.lid_rate.specs.Rates.{IsLoopAt, is_loop_edge};
 ghost use Rattle.lid_rate.specs.Shown.{IsBack, LeadsUp, IsEdgeShown, IsShown};
 
 use lid_graph::Graph;

@@ -5,7 +5,8 @@ use Rattle.lid_design.specs.declared.Design.{Design}
 use Rattle.lid_top.specs.declared.fault.Stop.{Stop}
 use Rattle.lid_top.specs.declared.fault.Stop.TheVariants.{Refused, Read, Memory, Denied}
 use Rattle.lid_top.specs.Scripts.{Ending, refuses, denies, gives, Script, decide, Reading, good, step, read_step, check_step, IsFetched, IsChecked, IsUnchecked, EndsIn, Reaches}
-use Rattle.lid_top.specs.Causes.{refusal_line, Refuses, Declines, FailsCheck, MissesFile, IsWant, Got, Misses, IsCause}
+use Rattle.lid_refusals.specs.Refusals.{refusal_line}
+use Rattle.lid_top.specs.Causes.{Refuses, Declines, FailsCheck, MissesFile, IsWant, Got, Misses, IsCause}
 use Rattle.lid_top.specs.Statuses.{HasText}
 
 -- a count that rose after it had grown

@@ -1,14 +1,16 @@
 -- Where the shelf tells its contents, a script ends in one way.
-use Rattle.std.proofs.Common.{◌≡◌, ◌≢◌, ℕ, ◌+◌, ◌≤◌, Bool, List, length, take, Option, Some, None, is_some, true≢false, IsSome, IfSome, ◌⊎◌, inl, inr, refl, sym, ◌∙◌, ap, subst}
+use Rattle.std.proofs.Common.{◌≡◌, ℕ, ◌+◌, Bool, List, length, take, Option, Some, None, is_some, true≢false, IsSome, IfSome, inl, inr, refl, sym, ◌∙◌, ap, subst, arith}
 use Rattle.lid_design.specs.declared.Design.{Design}
 use Rattle.lid_rules.specs.declared.fault.CheckFault.{CheckFault}
-use Rattle.lid_rules.specs.declared.fault.CheckFault.TheVariants.{NoRoot}
 use Rattle.lid_check.specs.Acceptance.{with_root, IsAccepted, IsRefused, IsRefusal}
+use Rattle.lid_system.specs.declared.Channel.{Channel}
+use Rattle.lid_channels.specs.declared.fault.NetFault.TheVariants.{TooManyChannels}
+use Rattle.lid_net.specs.Graphs.{IsGraphOf}
 use Rattle.lid_cli.specs.declared.job.Job.{Job}
-use Rattle.lid_cli.specs.declared.job.Job.TheVariants.{Strict}
-use Rattle.lid_top.specs.Faults.{check_line}
-use Rattle.lid_top.specs.Outputs.{strict_output}
-use Rattle.lid_top.specs.Scripts.{Ending, refuses, gives, Script, fetch, again, decide, end, Rereading, Reading, good, bad, step, net_limit, rows_limit, net_reading, vec_reading, rows_script, check_script, strict_script, script_of, IsFetched, IsReread, IsChanged, IsChecked, IsUnchecked, EndsIn, Reaches}
+use Rattle.lid_cli.specs.declared.job.Job.TheVariants.{Check, Strict}
+use Rattle.lid_refusals.specs.Faults.{check_line, net_line}
+use Rattle.lid_top.specs.Outputs.{strict_output, report}
+use Rattle.lid_top.specs.Scripts.{Ending, refuses, gives, Script, fetch, again, decide, end, Reading, good, bad, step, net_reading, vec_reading, check_step, net_step, report_script, check_script, rows_script, checked_script, strict_script, script_of, IsFetched, IsReread, IsChecked, IsUnchecked, EndsIn}
 use Rattle.lid_top.specs.Statuses.{TellsAll}
 
 -- each step of the script without a fetch has one outcome
@@ -56,7 +58,7 @@ some_same : {A : Type 0} (o : Option A) (a b : A) → o ≡ Some a → o ≡ Som
 some_same o a b e f = ap (or_else a) (sym e ∙ f)
 
 -- acceptance has one outcome
-module _ (apart : (d : Design) (fault : CheckFault) → IsAccepted d → IsRefusal d fault → ⊥) (one : (d : Design) (fault other : CheckFault) → IsRefusal d fault → IsRefusal d other → fault ≡ other) where
+module _ (apart : (d : Design) (fault : CheckFault) → IsAccepted d → IsRefusal d fault → ⊥) (one : (d : Design) (fault other : CheckFault) → IsRefusal d fault → IsRefusal d other → fault ≡ other) (graph : (d : Design) (a b : List Channel) → IsGraphOf d a → IsGraphOf d b → a ≡ b) where
   refused_once : (o : Option Design) (fault other : CheckFault) → IsRefused o fault → IsRefused o other → fault ≡ other
   refused_once None fault other a b = a ∙ sym b
   refused_once (Some d) fault other a b = one d fault other a b
@@ -72,11 +74,23 @@ module _ (apart : (d : Design) (fault : CheckFault) → IsAccepted d → IsRefus
     (λ a _. s a),
   )
 
+  -- the channels of a design have one outcome
+  built_once : (held : List ℕ → Option (List ℕ)) (d : Design) (next : List Channel → Script) → ((channels : List Channel) → IsSettled held (next channels)) → IsSettled held (net_step d next)
+  built_once held d next s = (
+    (λ a b g h. graph d a b g.graph h.graph),
+    (λ a line g u. let same = graph d a u.channels g.graph u.graph in let few = g.few in let many = u.many in absurd (omega (arith, ap length same))),
+    (λ line other u v. u.told ∙ ap (λ (cs : List Channel). net_line (TooManyChannels (length cs))) (graph d u.channels v.channels u.graph v.graph) ∙ sym v.told),
+    (λ a _. s a),
+  )
+
   settled_job : (held : List ℕ → Option (List ℕ)) (job : Job) → IsSettled held (script_of job)
-  unfolding strict_script check_script rows_script
+  unfolding check_script report_script strict_script checked_script rows_script
+  settled_job held (Check net root) = λ bytes _.
+      let reported : (d : Design) → IsSettled held (report_script d) = λ d. built_once held d (λ channels. end (gives (report d channels))) (λ _. tt) in
+      settled_step held (net_reading bytes) (λ d. check_step root d report_script) (λ d. checked_once held root d report_script reported)
   settled_job held (Strict net vec root) = λ bytes _.
       let rows : (d : Design) → IsSettled held (rows_script d vec) = λ d text _. settled_step held (vec_reading d text) (λ bits. end (gives (strict_output d bits))) (λ _. tt) in
-      settled_step held (net_reading bytes) (λ d. check_script d vec root)
+      settled_step held (net_reading bytes) (λ d. checked_script d vec root)
       (λ d. checked_once held root d (λ c. rows_script c vec) rows)
 
   pub told_job_ends_once : (held : List ℕ → Option (List ℕ)) (job : Job) (x y : Ending) → TellsAll held (script_of job) → EndsIn held (script_of job) x → EndsIn held (script_of job) y → x ≡ y

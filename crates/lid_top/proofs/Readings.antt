@@ -1,5 +1,5 @@
 -- What the answers of the readers say of the readings.
-use Rattle.std.proofs.Common.{◌≡◌, ℕ, ◌≤◌, List, [], ◌∷◌, arith, length, Option, Some, None, Ok, Err, ◌⊎◌, inl, inr, refl, sym, ◌∙◌, ap, subst}
+use Rattle.std.proofs.Common.{◌≡◌, ℕ, ◌<◌, List, length, Option, Some, None, Ok, Err, ◌⊎◌, inl, inr, refl, sym, ◌∙◌, ap, subst}
 use Rattle.std.specs.List.{AllByRecursion}
 use Rattle.std.proofs.lemmas.List.Elements.{recursion_from_All}
 use Rattle.lid_base.specs.Lines.{logical_lines}
@@ -11,14 +11,18 @@ use Rattle.lid_blif.specs.Designs.{design_of}
 use Rattle.lid_blif.specs.Faults.{blif_fault}
 use Rattle.lid_rules.specs.declared.fault.CheckFault.{CheckFault}
 use Rattle.lid_rules.specs.declared.fault.CheckFault.TheVariants as check
+use Rattle.lid_channels.specs.declared.fault.NetFault.{NetFault}
+use Rattle.lid_channels.specs.declared.fault.NetFault.TheVariants as net
+use Rattle.lid_system.specs.declared.Channel.{Channel}
+use Rattle.lid_net.specs.Graphs.{IsGraphOf}
 use Rattle.lid_check.specs.Acceptance.{with_root, IsRefused}
 use Rattle.lid_texts.specs.declared.rows.Rows.{Rows}
 use Rattle.lid_texts.specs.declared.rows.VecFault.{VecFault}
 use Rattle.lid_texts.specs.declared.rows.VecFault.TheVariants as rows
 use Rattle.lid_texts.specs.Rows.{rows_reading, IsWide}
 use Rattle.lid_top.specs.Scripts.{Reading, good, bad, unless_faulty, net_reading, IsUnchecked, vec_reading, bits_read}
-use Rattle.lid_top.specs.Faults.{blif_line, rows_line, check_line}
-use Rattle.lid_top.specs.Causes.{Declines, FailsCheck, stop_of_blif, stop_of_rows, stop_of_check}
+use Rattle.lid_refusals.specs.Faults.{blif_line, rows_line, check_line}
+use Rattle.lid_top.specs.Causes.{Declines, FailsCheck, FailsNet, stop_of_blif, stop_of_rows, stop_of_check, stop_of_net}
 
 -- a design that is read
 pub net_good : (bytes : List ℕ) (d : Design) → (blif_fault bytes ≡ None) × (d ≡ design_of (logical_lines bytes)) → net_reading bytes ≡ good d
@@ -105,3 +109,8 @@ vec_declines d bytes columns outs e c o (inr h) = rows_declined (vec_reading d b
 pub wide_rows : (r : Rows) (names : List (List ℕ)) → r.columns ≡ names → IsWide r → AllByRecursion (λ row. length row ≡ length names) r.bits
 wide_rows r names e h =
     subst (λ (l : List (List ℕ)). AllByRecursion (λ row. length row ≡ length l) r.bits) e (recursion_from_All (λ row. length row ≡ length r.columns) r.bits h)
+
+-- a design has too many channels, but for want of memory
+pub net_fails : (d : Design) (e : NetFault) → (e ≡ net.Memory) ⊎ ((channels : List Channel) × IsGraphOf d channels × (16384 < length channels) × (e ≡ net.TooManyChannels (length channels))) → FailsNet d (stop_of_net e)
+net_fails d e (inl m) = subst (λ f. FailsNet d (stop_of_net f)) (sym m) tt
+net_fails d e (inr h) = subst (λ f. FailsNet d (stop_of_net f)) (sym h.3) (record { channels = h.0; graph = h.1; many = h.2; told = refl })

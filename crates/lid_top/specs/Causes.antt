@@ -1,8 +1,7 @@
 -- Why a run does not end with its whole output: the cause that a value of the program tells.
 use Rattle.std.specs.Prelude.{◌≡◌, ℕ, List, Option}
 use Rattle.lid_base.specs.Outside.{Rose}
-use Rattle.lid_top.specs.declared.fault.Refusal.{Refusal}
-use Rattle.lid_top.specs.declared.fault.Refusal.TheVariants.{Blif, Check, Rows}
+use Rattle.lid_refusals.specs.declared.refusal.Refusal.TheVariants.{Blif, Check, Net, Rows}
 use Rattle.lid_top.specs.declared.fault.Stop.{Stop}
 use Rattle.lid_top.specs.declared.fault.Stop.TheVariants.{Refused, Read, Memory, Denied}
 use Rattle.lid_top.specs.declared.fault.End.{End}
@@ -14,13 +13,11 @@ use Rattle.lid_texts.specs.declared.rows.VecFault.TheVariants as rows
 use Rattle.lid_design.specs.declared.Design.{Design}
 use Rattle.lid_rules.specs.declared.fault.CheckFault.{CheckFault}
 use Rattle.lid_rules.specs.declared.fault.CheckFault.TheVariants as check
-use Rattle.lid_top.specs.Faults.{blif_line, rows_line, check_line, read_line, write_line, memory_line, denied_line}
-use Rattle.lid_top.specs.Scripts.{refuses, denies, Script, Reading, good, bad, IsFetched, IsUnchecked, EndsIn, Reaches}
-
-abbrev pub refusal_line : Refusal → List ℕ
-refusal_line (Blif fault) = blif_line fault
-refusal_line (Check fault) = check_line fault
-refusal_line (Rows fault) = rows_line fault
+use Rattle.lid_channels.specs.declared.fault.NetFault.{NetFault}
+use Rattle.lid_channels.specs.declared.fault.NetFault.TheVariants as net
+use Rattle.lid_refusals.specs.Faults.{read_line, write_line, memory_line, denied_line}
+use Rattle.lid_refusals.specs.Refusals.{refusal_line}
+use Rattle.lid_top.specs.Scripts.{refuses, denies, Script, Reading, good, bad, IsFetched, IsUnchecked, IsOverfull, EndsIn, Reaches}
 
 -- a fault that is want of memory is no refusal
 abbrev pub stop_of_blif : BlifFault → Stop
@@ -34,6 +31,10 @@ stop_of_rows fault = Refused (Rows fault)
 abbrev pub stop_of_check : CheckFault → Stop
 stop_of_check check.Memory = Memory
 stop_of_check fault = Refused (Check fault)
+
+abbrev pub stop_of_net : NetFault → Stop
+stop_of_net net.Memory = Memory
+stop_of_net fault = Refused (Net fault)
 
 -- only memory was wanting
 abbrev pub IsWant : Stop → Type 0
@@ -56,6 +57,10 @@ Declines reading = Refuses (λ line. reading ≡ bad line)
 -- why a design is not accepted
 abbrev pub FailsCheck : Option (List ℕ) → Design → Stop → Type 0
 FailsCheck root d = Refuses (IsUnchecked root d)
+
+-- why a design has no system
+abbrev pub FailsNet : Design → Stop → Type 0
+FailsNet d = Refuses (IsOverfull d)
 
 -- why a file is not fetched
 abbrev pub MissesFile : List ℕ → (List ℕ → ℕ) → (List ℕ → ℕ) → Stop → Type 0

@@ -1,6 +1,5 @@
 pub mod Causes
-pub mod Faults
 pub mod Outputs
+pub mod Reported
 pub mod Scripts
 pub mod Statuses
-pub mod Told

@@ -1,11 +1,19 @@
 -- The text that a command writes, as a relation of the values that it reads.
-use Rattle.std.specs.Prelude.{◌≡◌, ℕ, Bool, List}
+use Rattle.std.specs.Prelude.{◌≡◌, ℕ, Bool, List, [], length, map, slice_get}
+use Rattle.std.specs.Option.{option_map_or}
 use Rattle.lid_design.specs.declared.Design.{Design}
-use Rattle.lid_design.specs.Columns.{root_outputs, IsStrictOutput}
+use Rattle.lid_design.specs.Columns.{root_inputs, root_outputs, IsStrictOutput}
+use Rattle.lid_design.specs.Loops.{pearls}
+use Rattle.lid_design.specs.Elaboration.{count_latches, count_defaulted}
+use Rattle.lid_system.specs.declared.Channel.{Channel}
 use Rattle.lid_texts.specs.RowsText.{rows_text}
+use Rattle.lid_reports.specs.declared.report.Report.{Report}
+use Rattle.lid_reports.specs.declared.report.ChannelLine.{ChannelLine}
+use Rattle.lid_reports.specs.Runs.{report_text}
 
 -- what a command tells
 pub data Output : Type 0 where
+  report : Design → List Channel → Output  -- the counts of a design, and the channels of its system
   strict_output : Design → List (List Bool) → Output  -- the strict outputs of a design for rows
 
 -- `strict` writes the strict output rows. There is a strict table, and every one gives these bits
@@ -14,6 +22,27 @@ pub record IsStrictText (d : Design) (rows : List (List Bool)) (text : List ℕ)
   pub strict : IsStrictOutput d rows outs
   pub written : text ≡ rows_text (root_outputs d) outs
 
+-- what is told of a channel: the nodes that it joins, its piece, and how many ports it carries
+abbrev pub channel_line : Channel → ChannelLine
+channel_line c = record { from = c.from; to = c.to; piece = c.piece; ports = length c.ports }
+
+-- the name of the root
+abbrev pub root_name : Design → List ℕ
+root_name d = option_map_or (λ m. m.name) (slice_get d.models d.root) []
+
+-- what is told of a design with these channels
+abbrev pub report_of : Design → List Channel → Report
+report_of d channels = record {
+  root = root_name d;
+  shells = length (pearls d);
+  inputs = length (root_inputs d);
+  outputs = length (root_outputs d);
+  latches = count_latches d;
+  defaulted = count_defaulted d;
+  channels = map channel_line channels;
+}
+
 -- the texts of an output
 abbrev pub IsTextOf : Output → List ℕ → Type 0
+IsTextOf (report d channels) text = text ≡ report_text (report_of d channels)
 IsTextOf (strict_output d rows) text = IsStrictText d rows text

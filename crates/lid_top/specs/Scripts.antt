@@ -9,14 +9,17 @@ use Rattle.lid_blif.specs.Designs.{design_of}
 use Rattle.lid_blif.specs.Faults.{blif_fault}
 use Rattle.lid_rules.specs.declared.fault.CheckFault.{CheckFault}
 use Rattle.lid_check.specs.Acceptance.{with_root, IsAccepted, IsRefused}
+use Rattle.lid_system.specs.declared.Channel.{Channel}
+use Rattle.lid_channels.specs.declared.fault.NetFault.TheVariants.{TooManyChannels}
+use Rattle.lid_net.specs.Graphs.{IsGraphOf}
 use Rattle.lid_texts.specs.declared.rows.Rows.{Rows}
 use Rattle.lid_texts.specs.declared.rows.VecFault.{VecFault}
 use Rattle.lid_texts.specs.declared.rows.VecFault.TheVariants.{Changed}
 use Rattle.lid_texts.specs.Rows.{rows_reading}
 use Rattle.lid_cli.specs.declared.job.Job.{Job}
-use Rattle.lid_cli.specs.declared.job.Job.TheVariants.{Strict}
-use Rattle.lid_top.specs.Faults.{blif_line, rows_line, check_line}
-use Rattle.lid_top.specs.Outputs.{Output, strict_output}
+use Rattle.lid_cli.specs.declared.job.Job.TheVariants.{Check, Strict}
+use Rattle.lid_refusals.specs.Faults.{blif_line, rows_line, check_line, net_line}
+use Rattle.lid_top.specs.Outputs.{Output, strict_output, report}
 
 -- what a reading makes of a value
 pub data Reading (A : Type 0) : Type 0 where
@@ -123,16 +126,41 @@ pub record IsUnchecked (root : Option (List ℕ)) (d : Design) (line : List ℕ)
 abbrev pub check_step : Option (List ℕ) → Design → (Design → Script) → Script
 check_step root d next = decide (IsChecked root d) (IsUnchecked root d) next
 
+-- the channels of a design, which are not too many
+pub record HasChannels (d : Design) (channels : List Channel) : Type 0 where
+  pub graph : IsGraphOf d channels
+  pub few : length channels ≤ 16384
+
+-- the channels of a design are too many, and told so
+pub record IsOverfull (d : Design) (line : List ℕ) : Type 0 where
+  pub channels : List Channel
+  pub graph : IsGraphOf d channels
+  pub many : 16384 < length channels
+  pub told : line ≡ net_line (TooManyChannels (length channels))
+
+-- the system of an accepted design is built, which has these channels
+abbrev pub net_step : Design → (List Channel → Script) → Script
+net_step d next = decide (HasChannels d) (IsOverfull d) next
+
+-- `check` of an accepted design: its system is built, and told
+unfoldable pub report_script : Design → Script
+report_script d = net_step d (λ channels. end (gives (report d channels)))
+
+-- `check`: the netlist is fetched, read and checked
+unfoldable pub check_script : List ℕ → Option (List ℕ) → Script
+check_script net root = read_step net net_limit net_reading (λ d. check_step root d report_script)
+
 -- `strict` of a design: it is checked first
-unfoldable pub check_script : Design → List ℕ → Option (List ℕ) → Script
-check_script d vec root = check_step root d (λ checked. rows_script checked vec)
+unfoldable pub checked_script : Design → List ℕ → Option (List ℕ) → Script
+checked_script d vec root = check_step root d (λ checked. rows_script checked vec)
 
 -- `strict`: the netlist is fetched, read and checked, and then the rows are fetched and read
 unfoldable pub strict_script : List ℕ → List ℕ → Option (List ℕ) → Script
-strict_script net vec root = read_step net net_limit net_reading (λ d. check_script d vec root)
+strict_script net vec root = read_step net net_limit net_reading (λ d. checked_script d vec root)
 
 -- the steps of a job
 abbrev pub script_of : Job → Script
+script_of (Check net root) = check_script net root
 script_of (Strict net vec root) = strict_script net vec root
 
 -- the script ends so for some bytes of its files, those told where they are told

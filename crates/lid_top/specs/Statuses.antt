@@ -2,15 +2,11 @@
 use Rattle.std.specs.Prelude.{◌≡◌, ◌≢◌, ℕ, ◌≤◌, Bool, true, false, List, Option, None, IsSome, IfSome, ◌⊎◌}
 use Rattle.lid_base.specs.Outside.{Rose, Appended, AppendedPrefix}
 use Rattle.lid_cli.specs.declared.job.Job.{Job}
-use Rattle.lid_cli.specs.declared.job.Job.TheVariants.{Strict}
-use Rattle.lid_top.specs.Faults.{usage_line, read_line, write_line, memory_line, denied_line}
+use Rattle.lid_cli.specs.declared.job.Job.TheVariants.{Check, Strict}
+use Rattle.lid_refusals.specs.Saying.{Says}
+use Rattle.lid_refusals.specs.Faults.{usage_line, read_line, write_line, memory_line, denied_line}
 use Rattle.lid_top.specs.Outputs.{Output, IsTextOf}
 use Rattle.lid_top.specs.Scripts.{Ending, refuses, denies, gives, Script, EndsIn, Reaches, script_of}
-
--- a line was written, or the sink's count rose and a prefix of the line was written
-abbrev pub Says : {E : Type 0} → (E → Option (List ℕ)) → (E → ℕ) → E → E → List ℕ → Type 0
-Says written faults old new line =
-    Appended (written old) (written new) line ⊎ (Rose (faults old) (faults new) × AppendedPrefix (written old) (written new) line)
 
 -- a text that the script may end in
 pub record HasText (held : List ℕ → Option (List ℕ)) (script : Script) (text : List ℕ) : Type 0 where
@@ -65,6 +61,7 @@ pub record IsStatusOf (held : List ℕ → Option (List ℕ)) (script : Script) 
 
 -- whether a job writes while it runs, before its output is whole: of all commands `clock` alone will
 abbrev pub writes_early : Job → Bool
+writes_early (Check net root) = false
 writes_early (Strict net vec root) = false
 
 -- what stands in the output where it is not whole: what stood there before, but for a job that writes

@@ -1,25 +1,15 @@
 //! Why a run ends with another status than 0, and the line that says so.
 
 ghost use Rattle.std.specs.Prelude.{◌≡◌};
-ghost use Rattle.lid_top.specs.Statuses.{Says};
-ghost use Rattle.lid_top.specs.Faults.{usage_line, read_line, write_line, memory_line, denied_line};
-ghost use Rattle.lid_top.specs.Causes.{refusal_line, stop_status, stop_line, end_status, end_line, stop_of_blif, stop_of_rows, stop_of_check};
+ghost use Rattle.lid_refusals.specs.Saying.{Says};
+ghost use Rattle.lid_top.specs.Causes.{stop_status, stop_line, end_status, end_line, stop_of_blif, stop_of_rows, stop_of_check, stop_of_net};
 
-use crate::saying::{say, say_told};
-use crate::told::{told_of_blif, told_of_check, told_of_rows};
 use lid_base::Sink;
 use lid_blif::BlifFault;
 use lid_check::CheckFault;
-use lid_io::Word;
+use lid_net::NetFault;
+use lid_refusals::{Refusal, say_denied, say_memory, say_read, say_refusal, say_write};
 use lid_texts::VecFault;
-
-/// Why a reading or a check refuses.
-#[derive(Drop)]
-pub enum Refusal {
-    Blif(BlifFault),
-    Check(CheckFault),
-    Rows(VecFault),
-}
 
 /// Why the output of a job is not known.
 #[derive(Drop)]
@@ -71,57 +61,14 @@ pub fn check_stop<'a>(fault: CheckFault) -> Stop<'a>
     }
 }
 
-/// Says the line of a refusal.
-fn say_refusal<E: Sink>(err: &mut E, refusal: &Refusal)
-    ensures { Says E.written E.faults err.old err.new (refusal_line refusal.now) }
+/// Why a design has no system.
+pub fn net_stop<'a>(fault: NetFault) -> Stop<'a>
+    ensures { result ≡ stop_of_net fault }
 {
-    match refusal {
-        Refusal::Blif(fault) => say_told(err, "blif", told_of_blif(*fault)),
-        Refusal::Check(fault) => say_told(err, "check", told_of_check(fault)),
-        Refusal::Rows(fault) => say_told(err, "rows", told_of_rows(*fault)),
+    match fault {
+        NetFault::Memory => Stop::Memory,
+        _ => Stop::Refused(Refusal::Net(fault)),
     }
-}
-
-/// Says that the words are no job.
-pub fn say_usage<E: Sink>(err: &mut E)
-    ensures { Says E.written E.faults err.old err.new usage_line }
-{
-    say(err, &[Word::Text("usage")]);
-}
-
-/// Says which file could not be read.
-fn say_read<E: Sink>(err: &mut E, file: &str)
-    ensures { Says E.written E.faults err.old err.new (read_line file.now) }
-{
-    say(err, &[Word::Text("read"), Word::Text(file)]);
-}
-
-/// Says that the output could not be written.
-fn say_write<E: Sink>(err: &mut E)
-    ensures { Says E.written E.faults err.old err.new write_line }
-{
-    say(err, &[Word::Text("write")]);
-}
-
-/// Says that there was no memory.
-pub fn say_memory<E: Sink>(err: &mut E)
-    ensures { Says E.written E.faults err.old err.new memory_line }
-{
-    say(err, &[Word::Text("memory")]);
-}
-
-/// Says that the certificate is none of the graph.
-fn say_denied<E: Sink>(err: &mut E)
-    ensures { Says E.written E.faults err.old err.new denied_line }
-{
-    say(
-        err,
-        &[
-            Word::Text("not"),
-            Word::Text("a"),
-            Word::Text("certificate"),
-        ],
-    );
 }
 
 /// Says why there is no output, and answers the status.

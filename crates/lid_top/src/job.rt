@@ -6,6 +6,7 @@ ghost use Rattle.lid_top.specs.Scripts.{script_of};
 ghost use Rattle.lid_top.specs.Causes.{IsCause, IsEnd, IsStopped, IsRefusal};
 ghost use Rattle.lid_top.specs.Statuses.{HasText, Writes, WritesPrefix, TellsAll, Leaves, writes_early};
 
+use crate::check::check_text;
 use crate::fault::{End, Stop};
 use crate::strict::strict_text;
 use lid_base::{Gate, Shelf, Sink, SinkFailed};
@@ -24,6 +25,7 @@ fn text_of<'a, S: Shelf>(alloc: Global, shelf: &mut S, job: &'a Job) -> Result<V
     ensures grows { (q : List ℕ) → S.faults shelf.old q ≤ S.faults shelf.new q }
 {
     match job {
+        Job::Check { net, root } => check_text(alloc, shelf, net.as_str(), root),
         Job::Strict { net, vec, root } => {
             strict_text(alloc, shelf, net.as_str(), vec.as_str(), root)
         }
@@ -104,6 +106,6 @@ where
 {
     let _ = gate;
     match job {
-        Job::Strict { .. } => run_whole(rt.alloc(), job, shelf, out),
+        Job::Check { .. } | Job::Strict { .. } => run_whole(rt.alloc(), job, shelf, out),
     }
 }

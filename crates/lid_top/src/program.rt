@@ -3,12 +3,13 @@
 ghost use Rattle.std.specs.Prelude.{◌≡◌, ◌⊎◌, None, IfOk, IfErr};
 ghost use Rattle.std.specs.Process.{exit_status};
 ghost use Rattle.lid_cli.specs.Jobs.{job_of};
-ghost use Rattle.lid_top.specs.Faults.{usage_line, memory_line};
-ghost use Rattle.lid_top.specs.Statuses.{Says, Run};
+ghost use Rattle.lid_refusals.specs.Faults.{usage_line, memory_line};
+ghost use Rattle.lid_refusals.specs.Saying.{Says};
+ghost use Rattle.lid_top.specs.Statuses.{Run};
 
-use crate::fault::{say_memory, say_usage};
 use crate::top::lid_run;
 use lid_base::{OpenGate, Shelf, Sink, Text};
+use lid_refusals::{say_memory, say_usage};
 use std::io;
 use std::process::ExitCode;
 use std::thread::Threads;

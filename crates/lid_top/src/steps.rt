@@ -4,14 +4,17 @@ ghost use Rattle.std.specs.Prelude.{◌≡◌, ℕ, ◌^◌, ◌<◌, ◌≤◌,
 ghost use Rattle.std.specs.List.{AllByRecursion};
 ghost use Rattle.lid_design.specs.Columns.{root_inputs};
 ghost use Rattle.lid_design.specs.WellFormed.{IsWellFormed};
-ghost use Rattle.lid_top.specs.Scripts.{IsFetched, good, net_limit, rows_limit, net_reading, vec_reading, IsChecked};
-ghost use Rattle.lid_top.specs.Causes.{Declines, MissesFile, Got, Misses, FailsCheck};
+ghost use Rattle.lid_system.specs.Systems.{IsWellFormed as IsSystem};
+ghost use Rattle.lid_top.specs.Scripts.{IsFetched, good, net_limit, rows_limit, net_reading, vec_reading, IsChecked, HasChannels};
+ghost use Rattle.lid_top.specs.Causes.{Declines, MissesFile, Got, Misses, FailsCheck, FailsNet};
 
-use crate::fault::{Stop, blif_stop, check_stop, rows_stop};
+use crate::fault::{Stop, blif_stop, check_stop, net_stop, rows_stop};
 use lid_base::{Name, Shelf};
 use lid_check::{Checked, check};
 use lid_design::Design;
 use lid_io::{FetchFault, fetch_all};
+use lid_net::build;
+use lid_system::System;
 use lid_texts::{Rows, read_rows};
 use std::alloc::Global;
 
@@ -114,5 +117,17 @@ pub fn accept<'a>(alloc: Global, design: Design, root: &Option<Name>) -> Result<
     match check(alloc, design, root.as_ref()) {
         Ok(checked) => Ok(checked),
         Err(fault) => Err(check_stop(fault)),
+    }
+}
+
+/// Builds the system of an accepted design.
+pub fn build_system<'a>(alloc: Global, checked: &Checked) -> Result<System, Stop<'a>>
+    ensures formed { IfOk result IsSystem }
+    ensures ok { IfOk result (λ system. HasChannels checked.now system.channels) }
+    ensures err { IfErr result (FailsNet checked.now) }
+{
+    match build(alloc, checked) {
+        Ok(system) => Ok(system),
+        Err(fault) => Err(net_stop(fault)),
     }
 }

@@ -3,7 +3,7 @@
 ghost use Rattle.std.specs.Prelude.{◌≡◌, ℕ, ◌≤◌, List, IfOk, IfErr};
 ghost use Rattle.lid_design.specs.WellFormed.{IsWellFormed};
 ghost use Rattle.lid_top.specs.Outputs.{IsStrictText};
-ghost use Rattle.lid_top.specs.Scripts.{rows_script, check_script, strict_script};
+ghost use Rattle.lid_top.specs.Scripts.{rows_script, checked_script, strict_script};
 ghost use Rattle.lid_top.specs.Causes.{IsCause, IsWant};
 ghost use Rattle.lid_top.specs.Statuses.{HasText};
 
@@ -58,8 +58,8 @@ fn checked_text<'a, S: Shelf>(
     root: &Option<Name>,
 ) -> Result<Vec<u8>, Stop<'a>>
     requires { IsWellFormed design }
-    ensures ok { IfOk result (λ text. HasText (S.held shelf.old) (check_script design vec.now root.now) text.items) }
-    ensures err { IfErr result (IsCause (S.held shelf.old) (check_script design vec.now root.now) (S.faults shelf.old) (S.faults shelf.new)) }
+    ensures ok { IfOk result (λ text. HasText (S.held shelf.old) (checked_script design vec.now root.now) text.items) }
+    ensures err { IfErr result (IsCause (S.held shelf.old) (checked_script design vec.now root.now) (S.faults shelf.old) (S.faults shelf.new)) }
     ensures kept { S.held shelf.new ≡ S.held shelf.old }
     ensures grows { (q : List ℕ) → S.faults shelf.old q ≤ S.faults shelf.new q }
 {

@@ -2,7 +2,7 @@
 
 ghost use Rattle.std.specs.List.{All};
 ghost use Rattle.lid_cert.specs.Certificates.{AreLists};
-ghost use Rattle.lid_rate.specs.Rates.{IsRateable};
+ghost use Rattle.lid_graph.specs.Rateable.{IsRateable};
 
 use crate::tests::designs::{DIAMOND, Station, are_large, graph_of};
 use crate::tests::rate::{certified, is_taken};

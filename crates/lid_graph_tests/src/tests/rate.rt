@@ -3,7 +3,7 @@
 ghost use Rattle.std.specs.Prelude.{IfOk, IfSome, IsTrue};
 ghost use Rattle.std.specs.List.{All};
 ghost use Rattle.lid_cert.specs.Certificates.{AreLists};
-ghost use Rattle.lid_rate.specs.Rates.{IsRateable};
+ghost use Rattle.lid_graph.specs.Rateable.{IsRateable};
 
 use crate::tests::designs::{DIAMOND, RING, Station, are, are_large, graph_of};
 use crate::tests::walks::rate_at;

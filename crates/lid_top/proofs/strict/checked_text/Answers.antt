@@ -1,11 +1,11 @@
 use Rattle.lid_design.specs.declared.Design.{Design}
-use Rattle.lid_top.specs.Scripts.{Script, check_script, rows_script}
+use Rattle.lid_top.specs.Scripts.{Script, checked_script, rows_script}
 use Rattle.lid_base.proofs.Results.{if_ok, if_err}
 use Rattle.lid_top.proofs.Composition.{text_checked, cause_checked, cause_unchecked}
 use Rattle.lid_top.proofs.strict.checked_text.Goals as goal
 
 pub returns-in-Ok-clause-ok : goal.returns-in-Ok-clause-ok
-unfolding check_script
+unfolding checked_script
 returns-in-Ok-clause-ok g c =
     let next : Design → Script = λ checked. rows_script checked c.args.vec.now in
     if_ok c.rows_text.result
@@ -13,7 +13,7 @@ returns-in-Ok-clause-ok g c =
     c.rows_text.ensures.ok
 
 pub returns-in-Ok-clause-err : goal.returns-in-Ok-clause-err
-unfolding check_script
+unfolding checked_script
 returns-in-Ok-clause-err g c =
     let next : Design → Script = λ checked. rows_script checked c.args.vec.now in
     let before = g.S.Shelf.faults c.args.shelf.now in
@@ -23,7 +23,7 @@ returns-in-Ok-clause-err g c =
     c.rows_text.ensures.err
 
 pub returns-in-Err-clause-err : goal.returns-in-Err-clause-err
-unfolding check_script
+unfolding checked_script
 returns-in-Err-clause-err g c =
     cause_unchecked (g.S.Shelf.held c.args.shelf.now) c.args.root.now c.args.design (λ checked. rows_script checked c.args.vec.now) (g.S.Shelf.faults c.args.shelf.now)
     (g.S.Shelf.faults c.args.shelf.now) c.in-Err.stop c.in-Err.ensures.err

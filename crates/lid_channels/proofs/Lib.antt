@@ -1,0 +1,4 @@
+pub mod Cutting
+pub mod Ordering
+pub mod Naming
+pub mod Once

@@ -1,0 +1,4 @@
+pub mod Rising
+pub mod Held
+pub mod Walking
+pub mod Alive

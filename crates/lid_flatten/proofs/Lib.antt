@@ -1,0 +1,4 @@
+pub mod Lists
+pub mod Nets
+pub mod Rules
+pub mod Looping

@@ -1,0 +1,85 @@
+//! One step back from a column.
+
+ghost use Rattle.std.specs.Prelude.{◌≡◌, [], ◌∷◌, length};
+ghost use Rattle.lid_cover.specs.Cover.{IsCover};
+ghost use Rattle.lid_elab.specs.Covers.{no_cover};
+ghost use Rattle.lid_flatten.specs.Parts.{HasCover};
+ghost use Rattle.lid_leads.specs.Steps.{passes_on, cover_step, step_from};
+
+use crate::origin::Origin;
+use lid_cover::{Cover, eval};
+use lid_design::Design;
+use lid_elab::{ColumnDriver, cover_at};
+
+/// One step back from a column.
+#[derive(Clone, Copy)]
+pub enum Step {
+    /// It is led back to this.
+    Ends(Origin),
+    /// It is led back to where the column of this number is led back to.
+    Passes(u32),
+    /// It is led back to nothing.
+    Stops,
+}
+
+/// The step back from what is driven so; `none` is a cover without inputs and rows.
+pub(crate) fn step_of(design: &Design, none: &Cover, driver: &ColumnDriver) -> Step
+    requires none { none.now ≡ no_cover }
+    requires cover { HasCover design.now driver.now }
+    ensures { result ≡ step_from design.now driver.now }
+{
+    match driver {
+        ColumnDriver::Input(place) => Step::Ends(Origin::Port {
+            node: 0,
+            place: *place,
+        }),
+        ColumnDriver::Latch { .. } => Step::Stops,
+        ColumnDriver::Cover {
+            model,
+            cell,
+            inputs,
+        } => {
+            let cover = cover_at(design, *model, *cell).unwrap_or(none);
+            step_through(cover, inputs.as_slice())
+        }
+        ColumnDriver::Connection(other) => Step::Passes(*other),
+    }
+}
+
+/// The step back through a cover: to its value where it is a constant, and to its input where it is a
+/// buffer.
+fn step_through(cover: &Cover, inputs: &[u32]) -> Step
+    requires rules { IsCover cover.now }
+    requires inputs { cover.now.inputs ≡ length inputs.now }
+    ensures { result ≡ cover_step cover.now inputs.now }
+{
+    match inputs {
+        [] => Step::Ends(Origin::Const(eval(cover, 0))),
+        [input] => step_past(cover, *input),
+        _ => Step::Stops,
+    }
+}
+
+/// The step back through a cover of one input.
+fn step_past(cover: &Cover, input: u32) -> Step
+    requires rules { IsCover cover.now }
+    requires inputs { cover.now.inputs ≡ 1 }
+    ensures { result ≡ cover_step cover.now (input ∷ []) }
+{
+    if is_buffer(cover) {
+        Step::Passes(input)
+    } else {
+        Step::Stops
+    }
+}
+
+/// Whether a cover of one input has its value.
+fn is_buffer(cover: &Cover) -> bool
+    requires rules { IsCover cover.now }
+    requires inputs { cover.now.inputs ≡ 1 }
+    ensures { result ≡ passes_on cover.now }
+{
+    let zero = eval(cover, 0);
+    let one = eval(cover, 1);
+    !zero && one
+}

@@ -1,0 +1,4 @@
+pub mod Marks
+pub mod Reads
+pub mod Nodes
+pub mod Graphs

@@ -1,0 +1,38 @@
+//! The ports of shells, marked among columns.
+
+ghost use Rattle.std.specs.Prelude.{◌≡◌, ◌<◌, ◌≤◌, ◌+◌, length, map, Option, None};
+ghost use Rattle.std.specs.List.{AllByRecursion};
+ghost use Rattle.lid_leads.specs.declared.origin.Origin.{Origin};
+ghost use Rattle.lid_net.specs.Marks.{part_outs, Marks, MarksAll};
+
+use crate::part::Part;
+use lid_leads::Origin;
+
+/// Marks the ports of each shell, the first of which is node 1. Where a column is more than one port,
+/// the last counts.
+pub(crate) fn mark_ports(parts: &[Part], origins: &mut [Option<Origin>])
+    requires few { length parts.now ≤ 4096 }
+    requires below { AllByRecursion (λ part. AllByRecursion (λ k. k < length origins.old) (part_outs part)) parts.now }
+    requires narrow { AllByRecursion (λ part. length (part_outs part) ≤ 1048576) parts.now }
+    ensures size { length origins.new ≡ length origins.old }
+    ensures marks { MarksAll 1 (map part_outs parts.now) origins.old origins.new }
+{
+    for i in 0..parts.len() {
+        mark_outs(i as u32 + 1, parts[i].outs.as_slice(), origins);
+    }
+}
+
+/// Marks the ports of one node.
+fn mark_outs(node: u32, outs: &[u32], origins: &mut [Option<Origin>])
+    requires below { AllByRecursion (λ k. k < length origins.old) outs.now }
+    requires narrow { length outs.now ≤ 1048576 }
+    ensures size { length origins.new ≡ length origins.old }
+    ensures marks { Marks node outs.now origins.old origins.new }
+{
+    for place in 0..outs.len() {
+        origins[outs[place] as usize] = Some(Origin::Port {
+            node,
+            place: place as u32,
+        });
+    }
+}

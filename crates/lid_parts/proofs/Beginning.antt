@@ -1,0 +1,179 @@
+-- The columns of a pearl begin with those of its data inputs and of its outputs.
+use Rattle.std.proofs.Common.{◌≡◌, ◌⊎◌, ℕ, zero, suc, ◌+◌, ◌<◌, ◌≤◌, ◌==◌, Bool, true, false, not, ◌&&◌, ◌||◌, cond, List, [], ◌∷◌, ◌++◌, length, map, filter, Option, Some, None, option_and_then, slice_get, inl, inr, refl, sym, ◌∙◌, ap, subst, arith}
+use Rattle.std.specs.Option.{option_map_or}
+use Rattle.std.specs.List.{flat_map, count_by, enumerate_from}
+use Rattle.std.specs.Str.{bytes_eq}
+use Rattle.std.proofs.lemmas.Bool.{ltb-false, ltb-true}
+use Rattle.std.proofs.lemmas.List.{map-append}
+use Rattle.lid_base.specs.Lists.{Among}
+use Rattle.lid_base.proofs.Lists.{among_left, among_right, among_append, filter_among, same_bytes, bytes_same}
+use Rattle.lid_design.specs.declared.Design.{Design}
+use Rattle.lid_design.specs.declared.Model.{Model}
+use Rattle.lid_design.specs.Columns.{Column, column, is_among, is_clock, data_inputs}
+use Rattle.lid_design.specs.Models.{cell_names, actual_names, occurrences, firsts, nets, insts_of, number_named, IsReached, is_twice, data_inputs_of}
+use Rattle.lid_design.specs.Elaboration.{instance, model_nets, columns_at}
+use Rattle.lid_rules.specs.Conditions.{is_duplicate, duplicate_in, duplicate_name, unknown_model}
+use Rattle.lid_rules.specs.Acceptance.{ModelsPass, fault_before_recursion}
+use Rattle.lid_hierarchy.proofs.Listing.{firsts_filter}
+use Rattle.lid_wiring.specs.Judged.{IsJudged}
+use Rattle.lid_wiring.proofs.Names.{from_among, none_found, count-cons, count_some}
+use Rattle.lid_wiring.proofs.Passing.{or_none, none_told, map_none}
+use Rattle.lid_wiring.proofs.Wired.{output_read, read_is_net, net_free}
+use Rattle.lid_elab.specs.Numbers.{columns_in}
+use Rattle.lid_elab.proofs.Numbering.{columns_step, block}
+
+-- no name stands twice
+abbrev pub AreApart : List (List ℕ) → Type 0
+AreApart [] = Unit {0}
+AreApart (x ∷ xs) = (Among x xs → ⊥) × AreApart xs
+
+counted : (x : List ℕ) (xs : List (List ℕ)) → count_by (bytes_eq x) (x ∷ xs) ≡ 1 + count_by (bytes_eq x) xs
+counted x xs = count-cons x x xs ∙ ap (λ (b : Bool). cond b 1 0 + count_by (bytes_eq x) xs) (bytes_same x x refl)
+
+not_later : (x : List ℕ) (xs : List (List ℕ)) → is_twice (x ∷ xs) x ≡ false → Among x xs → ⊥
+not_later x xs h among =
+    let some = count_some x xs (from_among x xs among) in
+    let whole = counted x xs in
+    let few = ltb-false 1 _ h in
+    omega arith
+
+later_once : (x z : List ℕ) (xs : List (List ℕ)) → is_twice (x ∷ xs) z ≡ false → is_twice xs z ≡ false
+later_once x z xs h = by (is_twice xs z) refl
+  where
+    by : (b : Bool) → is_twice xs z ≡ b → is_twice xs z ≡ false
+    by false e = e
+    by true e =
+        let many = ltb-true 1 _ e in
+        let whole = count-cons z x xs in
+        let few = ltb-false 1 _ h in
+        absurd (omega arith)
+
+apart_once : (xs : List (List ℕ)) → ((x : List ℕ) → Among x xs → is_twice xs x ≡ false) → AreApart xs
+apart_once [] once = tt
+apart_once (x ∷ xs) once = (not_later x xs (once x (inl refl)), apart_once xs (λ z among. later_once x z xs (once z (inr among))))
+
+apart_filter : (p : List ℕ → Bool) (xs : List (List ℕ)) → AreApart xs → AreApart (filter p xs)
+apart_filter p [] apart = tt
+apart_filter p (x ∷ xs) apart = by (p x) (apart_filter p xs apart.1)
+  where
+    by : (b : Bool) → AreApart (filter p xs) → AreApart (cond b (x ∷ filter p xs) (filter p xs))
+    by true later = (λ among. apart.0 (filter_among p x xs among).0, later)
+    by false later = later
+
+apart_append : (xs ys : List (List ℕ)) → AreApart xs → AreApart ys → ((x : List ℕ) → Among x xs → Among x ys → ⊥) → AreApart (xs ++ ys)
+apart_append [] ys first second none = second
+apart_append (x ∷ xs) ys first second none = (
+  λ among. either (among_append x xs ys among),
+  apart_append xs ys first.1 second (λ z here there. none z (inr here) there),
+)
+  where
+    either : Among x xs ⊎ Among x ys → ⊥
+    either (inl here) = first.0 here
+    either (inr there) = none x (inl refl) there
+
+append_assoc : {A : Type 0} (xs ys zs : List A) → (xs ++ ys) ++ zs ≡ xs ++ (ys ++ zs)
+append_assoc [] ys zs = refl
+append_assoc {A} (x ∷ xs) ys zs = ap (λ (ws : List A). x ∷ ws) (append_assoc xs ys zs)
+
+filter_append : (p : List ℕ → Bool) (xs ys : List (List ℕ)) → filter p (xs ++ ys) ≡ filter p xs ++ filter p ys
+filter_append p [] ys = refl
+filter_append p (x ∷ xs) ys = by (p x) (filter_append p xs ys)
+  where
+    by : (b : Bool) → filter p (xs ++ ys) ≡ filter p xs ++ filter p ys → cond b (x ∷ filter p (xs ++ ys)) (filter p (xs ++ ys)) ≡ cond b (x ∷ filter p xs) (filter p xs) ++ filter p ys
+    by true later = ap (λ (zs : List (List ℕ)). x ∷ zs) later
+    by false later = later
+
+filter_whole : (p : List ℕ → Bool) (xs : List (List ℕ)) → ((x : List ℕ) → Among x xs → p x ≡ true) → filter p xs ≡ xs
+filter_whole p [] all = refl
+filter_whole p (x ∷ xs) all =
+    ap (λ (b : Bool). cond b (x ∷ filter p xs) (filter p xs)) (all x (inl refl))
+    ∙ ap (λ (zs : List (List ℕ)). x ∷ zs) (filter_whole p xs (λ y among. all y (inr among)))
+
+-- names that stand once and first are the first of the first places
+firsts_begin : (xs ys : List (List ℕ)) → AreApart xs → (more : List (List ℕ)) × (firsts (xs ++ ys) ≡ xs ++ more)
+firsts_begin [] ys apart = (firsts ys, refl)
+firsts_begin (x ∷ xs) ys apart =
+    let later = firsts_begin xs ys apart.1 in
+    let other : List ℕ → Bool = λ name. not (bytes_eq name x) in (
+      filter other later.0,
+      ap (λ (zs : List (List ℕ)). x ∷ filter other zs) later.1
+          ∙ ap (λ (zs : List (List ℕ)). x ∷ zs) (filter_append other xs later.0)
+          ∙ ap (λ (zs : List (List ℕ)). x ∷ (zs ++ filter other later.0)) (filter_whole other xs (λ y among. differs y among)),
+    )
+  where
+    differs : (y : List ℕ) → Among y xs → not (bytes_eq y x) ≡ true
+    differs y among = by (bytes_eq y x) refl
+      where
+        by : (b : Bool) → bytes_eq y x ≡ b → not b ≡ true
+        by false e = refl
+        by true e = absurd (apart.0 (subst (λ (z : List ℕ). Among z xs) (same_bytes y x e) among))
+
+or_none_one : (a b : Bool) → a || b ≡ false → a ≡ false
+or_none_one false b h = refl
+or_none_one true b h = absurd (let f : true ≡ false = h in cc)
+
+or_none_two : (a b : Bool) → a || b ≡ false → b ≡ false
+or_none_two false b h = h
+or_none_two true b h = absurd (let f : true ≡ false = h in cc)
+
+module _ (d : Design) (judged : IsJudged d) (k : ℕ) (reached : IsReached d k) (m : Model) (here : slice_get d.models k ≡ Some m) where
+  not_duplicate : (net : List ℕ) → Among net (occurrences m) → is_duplicate (k == d.root) m net ≡ false
+  unfolding fault_before_recursion duplicate_name
+  not_duplicate net occurs =
+      let pass = judged.pass in
+      let early = or_none (duplicate_name d pass.ks) (unknown_model d pass.ks) pass.before in
+      let among = (pass.reached.each k).1 reached in
+      let at_k = none_told (λ (k : ℕ). option_and_then (duplicate_in (k == d.root)) (slice_get d.models k)) pass.ks early.0 k among in
+      let at_m : duplicate_in (k == d.root) m ≡ None = ap (option_and_then (duplicate_in (k == d.root))) (sym here) ∙ at_k in
+      none_found (is_duplicate (k == d.root) m) (occurrences m) (map_none _ _ at_m) net occurs
+
+  inputs_apart : AreApart m.inputs
+  unfolding occurrences
+  inputs_apart = apart_once m.inputs (λ net among. or_none_one (is_twice m.inputs net) _ (not_duplicate net (among_left net _ _ (among_left net _ _ (among_left net _ _ (among_left net m.inputs m.outputs among))))))
+
+  outputs_apart : AreApart m.outputs
+  unfolding occurrences
+  outputs_apart = apart_once m.outputs (λ net among. or_none_one (is_twice m.outputs net) _ (or_none_two (is_twice m.inputs net) _ (not_duplicate net (among_left net _ _ (among_left net _ _ (among_left net _ _ (among_right net m.inputs m.outputs among)))))))
+
+  output_free : (net : List ℕ) → Among net m.outputs → not (is_clock d m net) ≡ true
+  output_free net among = ap not (net_free d judged k reached m here net (read_is_net d judged k reached m here net (output_read d judged k reached m here net among))).1
+
+  -- the nets begin with the data inputs and the outputs
+  pub nets_begin : ((net : List ℕ) → Among net (data_inputs d m) → Among net m.outputs → ⊥) → (more : List (List ℕ)) × (model_nets d k ≡ data_inputs d m ++ (m.outputs ++ more))
+  unfolding nets occurrences data_inputs
+  nets_begin none =
+      let free : List ℕ → Bool = λ net. not (is_clock d m net) in
+      let ins = data_inputs d m in
+      let cells = flat_map cell_names m.cells in
+      let bound = flat_map actual_names m.insts in
+      let after = m.clocks ++ (cells ++ bound) in
+      let whole : occurrences m ≡ (m.inputs ++ m.outputs) ++ after =
+      append_assoc ((m.inputs ++ m.outputs) ++ m.clocks) cells bound ∙ append_assoc (m.inputs ++ m.outputs) m.clocks (cells ++ bound) in
+      let kept : filter free (occurrences m) ≡ (ins ++ m.outputs) ++ filter free after =
+      ap (filter free) whole
+      ∙ filter_append free (m.inputs ++ m.outputs) after
+      ∙ ap (λ (xs : List (List ℕ)). xs ++ filter free after) (filter_append free m.inputs m.outputs ∙ ap (λ (xs : List (List ℕ)). ins ++ xs) (filter_whole free m.outputs output_free)) in
+      let begin = firsts_begin (ins ++ m.outputs) (filter free after) (apart_append ins m.outputs (apart_filter free m.inputs inputs_apart) outputs_apart none) in (
+        begin.0,
+        ap (λ (o : Option Model). option_map_or (nets d) o []) here
+            ∙ sym (firsts_filter free (occurrences m))
+            ∙ ap firsts kept
+            ∙ begin.1
+            ∙ append_assoc ins m.outputs begin.0,
+      )
+
+-- the columns in a place begin with those of its model
+pub columns_begin : (d : Design) (n : ℕ) (path : List ℕ) (k : ℕ) → (more : List Column) × (columns_in n d path k ≡ map (column path) (model_nets d k) ++ more)
+columns_begin d zero path k = ([], refl)
+columns_begin d (suc n) path k = (flat_map (block d n path) (enumerate_from 0 (insts_of d k)), columns_step d n path k)
+
+pub ports_begin : (d : Design) (n : ℕ) (path : List ℕ) (k : ℕ) (ins outs more : List (List ℕ)) → model_nets d k ≡ ins ++ (outs ++ more) → (rest : List Column) × (columns_in n d path k ≡ map (column path) ins ++ (map (column path) outs ++ rest))
+ports_begin d n path k ins outs more nets =
+    let begin = columns_begin d n path k in (
+      map (column path) more ++ begin.0,
+      begin.1
+          ∙ ap (λ (names : List (List ℕ)). map (column path) names ++ begin.0) nets
+          ∙ ap (λ (cs : List Column). cs ++ begin.0) (map-append (column path) ins (outs ++ more) ∙ ap (λ (cs : List Column). map (column path) ins ++ cs) (map-append (column path) outs more))
+          ∙ append_assoc (map (column path) ins) (map (column path) outs ++ map (column path) more) begin.0
+          ∙ ap (λ (cs : List Column). map (column path) ins ++ cs) (append_assoc (map (column path) outs) (map (column path) more) begin.0),
+    )

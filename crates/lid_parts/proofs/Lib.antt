@@ -1,0 +1,5 @@
+pub mod Inside
+pub mod Reading
+pub mod Beginning
+pub mod Assembling
+pub mod Finding

@@ -1,0 +1,132 @@
+-- The line on `err` for each cause of a status that is not 0.
+use Rattle.std.specs.Prelude.{ℕ, List, [], ◌∷◌, codes}
+use Rattle.std.specs.Fmt.{decimal}
+use Rattle.lid_base.specs.declared.which.Which.{Which}
+use Rattle.lid_base.specs.declared.which.Which.TheVariants.{FileBytes, Models, CoverRows, RootInsts, Depth, Cells, Nets, Rows, OutBits, Words, TraceCells}
+use Rattle.lid_base.specs.declared.line.TextFault.{TextFault}
+use Rattle.lid_base.specs.declared.line.TextFault.TheVariants as text
+use Rattle.lid_blif.specs.declared.fault.BlifFault.{BlifFault}
+use Rattle.lid_blif.specs.declared.fault.BlifFault.TheVariants as blif
+use Rattle.lid_texts.specs.declared.rows.VecFault.{VecFault}
+use Rattle.lid_texts.specs.declared.rows.VecFault.TheVariants as rows
+use Rattle.lid_rules.specs.declared.fault.CheckFault.{CheckFault}
+use Rattle.lid_rules.specs.declared.fault.CheckFault.TheVariants as check
+use Rattle.lid_channels.specs.declared.fault.NetFault.{NetFault}
+use Rattle.lid_channels.specs.declared.fault.NetFault.TheVariants as net
+use Rattle.lid_io.specs.Telling.{fault_line, path_text}
+
+abbrev pub which_word : Which → List ℕ
+which_word FileBytes = codes "FileBytes"
+which_word Models = codes "Models"
+which_word CoverRows = codes "CoverRows"
+which_word RootInsts = codes "RootInsts"
+which_word Depth = codes "Depth"
+which_word Cells = codes "Cells"
+which_word Nets = codes "Nets"
+which_word Rows = codes "Rows"
+which_word OutBits = codes "OutBits"
+which_word Words = codes "Words"
+which_word TraceCells = codes "TraceCells"
+
+-- the words for a refusal at a line
+abbrev pub at_line : List ℕ → ℕ → List (List ℕ)
+at_line name line = name ∷ decimal line ∷ []
+
+-- the words for a limit that is exceeded
+abbrev pub over_limit : Which → ℕ → List (List ℕ)
+over_limit which count = codes "Limit" ∷ which_word which ∷ decimal count ∷ []
+
+-- want of memory is no refusal: it has a line of its own
+abbrev pub text_words : TextFault → List (List ℕ)
+text_words (text.BadByte line) = at_line (codes "BadByte") line
+text_words (text.NameTooLong line) = at_line (codes "NameTooLong") line
+text_words text.Memory = []
+
+-- the variant and its fields; a fault of the text is told by its inner name
+abbrev pub blif_words : BlifFault → List (List ℕ)
+blif_words (blif.Text fault) = text_words fault
+blif_words (blif.NoModel line) = at_line (codes "NoModel") line
+blif_words (blif.Unsupported line) = at_line (codes "Unsupported") line
+blif_words (blif.Arity line) = at_line (codes "Arity") line
+blif_words (blif.RowOutside line) = at_line (codes "RowOutside") line
+blif_words (blif.RowShape line) = at_line (codes "RowShape") line
+blif_words (blif.MixedRows line) = at_line (codes "MixedRows") line
+blif_words (blif.LatchType line) = at_line (codes "LatchType") line
+blif_words (blif.LatchInit line) = at_line (codes "LatchInit") line
+blif_words (blif.BindShape line) = at_line (codes "BindShape") line
+blif_words (blif.DuplicateModel line) = at_line (codes "DuplicateModel") line
+blif_words (blif.TooManyInputs line) = at_line (codes "TooManyInputs") line
+blif_words (blif.Limit which count) = over_limit which count
+blif_words blif.Memory = []
+
+abbrev pub rows_words : VecFault → List (List ℕ)
+rows_words rows.Header = codes "Header" ∷ []
+rows_words (rows.Width line) = at_line (codes "Width") line
+rows_words (rows.Char line) = at_line (codes "Char") line
+rows_words (rows.Limit which count) = over_limit which count
+rows_words (rows.Changed count found) = codes "Changed" ∷ decimal count ∷ decimal found ∷ []
+rows_words rows.Memory = []
+
+-- the words for a refusal at an instance
+abbrev pub at_inst : List ℕ → List ℕ → ℕ → List ℕ → List (List ℕ)
+at_inst name model inst other = name ∷ model ∷ decimal inst ∷ other ∷ []
+
+-- the words for a refusal with two names
+abbrev pub with_names : List ℕ → List ℕ → List ℕ → List (List ℕ)
+with_names name first second = name ∷ first ∷ second ∷ []
+
+abbrev pub check_words : CheckFault → List (List ℕ)
+check_words check.NoRoot = codes "NoRoot" ∷ []
+check_words (check.DuplicateName model name) = with_names (codes "DuplicateName") model name
+check_words (check.UnknownModel model inst name) = at_inst (codes "UnknownModel") model inst name
+check_words (check.Recursive model) = codes "Recursive" ∷ model ∷ []
+check_words (check.UnknownFormal model inst formal) = at_inst (codes "UnknownFormal") model inst formal
+check_words (check.FormalTwice model inst formal) = at_inst (codes "FormalTwice") model inst formal
+check_words (check.Unbound model inst formal) = at_inst (codes "Unbound") model inst formal
+check_words (check.TwoDrivers model name) = with_names (codes "TwoDrivers") model name
+check_words (check.Undriven model name) = with_names (codes "Undriven") model name
+check_words (check.ClockUse model name) = with_names (codes "ClockUse") model name
+check_words (check.TwoClocks first second) = with_names (codes "TwoClocks") first second
+check_words (check.MixedEdges model name) = with_names (codes "MixedEdges") model name
+check_words (check.RootLogic name) = codes "RootLogic" ∷ name ∷ []
+check_words (check.Limit which count) = over_limit which count
+check_words (check.CombLoop path name) = codes "CombLoop" ∷ path_text path ∷ name ∷ []
+check_words (check.OutputFromInput model output input) = codes "OutputFromInput" ∷ model ∷ output ∷ input ∷ []
+check_words check.Memory = []
+
+abbrev pub net_words : NetFault → List (List ℕ)
+net_words (net.TooManyChannels count) = codes "TooManyChannels" ∷ decimal count ∷ []
+net_words net.Memory = []
+
+-- status 1: the stage, the variant and its fields
+abbrev pub blif_line : BlifFault → List ℕ
+blif_line fault = fault_line (codes "blif" ∷ blif_words fault)
+
+abbrev pub rows_line : VecFault → List ℕ
+rows_line fault = fault_line (codes "rows" ∷ rows_words fault)
+
+abbrev pub check_line : CheckFault → List ℕ
+check_line fault = fault_line (codes "check" ∷ check_words fault)
+
+abbrev pub net_line : NetFault → List ℕ
+net_line fault = fault_line (codes "net" ∷ net_words fault)
+
+-- status 2
+abbrev pub usage_line : List ℕ
+usage_line = fault_line (codes "usage" ∷ [])
+
+-- status 3, with the name of the file
+abbrev pub read_line : List ℕ → List ℕ
+read_line file = fault_line (codes "read" ∷ file ∷ [])
+
+-- status 4
+abbrev pub write_line : List ℕ
+write_line = fault_line (codes "write" ∷ [])
+
+-- status 5
+abbrev pub memory_line : List ℕ
+memory_line = fault_line (codes "memory" ∷ [])
+
+-- status 6
+abbrev pub denied_line : List ℕ
+denied_line = fault_line (codes "not" ∷ codes "a" ∷ codes "certificate" ∷ [])

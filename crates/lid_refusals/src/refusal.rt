@@ -1,0 +1,78 @@
+//! Why a reading, a check or a limit refuses, and the lines that say so and say the other statuses.
+
+ghost use Rattle.std.specs.Prelude.{◌≡◌};
+ghost use Rattle.lid_refusals.specs.Faults.{usage_line, read_line, write_line, memory_line, denied_line};
+ghost use Rattle.lid_refusals.specs.Refusals.{refusal_line};
+ghost use Rattle.lid_refusals.specs.Saying.{Says};
+
+use crate::saying::{say, say_told};
+use crate::told::{told_of_blif, told_of_check, told_of_net, told_of_rows};
+use lid_base::Sink;
+use lid_blif::BlifFault;
+use lid_channels::NetFault;
+use lid_io::Word;
+use lid_rules::CheckFault;
+use lid_texts::VecFault;
+
+/// Why a reading or a check refuses.
+#[derive(Drop)]
+pub enum Refusal {
+    Blif(BlifFault),
+    Check(CheckFault),
+    Net(NetFault),
+    Rows(VecFault),
+}
+
+/// Says the line of a refusal.
+pub fn say_refusal<E: Sink>(err: &mut E, refusal: &Refusal)
+    ensures { Says E.written E.faults err.old err.new (refusal_line refusal.now) }
+{
+    match refusal {
+        Refusal::Blif(fault) => say_told(err, "blif", told_of_blif(*fault)),
+        Refusal::Check(fault) => say_told(err, "check", told_of_check(fault)),
+        Refusal::Net(fault) => say_told(err, "net", told_of_net(*fault)),
+        Refusal::Rows(fault) => say_told(err, "rows", told_of_rows(*fault)),
+    }
+}
+
+/// Says that the words are no job.
+pub fn say_usage<E: Sink>(err: &mut E)
+    ensures { Says E.written E.faults err.old err.new usage_line }
+{
+    say(err, &[Word::Text("usage")]);
+}
+
+/// Says which file could not be read.
+pub fn say_read<E: Sink>(err: &mut E, file: &str)
+    ensures { Says E.written E.faults err.old err.new (read_line file.now) }
+{
+    say(err, &[Word::Text("read"), Word::Text(file)]);
+}
+
+/// Says that the output could not be written.
+pub fn say_write<E: Sink>(err: &mut E)
+    ensures { Says E.written E.faults err.old err.new write_line }
+{
+    say(err, &[Word::Text("write")]);
+}
+
+/// Says that there was no memory.
+pub fn say_memory<E: Sink>(err: &mut E)
+    ensures { Says E.written E.faults err.old err.new memory_line }
+{
+    say(err, &[Word::Text("memory")]);
+}
+
+/// Says that the certificate is none of the graph.
+pub fn say_denied<E: Sink>(err: &mut E)
+    ensures { Says E.written E.faults err.old err.new denied_line }
+{
+    say(
+        err,
+        &[
+            Word::Text("not"),
+            Word::Text("a"),
+            Word::Text("certificate"),
+        ],
+    );
+}

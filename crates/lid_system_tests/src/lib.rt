@@ -1,0 +1,5 @@
+//! Tests of tokens, over the public calls of systems.
+#![tactic(auto)]
+
+#[cfg(test)]
+mod tokens;
