@@ -9,7 +9,8 @@ use Rattle.lid_rules.specs.declared.fault.CheckFault.{CheckFault}
 use Rattle.lid_rules.specs.declared.fault.CheckFault.TheVariants.{Recursive}
 use Rattle.lid_rules.specs.Acceptance.{ModelsPass, IsModelFault, TellsRecursive, fault_before_recursion, fault_after_recursion}
 use Rattle.lid_rules.proofs.Passing.{one_list}
-use Rattle.lid_check.specs.Acceptance.{TellsLoop, StandsBefore, TellsDependence, IsAccepted, IsRefusal}
+use Rattle.lid_flaws.specs.Dependence.{TellsLoop, StandsBefore, TellsDependence}
+use Rattle.lid_check.specs.Acceptance.{IsAccepted, IsRefusal}
 
 some_one : {A : Type 0} (o : Option A) (a b : A) → o ≡ Some a → o ≡ Some b → a ≡ b
 some_one o a b h g = let e : Some a ≡ Some b = sym h ∙ g in cc

@@ -1,12 +1,6 @@
-pub mod Apart
-pub mod Assembly
-pub mod Geometry
-pub mod Leads
-pub mod Lists
-pub mod Marking
-pub mod Numbered
+pub mod Covered
 pub mod Exclusive
-pub mod Widths
+pub mod Flats
 pub mod Placing
-pub mod Blocked
-pub mod Cutting
+pub mod Refusing
+pub mod Widths

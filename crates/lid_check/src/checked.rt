@@ -12,11 +12,12 @@ ghost use Rattle.lid_check.specs.Flats.{IsFlatOf};
 ghost use Rattle.lid_check.specs.Networks.{IsNetwork};
 ghost use Rattle.lid_check.specs.Acceptance.{rooted_at, with_root, IsAccepted, IsRefused};
 
-use crate::blocks::{Block, block_of};
+use crate::blocks::Block;
 use crate::judging::{Facts, accept};
 use crate::network::Network;
 use lid_base::Name;
 use lid_design::{Design, Flat};
+use lid_flatten::flatten;
 use lid_rules::CheckFault;
 use std::alloc::{AllocError, Global};
 use std::marker::Model;
@@ -115,21 +116,21 @@ impl Checked {
     pub fn pearls(&self) -> u32
         ensures { result ≡ length (pearls self.now) }
     {
-        self.facts.pearls
+        self.facts.counts.pearls
     }
 
     /// How many latches there are, over all paths.
     pub fn latches(&self) -> u64
         ensures { result ≡ count_latches self.now }
     {
-        self.facts.latches
+        self.facts.counts.latches
     }
 
     /// How many latches begin at 0 because their first bit was left open, over all paths.
     pub fn defaulted(&self) -> u64
         ensures { result ≡ count_defaulted self.now }
     {
-        self.facts.defaulted
+        self.facts.counts.defaulted
     }
 
     /// The data inputs of the root, in order.
@@ -159,7 +160,11 @@ impl Checked {
         requires { pearl < length (pearls self.now) }
         ensures { IsBlock self.now pearl result }
     {
-        block_of(&self.facts.network.columns, pearl)
+        let part = self.facts.parts.as_slice()[pearl as usize];
+        Block {
+            start: part.start,
+            end: part.start + part.nets,
+        }
     }
 
     /// The flat part of a pearl: its columns with numbers from 0 on, and what drives each. It takes time
@@ -172,10 +177,9 @@ impl Checked {
         ensures rules { IfOk result IsFlat }
         ensures part { IfOk result (IsFlatOf self.now pearl) }
     {
-        let _ = alloc;
-        let _ = pearl;
-        let _ = &self.facts;
-        Err(AllocError)
+        let drivers = self.facts.network.columns.drivers.as_slice();
+        let part = self.facts.parts.as_slice()[pearl as usize];
+        flatten(alloc, &self.design, drivers, part)
     }
 
     /// The root.

@@ -3,12 +3,9 @@
 
 mod blocks;
 mod checked;
-mod flaws;
 mod judging;
 mod laws;
 mod network;
-mod outputs;
-mod pearls;
 
 pub use blocks::Block;
 pub use checked::{Checked, check};

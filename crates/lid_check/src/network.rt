@@ -5,9 +5,7 @@ ghost use Rattle.std.specs.Str.{bytes_eq};
 ghost use Rattle.lid_base.specs.Lists.{Among};
 ghost use Rattle.lid_design.specs.Columns.{root_outputs};
 ghost use Rattle.lid_design.specs.Elaboration.{model_nets};
-ghost use Rattle.lid_digraph.specs.Graphs.{IsOrder};
-ghost use Rattle.lid_elab.specs.Elaborations.{driver_reads};
-ghost use Rattle.lid_check.specs.Networks.{AreNumbersOf, IsNetwork};
+ghost use Rattle.lid_check.specs.Networks.{AreNumbersOf};
 
 use lid_base::{Items, Name};
 use lid_elab::{Columns, Elaboration};
@@ -24,27 +22,14 @@ pub struct Network {
     pub outputs: Items<u32>,
 }
 
-/// Keeps the columns of a design, with an order of them.
-pub(crate) fn network_of(
-    alloc: Global,
-    columns: Elaboration<'_>,
-    order: Items<u32>,
-) -> Result<Network, AllocError>
-    requires { IsOrder (map driver_reads columns.drivers) order }
-    ensures { IfOk result (IsNetwork columns.entry.design) }
-{
-    let _ = columns.judged();
-    let outputs = number_outputs(alloc, &columns)?;
-    let kept = columns.into_columns();
-    Ok(Network {
-        columns: kept,
-        order,
-        outputs,
-    })
-}
-
 /// The numbers of the columns of the root's outputs, in order.
-fn number_outputs(alloc: Global, columns: &Elaboration<'_>) -> Result<Items<u32>, AllocError>
+///
+/// # Errors
+/// Where there is no memory.
+pub(crate) fn number_outputs(
+    alloc: Global,
+    columns: &Elaboration<'_>,
+) -> Result<Items<u32>, AllocError>
     ensures { IfOk result (AreNumbersOf columns.now.design (length columns.now.drivers)) }
 {
     let judged = columns.judged();

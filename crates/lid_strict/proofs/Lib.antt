@@ -1,6 +1,5 @@
 pub mod Running
 pub mod Tables
-pub mod Covered
 pub mod Outputs
 pub mod Descent
 pub mod Levels

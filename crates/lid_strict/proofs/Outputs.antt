@@ -11,10 +11,10 @@ use Rattle.lid_design.specs.Walks.{read_now, read_before}
 use Rattle.lid_digraph.specs.Graphs.{IsOrder}
 use Rattle.lid_elab.specs.declared.driver.ColumnDriver.{ColumnDriver}
 use Rattle.lid_elab.specs.Elaborations.{shown_driver, map_driver, column_at, IsElaborated}
-use Rattle.lid_check.proofs.Numbered.{column_here}
+use Rattle.lid_flaws.proofs.Numbered.{column_here}
 use Rattle.lid_check.specs.Networks.{AreNumbersOf}
 use Rattle.lid_strict.specs.Networks.{driver_of, reads_of, HasCover, AreHeldBelow, rows_at}
-use Rattle.lid_strict.proofs.Covered.{IsCovered, all_covered}
+use Rattle.lid_check.proofs.Covered.{IsCovered, all_covered}
 use Rattle.lid_strict.proofs.Tables.{map_map, numbered, table}
 
 -- what holds of the item at each place holds of all

@@ -13,7 +13,7 @@ use Rattle.lid_design.proofs.Tables.{has_table}
 use Rattle.lid_digraph.specs.Graphs.{IsOrder}
 use Rattle.lid_digraph.proofs.Orders.{walks_end}
 use Rattle.lid_elab.specs.Elaborations.{map_driver, column_at, IsElaborated}
-use Rattle.lid_check.proofs.Numbered.{graph, graph_length, column_here, within, fed_number, walk_up, column_is}
+use Rattle.lid_flaws.proofs.Numbered.{graph, graph_length, column_here, within, fed_number, walk_up, column_is}
 use Rattle.lid_strict.specs.Networks.{driver_of}
 
 pub map_map : (f : Column → Bool) (g : ℕ → Column) (xs : List ℕ) → map f (map g xs) ≡ map (λ k. f (g k)) xs

@@ -1,0 +1,3 @@
+pub mod Dependence
+pub mod Flaws
+pub mod Pearls
