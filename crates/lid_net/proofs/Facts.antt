@@ -32,11 +32,11 @@ use Rattle.lid_elab.specs.declared.driver.ColumnDriver.TheVariants.{Input, Latch
 use Rattle.lid_elab.specs.Covers.{cover_in}
 use Rattle.lid_elab.specs.Elaborations.{shown_driver, map_driver, column_at}
 use Rattle.lid_flatten.specs.Parts.{driver_at, HasCover}
-use Rattle.lid_check.proofs.Numbered.{same_number}
+use Rattle.lid_flaws.proofs.Numbered.{same_number}
 use Rattle.lid_check.specs.Acceptance.{IsAccepted}
 use Rattle.lid_check.specs.Networks.{IsNetwork}
 use Rattle.lid_check.specs.declared.network.Network.{Network}
-use Rattle.lid_strict.proofs.Covered.{IsCovered, all_covered}
+use Rattle.lid_check.proofs.Covered.{IsCovered, all_covered}
 use Rattle.lid_leads.specs.declared.origin.Origin.{Origin}
 use Rattle.lid_system.specs.declared.Channel.{Channel}
 use Rattle.lid_system.specs.declared.InBit.{InBit}

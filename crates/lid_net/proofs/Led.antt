@@ -27,7 +27,7 @@ use Rattle.lid_flatten.specs.Standing.{PassesOn}
 use Rattle.lid_check.specs.Acceptance.{IsAccepted}
 use Rattle.lid_check.specs.Networks.{IsNetwork}
 use Rattle.lid_check.specs.declared.network.Network.{Network}
-use Rattle.lid_check.proofs.Numbered.{walk_up}
+use Rattle.lid_flaws.proofs.Numbered.{walk_up}
 use Rattle.lid_rules.specs.Conditions.{unknown_formal, formal_twice, unbound, two_drivers, undriven, clock_use, two_clocks, mixed_edges, root_logic, limits}
 use Rattle.lid_rules.specs.Acceptance.{fault_after_recursion}
 use Rattle.lid_strict.proofs.Accepted.{column_of}

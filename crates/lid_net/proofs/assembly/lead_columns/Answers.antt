@@ -6,7 +6,7 @@ use Rattle.lid_digraph.specs.Graphs.{IsOrder}
 use Rattle.lid_elab.specs.declared.driver.ColumnDriver.{ColumnDriver}
 use Rattle.lid_elab.specs.Elaborations.{driver_reads}
 use Rattle.lid_flatten.specs.Parts.{HasCover}
-use Rattle.lid_check.proofs.Numbered.{reads_shown}
+use Rattle.lid_flaws.proofs.Numbered.{reads_shown}
 use Rattle.lid_leads.specs.Steps.{AreOrigins}
 use Rattle.lid_net.proofs.Facts.{ports_once, inputs_ports, all_cover, parts_below, parts_narrow, numbers_apart, count_is}
 use Rattle.lid_net.proofs.Leading.{columns_led}
