@@ -1,0 +1,33 @@
+//! What makes a design accepted. The functions here do nothing; their contracts are laws for all designs.
+
+ghost use Rattle.std.specs.Prelude.{◌≡◌, ◌≤◌, ◌+◌, ℕ, List, [], length, Some, slice_get};
+ghost use Rattle.lid_base.specs.Lists.{Among};
+ghost use Rattle.lid_design.specs.declared.Design.{Design};
+ghost use Rattle.lid_design.specs.declared.Model.{Model};
+ghost use Rattle.lid_design.specs.declared.Inst.{Inst};
+ghost use Rattle.lid_design.specs.Loops.{HasNoLoop};
+ghost use Rattle.lid_design.specs.WellFormed.{IsWellFormed};
+ghost use Rattle.lid_design.specs.Elaboration.{count_cells, count_nets};
+ghost use Rattle.lid_rules.specs.Acceptance.{ModelsPass};
+ghost use Rattle.lid_flaws.specs.Dependence.{HasNoDependence};
+ghost use Rattle.lid_check.specs.Acceptance.{IsAccepted};
+ghost use Rattle.lid_acceptance.specs.Plain.{IsPlainPearl, IsRising, IsApart, IsPlainInst, IsPlainRoot};
+
+/// A design whose root has no instances is accepted where each net of the root is driven once, there are
+/// no clock names, covers read lower nets than they drive, a set of nets parts the inputs from the
+/// outputs, and at most 262,144 cells drive, with the inputs, at most 1,048,576 nets.
+pub fn one_model_is_accepted()
+    ensures models { (d : Design) (m : Model) → slice_get d.models d.root ≡ Some m → IsPlainPearl m → length m.cells ≤ 262144 → length m.inputs + length m.cells ≤ 1048576 → ModelsPass d }
+    ensures loops { (d : Design) (m : Model) (heights : List (List ℕ × ℕ)) → slice_get d.models d.root ≡ Some m → m.insts ≡ [] → IsRising heights m → HasNoLoop d }
+    ensures outputs { (d : Design) (m : Model) (late : List (List ℕ)) → slice_get d.models d.root ≡ Some m → m.insts ≡ [] → IsApart late m → HasNoDependence d }
+    ensures accepted { (d : Design) (m : Model) (heights : List (List ℕ × ℕ)) (late : List (List ℕ)) → slice_get d.models d.root ≡ Some m → IsPlainPearl m → IsRising heights m → IsApart late m → length m.cells ≤ 262144 → length m.inputs + length m.cells ≤ 1048576 → IsAccepted d }
+{}
+
+/// A design whose root has instances is accepted where the root and the models of its instances meet the
+/// facts of plain roots and pearls, covers read lower nets than they drive in each of these models, a set
+/// of nets parts the inputs of each model of an instance from its outputs, and no limit is exceeded.
+/// Heights and sets of nets are told for each model.
+pub fn roots_with_instances_are_accepted()
+    ensures models { (d : Design) (m : Model) (late : Model → List (List ℕ)) → IsWellFormed d → slice_get d.models d.root ≡ Some m → IsPlainRoot d m → ((inst : Inst) (sub : Model) → Among inst m.insts → IsPlainInst d inst sub → IsApart (late sub) sub) → count_cells d ≤ 262144 → count_nets d ≤ 1048576 → ModelsPass d }
+    ensures accepted { (d : Design) (m : Model) (heights : Model → List (List ℕ × ℕ)) (late : Model → List (List ℕ)) → IsWellFormed d → slice_get d.models d.root ≡ Some m → IsPlainRoot d m → IsRising (heights m) m → ((inst : Inst) (sub : Model) → Among inst m.insts → IsPlainInst d inst sub → IsRising (heights sub) sub × IsApart (late sub) sub) → count_cells d ≤ 262144 → count_nets d ≤ 1048576 → IsAccepted d }
+{}
