@@ -1,1 +1,3 @@
-
+pub mod Walking
+pub mod Edges
+pub mod Alone

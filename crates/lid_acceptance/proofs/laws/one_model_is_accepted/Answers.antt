@@ -1,0 +1,8 @@
+use Rattle.lid_acceptance.proofs.Alone.{no_loop, no_dependence}
+use Rattle.lid_acceptance.proofs.laws.one_model_is_accepted.Goals as goal
+
+pub returns-clause-loops : goal.returns-clause-loops
+returns-clause-loops c d m heights here alone rising = no_loop d m here alone heights rising
+
+pub returns-clause-outputs : goal.returns-clause-outputs
+returns-clause-outputs c d m late here alone parted = no_dependence d m here alone late parted
