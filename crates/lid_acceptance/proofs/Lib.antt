@@ -1,3 +1,5 @@
 pub mod Walking
 pub mod Edges
 pub mod Alone
+pub mod Sets
+pub mod Sound
