@@ -3,3 +3,5 @@ pub mod Edges
 pub mod Alone
 pub mod Sets
 pub mod Sound
+pub mod Nets
+pub mod Lone
