@@ -5,3 +5,4 @@ pub mod Sets
 pub mod Sound
 pub mod Nets
 pub mod Lone
+pub mod Below
