@@ -121,7 +121,7 @@ pub record IsSub (d : Design) (m : Model) (i : ℕ) (k : ℕ) : Type 0 where
   pub plain : IsPlainInst d inst sub
 
 module _ (d : Design) (formed : IsWellFormed d) (m : Model) (root : slice_get d.models d.root ≡ Some m) (plain : IsPlainRoot d m) where
-  insts_are : insts_of d d.root ≡ m.insts
+  pub insts_are : insts_of d d.root ≡ m.insts
   insts_are = ap (λ (o : Option Model). option_map_or (λ m. m.insts) o []) root
 
   pub sub_of : (i : ℕ) (inst : Inst) → slice_get m.insts i ≡ Some inst → (k : ℕ) × IsSub d m i k

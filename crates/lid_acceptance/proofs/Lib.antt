@@ -6,3 +6,5 @@ pub mod Sound
 pub mod Nets
 pub mod Lone
 pub mod Below
+pub mod Assembled
+pub mod Graph
