@@ -1,18 +1,16 @@
 -- A root without instances: each edge is a cover of the root.
-use Rattle.std.proofs.Common.{◌≡◌, ◌⊎◌, ℕ, zero, suc, ◌<◌, not, List, [], ◌∷◌, length, Option, Some, None, option_and_then, slice_get, inl, inr, refl, sym, ◌∙◌, ap, subst, arith}
+use Rattle.std.proofs.Common.{◌≡◌, ◌⊎◌, ℕ, zero, suc, not, List, [], ◌∷◌, length, Some, None, option_and_then, slice_get, inl, inr, refl, sym, ◌∙◌, ap, subst, arith}
 use Rattle.lid_base.specs.Lists.{Among}
 use Rattle.lid_base.proofs.Lists.{get_among, filter_among}
 use Rattle.lid_design.specs.declared.Design.{Design}
 use Rattle.lid_design.specs.declared.Model.{Model}
-use Rattle.lid_design.specs.declared.Cell.{Cell}
-use Rattle.lid_design.specs.declared.Cell.TheVariants.{Names, Latch}
 use Rattle.lid_design.specs.declared.Inst.{Inst}
 use Rattle.lid_design.specs.Columns.{Column, column, model_named, instance_model, model_at, is_clock, data_inputs, drivers}
 use Rattle.lid_design.specs.Walks.{Feeds, Walk}
-use Rattle.lid_design.specs.Loops.{HasNoLoop, WalkInside, IsInside}
-use Rattle.lid_flaws.specs.Dependence.{HasNoDependence, DependsOn}
+use Rattle.lid_design.specs.Loops.{HasNoLoop, WalkInside}
+use Rattle.lid_flaws.specs.Dependence.{HasNoDependence}
 use Rattle.lid_acceptance.specs.Plain.{IsRising, IsApart}
-use Rattle.lid_acceptance.proofs.Walking.{walk_keeps, Inside, Edge, none_closed}
+use Rattle.lid_acceptance.proofs.Walking.{walk_keeps, Edge, none_closed}
 use Rattle.lid_acceptance.proofs.Edges.{OfCover, OfInput, OfOutput, EdgeAt, edge_at}
 
 pub some_none : {A : Type 0} (a : A) → Some a ≡ None → ⊥

@@ -1,7 +1,7 @@
 -- A plain root with instances: which models stand at which paths.
 use Rattle.std.proofs.Common.{◌≡◌, ◌⊎◌, ℕ, zero, suc, ◌+◌, ◌<◌, ◌≤◌, ◌==◌, Bool, true, false, ◌||◌, ◌&&◌, cond, find, List, [], ◌∷◌, ◌++◌, length, map, Option, Some, None, option_and_then, slice_get, inl, inr, refl, sym, ◌∙◌, ap, subst, arith}
 use Rattle.std.specs.Option.{option_map_or}
-use Rattle.std.specs.List.{AllByRecursion, IsDistinct, list_any, flat_map, enumerate_from}
+use Rattle.std.specs.List.{IsDistinct, list_any, flat_map, enumerate_from}
 use Rattle.std.specs.Str.{bytes_eq}
 use Rattle.std.proofs.lemmas.Bool.{eq-eqb, eqb-true, eqb-false}
 use Rattle.std.proofs.lemmas.List.{length-append}
@@ -13,15 +13,14 @@ use Rattle.lid_design.specs.declared.Cell.{Cell}
 use Rattle.lid_design.specs.declared.Cell.TheVariants.{Names, Latch}
 use Rattle.lid_design.specs.declared.Inst.{Inst}
 use Rattle.lid_design.specs.declared.Bind.{Bind}
-use Rattle.lid_design.specs.Columns.{model_named, instance_model, model_at, is_own_clock, binds_clock, is_clock_within, is_clock}
+use Rattle.lid_design.specs.Columns.{model_named, binds_clock, is_clock_within, is_clock}
 use Rattle.lid_design.specs.Models.{insts_of, number_named, instance_number, number_from, is_buffer, is_constant, IsReached, Ascend, AreReached, HasNoRecursion}
 use Rattle.lid_design.specs.Elaboration.{Instance, instance, instances_in, instances, greatest, depth}
 use Rattle.lid_design.specs.WellFormed.{model_name, IsWellFormed}
 use Rattle.lid_hierarchy.proofs.Fixpoints.{find_position}
 use Rattle.lid_hierarchy.proofs.Orders.{number_from_append}
 use Rattle.lid_hierarchy.proofs.Walks.{reached_below}
-use Rattle.lid_wiring.proofs.Clocking.{named_model}
-use Rattle.lid_acceptance.specs.Plain.{IsUnclocked, IsPlainPearl, IsPlainInst, IsPlainRoot}
+use Rattle.lid_acceptance.specs.Plain.{IsUnclocked, IsPlainInst, IsPlainRoot}
 use Rattle.lid_acceptance.proofs.Sets.{any_none}
 use Rattle.lid_acceptance.proofs.Alone.{some_none, no_inst}
 use Rattle.lid_acceptance.proofs.Lone.{own_none, pearl_free}
@@ -142,7 +141,7 @@ module _ (d : Design) (formed : IsWellFormed d) (m : Model) (root : slice_get d.
   pub sub_inst : (i k : ℕ) → IsSub d m i k → instance_number d i d.root ≡ Some k
   sub_inst i k sub = ap (λ (insts : List Inst). option_and_then (λ inst. number_named d inst.model) (slice_get insts i)) insts_are ∙ ap (option_and_then (λ inst. number_named d inst.model)) sub.at ∙ sub.names
 
-  sub_insts : (i k : ℕ) → IsSub d m i k → insts_of d k ≡ []
+  pub sub_insts : (i k : ℕ) → IsSub d m i k → insts_of d k ≡ []
   sub_insts i k sub = ap (λ (o : Option Model). option_map_or (λ m. m.insts) o []) sub.here ∙ sub.plain.pearl.insts
 
   -- the root is no model of an instance of it

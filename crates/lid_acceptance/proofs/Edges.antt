@@ -1,5 +1,5 @@
 -- What an edge of the elaborated graph passes: a cover, or a binding of an instance.
-use Rattle.std.proofs.Common.{◌≡◌, ◌⊎◌, ℕ, ◌+◌, Bool, true, false, ◌&&◌, cond, List, [], ◌∷◌, ◌++◌, map, Option, Some, None, option_and_then, slice_get, inl, inr, refl, sym, ◌∙◌, ap, subst, arith, zero-add}
+use Rattle.std.proofs.Common.{◌≡◌, ◌⊎◌, ℕ, ◌+◌, Bool, true, false, ◌&&◌, cond, List, [], ◌∷◌, ◌++◌, map, Option, Some, None, option_and_then, slice_get, inl, inr, refl, sym, ◌∙◌, ap, subst, arith}
 use Rattle.std.specs.Option.{option_map_or}
 use Rattle.std.specs.List.{flat_map, enumerate_from}
 use Rattle.std.specs.Str.{bytes_eq}
@@ -11,7 +11,6 @@ use Rattle.lid_design.specs.declared.Model.{Model}
 use Rattle.lid_design.specs.declared.Cell.{Cell}
 use Rattle.lid_design.specs.declared.Cell.TheVariants.{Names, Latch}
 use Rattle.lid_design.specs.declared.Inst.{Inst}
-use Rattle.lid_design.specs.declared.Bind.{Bind}
 use Rattle.lid_design.specs.Network.{Driver, from_input, from_latch, from_cover, from_connection}
 use Rattle.lid_design.specs.Columns.{Column, column, is_among, model_named, model_at, is_clock, data_inputs, first_bit, places_of, cell_at, output_at, actuals_of, port_at, drivers_in, drivers}
 use Rattle.lid_design.specs.Walks.{read_now, Feeds}

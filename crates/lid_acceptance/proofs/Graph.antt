@@ -1,6 +1,6 @@
 -- A plain root with instances of plain models: no closed walk, and no output of an instance depends on an
 -- input of it.
-use Rattle.std.proofs.Common.{◌≡◌, ◌⊎◌, ℕ, zero, suc, ◌<◌, ◌==◌, Bool, true, false, cond, List, [], ◌∷◌, length, map, Option, Some, None, option_and_then, slice_get, inl, inr, refl, sym, ◌∙◌, ap, subst, arith}
+use Rattle.std.proofs.Common.{◌≡◌, ◌⊎◌, ℕ, ◌==◌, Bool, true, false, cond, List, [], ◌∷◌, length, map, Some, slice_get, inl, inr, refl, sym, ◌∙◌, ap, subst, arith}
 use Rattle.std.specs.List.{range_with_len}
 use Rattle.std.proofs.lemmas.Bool.{eqb-true}
 use Rattle.lid_base.specs.Lists.{Among}
@@ -18,7 +18,7 @@ use Rattle.lid_acceptance.specs.Plain.{IsRising, IsApart, IsPlainInst, IsPlainRo
 use Rattle.lid_acceptance.proofs.Walking.{Inside, Edge, none_closed, stays_late}
 use Rattle.lid_acceptance.proofs.Edges.{OfCover, OfInput, OfOutput, EdgeAt, edge_at}
 use Rattle.lid_acceptance.proofs.Alone.{some_none, no_inst, walk_of, data_among}
-use Rattle.lid_acceptance.proofs.Below.{one_of, IsSub, sub_of, insts_are}
+use Rattle.lid_acceptance.proofs.Below.{one_of, sub_of, insts_are}
 
 tail_same : (i j : ℕ) (xs ys : List ℕ) → i ∷ xs ≡ j ∷ ys → xs ≡ ys
 tail_same i j xs ys same = cc

@@ -8,3 +8,5 @@ pub mod Lone
 pub mod Below
 pub mod Assembled
 pub mod Graph
+pub mod Examples
+pub mod Counted

@@ -1,5 +1,5 @@
 -- A plain root without instances meets the conditions on models.
-use Rattle.std.proofs.Common.{◌≡◌, ◌⊎◌, ℕ, zero, suc, ◌+◌, ◌≤◌, ◌==◌, Bool, true, false, ◌||◌, cond, not, find, List, [], ◌∷◌, ◌++◌, length, map, Option, Some, None, option_map, option_and_then, slice_get, inl, inr, refl, sym, ◌∙◌, ap, subst, arith, add-zero}
+use Rattle.std.proofs.Common.{◌≡◌, ℕ, zero, suc, ◌+◌, ◌≤◌, ◌==◌, Bool, true, false, ◌||◌, cond, not, find, List, [], ◌∷◌, ◌++◌, length, map, Option, Some, None, option_map, slice_get, inl, inr, refl, sym, ◌∙◌, ap, subst, arith}
 use Rattle.std.specs.Option.{option_map_or}
 use Rattle.std.specs.List.{IsDistinct, flat_map, list_any, enumerate_from, sum_by}
 use Rattle.std.specs.Str.{bytes_eq}
@@ -7,7 +7,7 @@ use Rattle.std.proofs.lemmas.Bool.{eq-eqb}
 use Rattle.std.proofs.lemmas.List.{append-nil, length-append, length-map}
 use Rattle.std.proofs.lemmas.List.Sums.{sum_by-cons}
 use Rattle.lid_base.specs.Lists.{Among}
-use Rattle.lid_base.proofs.Lists.{then_some, among_append, among_left, among_right}
+use Rattle.lid_base.proofs.Lists.{then_some}
 use Rattle.lid_design.specs.declared.Design.{Design}
 use Rattle.lid_design.specs.declared.Model.{Model}
 use Rattle.lid_design.specs.declared.Cell.{Cell}
@@ -19,7 +19,7 @@ use Rattle.lid_design.specs.Elaboration.{Instance, instance, instances_in, insta
 use Rattle.lid_rules.specs.declared.fault.CheckFault.TheVariants.{RootLogic}
 use Rattle.lid_rules.specs.Conditions.{logic_in}
 use Rattle.lid_rules.specs.Acceptance.{ModelsPass}
-use Rattle.lid_acceptance.specs.Plain.{IsUnclocked, AreAmong, pearl_drivers, IsPlainPearl, root_drivers}
+use Rattle.lid_acceptance.specs.Plain.{IsUnclocked, pearl_drivers, IsPlainPearl, root_drivers}
 use Rattle.lid_acceptance.proofs.Sets.{any_none}
 use Rattle.lid_acceptance.proofs.Alone.{some_none, no_inst}
 use Rattle.lid_acceptance.proofs.Sound.{IsPlainModel, models_pass}

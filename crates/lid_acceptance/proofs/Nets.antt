@@ -1,5 +1,5 @@
 -- A plain model has no more nets than drivers.
-use Rattle.std.proofs.Common.{◌≡◌, ◌⊎◌, ℕ, ◌≤◌, Bool, true, false, not, cond, List, [], ◌∷◌, ◌++◌, length, map, filter, Option, Some, None, inl, inr, refl, sym, ◌∙◌, ap, subst, arith}
+use Rattle.std.proofs.Common.{◌≡◌, ◌⊎◌, ℕ, ◌≤◌, Bool, true, false, not, cond, List, [], ◌∷◌, ◌++◌, length, map, filter, Option, inl, inr, refl, sym, ◌∙◌, ap, subst}
 use Rattle.std.specs.List.{AllByRecursion, IsDistinct, flat_map}
 use Rattle.std.specs.Str.{bytes_eq}
 use Rattle.std.specs.Cmp.{IsEquivalence}
@@ -10,8 +10,7 @@ use Rattle.lid_design.specs.declared.Design.{Design}
 use Rattle.lid_design.specs.declared.Model.{Model}
 use Rattle.lid_design.specs.declared.Cell.{Cell}
 use Rattle.lid_design.specs.declared.Cell.TheVariants.{Names, Latch}
-use Rattle.lid_design.specs.declared.Inst.{Inst}
-use Rattle.lid_design.specs.Columns.{is_among, is_clock}
+use Rattle.lid_design.specs.Columns.{is_clock}
 use Rattle.lid_design.specs.Models.{control_names, cell_names, cell_out, cell_reads, actual_names, driven_by, occurrences, firsts, nets}
 use Rattle.lid_names.proofs.Lists.{is_among_firsts}
 use Rattle.lid_hierarchy.proofs.Numbers.{bytes_eq_comm}

@@ -1,5 +1,5 @@
 -- No condition on models applies to a design of plain models.
-use Rattle.std.proofs.Common.{◌≡◌, ◌⊎◌, ℕ, ◌+◌, ◌≤◌, ◌==◌, nat_lt, min, Bool, true, false, ◌||◌, ◌&&◌, not, cond, is_none, List, [], ◌∷◌, ◌++◌, length, map, filter, find, Option, Some, None, option_map, option_and_then, slice_get, inl, inr, refl, sym, ◌∙◌, ap, subst, arith, append_assoc}
+use Rattle.std.proofs.Common.{◌≡◌, ◌⊎◌, ℕ, ◌≤◌, ◌==◌, min, Bool, true, false, ◌||◌, ◌&&◌, not, cond, is_none, List, [], ◌∷◌, ◌++◌, length, map, filter, find, Option, Some, None, option_map, option_and_then, slice_get, inl, inr, refl, sym, ◌∙◌, ap, subst, append_assoc}
 use Rattle.std.specs.Option.{option_map_or}
 use Rattle.std.specs.List.{IsDistinct, count_by, flat_map, enumerate_from}
 use Rattle.std.specs.Str.{bytes_eq}
@@ -14,15 +14,13 @@ use Rattle.lid_design.specs.declared.Model.{Model}
 use Rattle.lid_design.specs.declared.Cell.{Cell}
 use Rattle.lid_design.specs.declared.Cell.TheVariants.{Names, Latch}
 use Rattle.lid_design.specs.declared.LatchKind.{LatchKind}
-use Rattle.lid_design.specs.declared.LatchKind.TheVariants.{Plain}
 use Rattle.lid_design.specs.declared.Inst.{Inst}
-use Rattle.lid_design.specs.declared.Bind.{Bind}
 use Rattle.lid_design.specs.Columns.{is_among, model_named, is_clock, data_inputs}
 use Rattle.lid_design.specs.Models.{occurrences, is_port, port_drivers, inner_drivers, driver_names, read_names, cell_out, cell_reads, driven_by, read_by, number_named, insts_of, is_twice, formals, formal_of, actual_of, actual_names, actuals_bound_to, AreReached, HasNoRecursion}
 use Rattle.lid_design.specs.Elaboration.{depth, count_cells, count_nets}
 use Rattle.lid_rules.specs.declared.fault.CheckFault.{CheckFault}
 use Rattle.lid_rules.specs.declared.fault.CheckFault.TheVariants.{UnknownModel, Limit}
-use Rattle.lid_rules.specs.Conditions.{or_fault, first_told, in_models, in_insts, in_known, is_duplicate, duplicate_in, duplicate_name, unknown_at, unknown_model, unknown_formal_at, unknown_formal, formal_twice_at, formal_twice, unbound_at, unbound, two_drivers_in, two_drivers, is_undriven, undriven_in, undriven, is_misused, clock_use_in, clock_use, first_two, two_clocks, TypedLatch, typed_cell, typed_latches, other_edge, mixed_edges, logic_in, root_logic, over, limits}
+use Rattle.lid_rules.specs.Conditions.{or_fault, first_told, in_models, in_insts, in_known, is_duplicate, duplicate_in, duplicate_name, unknown_at, unknown_model, unknown_formal_at, unknown_formal, formal_twice_at, formal_twice, unbound_at, unbound, two_drivers_in, two_drivers, is_undriven, undriven_in, undriven, is_misused, clock_use_in, clock_use, first_two, two_clocks, typed_cell, other_edge, mixed_edges, logic_in, root_logic, over, limits}
 use Rattle.lid_rules.specs.Acceptance.{ModelsPass, fault_before_recursion, fault_after_recursion}
 use Rattle.lid_wiring.proofs.Names.{to_among, from_among}
 use Rattle.lid_acceptance.specs.Plain.{IsUnclocked, AreAmong, root_drivers}

@@ -1,6 +1,6 @@
 -- Walks where each edge stays inside a model, enters an instance or leaves one: what enters is late, and
 -- nothing late leaves.
-use Rattle.std.proofs.Common.{◌≡◌, ◌⊎◌, ℕ, zero, suc, ◌+◌, ◌<◌, ◌≤◌, List, inl, inr, refl, subst, arith, add-zero}
+use Rattle.std.proofs.Common.{◌⊎◌, ℕ, zero, suc, ◌+◌, ◌<◌, ◌≤◌, List, inl, inr, subst, arith}
 use Rattle.lid_design.specs.Network.{Driver}
 use Rattle.lid_design.specs.Columns.{Column}
 use Rattle.lid_design.specs.Walks.{Feeds, Walk}

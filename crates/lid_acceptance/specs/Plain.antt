@@ -1,6 +1,7 @@
 -- Plain facts about the lists of models from which it follows that a design is accepted. They are told of
 -- designs without clock names, in which the models of the root's instances have no instances.
-use Rattle.std.specs.Prelude.{◌≡◌, ℕ, ◌≤◌, ◌<◌, Bool, true, ◌||◌, List, [], ◌++◌, length, map, flat_map, Option, None, bytes_eq, ⊤}
+use Rattle.std.specs.Prelude.{◌≡◌, ℕ, ◌≤◌, ◌<◌, ◌+◌, true, ◌||◌, List, [], ◌++◌, length, map, flat_map, None, bytes_eq, ⊤}
+use Rattle.std.specs.Option.{option_map_or}
 use Rattle.std.specs.List.{IsDistinct}
 use Rattle.lid_base.specs.Lists.{Among}
 use Rattle.lid_cover.specs.declared.Cover.{Cover}
@@ -10,6 +11,7 @@ use Rattle.lid_design.specs.declared.Cell.{Cell}
 use Rattle.lid_design.specs.declared.Cell.TheVariants.{Names, Latch}
 use Rattle.lid_design.specs.declared.LatchKind.TheVariants.{Plain}
 use Rattle.lid_design.specs.declared.Inst.{Inst}
+use Rattle.lid_design.specs.Columns.{model_named}
 use Rattle.lid_design.specs.Models.{cell_out, cell_reads, driven_by, actual_names, formals, is_buffer, is_constant}
 
 -- a latch has no type and no control, so no cell makes a clock name
@@ -57,6 +59,10 @@ pub record IsApart (late : List (List ℕ)) (m : Model) : Type 0 where
       → Among out late
   pub outputs : (name : List ℕ) → Among name m.outputs → ¬ Among name late
 
+-- no output of a model is an input of it
+abbrev pub AreParted : Model → Type 0
+AreParted m = (name : List ℕ) → Among name m.outputs → ¬ Among name m.inputs
+
 -- an instance of a model without instances, each input of which is bound
 pub record IsPlainInst (d : Design) (inst : Inst) (sub : Model) : Type 0 where
   pub there : Among sub d.models
@@ -81,3 +87,11 @@ pub record IsPlainRoot (d : Design) (m : Model) : Type 0 where
   pub once : IsDistinct bytes_eq (root_drivers d m)
   pub driven : AreAmong (flat_map cell_reads m.cells ++ flat_map actual_names m.insts ++ m.outputs) (root_drivers d m)
   pub insts : (inst : Inst) → Among inst m.insts → (sub : Model) × IsPlainInst d inst sub
+
+-- how many cells the model of an instance has
+abbrev pub cells_below : Design → Inst → ℕ
+cells_below d inst = option_map_or (λ m. length m.cells) (model_named d inst.model) 0
+
+-- how many nets the model of an instance drives, once for each driver, where it has no instances
+abbrev pub nets_below : Design → Inst → ℕ
+nets_below d inst = option_map_or (λ m. length m.inputs + length m.cells) (model_named d inst.model) 0

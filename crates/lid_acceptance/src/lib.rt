@@ -3,4 +3,7 @@
 
 mod laws;
 
-pub use laws::{one_model_is_accepted, roots_with_instances_are_accepted};
+pub use laws::{
+    one_model_is_accepted, roots_with_instances_are_accepted, roots_with_instances_are_counted,
+    some_designs_are_plain,
+};
