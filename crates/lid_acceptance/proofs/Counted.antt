@@ -19,7 +19,7 @@ use Rattle.lid_acceptance.proofs.Lone.{pearl_root, plain_pearl}
 use Rattle.lid_acceptance.proofs.Below.{one_of, IsSub, sub_of, sub_insts, insts_are}
 use Rattle.lid_acceptance.proofs.Assembled.{root_plain}
 
-sum_flat : {A B : Type 0} (f : A → ℕ) (g : B → List A) (h : B → ℕ) (ps : List B) → ((p : B) → Among p ps → sum_by f (g p) ≡ h p) → sum_by f (flat_map g ps) ≡ sum_by h ps
+pub sum_flat : {A B : Type 0} (f : A → ℕ) (g : B → List A) (h : B → ℕ) (ps : List B) → ((p : B) → Among p ps → sum_by f (g p) ≡ h p) → sum_by f (flat_map g ps) ≡ sum_by h ps
 sum_flat f g h [] each = refl
 sum_flat f g h (p ∷ ps) each =
     let one = sum_by-append f (g p) (flat_map g ps) in
@@ -36,7 +36,16 @@ sum_numbered h i (x ∷ xs) =
     let whole = sum_by-cons h x xs in
     omega arith
 
-sum_less : {A : Type 0} (f g : A → ℕ) (xs : List A) → ((x : A) → Among x xs → f x ≤ g x) → sum_by f xs ≤ sum_by g xs
+pub sum_same : {A : Type 0} (f g : A → ℕ) (xs : List A) → ((x : A) → f x ≡ g x) → sum_by f xs ≡ sum_by g xs
+sum_same f g [] same = refl
+sum_same f g (x ∷ xs) same =
+    let a = sum_by-cons f x xs in
+    let b = sum_by-cons g x xs in
+    let h = same x in
+    let t = sum_same f g xs same in
+    omega arith
+
+pub sum_less : {A : Type 0} (f g : A → ℕ) (xs : List A) → ((x : A) → Among x xs → f x ≤ g x) → sum_by f xs ≤ sum_by g xs
 sum_less f g [] less = omega arith
 sum_less f g (x ∷ xs) less =
     let a = sum_by-cons f x xs in

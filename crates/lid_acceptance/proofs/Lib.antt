@@ -10,3 +10,7 @@ pub mod Assembled
 pub mod Graph
 pub mod Examples
 pub mod Counted
+pub mod Totals
+pub mod Flats
+pub mod Cells
+pub mod Bounds

@@ -33,7 +33,7 @@ all_kept P p (x ∷ xs) all = by (p x) (all_kept P p xs all.1)
     by true later = (all.0, later)
     by false later = later
 
-distinct_kept : (p : List ℕ → Bool) (xs : List (List ℕ)) → IsDistinct bytes_eq xs → IsDistinct bytes_eq (filter p xs)
+pub distinct_kept : (p : List ℕ → Bool) (xs : List (List ℕ)) → IsDistinct bytes_eq xs → IsDistinct bytes_eq (filter p xs)
 unfolding IsDistinct
 distinct_kept p [] distinct = tt
 distinct_kept p (x ∷ xs) distinct = by (p x) (distinct_kept p xs distinct.1)
@@ -50,7 +50,7 @@ others x (y ∷ ys) = by (bytes_eq y x) refl (others x ys)
     by true e later = later
     by false e later = (bytes_eq_comm x y ∙ e, later)
 
-firsts_apart : (xs : List (List ℕ)) → IsDistinct bytes_eq (firsts xs)
+pub firsts_apart : (xs : List (List ℕ)) → IsDistinct bytes_eq (firsts xs)
 unfolding IsDistinct
 firsts_apart [] = tt
 firsts_apart (x ∷ xs) = (others x (firsts xs), distinct_kept (λ other. not (bytes_eq other x)) (firsts xs) (firsts_apart xs))
