@@ -1,6 +1,6 @@
 -- The inputs, latches and covers of a flat part are as many as its nets.
-use Rattle.std.proofs.Common.{◌≡◌, ℕ, zero, suc, ◌+◌, ◌<◌, ◌==◌, Bool, true, false, cond, List, [], ◌∷◌, ◌++◌, length, Option, Some, refl, sym, ◌∙◌, ap, arith}
-use Rattle.std.specs.List.{AllByRecursion, count_by, flat_map}
+use Rattle.std.proofs.Common.{◌≡◌, ℕ, zero, suc, ◌+◌, ◌*◌, ◌<◌, ◌≤◌, ◌==◌, Bool, true, false, cond, List, [], ◌∷◌, ◌++◌, length, Option, Some, refl, sym, ◌∙◌, ap, arith}
+use Rattle.std.specs.List.{AllByRecursion, count_by, flat_map, sum_by}
 use Rattle.std.proofs.lemmas.List.{length-append}
 use Rattle.std.proofs.lemmas.List.Sums.{sum_by-cons}
 use Rattle.lid_design.specs.declared.Design.{Design}
@@ -9,7 +9,7 @@ use Rattle.lid_design.specs.declared.FlatLatch.{FlatLatch}
 use Rattle.lid_design.specs.declared.FlatCover.{FlatCover}
 use Rattle.lid_design.specs.Network.{Driver, from_input, from_latch, from_cover, from_each}
 use Rattle.lid_design.specs.Models.{number_from}
-use Rattle.lid_design.specs.Flat.{inputs_at, latch_at, cover_at, flat_drivers, IsFlat}
+use Rattle.lid_design.specs.Flat.{inputs_at, latch_at, cover_at, flat_drivers, IsFlatCover, IsFlat}
 use Rattle.lid_elab.specs.Numbers.{columns_in}
 use Rattle.lid_check.specs.declared.blocks.Block.{Block}
 use Rattle.lid_check.specs.Blocks.{IsBlock}
@@ -104,3 +104,16 @@ block_long d pearl block f is of =
     let long = each_long of.col 0 f.nets in
     let end = is.long in
     omega arith
+
+-- a cover has at most 64 inputs
+sum_reads : (covers : List FlatCover) → AllByRecursion IsFlatCover covers → sum_by (λ (c : FlatCover). length c.ins) covers ≤ 64 * length covers
+sum_reads [] all = omega arith
+sum_reads (c ∷ covers) all =
+    let split = sum_by-cons (λ (c : FlatCover). length c.ins) c covers in
+    let width = all.0.0.width in
+    let inputs = all.0.1 in
+    let later = sum_reads covers all.1 in
+    omega arith
+
+pub few_reads : (f : Flat) → IsFlat f → sum_by (λ (c : FlatCover). length c.ins) f.covers ≤ 64 * f.nets
+few_reads f flat = let reads = sum_reads f.covers flat.covers in let all = all_driven f flat in omega arith
