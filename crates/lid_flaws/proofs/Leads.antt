@@ -12,14 +12,12 @@ use Rattle.lid_design.specs.Columns.{data_inputs}
 use Rattle.lid_design.specs.Models.{IsReached, data_inputs_of}
 use Rattle.lid_design.specs.Loops.{pearls}
 use Rattle.lid_digraph.specs.Graphs.{flag, IsReaching}
-use Rattle.lid_rules.specs.declared.fault.CheckFault.{CheckFault}
 use Rattle.lid_rules.specs.declared.fault.CheckFault.TheVariants.{OutputFromInput}
-use Rattle.lid_rules.specs.Acceptance.{ModelsPass}
 use Rattle.lid_flaws.specs.declared.outputs.Lead.{Lead}
 use Rattle.lid_flaws.specs.declared.pearls.Pearl.{Pearl}
 use Rattle.lid_flaws.specs.Dependence.{DependsOn, HasNoDependence, StandsBefore, TellsDependence}
 use Rattle.lid_flaws.specs.Pearls.{number_in, is_marked, Fits, IsFirstMarked, AreUnmarked, LeadsTo, AreReachedIn, AreCutOff, NoneLeads, IsFirstInput}
-use Rattle.lid_flaws.specs.Flaws.{IsFirstLead, IsFirstDependence, TellsFlaw}
+use Rattle.lid_flaws.specs.Flaws.{IsFirstLead, IsFirstDependence}
 
 abbrev pub no_pearl : Pearl
 no_pearl = record { model = 0; start = 0 }

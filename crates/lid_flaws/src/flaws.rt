@@ -87,11 +87,7 @@ fn find_in_order(
 ///
 /// # Errors
 /// Where there is no memory.
-pub fn tell_flaw(
-    alloc: Global,
-    judged: &Judged<'_>,
-    flaw: Flaw,
-) -> Result<CheckFault, AllocError>
+pub fn tell_flaw(alloc: Global, judged: &Judged<'_>, flaw: Flaw) -> Result<CheckFault, AllocError>
     requires { IsFirstFlaw judged.now flaw }
     ensures { IfOk result (TellsFlaw judged.now) }
 {
