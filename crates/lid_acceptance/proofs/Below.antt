@@ -29,7 +29,7 @@ pub one_of : {A : Type 0} (o : Option A) (a b : A) → o ≡ Some a → o ≡ So
 one_of o a b h g = let e : Some a ≡ Some b = sym h ∙ g in cc
 
 -- among models of distinct names, one of a name is found
-found_named : (ms : List Model) (sub : Model) (name : List ℕ) → IsDistinct bytes_eq (map model_name ms) → Among sub ms → sub.name ≡ name → find (λ m. bytes_eq m.name name) ms ≡ Some sub
+pub found_named : (ms : List Model) (sub : Model) (name : List ℕ) → IsDistinct bytes_eq (map model_name ms) → Among sub ms → sub.name ≡ name → find (λ m. bytes_eq m.name name) ms ≡ Some sub
 unfolding IsDistinct
 found_named [] sub name distinct none named = absurd none
 found_named (x ∷ ms) sub name distinct (inl same) named = by (bytes_eq x.name name) (bytes_same x.name name (ap (λ (m : Model). m.name) (sym same) ∙ named))

@@ -5,6 +5,7 @@ ghost use Rattle.lid_base.specs.Lists.{Among};
 ghost use Rattle.lid_design.specs.declared.Design.{Design};
 ghost use Rattle.lid_design.specs.declared.Model.{Model};
 ghost use Rattle.lid_design.specs.declared.Inst.{Inst};
+ghost use Rattle.lid_design.specs.Columns.{model_named};
 ghost use Rattle.lid_design.specs.Loops.{HasNoLoop};
 ghost use Rattle.lid_design.specs.WellFormed.{IsWellFormed};
 ghost use Rattle.lid_design.specs.Elaboration.{count_cells, count_nets};
@@ -37,6 +38,12 @@ pub fn roots_with_instances_are_accepted()
 pub fn roots_with_instances_are_counted()
     ensures cells { (d : Design) (m : Model) → IsWellFormed d → slice_get d.models d.root ≡ Some m → IsPlainRoot d m → count_cells d ≡ length m.cells + length m.insts + sum_by (cells_below d) m.insts }
     ensures nets { (d : Design) (m : Model) → IsWellFormed d → slice_get d.models d.root ≡ Some m → IsPlainRoot d m → count_nets d ≤ length (root_drivers d m) + sum_by (nets_below d) m.insts }
+{}
+
+/// A model of a well-formed design is the one that its name tells. So what an instance drives, and what is
+/// counted in it, can be read off its model.
+pub fn models_are_found_by_name()
+    ensures { (d : Design) (m : Model) (name : List ℕ) → IsWellFormed d → Among m d.models → m.name ≡ name → model_named d name ≡ Some m }
 {}
 
 /// Designs meet these facts: one of a model with an input, an output, a cover and a latch, and one with an

@@ -6,7 +6,7 @@ mod laws;
 mod sizes;
 
 pub use laws::{
-    one_model_is_accepted, roots_with_instances_are_accepted, roots_with_instances_are_counted,
-    some_designs_are_plain,
+    models_are_found_by_name, one_model_is_accepted, roots_with_instances_are_accepted,
+    roots_with_instances_are_counted, some_designs_are_plain,
 };
 pub use sizes::flat_parts_are_small;
