@@ -1,0 +1,119 @@
+-- The inputs, latches and covers of a flat part are as many as its nets.
+use Rattle.std.proofs.Common.{◌≡◌, ℕ, zero, suc, ◌+◌, ◌*◌, ◌<◌, ◌≤◌, ◌==◌, Bool, true, false, cond, List, [], ◌∷◌, ◌++◌, length, Option, Some, refl, sym, ◌∙◌, ap, arith}
+use Rattle.std.specs.List.{AllByRecursion, count_by, flat_map, sum_by}
+use Rattle.std.proofs.lemmas.List.{length-append}
+use Rattle.std.proofs.lemmas.List.Sums.{sum_by-cons}
+use Rattle.lid_design.specs.declared.Design.{Design}
+use Rattle.lid_design.specs.declared.Flat.{Flat}
+use Rattle.lid_design.specs.declared.FlatLatch.{FlatLatch}
+use Rattle.lid_design.specs.declared.FlatCover.{FlatCover}
+use Rattle.lid_design.specs.Network.{Driver, from_input, from_latch, from_cover, from_each}
+use Rattle.lid_design.specs.Models.{number_from}
+use Rattle.lid_design.specs.Flat.{inputs_at, latch_at, cover_at, flat_drivers, IsFlatCover, IsFlat}
+use Rattle.lid_elab.specs.Numbers.{columns_in}
+use Rattle.lid_check.specs.declared.blocks.Block.{Block}
+use Rattle.lid_check.specs.Blocks.{IsBlock}
+use Rattle.lid_check.specs.Flats.{IsFlatOf}
+use Rattle.lid_acceptance.proofs.Totals.{total_add, total_less, total_one, total_counts}
+
+inputs_counted : (k j : ℕ) (nets : List ℕ) → length (inputs_at k j nets) ≡ count_by (λ n. n == k) nets
+inputs_counted k j [] = refl
+inputs_counted k j (net ∷ nets) =
+    let split = sum_by-cons (λ n. cond (n == k) 1 0) net nets in
+    let here = by (net == k) in
+    let later = inputs_counted k (j + 1) nets in
+    omega arith
+  where
+    by : (b : Bool) → length {A = Driver ℕ} (cond b (from_input j ∷ []) [] ++ inputs_at k (j + 1) nets) ≡ cond b 1 0 + length (inputs_at k (j + 1) nets)
+    by true = omega arith
+    by false = omega arith
+
+pub latches_counted : (k : ℕ) (latches : List FlatLatch) → length (flat_map (latch_at k) latches) ≡ count_by (λ l. l.out == k) latches
+latches_counted k [] = refl
+latches_counted k (latch ∷ latches) =
+    let split = sum_by-cons (λ (l : FlatLatch). cond (l.out == k) 1 0) latch latches in
+    let here = by (latch.out == k) in
+    let later = latches_counted k latches in
+    omega arith
+  where
+    by : (b : Bool) → length {A = Driver ℕ} (cond b (from_latch latch.init latch.input ∷ []) [] ++ flat_map (latch_at k) latches) ≡ cond b 1 0 + length (flat_map (latch_at k) latches)
+    by true = omega arith
+    by false = omega arith
+
+pub covers_counted : (k : ℕ) (covers : List FlatCover) → length (flat_map (cover_at k) covers) ≡ count_by (λ c. c.out == k) covers
+covers_counted k [] = refl
+covers_counted k (cover ∷ covers) =
+    let split = sum_by-cons (λ (c : FlatCover). cond (c.out == k) 1 0) cover covers in
+    let here = by (cover.out == k) in
+    let later = covers_counted k covers in
+    omega arith
+  where
+    by : (b : Bool) → length {A = Driver ℕ} (cond b (from_cover cover.cover cover.ins ∷ []) [] ++ flat_map (cover_at k) covers) ≡ cond b 1 0 + length (flat_map (cover_at k) covers)
+    by true = omega arith
+    by false = omega arith
+
+pub drivers_counted : (f : Flat) (k : ℕ) → length (flat_drivers f k) ≡ count_by (λ n. n == k) f.ins + (count_by (λ l. l.out == k) f.latches + count_by (λ c. c.out == k) f.covers)
+unfolding flat_drivers
+drivers_counted f k =
+    let a = length-append (inputs_at k 0 f.ins) (flat_map (latch_at k) f.latches ++ flat_map (cover_at k) f.covers) in
+    let b = length-append (flat_map (latch_at k) f.latches) (flat_map (cover_at k) f.covers) in
+    let i = inputs_counted k 0 f.ins in
+    let l = latches_counted k f.latches in
+    let e = covers_counted k f.covers in
+    omega arith
+
+all_of : {A : Type 0} (P Q : A → Type 0) (xs : List A) → ((x : A) → P x → Q x) → AllByRecursion P xs → AllByRecursion Q xs
+all_of P Q [] to all = tt
+all_of P Q (x ∷ xs) to all = (to x all.0, all_of P Q xs to all.1)
+
+pub latches_below : (f : Flat) → IsFlat f → AllByRecursion (λ (l : FlatLatch). l.out < f.nets) f.latches
+latches_below f flat = all_of _ (λ (l : FlatLatch). l.out < f.nets) f.latches (λ l both. both.1) flat.below.latches
+
+pub covers_below : (f : Flat) → IsFlat f → AllByRecursion (λ (c : FlatCover). c.out < f.nets) f.covers
+covers_below f flat = all_of _ (λ (c : FlatCover). c.out < f.nets) f.covers (λ c both. both.1) flat.below.covers
+
+pub all_driven : (f : Flat) → IsFlat f → length f.ins + length f.latches + length f.covers ≡ f.nets
+all_driven f flat =
+    let i = total_counts (λ (n : ℕ). n) f.nets f.ins flat.below.ins in
+    let l = total_counts (λ (l : FlatLatch). l.out) f.nets f.latches (latches_below f flat) in
+    let e = total_counts (λ (c : FlatCover). c.out) f.nets f.covers (covers_below f flat) in
+    let inner = total_add (λ k. count_by (λ (l : FlatLatch). l.out == k) f.latches) (λ k. count_by (λ (c : FlatCover). c.out == k) f.covers) 0 f.nets in
+    let outer = total_add (λ k. count_by (λ (n : ℕ). n == k) f.ins) (λ k. count_by (λ (l : FlatLatch). l.out == k) f.latches + count_by (λ (c : FlatCover). c.out == k) f.covers) 0 f.nets in
+    let one = total_one 0 f.nets in
+    let most = total_less (λ k. count_by (λ (n : ℕ). n == k) f.ins + (count_by (λ (l : FlatLatch). l.out == k) f.latches + count_by (λ (c : FlatCover). c.out == k) f.covers)) (λ k. 1) 0 f.nets (λ k low high. let h = flat.once k in let c = drivers_counted f k in omega arith) in
+    let least = total_less (λ k. 1) (λ k. count_by (λ (n : ℕ). n == k) f.ins + (count_by (λ (l : FlatLatch). l.out == k) f.latches + count_by (λ (c : FlatCover). c.out == k) f.covers)) 0 f.nets (λ k low high. let h = flat.driven k (omega arith) in let c = drivers_counted f k in omega arith) in
+    omega arith
+
+pub each_long : {A : Type 0} (f : ℕ → A) (k n : ℕ) → length (from_each f k n) ≡ n
+each_long f k zero = refl
+each_long f k (suc n) = ap suc (each_long f (k + 1) n)
+
+some_one : {A : Type 0} (o : Option A) (x y : A) → o ≡ Some x → o ≡ Some y → x ≡ y
+some_one o x y a b = let e = sym a ∙ b in cc
+
+-- the columns of a flat part are those of its block
+pub columns_same : (d : Design) (pearl : ℕ) (block : Block) (f : Flat) (is : IsBlock d pearl block) (of : IsFlatOf d pearl f) → from_each of.col 0 f.nets ≡ columns_in (length d.models) d is.path is.model
+columns_same d pearl block f is of =
+    let path : of.path ≡ is.path = some_one _ of.path is.path of.here is.here in
+    let model : of.number ≡ is.model = some_one _ of.number is.model of.leads (ap (number_from d d.root) path ∙ is.leads) in
+    of.all ∙ ap (λ (p : List ℕ). columns_in (length d.models) d p of.number) path ∙ ap (columns_in (length d.models) d is.path) model
+
+pub block_long : (d : Design) (pearl : ℕ) (block : Block) (f : Flat) → IsBlock d pearl block → IsFlatOf d pearl f → block.start + f.nets ≡ block.end
+block_long d pearl block f is of =
+    let same = ap length (columns_same d pearl block f is of) in
+    let long = each_long of.col 0 f.nets in
+    let end = is.long in
+    omega arith
+
+-- a cover has at most 64 inputs
+sum_reads : (covers : List FlatCover) → AllByRecursion IsFlatCover covers → sum_by (λ (c : FlatCover). length c.ins) covers ≤ 64 * length covers
+sum_reads [] all = omega arith
+sum_reads (c ∷ covers) all =
+    let split = sum_by-cons (λ (c : FlatCover). length c.ins) c covers in
+    let width = all.0.0.width in
+    let inputs = all.0.1 in
+    let later = sum_reads covers all.1 in
+    omega arith
+
+pub few_reads : (f : Flat) → IsFlat f → sum_by (λ (c : FlatCover). length c.ins) f.covers ≤ 64 * f.nets
+few_reads f flat = let reads = sum_reads f.covers flat.covers in let all = all_driven f flat in omega arith

@@ -1,0 +1,16 @@
+pub mod Walking
+pub mod Edges
+pub mod Alone
+pub mod Sets
+pub mod Sound
+pub mod Nets
+pub mod Lone
+pub mod Below
+pub mod Assembled
+pub mod Graph
+pub mod Examples
+pub mod Counted
+pub mod Totals
+pub mod Flats
+pub mod Cells
+pub mod Bounds
