@@ -1,5 +1,5 @@
 -- Which part owns a transition, and what the edges say then.
-use Rattle.std.proofs.Common.{◌≡◌, ℕ, zero, suc, ◌+◌, ◌*◌, ◌<◌, ◌≤◌, ◌≢◌, ◌==◌, ◌⊎◌, inl, inr, Bool, true, false, cond, List, [], ◌∷◌, length, get_or, set, map, replicate, position, Option, Some, None, is_some, refl, sym, ◌∙◌, ap, subst, arith}
+use Rattle.std.proofs.Common.{◌≡◌, ℕ, zero, suc, ◌+◌, ◌<◌, ◌≤◌, ◌≢◌, ◌==◌, ◌⊎◌, inl, inr, Bool, true, false, cond, List, [], ◌∷◌, length, get_or, set, map, replicate, Option, Some, None, is_some, refl, sym, ◌∙◌, ap, subst, arith}
 use Rattle.std.specs.List.{All, count_by}
 use Rattle.std.specs.Option.{MatchOption}
 use Rattle.std.proofs.lemmas.Bool.{cases_eq, cases_lt, eq-eqb}
@@ -13,7 +13,7 @@ use Rattle.lid_cert.specs.declared.cert.Part.{Part}
 use Rattle.lid_cert.specs.declared.cert.Cert.{Cert}
 use Rattle.lid_cert.specs.Certificates.{place_in, has_node, least_node, ascends, IsEdgeMet, IsPart, Certifies}
 use Rattle.lid_cert.specs.Owners.{owner_of, Claims, Owns, part_at, no_part, IsEdgeOwned, AreOwned, IsPartInside}
-use Rattle.lid_cert.proofs.Parts.{Placed, placed}
+use Rattle.lid_cert.proofs.Parts.{placed}
 
 abbrev bit : Bool → ℕ
 bit b = cond b 1 0

@@ -12,7 +12,7 @@ use Rattle.lid_cert.specs.Certificates.{AreLists}
 use Rattle.lid_lines.specs.Texts.{Words, line_text, lines_text, spaced}
 use Rattle.lid_lines.proofs.Pieces.{line_text_cons, lines_text_append, spaced_push}
 use Rattle.lid_certtext.specs.Written.{via_word, node_words, node_rows, count_words, ratio_words, cycle_words, part_lines, parts_lines, header_words, cert_text}
-use Rattle.lid_certtext.specs.Printed.{IsSmall, IsSmallVia, IsPartSmall, IsPartFull, IsPartPrintable, IsReadBack, room, PrintedIsShort}
+use Rattle.lid_certtext.specs.Printed.{IsSmall, IsSmallVia, IsPartSmall, IsPartFull, IsPartPrintable, IsReadBack, room, PrintedIsShort, RoomIsSmall}
 use Rattle.lid_certtext.proofs.PrintedLines.{rows_push}
 use Rattle.lid_certtext.proofs.ReadBack.{printed_is_read_back}
 
@@ -97,6 +97,19 @@ unfolding cert_text
 printed_is_short cert parts few =
     let all = parts_length cert.parts (recursion_from_All IsPartPrintable cert.parts parts) (recursion_from_All (λ part. IsSmall (length part.nodes)) cert.parts few) in
     omega (arith, all, length-append (line_text header_words) (lines_text (parts_lines cert.parts)), header_length)
+
+rooms : (parts : List Part) → AllByRecursion (λ part. 1 ≤ length part.nodes) parts → AllByRecursion (λ part. length part.cycle ≤ length part.nodes) parts → sum_by room parts ≤ 139 * sum_by (λ part. length part.nodes) parts
+rooms [] some short = omega arith
+rooms (part ∷ parts) some short =
+    let later = rooms parts some.1 short.1 in
+    let first = some.0 in
+    let walk = short.0 in
+    let whole = sum_by-cons room part parts in
+    let nodes = sum_by-cons (λ (x : Part). length x.nodes) part parts in
+    omega (arith, later, first, walk, whole, nodes)
+
+pub room_is_small : RoomIsSmall
+room_is_small cert some short = rooms cert.parts (recursion_from_All (λ part. 1 ≤ length part.nodes) cert.parts some) (recursion_from_All (λ part. length part.cycle ≤ length part.nodes) cert.parts short)
 
 -- both laws by what is known of each part on its own
 module _ (cert : Cert) (lists : All AreLists cert.parts) (small : All IsPartSmall cert.parts) (full : All IsPartFull cert.parts) where

@@ -52,3 +52,11 @@ PrintedIsShort =
     → All IsPartPrintable cert.parts
     → All (λ part. IsSmall (length part.nodes)) cert.parts
     → length (cert_text cert) ≤ 11 + sum_by room cert.parts
+
+-- where no walk has more edges than its part has transitions, 139 bytes for each transition are enough room
+abbrev pub RoomIsSmall : Type 0
+RoomIsSmall =
+    (cert : Cert)
+    → All (λ part. 1 ≤ length part.nodes) cert.parts
+    → All (λ part. length part.cycle ≤ length part.nodes) cert.parts
+    → sum_by room cert.parts ≤ 139 * sum_by (λ part. length part.nodes) cert.parts

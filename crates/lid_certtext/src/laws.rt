@@ -1,7 +1,7 @@
 //! What is known of printed certificates. Each function here does nothing; its contract is a law for all
 //! certificates.
 
-ghost use Rattle.lid_certtext.specs.Printed.{PrintedIsReadBack, PrintedIsShort};
+ghost use Rattle.lid_certtext.specs.Printed.{PrintedIsReadBack, PrintedIsShort, RoomIsSmall};
 
 /// The text of a certificate is read back as the certificate, where each part has a transition, an edge
 /// of its walk, and numbers in the ranges of the text, and the text has at most 16,777,216 bytes. A
@@ -14,4 +14,10 @@ pub fn printed_is_read_back()
 /// and for each part 50, 11 for each edge of its walk and 78 for each transition.
 pub fn printed_is_short()
     ensures { PrintedIsShort }
+{}
+
+/// Where no walk has more edges than its part has transitions, that is at most 139 bytes for each
+/// transition of all parts together.
+pub fn room_is_small()
+    ensures { RoomIsSmall }
 {}

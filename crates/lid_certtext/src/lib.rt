@@ -11,6 +11,6 @@ mod words;
 mod writer;
 
 pub use fault::CertFault;
-pub use laws::{printed_is_read_back, printed_is_short};
+pub use laws::{printed_is_read_back, printed_is_short, room_is_small};
 pub use reader::read_cert;
 pub use writer::print_cert;

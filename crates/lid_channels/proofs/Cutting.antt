@@ -46,7 +46,9 @@ tops r (c ∷ before) = by (is_between c r) refl (nat_lt (length c.ports) 31)
   where
     by : (b : Bool) → is_between c r ≡ b → (room : Bool) → Tops r (placed r (c ∷ before) (cond b (cond room None (Some (c.piece + 1))) (Some 0)))
     by true e true = record {
-      c = with_port c r; before = before; is = refl;
+      c = with_port c r;
+      before = before;
+      is = refl;
       from = equal c.from r.from (and_left (eqb c.from r.from) (eqb c.to r.to) e);
       to = equal c.to r.to (and_right (eqb c.from r.from) (eqb c.to r.to) e);
       some = let l = length-append c.ports (r.port ∷ []) in omega arith;
@@ -69,9 +71,10 @@ meets (q ∷ qs) r = record { none = λ e. absurd (cc); some = some }
         let here : c ∷ before ≡ top.c ∷ top.before = sym e ∙ top.is in
         let same : c ≡ top.c = cc in
         let from = top.from in
-        let to = top.to in
-        (ap (λ (x : Channel). is_between x r) same ∙ ap (λ (n : ℕ). eqb n r.from && eqb top.c.to r.to) from ∙ ap (λ (n : ℕ). eqb q.from r.from && eqb n r.to) to,
-        subst (λ (x : Channel). 0 < length x.ports) (sym same) top.some)
+        let to = top.to in (
+          ap (λ (x : Channel). is_between x r) same ∙ ap (λ (n : ℕ). eqb n r.from && eqb top.c.to r.to) from ∙ ap (λ (n : ℕ). eqb q.from r.from && eqb n r.to) to,
+          subst (λ (x : Channel). 0 < length x.ports) (sym same) top.some,
+        )
 
 -- how wide the last channel gets, and whether it is a new one
 pub record Widens (r : Read) (channels : List Channel) (b : Bool) : Type 0 where

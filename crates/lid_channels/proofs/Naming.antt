@@ -56,7 +56,7 @@ carry_ports channels chan c here before [] whole = tt
 carry_ports channels chan c here before (p ∷ ports) whole = (
   record { c = c; here = here; from = refl; to = refl; port = ap (λ (xs : List ℕ). slice_get xs (length before)) whole ∙ get_past before ports p },
   subst (λ (n : ℕ). CarryAll channels (map (read_by c) ports) (from_each (Port chan) n (length ports))) (length-append before (p ∷ []))
-  (carry_ports channels chan c here (before ++ p ∷ []) ports (whole ∙ sym (append_assoc before (p ∷ []) ports))),
+      (carry_ports channels chan c here (before ++ p ∷ []) ports (whole ∙ sym (append_assoc before (p ∷ []) ports))),
 )
 
 carry_from : (before cs : List Channel) → CarryAll (before ++ cs) (flat_map reads_in cs) (bits_from (length before) cs)

@@ -1,2 +1,12 @@
 pub mod Wired
+pub mod Numbering
+pub mod Rising
+pub mod Accepted
+pub mod Leading
+pub mod Marking
+pub mod Rooted
+pub mod Reading
+pub mod Facts
+pub mod Led
+pub mod Joining
 pub mod Once

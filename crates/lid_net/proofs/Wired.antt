@@ -1,19 +1,21 @@
 -- Nodes that are made one after another.
-use Rattle.std.proofs.Common.{◌≡◌, ◌<◌, ◌+◌, ℕ, zero, suc, List, [], ◌∷◌, ◌++◌, length, map, take, drop, reverse, get_or, append_assoc, refl, sym, ◌∙◌, ap, subst, arith, length-append}
+use Rattle.std.proofs.Common.{◌≡◌, ◌<◌, ◌≤◌, ◌+◌, ℕ, zero, suc, List, [], ◌∷◌, ◌++◌, length, map, take, drop, reverse, get_or, append_assoc, append-nil, refl, sym, ◌∙◌, ap, subst, arith, length-append}
 use Rattle.std.specs.List.{AllByRecursion}
 use Rattle.std.proofs.Math.Seq.{take-suc}
 use Rattle.std.proofs.lemmas.List.{reverse-append, length-map}
+use Rattle.lid_base.specs.Lists.{Among}
+use Rattle.lid_base.proofs.Lists.{all_among, among_at}
 use Rattle.lid_system.specs.declared.Channel.{Channel}
 use Rattle.lid_system.specs.declared.InBit.{InBit}
 use Rattle.lid_system.specs.declared.Node.{Node}
-use Rattle.lid_system.specs.declared.Node.TheVariants.{Shell}
+use Rattle.lid_system.specs.declared.Node.TheVariants.{Source, Shell, Sink}
 use Rattle.lid_channels.specs.Bits.{CarryAll}
 use Rattle.lid_leads.specs.declared.origin.Origin.{Origin}
 use Rattle.std.proofs.Common.{Option}
 use Rattle.lid_net.specs.declared.part.Part.{Part}
 use Rattle.lid_net.specs.declared.nodes.Wiring.{Wiring}
 use Rattle.lid_net.specs.Marks.{part_ins}
-use Rattle.lid_net.specs.Nodes.{IsBitFor, AreBits, CanRead, CanReadAll, AreShells, AreShellsSoFar}
+use Rattle.lid_net.specs.Nodes.{IsBitFor, AreBits, CanRead, CanReadAll, IsShellFor, AreShells, AreShellsSoFar}
 
 pub bits_push : (channels : List Channel) (origins : List (Option Origin)) (to : ℕ) (ks : List ℕ) (xs : List InBit) (k : ℕ) (x : InBit) → AreBits channels origins to ks xs → IsBitFor channels origins to k x → AreBits channels origins to (ks ++ k ∷ []) (xs ++ x ∷ [])
 bits_push channels origins to [] [] k x h b = (b, tt)

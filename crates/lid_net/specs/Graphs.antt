@@ -1,6 +1,6 @@
 -- The system graph of a design: its nodes, their ports, what leads back to them, and the channels. All of
 -- this is said of the design alone.
-use Rattle.std.specs.Prelude.{◌≡◌, ◌↔◌, ◌==◌, if◌then◌else◌, ℕ, zero, suc, List, [], length, map, flat_map, reverse, slice_get, Some}
+use Rattle.std.specs.Prelude.{◌≡◌, ◌↔◌, ◌==◌, if◌then◌else◌, ℕ, zero, suc, List, [], ◌∷◌, length, map, flat_map, reverse, slice_get, Some}
 use Rattle.std.specs.Option.{option_map_or}
 use Rattle.lid_base.specs.Lists.{Among}
 use Rattle.lid_cover.specs.declared.Cover.{Cover}

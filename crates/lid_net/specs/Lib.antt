@@ -2,3 +2,5 @@ pub mod Marks
 pub mod Reads
 pub mod Nodes
 pub mod Graphs
+pub mod PearlParts
+pub mod Systems

@@ -1,8 +1,8 @@
 -- Ports that are marked among columns, by numbers.
-use Rattle.std.specs.Prelude.{◌≡◌, ◌+◌, ℕ, List, [], ◌∷◌, Option, Some, set}
+use Rattle.std.specs.Prelude.{◌≡◌, ◌⊎◌, ◌+◌, ℕ, List, [], ◌∷◌, Option, Some, None, set}
 use Rattle.lid_pearl.specs.Pearls.{View}
 use Rattle.lid_leads.specs.declared.origin.Origin.{Origin}
-use Rattle.lid_leads.specs.declared.origin.Origin.TheVariants.{Port}
+use Rattle.lid_leads.specs.declared.origin.Origin.TheVariants.{Const, Port}
 use Rattle.lid_net.specs.declared.part.Part.{Part}
 
 abbrev pub part_outs : Part → List ℕ

@@ -1,11 +1,12 @@
 //! The system of an accepted design.
 #![tactic(auto)]
 
-mod building;
+mod assembly;
 mod collect;
 mod marks;
 mod nodes;
 mod part;
+mod pearls;
 
-pub use building::build;
+pub use assembly::build;
 pub use lid_channels::NetFault;

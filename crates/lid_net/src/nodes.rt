@@ -26,6 +26,7 @@ pub struct Wiring {
 }
 
 /// The root's data inputs and outputs, and the numbers of the columns of the outputs.
+#[derive(Clone, Copy)]
 pub struct Ends<'c> {
     pub inputs: &'c [Name],
     pub outputs: &'c [Name],

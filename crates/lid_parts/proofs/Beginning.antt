@@ -52,7 +52,7 @@ apart_once : (xs : List (List ℕ)) → ((x : List ℕ) → Among x xs → is_tw
 apart_once [] once = tt
 apart_once (x ∷ xs) once = (not_later x xs (once x (inl refl)), apart_once xs (λ z among. later_once x z xs (once z (inr among))))
 
-apart_filter : (p : List ℕ → Bool) (xs : List (List ℕ)) → AreApart xs → AreApart (filter p xs)
+pub apart_filter : (p : List ℕ → Bool) (xs : List (List ℕ)) → AreApart xs → AreApart (filter p xs)
 apart_filter p [] apart = tt
 apart_filter p (x ∷ xs) apart = by (p x) (apart_filter p xs apart.1)
   where
@@ -127,11 +127,11 @@ module _ (d : Design) (judged : IsJudged d) (k : ℕ) (reached : IsReached d k) 
       let at_m : duplicate_in (k == d.root) m ≡ None = ap (option_and_then (duplicate_in (k == d.root))) (sym here) ∙ at_k in
       none_found (is_duplicate (k == d.root) m) (occurrences m) (map_none _ _ at_m) net occurs
 
-  inputs_apart : AreApart m.inputs
+  pub inputs_apart : AreApart m.inputs
   unfolding occurrences
   inputs_apart = apart_once m.inputs (λ net among. or_none_one (is_twice m.inputs net) _ (not_duplicate net (among_left net _ _ (among_left net _ _ (among_left net _ _ (among_left net m.inputs m.outputs among))))))
 
-  outputs_apart : AreApart m.outputs
+  pub outputs_apart : AreApart m.outputs
   unfolding occurrences
   outputs_apart = apart_once m.outputs (λ net among. or_none_one (is_twice m.outputs net) _ (or_none_two (is_twice m.inputs net) _ (not_duplicate net (among_left net _ _ (among_left net _ _ (among_left net _ _ (among_right net m.inputs m.outputs among)))))))
 

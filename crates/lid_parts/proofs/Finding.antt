@@ -42,7 +42,7 @@ inst_pearls d some = by (length (insts_of d d.root)) some
 pub inst_count : (d : Design) → 0 < length (insts_of d d.root) → length (pearls d) ≡ length (insts_of d d.root)
 inst_count d some = ap length (inst_pearls d some) ∙ length-map-range_with_len (λ i. i ∷ []) 0 (length (insts_of d d.root))
 
-inst_pearl : (d : Design) (i : ℕ) → i < length (insts_of d d.root) → slice_get (pearls d) i ≡ Some (i ∷ [])
+pub inst_pearl : (d : Design) (i : ℕ) → i < length (insts_of d d.root) → slice_get (pearls d) i ≡ Some (i ∷ [])
 inst_pearl d i below =
     let some : 0 < length (insts_of d d.root) = omega arith in
     let count = inst_count d some in

@@ -1,9 +1,9 @@
 -- The piece of a component, and the part that it gives.
-use Rattle.std.proofs.Common.{◌≡◌, ℕ, zero, suc, ◌+◌, ◌-◌, ◌*◌, ◌^◌, ◌<◌, ◌≤◌, ◌≢◌, ◌==◌, ◌⊎◌, inl, inr, Bool, true, false, List, [], ◌∷◌, length, get_or, map, position, Option, Some, None, is_some, option_map, refl, sym, ◌∙◌, ap, subst, arith}
-use Rattle.std.specs.List.{Contains, All}
+use Rattle.std.proofs.Common.{◌≡◌, ℕ, zero, suc, ◌+◌, ◌-◌, ◌*◌, ◌^◌, ◌<◌, ◌≤◌, ◌≢◌, ◌==◌, ◌⊎◌, inl, inr, true, false, List, [], ◌∷◌, length, get_or, map, position, Option, Some, None, is_some, option_map, refl, sym, ◌∙◌, ap, subst, arith}
+use Rattle.std.specs.List.{Contains}
 use Rattle.std.specs.Option.{MatchOption, option_map_or}
 use Rattle.std.specs.Int.{IsGcd}
-use Rattle.std.proofs.lemmas.Bool.{cases_lt, cases_eq, eq-eqb, eqb-true, ne_eqb}
+use Rattle.std.proofs.lemmas.Bool.{cases_lt, eq-eqb, eqb-true}
 use Rattle.std.proofs.lemmas.List.{length-map, get_or-map, get_or_default}
 use Rattle.lid_graph.specs.declared.graph.Graph.{Graph}
 use Rattle.lid_graph.specs.Walks.{no_edge, edge_at, walk_start, walk_tokens, IsWalk, IsClosedWalk, IsJoined}
@@ -42,17 +42,11 @@ module _ (g : Graph) (ok : IsRateable g) (least : List ℕ) (labels : AreLabels 
       joined_step g u (get_or least u 0) v to_label (subst (λ (n : ℕ). IsJoined g n v) (sym same) back)
 
   module _ (r : ℕ) (own : get_or least r 0 ≡ r) (r_within : r < g.nodes) where
-    abbrev es : List ℕ
-    es = edges_of g least r
-
     abbrev Inside : ℕ → Type 0
     Inside v = get_or least v 0 ≡ r
 
     pub edge_listed : (k : ℕ) → k < length g.edges → Inside (edge_at g k).from → Stands (edges_of g least r) k
     edge_listed k h inside = those_all (λ k. is_labelled least r (edge_at g k).from) (length g.edges) k h (eq-eqb (get_or least (edge_at g k).from 0) r inside)
-
-    pub stands_contains : (k : ℕ) → Stands (edges_of g least r) k → Contains (edges_of g least r) k
-    stands_contains k at = (at.place, at.within, get_or_default (edges_of g least r) at.place k 0 at.within ∙ at.is)
 
     -- the transitions of the piece, and its edges
     pub node_is : (i : ℕ) → i < length (numbers_where (is_labelled least r) (length least)) → (get_or (numbers_where (is_labelled least r) (length least)) i 0 < g.nodes) × Inside (get_or (numbers_where (is_labelled least r) (length least)) i 0)

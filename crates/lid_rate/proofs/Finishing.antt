@@ -1,13 +1,10 @@
 -- What the making of a part needs.
-use Rattle.std.proofs.Common.{◌≡◌, ℕ, ◌+◌, ◌-◌, ◌*◌, ◌^◌, ◌<◌, ◌≤◌, ◌≢◌, ◌==◌, ◌&&◌, ◌⊎◌, inl, inr, Bool, true, false, List, [], ◌∷◌, length, get_or, Option, Result, Ok, Err, refl, sym, ◌∙◌, ap, subst, arith}
-use Rattle.std.specs.List.{All}
-use Rattle.std.specs.Result.{IfOk}
-use Rattle.std.proofs.lemmas.Bool.{cases_eq, cases_lt, eq-eqb, eqb-true, and_parts}
-use Rattle.std.proofs.lemmas.List.{get_or_default}
+use Rattle.std.proofs.Common.{◌≡◌, ℕ, ◌+◌, ◌-◌, ◌*◌, ◌<◌, ◌≤◌, ◌==◌, ◌&&◌, Bool, true, false, length, refl, sym, ◌∙◌, ap, arith}
+use Rattle.std.proofs.lemmas.Bool.{eq-eqb, eqb-true, and_parts}
 use Rattle.std.proofs.Math.Nat.{mul-le-mul_right}
 use Rattle.lid_graph.specs.declared.graph.Edge.{Edge}
 use Rattle.lid_graph.specs.declared.graph.Graph.{Graph}
-use Rattle.lid_graph.specs.Walks.{edge_at, walk_start, IsPaired, IsClosedWalk}
+use Rattle.lid_graph.specs.Walks.{edge_at, IsPaired}
 use Rattle.lid_rate.specs.Rates.{IsLoopAt, is_loop_edge}
 
 pub lead_enough : (p q s n : ℕ) → s ≡ q - p → q * n ≤ s * n + p * n
@@ -16,24 +13,6 @@ lead_enough p q s n is = let scaled : q * n ≤ (s + p) * n = mul-le-mul_right n
 -- an edge of a transition to itself comes at last
 pub loop_somewhere : (g : Graph) (v : ℕ) → IsPaired g → v < g.nodes → (i : ℕ) × IsLoopAt g v i
 loop_somewhere g v paired h = let self = paired.self v h in (self.0, record { within = self.1; from = self.2; to = self.3; token = self.4 })
-
-pub next_within : (g : Graph) (v k : ℕ) → IsPaired g → v < g.nodes → ((i : ℕ) → i < k → IsLoopAt g v i → ⊥) → (IsLoopAt g v k → ⊥) → k + 1 < length g.edges
-next_within g v k paired h before not_here = by_order (loop_somewhere g v paired h)
-  where
-    at : (i : ℕ) → IsLoopAt g v i → (i < k) ⊎ (k ≤ i) → (i ≡ k) ⊎ (i ≢ k) → k + 1 < length g.edges
-    at i loop (inl less) e = absurd (before i less loop)
-    at i loop (inr more) (inl is) = absurd (not_here (subst (IsLoopAt g v) is loop))
-    at i loop (inr more) (inr other) = let w = loop.within in omega arith
-
-    by_order : (i : ℕ) × IsLoopAt g v i → k + 1 < length g.edges
-    by_order found = at found.0 found.1 (cases_lt found.0 k) (cases_eq found.0 k)
-
-pub none_before : (g : Graph) (v k : ℕ) → ((i : ℕ) → i < k → IsLoopAt g v i → ⊥) → (IsLoopAt g v k → ⊥) → (i : ℕ) → i < k + 1 → IsLoopAt g v i → ⊥
-none_before g v k before not_here i h loop = by_index (cases_eq i k)
-  where
-    by_index : (i ≡ k) ⊎ (i ≢ k) → ⊥
-    by_index (inl is) = not_here (subst (IsLoopAt g v) is loop)
-    by_index (inr other) = before i (omega arith) loop
 
 pub loop_told : (g : Graph) (v k : ℕ) (e : Edge) (b : Bool) → e ≡ edge_at g k → b ≡ is_loop_edge e v → k < length g.edges → b ≡ true → IsLoopAt g v k
 loop_told g v k e b e_is b_is h holds =

@@ -1,11 +1,10 @@
 -- A tree that no edge leads out of comes to each transition that is joined to its start.
-use Rattle.std.proofs.Common.{◌≡◌, ℕ, ◌+◌, ◌*◌, ◌^◌, ◌<◌, ◌≤◌, ◌≢◌, ◌==◌, Bool, true, false, ◌||◌, List, [], ◌∷◌, length, get_or, Option, Some, None, is_some, refl, sym, ◌∙◌, ap, subst, arith}
+use Rattle.std.proofs.Common.{◌≡◌, ℕ, ◌*◌, ◌^◌, ◌<◌, ◌≤◌, ◌≢◌, ◌==◌, Bool, true, false, ◌||◌, List, [], ◌∷◌, length, get_or, Option, Some, None, is_some, refl, ◌∙◌, ap, subst, arith}
 use Rattle.std.specs.Option.{MatchOption}
 use Rattle.std.proofs.lemmas.Bool.{eq-eqb, ne_eqb}
 use Rattle.std.proofs.Math.Nat.{mul-le-mul_right}
 use Rattle.lid_graph.specs.declared.graph.Graph.{Graph}
 use Rattle.lid_graph.specs.Walks.{edge_at, IsWalk}
-use Rattle.lid_ratio.specs.Relaxation.{AreAtMost}
 use Rattle.lid_ratio.specs.SpanningTrees.{is_reached, IsTree, IsSpanning}
 use Rattle.lid_ratio.specs.Components.{IsSmallGraph, AreAllJoined, IsBranch, SpansFrom}
 use Rattle.lid_ratio.specs.Numbers.{AreAllNumbers}

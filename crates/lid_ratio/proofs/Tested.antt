@@ -1,18 +1,17 @@
 -- What the test of a guess shows.
 use Rattle.std.proofs.Common.{◌≡◌, ℕ, zero, suc, ◌+◌, ◌*◌, ◌^◌, ◌<◌, ◌≤◌, ◌≢◌, ◌⊎◌, inl, inr, Bool, true, false, List, [], ◌∷◌, ◌++◌, length, get_or, set, Option, Some, None, refl, sym, ◌∙◌, ap, subst, arith}
-use Rattle.std.specs.Prelude.{IsTrue}
 use Rattle.std.specs.List.{All}
 use Rattle.std.specs.Option.{MatchOption}
 use Rattle.std.proofs.lemmas.Bool.{cases_eq, cases_lt}
 use Rattle.std.proofs.lemmas.List.{get_or-set_same, get_or-set_other, length-set, get_or_past, get_or_default, length-append}
 use Rattle.lid_graph.specs.declared.graph.Graph.{Graph}
-use Rattle.lid_graph.specs.Walks.{edge_at, walk_start, walk_tokens, IsWalk, IsClosedWalk}
+use Rattle.lid_graph.specs.Walks.{edge_at, walk_start, walk_tokens, IsWalk}
 use Rattle.lid_graph.proofs.Journeys.{walk_append}
 use Rattle.lid_ratio.specs.WalksBack.{MeetsOnce}
 use Rattle.lid_ratio.specs.Relaxation.{AreAtMost}
 use Rattle.lid_ratio.specs.CycleRatios.{IsLowest}
 use Rattle.lid_ratio.specs.Components.{IsSmallGraph, IsCycle, IsAsked, AreLeastLags, HasRate}
-use Rattle.lid_ratio.specs.Tests.{LeadsOn, IsSeenRound, IsTight, IsShown, AreShown}
+use Rattle.lid_ratio.specs.Tests.{LeadsOn, IsSeenRound, IsTight, AreShown}
 use Rattle.lid_ratio.proofs.Backward.{tokens_append}
 
 -- where all of a list are at most a number, so is what is read past its end

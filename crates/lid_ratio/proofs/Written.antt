@@ -1,8 +1,8 @@
 -- A list in which one number stands anew.
-use Rattle.std.proofs.Common.{◌≡◌, ℕ, ◌<◌, ◌≢◌, ◌⊎◌, inl, inr, ◌+◌, ◌++◌, List, [], ◌∷◌, length, get_or, set, take, map, Option, Some, None, sym, ◌∙◌, ap}
+use Rattle.std.proofs.Common.{◌≡◌, ℕ, ◌<◌, ◌≢◌, ◌⊎◌, inl, inr, List, length, get_or, set, Option, Some, None, sym, ◌∙◌, ap}
 use Rattle.std.proofs.lemmas.Bool.{cases_eq}
 use Rattle.std.proofs.lemmas.Option.{same_Some}
-use Rattle.std.proofs.lemmas.List.{get_or-set_same, get_or-set_other, length-set, get_or_default, map-append, take_more}
+use Rattle.std.proofs.lemmas.List.{get_or-set_same, get_or-set_other, length-set}
 
 -- what is read of a list after one place was written
 pub record IsWritten {A : Type 0} (old new : List A) (i : ℕ) (x default : A) : Type 0 where
@@ -27,13 +27,3 @@ standing old new i k put v l e = by_end (cases_eq v i)
     by_end : (v ≡ i) ⊎ (v ≢ i) → IsStanding old i k v l
     by_end (inl is) = inl (is, same_Some k l (sym put.here ∙ (ap (λ (n : ℕ). get_or new n None) (sym is) ∙ e)))
     by_end (inr other) = inr (other, sym (put.there v other) ∙ e)
-
--- a column of what a list has at some places, with one place more
-pub column_more : {A : Type 0} (all : List A) (nodes : List ℕ) (i : ℕ) (column new : List A) (x default : A) → i < length nodes → get_or nodes i 0 < length all
-    → column ≡ map (λ v. get_or all v default) (take i nodes) → new ≡ column ++ x ∷ [] → x ≡ get_or all (get_or nodes i 0) x → new ≡ map (λ v. get_or all v default) (take (i + 1) nodes)
-column_more {A} all nodes i column new x default within inside so is read =
-    let here : x ≡ get_or all (get_or nodes i 0) default = read ∙ get_or_default all (get_or nodes i 0) x default inside in
-    is ∙ ap (λ (xs : List A). xs ++ x ∷ []) so
-    ∙ ap (λ (y : A). map (λ v. get_or all v default) (take i nodes) ++ y ∷ []) here
-    ∙ sym (map-append (λ v. get_or all v default) (take i nodes) (get_or nodes i 0 ∷ []))
-    ∙ ap (map (λ v. get_or all v default)) (sym (take_more nodes i 0 within))

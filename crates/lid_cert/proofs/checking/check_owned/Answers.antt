@@ -1,4 +1,4 @@
-use Rattle.std.proofs.Common.{List, Option, replicate, None, sym, subst}
+use Rattle.std.proofs.Common.{List, replicate, None, sym, subst}
 use Rattle.lid_cert.specs.declared.cert.Part.{Part}
 use Rattle.lid_cert.specs.Owners.{Owns}
 use Rattle.lid_cert.proofs.Owning.{certifies_of, owned_of}

@@ -1,4 +1,4 @@
-use Rattle.lid_cert.proofs.Owning.{is_part_of, inside_of}
+use Rattle.lid_cert.proofs.Owning.{is_part_of}
 use Rattle.lid_cert.proofs.checking.is_part.Goals as goal
 
 pub returns-then-is_part_inside : goal.returns-then-is_part_inside

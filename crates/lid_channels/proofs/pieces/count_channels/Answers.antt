@@ -19,8 +19,8 @@ overflow_add-count c =
     let short = count_short c.args.reads.now (c.loop-i.i + 1) in
     let more = count_more c.args.reads.now c.loop-i.i _ c.loop-i-test.true (item_is c.args.reads.now c.loop-i.i c.loop-i-test.true) in
     let sum : c.loop-i.count + c.one_if-count.result ≡ length (cut_back (reverse (take (c.loop-i.i + 1) c.args.reads.now))) =
-        ap (λ (n : ℕ). n + c.one_if-count.result) c.loop-i.invariant.counted
-        ∙ ap (λ (n : ℕ). length (cut_back (reverse (take c.loop-i.i c.args.reads.now))) + n) (c.one_if-count.ensures ∙ ap (λ (n : ℕ). cond (eqb n 1) 1 0) c.width_after-width.ensures)
-        ∙ sym more in
+    ap (λ (n : ℕ). n + c.one_if-count.result) c.loop-i.invariant.counted
+    ∙ ap (λ (n : ℕ). length (cut_back (reverse (take c.loop-i.i c.args.reads.now))) + n) (c.one_if-count.ensures ∙ ap (λ (n : ℕ). cond (eqb n 1) 1 0) c.width_after-width.ensures)
+    ∙ sym more in
     let room : c.loop-i.count + c.one_if-count.result ≤ c.loop-i.i + 1 = subst (λ (n : ℕ). n ≤ c.loop-i.i + 1) (sym sum) short in
     omega arith

@@ -5,7 +5,7 @@ use Rattle.lid_channels.proofs.Cutting.{channels_are, channels_there}
 use Rattle.lid_channels.proofs.pieces.cut_channels.Goals as goal
 
 pub returns-then-count-gt-MOST_CHANNELS-clause-err : goal.returns-then-count-gt-MOST_CHANNELS-clause-err
-returns-then-count-gt-MOST_CHANNELS-clause-err c = 
+returns-then-count-gt-MOST_CHANNELS-clause-err c =
     let t = channels_there c.args.reads.now in
     let count = c.count_channels-count.ensures in
     inr (_, t.0, (let long = t.1 in let more = c.if-count-gt-MOST_CHANNELS.true in omega arith), ap TooManyChannels (count ∙ sym t.1))

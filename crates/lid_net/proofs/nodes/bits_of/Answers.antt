@@ -1,4 +1,4 @@
-use Rattle.std.proofs.Common.{List, take, sym, subst, ◌+◌}
+use Rattle.std.proofs.Common.{List, ◌++◌, ◌∷◌, [], take, sym, subst, ◌+◌}
 use Rattle.lid_system.specs.declared.InBit.{InBit}
 use Rattle.lid_net.specs.Nodes.{AreBits}
 use Rattle.lid_net.proofs.Wired.{bits_more}

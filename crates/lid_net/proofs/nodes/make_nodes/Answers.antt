@@ -1,4 +1,4 @@
-use Rattle.std.proofs.Common.{length, ap}
+use Rattle.std.proofs.Common.{◌≡◌, ◌+◌, ℕ, length, ap, sym, ◌∙◌, subst}
 use Rattle.lid_net.proofs.Wired.{read_sink, read_shells}
 use Rattle.lid_net.proofs.nodes.make_nodes.Goals as goal
 

@@ -1,4 +1,4 @@
-use Rattle.std.proofs.Common.{◌+◌, ℕ, length, ap, subst}
+use Rattle.std.proofs.Common.{◌≡◌, ◌+◌, ℕ, length, ap, sym, ◌∙◌, subst}
 use Rattle.lid_net.specs.Nodes.{AreBits}
 use Rattle.lid_net.proofs.Wired.{popped, read_part, shells_more}
 use Rattle.lid_net.proofs.nodes.push_shells.Goals as goal

@@ -1,4 +1,3 @@
-use Rattle.std.proofs.Common.{sym, ◌∙◌}
 use Rattle.lid_rate.proofs.Cutting.{found_here, listed_is_found}
 use Rattle.lid_rate.proofs.pieces.place.Goals as goal
 

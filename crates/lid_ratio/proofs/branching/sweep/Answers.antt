@@ -1,5 +1,4 @@
-use Rattle.std.proofs.Common.{ℕ, List, length, sym, subst}
-use Rattle.lid_ratio.specs.Components.{SpansFrom}
+use Rattle.std.proofs.Common.{ℕ, length, sym, subst}
 use Rattle.lid_ratio.specs.Numbers.{AreAllNumbers}
 use Rattle.lid_ratio.proofs.Reached.{spans}
 use Rattle.lid_ratio.proofs.branching.sweep.Goals as goal

@@ -1,4 +1,4 @@
-use Rattle.std.proofs.Common.{ℕ, List, length, sym, subst}
+use Rattle.std.proofs.Common.{ℕ, length, sym, subst}
 use Rattle.lid_ratio.specs.BellmanFord.{Settles, AreLags, IsLower}
 use Rattle.lid_ratio.specs.Numbers.{AreAllNumbers}
 use Rattle.lid_ratio.proofs.Searched.{lags_keep, lower_walk}

@@ -1,4 +1,4 @@
-use Rattle.std.proofs.Common.{◌<◌, ◌≡◌, ℕ, length, refl, arith}
+use Rattle.std.proofs.Common.{length, refl, arith}
 use Rattle.lid_graph.specs.Walks.{walk_start}
 use Rattle.lid_ratio.proofs.Tested.{leads_within, cycle_of}
 use Rattle.lid_ratio.proofs.judging.ratio_of.Goals as goal

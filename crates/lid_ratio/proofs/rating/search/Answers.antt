@@ -1,4 +1,4 @@
-use Rattle.std.proofs.Common.{ℕ, List, length, sym, subst}
+use Rattle.std.proofs.Common.{ℕ, length, sym, subst}
 use Rattle.std.proofs.lemmas.Result.{IfOk-weaker}
 use Rattle.lid_ratio.specs.Numbers.{AreAllNumbers}
 use Rattle.lid_ratio.proofs.Searched.{one_token_loop, has_rate}
