@@ -187,7 +187,7 @@ fn say_three<'a, E: Sink>(
     );
 }
 
-/// Says a name alone, or the stage alone where there is none.
+/// Says a refusal without fields.
 fn say_bare<'a, E: Sink>(err: &mut E, stage: &'a str, fault: &'a str)
     ensures { Says E.written E.faults err.old err.new (fault_line (stage.now ∷ fault.now ∷ [])) }
 {
