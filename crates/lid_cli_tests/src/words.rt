@@ -230,7 +230,10 @@ fn words_are_the_jobs_of_the_table(rt: HostRuntime) {
         assert!(rt; are_words_of(rt.alloc(), words, *expected), "{words:?}");
     }
     for (words, expected) in &CHECKS {
-        assert!(rt; are_words_of_check(rt.alloc(), words, *expected), "{words:?}");
+        assert!(rt;
+            are_words_of_check(rt.alloc(), words, *expected),
+            "{words:?}"
+        );
     }
     for option in &OTHERS {
         assert!(rt; is_refused(rt.alloc(), option), "{option}");
