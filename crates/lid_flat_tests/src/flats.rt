@@ -1,16 +1,16 @@
 //! Pearls with numbered nets.
 
 use lid_check::{Checked, check};
-use lid_cover::{Cover, eval};
+use lid_cover::Cover;
 use lid_design::{Flat, FlatCover, FlatLatch};
 use std::alloc::Global;
 
 /// A latch: the net that it reads, the net that it drives, and its first bit.
 type Held = (u32, u32, bool);
 
-/// A cover: the net that it drives, the nets that it reads, and its values: bit v is that at the inputs
-/// whose bits make v.
-type Made = (u32, &'static [u32], u64);
+/// A cover: the net that it drives, the nets that it reads, whether its rows are those where it is 1, and
+/// the rows as masks of care and of value.
+type Made = (u32, &'static [u32], bool, &'static [(u64, u64)]);
 
 /// The nets, inputs, outputs, latches and covers of a flat part.
 type Part = (
@@ -52,7 +52,13 @@ static PARTS: [(&[u8], u32, Part); 8] = [
     (
         DIAMOND,
         1,
-        (4, &[0, 1], &[2], &[(3, 2, false)], &[(3, &[0, 1], 6)]),
+        (
+            4,
+            &[0, 1],
+            &[2],
+            &[(3, 2, false)],
+            &[(3, &[0, 1], true, &[(3, 1), (3, 2)])],
+        ),
     ),
     (
         STAGE,
@@ -62,7 +68,7 @@ static PARTS: [(&[u8], u32, Part); 8] = [
             &[0, 1, 2, 3],
             &[4, 5, 6],
             &[(7, 4, false), (2, 5, false), (3, 6, false)],
-            &[(7, &[1, 0], 6)],
+            &[(7, &[1, 0], true, &[(3, 1), (3, 2)])],
         ),
     ),
     (NESTED, 0, (2, &[0], &[1], &[(0, 1, false)], &[])),
@@ -74,7 +80,11 @@ static PARTS: [(&[u8], u32, Part); 8] = [
             &[0],
             &[1],
             &[(2, 1, true)],
-            &[(2, &[4], 2), (3, &[0], 2), (4, &[3], 1)],
+            &[
+                (2, &[4], true, &[(1, 1)]),
+                (3, &[0], true, &[(1, 1)]),
+                (4, &[3], true, &[(1, 0)]),
+            ],
         ),
     ),
     (
@@ -85,20 +95,26 @@ static PARTS: [(&[u8], u32, Part); 8] = [
             &[0],
             &[1],
             &[(0, 2, false)],
-            &[(1, &[2, 3], 8), (3, &[], 1)],
+            &[
+                (1, &[2, 3], false, &[(3, 2), (2, 0)]),
+                (3, &[], true, &[(0, 0)]),
+            ],
         ),
     ),
 ];
 
-/// The values of a cover of fewer than six inputs.
-fn values_of(cover: &Cover) -> u64 {
-    let mut values = 0u64;
-    for bits in 0..64_u64 {
-        if cover.inputs < 6 && bits >> cover.inputs == 0 && eval(cover, bits) {
-            values |= 1 << bits;
+/// Whether a cover has these rows.
+fn has_rows(cover: &Cover, on: bool, rows: &[(u64, u64)]) -> bool {
+    let cubes = cover.cubes.as_slice();
+    if cover.on != on || cubes.len() != rows.len() {
+        return false;
+    }
+    for i in 0..rows.len() {
+        if cubes[i].care != rows[i].0 || cubes[i].value != rows[i].1 {
+            return false;
         }
     }
-    values
+    true
 }
 
 fn has_latch(latches: &[FlatLatch], held: &Held) -> bool {
@@ -112,9 +128,9 @@ fn has_latch(latches: &[FlatLatch], held: &Held) -> bool {
 }
 
 fn has_cover(covers: &[FlatCover], made: &Made) -> bool {
-    let (out, ins, values) = *made;
+    let (out, ins, on, rows) = *made;
     for cover in covers {
-        if cover.out == out && cover.ins.as_slice() == ins && values_of(&cover.cover) == values {
+        if cover.out == out && cover.ins.as_slice() == ins && has_rows(&cover.cover, on, rows) {
             return true;
         }
     }

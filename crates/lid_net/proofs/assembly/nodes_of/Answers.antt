@@ -34,7 +34,7 @@ returns c =
       numbers = n.outputs;
       outputs = outputs_are d n c.network.ensures;
       are =
-          subst (λ (xs : List (List ℕ)). AreNodes channels origins parts xs (root_outputs d) n.outputs nodes) c.inputs.ensures
+          subst (λ (xs : List (List ℕ)). AreNodes channels origins parts xs (root_outputs d) n.outputs nodes) c.inputs.ensures.names
           (subst (λ (xs : List (List ℕ)). AreNodes channels origins parts c.inputs.result.now xs n.outputs nodes) c.outputs.ensures.names
           (subst (λ (xs : List ℕ). AreNodes channels origins parts c.inputs.result.now c.outputs.result.now xs nodes) c.as_slice-2.ensures (made channels carry)));
     }) c.make_nodes.ensures
