@@ -78,7 +78,7 @@ pub fn first_rows_have_the_first_tokens()
 {}
 
 /// The nets of a shell are a strict table of its flat part, with the bits of the shell's inputs as its
-/// rows. So a pearl whose latches begin has the state of row 0; one with the state of row t shows the
+/// rows. So a pearl whose latches begin has the state of the first row; one with the state of row t shows the
 /// bits of the shell's ports in that row, and a step with the shell's inputs of row t takes it to the
 /// state of row t + 1, and to the ports' bits of that row where there is one. This does nothing; its
 /// contract is the law.
