@@ -1,4 +1,4 @@
--- What firing counts, walks and tokens have to do with each other, for every marked graph.
+-- What firing counts, walks and tokens have to do with each other, for marked graphs; three of them for paired ones.
 use Rattle.std.specs.Prelude.{◌≡◌, ℕ, suc, ◌+◌, ◌-◌, ◌*◌, ◌<◌, ◌≤◌, min, Bool, List, length}
 use Rattle.std.specs.Int.{div_ceil}
 use Rattle.lid_graph.specs.declared.graph.Graph.{Graph}
@@ -27,11 +27,11 @@ EdgesAllow =
     (g : Graph) (cap : Counts) (held : Hold) (k i : ℕ)
     → i < length g.edges → firings g cap held k (edge_at g i).to ≤ firings g cap held k (edge_at g i).from + (edge_at g i).tokens
 
--- who holds, loses
+-- holding never lets a transition fire more often
 abbrev pub HoldsDelay : Type 0
 HoldsDelay = (g : Graph) (cap : Counts) (held : Hold) (k v : ℕ) → firings g cap held k v ≤ firings g cap no_hold k v
 
--- but no more cycles than hold: what is held in cycle j shows in the counts after j + 1 cycles
+-- and never less often than as many cycles earlier as hold: what is held in cycle j shows in the counts after j + 1 cycles
 abbrev pub HoldsDelayByTheirCycles : Type 0
 HoldsDelayByTheirCycles =
     (g : Graph) (cap : Counts) (held : Hold) (holds : ℕ → Bool) (k v : ℕ)

@@ -1,4 +1,4 @@
-//! Laws of firing counts, for every marked graph and without a certificate in hand.
+//! Laws of firing counts, for marked graphs, without a certificate in hand.
 #![tactic(auto)]
 
 mod laws;

@@ -32,7 +32,7 @@ fn buffer(alloc: Global) -> Result<Cover, AllocError>
     })
 }
 
-/// The cover of a cell of a model once more; one without inputs and rows where it is no cover.
+/// A copy of the cover of a cell of a model; one without inputs and rows where it is no cover.
 fn copy_cover(alloc: Global, design: &Design, model: u32, cell: u32) -> Result<Cover, AllocError>
     ensures { IfOk result (λ cover. cover ≡ cover_in design.now model cell) }
 {

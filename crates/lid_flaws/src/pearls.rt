@@ -35,7 +35,7 @@ pub fn find_inputs(
     copy_all(alloc, survey.data_inputs(model))
 }
 
-/// Some names once more.
+/// A copy of some names.
 fn copy_all(alloc: Global, names: &[&[u8]]) -> Result<Items<Name>, AllocError>
     ensures { IfOk result (λ copied. copied ≡ texts names.now) }
 {
