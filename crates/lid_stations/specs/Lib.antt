@@ -1,0 +1,3 @@
+pub mod Placements
+pub mod Stations
+pub mod Markings
