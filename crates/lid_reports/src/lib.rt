@@ -11,6 +11,7 @@ mod trace;
 
 pub use answers::print_answer;
 pub use cycles::print_cycles;
+pub use pieces::append_node;
 pub use report::{ChannelLine, Report, print_report};
 pub use schedule::{SchedFault, read_schedule};
 pub use tallies::print_tallies;

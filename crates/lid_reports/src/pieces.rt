@@ -45,8 +45,11 @@ fn append_hex(digits: u32, number: u64, into: &mut Vec<u8>) -> Result<(), AllocE
     Ok(())
 }
 
-/// Appends the name of a node.
-fn append_node(count: u64, node: u64, into: &mut Vec<u8>) -> Result<(), AllocError>
+/// Appends the name of a node by its number, where there are so many nodes: `in`, `u0` and so on, `out`.
+///
+/// # Errors
+/// Where there is no memory; what was there before is still there.
+pub fn append_node(count: u64, node: u64, into: &mut Vec<u8>) -> Result<(), AllocError>
     ensures ok { OnOk result (into.new.items ≡ into.old.items ++ node_name count node) }
     ensures kept { Keeps into.old.items into.new.items }
 {
