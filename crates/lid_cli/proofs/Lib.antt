@@ -1,3 +1,4 @@
 pub mod Readings
 pub mod SameTable
 mod Examples
+pub mod Reaches

@@ -1,16 +1,16 @@
 -- The job that the words ask for.
-use Rattle.std.specs.Prelude.{ℕ, ◌==◌, nat_le, Bool, true, false, not, ◌&&◌, ◌||◌, if◌then◌else◌, List, [], ◌∷◌, length, map, slice_index_or, find, Option, Some, None, is_some, unwrap_or, option_and_then, codes}
+use Rattle.std.specs.Prelude.{ℕ, ⊤, ◌≤◌, ◌==◌, nat_le, Bool, true, false, not, ◌&&◌, ◌||◌, if◌then◌else◌, List, [], ◌∷◌, length, map, slice_index_or, find, Option, Some, None, is_some, unwrap_or, option_and_then, codes}
 use Rattle.std.specs.Option.{option_map_or}
 use Rattle.std.specs.Borrow.{Bor}
 use Rattle.std.specs.List.{list_all, list_any}
 use Rattle.std.specs.Str.{bytes_eq}
 use Rattle.clap.specs.Walk.{Row, first_of, all_of}
 use Rattle.lid_base.specs.Numbers.{number}
-use Rattle.lid_cli.specs.declared.table.TheConstants.{COMMAND, FILES, TALLY, ROOT}
+use Rattle.lid_cli.specs.declared.table.TheConstants.{COMMAND, FILES, TALLY, ROOT, STATIONS, WIRES, REACH}
 use Rattle.lid_cli.specs.declared.table.Command.{Command}
 use Rattle.lid_cli.specs.declared.table.Command.TheVariants as command
 use Rattle.lid_cli.specs.declared.job.Job.{Job}
-use Rattle.lid_cli.specs.declared.job.Job.TheVariants.{Check, Strict}
+use Rattle.lid_cli.specs.declared.job.Job.TheVariants.{Check, Place, Rate, Strict, Verify}
 use Rattle.lid_cli.specs.Table.{Form, form, table, Range, range, ranges}
 use Rattle.lid_cli.specs.Reading.{option_names, given_in}
 
@@ -37,6 +37,10 @@ is_tallied found = bytes_eq (unwrap_or (first_of TALLY.now found) []) (codes "tr
 -- the files in their order
 unfoldable pub files_in : List Row → List (List ℕ)
 files_in found = unwrap_or (all_of FILES.now found) []
+
+-- the value of an option that stands in the words
+unfoldable pub name_in : List ℕ → List Row → List ℕ
+name_in option found = unwrap_or (first_of option found) []
 
 unfoldable pub file_at : ℕ → List Row → List ℕ
 file_at i found = slice_index_or (files_in found) i []
@@ -97,9 +101,25 @@ has_form form found =
 unfoldable pub check_job : List Row → Option Job
 check_job found = Some (Check (file_at 0 found) (first_of ROOT.now found))
 
+-- the reach that is given
+unfoldable pub reach_in : List Row → ℕ
+reach_in found = option_map_or (λ text. unwrap_or (number text) 1) (first_of REACH.now found) 1
+
+-- the job of `place`
+unfoldable pub place_job : List Row → Option Job
+place_job found = Some (Place (file_at 0 found) (name_in WIRES.now found) (reach_in found) (first_of ROOT.now found))
+
+-- the job of `rate`
+unfoldable pub rate_job : List Row → Option Job
+rate_job found = Some (Rate (file_at 0 found) (first_of STATIONS.now found) (first_of ROOT.now found))
+
 -- the job of `strict`
 unfoldable pub strict_job : List Row → Option Job
 strict_job found = Some (Strict (file_at 0 found) (file_at 1 found) (first_of ROOT.now found))
+
+-- the job of `verify`
+unfoldable pub verify_job : List Row → Option Job
+verify_job found = Some (Verify (file_at 0 found) (file_at 1 found) (first_of STATIONS.now found) (first_of ROOT.now found))
 
 -- the job of a command whose form the words have; a command that is not built yet has none
 unfoldable pub job_made : Command → List Row → Option Job
@@ -108,9 +128,9 @@ job_made command.Strict found = strict_job found
 job_made command.Clock found = None
 job_made command.Walk found = None
 job_made command.Free found = None
-job_made command.Rate found = None
-job_made command.Verify found = None
-job_made command.Place found = None
+job_made command.Rate found = rate_job found
+job_made command.Verify found = verify_job found
+job_made command.Place found = place_job found
 job_made command.Gen found = None
 job_made command.Wave found = None
 job_made command.Unwave found = None
@@ -137,3 +157,8 @@ job_given found = option_and_then (job_formed found) (form_in found)
 -- the job that the words ask for; none where they are no job
 unfoldable pub job_of : List (List ℕ) → Option Job
 job_of words = option_and_then job_given (given_in words)
+
+-- a reach is positive
+abbrev pub IsSound : Job → Type 0
+IsSound (Place net wires reach root) = 1 ≤ reach
+IsSound job = ⊤

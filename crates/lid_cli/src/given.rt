@@ -4,7 +4,7 @@ ghost use Rattle.std.specs.Prelude.{◌≡◌, IfOk, map, option_map, slice_inde
 ghost use Rattle.std.specs.List.{list_all};
 ghost use Rattle.clap.specs.Words.{all_of, first_of};
 ghost use Rattle.lid_cli.specs.Reading.{matches_in};
-ghost use Rattle.lid_cli.specs.Jobs.{is_given, is_tallied, is_one_of, is_allowed, files_in, file_at, has_only, has_each};
+ghost use Rattle.lid_cli.specs.Jobs.{is_given, is_tallied, is_one_of, is_allowed, files_in, file_at, name_in, has_only, has_each};
 
 use crate::table::{FILES, OPTIONS, TALLY};
 use clap::ArgMatches;
@@ -70,6 +70,32 @@ pub fn file_text(alloc: Global, given: &ArgMatches<'_>, at: usize) -> Result<Tex
     ensures { IfOk result (λ text. text ≡ file_at at (matches_in given.now)) }
 {
     Ok(Text::new(String::from_str(alloc, file_at(given, at))?))
+}
+
+/// The text of the value of an option; no text where it does not stand in the words.
+#[tactic(auto, unfolding(crate::specs::Jobs::name_in))]
+pub fn text_of(alloc: Global, given: &ArgMatches<'_>, option: &str) -> Result<Text, AllocError>
+    ensures { IfOk result (λ text. text ≡ name_in option.now (matches_in given.now)) }
+{
+    let value = match value_of(given, option) {
+        Some(value) => value,
+        None => "",
+    };
+    Ok(Text::new(String::from_str(alloc, value)?))
+}
+
+/// The text of the value of an option, where it stands in the words.
+pub fn text_if_given(
+    alloc: Global,
+    given: &ArgMatches<'_>,
+    option: &str,
+) -> Result<Option<Text>, AllocError>
+    ensures { IfOk result (λ text. text ≡ first_of option.now (matches_in given.now)) }
+{
+    match value_of(given, option) {
+        Some(value) => Ok(Some(Text::new(String::from_str(alloc, value)?))),
+        None => Ok(None),
+    }
 }
 
 /// The value of an option, where it stands in the words.

@@ -1,14 +1,17 @@
 //! The job that the words of a command line ask for.
 
-ghost use Rattle.std.specs.Prelude.{◌≡◌, IfOk};
+ghost use Rattle.std.specs.Prelude.{◌≡◌, true, codes, IfOk, IfSome};
 ghost use Rattle.lid_cli.specs.Reading.{matches_in};
-ghost use Rattle.lid_cli.specs.Jobs.{form_shown, job_made, job_formed, job_given, job_of};
+ghost use Rattle.lid_cli.specs.Jobs.{IsSound, option_fits, form_shown, job_made, job_formed, job_given, job_of};
 
 use crate::check::check_job;
 use crate::form::{form_of, has_form};
+use crate::place::place_job;
+use crate::rate::rate_job;
 use crate::reader::parse;
 use crate::strict::strict_job;
 use crate::table::{Command, Form};
+use crate::verify::verify_job;
 use clap::ArgMatches;
 use lid_base::{Name, Text};
 use std::alloc::{AllocError, Global};
@@ -23,6 +26,26 @@ pub enum Job {
         /// The name of the model that is to be the root, as for `strict`.
         root: Option<Name>,
     },
+    /// `place NET --wires FILE --reach L`: the relay stations that wires of such lengths need.
+    Place {
+        /// The name of the file with the netlist.
+        net: Text,
+        /// The name of the file with the wires.
+        wires: Text,
+        /// How far a signal comes in one clock cycle, at least 1, in the unit of the lengths.
+        reach: u64,
+        /// The name of the model that is to be the root, as for `strict`.
+        root: Option<Name>,
+    },
+    /// `rate NET`: a certificate of the throughput.
+    Rate {
+        /// The name of the file with the netlist.
+        net: Text,
+        /// The name of the file with the stations; without it no channel has a relay station.
+        stations: Option<Text>,
+        /// The name of the model that is to be the root, as for `strict`.
+        root: Option<Name>,
+    },
     /// `strict NET VEC`: the strict outputs of a netlist for rows of input bits.
     Strict {
         /// The name of the file with the netlist.
@@ -31,6 +54,17 @@ pub enum Job {
         vec: Text,
         /// The name of the model that is to be the root; none stands for the first model. With
         /// `--root=` it is the empty name.
+        root: Option<Name>,
+    },
+    /// `verify NET CERT`: whether a certificate shows the throughput.
+    Verify {
+        /// The name of the file with the netlist.
+        net: Text,
+        /// The name of the file with the certificate.
+        cert: Text,
+        /// The name of the file with the stations, as for `rate`.
+        stations: Option<Text>,
+        /// The name of the model that is to be the root, as for `strict`.
         root: Option<Name>,
     },
 }
@@ -42,18 +76,20 @@ fn make_job(
     command: Command,
     given: &ArgMatches<'_>,
 ) -> Result<Option<Job>, AllocError>
-    ensures { IfOk result (λ job. job ≡ job_made command (matches_in given.now)) }
+    requires { option_fits (matches_in given.now) (codes "reach") ≡ true }
+    ensures made { IfOk result (λ job. job ≡ job_made command (matches_in given.now)) }
+    ensures sound { IfOk result (λ job. IfSome job IsSound) }
 {
     match command {
         Command::Check => check_job(alloc, given),
+        Command::Place => place_job(alloc, given),
+        Command::Rate => rate_job(alloc, given),
         Command::Strict => strict_job(alloc, given),
+        Command::Verify => verify_job(alloc, given),
         // not built yet
         Command::Clock
         | Command::Walk
         | Command::Free
-        | Command::Rate
-        | Command::Verify
-        | Command::Place
         | Command::Gen
         | Command::Wave
         | Command::Unwave
@@ -66,7 +102,8 @@ fn make_job(
 /// The job of a form, where the words have it.
 #[tactic(auto, unfolding(crate::specs::Jobs::job_formed))]
 fn formed_job(alloc: Global, form: Form, given: &ArgMatches<'_>) -> Result<Option<Job>, AllocError>
-    ensures { IfOk result (λ job. job ≡ job_formed (matches_in given.now) (form_shown form.entry)) }
+    ensures formed { IfOk result (λ job. job ≡ job_formed (matches_in given.now) (form_shown form.entry)) }
+    ensures sound { IfOk result (λ job. IfSome job IsSound) }
 {
     let (command, ..) = form;
     if has_form(form, given) {
@@ -79,7 +116,8 @@ fn formed_job(alloc: Global, form: Form, given: &ArgMatches<'_>) -> Result<Optio
 /// The job that stands in what `clap` found.
 #[tactic(auto, unfolding(crate::specs::Jobs::job_given))]
 fn given_job(alloc: Global, given: &ArgMatches<'_>) -> Result<Option<Job>, AllocError>
-    ensures { IfOk result (λ job. job ≡ job_given (matches_in given.now)) }
+    ensures given { IfOk result (λ job. job ≡ job_given (matches_in given.now)) }
+    ensures sound { IfOk result (λ job. IfSome job IsSound) }
 {
     match form_of(given) {
         Some(form) => formed_job(alloc, form, given),
@@ -87,14 +125,16 @@ fn given_job(alloc: Global, given: &ArgMatches<'_>) -> Result<Option<Job>, Alloc
     }
 }
 
-/// The job that the words after the program's name ask for; `None` where they are no job.
+/// The job that the words after the program's name ask for; `None` where they are no job. The reach of
+/// a job is at least 1.
 ///
 /// # Errors
 ///
 /// Where there is no memory.
 #[tactic(auto, unfolding(crate::specs::Jobs::job_of))]
 pub fn read_words(alloc: Global, words: &[Text]) -> Result<Option<Job>, AllocError>
-    ensures { IfOk result (λ job. job ≡ job_of words.now) }
+    ensures asked { IfOk result (λ job. job ≡ job_of words.now) }
+    ensures sound { IfOk result (λ job. IfSome job IsSound) }
 {
     match parse(alloc, words)? {
         Some(given) => given_job(alloc, &given),

@@ -10,6 +10,12 @@ pub const FILES: &str = "files";
 pub const ROOT: &str = "root";
 /// The option with the file of the stalls.
 pub const STALLS: &str = "stalls";
+/// The option with the file of the stations.
+pub const STATIONS: &str = "stations";
+/// The option with the file of the wires.
+pub const WIRES: &str = "wires";
+/// The option with the length that a signal comes in one clock cycle.
+pub const REACH: &str = "reach";
 /// The option with the number of workers.
 pub const WORKERS: &str = "workers";
 /// The flag that asks for the tallies.
@@ -17,7 +23,7 @@ pub const TALLY: &str = "tally";
 
 /// The options of all commands; each has one value.
 pub static OPTIONS: [&str; 11] = [
-    ROOT, "stations", STALLS, WORKERS, "trace", "schedule", "rounds", "wires", "reach", "shells",
+    ROOT, STATIONS, STALLS, WORKERS, "trace", "schedule", "rounds", WIRES, REACH, "shells",
     "run",
 ];
 
@@ -68,7 +74,7 @@ pub static FORMS: [Form; 14] = [
         "clock",
         &["NET", "VEC"],
         &[],
-        &[ROOT, "stations", STALLS, WORKERS, "trace"],
+        &[ROOT, STATIONS, STALLS, WORKERS, "trace"],
         false,
     ),
     (
@@ -76,7 +82,7 @@ pub static FORMS: [Form; 14] = [
         "walk",
         &["NET", "VEC"],
         &["schedule"],
-        &[ROOT, "stations"],
+        &[ROOT, STATIONS],
         false,
     ),
     (
@@ -84,7 +90,7 @@ pub static FORMS: [Form; 14] = [
         "free",
         &["NET", "VEC"],
         &[],
-        &[ROOT, "stations", WORKERS, "rounds"],
+        &[ROOT, STATIONS, WORKERS, "rounds"],
         true,
     ),
     (
@@ -92,7 +98,7 @@ pub static FORMS: [Form; 14] = [
         "rate",
         &["NET"],
         &[],
-        &[ROOT, "stations"],
+        &[ROOT, STATIONS],
         false,
     ),
     (
@@ -100,14 +106,14 @@ pub static FORMS: [Form; 14] = [
         "verify",
         &["NET", "CERT"],
         &[],
-        &[ROOT, "stations"],
+        &[ROOT, STATIONS],
         false,
     ),
     (
         Command::Place,
         "place",
         &["NET"],
-        &["wires", "reach"],
+        &[WIRES, REACH],
         &[ROOT],
         false,
     ),
@@ -117,7 +123,7 @@ pub static FORMS: [Form; 14] = [
         "wave",
         &["NET", "VEC"],
         &["trace"],
-        &[ROOT, "stations"],
+        &[ROOT, STATIONS],
         false,
     ),
     (Command::Unwave, "unwave", &["FILE"], &[], &[], false),
@@ -126,7 +132,7 @@ pub static FORMS: [Form; 14] = [
         "emit",
         &["NET"],
         &[],
-        &[ROOT, "stations"],
+        &[ROOT, STATIONS],
         false,
     ),
     (
@@ -134,7 +140,7 @@ pub static FORMS: [Form; 14] = [
         "slack",
         &["NET"],
         &[],
-        &[ROOT, "stations"],
+        &[ROOT, STATIONS],
         false,
     ),
     (
@@ -142,7 +148,7 @@ pub static FORMS: [Form; 14] = [
         "size",
         &["NET"],
         &[],
-        &[ROOT, "stations"],
+        &[ROOT, STATIONS],
         false,
     ),
 ];
@@ -156,7 +162,7 @@ pub static RANGES: [Range; 7] = [
     (WORKERS, 1, 64),
     ("rounds", 0, 1_000_000),
     ("trace", 1, 1_048_576),
-    ("reach", 1, 9_223_372_036_854_775_807),
+    (REACH, 1, 9_223_372_036_854_775_807),
     ("shells", 0, 4_294_967_295),
     ("run", 1, 1_000_000),
     ("SEED", 0, 18_446_744_073_709_551_615),

@@ -91,5 +91,10 @@ is_empty_wire Relays words = false
 is_empty_wire Capacities words = false
 is_empty_wire (Wires reach) words = amount words == 0
 
-abbrev pub is_capacity : ℕ → Bool
-is_capacity c = nat_le 2 c && nat_le c 16
+-- a capacity in 2 to 16
+abbrev pub is_capacity_word : List ℕ → Bool
+is_capacity_word word = nat_le 2 (value_below (2 ^ 64) word) && nat_le (value_below (2 ^ 64) word) 16
+
+-- whether each capacity that a line names is one
+abbrev pub has_capacities : List (List ℕ) → Bool
+has_capacities words = list_all is_capacity_word (drop 4 words)

@@ -1,16 +1,15 @@
 -- For the reader: which line names each channel, and what that line says of it.
 use Rattle.std.specs.Prelude.{◌≡◌, ℕ, ◌<◌, ◌≤◌, Bool, true, List, [], ◌∷◌, length, replicate, Option, Some, None, slice_index_or}
-use Rattle.std.specs.List.{list_all}
 use Rattle.lid_base.specs.declared.line.Line.{Line}
-use Rattle.lid_system.specs.declared.System.{System}
+use Rattle.lid_stations.specs.Placements.{Links}
 use Rattle.lid_placetext.specs.declared.form.Form.{Form}
-use Rattle.lid_placetext.specs.Forms.{relays_of, named_caps, caps_of, is_capacity}
+use Rattle.lid_placetext.specs.Forms.{relays_of, caps_of, has_capacities}
 use Rattle.lid_placetext.specs.Faults.{place_where, is_of}
 
 -- for each channel the place of the first of these lines that names it
-pub record IsPlaced (s : System) (lines : List Line) (places : List (Option ℕ)) : Type 0 where
-  pub long : length places ≡ length s.channels
-  pub each : (c : ℕ) → c < length s.channels → slice_index_or places c None ≡ place_where (is_of s c) 0 lines
+pub record IsPlaced (l : Links) (lines : List Line) (places : List (Option ℕ)) : Type 0 where
+  pub long : length places ≡ length l.channels
+  pub each : (c : ℕ) → c < length l.channels → slice_index_or places c None ≡ place_where (is_of l c) 0 lines
 
 -- the words of a line by its place
 abbrev pub words_at : List Line → ℕ → List (List ℕ)
@@ -19,7 +18,7 @@ words_at lines i = (slice_index_or lines i (record { number = 0; words = [] })).
 -- a line asks for at most 64 relay stations, and for capacities in 2 to 16
 pub record IsAmountSound (form : Form) (words : List (List ℕ)) : Type 0 where
   pub few : relays_of form words ≤ 64
-  pub caps : list_all is_capacity (named_caps words) ≡ true
+  pub caps : has_capacities words ≡ true
 
 -- where a place is told, a line stands there, and what it says is sound
 pub record IsSound (form : Form) (lines : List Line) (place : Option ℕ) : Type 0 where

@@ -8,9 +8,8 @@ use Rattle.lid_base.specs.declared.line.TextFault.TheVariants as text
 use Rattle.lid_base.specs.declared.which.Which.TheVariants.{FileBytes}
 use Rattle.lid_base.specs.Lines.{logical_lines, text_fault}
 use Rattle.lid_design.specs.Network.{from_each}
-use Rattle.lid_system.specs.declared.System.{System}
 use Rattle.lid_stations.specs.declared.placement.Placement.{Placement}
-use Rattle.lid_stations.specs.Placements.{station_count}
+use Rattle.lid_stations.specs.Placements.{Links, station_count}
 use Rattle.lid_placetext.specs.declared.form.Kind.{Kind}
 use Rattle.lid_placetext.specs.declared.form.Kind.TheVariants.{Stations, Wires}
 use Rattle.lid_placetext.specs.declared.form.Form.{Form}
@@ -20,9 +19,9 @@ use Rattle.lid_placetext.specs.Forms.{form_by, relays_of, caps_of}
 use Rattle.lid_placetext.specs.Faults.{or_else, line_fault, is_of}
 
 -- the fault of the first line that has one, where these lines stand before them
-abbrev pub lines_fault : System → Form → List Line → List Line → Option PlaceFault
-lines_fault s form earlier [] = None
-lines_fault s form earlier (line ∷ lines) = or_else (line_fault s form earlier line) (lines_fault s form (earlier ++ line ∷ []) lines)
+abbrev pub lines_fault : Links → Form → List Line → List Line → Option PlaceFault
+lines_fault l form earlier [] = None
+lines_fault l form earlier (line ∷ lines) = or_else (line_fault l form earlier line) (lines_fault l form (earlier ++ line ∷ []) lines)
 
 -- the first line that passes a test
 abbrev pub first_line : (Line → Bool) → List Line → Option Line
@@ -30,22 +29,22 @@ first_line test [] = None
 first_line test (line ∷ lines) = if test line then Some line else first_line test lines
 
 -- the line of a channel
-abbrev pub line_of : System → List Line → ℕ → Option Line
-line_of s lines c = first_line (is_of s c) lines
+abbrev pub line_of : Links → List Line → ℕ → Option Line
+line_of l lines c = first_line (is_of l c) lines
 
 -- the relay stations of a channel: none, where no line names it
-abbrev pub relays_on : System → Form → List Line → ℕ → ℕ
-relays_on s form lines c = option_map_or (λ line. relays_of form line.words) (line_of s lines c) 0
+abbrev pub relays_on : Links → Form → List Line → ℕ → ℕ
+relays_on l form lines c = option_map_or (λ line. relays_of form line.words) (line_of l lines c) 0
 
 -- the capacities of a channel: 2 for its one station, where no line names it
-abbrev pub caps_on : System → Form → List Line → ℕ → List ℕ
-caps_on s form lines c = option_map_or (λ line. caps_of form line.words) (line_of s lines c) (2 ∷ [])
+abbrev pub caps_on : Links → Form → List Line → ℕ → List ℕ
+caps_on l form lines c = option_map_or (λ line. caps_of form line.words) (line_of l lines c) (2 ∷ [])
 
 -- the placement that lines of such a form stand for
-unfoldable pub placement_of : System → Form → List Line → Placement
-placement_of s form lines = record {
-  relays = map (relays_on s form lines) (from_each (λ c. c) 0 (length s.channels));
-  caps = flat_map (caps_on s form lines) (from_each (λ c. c) 0 (length s.channels));
+unfoldable pub placement_of : Links → Form → List Line → Placement
+placement_of l form lines = record {
+  relays = map (relays_on l form lines) (from_each (λ c. c) 0 (length l.channels));
+  caps = flat_map (caps_on l form lines) (from_each (λ c. c) 0 (length l.channels));
 }
 
 -- a placement, unless its stations are too many
@@ -57,18 +56,18 @@ unless None later = later
 unless (Some fault) later = Err fault
 
 -- the placement that lines of such a form stand for, or its fault
-abbrev pub rows_reading : System → Form → List Line → Result Placement PlaceFault
-rows_reading s form lines = unless (lines_fault s form [] lines) (whole (placement_of s form lines))
+abbrev pub rows_reading : Links → Form → List Line → Result Placement PlaceFault
+rows_reading l form lines = unless (lines_fault l form [] lines) (whole (placement_of l form lines))
 
 -- the placement of the lines after the header, which has the number `header`
-abbrev pub form_reading : System → ℕ → List Line → Option Form → Result Placement PlaceFault
-form_reading s header lines None = Err (Word header)
-form_reading s header lines (Some form) = rows_reading s form lines
+abbrev pub form_reading : Links → ℕ → List Line → Option Form → Result Placement PlaceFault
+form_reading l header lines None = Err (Word header)
+form_reading l header lines (Some form) = rows_reading l form lines
 
 -- the placement of all lines: the first is the header
-abbrev pub lines_reading : System → Kind → List Line → Result Placement PlaceFault
-lines_reading s kind [] = Err (Word 0)
-lines_reading s kind (header ∷ lines) = form_reading s header.number lines (form_by kind header.words)
+abbrev pub lines_reading : Links → Kind → List Line → Result Placement PlaceFault
+lines_reading l kind [] = Err (Word 0)
+lines_reading l kind (header ∷ lines) = form_reading l header.number lines (form_by kind header.words)
 
 -- a fault of the text is told at its line; want of memory is none
 abbrev pub of_text : TextFault → Option PlaceFault
@@ -76,20 +75,20 @@ of_text (text.BadByte line) = Some (Word line)
 of_text (text.NameTooLong line) = Some (Word line)
 of_text text.Memory = None
 
-abbrev pub text_reading : System → Kind → List Line → Option PlaceFault → Result Placement PlaceFault
-text_reading s kind lines None = lines_reading s kind lines
-text_reading s kind lines (Some fault) = Err fault
+abbrev pub text_reading : Links → Kind → List Line → Option PlaceFault → Result Placement PlaceFault
+text_reading l kind lines None = lines_reading l kind lines
+text_reading l kind lines (Some fault) = Err fault
 
 -- the placement that a text of such a kind stands for, or its fault
-unfoldable pub reading : System → Kind → List ℕ → Result Placement PlaceFault
-reading s kind bytes =
+unfoldable pub reading : Links → Kind → List ℕ → Result Placement PlaceFault
+reading l kind bytes =
     if nat_lt 16777216 (length bytes) then Err (Limit FileBytes (length bytes))
-    else text_reading s kind (logical_lines bytes) (option_and_then of_text (text_fault 1024 bytes))
+    else text_reading l kind (logical_lines bytes) (option_and_then of_text (text_fault 1024 bytes))
 
 -- of a text of stations
-abbrev pub stations_reading : System → List ℕ → Result Placement PlaceFault
-stations_reading s bytes = reading s Stations bytes
+abbrev pub stations_reading : Links → List ℕ → Result Placement PlaceFault
+stations_reading l bytes = reading l Stations bytes
 
 -- of a text of wires, where a relay station stands after each length of so much
-abbrev pub wires_reading : ℕ → System → List ℕ → Result Placement PlaceFault
-wires_reading reach s bytes = reading s (Wires reach) bytes
+abbrev pub wires_reading : ℕ → Links → List ℕ → Result Placement PlaceFault
+wires_reading reach l bytes = reading l (Wires reach) bytes

@@ -4,7 +4,7 @@ use Rattle.std.specs.Fmt.{decimal}
 use Rattle.std.specs.List.{list_all}
 use Rattle.lid_lines.specs.Texts.{Words, lines_text}
 use Rattle.lid_reports.specs.Pieces.{node_name}
-use Rattle.lid_system.specs.declared.System.{System}
+use Rattle.lid_stations.specs.Placements.{Links}
 use Rattle.lid_system.specs.declared.Channel.{Channel}
 use Rattle.lid_stations.specs.declared.placement.Placement.{Placement}
 
@@ -29,5 +29,5 @@ abbrev pub version_words : Bool → Words
 version_words two = codes "lid-stations" ∷ (if two then codes "1" else codes "2") ∷ []
 
 -- a placement as a text of stations
-unfoldable pub stations_text : System → Placement → List ℕ
-stations_text s p = lines_text (version_words (are_all_two p.caps) ∷ channel_lines (length s.nodes) (are_all_two p.caps) s.channels p.relays p.caps)
+unfoldable pub stations_text : Links → Placement → List ℕ
+stations_text l p = lines_text (version_words (are_all_two p.caps) ∷ channel_lines l.nodes (are_all_two p.caps) l.channels p.relays p.caps)

@@ -2,7 +2,7 @@
 
 ghost use Rattle.std.specs.Prelude.{◌≡◌, ◌≤◌, ◌⊎◌, ◌++◌, map, flat_map, length, [], None, Some, Ok, Err, IfOk, IfErr, OnOk};
 ghost use Rattle.std.specs.List.{All};
-ghost use Rattle.lid_stations.specs.Placements.{Fits, station_count};
+ghost use Rattle.lid_stations.specs.Placements.{links_of, Fits, station_count};
 ghost use Rattle.lid_system.specs.Systems.{IsWellFormed};
 ghost use Rattle.lid_placetext.specs.Forms.{IsForm};
 ghost use Rattle.lid_placetext.specs.Places.{IsPlaced, IsSound, relays_at, caps_at};
@@ -142,8 +142,8 @@ pub(crate) fn build(
 ) -> Result<Placement, PlaceFault>
     requires system { IsWellFormed system.now }
     requires form { IsForm form }
-    ensures ok { IfOk result (λ p. rows_reading system.now form lines.now ≡ Ok p) }
-    ensures err { IfErr result (λ e. (e ≡ PlaceFault.Memory) ⊎ (rows_reading system.now form lines.now ≡ Err e)) }
+    ensures ok { IfOk result (λ p. rows_reading (links_of system.now) form lines.now ≡ Ok p) }
+    ensures err { IfErr result (λ e. (e ≡ PlaceFault.Memory) ⊎ (rows_reading (links_of system.now) form lines.now ≡ Err e)) }
     ensures fits { IfOk result (Fits system.now) }
 {
     match lines_by_channel(alloc, system, form, lines) {

@@ -3,6 +3,7 @@
 ghost use Rattle.std.specs.Prelude.{◌≡◌, ◌≤◌, length, List};
 ghost use Rattle.lid_system.specs.declared.Channel.{Channel};
 ghost use Rattle.lid_system.specs.Systems.{IsWellFormed};
+ghost use Rattle.lid_stations.specs.Placements.{links_of};
 ghost use Rattle.lid_placetext.specs.Channels.{comes_before, is_between, AreInOrder};
 ghost use Rattle.lid_placetext.specs.Faults.{shell_by, node_by, place_where, channel_of};
 
@@ -84,7 +85,7 @@ fn find_channel(channels: &[Channel], ends: Ends) -> Option<usize>
 /// The place of the channel that a line names.
 pub(crate) fn channel_of(system: &System, words: &[Name]) -> Option<usize>
     requires { IsWellFormed system.now }
-    ensures { result ≡ channel_of system.now words.now }
+    ensures { result ≡ channel_of (links_of system.now) words.now }
 {
     let count = system.nodes.as_slice().len() as u64;
     let Some(from) = node_by(count, word_at(words, 0)) else {

@@ -3,7 +3,7 @@
 ghost use Rattle.std.specs.Prelude.{◌≡◌, ◌≤◌, ◌+◌, ◌^◌, ◌++◌, map, replicate, true, OnOk};
 ghost use Rattle.std.specs.List.{list_all};
 ghost use Rattle.lid_base.specs.Numbers.{value_below};
-ghost use Rattle.lid_placetext.specs.Forms.{IsForm, is_header, stations_form, form_by, is_shell_word, is_node_word, is_number_word, begins_well, amount, has_length, has_form, relays_along, relays_of, named_caps, is_empty_wire, is_capacity, caps_of};
+ghost use Rattle.lid_placetext.specs.Forms.{IsForm, is_header, stations_form, form_by, is_shell_word, is_node_word, is_number_word, begins_well, amount, has_length, has_form, relays_along, relays_of, is_empty_wire, is_capacity_word, has_capacities, caps_of};
 
 use lid_base::{Name, is_same, number, word_at, words_after};
 use std::alloc::AllocError;
@@ -91,12 +91,7 @@ fn is_number_word(word: &[u8]) -> bool
 fn are_number_words(words: &[Name]) -> bool
     ensures { result ≡ list_all is_number_word words.now }
 {
-    for word in words {
-        if !is_number_word(word.as_slice()) {
-            return false;
-        }
-    }
-    true
+    words.iter().all(|word| is_number_word(word.as_slice()))
 }
 
 /// Whether a line begins with two names of nodes and two number words.
@@ -175,22 +170,21 @@ pub(crate) fn is_empty_wire(form: Form, words: &[Name]) -> bool
     }
 }
 
-fn is_capacity(capacity: u64) -> bool
-    ensures { result ≡ is_capacity capacity }
+/// Whether a word is a capacity in 2 to 16.
+fn is_capacity_word(word: &[u8]) -> bool
+    ensures { result ≡ is_capacity_word word.now }
 {
+    let capacity = value(word);
     2 <= capacity && capacity <= 16
 }
 
 /// Whether all capacities that a line names are in 2 to 16.
 pub(crate) fn has_capacities(words: &[Name]) -> bool
-    ensures { result ≡ list_all is_capacity (named_caps words.now) }
+    ensures { result ≡ has_capacities words.now }
 {
-    for word in words_after(words, 4) {
-        if !is_capacity(value(word.as_slice())) {
-            return false;
-        }
-    }
-    true
+    words_after(words, 4)
+        .iter()
+        .all(|word| is_capacity_word(word.as_slice()))
 }
 
 /// Appends so many capacities of 2, and one more.
@@ -206,7 +200,7 @@ fn push_twos(relays: u64, caps: &mut Vec<u32>) -> Result<(), AllocError>
 
 /// Appends the capacities that words name.
 fn push_named(words: &[Name], caps: &mut Vec<u32>) -> Result<(), AllocError>
-    requires { list_all is_capacity (map (value_below (2 ^ 64)) words.now) ≡ true }
+    requires { list_all is_capacity_word words.now ≡ true }
     ensures { OnOk result (caps.new.items ≡ caps.old.items ++ map (value_below (2 ^ 64)) words.now) }
 {
     for word in words {
@@ -219,7 +213,7 @@ fn push_named(words: &[Name], caps: &mut Vec<u32>) -> Result<(), AllocError>
 pub(crate) fn push_caps(form: Form, words: &[Name], caps: &mut Vec<u32>) -> Result<(), AllocError>
     requires form { IsForm form }
     requires few { relays_of form words.now ≤ 64 }
-    requires small { list_all is_capacity (named_caps words.now) ≡ true }
+    requires small { has_capacities words.now ≡ true }
     ensures { OnOk result (caps.new.items ≡ caps.old.items ++ caps_of form words.now) }
 {
     match form {

@@ -2,6 +2,7 @@
 
 ghost use Rattle.std.specs.Prelude.{◌≡◌, ◌⊎◌, [], length, Some, None, IfOk, IfErr, OnOk};
 ghost use Rattle.lid_system.specs.Systems.{IsWellFormed};
+ghost use Rattle.lid_stations.specs.Placements.{links_of};
 ghost use Rattle.lid_placetext.specs.Forms.{IsForm};
 ghost use Rattle.lid_placetext.specs.Faults.{channel_of, amount_fault, line_fault};
 ghost use Rattle.lid_placetext.specs.Readings.{lines_fault};
@@ -45,9 +46,9 @@ fn judge_line(
     requires system { IsWellFormed system.now }
     requires form { IsForm form }
     requires long { length places.now ≡ length system.now.channels }
-    ensures channel { IfOk result (λ c. channel_of system.now line.now.words ≡ Some c) }
-    ensures ok { IfOk result (λ c. (earlier : _) → IsPlaced system.now earlier places.now → line_fault system.now form earlier line.now ≡ None) }
-    ensures err { IfErr result (λ e. (earlier : _) → IsPlaced system.now earlier places.now → line_fault system.now form earlier line.now ≡ Some e) }
+    ensures channel { IfOk result (λ c. channel_of (links_of system.now) line.now.words ≡ Some c) }
+    ensures ok { IfOk result (λ c. (earlier : _) → IsPlaced (links_of system.now) earlier places.now → line_fault (links_of system.now) form earlier line.now ≡ None) }
+    ensures err { IfErr result (λ e. (earlier : _) → IsPlaced (links_of system.now) earlier places.now → line_fault (links_of system.now) form earlier line.now ≡ Some e) }
 {
     let words = line.words.as_slice();
     if !has_form(form, words) {
@@ -74,10 +75,10 @@ fn place_lines(
 ) -> Result<(), PlaceFault>
     requires system { IsWellFormed system.now }
     requires form { IsForm form }
-    requires clear { IsPlaced system.now [] places.old }
-    ensures ok { OnOk result (lines_fault system.now form [] lines.now ≡ None) }
-    ensures placed { OnOk result (IsPlaced system.now lines.now places.new) }
-    ensures err { IfErr result (λ e. lines_fault system.now form [] lines.now ≡ Some e) }
+    requires clear { IsPlaced (links_of system.now) [] places.old }
+    ensures ok { OnOk result (lines_fault (links_of system.now) form [] lines.now ≡ None) }
+    ensures placed { OnOk result (IsPlaced (links_of system.now) lines.now places.new) }
+    ensures err { IfErr result (λ e. lines_fault (links_of system.now) form [] lines.now ≡ Some e) }
 {
     for (i, line) in lines.iter().enumerate() {
         match judge_line(system, form, places, line) {
@@ -97,9 +98,9 @@ pub(crate) fn lines_by_channel(
 ) -> Result<Vec<Option<usize>>, PlaceFault>
     requires system { IsWellFormed system.now }
     requires form { IsForm form }
-    ensures ok { OnOk result (lines_fault system.now form [] lines.now ≡ None) }
-    ensures placed { IfOk result (λ places. IsPlaced system.now lines.now places.items) }
-    ensures err { IfErr result (λ e. (e ≡ PlaceFault.Memory) ⊎ (lines_fault system.now form [] lines.now ≡ Some e)) }
+    ensures ok { OnOk result (lines_fault (links_of system.now) form [] lines.now ≡ None) }
+    ensures placed { IfOk result (λ places. IsPlaced (links_of system.now) lines.now places.items) }
+    ensures err { IfErr result (λ e. (e ≡ PlaceFault.Memory) ⊎ (lines_fault (links_of system.now) form [] lines.now ≡ Some e)) }
 {
     let Ok(mut places) = Vec::from_elem(alloc, None, system.channels.as_slice().len()) else {
         return Err(PlaceFault::Memory);

@@ -2,7 +2,7 @@
 
 ghost use Rattle.std.specs.Prelude.{◌≡◌, ◌≤◌, ◌⊎◌, Ok, Err, Some, IfOk, IfErr};
 ghost use Rattle.lid_system.specs.Systems.{IsWellFormed};
-ghost use Rattle.lid_stations.specs.Placements.{Fits};
+ghost use Rattle.lid_stations.specs.Placements.{links_of, Fits};
 ghost use Rattle.lid_placetext.specs.Forms.{IsKind};
 ghost use Rattle.lid_placetext.specs.Readings.{of_text, lines_reading, reading, stations_reading, wires_reading};
 
@@ -40,8 +40,8 @@ fn read_lines(
 ) -> Result<Placement, PlaceFault>
     requires system { IsWellFormed system.now }
     requires kind { IsKind kind }
-    ensures ok { IfOk result (λ p. lines_reading system.now kind lines.now ≡ Ok p) }
-    ensures err { IfErr result (λ e. (e ≡ PlaceFault.Memory) ⊎ (lines_reading system.now kind lines.now ≡ Err e)) }
+    ensures ok { IfOk result (λ p. lines_reading (links_of system.now) kind lines.now ≡ Ok p) }
+    ensures err { IfErr result (λ e. (e ≡ PlaceFault.Memory) ⊎ (lines_reading (links_of system.now) kind lines.now ≡ Err e)) }
     ensures fits { IfOk result (Fits system.now) }
 {
     let [header, after @ ..] = lines else {
@@ -65,8 +65,8 @@ fn read(
 ) -> Result<Placement, PlaceFault>
     requires system { IsWellFormed system.now }
     requires kind { IsKind kind }
-    ensures ok { IfOk result (λ p. reading system.now kind bytes.now ≡ Ok p) }
-    ensures err { IfErr result (λ e. (e ≡ PlaceFault.Memory) ⊎ (reading system.now kind bytes.now ≡ Err e)) }
+    ensures ok { IfOk result (λ p. reading (links_of system.now) kind bytes.now ≡ Ok p) }
+    ensures err { IfErr result (λ e. (e ≡ PlaceFault.Memory) ⊎ (reading (links_of system.now) kind bytes.now ≡ Err e)) }
     ensures fits { IfOk result (Fits system.now) }
 {
     if bytes.len() > MOST_BYTES {
@@ -100,8 +100,8 @@ pub fn read_stations(
     system: &System,
 ) -> Result<Placement, PlaceFault>
     requires { IsWellFormed system.now }
-    ensures ok { IfOk result (λ p. stations_reading system.now bytes.now ≡ Ok p) }
-    ensures err { IfErr result (λ e. (e ≡ PlaceFault.Memory) ⊎ (stations_reading system.now bytes.now ≡ Err e)) }
+    ensures ok { IfOk result (λ p. stations_reading (links_of system.now) bytes.now ≡ Ok p) }
+    ensures err { IfErr result (λ e. (e ≡ PlaceFault.Memory) ⊎ (stations_reading (links_of system.now) bytes.now ≡ Err e)) }
     ensures fits { IfOk result (Fits system.now) }
 {
     read(alloc, system, Kind::Stations, bytes)
@@ -123,8 +123,8 @@ pub fn place(
 ) -> Result<Placement, PlaceFault>
     requires system { IsWellFormed system.now }
     requires reach { 1 ≤ reach }
-    ensures ok { IfOk result (λ p. wires_reading reach system.now bytes.now ≡ Ok p) }
-    ensures err { IfErr result (λ e. (e ≡ PlaceFault.Memory) ⊎ (wires_reading reach system.now bytes.now ≡ Err e)) }
+    ensures ok { IfOk result (λ p. wires_reading reach (links_of system.now) bytes.now ≡ Ok p) }
+    ensures err { IfErr result (λ e. (e ≡ PlaceFault.Memory) ⊎ (wires_reading reach (links_of system.now) bytes.now ≡ Err e)) }
     ensures fits { IfOk result (Fits system.now) }
 {
     read(alloc, system, Kind::Wires { reach }, bytes)

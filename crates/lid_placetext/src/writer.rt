@@ -3,7 +3,7 @@
 ghost use Rattle.std.specs.Prelude.{◌≡◌, ◌≤◌, ◌+◌, ◌++◌, length, take, suc, OnOk, OnErr};
 ghost use Rattle.lid_base.specs.Lists.{Keeps};
 ghost use Rattle.lid_lines.specs.Texts.{line_text, lines_text};
-ghost use Rattle.lid_stations.specs.Placements.{Fits, station_count};
+ghost use Rattle.lid_stations.specs.Placements.{links_of, Fits, station_count};
 ghost use Rattle.lid_placetext.specs.Written.{are_all_two, channel_words, channel_lines, version_words, stations_text};
 
 use lid_lines::{append_number_word, append_small_numbers, cut_back};
@@ -16,12 +16,7 @@ use std::alloc::AllocError;
 fn are_all_two(caps: &[u32]) -> bool
     ensures { result ≡ are_all_two caps.now }
 {
-    for capacity in caps {
-        if *capacity != 2 {
-            return false;
-        }
-    }
-    true
+    caps.iter().all(|capacity| *capacity == 2)
 }
 
 /// Appends the line of a channel, without its capacities where all are 2.
@@ -80,7 +75,7 @@ fn append_text(
     into: &mut Vec<u8>,
 ) -> Result<(), AllocError>
     requires { Fits system.now placement.now }
-    ensures ok { OnOk result (into.new.items ≡ into.old.items ++ stations_text system.now placement.now) }
+    ensures ok { OnOk result (into.new.items ≡ into.old.items ++ stations_text (links_of system.now) placement.now) }
     ensures kept { Keeps into.old.items into.new.items }
 {
     let count = system.nodes.as_slice().len() as u64;
@@ -113,7 +108,7 @@ pub fn print_stations(
     into: &mut Vec<u8>,
 ) -> Result<(), AllocError>
     requires { Fits system.now placement.now }
-    ensures ok { OnOk result (into.new.items ≡ into.old.items ++ stations_text system.now placement.now) }
+    ensures ok { OnOk result (into.new.items ≡ into.old.items ++ stations_text (links_of system.now) placement.now) }
     ensures err { OnErr result (into.new.items ≡ into.old.items) }
 {
     cut_back(into.len(), append_text(system, placement, into), into)

@@ -1,0 +1,28 @@
+//! The words of `verify`.
+
+ghost use Rattle.std.specs.Prelude.{◌≡◌, IfOk};
+ghost use Rattle.lid_cli.specs.Reading.{matches_in};
+ghost use Rattle.lid_cli.specs.Jobs.{verify_job};
+
+use crate::given::{file_text, name_of, text_if_given};
+use crate::job::Job;
+use crate::table::{ROOT, STATIONS};
+use clap::ArgMatches;
+use std::alloc::{AllocError, Global};
+
+/// The job of `verify`.
+#[tactic(auto, unfolding(crate::specs::Jobs::verify_job))]
+pub fn verify_job(alloc: Global, given: &ArgMatches<'_>) -> Result<Option<Job>, AllocError>
+    ensures { IfOk result (λ job. job ≡ verify_job (matches_in given.now)) }
+{
+    let net = file_text(alloc, given, 0)?;
+    let cert = file_text(alloc, given, 1)?;
+    let stations = text_if_given(alloc, given, STATIONS)?;
+    let root = name_of(alloc, given, ROOT)?;
+    Ok(Some(Job::Verify {
+        net,
+        cert,
+        stations,
+        root,
+    }))
+}
