@@ -1,0 +1,2 @@
+-- The edges of a marking.
+use Rattle.std.proofs.Common.{◌≡◌, refl}

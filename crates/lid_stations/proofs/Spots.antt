@@ -1,0 +1,76 @@
+-- Where stations stand, and which actors fill and drain them.
+use Rattle.std.proofs.Common.{◌≡◌, ℕ, zero, suc, ◌+◌, ◌-◌, ◌<◌, ◌≤◌, ◌==◌, ◌⊎◌, inl, inr, Bool, true, false, cond, List, [], ◌∷◌, ◌++◌, length, take, get_or, refl, sym, ◌∙◌, ap, subst, eqb-true, zero-add, add-one, arith}
+use Rattle.std.specs.List.{All, sum_by}
+use Rattle.std.proofs.lemmas.List.{length-append, length-take-le, get_or_append_left, get_or-append-add}
+use Rattle.std.proofs.lemmas.List.Elements.{All-get_or}
+use Rattle.std.proofs.lemmas.List.Sums.{sum_by-cons, sum_by-take-le, sum_by_more_le}
+use Rattle.lid_design.specs.Network.{from_each}
+use Rattle.lid_system.specs.declared.System.{System}
+use Rattle.lid_system.specs.declared.Channel.{Channel}
+use Rattle.lid_system.specs.Systems.{IsWellFormed, IsChannel}
+use Rattle.lid_stations.specs.declared.placement.Placement.{Placement}
+use Rattle.lid_stations.specs.Placements.{station_count, IsCapacity, Fits}
+use Rattle.lid_stations.specs.Stations.{Spot, spots_on, spots_from, spot_at, relay_count, actor_count, mover, no_channel, channel_at, fills, drains, starts, filler, drainer, start_count, capacity}
+use Rattle.lid_stations.proofs.Parts.{IsInPart, HasPart, part_of, one_part, part_below, each_long, each_at}
+
+-- there is a relay station less on each channel than there are stations
+pub fewer_relays : (relays : List ℕ) → station_count relays ≡ relay_count relays + length relays
+fewer_relays [] = refl
+fewer_relays (k ∷ ks) = omega (arith, fewer_relays ks, sum_by-cons (λ (k : ℕ). k + 1) k ks, sum_by-cons (λ (k : ℕ). k) k ks)
+
+-- the spot of a station, by its channel and its place there
+spot_there : (first : ℕ) (relays : List ℕ) (c i : ℕ) (d : Spot) → c < length relays → i ≤ get_or relays c 0 → get_or (spots_from first relays) (station_count (take c relays) + i) d ≡ record { channel = first + c; place = i }
+spot_there first [] c i d below within = absurd (omega arith)
+spot_there first (k ∷ ks) zero i d below within =
+    let less : i < length (spots_on first k) = (let l = each_long (λ (i : ℕ). let s : Spot = record { channel = first; place = i } in s) 0 (suc k) in omega arith) in
+    ap (λ (n : ℕ). get_or (spots_on first k ++ spots_from (suc first) ks) n d) (zero-add i)
+    ∙ get_or_append_left (spots_on first k) (spots_from (suc first) ks) d i less
+    ∙ each_at (λ (i : ℕ). let s : Spot = record { channel = first; place = i } in s) 0 (suc k) i d (omega arith)
+    ∙ (let e : 0 + i ≡ i = omega arith in let f : first ≡ first + 0 = omega arith in ap (λ (n : ℕ). let s : Spot = record { channel = first; place = n } in s) e ∙ ap (λ (n : ℕ). let s : Spot = record { channel = n; place = i } in s) f)
+spot_there first (k ∷ ks) (suc c) i d below within =
+    let long = each_long (λ (i : ℕ). let s : Spot = record { channel = first; place = i } in s) 0 (suc k) in
+    let place : station_count (take (suc c) (k ∷ ks)) + i ≡ length (spots_on first k) + (station_count (take c ks) + i) = (let s = sum_by-cons (λ (k : ℕ). k + 1) k (take c ks) in omega arith) in
+    ap (λ (n : ℕ). get_or (spots_on first k ++ spots_from (suc first) ks) n d) place
+    ∙ get_or-append-add (spots_on first k) (spots_from (suc first) ks) (station_count (take c ks) + i) d
+    ∙ spot_there (suc first) ks c i d (omega arith) within
+    ∙ (let e : suc first + c ≡ first + suc c = omega arith in ap (λ (n : ℕ). let s : Spot = record { channel = n; place = i } in s) e)
+
+pub spot_is : (relays : List ℕ) (station c i : ℕ) → c < length relays → i ≤ get_or relays c 0 → station ≡ station_count (take c relays) + i → spot_at relays station ≡ record { channel = c; place = i }
+spot_is relays station c i below within number =
+    ap (spot_at relays) number
+    ∙ spot_there 0 relays c i (record { channel = 0; place = 0 }) below within
+    ∙ ap (λ (n : ℕ). let s : Spot = record { channel = n; place = i } in s) (zero-add c)
+
+-- a station stands at place i of channel c
+pub record StandsAt (relays : List ℕ) (station c i : ℕ) : Type 0 where
+  pub spot : spot_at relays station ≡ record { channel = c; place = i }
+  pub below : c < length relays
+  pub within : i ≤ get_or relays c 0
+  pub number : station ≡ station_count (take c relays) + i
+
+pub record Stands (relays : List ℕ) (station : ℕ) : Type 0 where
+  pub channel : ℕ
+  pub place : ℕ
+  pub is : StandsAt relays station channel place
+
+pub stands : (relays : List ℕ) (station : ℕ) → station < station_count relays → Stands relays station
+stands relays station h = from_part (part_of (λ (k : ℕ). k + 1) relays station h)
+  where
+    from_part : HasPart (λ (k : ℕ). k + 1) relays station → Stands relays station
+    from_part p =
+        let within : p.place ≤ get_or relays p.part 0 = (let w = p.is.within in omega arith) in
+        record { channel = p.part; place = p.place; is = record { spot = spot_is relays station p.part p.place p.is.below within p.is.number; below = p.is.below; within = within; number = p.is.number } }
+
+-- a mover of a place is an actor
+pub mover_below : (s : System) (p : Placement) (c i : ℕ) → c < length p.relays → i < get_or p.relays c 0 → mover s p c i < actor_count s p
+mover_below s p c i below within = omega (arith, sum_by_more_le (λ (k : ℕ). k) p.relays c 0 below)
+
+module _ (s : System) (p : Placement) (well : IsWellFormed s) (fits : Fits s p) where
+  pub few_actors : actor_count s p ≤ 69634
+  few_actors = omega (arith, well.most, fits.rules.most, fewer_relays p.relays)
+
+  pub few_relays : (c : ℕ) → c < length p.relays → get_or p.relays c 0 ≤ 64
+  few_relays c below = All-get_or (λ k. k ≤ 64) p.relays c 0 below fits.rules.few
+
+  pub few_movers : (c i : ℕ) → c < length p.relays → i ≤ get_or p.relays c 0 → mover s p c i ≤ 69634
+  few_movers c i below within = omega (arith, few_actors, sum_by_more_le (λ (k : ℕ). k) p.relays c 0 below)
