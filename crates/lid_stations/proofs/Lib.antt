@@ -1,3 +1,4 @@
 pub mod Parts
 pub mod Spots
 pub mod Edges
+pub mod Alive

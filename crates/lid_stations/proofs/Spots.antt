@@ -1,9 +1,11 @@
 -- Where stations stand, and which actors fill and drain them.
-use Rattle.std.proofs.Common.{◌≡◌, ℕ, zero, suc, ◌+◌, ◌-◌, ◌<◌, ◌≤◌, ◌==◌, ◌⊎◌, inl, inr, Bool, true, false, cond, List, [], ◌∷◌, ◌++◌, length, take, get_or, refl, sym, ◌∙◌, ap, subst, eqb-true, zero-add, add-one, arith}
+use Rattle.std.proofs.Common.{◌≡◌, ℕ, zero, suc, ◌+◌, ◌-◌, ◌<◌, ◌≤◌, ◌==◌, ◌⊎◌, inl, inr, Bool, true, false, cond, List, [], ◌∷◌, ◌++◌, length, take, get_or, refl, sym, ◌∙◌, ap, subst, zero-add, arith}
 use Rattle.std.specs.List.{All, sum_by}
-use Rattle.std.proofs.lemmas.List.{length-append, length-take-le, get_or_append_left, get_or-append-add}
+use Rattle.std.proofs.lemmas.Bool.{eqb-false}
+use Rattle.std.proofs.lemmas.List.{ length-take-le, get_or_append_left, get_or-append-add}
 use Rattle.std.proofs.lemmas.List.Elements.{All-get_or}
 use Rattle.std.proofs.lemmas.List.Sums.{sum_by-cons, sum_by-take-le, sum_by_more_le}
+use Rattle.lid_base.proofs.Lists.{all_among, among_at}
 use Rattle.lid_design.specs.Network.{from_each}
 use Rattle.lid_system.specs.declared.System.{System}
 use Rattle.lid_system.specs.declared.Channel.{Channel}
@@ -11,12 +13,21 @@ use Rattle.lid_system.specs.Systems.{IsWellFormed, IsChannel}
 use Rattle.lid_stations.specs.declared.placement.Placement.{Placement}
 use Rattle.lid_stations.specs.Placements.{station_count, IsCapacity, Fits}
 use Rattle.lid_stations.specs.Stations.{Spot, spots_on, spots_from, spot_at, relay_count, actor_count, mover, no_channel, channel_at, fills, drains, starts, filler, drainer, start_count, capacity}
+use Rattle.lid_stations.specs.Laws.{StandsBetween}
 use Rattle.lid_stations.proofs.Parts.{IsInPart, HasPart, part_of, one_part, part_below, each_long, each_at}
 
 -- there is a relay station less on each channel than there are stations
 pub fewer_relays : (relays : List ℕ) → station_count relays ≡ relay_count relays + length relays
 fewer_relays [] = refl
 fewer_relays (k ∷ ks) = omega (arith, fewer_relays ks, sum_by-cons (λ (k : ℕ). k + 1) k ks, sum_by-cons (λ (k : ℕ). k) k ks)
+
+-- so the stations before a channel are the relay stations there and one for each channel
+pub first_station : (relays : List ℕ) (c : ℕ) → c ≤ length relays → station_count (take c relays) ≡ relay_count (take c relays) + c
+first_station relays c h = omega (arith, fewer_relays (take c relays), length-take-le c relays h)
+
+pub starts_small : (i : ℕ) → starts i ≤ 1
+starts_small zero = omega arith
+starts_small (suc i) = omega arith
 
 -- the spot of a station, by its channel and its place there
 spot_there : (first : ℕ) (relays : List ℕ) (c i : ℕ) (d : Spot) → c < length relays → i ≤ get_or relays c 0 → get_or (spots_from first relays) (station_count (take c relays) + i) d ≡ record { channel = first + c; place = i }
@@ -74,3 +85,43 @@ module _ (s : System) (p : Placement) (well : IsWellFormed s) (fits : Fits s p) 
 
   pub few_movers : (c i : ℕ) → c < length p.relays → i ≤ get_or p.relays c 0 → mover s p c i ≤ 69634
   few_movers c i below within = omega (arith, few_actors, sum_by_more_le (λ (k : ℕ). k) p.relays c 0 below)
+
+  pub few_stations : (c i : ℕ) → c < length p.relays → i ≤ get_or p.relays c 0 → station_count (take c p.relays) + i < length p.caps
+  few_stations c i below within = omega (arith, fits.rules.caps, sum_by_more_le (λ (k : ℕ). k + 1) p.relays c 0 below)
+
+  pub cap_range : (station : ℕ) → station < station_count p.relays → IsCapacity (capacity p station)
+  cap_range station h = All-get_or IsCapacity p.caps station 2 (omega (arith, fits.rules.caps)) fits.rules.range
+
+  pub channel_there : (c : ℕ) → c < length p.relays → IsChannel s (channel_at s c)
+  channel_there c below = all_among (IsChannel s) s.channels (channel_at s c) well.each_channel (among_at s.channels c no_channel (omega (arith, fits.counts)))
+
+  -- an actor that fills a station is not the sink
+  pub fills_below : (c i : ℕ) → c < length p.relays → i ≤ get_or p.relays c 0 → (fills s p c i < actor_count s p) × ((fills s p c i + 1 ≡ length s.nodes) → ⊥)
+  fills_below c zero below within = let comes = (channel_there c below).comes in (omega arith, λ is. omega arith)
+  fills_below c (suc i) below within = (mover_below s p c i below (omega arith), λ is. omega arith)
+
+  -- an actor that drains one is not the source
+  pub drains_below : (c i : ℕ) → c < length p.relays → i ≤ get_or p.relays c 0 → (drains s p c i < actor_count s p) × (0 < drains s p c i)
+  drains_below c i below within = by_last (i == get_or p.relays c 0) refl
+    where
+      by_last : (b : Bool) → i == get_or p.relays c 0 ≡ b → (cond b (channel_at s c).to (mover s p c i) < actor_count s p) × (0 < cond b (channel_at s c).to (mover s p c i))
+      by_last true e = let there = channel_there c below in let ends = there.ends in let leads = there.leads in (omega arith, omega arith)
+      by_last false e =
+          let other : (i ≡ get_or p.relays c 0) → ⊥ = eqb-false i (get_or p.relays c 0) e in
+          (mover_below s p c i below (omega arith), (let least = well.least in omega arith))
+
+  pub stands_between : (station : ℕ) → station < station_count p.relays → StandsBetween s p station
+  stands_between station h = by_spot (stands p.relays station h)
+    where
+      by_spot : Stands p.relays station → StandsBetween s p station
+      by_spot at =
+          let c = at.channel in
+          let i = at.place in
+          let from : filler s p station ≡ fills s p c i = ap (λ (spot : Spot). fills s p spot.channel spot.place) at.is.spot in
+          let to : drainer s p station ≡ drains s p c i = ap (λ (spot : Spot). drains s p spot.channel spot.place) at.is.spot in
+          let first = fills_below c i at.is.below at.is.within in
+          let last = drains_below c i at.is.below at.is.within in
+          let filled = first.0 in
+          let drained = last.0 in
+          let later = last.1 in
+          record { filled = omega arith; not_sink = λ is. first.1 (omega arith); drained = omega arith; not_source = omega arith }
