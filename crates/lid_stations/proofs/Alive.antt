@@ -1,10 +1,9 @@
 -- Markings are paired graphs, and each closed walk has a token: edges without one rise, from mover to mover,
 -- and to nodes.
-use Rattle.std.proofs.Common.{◌≡◌, ℕ, zero, suc, ◌+◌, ◌<◌, ◌≤◌, ◌==◌, nat_lt, Bool, true, false, cond, length, get_or, refl, sym, ◌∙◌, ap, subst, lt-ltb, le-ltb, arith}
-use Rattle.std.proofs.lemmas.Bool.{eqb-false}
+use Rattle.std.proofs.Common.{◌≡◌, ℕ, zero, suc, ◌+◌, ◌<◌, ◌≤◌, ◌==◌, nat_lt, Bool, true, false, cond, length, get_or, refl, sym, ◌∙◌, ap, lt-ltb, le-ltb, arith}
 use Rattle.lid_graph.specs.declared.graph.Edge.{Edge}
 use Rattle.lid_graph.specs.declared.graph.Graph.{Graph}
-use Rattle.lid_graph.specs.Walks.{edge_at, AreEndsPaired, HasSelfEdge, IsPaired, WalksHaveTokens}
+use Rattle.lid_graph.specs.Walks.{edge_at, AreEndsPaired, HasSelfEdge, WalksHaveTokens}
 use Rattle.lid_graph.specs.Rateable.{IsRateable}
 use Rattle.lid_firings.specs.Laws.{RiseWithoutTokens}
 use Rattle.lid_firings.proofs.Alive.{numbers_show_tokens}
@@ -12,10 +11,9 @@ use Rattle.lid_system.specs.declared.System.{System}
 use Rattle.lid_system.specs.Systems.{IsWellFormed}
 use Rattle.lid_stations.specs.declared.placement.Placement.{Placement}
 use Rattle.lid_stations.specs.Placements.{station_count, Fits}
-use Rattle.lid_stations.specs.Stations.{Spot, actor_count, mover, channel_at, fills, drains, starts, filler, drainer, start_count, capacity}
-use Rattle.lid_stations.specs.Markings.{forth, back, self_edge, marking}
-use Rattle.lid_stations.specs.Laws.{StandsBetween}
-use Rattle.lid_stations.proofs.Spots.{StandsAt, Stands, stands, starts_small, few_actors, cap_range, channel_there, mover_below, stands_between, fewer_relays}
+use Rattle.lid_stations.specs.Stations.{Spot, actor_count, mover, channel_at, fills, drains, starts, start_count}
+use Rattle.lid_stations.specs.Markings.{marking}
+use Rattle.lid_stations.proofs.Spots.{Stands, stands, starts_small, few_actors, cap_range, channel_there, mover_below, stands_between}
 use Rattle.lid_stations.proofs.Edges.{node_count, edges_long, forth_at, back_at, self_at, by_edge}
 
 module _ (s : System) (p : Placement) (well : IsWellFormed s) (fits : Fits s p) where

@@ -1,5 +1,5 @@
 -- The edges of a marking: what is pushed for a station, and each edge by its number.
-use Rattle.std.proofs.Common.{◌≡◌, ℕ, zero, suc, ◌+◌, ◌-◌, ◌*◌, ◌<◌, ◌≤◌, ◌⊎◌, inl, inr, List, [], ◌∷◌, ◌++◌, length, take, get_or, flat_map, refl, sym, ◌∙◌, ap, subst, arith}
+use Rattle.std.proofs.Common.{◌≡◌, ℕ, suc, ◌+◌, ◌-◌, ◌*◌, ◌<◌, ◌≤◌, ◌⊎◌, inl, inr, List, [], ◌∷◌, ◌++◌, length, take, get_or, flat_map, refl, sym, ◌∙◌, ap, subst, arith}
 use Rattle.std.proofs.lemmas.Bool.{cases_lt}
 use Rattle.std.proofs.lemmas.List.{length-append, get_or_default, get_or_append_left, get_or-append-add}
 use Rattle.lid_design.specs.Network.{from_each}
@@ -12,7 +12,7 @@ use Rattle.lid_stations.specs.Placements.{station_count}
 use Rattle.lid_stations.specs.Stations.{Spot, actor_count, fills, drains, starts, filler, drainer, start_count, capacity}
 use Rattle.lid_stations.specs.Markings.{forth, back, station_edges, self_edge, marking}
 use Rattle.lid_stations.specs.Laws.{HasTwoEdges}
-use Rattle.lid_stations.proofs.Parts.{each_long, each_at, two_each, two_each_next, two_each_long, HasHalf, half_of}
+use Rattle.lid_stations.proofs.Parts.{each_long, each_at, two_each, two_each_next, two_each_long, half_of}
 use Rattle.lid_stations.proofs.Spots.{spot_is}
 
 abbrev pub two_edges : ℕ → ℕ → ℕ → ℕ → List Edge
@@ -96,3 +96,9 @@ module _ (s : System) (p : Placement) where
       let e : 2 * station ≡ station + station = omega arith in
       let f : 2 * station + 1 ≡ suc (station + station) = omega arith in
       record { along = ap (edge_at (marking s p)) e ∙ forth_at station h; backward = ap (edge_at (marking s p)) f ∙ back_at station h }
+
+  pub selves_there : (v : ℕ) → v < actor_count s p → edge_at (marking s p) (2 * count + v) ≡ self_edge v
+  selves_there v h = (let e : 2 * count + v ≡ (count + count) + v = omega arith in ap (edge_at (marking s p)) e) ∙ self_at v h
+
+  pub no_others : length (marking s p).edges ≡ 2 * count + actor_count s p
+  no_others = omega (arith, edges_long)

@@ -2,3 +2,4 @@ pub mod Parts
 pub mod Spots
 pub mod Edges
 pub mod Alive
+pub mod Movers

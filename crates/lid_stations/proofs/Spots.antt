@@ -1,20 +1,17 @@
 -- Where stations stand, and which actors fill and drain them.
-use Rattle.std.proofs.Common.{◌≡◌, ℕ, zero, suc, ◌+◌, ◌-◌, ◌<◌, ◌≤◌, ◌==◌, ◌⊎◌, inl, inr, Bool, true, false, cond, List, [], ◌∷◌, ◌++◌, length, take, get_or, refl, sym, ◌∙◌, ap, subst, zero-add, arith}
-use Rattle.std.specs.List.{All, sum_by}
+use Rattle.std.proofs.Common.{◌≡◌, ℕ, zero, suc, ◌+◌, ◌<◌, ◌≤◌, ◌==◌, Bool, true, false, cond, List, [], ◌∷◌, ◌++◌, length, take, get_or, refl, sym, ◌∙◌, ap, subst, zero-add, arith}
 use Rattle.std.proofs.lemmas.Bool.{eqb-false}
 use Rattle.std.proofs.lemmas.List.{ length-take-le, get_or_append_left, get_or-append-add}
 use Rattle.std.proofs.lemmas.List.Elements.{All-get_or}
-use Rattle.std.proofs.lemmas.List.Sums.{sum_by-cons, sum_by-take-le, sum_by_more_le}
+use Rattle.std.proofs.lemmas.List.Sums.{sum_by-cons, sum_by_more_le}
 use Rattle.lid_base.proofs.Lists.{all_among, among_at}
-use Rattle.lid_design.specs.Network.{from_each}
 use Rattle.lid_system.specs.declared.System.{System}
-use Rattle.lid_system.specs.declared.Channel.{Channel}
 use Rattle.lid_system.specs.Systems.{IsWellFormed, IsChannel}
 use Rattle.lid_stations.specs.declared.placement.Placement.{Placement}
 use Rattle.lid_stations.specs.Placements.{station_count, IsCapacity, Fits}
-use Rattle.lid_stations.specs.Stations.{Spot, spots_on, spots_from, spot_at, relay_count, actor_count, mover, no_channel, channel_at, fills, drains, starts, filler, drainer, start_count, capacity}
-use Rattle.lid_stations.specs.Laws.{StandsBetween}
-use Rattle.lid_stations.proofs.Parts.{IsInPart, HasPart, part_of, one_part, part_below, each_long, each_at}
+use Rattle.lid_stations.specs.Stations.{Spot, spots_on, spots_from, spot_at, relay_count, actor_count, mover, no_channel, channel_at, fills, drains, starts, filler, drainer, capacity}
+use Rattle.lid_stations.specs.Laws.{StandsAt, StandsBetween}
+use Rattle.lid_stations.proofs.Parts.{HasPart, part_of, each_long, each_at}
 
 -- there is a relay station less on each channel than there are stations
 pub fewer_relays : (relays : List ℕ) → station_count relays ≡ relay_count relays + length relays
@@ -52,13 +49,7 @@ spot_is relays station c i below within number =
     ∙ spot_there 0 relays c i (record { channel = 0; place = 0 }) below within
     ∙ ap (λ (n : ℕ). let s : Spot = record { channel = n; place = i } in s) (zero-add c)
 
--- a station stands at place i of channel c
-pub record StandsAt (relays : List ℕ) (station c i : ℕ) : Type 0 where
-  pub spot : spot_at relays station ≡ record { channel = c; place = i }
-  pub below : c < length relays
-  pub within : i ≤ get_or relays c 0
-  pub number : station ≡ station_count (take c relays) + i
-
+-- each station stands somewhere
 pub record Stands (relays : List ℕ) (station : ℕ) : Type 0 where
   pub channel : ℕ
   pub place : ℕ
@@ -71,6 +62,19 @@ stands relays station h = from_part (part_of (λ (k : ℕ). k + 1) relays statio
     from_part p =
         let within : p.place ≤ get_or relays p.part 0 = (let w = p.is.within in omega arith) in
         record { channel = p.part; place = p.place; is = record { spot = spot_is relays station p.part p.place p.is.below within p.is.number; below = p.is.below; within = within; number = p.is.number } }
+
+-- and its spot says where
+pub spot_of_station : (relays : List ℕ) (station : ℕ) → station < station_count relays → StandsAt relays station (spot_at relays station).channel (spot_at relays station).place
+spot_of_station relays station h =
+    let at = stands relays station h in
+    subst (λ (spot : Spot). StandsAt relays station spot.channel spot.place) (sym at.is.spot) at.is
+
+-- each spot has a station
+pub station_at_spot : (relays : List ℕ) (c i : ℕ) → c < length relays → i ≤ get_or relays c 0 → (station_count (take c relays) + i < station_count relays) × StandsAt relays (station_count (take c relays) + i) c i
+station_at_spot relays c i below within = (
+  omega (arith, sum_by_more_le (λ (k : ℕ). k + 1) relays c 0 below),
+  record { spot = spot_is relays (station_count (take c relays) + i) c i below within refl; below = below; within = within; number = refl },
+)
 
 -- a mover of a place is an actor
 pub mover_below : (s : System) (p : Placement) (c i : ℕ) → c < length p.relays → i < get_or p.relays c 0 → mover s p c i < actor_count s p

@@ -1,5 +1,5 @@
 use Rattle.std.proofs.Common.{arith}
-use Rattle.lid_stations.proofs.Spots.{fewer_relays, few_actors}
+use Rattle.lid_stations.proofs.Spots.{fewer_relays}
 use Rattle.lid_stations.proofs.marked_graph.actors.Goals as goal
 
 pub overflow_sub-result : goal.overflow_sub-result

@@ -1,7 +1,6 @@
-use Rattle.std.proofs.Common.{◌≡◌, ℕ, ◌+◌, List, ◌++◌, flat_map, take, get_or, ap, sym, ◌∙◌, zero-add, arith}
+use Rattle.std.proofs.Common.{◌≡◌, ℕ, ◌+◌, List, ◌++◌, flat_map, get_or, ap, sym, ◌∙◌, zero-add, arith}
 use Rattle.std.proofs.lemmas.List.Sums.{sum_by_more}
 use Rattle.lid_design.specs.Network.{from_each}
-use Rattle.lid_stations.specs.Placements.{station_count}
 use Rattle.lid_stations.specs.Markings.{station_edges}
 use Rattle.lid_stations.proofs.Parts.{grown}
 use Rattle.lid_stations.proofs.marked_graph.push_stations.Goals as goal
