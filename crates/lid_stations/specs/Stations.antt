@@ -7,7 +7,6 @@ use Rattle.lid_design.specs.Network.{from_each}
 use Rattle.lid_system.specs.declared.System.{System}
 use Rattle.lid_system.specs.declared.Channel.{Channel}
 use Rattle.lid_stations.specs.declared.placement.Placement.{Placement}
-use Rattle.lid_stations.specs.Placements.{station_count}
 
 -- where a station stands: its channel, and its place among the stations there, of which the first stands at
 -- the producer
