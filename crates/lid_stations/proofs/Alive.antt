@@ -10,7 +10,7 @@ use Rattle.lid_firings.proofs.Alive.{numbers_show_tokens}
 use Rattle.lid_system.specs.declared.System.{System}
 use Rattle.lid_system.specs.Systems.{IsWellFormed}
 use Rattle.lid_stations.specs.declared.placement.Placement.{Placement}
-use Rattle.lid_stations.specs.Placements.{station_count, Fits}
+use Rattle.lid_stations.specs.Placements.{links_of, station_count, Fits}
 use Rattle.lid_stations.specs.Stations.{Spot, actor_count, mover, channel_at, fills, drains, starts, start_count}
 use Rattle.lid_stations.specs.Markings.{marking}
 use Rattle.lid_stations.proofs.Spots.{Stands, stands, starts_small, few_actors, cap_range, channel_there, mover_below, stands_between}
@@ -18,7 +18,7 @@ use Rattle.lid_stations.proofs.Edges.{node_count, edges_long, forth_at, back_at,
 
 module _ (s : System) (p : Placement) (well : IsWellFormed s) (fits : Fits s p) where
   abbrev g : Graph
-  g = marking s p
+  g = marking (links_of s) p
 
   abbrev count : ℕ
   count = station_count p.relays
@@ -55,10 +55,10 @@ module _ (s : System) (p : Placement) (well : IsWellFormed s) (fits : Fits s p) 
         back = (station + station, omega (arith, edges_long s p), ap from_of (forth_at s p station h) ∙ sym (ap to_of (back_at s p station h)), ap to_of (forth_at s p station h) ∙ sym (ap from_of (back_at s p station h)));
       }
 
-  self_there : (v : ℕ) → v < actor_count s p → HasSelfEdge g v
+  self_there : (v : ℕ) → v < actor_count (links_of s) p → HasSelfEdge g v
   self_there v h = ((count + count) + v, omega (arith, edges_long s p), ap from_of (self_at s p v h), ap to_of (self_at s p v h), ap tokens_of (self_at s p v h))
 
-  self_paired : (v : ℕ) → v < actor_count s p → AreEndsPaired g ((count + count) + v)
+  self_paired : (v : ℕ) → v < actor_count (links_of s) p → AreEndsPaired g ((count + count) + v)
   self_paired v h = record {
     from = omega (arith, ap from_of (self_at s p v h), node_count s p);
     to = omega (arith, ap to_of (self_at s p v h), node_count s p);
@@ -88,24 +88,24 @@ module _ (s : System) (p : Placement) (well : IsWellFormed s) (fits : Fits s p) 
 
   -- a mover has its own number, and a node one above those of all movers
   number : ℕ → ℕ
-  number v = cond (nat_lt v (length s.nodes)) (actor_count s p) v
+  number v = cond (nat_lt v (length s.nodes)) (actor_count (links_of s) p) v
 
-  of_node : (v : ℕ) → v < length s.nodes → number v ≡ actor_count s p
+  of_node : (v : ℕ) → v < length s.nodes → number v ≡ actor_count (links_of s) p
   unfolding number
-  of_node v h = ap (λ (b : Bool). cond b (actor_count s p) v) (lt-ltb v (length s.nodes) h)
+  of_node v h = ap (λ (b : Bool). cond b (actor_count (links_of s) p) v) (lt-ltb v (length s.nodes) h)
 
   of_mover : (v : ℕ) → length s.nodes ≤ v → number v ≡ v
   unfolding number
-  of_mover v h = ap (λ (b : Bool). cond b (actor_count s p) v) (le-ltb v (length s.nodes) h)
+  of_mover v h = ap (λ (b : Bool). cond b (actor_count (links_of s) p) v) (le-ltb v (length s.nodes) h)
 
   -- past a relay station the number is higher
-  rises_there : (c i : ℕ) → c < length p.relays → i ≤ get_or p.relays c 0 → starts i ≡ 0 → number (fills s p c i) < number (drains s p c i)
+  rises_there : (c i : ℕ) → c < length p.relays → i ≤ get_or p.relays c 0 → starts i ≡ 0 → number (fills (links_of s) p c i) < number (drains (links_of s) p c i)
   rises_there c zero below within none = absurd (omega arith)
   rises_there c (suc i) below within none = by_last (suc i == get_or p.relays c 0) refl
     where
-      by_last : (b : Bool) → suc i == get_or p.relays c 0 ≡ b → number (mover s p c i) < number (cond b (channel_at s c).to (mover s p c (suc i)))
-      by_last true e = let ends = (channel_there s p well fits c below).ends in omega (arith, of_mover (mover s p c i) (omega arith), of_node (channel_at s c).to ends, mover_below s p c i below (omega arith))
-      by_last false e = omega (arith, of_mover (mover s p c i) (omega arith), of_mover (mover s p c (suc i)) (omega arith))
+      by_last : (b : Bool) → suc i == get_or p.relays c 0 ≡ b → number (mover (links_of s) p c i) < number (cond b (channel_at (links_of s) c).to (mover (links_of s) p c (suc i)))
+      by_last true e = let ends = (channel_there s p well fits c below).ends in omega (arith, of_mover (mover (links_of s) p c i) (omega arith), of_node (channel_at (links_of s) c).to ends, mover_below s p c i below (omega arith))
+      by_last false e = omega (arith, of_mover (mover (links_of s) p c i) (omega arith), of_mover (mover (links_of s) p c (suc i)) (omega arith))
 
   rise : RiseWithoutTokens g number
   rise = by_edge s p (λ k. (edge_at g k).tokens ≡ 0 → number (edge_at g k).from < number (edge_at g k).to) along backward (λ v h none. absurd (omega (arith, ap tokens_of (self_at s p v h))))
@@ -114,8 +114,8 @@ module _ (s : System) (p : Placement) (well : IsWellFormed s) (fits : Fits s p) 
       by_spot station h at none =
           let c = at.channel in
           let i = at.place in
-          let from : number (edge_at g (station + station)).from ≡ number (fills s p c i) = ap number (ap from_of (forth_at s p station h) ∙ ap (λ (spot : Spot). fills s p spot.channel spot.place) at.is.spot) in
-          let to : number (edge_at g (station + station)).to ≡ number (drains s p c i) = ap number (ap to_of (forth_at s p station h) ∙ ap (λ (spot : Spot). drains s p spot.channel spot.place) at.is.spot) in
+          let from : number (edge_at g (station + station)).from ≡ number (fills (links_of s) p c i) = ap number (ap from_of (forth_at s p station h) ∙ ap (λ (spot : Spot). fills (links_of s) p spot.channel spot.place) at.is.spot) in
+          let to : number (edge_at g (station + station)).to ≡ number (drains (links_of s) p c i) = ap number (ap to_of (forth_at s p station h) ∙ ap (λ (spot : Spot). drains (links_of s) p spot.channel spot.place) at.is.spot) in
           let tokens : (edge_at g (station + station)).tokens ≡ starts i = ap tokens_of (forth_at s p station h) ∙ ap (λ (spot : Spot). starts spot.place) at.is.spot in
           omega (arith, rises_there c i at.is.below at.is.within (sym tokens ∙ none))
 

@@ -8,7 +8,7 @@ use Rattle.lid_base.proofs.Lists.{all_among, among_at}
 use Rattle.lid_system.specs.declared.System.{System}
 use Rattle.lid_system.specs.Systems.{IsWellFormed, IsChannel}
 use Rattle.lid_stations.specs.declared.placement.Placement.{Placement}
-use Rattle.lid_stations.specs.Placements.{station_count, IsCapacity, Fits}
+use Rattle.lid_stations.specs.Placements.{links_of, station_count, IsCapacity, Fits}
 use Rattle.lid_stations.specs.Stations.{Spot, spots_on, spots_from, spot_at, relay_count, actor_count, mover, no_channel, channel_at, fills, drains, starts, filler, drainer, capacity}
 use Rattle.lid_stations.specs.Laws.{StandsAt, StandsBetween}
 use Rattle.lid_stations.proofs.Parts.{HasPart, part_of, each_long, each_at}
@@ -77,17 +77,17 @@ station_at_spot relays c i below within = (
 )
 
 -- a mover of a place is an actor
-pub mover_below : (s : System) (p : Placement) (c i : ℕ) → c < length p.relays → i < get_or p.relays c 0 → mover s p c i < actor_count s p
+pub mover_below : (s : System) (p : Placement) (c i : ℕ) → c < length p.relays → i < get_or p.relays c 0 → mover (links_of s) p c i < actor_count (links_of s) p
 mover_below s p c i below within = omega (arith, sum_by_more_le (λ (k : ℕ). k) p.relays c 0 below)
 
 module _ (s : System) (p : Placement) (well : IsWellFormed s) (fits : Fits s p) where
-  pub few_actors : actor_count s p ≤ 69634
+  pub few_actors : actor_count (links_of s) p ≤ 69634
   few_actors = omega (arith, well.most, fits.rules.most, fewer_relays p.relays)
 
   pub few_relays : (c : ℕ) → c < length p.relays → get_or p.relays c 0 ≤ 64
   few_relays c below = All-get_or (λ k. k ≤ 64) p.relays c 0 below fits.rules.few
 
-  pub few_movers : (c i : ℕ) → c < length p.relays → i ≤ get_or p.relays c 0 → mover s p c i ≤ 69634
+  pub few_movers : (c i : ℕ) → c < length p.relays → i ≤ get_or p.relays c 0 → mover (links_of s) p c i ≤ 69634
   few_movers c i below within = omega (arith, few_actors, sum_by_more_le (λ (k : ℕ). k) p.relays c 0 below)
 
   pub few_stations : (c i : ℕ) → c < length p.relays → i ≤ get_or p.relays c 0 → station_count (take c p.relays) + i < length p.caps
@@ -96,19 +96,19 @@ module _ (s : System) (p : Placement) (well : IsWellFormed s) (fits : Fits s p) 
   pub cap_range : (station : ℕ) → station < station_count p.relays → IsCapacity (capacity p station)
   cap_range station h = All-get_or IsCapacity p.caps station 2 (omega (arith, fits.rules.caps)) fits.rules.range
 
-  pub channel_there : (c : ℕ) → c < length p.relays → IsChannel s (channel_at s c)
-  channel_there c below = all_among (IsChannel s) s.channels (channel_at s c) well.each_channel (among_at s.channels c no_channel (omega (arith, fits.counts)))
+  pub channel_there : (c : ℕ) → c < length p.relays → IsChannel s (channel_at (links_of s) c)
+  channel_there c below = all_among (IsChannel s) s.channels (channel_at (links_of s) c) well.each_channel (among_at s.channels c no_channel (omega (arith, fits.counts)))
 
   -- an actor that fills a station is not the sink
-  pub fills_below : (c i : ℕ) → c < length p.relays → i ≤ get_or p.relays c 0 → (fills s p c i < actor_count s p) × ((fills s p c i + 1 ≡ length s.nodes) → ⊥)
+  pub fills_below : (c i : ℕ) → c < length p.relays → i ≤ get_or p.relays c 0 → (fills (links_of s) p c i < actor_count (links_of s) p) × ((fills (links_of s) p c i + 1 ≡ length s.nodes) → ⊥)
   fills_below c zero below within = let comes = (channel_there c below).comes in (omega arith, λ is. omega arith)
   fills_below c (suc i) below within = (mover_below s p c i below (omega arith), λ is. omega arith)
 
   -- an actor that drains one is not the source
-  pub drains_below : (c i : ℕ) → c < length p.relays → i ≤ get_or p.relays c 0 → (drains s p c i < actor_count s p) × (0 < drains s p c i)
+  pub drains_below : (c i : ℕ) → c < length p.relays → i ≤ get_or p.relays c 0 → (drains (links_of s) p c i < actor_count (links_of s) p) × (0 < drains (links_of s) p c i)
   drains_below c i below within = by_last (i == get_or p.relays c 0) refl
     where
-      by_last : (b : Bool) → i == get_or p.relays c 0 ≡ b → (cond b (channel_at s c).to (mover s p c i) < actor_count s p) × (0 < cond b (channel_at s c).to (mover s p c i))
+      by_last : (b : Bool) → i == get_or p.relays c 0 ≡ b → (cond b (channel_at (links_of s) c).to (mover (links_of s) p c i) < actor_count (links_of s) p) × (0 < cond b (channel_at (links_of s) c).to (mover (links_of s) p c i))
       by_last true e = let there = channel_there c below in let ends = there.ends in let leads = there.leads in (omega arith, omega arith)
       by_last false e =
           let other : (i ≡ get_or p.relays c 0) → ⊥ = eqb-false i (get_or p.relays c 0) e in
@@ -121,8 +121,8 @@ module _ (s : System) (p : Placement) (well : IsWellFormed s) (fits : Fits s p) 
       by_spot at =
           let c = at.channel in
           let i = at.place in
-          let from : filler s p station ≡ fills s p c i = ap (λ (spot : Spot). fills s p spot.channel spot.place) at.is.spot in
-          let to : drainer s p station ≡ drains s p c i = ap (λ (spot : Spot). drains s p spot.channel spot.place) at.is.spot in
+          let from : filler (links_of s) p station ≡ fills (links_of s) p c i = ap (λ (spot : Spot). fills (links_of s) p spot.channel spot.place) at.is.spot in
+          let to : drainer (links_of s) p station ≡ drains (links_of s) p c i = ap (λ (spot : Spot). drains (links_of s) p spot.channel spot.place) at.is.spot in
           let first = fills_below c i at.is.below at.is.within in
           let last = drains_below c i at.is.below at.is.within in
           let filled = first.0 in

@@ -5,7 +5,7 @@ use Rattle.lid_graph.specs.Rateable.{IsRateable}
 use Rattle.lid_system.specs.declared.System.{System}
 use Rattle.lid_system.specs.Systems.{IsWellFormed}
 use Rattle.lid_stations.specs.declared.placement.Placement.{Placement}
-use Rattle.lid_stations.specs.Placements.{station_count, Fits}
+use Rattle.lid_stations.specs.Placements.{links_of, station_count, Fits}
 use Rattle.lid_stations.specs.Stations.{spot_at, actor_count, filler, drainer}
 use Rattle.lid_stations.specs.Markings.{forth, back, self_edge, marking}
 
@@ -31,10 +31,10 @@ EachSpotHasAStation =
 
 -- actors fill and drain a station; the sink does not fill it, and the source does not drain it
 pub record StandsBetween (s : System) (p : Placement) (station : ℕ) : Type 0 where
-  pub filled : filler s p station < actor_count s p
-  pub not_sink : filler s p station + 1 ≢ length s.nodes
-  pub drained : drainer s p station < actor_count s p
-  pub not_source : 0 < drainer s p station
+  pub filled : filler (links_of s) p station < actor_count (links_of s) p
+  pub not_sink : filler (links_of s) p station + 1 ≢ length s.nodes
+  pub drained : drainer (links_of s) p station < actor_count (links_of s) p
+  pub not_source : 0 < drainer (links_of s) p station
 
 -- each station stands between actors
 abbrev pub StationsStandBetweenActors : Type 0
@@ -44,8 +44,8 @@ StationsStandBetweenActors =
 
 -- two edges of a marking belong to a station
 pub record HasTwoEdges (s : System) (p : Placement) (station : ℕ) : Type 0 where
-  pub along : edge_at (marking s p) (2 * station) ≡ forth s p station
-  pub backward : edge_at (marking s p) (2 * station + 1) ≡ back s p station
+  pub along : edge_at (marking (links_of s) p) (2 * station) ≡ forth (links_of s) p station
+  pub backward : edge_at (marking (links_of s) p) (2 * station + 1) ≡ back (links_of s) p station
 
 -- each station has two edges
 abbrev pub StationsHaveTwoEdges : Type 0
@@ -55,36 +55,36 @@ StationsHaveTwoEdges = (s : System) (p : Placement) (station : ℕ) → station 
 abbrev pub ActorsHaveSelfEdges : Type 0
 ActorsHaveSelfEdges =
     (s : System) (p : Placement) (v : ℕ)
-    → v < actor_count s p → edge_at (marking s p) (2 * station_count p.relays + v) ≡ self_edge v
+    → v < actor_count (links_of s) p → edge_at (marking (links_of s) p) (2 * station_count p.relays + v) ≡ self_edge v
 
 -- and there are no others
 abbrev pub MarkingsHaveNoOtherEdges : Type 0
-MarkingsHaveNoOtherEdges = (s : System) (p : Placement) → length (marking s p).edges ≡ 2 * station_count p.relays + actor_count s p
+MarkingsHaveNoOtherEdges = (s : System) (p : Placement) → length (marking (links_of s) p).edges ≡ 2 * station_count p.relays + actor_count (links_of s) p
 
 -- a mover drains one station and fills the next one, which stands on the same channel, and no others
 pub record CarriesOn (s : System) (p : Placement) (mover station : ℕ) : Type 0 where
   pub next : station + 1 < station_count p.relays
-  pub drained : drainer s p station ≡ mover
-  pub filled : filler s p (station + 1) ≡ mover
+  pub drained : drainer (links_of s) p station ≡ mover
+  pub filled : filler (links_of s) p (station + 1) ≡ mover
   pub channel : (spot_at p.relays (station + 1)).channel ≡ (spot_at p.relays station).channel
   pub place : (spot_at p.relays (station + 1)).place ≡ (spot_at p.relays station).place + 1
-  pub drains_one : (other : ℕ) → other < station_count p.relays → drainer s p other ≡ mover → other ≡ station
-  pub fills_one : (other : ℕ) → other < station_count p.relays → filler s p other ≡ mover → other ≡ station + 1
+  pub drains_one : (other : ℕ) → other < station_count p.relays → drainer (links_of s) p other ≡ mover → other ≡ station
+  pub fills_one : (other : ℕ) → other < station_count p.relays → filler (links_of s) p other ≡ mover → other ≡ station + 1
 
 -- each actor that is no node carries tokens from one station to the next
 abbrev pub MoversCarryOneStationOn : Type 0
 MoversCarryOneStationOn =
     (s : System) (p : Placement) (mover : ℕ)
-    → IsWellFormed s → Fits s p → length s.nodes ≤ mover → mover < actor_count s p
+    → IsWellFormed s → Fits s p → length s.nodes ≤ mover → mover < actor_count (links_of s) p
     → (station : ℕ) × CarriesOn s p mover station
 
 -- markings have ratios that are found and told
 abbrev pub MarkingsAreRateable : Type 0
-MarkingsAreRateable = (s : System) (p : Placement) → IsWellFormed s → Fits s p → IsRateable (marking s p)
+MarkingsAreRateable = (s : System) (p : Placement) → IsWellFormed s → Fits s p → IsRateable (marking (links_of s) p)
 
 -- each closed walk of a marking has a token
 abbrev pub MarkingsHaveTokens : Type 0
-MarkingsHaveTokens = (s : System) (p : Placement) → IsWellFormed s → Fits s p → WalksHaveTokens (marking s p)
+MarkingsHaveTokens = (s : System) (p : Placement) → IsWellFormed s → Fits s p → WalksHaveTokens (marking (links_of s) p)
 
 -- each system has a placement that fits
 abbrev pub SomePlacementFits : Type 0

@@ -2,7 +2,16 @@
 use Rattle.std.specs.Prelude.{◌≡◌, ℕ, ◌+◌, ◌≤◌, List, length}
 use Rattle.std.specs.List.{All, sum_by}
 use Rattle.lid_system.specs.declared.System.{System}
+use Rattle.lid_system.specs.declared.Channel.{Channel}
 use Rattle.lid_stations.specs.declared.placement.Placement.{Placement}
+
+-- what a placement sees of a system: how many nodes it has, and its channels
+pub record Links : Type 0 where
+  pub nodes : ℕ
+  pub channels : List Channel
+
+abbrev pub links_of : System → Links
+links_of s = record { nodes = length s.nodes; channels = s.channels }
 
 -- the stations of channels with so many relay stations each: each channel has one more
 abbrev pub station_count : List ℕ → ℕ

@@ -4,9 +4,9 @@
 use Rattle.std.specs.Prelude.{ℕ, zero, suc, ◌+◌, ◌==◌, if◌then◌else◌, List, [], ◌∷◌, ◌++◌, length, take, slice_index_or}
 use Rattle.std.specs.List.{sum_by}
 use Rattle.lid_design.specs.Network.{from_each}
-use Rattle.lid_system.specs.declared.System.{System}
 use Rattle.lid_system.specs.declared.Channel.{Channel}
 use Rattle.lid_stations.specs.declared.placement.Placement.{Placement}
+use Rattle.lid_stations.specs.Placements.{Links}
 
 -- where a station stands: its channel, and its place among the stations there, of which the first stands at
 -- the producer
@@ -32,30 +32,30 @@ abbrev pub relay_count : List ℕ → ℕ
 relay_count relays = sum_by (λ k. k) relays
 
 -- how many actors there are
-abbrev pub actor_count : System → Placement → ℕ
-actor_count s p = length s.nodes + relay_count p.relays
+abbrev pub actor_count : Links → Placement → ℕ
+actor_count l p = l.nodes + relay_count p.relays
 
 -- the mover that drains the station at a place of channel c, where that is not the last one there
-abbrev pub mover : System → Placement → ℕ → ℕ → ℕ
-mover s p c place = length s.nodes + (relay_count (take c p.relays) + place)
+abbrev pub mover : Links → Placement → ℕ → ℕ → ℕ
+mover l p c place = l.nodes + (relay_count (take c p.relays) + place)
 
 -- what stands past the last channel
 abbrev pub no_channel : Channel
 no_channel = record { from = 0; to = 0; piece = 0; ports = [] }
 
-abbrev pub channel_at : System → ℕ → Channel
-channel_at s c = slice_index_or s.channels c no_channel
+abbrev pub channel_at : Links → ℕ → Channel
+channel_at l c = slice_index_or l.channels c no_channel
 
 -- the actor that fills the station at a place of channel c: the producer fills the first, and a mover each
 -- other
-abbrev pub fills : System → Placement → ℕ → ℕ → ℕ
-fills s p c zero = (channel_at s c).from
-fills s p c (suc place) = mover s p c place
+abbrev pub fills : Links → Placement → ℕ → ℕ → ℕ
+fills l p c zero = (channel_at l c).from
+fills l p c (suc place) = mover l p c place
 
 -- the actor that drains the station at a place of channel c: the consumer drains the last, and a mover each
 -- other
-abbrev pub drains : System → Placement → ℕ → ℕ → ℕ
-drains s p c place = if place == slice_index_or p.relays c 0 then (channel_at s c).to else mover s p c place
+abbrev pub drains : Links → Placement → ℕ → ℕ → ℕ
+drains l p c place = if place == slice_index_or p.relays c 0 then (channel_at l c).to else mover l p c place
 
 -- the first station of a channel starts with the token of row 0
 abbrev pub starts : ℕ → ℕ
@@ -63,12 +63,12 @@ starts zero = 1
 starts (suc place) = 0
 
 -- the actor that fills a station, by its number
-abbrev pub filler : System → Placement → ℕ → ℕ
-filler s p station = fills s p (spot_at p.relays station).channel (spot_at p.relays station).place
+abbrev pub filler : Links → Placement → ℕ → ℕ
+filler l p station = fills l p (spot_at p.relays station).channel (spot_at p.relays station).place
 
 -- the actor that drains a station
-abbrev pub drainer : System → Placement → ℕ → ℕ
-drainer s p station = drains s p (spot_at p.relays station).channel (spot_at p.relays station).place
+abbrev pub drainer : Links → Placement → ℕ → ℕ
+drainer l p station = drains l p (spot_at p.relays station).channel (spot_at p.relays station).place
 
 -- the tokens that a station starts with
 abbrev pub start_count : Placement → ℕ → ℕ

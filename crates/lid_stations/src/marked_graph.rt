@@ -7,7 +7,7 @@ ghost use Rattle.lid_graph.specs.declared.graph.Edge.{Edge};
 ghost use Rattle.lid_graph.specs.Rateable.{IsRateable};
 ghost use Rattle.lid_graph.specs.Walks.{WalksHaveTokens};
 ghost use Rattle.lid_system.specs.Systems.{IsWellFormed};
-ghost use Rattle.lid_stations.specs.Placements.{Fits, station_count};
+ghost use Rattle.lid_stations.specs.Placements.{links_of, Fits, station_count};
 ghost use Rattle.lid_stations.specs.Stations.{actor_count, fills, drains, starts, mover};
 ghost use Rattle.lid_stations.specs.Markings.{marking, station_edges, self_edge};
 
@@ -27,7 +27,7 @@ use std::alloc::{AllocError, Global};
 pub fn marking(alloc: Global, system: &System, placement: &Placement) -> Result<Graph, AllocError>
     requires system { IsWellFormed system.now }
     requires fits { Fits system.now placement.now }
-    ensures is { IfOk result (λ g. g ≡ marking system.now placement.now) }
+    ensures is { IfOk result (λ g. g ≡ marking (links_of system.now) placement.now) }
     ensures rateable { IfOk result IsRateable }
     ensures tokens { IfOk result WalksHaveTokens }
 {
@@ -45,7 +45,7 @@ pub fn marking(alloc: Global, system: &System, placement: &Placement) -> Result<
 fn actors(system: &System, placement: &Placement) -> u32
     requires system { IsWellFormed system.now }
     requires fits { Fits system.now placement.now }
-    ensures { result ≡ actor_count system.now placement.now }
+    ensures { result ≡ actor_count (links_of system.now) placement.now }
 {
     (system.nodes.len() + (placement.caps.len() - placement.relays.len())) as u32
 }
@@ -58,7 +58,7 @@ fn push_stations(
 ) -> Result<(), AllocError>
     requires system { IsWellFormed system.now }
     requires fits { Fits system.now placement.now }
-    ensures { OnOk result (edges.new.items ≡ edges.old.items ++ flat_map (station_edges system.now placement.now) (from_each (λ station. station) 0 (station_count placement.now.relays))) }
+    ensures { OnOk result (edges.new.items ≡ edges.old.items ++ flat_map (station_edges (links_of system.now) placement.now) (from_each (λ station. station) 0 (station_count placement.now.relays))) }
 {
     let mut station = 0usize;
     for c in 0..placement.relays.len() {
@@ -80,7 +80,7 @@ fn push_channel(
     requires fits { Fits system.now placement.now }
     requires there { c < length placement.now.relays }
     requires first { station ≡ station_count (take c placement.now.relays) }
-    ensures { OnOk result (edges.new.items ≡ edges.old.items ++ flat_map (station_edges system.now placement.now) (from_each (λ station. station) station (slice_index_or placement.now.relays c 0 + 1))) }
+    ensures { OnOk result (edges.new.items ≡ edges.old.items ++ flat_map (station_edges (links_of system.now) placement.now) (from_each (λ station. station) station (slice_index_or placement.now.relays c 0 + 1))) }
 {
     let first = (system.nodes.len() + (station - c)) as u32;
     for place in 0..placement.relays.as_slice()[c] + 1 {
@@ -101,8 +101,8 @@ fn filler(system: &System, placement: &Placement, c: usize, place: u32, first: u
     requires fits { Fits system.now placement.now }
     requires there { c < length placement.now.relays }
     requires within { place ≤ slice_index_or placement.now.relays c 0 }
-    requires first { first ≡ mover system.now placement.now c 0 }
-    ensures { result ≡ fills system.now placement.now c place }
+    requires first { first ≡ mover (links_of system.now) placement.now c 0 }
+    ensures { result ≡ fills (links_of system.now) placement.now c place }
 {
     if place == 0 {
         system.channels.as_slice()[c].from
@@ -117,8 +117,8 @@ fn drainer(system: &System, placement: &Placement, c: usize, place: u32, first: 
     requires fits { Fits system.now placement.now }
     requires there { c < length placement.now.relays }
     requires within { place ≤ slice_index_or placement.now.relays c 0 }
-    requires first { first ≡ mover system.now placement.now c 0 }
-    ensures { result ≡ drains system.now placement.now c place }
+    requires first { first ≡ mover (links_of system.now) placement.now c 0 }
+    ensures { result ≡ drains (links_of system.now) placement.now c place }
 {
     if place == placement.relays.as_slice()[c] {
         system.channels.as_slice()[c].to

@@ -1,6 +1,7 @@
 use Rattle.std.proofs.Common.{◌≡◌, ◌<◌, ◌≤◌, ◌+◌, ℕ, List, ◌++◌, length, get_or, ap, ◌∙◌, arith}
 use Rattle.std.proofs.lemmas.List.{get_or_default}
 use Rattle.lid_graph.specs.declared.graph.Edge.{Edge}
+use Rattle.lid_stations.specs.Placements.{links_of}
 use Rattle.lid_stations.specs.Stations.{capacity}
 use Rattle.lid_stations.specs.Markings.{station_edges}
 use Rattle.lid_stations.proofs.Parts.{grown_one}
@@ -50,5 +51,5 @@ loop-place-preserved c =
     let inside = within c.as_slice.result.now p.relays c.args.c place c.as_slice.ensures c.loop-place-test.true in
     let less = few_stations s p c.requires.system c.requires.fits c.args.c place c.requires.there inside in
     let cap = ap (λ (xs : List ℕ). get_or xs station 0) c.as_slice-in-loop-place.ensures in
-    grown_one (station_edges s p) c.args.edges.now.items c.loop-place.edges.items c.push_station.new.edges.items c.args.station place c.loop-place.invariant
+    grown_one (station_edges (links_of s) p) c.args.edges.now.items c.loop-place.edges.items c.push_station.new.edges.items c.args.station place c.loop-place.invariant
     (c.in_ok-push_station.ensures ∙ ap (λ (es : List Edge). c.loop-place.edges.items ++ es) (edges_there s p c.args.c place station c.filler.result c.drainer.result c.start_count.result _ c.requires.there inside (omega arith) c.filler.ensures c.drainer.ensures c.start_count.ensures (omega arith) cap))

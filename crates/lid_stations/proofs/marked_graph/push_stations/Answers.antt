@@ -1,6 +1,7 @@
 use Rattle.std.proofs.Common.{◌≡◌, ℕ, ◌+◌, List, ◌++◌, flat_map, get_or, ap, sym, ◌∙◌, zero-add, arith}
 use Rattle.std.proofs.lemmas.List.Sums.{sum_by_more}
 use Rattle.lid_design.specs.Network.{from_each}
+use Rattle.lid_stations.specs.Placements.{links_of}
 use Rattle.lid_stations.specs.Markings.{station_edges}
 use Rattle.lid_stations.proofs.Parts.{grown}
 use Rattle.lid_stations.proofs.marked_graph.push_stations.Goals as goal
@@ -18,7 +19,7 @@ loop-c-preserved c =
     let below = c.loop-c-test.true in
     record {
       counted = omega (arith, sum_by_more (λ (k : ℕ). k + 1) p.relays c.loop-c.c 0 (omega (arith, c.len-c-end.ensures)));
-      pushed = grown (station_edges s p) old es c.push_channel.new.edges.items 0 station (k + 1) c.loop-c.invariant.pushed
-          (c.in_ok-push_channel.ensures ∙ ap (λ (n : ℕ). es ++ flat_map (station_edges s p) (from_each (λ j. j) n (k + 1))) (sym (zero-add station)))
-          ∙ ap (λ (n : ℕ). old ++ flat_map (station_edges s p) (from_each (λ j. j) 0 (station + (n + 1)))) (sym same);
+      pushed = grown (station_edges (links_of s) p) old es c.push_channel.new.edges.items 0 station (k + 1) c.loop-c.invariant.pushed
+          (c.in_ok-push_channel.ensures ∙ ap (λ (n : ℕ). es ++ flat_map (station_edges (links_of s) p) (from_each (λ j. j) n (k + 1))) (sym (zero-add station)))
+          ∙ ap (λ (n : ℕ). old ++ flat_map (station_edges (links_of s) p) (from_each (λ j. j) 0 (station + (n + 1)))) (sym same);
     }
