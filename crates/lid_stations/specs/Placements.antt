@@ -1,5 +1,5 @@
 -- Placements: how many relay stations stand on each channel, and the capacity of each station.
-use Rattle.std.specs.Prelude.{◌≡◌, ℕ, ◌+◌, ◌≤◌, List, length}
+use Rattle.std.specs.Prelude.{◌≡◌, ℕ, ◌+◌, ◌≤◌, List, length, replicate}
 use Rattle.std.specs.List.{All, sum_by}
 use Rattle.lid_system.specs.declared.System.{System}
 use Rattle.lid_system.specs.declared.Channel.{Channel}
@@ -27,6 +27,10 @@ pub record IsPlacement (p : Placement) : Type 0 where
   pub most : station_count p.relays ≤ 65536
   pub caps : length p.caps ≡ station_count p.relays
   pub range : All IsCapacity p.caps
+
+-- the placement without relay stations, in which each station holds up to two tokens
+abbrev pub no_relays : Links → Placement
+no_relays l = record { relays = replicate (length l.channels) 0; caps = replicate (length l.channels) 2 }
 
 -- a placement with a count for each channel of the system
 pub record Fits (s : System) (p : Placement) : Type 0 where

@@ -30,6 +30,7 @@ pub fn marking(alloc: Global, system: &System, placement: &Placement) -> Result<
     ensures is { IfOk result (λ g. g ≡ marking (links_of system.now) placement.now) }
     ensures rateable { IfOk result IsRateable }
     ensures tokens { IfOk result WalksHaveTokens }
+    ensures few { IfOk result (λ g. g.nodes ≤ 69634) }
 {
     let nodes = actors(system, placement);
     let mut edges = Vec::new(alloc);

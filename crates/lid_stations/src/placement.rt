@@ -1,8 +1,8 @@
 //! Placements.
 
-ghost use Rattle.std.specs.Prelude.{◌≡◌, length, replicate, IfOk};
+ghost use Rattle.std.specs.Prelude.{◌≡◌, IfOk};
 ghost use Rattle.lid_system.specs.Systems.{IsWellFormed};
-ghost use Rattle.lid_stations.specs.Placements.{Fits};
+ghost use Rattle.lid_stations.specs.Placements.{links_of, no_relays, Fits};
 
 use lid_base::Items;
 use lid_system::System;
@@ -25,7 +25,7 @@ pub struct Placement {
 /// Where there is no memory.
 pub fn none(alloc: Global, system: &System) -> Result<Placement, AllocError>
     requires { IsWellFormed system.now }
-    ensures is { IfOk result (λ p. (p.relays ≡ replicate (length system.now.channels) 0) × (p.caps ≡ replicate (length system.now.channels) 2)) }
+    ensures is { IfOk result (λ p. p ≡ no_relays (links_of system.now)) }
     ensures fits { IfOk result (Fits system.now) }
 {
     let count = system.channels.len();

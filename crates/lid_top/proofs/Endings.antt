@@ -9,9 +9,9 @@ use Rattle.lid_net.specs.Graphs.{IsGraphOf}
 use Rattle.lid_cli.specs.declared.job.Job.{Job}
 use Rattle.lid_cli.specs.declared.job.Job.TheVariants.{Check, Strict}
 use Rattle.lid_refusals.specs.Faults.{check_line, net_line}
-use Rattle.lid_top.specs.Outputs.{strict_output, report}
-use Rattle.lid_top.specs.Scripts.{Ending, refuses, gives, Script, fetch, again, decide, end, Reading, good, bad, step, net_reading, vec_reading, check_step, net_step, report_script, check_script, rows_script, checked_script, strict_script, script_of, IsFetched, IsReread, IsChecked, IsUnchecked, EndsIn}
-use Rattle.lid_top.specs.Statuses.{TellsAll}
+use Rattle.lid_script.specs.Outputs.{strict_output, report}
+use Rattle.lid_script.specs.Scripts.{Ending, refuses, gives, Script, fetch, again, decide, end, Reading, good, bad, step, net_reading, vec_reading, check_step, net_step, report_script, check_script, rows_script, checked_script, strict_script, script_of, IsFetched, IsReread, IsChecked, IsUnchecked, EndsIn}
+use Rattle.lid_script.specs.Statuses.{TellsAll}
 
 -- each step of the script without a fetch has one outcome
 abbrev pub IsSettled : (List ℕ → Option (List ℕ)) → Script → Type 0

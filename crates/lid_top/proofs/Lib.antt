@@ -1,5 +1,3 @@
-pub mod Composition
 pub mod Endings
 pub mod Pieces
-pub mod Readings
 pub mod Runs

@@ -2,15 +2,15 @@
 use Rattle.std.proofs.Common.{◌≡◌, ℕ, ◌≤◌, Bool, true, false, List, Option, Some, None, Result, Ok, Err, OnOk, IfErr, is_some, true≢false, IfSome, inl, inr, refl, sym, ap, subst, arith}
 use Rattle.lid_base.specs.Outside.{Rose}
 use Rattle.lid_cli.specs.declared.job.Job.{Job}
-use Rattle.lid_top.specs.declared.fault.Stop.TheVariants.{Refused, Read, Memory, Denied}
-use Rattle.lid_top.specs.declared.fault.End.{End}
-use Rattle.lid_top.specs.declared.fault.End.TheVariants.{Stopped, Unwritten}
+use Rattle.lid_script.specs.declared.fault.Stop.TheVariants.{Refused, Read, Memory, Denied}
+use Rattle.lid_script.specs.declared.fault.End.{End}
+use Rattle.lid_script.specs.declared.fault.End.TheVariants.{Stopped, Unwritten}
 use Rattle.lid_refusals.specs.Faults.{usage_line, write_line, memory_line, denied_line}
-use Rattle.lid_top.specs.Scripts.{Script, refuses, denies, gives, script_of}
+use Rattle.lid_script.specs.Scripts.{Script, refuses, denies, gives, script_of}
 use Rattle.lid_refusals.specs.Refusals.{refusal_line}
-use Rattle.lid_top.specs.Causes.{IsEnd, IsStopped, IsRefusal, end_status, end_line}
+use Rattle.lid_script.specs.Causes.{IsEnd, IsStopped, IsRefusal, end_status, end_line}
 use Rattle.lid_refusals.specs.Saying.{Says}
-use Rattle.lid_top.specs.Statuses.{Writes, WritesPrefix, TellsAll, Leaves, writes_early, JobRun, Run}
+use Rattle.lid_script.specs.Statuses.{Writes, WritesPrefix, TellsAll, Leaves, writes_early, JobRun, Run}
 
 is_some_job : {job : Job} → Some job ≡ None → ⊥
 is_some_job e = true≢false (ap is_some e)

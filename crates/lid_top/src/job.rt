@@ -2,16 +2,15 @@
 
 ghost use Rattle.std.specs.Prelude.{◌≡◌, ℕ, ◌≤◌, false, List, [], OnOk, OnErr, IfOk, IfErr};
 ghost use Rattle.lid_base.specs.Outside.{Rose, Appended, AppendedPrefix};
-ghost use Rattle.lid_top.specs.Scripts.{script_of};
-ghost use Rattle.lid_top.specs.Causes.{IsCause, IsEnd, IsStopped, IsRefusal};
-ghost use Rattle.lid_top.specs.Statuses.{HasText, Writes, WritesPrefix, TellsAll, Leaves, writes_early};
+ghost use Rattle.lid_script.specs.Scripts.{script_of};
+ghost use Rattle.lid_script.specs.Causes.{IsCause, IsEnd, IsStopped, IsRefusal};
+ghost use Rattle.lid_script.specs.Statuses.{HasText, Writes, WritesPrefix, TellsAll, Leaves, writes_early};
 
-use crate::check::check_text;
-use crate::fault::{End, Stop};
-use crate::strict::strict_text;
 use lid_base::{Gate, Shelf, Sink, SinkFailed};
 use lid_cli::Job;
+use lid_commands::{check_text, strict_text};
 use lid_io::PieceWriter;
+use lid_script::{End, Stop};
 use std::alloc::Global;
 use std::convert::AsStr;
 use std::thread::Threads;

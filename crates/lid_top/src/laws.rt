@@ -3,8 +3,8 @@
 
 ghost use Rattle.std.specs.Prelude.{◌≡◌, ℕ, List, Option};
 ghost use Rattle.lid_cli.specs.declared.job.Job.{Job};
-ghost use Rattle.lid_top.specs.Scripts.{Ending, EndsIn, script_of};
-ghost use Rattle.lid_top.specs.Statuses.{TellsAll};
+ghost use Rattle.lid_script.specs.Scripts.{Ending, EndsIn, script_of};
+ghost use Rattle.lid_script.specs.Statuses.{TellsAll};
 
 /// Where the shelf tells all files that a job reaches, the job ends in one way. So which status comes,
 /// and which refusal is told, is a function of what the files hold, but for want of memory.

@@ -1,13 +1,10 @@
 //! The top call: a job's words, its files, and what it writes.
 #![tactic(auto)]
 
-mod check;
-mod fault;
 mod job;
 mod laws;
 mod program;
-mod steps;
-mod strict;
+mod saying;
 mod top;
 
 pub use laws::a_told_job_ends_in_one_way;

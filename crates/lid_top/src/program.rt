@@ -5,7 +5,7 @@ ghost use Rattle.std.specs.Process.{exit_status};
 ghost use Rattle.lid_cli.specs.Jobs.{job_of};
 ghost use Rattle.lid_refusals.specs.Faults.{usage_line, memory_line};
 ghost use Rattle.lid_refusals.specs.Saying.{Says};
-ghost use Rattle.lid_top.specs.Statuses.{Run};
+ghost use Rattle.lid_script.specs.Statuses.{Run};
 
 use crate::top::lid_run;
 use lid_base::{OpenGate, Shelf, Sink, Text};

@@ -2,15 +2,16 @@
 
 ghost use Rattle.std.specs.Prelude.{◌≡◌, OnOk, IfErr};
 ghost use Rattle.lid_cli.specs.Jobs.{job_of};
-ghost use Rattle.lid_top.specs.Causes.{end_status, end_line};
+ghost use Rattle.lid_script.specs.Causes.{end_status, end_line};
 ghost use Rattle.lid_refusals.specs.Saying.{Says};
-ghost use Rattle.lid_top.specs.Statuses.{Run};
+ghost use Rattle.lid_script.specs.Statuses.{Run};
 
-use crate::fault::{End, say_end};
 use crate::job::run_job;
+use crate::saying::say_end;
 use lid_base::{Gate, Shelf, Sink, Text};
 use lid_cli::read_words;
 use lid_refusals::{say_memory, say_usage};
+use lid_script::End;
 use std::thread::Threads;
 
 /// Runs the job that the words ask for, and answers the status of the program:

@@ -1,0 +1,4 @@
+pub mod Causes
+pub mod Outputs
+pub mod Scripts
+pub mod Statuses

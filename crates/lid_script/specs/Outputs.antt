@@ -1,0 +1,60 @@
+-- The text that a command writes, as a relation of the values that it reads.
+use Rattle.std.specs.Prelude.{◌≡◌, ℕ, ◌-◌, Bool, List, [], length, map, slice_get}
+use Rattle.std.specs.Option.{option_map_or}
+use Rattle.lid_design.specs.declared.Design.{Design}
+use Rattle.lid_design.specs.Columns.{root_inputs, root_outputs, IsStrictOutput}
+use Rattle.lid_design.specs.Loops.{pearls}
+use Rattle.lid_design.specs.Elaboration.{count_latches, count_defaulted}
+use Rattle.lid_system.specs.declared.Channel.{Channel}
+use Rattle.lid_texts.specs.RowsText.{rows_text}
+use Rattle.lid_reports.specs.declared.report.Report.{Report}
+use Rattle.lid_cert.specs.declared.cert.Cert.{Cert}
+use Rattle.lid_throughput.specs.Throughput.{IsRateText, verdict_text}
+use Rattle.lid_stations.specs.declared.placement.Placement.{Placement}
+use Rattle.lid_stations.specs.Placements.{Links}
+use Rattle.lid_stations.specs.Markings.{marking}
+use Rattle.lid_placetext.specs.Written.{stations_text}
+use Rattle.lid_reports.specs.declared.report.ChannelLine.{ChannelLine}
+use Rattle.lid_reports.specs.Runs.{report_text}
+
+-- what a command tells
+pub data Output : Type 0 where
+  report : Design → List Channel → Output  -- the counts of a design, and the channels of its system
+  strict_output : Design → List (List Bool) → Output  -- the strict outputs of a design for rows
+  placed : Links → Placement → Output  -- the relay stations of a placement
+  throughput : Links → Placement → Output  -- the throughput of a placement
+  verdict : Links → Cert → Output  -- what a certificate shows
+
+-- `strict` writes the strict output rows. There is a strict table, and every one gives these bits
+pub record IsStrictText (d : Design) (rows : List (List Bool)) (text : List ℕ) : Type 0 where
+  pub outs : List (List Bool)
+  pub strict : IsStrictOutput d rows outs
+  pub written : text ≡ rows_text (root_outputs d) outs
+
+-- what is told of a channel: the nodes that it joins, its piece, and how many ports it carries
+abbrev pub channel_line : Channel → ChannelLine
+channel_line c = record { from = c.from; to = c.to; piece = c.piece; ports = length c.ports }
+
+-- the name of the root
+abbrev pub root_name : Design → List ℕ
+root_name d = option_map_or (λ m. m.name) (slice_get d.models d.root) []
+
+-- what is told of a design with these channels
+abbrev pub report_of : Design → List Channel → Report
+report_of d channels = record {
+  root = root_name d;
+  shells = length (pearls d);
+  inputs = length (root_inputs d);
+  outputs = length (root_outputs d);
+  latches = count_latches d;
+  defaulted = count_defaulted d;
+  channels = map channel_line channels;
+}
+
+-- the texts of an output
+abbrev pub IsTextOf : Output → List ℕ → Type 0
+IsTextOf (report d channels) text = text ≡ report_text (report_of d channels)
+IsTextOf (strict_output d rows) text = IsStrictText d rows text
+IsTextOf (placed l p) text = text ≡ stations_text l p
+IsTextOf (throughput l p) text = IsRateText (marking l p) text
+IsTextOf (verdict l cert) text = text ≡ verdict_text cert (l.nodes - 1)

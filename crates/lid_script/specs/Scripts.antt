@@ -1,0 +1,275 @@
+-- The steps of a job, and how they end.
+use Rattle.std.specs.Prelude.{◌≡◌, ◌↔◌, ℕ, true, false, ⊥, ◌+◌, ◌<◌, ◌≤◌, Bool, List, length, take, Option, Some, None, IfSome, Result, Ok, Err, ◌⊎◌}
+use Rattle.std.specs.List.{AllByRecursion}
+use Rattle.lid_base.specs.Lines.{logical_lines}
+use Rattle.lid_design.specs.declared.Design.{Design}
+use Rattle.lid_design.specs.Columns.{root_inputs, root_outputs}
+use Rattle.lid_blif.specs.declared.fault.BlifFault.{BlifFault}
+use Rattle.lid_blif.specs.Designs.{design_of}
+use Rattle.lid_blif.specs.Faults.{blif_fault}
+use Rattle.lid_rules.specs.declared.fault.CheckFault.{CheckFault}
+use Rattle.lid_check.specs.Acceptance.{with_root, IsAccepted, IsRefused}
+use Rattle.lid_system.specs.declared.Channel.{Channel}
+use Rattle.lid_channels.specs.declared.fault.NetFault.TheVariants.{TooManyChannels}
+use Rattle.lid_net.specs.Graphs.{IsGraphOf}
+use Rattle.lid_design.specs.Loops.{pearls}
+use Rattle.lid_graph.specs.declared.graph.Graph.{Graph}
+use Rattle.lid_cert.specs.declared.cert.Cert.{Cert}
+use Rattle.lid_cert.specs.Certificates.{Certifies}
+use Rattle.lid_certtext.specs.Texts.{cert_of, cert_fault}
+use Rattle.lid_certtext.specs.declared.fault.CertFault.{CertFault}
+use Rattle.lid_stations.specs.declared.placement.Placement.{Placement}
+use Rattle.lid_stations.specs.Placements.{Links, no_relays}
+use Rattle.lid_stations.specs.Markings.{marking}
+use Rattle.lid_placetext.specs.declared.fault.PlaceFault.{PlaceFault}
+use Rattle.lid_placetext.specs.Readings.{stations_reading, wires_reading}
+use Rattle.lid_texts.specs.declared.rows.Rows.{Rows}
+use Rattle.lid_texts.specs.declared.rows.VecFault.{VecFault}
+use Rattle.lid_texts.specs.declared.rows.VecFault.TheVariants.{Changed}
+use Rattle.lid_texts.specs.Rows.{rows_reading}
+use Rattle.lid_cli.specs.declared.job.Job.{Job}
+use Rattle.lid_cli.specs.declared.job.Job.TheVariants.{Check, Place, Rate, Strict, Verify}
+use Rattle.lid_refusals.specs.Faults.{blif_line, rows_line, check_line, net_line, stations_line, cert_line}
+use Rattle.lid_script.specs.Outputs.{Output, report, strict_output, placed, throughput, verdict}
+
+-- what a reading makes of a value
+pub data Reading (A : Type 0) : Type 0 where
+  good : A → Reading A
+  bad : List ℕ → Reading A  -- the line on `err`
+
+-- a second reading of the rows of a file
+pub record Rereading : Type 0 where
+  pub name : List ℕ
+  pub limit : ℕ
+  pub width : ℕ
+  pub read : List ℕ → Reading (List (List Bool))
+  -- what the first reading gave
+  pub rows : List (List Bool)
+
+-- how a job ends, where all is fetched and memory is there
+pub data Ending : Type 0 where
+  refuses : List ℕ → Ending  -- with this line on `err`
+  denies : Ending  -- the certificate is none of the graph
+  gives : Output → Ending
+
+-- the steps of a job
+pub data Script : Type 1 where
+  -- a file is fetched, up to one byte more than its limit
+  fetch : List ℕ → ℕ → (List ℕ → Script) → Script
+  -- a file whose rows were read is read a second time, row by row
+  again : Rereading → (List (List Bool) → Script) → Script
+  -- any value that meets the first, or any line that meets the second
+  decide : {A : Type 0} → (A → Type 0) → (List ℕ → Type 0) → (A → Script) → Script
+  end : Ending → Script
+
+-- a reading decides the step
+abbrev pub step : {A : Type 0} → Reading A → (A → Script) → Script
+step (good a) next = next a
+step (bad line) next = end (refuses line)
+
+-- fetches a file and reads it
+abbrev pub read_step : {A : Type 0} → List ℕ → ℕ → (List ℕ → Reading A) → (A → Script) → Script
+read_step name limit read next = fetch name limit (λ bytes. step (read bytes) next)
+
+abbrev pub net_limit : ℕ
+net_limit = 16777216
+
+abbrev pub rows_limit : ℕ
+rows_limit = 67108864
+
+abbrev pub unless_faulty : {A : Type 0} → Option BlifFault → A → Reading A
+unless_faulty None a = good a
+unless_faulty (Some fault) a = bad (blif_line fault)
+
+-- the design that a BLIF text stands for
+unfoldable pub net_reading : List ℕ → Reading Design
+net_reading bytes = unless_faulty (blif_fault bytes) (design_of (logical_lines bytes))
+
+abbrev pub bits_read : Result Rows VecFault → Reading (List (List Bool))
+bits_read (Ok rows) = good rows.bits
+bits_read (Err fault) = bad (rows_line fault)
+
+-- the rows for the inputs of a design
+unfoldable pub vec_reading : Design → List ℕ → Reading (List (List Bool))
+vec_reading d bytes = bits_read (rows_reading (root_inputs d) (length (root_outputs d)) bytes)
+
+-- `strict` of an accepted design: the rows are fetched and read
+unfoldable pub rows_script : Design → List ℕ → Script
+rows_script d vec = read_step vec rows_limit (vec_reading d) (λ rows. end (gives (strict_output d rows)))
+
+-- what a fetch of a whole file may give: at most one byte more than the limit, and where the file's
+-- bytes are told, these
+pub record IsFetched (held : List ℕ → Option (List ℕ)) (name : List ℕ) (limit : ℕ) (bytes : List ℕ) : Type 0 where
+  pub short : length bytes ≤ limit + 1
+  pub told : IfSome (held name) (λ file. bytes ≡ take (limit + 1) file)
+
+-- what a second reading may give: as many rows as the first, each as wide, and where the file's bytes
+-- are told, the same rows
+pub record IsReread (held : List ℕ → Option (List ℕ)) (again : Rereading) (rows : List (List Bool)) : Type 0 where
+  pub many : length rows ≡ length again.rows
+  pub wide : AllByRecursion (λ row. length row ≡ again.width) rows
+  pub told : IfSome (held again.name) (λ file. rows ≡ again.rows)
+
+-- the second text refuses, or has fewer rows than the first
+abbrev pub FallsShort : Reading (List (List Bool)) → List (List Bool) → List ℕ → Type 0
+FallsShort (bad refusal) rows line = line ≡ refusal
+FallsShort (good found) rows line = (length found < length rows) × (line ≡ rows_line (Changed (length rows) (length found)))
+
+-- a file whose bytes are not told had another text when it was read a second time
+pub record IsChanged (held : List ℕ → Option (List ℕ)) (again : Rereading) (line : List ℕ) : Type 0 where
+  pub untold : held again.name ≡ None
+  pub bytes : List ℕ
+  pub short : length bytes ≤ again.limit + 1
+  pub falls : FallsShort (again.read bytes) again.rows line
+
+-- the design with its root is accepted
+pub record IsChecked (root : Option (List ℕ)) (d checked : Design) : Type 0 where
+  pub rooted : with_root d root ≡ Some checked
+  pub accepted : IsAccepted checked
+
+-- the design is refused, and told so
+pub record IsUnchecked (root : Option (List ℕ)) (d : Design) (line : List ℕ) : Type 0 where
+  pub fault : CheckFault
+  pub refused : IsRefused (with_root d root) fault
+  pub told : line ≡ check_line fault
+
+-- a design is checked, with the root that was chosen by name, if one was
+abbrev pub check_step : Option (List ℕ) → Design → (Design → Script) → Script
+check_step root d next = decide (IsChecked root d) (IsUnchecked root d) next
+
+-- the channels of a design, which are not too many
+pub record HasChannels (d : Design) (channels : List Channel) : Type 0 where
+  pub graph : IsGraphOf d channels
+  pub few : length channels ≤ 16384
+
+-- the channels of a design are too many, and told so
+pub record IsOverfull (d : Design) (line : List ℕ) : Type 0 where
+  pub channels : List Channel
+  pub graph : IsGraphOf d channels
+  pub many : 16384 < length channels
+  pub told : line ≡ net_line (TooManyChannels (length channels))
+
+-- the system of an accepted design is built, which has these channels
+abbrev pub net_step : Design → (List Channel → Script) → Script
+net_step d next = decide (HasChannels d) (IsOverfull d) next
+
+-- `check` of an accepted design: its system is built, and told
+unfoldable pub report_script : Design → Script
+report_script d = net_step d (λ channels. end (gives (report d channels)))
+
+-- `check`: the netlist is fetched, read and checked
+unfoldable pub check_script : List ℕ → Option (List ℕ) → Script
+check_script net root = read_step net net_limit net_reading (λ d. check_step root d report_script)
+
+-- `strict` of a design: it is checked first
+unfoldable pub checked_script : Design → List ℕ → Option (List ℕ) → Script
+checked_script d vec root = check_step root d (λ checked. rows_script checked vec)
+
+-- `strict`: the netlist is fetched, read and checked, and then the rows are fetched and read
+unfoldable pub strict_script : List ℕ → List ℕ → Option (List ℕ) → Script
+strict_script net vec root = read_step net net_limit net_reading (λ d. checked_script d vec root)
+
+-- the greatest size of a text of stations or wires, or of a certificate
+abbrev pub text_limit : ℕ
+text_limit = 16777216
+
+-- what a placement sees of the system of a design with these channels: the source, the shells and the sink
+abbrev pub links : Design → List Channel → Links
+links d channels = record { nodes = length (pearls d) + 2; channels = channels }
+
+-- the netlist is fetched, read and checked, and its system built
+abbrev pub system_step : List ℕ → Option (List ℕ) → (Links → Script) → Script
+system_step net root next = read_step net net_limit net_reading (λ d. check_step root d (λ checked. net_step checked (λ channels. next (links checked channels))))
+
+abbrev pub placement_read : Result Placement PlaceFault → Reading Placement
+placement_read (Ok p) = good p
+placement_read (Err fault) = bad (stations_line fault)
+
+-- the placement that a text of stations stands for
+unfoldable pub stations_read : Links → List ℕ → Reading Placement
+stations_read l bytes = placement_read (stations_reading l bytes)
+
+-- the placement that a text of wires stands for, where a relay station stands after each length of so much
+unfoldable pub wires_read : ℕ → Links → List ℕ → Reading Placement
+wires_read reach l bytes = placement_read (wires_reading reach l bytes)
+
+-- the placement of a job: that of the file of stations, where one is named, and the one without relay
+-- stations otherwise
+abbrev pub placement_step : Links → Option (List ℕ) → (Placement → Script) → Script
+placement_step l None next = next (no_relays l)
+placement_step l (Some stations) next = read_step stations text_limit (stations_read l) next
+
+abbrev pub cert_unless : Option CertFault → Cert → Reading Cert
+cert_unless None cert = good cert
+cert_unless (Some fault) cert = bad (cert_line fault)
+
+-- the certificate that a text stands for
+unfoldable pub cert_read : List ℕ → Reading Cert
+cert_read bytes = cert_unless (cert_fault bytes) (cert_of bytes)
+
+-- `place` of a system: the wires are fetched and read
+unfoldable pub wires_script : Links → List ℕ → ℕ → Script
+wires_script l wires reach = read_step wires text_limit (wires_read reach l) (λ p. end (gives (placed l p)))
+
+-- `rate` of a system with such a placement
+unfoldable pub rated_script : Links → Placement → Script
+rated_script l p = end (gives (throughput l p))
+
+-- how `verify` ends, by whether the certificate is one of the graph
+abbrev pub judged_script : Links → Cert → Bool → Script
+judged_script l cert true = end (gives (verdict l cert))
+judged_script l cert false = end denies
+
+-- this says whether the certificate is one of the graph
+abbrev pub IsJudged : Graph → Cert → Bool → Type 0
+IsJudged g cert holds = (holds ≡ true) ↔ Certifies g cert
+
+-- no certificate that reads is refused
+abbrev pub NoLine : List ℕ → Type 0
+NoLine line = ⊥
+
+-- `verify` of a certificate: it is judged
+unfoldable pub judging_script : Links → Placement → Cert → Script
+judging_script l p cert = decide (IsJudged (marking l p) cert) NoLine (judged_script l cert)
+
+-- `verify` of a system with such a placement: the certificate is fetched and read
+unfoldable pub cert_script : Links → Placement → List ℕ → Script
+cert_script l p cert = read_step cert text_limit cert_read (judging_script l p)
+
+-- `place`: the netlist is read and its system built, then the wires are read
+unfoldable pub place_script : List ℕ → List ℕ → ℕ → Option (List ℕ) → Script
+place_script net wires reach root = system_step net root (λ l. wires_script l wires reach)
+
+-- `rate`: the netlist is read and its system built, then the stations are read
+unfoldable pub rate_script : List ℕ → Option (List ℕ) → Option (List ℕ) → Script
+rate_script net stations root = system_step net root (λ l. placement_step l stations (rated_script l))
+
+-- `verify`: as `rate`, and then the certificate is read and judged
+unfoldable pub verify_script : List ℕ → List ℕ → Option (List ℕ) → Option (List ℕ) → Script
+verify_script net cert stations root = system_step net root (λ l. placement_step l stations (λ p. cert_script l p cert))
+
+-- the steps of a job
+abbrev pub script_of : Job → Script
+script_of (Check net root) = check_script net root
+script_of (Place net wires reach root) = place_script net wires reach root
+script_of (Rate net stations root) = rate_script net stations root
+script_of (Strict net vec root) = strict_script net vec root
+script_of (Verify net cert stations root) = verify_script net cert stations root
+
+-- the script ends so for some bytes of its files, those told where they are told
+abbrev pub EndsIn : (List ℕ → Option (List ℕ)) → Script → Ending → Type 0
+EndsIn held (fetch name limit next) ending = (bytes : List ℕ) × IsFetched held name limit bytes × EndsIn held (next bytes) ending
+EndsIn held (again second next) ending =
+    ((rows : List (List Bool)) × IsReread held second rows × EndsIn held (next rows) ending)
+    ⊎ ((line : List ℕ) × IsChanged held second line × (refuses line ≡ ending))
+EndsIn held (decide {A} Good Bad next) ending =
+    ((a : A) × Good a × EndsIn held (next a) ending)
+    ⊎ ((line : List ℕ) × Bad line × (refuses line ≡ ending))
+EndsIn held (end last) ending = last ≡ ending
+
+-- the script comes to a fetch of this file for some bytes of the files before it
+abbrev pub Reaches : (List ℕ → Option (List ℕ)) → Script → List ℕ → Type 0
+Reaches held (fetch name limit next) file = (name ≡ file) ⊎ ((bytes : List ℕ) × IsFetched held name limit bytes × Reaches held (next bytes) file)
+Reaches held (again second next) file = (second.name ≡ file) ⊎ ((rows : List (List Bool)) × IsReread held second rows × Reaches held (next rows) file)
+Reaches held (decide {A} Good Bad next) file = (a : A) × Good a × Reaches held (next a) file
+Reaches held (end last) file = ⊥

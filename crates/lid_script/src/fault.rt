@@ -1,0 +1,70 @@
+//! Why a job does not end with its whole output.
+
+ghost use Rattle.std.specs.Prelude.{◌≡◌};
+ghost use Rattle.lid_script.specs.Causes.{stop_of_blif, stop_of_rows, stop_of_check, stop_of_net};
+
+use lid_blif::BlifFault;
+use lid_check::CheckFault;
+use lid_net::NetFault;
+use lid_refusals::Refusal;
+use lid_texts::VecFault;
+
+/// Why the output of a job is not known.
+#[derive(Drop)]
+pub enum Stop<'a> {
+    Refused(Refusal),
+    /// A fetch of this file failed.
+    Read(&'a str),
+    /// There was no memory.
+    Memory,
+    /// The certificate is none of the graph.
+    Denied,
+}
+
+/// Why a job did not end with its whole output.
+#[derive(Drop)]
+pub enum End<'a> {
+    Stopped(Stop<'a>),
+    /// A write failed.
+    Unwritten,
+}
+
+/// Why a BLIF text gives no design.
+pub fn blif_stop<'a>(fault: BlifFault) -> Stop<'a>
+    ensures { result ≡ stop_of_blif fault }
+{
+    match fault {
+        BlifFault::Memory => Stop::Memory,
+        _ => Stop::Refused(Refusal::Blif(fault)),
+    }
+}
+
+/// Why a rows text gives no rows.
+pub fn rows_stop<'a>(fault: VecFault) -> Stop<'a>
+    ensures { result ≡ stop_of_rows fault }
+{
+    match fault {
+        VecFault::Memory => Stop::Memory,
+        _ => Stop::Refused(Refusal::Rows(fault)),
+    }
+}
+
+/// Why a design is not accepted.
+pub fn check_stop<'a>(fault: CheckFault) -> Stop<'a>
+    ensures { result ≡ stop_of_check fault }
+{
+    match fault {
+        CheckFault::Memory => Stop::Memory,
+        _ => Stop::Refused(Refusal::Check(fault)),
+    }
+}
+
+/// Why a design has no system.
+pub fn net_stop<'a>(fault: NetFault) -> Stop<'a>
+    ensures { result ≡ stop_of_net fault }
+{
+    match fault {
+        NetFault::Memory => Stop::Memory,
+        _ => Stop::Refused(Refusal::Net(fault)),
+    }
+}
