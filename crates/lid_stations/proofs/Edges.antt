@@ -7,12 +7,13 @@ use Rattle.lid_graph.specs.declared.graph.Edge.{Edge}
 use Rattle.lid_graph.specs.declared.graph.Graph.{Graph}
 use Rattle.lid_graph.specs.Walks.{no_edge, edge_at}
 use Rattle.lid_system.specs.declared.System.{System}
+use Rattle.lid_system.proofs.Shelling.{each_length, each_at}
 use Rattle.lid_stations.specs.declared.placement.Placement.{Placement}
 use Rattle.lid_stations.specs.Placements.{links_of, station_count}
 use Rattle.lid_stations.specs.Stations.{Spot, actor_count, fills, drains, starts, filler, drainer, start_count, capacity}
 use Rattle.lid_stations.specs.Markings.{forth, back, station_edges, self_edge, marking}
 use Rattle.lid_stations.specs.Laws.{HasTwoEdges}
-use Rattle.lid_stations.proofs.Parts.{each_long, each_at, two_each, two_each_next, two_each_long, half_of}
+use Rattle.lid_stations.proofs.Parts.{two_each, two_each_next, two_each_length, half_of}
 use Rattle.lid_stations.proofs.Spots.{spot_is}
 
 abbrev pub two_edges : ℕ → ℕ → ℕ → ℕ → List Edge
@@ -49,11 +50,11 @@ module _ (s : System) (p : Placement) where
   node_count = refl
 
   stations_long : length stations ≡ count + count
-  stations_long = two_each_long (forth (links_of s) p) (back (links_of s) p) 0 count
+  stations_long = two_each_length (forth (links_of s) p) (back (links_of s) p) 0 count
 
   pub edges_long : length (marking (links_of s) p).edges ≡ (count + count) + actor_count (links_of s) p
   unfolding marking
-  edges_long = omega (arith, length-append stations (from_each self_edge 0 (actor_count (links_of s) p)), stations_long, each_long self_edge 0 (actor_count (links_of s) p))
+  edges_long = omega (arith, length-append stations (from_each self_edge 0 (actor_count (links_of s) p)), stations_long, each_length self_edge 0 (actor_count (links_of s) p))
 
   pub forth_at : (station : ℕ) → station < count → edge_at (marking (links_of s) p) (station + station) ≡ forth (links_of s) p station
   unfolding marking

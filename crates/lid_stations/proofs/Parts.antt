@@ -62,16 +62,7 @@ one_part f xs n c i d j p q = by_order (cases_lt c d) (cases_lt d c)
 pub part_below : (f : ℕ → ℕ) (xs : List ℕ) (n c i : ℕ) → IsInPart f xs n c i → n < sum_by f xs
 part_below f xs n c i p = omega (arith, sum_by_more_le f xs c 0 p.below, p.within, p.number)
 
--- lists of f at numbers, by place
-pub each_long : {A : Type 0} (f : ℕ → A) (k n : ℕ) → length (from_each f k n) ≡ n
-each_long f k zero = refl
-each_long f k (suc n) = ap suc (each_long f (k + 1) n)
-
-pub each_at : {A : Type 0} (f : ℕ → A) (k n i : ℕ) (d : A) → i < n → get_or (from_each f k n) i d ≡ f (k + i)
-each_at f k zero i d h = absurd (omega arith)
-each_at f k (suc n) zero d h = (let e : k ≡ k + 0 = omega arith in ap f e)
-each_at f k (suc n) (suc i) d h = each_at f (k + 1) n i d (omega arith) ∙ (let e : (k + 1) + i ≡ k + suc i = omega arith in ap f e)
-
+-- a list of f at numbers, in two parts
 pub each_more : {A : Type 0} (f : ℕ → A) (k m n : ℕ) → from_each f k (m + n) ≡ from_each f k m ++ from_each f (k + m) n
 each_more {A} f k zero n = ap (from_each f k) (zero-add n) ∙ (let e : k ≡ k + 0 = omega arith in ap (λ (j : ℕ). from_each f j n) e)
 each_more {A} f k (suc m) n =
@@ -106,9 +97,9 @@ two_each_next {A} f g k (suc n) (suc i) d h =
     ∙ two_each_next f g (k + 1) n i d (omega arith)
     ∙ (let e : (k + 1) + i ≡ k + suc i = omega arith in ap g e)
 
-pub two_each_long : {A : Type 0} (f g : ℕ → A) (k n : ℕ) → length (flat_map (λ j. f j ∷ g j ∷ []) (from_each (λ j. j) k n)) ≡ n + n
-two_each_long f g k zero = refl
-two_each_long f g k (suc n) = let l = two_each_long f g (k + 1) n in omega arith
+pub two_each_length : {A : Type 0} (f g : ℕ → A) (k n : ℕ) → length (flat_map (λ j. f j ∷ g j ∷ []) (from_each (λ j. j) k n)) ≡ n + n
+two_each_length f g k zero = refl
+two_each_length f g k (suc n) = let l = two_each_length f g (k + 1) n in omega arith
 
 -- the half of a number
 pub record HasHalf (k : ℕ) : Type 0 where

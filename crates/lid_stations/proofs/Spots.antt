@@ -1,17 +1,18 @@
 -- Where stations stand, and which actors fill and drain them.
 use Rattle.std.proofs.Common.{◌≡◌, ℕ, zero, suc, ◌+◌, ◌<◌, ◌≤◌, ◌==◌, Bool, true, false, cond, List, [], ◌∷◌, ◌++◌, length, take, get_or, refl, sym, ◌∙◌, ap, subst, zero-add, arith}
 use Rattle.std.proofs.lemmas.Bool.{eqb-false}
-use Rattle.std.proofs.lemmas.List.{ length-take-le, get_or_append_left, get_or-append-add}
+use Rattle.std.proofs.lemmas.List.{length-take-le, get_or_append_left, get_or-append-add}
 use Rattle.std.proofs.lemmas.List.Elements.{All-get_or}
 use Rattle.std.proofs.lemmas.List.Sums.{sum_by-cons, sum_by_more_le}
 use Rattle.lid_base.proofs.Lists.{all_among, among_at}
 use Rattle.lid_system.specs.declared.System.{System}
 use Rattle.lid_system.specs.Systems.{IsWellFormed, IsChannel}
+use Rattle.lid_system.proofs.Shelling.{each_length, each_at}
 use Rattle.lid_stations.specs.declared.placement.Placement.{Placement}
 use Rattle.lid_stations.specs.Placements.{links_of, station_count, IsCapacity, Fits}
 use Rattle.lid_stations.specs.Stations.{Spot, spots_on, spots_from, spot_at, relay_count, actor_count, mover, no_channel, channel_at, fills, drains, starts, filler, drainer, capacity}
 use Rattle.lid_stations.specs.Laws.{StandsAt, StandsBetween}
-use Rattle.lid_stations.proofs.Parts.{HasPart, part_of, each_long, each_at}
+use Rattle.lid_stations.proofs.Parts.{HasPart, part_of}
 
 -- there is a relay station less on each channel than there are stations
 pub fewer_relays : (relays : List ℕ) → station_count relays ≡ relay_count relays + length relays
@@ -30,13 +31,13 @@ starts_small (suc i) = omega arith
 spot_there : (first : ℕ) (relays : List ℕ) (c i : ℕ) (d : Spot) → c < length relays → i ≤ get_or relays c 0 → get_or (spots_from first relays) (station_count (take c relays) + i) d ≡ record { channel = first + c; place = i }
 spot_there first [] c i d below within = absurd (omega arith)
 spot_there first (k ∷ ks) zero i d below within =
-    let less : i < length (spots_on first k) = (let l = each_long (λ (i : ℕ). let s : Spot = record { channel = first; place = i } in s) 0 (suc k) in omega arith) in
+    let less : i < length (spots_on first k) = (let l = each_length (λ (i : ℕ). let s : Spot = record { channel = first; place = i } in s) 0 (suc k) in omega arith) in
     ap (λ (n : ℕ). get_or (spots_on first k ++ spots_from (suc first) ks) n d) (zero-add i)
     ∙ get_or_append_left (spots_on first k) (spots_from (suc first) ks) d i less
     ∙ each_at (λ (i : ℕ). let s : Spot = record { channel = first; place = i } in s) 0 (suc k) i d (omega arith)
     ∙ (let e : 0 + i ≡ i = omega arith in let f : first ≡ first + 0 = omega arith in ap (λ (n : ℕ). let s : Spot = record { channel = first; place = n } in s) e ∙ ap (λ (n : ℕ). let s : Spot = record { channel = n; place = i } in s) f)
 spot_there first (k ∷ ks) (suc c) i d below within =
-    let long = each_long (λ (i : ℕ). let s : Spot = record { channel = first; place = i } in s) 0 (suc k) in
+    let long = each_length (λ (i : ℕ). let s : Spot = record { channel = first; place = i } in s) 0 (suc k) in
     let place : station_count (take (suc c) (k ∷ ks)) + i ≡ length (spots_on first k) + (station_count (take c ks) + i) = (let s = sum_by-cons (λ (k : ℕ). k + 1) k (take c ks) in omega arith) in
     ap (λ (n : ℕ). get_or (spots_on first k ++ spots_from (suc first) ks) n d) place
     ∙ get_or-append-add (spots_on first k) (spots_from (suc first) ks) (station_count (take c ks) + i) d

@@ -146,12 +146,13 @@ fn push_station(
     requires { tokens ≤ capacity }
     ensures { OnOk result (edges.new.items ≡ edges.old.items ++ record { from = from; to = to; tokens = tokens } ∷ record { from = to; to = from; tokens = capacity - tokens } ∷ []) }
 {
-    edges.push(Edge { from, to, tokens })?;
-    edges.push(Edge {
+    let back = Edge {
         from: to,
         to: from,
         tokens: capacity - tokens,
-    })?;
+    };
+    edges.push(Edge { from, to, tokens })?;
+    edges.push(back)?;
     Ok(())
 }
 
