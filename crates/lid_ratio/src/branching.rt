@@ -11,19 +11,11 @@ ghost use Rattle.lid_ratio.specs.Components.{IsSmallGraph, CanSpan, IsBranch, Sp
 use crate::judging::are_at_most;
 use crate::rating::numbers;
 use crate::relaxation::edge;
-use crate::spanning_tree::{Tree, span};
+use crate::spanning_tree::{Root, Tree, span};
 use lid_base::Items;
 use lid_graph::Graph;
 use lid_guess::{Branches, propose_tree};
 use std::alloc::{AllocError, Global};
-
-/// Where a tree starts, the lead there, and what each token adds to leads.
-#[derive(Clone, Copy)]
-pub struct Root {
-    pub start: u32,
-    pub first: u64,
-    pub q: u64,
-}
 
 /// The largest lead that is taken.
 const MOST_LEAD: u64 = 1 << 61;
@@ -129,7 +121,7 @@ fn sweep(alloc: Global, graph: &Graph, root: Root) -> Result<Branches, AllocErro
     ensures { IfOk result (λ tree. SpansFrom graph.now root.start root.q root.first tree.via tree.lead tree.depth) }
 {
     let all = numbers(alloc, graph.edges.len())?;
-    let tree = span(alloc, graph, &all, root.start, root.q, root.first)?;
+    let tree = span(alloc, graph, &all, root)?;
     Ok(listed(tree))
 }
 

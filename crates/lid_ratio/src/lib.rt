@@ -12,9 +12,10 @@ mod rating;
 mod relaxation;
 mod spanning_tree;
 
-pub use branching::{Root, tree_by, tree_of};
+pub use branching::{tree_by, tree_of};
 pub use cycle_ratio::Rate;
 pub use holding::{Bound, holds, holds_by};
 pub use lowest_terms::Ratio;
 pub use rating::{rate_by, rate_of};
 pub use relaxation::edge;
+pub use spanning_tree::Root;
