@@ -103,92 +103,76 @@ module _ {S : Type 0} (plan : Ends) (slots id place : ℕ) (me : Me S View) (sta
       let next = steps_out plan st st.homes id me.0 station (place / 2) n f e r here is planned inside kept in
       (record { ends = changed me.0.ends (fill station) e }, keeps, tt, next, (refl, told (is_early plan _ id _ next (set_here st.views id _ (view_within st.views id me.0 here)))))
 
+  -- what is known at an end is what the board has there
+  own_passed : (st : State S View) (r : Related plan st) (end : ℕ) → get_elem? st.views id ≡ some me.0 → (g : Held) → at me.0.ends end ≡ Some g → g.passed ≡ (r.truth end).passed
+  own_passed st r end here g at_g = ap (λ (y : Held). y.passed) (r.agree id me.0 end g here at_g)
+
   pub looks_in : (d : Held) → at me.0.ends (drain station) ≡ Some d → place ≡ d.passed % cap_of plan station
       → Allows (Related plan) slots id me (first_word plan station + place / 2) (λ n. n) (λ r w. (w.1 ≡ me.1) × LooksIn plan me.0.ends station place d r w.0.ends)
-  looks_in d is place_is st r homes here fits = dite (dec_le (r.truth (fill station)).passed d.passed) void token
-    where
-      f : Held
-      f = r.truth (fill station)
-
-      k : AtEnd plan st r station place f d d.passed
-      k = at_drain d is place_is st r here
-
-      own : (g : Held) → at me.0.ends (fill station) ≡ Some g → g.passed ≡ f.passed
-      own g at_g = ap (λ (y : Held). y.passed) (r.agree id me.0 (fill station) g here at_g)
-
-      step : (e : Held) → IsPlanned d e → Kept st.words (first_word plan station) f e → (IsEarly (changed me.0.ends (drain station) e) → LooksIn plan me.0.ends station place d (Word st) (changed me.0.ends (drain station) e))
-          → After st (Word st) (λ w. (w.1 ≡ me.1) × LooksIn plan me.0.ends station place d (Word st) w.0.ends)
-      step e planned kept told = step_in st r (Word st) d e here is planned k.inside (kept_load st.words (first_word plan station) f d (first_word plan station + place / 2) f e kept) (LooksIn plan me.0.ends station place d (Word st)) told
-
-      void : f.passed ≤ d.passed → After st (Word st) (λ w. (w.1 ≡ me.1) × LooksIn plan me.0.ends station place d (Word st) w.0.ends)
-      void none =
-          let kept = k.kept in
-          let nothing = reads_void st.words (first_word plan station) f d place kept k.place_is none in
-          let zero_half : shown place (Word st) ≡ 0 = ap (shown place) nothing ∙ shown_zero place in
-          step (missing d) record { stream = refl; start = refl; cap = refl } (kept_void st.words (first_word plan station) f d kept none)
-          (λ early.
-          record {
-            right = record { stream = kept.fixed.stream ∙ k.stream; cap = kept.fixed.cap ∙ k.cap; early = early };
-            void = λ _. record { now = refl; nothing = nothing; started = (let more = kept.started in let same = kept.fixed.start in omega arith); unseen = λ mark. (let some = kept.token_seen mark in omega arith) };
-            token = λ some. absurd (some zero_half);
-            exact = λ g at_g. (let e = own g at_g in let o = kept.ordered in ((λ _. omega arith), (λ _. zero_half)));
-          })
-
-      token : (f.passed ≤ d.passed → ⊥) → After st (Word st) (λ w. (w.1 ≡ me.1) × LooksIn plan me.0.ends station place d (Word st) w.0.ends)
-      token more =
-          let some : d.passed < f.passed = lt_of_not-le more in
-          let shows : ShowsNext d (shown place (Word st)) = reads_token st.words (first_word plan station) f d place k.kept k.place_is some in
-          step (seen d) record { stream = refl; start = refl; cap = refl } (kept_token st.words (first_word plan station) f d k.kept some)
-          (λ early.
-          record {
-            right = record { stream = k.kept.fixed.stream ∙ k.stream; cap = k.kept.fixed.cap ∙ k.cap; early = early };
-            void = λ none. (let least = shows.least in absurd (omega arith));
-            token = λ _. (refl, shows);
-            exact = λ g at_g. (let e = own g at_g in let least = shows.least in ((λ none. omega arith), (λ same. absurd (omega arith))));
-          })
+  looks_in d is place_is st r homes here fits =
+      let f = r.truth (fill station) in
+      let k = at_drain d is place_is st r here in
+      let kept = k.kept in
+      dite (dec_le f.passed d.passed)
+      (λ none.
+      let nothing = reads_void st.words (first_word plan station) f d place kept k.place_is none in
+      let zero_half : shown place (Word st) ≡ 0 = ap (shown place) nothing ∙ shown_zero place in
+      step_in st r (Word st) d (missing d) here is record { stream = refl; start = refl; cap = refl } k.inside
+      (kept_load st.words (first_word plan station) f d (first_word plan station + place / 2) f (missing d) (kept_void st.words (first_word plan station) f d kept none))
+      (LooksIn plan me.0.ends station place d (Word st))
+      (λ early.
+      record {
+        right = record { stream = kept.fixed.stream ∙ k.stream; cap = kept.fixed.cap ∙ k.cap; early = early };
+        void = λ _. record { now = refl; nothing = nothing; started = (let more = kept.started in let same = kept.fixed.start in omega arith); unseen = λ mark. (let some = kept.token_seen mark in omega arith) };
+        token = λ some. absurd (some zero_half);
+        exact = λ g at_g. (let e = own_passed st r (fill station) here g at_g in let o = kept.ordered in ((λ _. omega arith), (λ _. zero_half)));
+      }))
+      (λ more.
+      let some : d.passed < f.passed = lt_of_not-le more in
+      let shows : ShowsNext d (shown place (Word st)) = reads_token st.words (first_word plan station) f d place kept k.place_is some in
+      step_in st r (Word st) d (seen d) here is record { stream = refl; start = refl; cap = refl } k.inside
+      (kept_load st.words (first_word plan station) f d (first_word plan station + place / 2) f (seen d) (kept_token st.words (first_word plan station) f d kept some))
+      (LooksIn plan me.0.ends station place d (Word st))
+      (λ early.
+      record {
+        right = record { stream = kept.fixed.stream ∙ k.stream; cap = kept.fixed.cap ∙ k.cap; early = early };
+        void = λ none. (let least = shows.least in absurd (omega arith));
+        token = λ _. (refl, shows);
+        exact = λ g at_g. (let e = own_passed st r (fill station) here g at_g in let least = shows.least in ((λ none. omega arith), (λ same. absurd (omega arith))));
+      }))
 
   pub looks_out : (f : Held) → at me.0.ends (fill station) ≡ Some f → place ≡ f.passed % cap_of plan station
       → Allows (Related plan) slots id me (first_word plan station + place / 2) (λ n. n) (λ r w. (w.1 ≡ me.1) × LooksOut plan me.0.ends station place f r w.0.ends)
-  looks_out f is place_is st r homes here fits = dite (dec_le ((r.truth (drain station)).passed + f.cap) f.passed) stop room
-    where
-      d : Held
-      d = r.truth (drain station)
-
-      k : AtEnd plan st r station place f d f.passed
-      k = at_fill f is place_is st r here
-
-      own : (g : Held) → at me.0.ends (drain station) ≡ Some g → g.passed ≡ d.passed
-      own g at_g = ap (λ (y : Held). y.passed) (r.agree id me.0 (drain station) g here at_g)
-
-      step : (e : Held) → IsPlanned f e → Kept st.words (first_word plan station) e d → (IsEarly (changed me.0.ends (fill station) e) → LooksOut plan me.0.ends station place f (Word st) (changed me.0.ends (fill station) e))
-          → After st (Word st) (λ w. (w.1 ≡ me.1) × LooksOut plan me.0.ends station place f (Word st) w.0.ends)
-      step e planned kept told = step_out st r (Word st) f e here is planned k.inside (kept_load st.words (first_word plan station) f d (first_word plan station + place / 2) e d kept) (LooksOut plan me.0.ends station place f (Word st)) told
-
-      stop : d.passed + f.cap ≤ f.passed → After st (Word st) (λ w. (w.1 ≡ me.1) × LooksOut plan me.0.ends station place f (Word st) w.0.ends)
-      stop full =
-          let kept = k.kept in
-          let least = reads_full st.words (first_word plan station) f d place kept k.place_is full in
-          step (missing f) record { stream = refl; start = refl; cap = refl } (kept_stop st.words (first_word plan station) f d kept full)
-          (λ early.
-          record {
-            right = record { stream = k.stream; cap = k.cap; early = early };
-            room = λ none. absurd (omega arith);
-            stop = λ _. record { now = refl; unseen = λ mark. (let some = kept.room_seen mark in omega arith); filled = omega arith; full = reads_stop st.words (first_word plan station) f d place kept k.place_is full; bits = reads_bits st.words (first_word plan station) f d place kept k.place_is full };
-            exact = λ g at_g. (let e = own g at_g in let o = kept.room in ((λ _. omega arith), (λ _ none. omega arith)));
-          })
-
-      room : (d.passed + f.cap ≤ f.passed → ⊥) → After st (Word st) (λ w. (w.1 ≡ me.1) × LooksOut plan me.0.ends station place f (Word st) w.0.ends)
-      room more =
-          let some : f.passed < d.passed + f.cap = lt_of_not-le more in
-          let zero_half : shown place (Word st) ≡ 0 = reads_room st.words (first_word plan station) f d place k.kept k.place_is some in
-          step (seen f) record { stream = refl; start = refl; cap = refl } (kept_room st.words (first_word plan station) f d k.kept some)
-          (λ early.
-          record {
-            right = record { stream = k.stream; cap = k.cap; early = early };
-            room = λ _. refl;
-            stop = λ full. absurd (full zero_half);
-            exact = λ g at_g. (let e = own g at_g in ((λ full. absurd (full zero_half)), (λ same _. omega arith)));
-          })
+  looks_out f is place_is st r homes here fits =
+      let d = r.truth (drain station) in
+      let k = at_fill f is place_is st r here in
+      let kept = k.kept in
+      dite (dec_le (d.passed + f.cap) f.passed)
+      (λ full.
+      let least = reads_full st.words (first_word plan station) f d place kept k.place_is full in
+      step_out st r (Word st) f (missing f) here is record { stream = refl; start = refl; cap = refl } k.inside
+      (kept_load st.words (first_word plan station) f d (first_word plan station + place / 2) (missing f) d (kept_stop st.words (first_word plan station) f d kept full))
+      (LooksOut plan me.0.ends station place f (Word st))
+      (λ early.
+      record {
+        right = record { stream = k.stream; cap = k.cap; early = early };
+        room = λ none. absurd (omega arith);
+        stop = λ _. record { now = refl; unseen = λ mark. (let some = kept.room_seen mark in omega arith); filled = omega arith; full = reads_stop st.words (first_word plan station) f d place kept k.place_is full; bits = reads_bits st.words (first_word plan station) f d place kept k.place_is full };
+        exact = λ g at_g. (let e = own_passed st r (drain station) here g at_g in let o = kept.room in ((λ _. omega arith), (λ _ none. omega arith)));
+      }))
+      (λ more.
+      let some : f.passed < d.passed + f.cap = lt_of_not-le more in
+      let zero_half : shown place (Word st) ≡ 0 = reads_room st.words (first_word plan station) f d place kept k.place_is some in
+      step_out st r (Word st) f (seen f) here is record { stream = refl; start = refl; cap = refl } k.inside
+      (kept_load st.words (first_word plan station) f d (first_word plan station + place / 2) (seen f) d (kept_room st.words (first_word plan station) f d kept some))
+      (LooksOut plan me.0.ends station place f (Word st))
+      (λ early.
+      record {
+        right = record { stream = k.stream; cap = k.cap; early = early };
+        room = λ _. refl;
+        stop = λ full. absurd (full zero_half);
+        exact = λ g at_g. (let e = own_passed st r (drain station) here g at_g in ((λ full. absurd (full zero_half)), (λ same _. omega arith)));
+      }))
 
   pub takes : (d : Held) → at me.0.ends (drain station) ≡ Some d → place ≡ d.passed % cap_of plan station → d.mark ≡ true
       → Allows (Related plan) slots id me (first_word plan station + place / 2) (λ n. bit_and n (others place)) (λ r w. (w.1 ≡ me.1) × Takes plan me.0.ends station place d r w.0.ends)
