@@ -1,5 +1,5 @@
 -- The four steps of a hand at an end, as its seat makes them.
-use Rattle.std.proofs.Common.{◌≡◌, ℕ, ◌+◌, ◌/◌, ◌%◌, ◌<◌, ◌≤◌, true, List, length, get_or, set, refl, sym, ◌∙◌, ap, subst, arith, lt_of_not-le, Bool, cond, eq-eqb, ne_eqb}
+use Rattle.std.proofs.Common.{◌≡◌, ℕ, ◌+◌, ◌/◌, ◌%◌, ◌<◌, true, List, length, get_or, set, refl, sym, ◌∙◌, ap, subst, arith, lt_of_not-le, Bool, cond, eq-eqb, ne_eqb}
 use Rattle.std.specs.Prelude.{bit_and, bit_or, Some, slice_get}
 use Rattle.atomic_table.specs.Table.{State, Me, Act, Valid, stepped, carried_after, Allows, keeps}
 use Rattle.atomic_table.proofs.Lists.{set_here}
