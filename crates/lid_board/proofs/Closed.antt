@@ -41,14 +41,14 @@ restored_holds words first f d p k r =
     let size = r.size in
     let within = k.within in
     record {
-      short = k.short;
-      small = k.small;
+      short = k.fixed.short;
+      small = k.fixed.small;
       filled = omega arith;
       held = λ i from to.
-          let two = k.two in
+          let two = k.fixed.two in
           let room = k.room in
           let below : i % f.cap < f.cap = omega arith in
-          let shows = ap (shown (i % f.cap)) (k.shows (i % f.cap / 2) (omega arith)) ∙ shown_word f.cap f.stream f.passed d.passed (i % f.cap) k.ordered k.within k.small ∙ held_there f.cap f.stream f.passed d.passed i (omega arith) (omega arith) k.within k.room in
+          let shows = ap (shown (i % f.cap)) (k.shows (i % f.cap / 2) (omega arith)) ∙ shown_word f.cap f.stream f.passed d.passed (i % f.cap) k.ordered k.within k.fixed.small ∙ held_there f.cap f.stream f.passed d.passed i (omega arith) (omega arith) k.within k.room in
           ap (λ (n : ℕ). get_or p.places.items (i % n) 0) size
           ∙ r.places (i % f.cap) below
           ∙ ap (λ (n : ℕ). n - 2147483648) shows
@@ -199,7 +199,7 @@ module _ {S : Type 0} (plan : Ends) (caps firsts : List ℕ) (table : TableId) (
       (λ odd.
       let number : end ≡ drain i = omega arith in
       ends_odd new end i number ∙ ap (option_map (end_facts false)) now.1
-      ∙ ap (λ (f : Facts). Some f) (facts_are (length now.0.places.items) now.0.taken now.0.token_seen (held v.ends (drain i)) (one.size ∙ sym k.cap) one.taken one.no_token)
+      ∙ ap (λ (f : Facts). Some f) (facts_are (length now.0.places.items) now.0.taken now.0.token_seen (held v.ends (drain i)) (one.size ∙ sym k.fixed.cap) one.taken one.no_token)
       ∙ ap (λ (e : ℕ). Some (closed_facts (held v.ends e))) (sym number))
 
 -- by other names of the lists

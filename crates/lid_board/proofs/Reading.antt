@@ -18,12 +18,12 @@ use Rattle.lid_board.proofs.Stations.{place_within, kept_taken, kept_put}
 module _ (words : List ℕ) (first : ℕ) (f d : Held) where
   -- the word that has a place of the station
   word-at : (passed place : ℕ) → Kept words first f d → place ≡ passed % f.cap → get_or words (first + place / 2) 0 ≡ word f.cap (take f.passed f.stream) (take d.passed f.stream) (place / 2)
-  word-at passed place k is = k.shows (place / 2) (let w = place_within f.cap passed k.two in let e : place / 2 ≡ passed % f.cap / 2 = ap (λ (n : ℕ). n / 2) is in omega arith)
+  word-at passed place k is = k.shows (place / 2) (let w = place_within f.cap passed k.fixed.two in let e : place / 2 ≡ passed % f.cap / 2 = ap (λ (n : ℕ). n / 2) is in omega arith)
 
   half-at : (passed place : ℕ) → Kept words first f d → place ≡ passed % f.cap → shown place (get_or words (first + place / 2) 0) ≡ half_of f.cap (take f.passed f.stream) (take d.passed f.stream) (passed % f.cap)
   half-at passed place k is =
       ap (shown place) (word-at passed place k is)
-      ∙ shown_word f.cap f.stream f.passed d.passed place k.ordered k.within k.small
+      ∙ shown_word f.cap f.stream f.passed d.passed place k.ordered k.within k.fixed.small
       ∙ ap (half_of f.cap (take f.passed f.stream) (take d.passed f.stream)) is
 
   -- a station that holds nothing has the word 0 there
@@ -38,12 +38,12 @@ module _ (words : List ℕ) (first : ℕ) (f d : Held) where
   reads_token place k is some =
       let shows = half-at d.passed place k is ∙ token-there f.cap f.stream f.passed d.passed some k.within k.room in
       let inside : d.passed < length f.stream = (let w = k.within in omega arith) in
-      let small : get_or f.stream d.passed 0 < 2147483648 = All-get_or (λ (t : ℕ). t < 2147483648) f.stream d.passed 0 inside k.small in
+      let small : get_or f.stream d.passed 0 < 2147483648 = All-get_or (λ (t : ℕ). t < 2147483648) f.stream d.passed 0 inside k.fixed.small in
       record {
         least = omega arith;
         most = omega arith;
         next =
-            ap (λ (s : List ℕ). slice_get s d.passed) k.stream
+            ap (λ (s : List ℕ). slice_get s d.passed) k.fixed.stream
             ∙ slice_get-get_or f.stream d.passed 0 inside
             ∙ ap (λ (t : ℕ). Some t) (omega arith);
       }
@@ -56,7 +56,7 @@ module _ (words : List ℕ) (first : ℕ) (f d : Held) where
   pub reads_full : (place : ℕ) → Kept words first f d → place ≡ f.passed % f.cap → d.passed + f.cap ≤ f.passed → 2147483648 ≤ shown place (get_or words (first + place / 2) 0)
   reads_full place k is full =
       let shows = half-at f.passed place k is in
-      let two = k.two in
+      let two = k.fixed.two in
       let same : f.passed ≡ d.passed + f.cap = (let o = k.room in omega arith) in
       let least = full_there f.cap f.stream f.passed d.passed same k.within (omega arith) in
       omega arith
@@ -74,9 +74,9 @@ module _ (words : List ℕ) (first : ℕ) (f d : Held) where
   pub reads_bits : (place : ℕ) → Kept words first f d → place ≡ f.passed % f.cap → d.passed + f.cap ≤ f.passed → HasFullBits f.cap (word_number f.cap f.passed) (get_or words (first + place / 2) 0)
   reads_bits place k is full =
       let e = word-at f.passed place k is in
-      let two = k.two in
+      let two = k.fixed.two in
       let number : place / 2 ≡ word_number f.cap f.passed = ap (λ (n : ℕ). n / 2) is in
-      let small = All-take (λ (t : ℕ). t < 2147483648) f.passed f.stream k.small in
+      let small = All-take (λ (t : ℕ). t < 2147483648) f.passed f.stream k.fixed.small in
       let within = k.within in
       let room = k.room in
       let put : length (take f.passed f.stream) ≡ f.passed = length-take-le f.passed f.stream within in

@@ -234,13 +234,16 @@ module _ (firsts : List (Option ℕ)) (caps : List ℕ) (streams : List (List �
         let one = count_one first in
         let spot = plan_first station (omega arith) in
         record {
-          stream = refl;
-          cap = refl;
-          start = refl;
-          two = cap_two;
-          few = All-get_or (λ (c : ℕ). c ≤ 16) caps station 0 (omega arith) most;
-          small = stream_small;
-          short = All-get_or (λ (s : List ℕ). length s < 2 ^ 64) streams station [] (omega arith) begins.short;
+          fixed =
+              record {
+                stream = refl;
+                cap = refl;
+                start = refl;
+                two = cap_two;
+                few = All-get_or (λ (c : ℕ). c ≤ 16) caps station 0 (omega arith) most;
+                small = stream_small;
+                short = All-get_or (λ (s : List ℕ). length s < 2 ^ 64) streams station [] (omega arith) begins.short;
+              };
           within = le;
           ordered = omega arith;
           room = omega arith;

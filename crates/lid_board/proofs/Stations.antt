@@ -19,13 +19,7 @@ kept_step : (words new : List ℕ) (first : ℕ) (f d : Held) (put taken : ℕ) 
     → (taken < d.start → voids ≡ 0) → (put < f.cap → stops ≡ 0)
     → Kept new first (record f { passed = put; mark = room; misses = stops }) (record d { passed = taken; mark = token; misses = voids })
 kept_step words new first f d put taken room token stops voids k within ordered roomy started shows token_seen room_seen token_early room_early = record {
-  stream = k.stream;
-  cap = k.cap;
-  start = k.start;
-  two = k.two;
-  few = k.few;
-  small = k.small;
-  short = k.short;
+  fixed = k.fixed;
   within = within;
   ordered = ordered;
   room = roomy;
@@ -51,7 +45,7 @@ kept_token words first f d k some = kept_as words first f d f.mark true f.misses
 pub kept_void : (words : List ℕ) (first : ℕ) (f d : Held) → Kept words first f d → f.passed ≤ d.passed → Kept words first f (missing d)
 kept_void words first f d k none =
     kept_as words first f d f.mark d.mark f.misses (d.misses + 1) k k.token_seen k.room_seen
-    (λ early. (let more = k.started in let same = k.start in absurd (omega arith))) k.room_early
+    (λ early. (let more = k.started in let same = k.fixed.start in absurd (omega arith))) k.room_early
 
 pub kept_room : (words : List ℕ) (first : ℕ) (f d : Held) → Kept words first f d → f.passed < d.passed + f.cap → Kept words first (seen f) d
 kept_room words first f d k some = kept_as words first f d true d.mark f.misses d.misses k k.token_seen (λ _. some) k.token_early k.room_early
@@ -89,8 +83,8 @@ kept_taken words first f d k some inside =
         (λ same.
         ap (λ (n : ℕ). get_or (set words spot put) (first + n) 0) same
         ∙ get_or-set_same words spot put 0 inside
-        ∙ ap (λ (n : ℕ). bit_and n (others (d.passed % f.cap))) (k.shows (d.passed % f.cap / 2) (place_within f.cap d.passed k.two))
-        ∙ taken_here f.cap f.stream f.passed d.passed some k.within k.room k.small
+        ∙ ap (λ (n : ℕ). bit_and n (others (d.passed % f.cap))) (k.shows (d.passed % f.cap / 2) (place_within f.cap d.passed k.fixed.two))
+        ∙ taken_here f.cap f.stream f.passed d.passed some k.within k.room k.fixed.small
         ∙ ap (λ (n : ℕ). word f.cap (take f.passed f.stream) (take (d.passed + 1) f.stream) n) (sym same))
         (λ other.
         get_or-set_other words spot (first + number) put 0 (λ e. other (omega arith))
@@ -116,8 +110,8 @@ kept_put words first f d k some more inside =
         (λ same.
         ap (λ (n : ℕ). get_or (set words spot put) (first + n) 0) same
         ∙ get_or-set_same words spot put 0 inside
-        ∙ ap (λ (n : ℕ). bit_or n (filling (f.passed % f.cap) (get_or f.stream f.passed 0))) (k.shows (f.passed % f.cap / 2) (place_within f.cap f.passed k.two))
-        ∙ put_here f.cap f.stream f.passed d.passed k.ordered more some k.small
+        ∙ ap (λ (n : ℕ). bit_or n (filling (f.passed % f.cap) (get_or f.stream f.passed 0))) (k.shows (f.passed % f.cap / 2) (place_within f.cap f.passed k.fixed.two))
+        ∙ put_here f.cap f.stream f.passed d.passed k.ordered more some k.fixed.small
         ∙ ap (λ (n : ℕ). word f.cap (take (f.passed + 1) f.stream) (take d.passed f.stream) n) (sym same))
         (λ other.
         get_or-set_other words spot (first + number) put 0 (λ e. other (omega arith))

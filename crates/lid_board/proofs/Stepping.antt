@@ -1,14 +1,14 @@
 -- The four steps of a hand at an end, as its seat makes them.
-use Rattle.std.proofs.Common.{◌≡◌, ℕ, ◌+◌, ◌/◌, ◌%◌, ◌<◌, true, List, length, get_or, refl, sym, ◌∙◌, ap, subst, arith, lt_of_not-le, Bool, cond, eq-eqb, ne_eqb}
+use Rattle.std.proofs.Common.{◌≡◌, ℕ, ◌+◌, ◌/◌, ◌%◌, ◌<◌, true, List, length, get_or, set, refl, sym, ◌∙◌, ap, subst, arith, lt_of_not-le, Bool, cond, eq-eqb, ne_eqb}
 use Rattle.std.specs.Prelude.{bit_and, bit_or, Some, slice_get}
-use Rattle.atomic_table.specs.Table.{State, Me, Allows, keeps}
+use Rattle.atomic_table.specs.Table.{State, Me, Act, Valid, stepped, carried_after, Allows, keeps}
 use Rattle.atomic_table.proofs.Lists.{set_here}
 use Rattle.std.proofs.lemmas.Option.{slice_get_within}
 use Rattle.lid_station.specs.Boards.{fill, drain}
 use Rattle.lid_board.specs.Halves.{shown, others, filling}
-use Rattle.lid_board.specs.Relation.{Kept, Related, words_of, first_word, cap_of, stream_of}
+use Rattle.lid_board.specs.Relation.{Kept, IsPlanned, Related, words_of, first_word, cap_of, stream_of}
 use Rattle.lid_board.specs.Told.{LooksIn, LooksOut, Takes, Puts, ShowsNext}
-use Rattle.lid_board.specs.Views.{Ends, at, changed, seen, missing, passing}
+use Rattle.lid_board.specs.Views.{Ends, at, IsEarly, changed, seen, missing, passing}
 use Rattle.lid_board.specs.declared.view.Held.{Held}
 use Rattle.lid_board.specs.declared.view.View.{View}
 use Rattle.lid_board.proofs.Frames.{end_within, is_early, steps_in, steps_out, view_within, apart}
@@ -49,7 +49,7 @@ at_end plan st r station place f d passed k true_f true_d place_is =
     subst (λ (y : Held). Kept st.words (first_word plan station) y d) (sym true_f) (subst (Kept st.words (first_word plan station) (r.truth (fill station))) (sym true_d) k.kept) in
     let here : place ≡ passed % f.cap = place_is ∙ ap (λ (n : ℕ). passed % n) (sym cap) in
     let words : words_of f.cap ≡ words_of (cap_of plan station) = ap words_of cap in
-    let within = place_within f.cap passed kept.two in
+    let within = place_within f.cap passed kept.fixed.two in
     let half : place / 2 ≡ passed % f.cap / 2 = ap (λ (n : ℕ). n / 2) here in
     record { there = k.there; kept = kept; cap = cap; stream = ap (λ (y : Held). y.stream) true_f ∙ k.stream; place_is = here; inside = omega arith }
 
@@ -77,129 +77,135 @@ module _ {S : Type 0} (plan : Ends) (slots id place : ℕ) (me : Me S View) (sta
   at_fill f is place_is st r here =
       at_end plan st r station place f (r.truth (drain station)) f.passed (known plan st r station (fill station) (end_within plan st id me.0 (fill station) f r here is) (omega arith)) (r.agree id me.0 (fill station) f here is) refl place_is
 
+  -- what comes of a step that writes n, where `then` says what the hand knows
+  abbrev After : State S View → ℕ → (Me S View → Type 0) → Type 0
+  After st n then =
+      (w : View) × (a : Act S) × Valid st.homes me.1 a × Related plan (stepped st (first_word plan station + place / 2) n id me.1 w a) × then (w, carried_after me.1 a)
+
+  abbrev Word : State S View → ℕ
+  Word st = get_or st.words (first_word plan station + place / 2) 0
+
+  -- the drained end comes to e, and so its hand is told
+  step_in : (st : State S View) (r : Related plan st) (n : ℕ) (d e : Held) → get_elem? st.views id ≡ some me.0 → at me.0.ends (drain station) ≡ Some d → IsPlanned d e → place / 2 < words_of (cap_of plan station)
+      → Kept (set st.words (first_word plan station + place / 2) n) (first_word plan station) (r.truth (fill station)) e
+      → (Told : Ends → Type 0) → (IsEarly (changed me.0.ends (drain station) e) → Told (changed me.0.ends (drain station) e))
+      → After st n (λ w. (w.1 ≡ me.1) × Told w.0.ends)
+  step_in st r n d e here is planned inside kept Told told =
+      let next = steps_in plan st st.homes id me.0 station (place / 2) n d e r here is planned inside kept in
+      (record { ends = changed me.0.ends (drain station) e }, keeps, tt, next, (refl, told (is_early plan _ id _ next (set_here st.views id _ (view_within st.views id me.0 here)))))
+
+  -- the filled end comes to e
+  step_out : (st : State S View) (r : Related plan st) (n : ℕ) (f e : Held) → get_elem? st.views id ≡ some me.0 → at me.0.ends (fill station) ≡ Some f → IsPlanned f e → place / 2 < words_of (cap_of plan station)
+      → Kept (set st.words (first_word plan station + place / 2) n) (first_word plan station) e (r.truth (drain station))
+      → (Told : Ends → Type 0) → (IsEarly (changed me.0.ends (fill station) e) → Told (changed me.0.ends (fill station) e))
+      → After st n (λ w. (w.1 ≡ me.1) × Told w.0.ends)
+  step_out st r n f e here is planned inside kept Told told =
+      let next = steps_out plan st st.homes id me.0 station (place / 2) n f e r here is planned inside kept in
+      (record { ends = changed me.0.ends (fill station) e }, keeps, tt, next, (refl, told (is_early plan _ id _ next (set_here st.views id _ (view_within st.views id me.0 here)))))
+
+  -- what is known at an end is what the board has there
+  own_passed : (st : State S View) (r : Related plan st) (end : ℕ) → get_elem? st.views id ≡ some me.0 → (g : Held) → at me.0.ends end ≡ Some g → g.passed ≡ (r.truth end).passed
+  own_passed st r end here g at_g = ap (λ (y : Held). y.passed) (r.agree id me.0 end g here at_g)
+
   pub looks_in : (d : Held) → at me.0.ends (drain station) ≡ Some d → place ≡ d.passed % cap_of plan station
       → Allows (Related plan) slots id me (first_word plan station + place / 2) (λ n. n) (λ r w. (w.1 ≡ me.1) × LooksIn plan me.0.ends station place d r w.0.ends)
   looks_in d is place_is st r homes here fits =
       let f = r.truth (fill station) in
-      let first = first_word plan station in
       let k = at_drain d is place_is st r here in
       let kept = k.kept in
-      let found = get_or st.words (first + place / 2) 0 in
-      let seat = view_within st.views id me.0 here in
-      let own : (g : Held) → at me.0.ends (fill station) ≡ Some g → g ≡ f = λ g at_g. r.agree id me.0 (fill station) g here at_g in
       dite (dec_le f.passed d.passed)
       (λ none.
-      let nothing = reads_void st.words first f d place kept k.place_is none in
-      let zero_half : shown place found ≡ 0 = ap (shown place) nothing ∙ shown_zero place in
-      let next = steps_in plan st st.homes id me.0 station (place / 2) found d (missing d) r here is record { stream = refl; start = refl; cap = refl } k.inside
-      (kept_load st.words first f d (first + place / 2) f (missing d) (kept_void st.words first f d kept none)) in
-      let told : LooksIn plan me.0.ends station place d found (changed me.0.ends (drain station) (missing d)) =
+      let nothing = reads_void st.words (first_word plan station) f d place kept k.place_is none in
+      let zero_half : shown place (Word st) ≡ 0 = ap (shown place) nothing ∙ shown_zero place in
+      step_in st r (Word st) d (missing d) here is record { stream = refl; start = refl; cap = refl } k.inside
+      (kept_load st.words (first_word plan station) f d (first_word plan station + place / 2) f (missing d) (kept_void st.words (first_word plan station) f d kept none))
+      (LooksIn plan me.0.ends station place d (Word st))
+      (λ early.
       record {
-        right = record { stream = kept.stream ∙ k.stream; cap = kept.cap ∙ k.cap; early = is_early plan _ id _ next (set_here st.views id _ seat) };
-        void = λ _. record { now = refl; nothing = nothing; started = (let more = kept.started in let same = kept.start in omega arith); unseen = λ mark. (let some = kept.token_seen mark in omega arith) };
+        right = record { stream = kept.fixed.stream ∙ k.stream; cap = kept.fixed.cap ∙ k.cap; early = early };
+        void = λ _. record { now = refl; nothing = nothing; started = (let more = kept.started in let same = kept.fixed.start in omega arith); unseen = λ mark. (let some = kept.token_seen mark in omega arith) };
         token = λ some. absurd (some zero_half);
-        exact = λ g at_g. (let e = ap (λ (y : Held). y.passed) (own g at_g) in let o = kept.ordered in ((λ _. omega arith), (λ _. zero_half)));
-      } in
-      (record { ends = changed me.0.ends (drain station) (missing d) }, keeps, tt, next, (refl, told)))
+        exact = λ g at_g. (let e = own_passed st r (fill station) here g at_g in let o = kept.ordered in ((λ _. omega arith), (λ _. zero_half)));
+      }))
       (λ more.
       let some : d.passed < f.passed = lt_of_not-le more in
-      let shows : ShowsNext d (shown place found) = reads_token st.words first f d place kept k.place_is some in
-      let next = steps_in plan st st.homes id me.0 station (place / 2) found d (seen d) r here is record { stream = refl; start = refl; cap = refl } k.inside
-      (kept_load st.words first f d (first + place / 2) f (seen d) (kept_token st.words first f d kept some)) in
-      let told : LooksIn plan me.0.ends station place d found (changed me.0.ends (drain station) (seen d)) =
+      let shows : ShowsNext d (shown place (Word st)) = reads_token st.words (first_word plan station) f d place kept k.place_is some in
+      step_in st r (Word st) d (seen d) here is record { stream = refl; start = refl; cap = refl } k.inside
+      (kept_load st.words (first_word plan station) f d (first_word plan station + place / 2) f (seen d) (kept_token st.words (first_word plan station) f d kept some))
+      (LooksIn plan me.0.ends station place d (Word st))
+      (λ early.
       record {
-        right = record { stream = kept.stream ∙ k.stream; cap = kept.cap ∙ k.cap; early = is_early plan _ id _ next (set_here st.views id _ seat) };
+        right = record { stream = kept.fixed.stream ∙ k.stream; cap = kept.fixed.cap ∙ k.cap; early = early };
         void = λ none. (let least = shows.least in absurd (omega arith));
         token = λ _. (refl, shows);
-        exact = λ g at_g. (let e = ap (λ (y : Held). y.passed) (own g at_g) in let least = shows.least in ((λ none. omega arith), (λ same. absurd (omega arith))));
-      } in
-      (record { ends = changed me.0.ends (drain station) (seen d) }, keeps, tt, next, (refl, told)))
+        exact = λ g at_g. (let e = own_passed st r (fill station) here g at_g in let least = shows.least in ((λ none. omega arith), (λ same. absurd (omega arith))));
+      }))
 
   pub looks_out : (f : Held) → at me.0.ends (fill station) ≡ Some f → place ≡ f.passed % cap_of plan station
       → Allows (Related plan) slots id me (first_word plan station + place / 2) (λ n. n) (λ r w. (w.1 ≡ me.1) × LooksOut plan me.0.ends station place f r w.0.ends)
   looks_out f is place_is st r homes here fits =
       let d = r.truth (drain station) in
-      let first = first_word plan station in
       let k = at_fill f is place_is st r here in
       let kept = k.kept in
-      let found = get_or st.words (first + place / 2) 0 in
-      let seat = view_within st.views id me.0 here in
-      let own : (g : Held) → at me.0.ends (drain station) ≡ Some g → g ≡ d = λ g at_g. r.agree id me.0 (drain station) g here at_g in
       dite (dec_le (d.passed + f.cap) f.passed)
       (λ full.
-      let least = reads_full st.words first f d place kept k.place_is full in
-      let next = steps_out plan st st.homes id me.0 station (place / 2) found f (missing f) r here is record { stream = refl; start = refl; cap = refl } k.inside
-      (kept_load st.words first f d (first + place / 2) (missing f) d (kept_stop st.words first f d kept full)) in
-      let told : LooksOut plan me.0.ends station place f found (changed me.0.ends (fill station) (missing f)) =
+      let least = reads_full st.words (first_word plan station) f d place kept k.place_is full in
+      step_out st r (Word st) f (missing f) here is record { stream = refl; start = refl; cap = refl } k.inside
+      (kept_load st.words (first_word plan station) f d (first_word plan station + place / 2) (missing f) d (kept_stop st.words (first_word plan station) f d kept full))
+      (LooksOut plan me.0.ends station place f (Word st))
+      (λ early.
       record {
-        right = record { stream = k.stream; cap = k.cap; early = is_early plan _ id _ next (set_here st.views id _ seat) };
+        right = record { stream = k.stream; cap = k.cap; early = early };
         room = λ none. absurd (omega arith);
-        stop = λ _. record { now = refl; unseen = λ mark. (let some = kept.room_seen mark in omega arith); filled = omega arith; full = reads_stop st.words first f d place kept k.place_is full; bits = reads_bits st.words first f d place kept k.place_is full };
-        exact = λ g at_g. (let e = ap (λ (y : Held). y.passed) (own g at_g) in let o = kept.room in ((λ _. omega arith), (λ _ none. omega arith)));
-      } in
-      (record { ends = changed me.0.ends (fill station) (missing f) }, keeps, tt, next, (refl, told)))
+        stop = λ _. record { now = refl; unseen = λ mark. (let some = kept.room_seen mark in omega arith); filled = omega arith; full = reads_stop st.words (first_word plan station) f d place kept k.place_is full; bits = reads_bits st.words (first_word plan station) f d place kept k.place_is full };
+        exact = λ g at_g. (let e = own_passed st r (drain station) here g at_g in let o = kept.room in ((λ _. omega arith), (λ _ none. omega arith)));
+      }))
       (λ more.
       let some : f.passed < d.passed + f.cap = lt_of_not-le more in
-      let zero_half : shown place found ≡ 0 = reads_room st.words first f d place kept k.place_is some in
-      let next = steps_out plan st st.homes id me.0 station (place / 2) found f (seen f) r here is record { stream = refl; start = refl; cap = refl } k.inside
-      (kept_load st.words first f d (first + place / 2) (seen f) d (kept_room st.words first f d kept some)) in
-      let told : LooksOut plan me.0.ends station place f found (changed me.0.ends (fill station) (seen f)) =
+      let zero_half : shown place (Word st) ≡ 0 = reads_room st.words (first_word plan station) f d place kept k.place_is some in
+      step_out st r (Word st) f (seen f) here is record { stream = refl; start = refl; cap = refl } k.inside
+      (kept_load st.words (first_word plan station) f d (first_word plan station + place / 2) (seen f) d (kept_room st.words (first_word plan station) f d kept some))
+      (LooksOut plan me.0.ends station place f (Word st))
+      (λ early.
       record {
-        right = record { stream = k.stream; cap = k.cap; early = is_early plan _ id _ next (set_here st.views id _ seat) };
+        right = record { stream = k.stream; cap = k.cap; early = early };
         room = λ _. refl;
         stop = λ full. absurd (full zero_half);
-        exact = λ g at_g. (let e = ap (λ (y : Held). y.passed) (own g at_g) in ((λ full. absurd (full zero_half)), (λ same _. omega arith)));
-      } in
-      (record { ends = changed me.0.ends (fill station) (seen f) }, keeps, tt, next, (refl, told)))
+        exact = λ g at_g. (let e = own_passed st r (drain station) here g at_g in ((λ full. absurd (full zero_half)), (λ same _. omega arith)));
+      }))
 
   pub takes : (d : Held) → at me.0.ends (drain station) ≡ Some d → place ≡ d.passed % cap_of plan station → d.mark ≡ true
       → Allows (Related plan) slots id me (first_word plan station + place / 2) (λ n. bit_and n (others place)) (λ r w. (w.1 ≡ me.1) × Takes plan me.0.ends station place d r w.0.ends)
   takes d is place_is mark st r homes here fits =
-      let f = r.truth (fill station) in
-      let first = first_word plan station in
       let k = at_drain d is place_is st r here in
       let kept = k.kept in
-      let found = get_or st.words (first + place / 2) 0 in
-      let seat = view_within st.views id me.0 here in
-      let some : d.passed < f.passed = kept.token_seen mark in
-      let shows : ShowsNext d (shown place found) = reads_token st.words first f d place kept k.place_is some in
-      let within = kept.within in
-      let short = kept.short in
+      let some : d.passed < (r.truth (fill station)).passed = kept.token_seen mark in
       let spot = word_within plan st r station (place / 2) k.there k.inside in
-      let next = steps_in plan st st.homes id me.0 station (place / 2) (bit_and found (others place)) d (passing d) r here is record { stream = refl; start = refl; cap = refl } k.inside
-      (kept_taken_at st.words first f d place kept k.place_is some spot) in
-      let told : Takes plan me.0.ends station place d found (changed me.0.ends (drain station) (passing d)) =
+      let within = kept.within in
+      let short = kept.fixed.short in
+      step_in st r (bit_and (Word st) (others place)) d (passing d) here is record { stream = refl; start = refl; cap = refl } k.inside
+      (kept_taken_at st.words (first_word plan station) (r.truth (fill station)) d place kept k.place_is some spot)
+      (Takes plan me.0.ends station place d (Word st))
+      (λ early.
       record {
-        right = record { stream = kept.stream ∙ k.stream; cap = kept.cap ∙ k.cap; early = is_early plan _ id _ next (set_here st.views id _ seat) };
+        right = record { stream = kept.fixed.stream ∙ k.stream; cap = kept.fixed.cap ∙ k.cap; early = early };
         now = refl;
-        token = shows;
+        token = reads_token st.words (first_word plan station) (r.truth (fill station)) d place kept k.place_is some;
         counted = omega arith;
-      } in
-      (record { ends = changed me.0.ends (drain station) (passing d) }, keeps, tt, next, (refl, told))
+      })
 
   pub puts : (f : Held) (token : ℕ) → at me.0.ends (fill station) ≡ Some f → place ≡ f.passed % cap_of plan station → f.mark ≡ true → slice_get (stream_of plan station) f.passed ≡ Some token
       → Allows (Related plan) slots id me (first_word plan station + place / 2) (λ n. bit_or n (filling place token)) (λ r w. (w.1 ≡ me.1) × Puts plan me.0.ends station f w.0.ends)
   puts f token is place_is mark next_is st r homes here fits =
-      let d = r.truth (drain station) in
-      let first = first_word plan station in
       let k = at_fill f is place_is st r here in
-      let kept = k.kept in
-      let found = get_or st.words (first + place / 2) 0 in
-      let seat = view_within st.views id me.0 here in
-      let some : f.passed < d.passed + f.cap = kept.room_seen mark in
+      let some : f.passed < (r.truth (drain station)).passed + f.cap = k.kept.room_seen mark in
       let token_is : slice_get f.stream f.passed ≡ Some token = ap (λ (s : List ℕ). slice_get s f.passed) k.stream ∙ next_is in
       let within = slice_get_within f.stream f.passed token token_is in
-      let short = kept.short in
-      let spot = word_within plan st r station (place / 2) k.there k.inside in
-      let next = steps_out plan st st.homes id me.0 station (place / 2) (bit_or found (filling place token)) f (passing f) r here is record { stream = refl; start = refl; cap = refl } k.inside
-      (kept_put_at st.words first f d place token kept k.place_is some token_is spot) in
-      let told : Puts plan me.0.ends station f (changed me.0.ends (fill station) (passing f)) =
-      record {
-        right = record { stream = k.stream; cap = k.cap; early = is_early plan _ id _ next (set_here st.views id _ seat) };
-        now = refl;
-        counted = omega arith;
-      } in
-      (record { ends = changed me.0.ends (fill station) (passing f) }, keeps, tt, next, (refl, told))
+      let short = k.kept.fixed.short in
+      step_out st r (bit_or (Word st) (filling place token)) f (passing f) here is record { stream = refl; start = refl; cap = refl } k.inside
+      (kept_put_at st.words (first_word plan station) f (r.truth (drain station)) place token k.kept k.place_is some token_is (word_within plan st r station (place / 2) k.there k.inside))
+      (Puts plan me.0.ends station f)
+      (λ early. record { right = record { stream = k.stream; cap = k.cap; early = early }; now = refl; counted = omega arith })
 
 -- the same steps at a word that is known to be the one of the place
 module _ {S : Type 0} (plan : Ends) (slots id place : ℕ) (me : Me S View) (station word : ℕ) (same : word ≡ first_word plan station + place / 2) where

@@ -33,9 +33,17 @@ pub record IsPlanned (plan h : Held) : Type 0 where
   pub start : h.start ≡ plan.start
   pub cap : h.cap ≡ plan.cap
 
--- One station, of which f is known at its filled end and d at its drained end. The tokens that
--- passed an end are the first of the stream, as many as its number says
-pub record Kept (words : List ℕ) (first : ℕ) (f d : Held) : Type 0 where
+-- the same of an end, as a value
+pub record Fixed : Type 0 where
+  pub stream : List ℕ
+  pub start : ℕ
+  pub cap : ℕ
+
+abbrev pub fixed_of : Held → Fixed
+fixed_of h = record { stream = h.stream; start = h.start; cap = h.cap }
+
+-- what never changes of a station, of which f stands at the filled end and d at the drained end
+pub record IsStation (f d : Fixed) : Type 0 where
   pub stream : d.stream ≡ f.stream
   pub cap : d.cap ≡ f.cap
   pub start : d.start ≡ f.start
@@ -43,6 +51,11 @@ pub record Kept (words : List ℕ) (first : ℕ) (f d : Held) : Type 0 where
   pub few : f.cap ≤ 16
   pub small : All (λ token. token < 2 ^ 31) f.stream
   pub short : length f.stream < 2 ^ 64
+
+-- One station, of which f is known at its filled end and d at its drained end. The tokens that
+-- passed an end are the first of the stream, as many as its number says
+pub record Kept (words : List ℕ) (first : ℕ) (f d : Held) : Type 0 where
+  pub fixed : IsStation (fixed_of f) (fixed_of d)
   pub within : f.passed ≤ length f.stream
   pub ordered : d.passed ≤ f.passed
   pub room : f.passed ≤ d.passed + f.cap

@@ -1,8 +1,10 @@
 -- The consequences of a certificate.
 use Rattle.std.proofs.Common.{◌≡◌, ℕ, zero, suc, ◌+◌, ◌-◌, ◌*◌, ◌/◌, ◌%◌, ◌<◌, ◌≤◌, ◌⊎◌, inl, inr, Bool, true, false, cond, List, [], ◌∷◌, length, Option, Some, None, refl, sym, ◌∙◌, ap, subst, arith}
+use Rattle.std.specs.Int.{div_ceil}
 use Rattle.std.specs.List.{Contains, filter}
 use Rattle.std.specs.Option.{MatchOption}
 use Rattle.std.proofs.lemmas.Bool.{cases_eq, cases_lt}
+use Rattle.std.proofs.lemmas.Grind.{div_ceil_times}
 use Rattle.std.proofs.lemmas.List.Elements.{All-contains}
 use Rattle.std.proofs.lemmas.List.Sums.{length-filter}
 use Rattle.std.proofs.Math.Nat.{mul-le-mul_left, mul-le-mul_right, div-add-mod}
@@ -15,7 +17,7 @@ use Rattle.lid_graph.proofs.Journeys.{joined_step, joined_back}
 use Rattle.lid_cert.specs.declared.cert.Part.{Part}
 use Rattle.lid_cert.specs.declared.cert.Cert.{Cert}
 use Rattle.lid_cert.specs.Certificates.{has_node, lag_of, lead_of, depth_of, via_of, IsPart, IsVia, parts_with}
-use Rattle.lid_cert.specs.Laws.{Shows, EachIsShown, WalksMeetRatio, RatioIsShown, LagsAreShown, LeadsBoundFirings, LagsBoundFirings, CapsAreReached, quotient_up}
+use Rattle.lid_cert.specs.Laws.{Shows, EachIsShown, WalksMeetRatio, RatioIsShown, LagsAreShown, LeadsBoundFirings, LagsBoundFirings, CapsAreReached}
 use Rattle.lid_cert.proofs.Parts.{node_within, node_met, edge_met, stays_forth, stays_back, lag_along}
 
 part_of : (g : Graph) (cert : Cert) (part : Part) (v : ℕ) → Shows g cert part v → IsPart g part
@@ -41,23 +43,23 @@ module _ (g : Graph) (paired : IsPaired g) (part : Part) (meets : IsPart g part)
   -- where the walk starts, by turns of the walk
   lead_start_turns : (turns k : ℕ) → k < length part.cycle → part.q * firings g cap no_hold (k + turns * length part.cycle) (walk_start g part.cycle) ≤ part.p * (k + turns * length part.cycle) + lead_of part (walk_start g part.cycle)
   lead_start_turns zero k h =
-      let few : firings g cap no_hold k (walk_start g part.cycle) ≤ k = firings_cycles g cap paired k (walk_start g part.cycle) (node_within g part meets (walk_start g part.cycle) meets.start.inside) in
+      let few : firings g cap no_hold k (walk_start g part.cycle) ≤ k = firings_cycles g cap paired k (walk_start g part.cycle) (node_within g part meets (walk_start g part.cycle) meets.inside.start.inside) in
       let same : k + 0 * length part.cycle ≡ k = omega arith in
       subst (λ (n : ℕ). part.q * firings g cap no_hold n (walk_start g part.cycle) ≤ part.p * n + lead_of part (walk_start g part.cycle)) (sym same)
-      (turn_lead part.p part.q (length part.cycle - 1) k (firings g cap no_hold k (walk_start g part.cycle)) (lead_of part (walk_start g part.cycle)) (omega arith) few meets.start.lead)
+      (turn_lead part.p part.q (length part.cycle - 1) k (firings g cap no_hold k (walk_start g part.cycle)) (lead_of part (walk_start g part.cycle)) (omega arith) few meets.inside.start.lead)
   lead_start_turns (suc turns) k h =
       let before = lead_start_turns turns k h in
       let turn : firings g cap no_hold ((k + turns * length part.cycle) + length part.cycle) (walk_start g part.cycle) ≤ firings g cap no_hold (k + turns * length part.cycle) (walk_start g part.cycle) + walk_tokens g part.cycle
-      = firings_walk g cap part.cycle (k + turns * length part.cycle) (walk_start g part.cycle) (walk_start g part.cycle) meets.walk.closed in
+      = firings_walk g cap part.cycle (k + turns * length part.cycle) (walk_start g part.cycle) (walk_start g part.cycle) meets.inside.walk.closed in
       let scaled = mul-le-mul_left part.q turn in
-      let tokens : walk_tokens g part.cycle * part.q ≡ part.p * length part.cycle = meets.ratio in
+      let tokens : walk_tokens g part.cycle * part.q ≡ part.p * length part.cycle = meets.inside.ratio in
       let same : (k + turns * length part.cycle) + length part.cycle ≡ k + suc turns * length part.cycle = omega arith in
       subst (λ (n : ℕ). part.q * firings g cap no_hold n (walk_start g part.cycle) ≤ part.p * n + lead_of part (walk_start g part.cycle)) same
       (omega arith)
 
   lead_start : (k : ℕ) → part.q * firings g cap no_hold k (walk_start g part.cycle) ≤ part.p * k + lead_of part (walk_start g part.cycle)
   lead_start k =
-      let some : 0 < length part.cycle = meets.walk.some in
+      let some : 0 < length part.cycle = meets.inside.walk.some in
       let below : k % length part.cycle < length part.cycle = omega arith in
       let same : k % length part.cycle + (k / length part.cycle) * length part.cycle ≡ k = omega (arith, div-add-mod k (length part.cycle)) in
       subst (λ (n : ℕ). part.q * firings g cap no_hold n (walk_start g part.cycle) ≤ part.p * n + lead_of part (walk_start g part.cycle)) same
@@ -144,12 +146,12 @@ module _ (g : Graph) (paired : IsPaired g) (part : Part) (meets : IsPart g part)
   pub shown_ratio : (v : ℕ) → has_node part v ≡ true → IsRatio g v part.p part.q
   shown_ratio v inside =
       let there = joins_below (suc (depth_of part v)) v (omega arith) inside in
-      let ratio : walk_tokens g part.cycle * part.q ≡ part.p * length part.cycle = meets.ratio in
+      let ratio : walk_tokens g part.cycle * part.q ≡ part.p * length part.cycle = meets.inside.ratio in
       record {
-        positive = meets.positive;
-        lowest = meets.lowest;
+        positive = meets.inside.positive;
+        lowest = meets.inside.lowest;
         all = λ ks near. walk_has_tokens ks near.0 (stays_forth g part meets near.1.0 v (walk_start g ks) near.1.1 inside);
-        some = (part.cycle, (meets.walk, joined_back g paired there.0 (walk_start g part.cycle) v there.1), omega arith);
+        some = (part.cycle, (meets.inside.walk, joined_back g paired there.0 (walk_start g part.cycle) v there.1), omega arith);
       }
 
   -- after so many cycles the cap is reached
@@ -160,7 +162,7 @@ module _ (g : Graph) (paired : IsPaired g) (part : Part) (meets : IsPart g part)
       by_order (inl below) =
           let bound = lag_bounds fit k v inside below in
           let more : part.q * suc (firings g cap no_hold k v) ≤ part.q * cap v = mul-le-mul_left part.q below in
-          let positive = meets.positive in
+          let positive = meets.inside.positive in
           absurd (omega arith)
       by_order (inr reached) = let most = firings_cap g cap no_hold k v in omega arith
 
@@ -194,9 +196,6 @@ least_at f c n is = by_search (first_below f c (suc n))
     by_search : First f c (suc n) ⊎ ((j : ℕ) → j < suc n → f j ≡ c → ⊥) → First f c (suc n)
     by_search (inl found) = found
     by_search (inr none) = absurd (none n (omega arith) is)
-
-quotient_up_enough : (n d : ℕ) → 0 < d → n ≤ d * quotient_up n d
-quotient_up_enough n d some = omega arith
 
 -- of a list in which one passes, one that passes
 some_passes : (p : Part → Bool) (xs : List Part) → 0 < length (filter p xs) → (x : Part) × Contains xs x × (p x ≡ true)
@@ -239,7 +238,7 @@ lags_bound_firings g cert part v cap k shows fit below = lag_bounds g shows.pair
 
 pub caps_are_reached : CapsAreReached
 caps_are_reached g cert part v cap shows fit some =
-    let enough = quotient_up_enough (part.q * cap v + lag_of part v) part.p some in
-    let reached = cap_reached g shows.paired part (part_of g cert part v shows) cap fit some (quotient_up (part.q * cap v + lag_of part v) part.p) v shows.inside enough in
-    let least = least_at (λ k. firings g cap no_hold k v) (cap v) (quotient_up (part.q * cap v + lag_of part v) part.p) reached in
+    let enough : part.q * cap v + lag_of part v ≤ part.p * div_ceil (part.q * cap v + lag_of part v) part.p = omega (arith, (div_ceil_times (part.q * cap v + lag_of part v) part.p some).0) in
+    let reached = cap_reached g shows.paired part (part_of g cert part v shows) cap fit some (div_ceil (part.q * cap v + lag_of part v) part.p) v shows.inside enough in
+    let least = least_at (λ k. firings g cap no_hold k v) (cap v) (div_ceil (part.q * cap v + lag_of part v) part.p) reached in
     (least.at, record { reached = least.is; first = least.first }, omega (arith, least.within))

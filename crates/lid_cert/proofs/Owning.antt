@@ -12,7 +12,7 @@ use Rattle.lid_graph.specs.declared.graph.Graph.{Graph}
 use Rattle.lid_cert.specs.declared.cert.Part.{Part}
 use Rattle.lid_cert.specs.declared.cert.Cert.{Cert}
 use Rattle.lid_cert.specs.Certificates.{place_in, has_node, least_node, ascends, IsEdgeMet, IsPart, Certifies}
-use Rattle.lid_cert.specs.Owners.{owner_of, Claims, Owns, part_at, no_part, IsEdgeOwned, AreOwned, IsPartInside}
+use Rattle.lid_cert.specs.Owners.{owner_of, Claims, Owns, part_at, no_part, IsEdgeOwned, AreOwned}
 use Rattle.lid_cert.proofs.Parts.{placed}
 
 abbrev bit : Bool → ℕ
@@ -113,35 +113,6 @@ owns_count (part ∷ parts) number before after owns v =
     by_has true e = let both = claims_node number part before owns.0 owns.1 v e in rw (both.0, both.1, e) refl
     by_has false e = let same = claims_other number part.nodes before owns.0 owns.1 v (other_places part v e) in rw (same, e) (omega arith)
 
-pub is_part_of : (g : Graph) (part : Part) → IsPartInside g part → All (IsEdgeMet part) g.edges → IsPart g part
-is_part_of g part inside edges = record {
-  some = inside.some;
-  lists = inside.lists;
-  ascending = inside.ascending;
-  within = inside.within;
-  positive = inside.positive;
-  lowest = inside.lowest;
-  walk = inside.walk;
-  ratio = inside.ratio;
-  edges = edges;
-  start = inside.start;
-  nodes = inside.nodes;
-}
-
-pub inside_of : (g : Graph) (part : Part) → IsPart g part → IsPartInside g part
-inside_of g part meets = record {
-  some = meets.some;
-  lists = meets.lists;
-  ascending = meets.ascending;
-  within = meets.within;
-  positive = meets.positive;
-  lowest = meets.lowest;
-  walk = meets.walk;
-  ratio = meets.ratio;
-  start = meets.start;
-  nodes = meets.nodes;
-}
-
 abbrev none_owner : Option ℕ
 none_owner = None
 
@@ -223,7 +194,10 @@ module _ (g : Graph) (parts : List Part) (owners : List (Option ℕ)) (owns : Ow
               absurd (some_none (owner_of owners e.from) i (alone i e.from own.0 ((meets i own.0).stays ∙ own.1)) none)
 
   each_met : AreOwned g parts owners → All (IsPart g) parts
-  each_met owned k d h = is_part_of g (get_or parts k d) (owned.inside k d h) (λ i e l. subst (λ (part : Part). IsEdgeMet part (get_or g.edges i e)) (get_or_default parts k no_part d h) (met k (get_or g.edges i e) h (owned.edges i e l)))
+  each_met owned k d h = record {
+    inside = owned.inside k d h;
+    edges = λ i e l. subst (λ (part : Part). IsEdgeMet part (get_or g.edges i e)) (get_or_default parts k no_part d h) (met k (get_or g.edges i e) h (owned.edges i e l));
+  }
 
   pub certifies_of : (cert : Cert) → parts ≡ cert.parts → AreOwned g parts owners → Certifies g cert
   certifies_of cert is owned = record {
@@ -238,7 +212,7 @@ module _ (g : Graph) (parts : List Part) (owners : List (Option ℕ)) (owns : Ow
       let all : All (IsPart g) parts = subst (All (IsPart g)) (sym is) certifies.parts in
       record {
         some = subst (λ (l : List Part). 1 ≤ length l) (sym is) certifies.some;
-        inside = λ k d h. inside_of g (get_or parts k d) (all k d h);
+        inside = λ k d h. (all k d h).inside;
         ascending = ap (λ (l : List Part). ascends (map least_node l)) is ∙ certifies.ascending;
         owned = λ v d h. by_owner v (get_or owners v d) (get_or_default owners v None d h) (sym (counted v) ∙ subst (λ (l : List Part). count_by (λ part. has_node part v) l ≡ 1) (sym is) (certifies.once v (let l = long in omega arith)));
         edges = λ i e l. owned_by (get_or g.edges i e) (λ j h. (all j no_part h).edges i e l);

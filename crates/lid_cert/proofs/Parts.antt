@@ -30,12 +30,12 @@ module _ (g : Graph) (part : Part) (meets : IsPart g part) where
   pub node_within : (v : ℕ) → has_node part v ≡ true → v < g.nodes
   node_within v inside =
       let at : Placed part v = placed part v inside in
-      subst (λ (n : ℕ). n < g.nodes) (at.node 0) (meets.within at.place 0 at.within)
+      subst (λ (n : ℕ). n < g.nodes) (at.node 0) (meets.inside.within at.place 0 at.within)
 
   pub node_met : (v s : ℕ) → s ≡ walk_start g part.cycle → has_node part v ≡ true → IsNodeMet g part s v
   node_met v s is inside =
       let at : Placed part v = placed part v inside in
-      subst (λ (n : ℕ). IsNodeMet g part s n) (at.node 0) (subst (λ (t : ℕ). IsNodeMet g part t (get_or part.nodes at.place 0)) (sym is) (meets.nodes at.place 0 at.within))
+      subst (λ (n : ℕ). IsNodeMet g part s n) (at.node 0) (subst (λ (t : ℕ). IsNodeMet g part t (get_or part.nodes at.place 0)) (sym is) (meets.inside.nodes at.place 0 at.within))
 
   pub edge_met : (k : ℕ) → k < length g.edges → IsEdgeMet part (edge_at g k)
   edge_met k h = meets.edges k no_edge h

@@ -71,8 +71,8 @@ pub record IsVia (g : Graph) (part : Part) (v k : ℕ) : Type 0 where
 abbrev pub IsNodeMet : Graph → Part → ℕ → ℕ → Type 0
 IsNodeMet g part start v = v ≢ start → MatchOption (via_of part v) ⊥ (IsVia g part v)
 
--- the rules for one part
-pub record IsPart (g : Graph) (part : Part) : Type 0 where
+-- the rules for one part but those for edges
+pub record IsPartInside (g : Graph) (part : Part) : Type 0 where
   pub some : 1 ≤ length part.nodes
   pub lists : AreLists part
   pub ascending : ascends part.nodes ≡ true
@@ -81,9 +81,13 @@ pub record IsPart (g : Graph) (part : Part) : Type 0 where
   pub lowest : IsGcd part.p part.q 1
   pub walk : IsClosedWalk g part.cycle
   pub ratio : walk_tokens g part.cycle * part.q ≡ part.p * length part.cycle
-  pub edges : All (IsEdgeMet part) g.edges
   pub start : IsStartMet part (walk_start g part.cycle)
   pub nodes : All (IsNodeMet g part (walk_start g part.cycle)) part.nodes
+
+-- the rules for one part
+pub record IsPart (g : Graph) (part : Part) : Type 0 where
+  pub inside : IsPartInside g part
+  pub edges : All (IsEdgeMet part) g.edges
 
 -- the least transition of a part whose transitions ascend
 abbrev pub least_node : Part → ℕ

@@ -1,5 +1,6 @@
 -- What follows from a certificate, for the graph and its firing counts.
-use Rattle.std.specs.Prelude.{◌≡◌, ℕ, ◌+◌, ◌-◌, ◌*◌, ◌/◌, ◌<◌, ◌≤◌, List, length, true}
+use Rattle.std.specs.Prelude.{◌≡◌, ℕ, ◌+◌, ◌*◌, ◌<◌, ◌≤◌, List, length, true}
+use Rattle.std.specs.Int.{div_ceil}
 use Rattle.std.specs.List.{Contains}
 use Rattle.lid_graph.specs.declared.graph.Graph.{Graph}
 use Rattle.lid_graph.specs.Walks.{IsPaired, IsWalk, IsClosedWalk, walk_start, walk_tokens}
@@ -57,10 +58,6 @@ LagsBoundFirings =
     → firings g cap no_hold k v < cap v
     → part.p * k ≤ part.q * firings g cap no_hold k v + lag_of part v
 
--- a quotient rounded up
-abbrev pub quotient_up : ℕ → ℕ → ℕ
-quotient_up n d = (n + (d - 1)) / d
-
 -- where p is not 0, each transition comes to its cap, and first after no more than (q*cap + lag)/p
 -- cycles, rounded up
 abbrev pub CapsAreReached : Type 0
@@ -69,4 +66,4 @@ CapsAreReached =
     → Shows g cert part v
     → AreFitCaps g cap
     → 0 < part.p
-    → (k : ℕ) × IsFirstAtCap g cap no_hold v k × (k ≤ quotient_up (part.q * cap v + lag_of part v) part.p)
+    → (k : ℕ) × IsFirstAtCap g cap no_hold v k × (k ≤ div_ceil (part.q * cap v + lag_of part v) part.p)

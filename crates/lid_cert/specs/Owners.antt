@@ -1,13 +1,11 @@
 -- For the check of certificates with many parts: which part owns each transition.
-use Rattle.std.specs.Prelude.{◌≡◌, ℕ, ◌+◌, ◌*◌, ◌<◌, ◌≤◌, true, List, [], ◌∷◌, length, map, slice_index_or, slice_set, Option, Some, None, is_some}
-use Rattle.std.specs.Int.{IsGcd}
+use Rattle.std.specs.Prelude.{◌≡◌, ℕ, ◌+◌, ◌<◌, ◌≤◌, true, List, [], ◌∷◌, length, map, slice_index_or, slice_set, Option, Some, None, is_some}
 use Rattle.std.specs.List.{All}
 use Rattle.std.specs.Option.{MatchOption}
 use Rattle.lid_graph.specs.declared.graph.Edge.{Edge}
 use Rattle.lid_graph.specs.declared.graph.Graph.{Graph}
-use Rattle.lid_graph.specs.Walks.{walk_start, walk_tokens, IsClosedWalk}
 use Rattle.lid_cert.specs.declared.cert.Part.{Part}
-use Rattle.lid_cert.specs.Certificates.{ascends, least_node, AreLists, IsEdgeMet, IsStartMet, IsNodeMet}
+use Rattle.lid_cert.specs.Certificates.{ascends, least_node, IsEdgeMet, IsPartInside}
 
 -- the number of the part that owns a transition
 abbrev pub owner_of : List (Option ℕ) → ℕ → Option ℕ
@@ -37,19 +35,6 @@ part_at parts number = slice_index_or parts number no_part
 abbrev pub IsEdgeOwned : List Part → List (Option ℕ) → Edge → Type 0
 IsEdgeOwned parts owners e =
     MatchOption (owner_of owners e.from) (owner_of owners e.to ≡ None) (λ number. IsEdgeMet (part_at parts number) e)
-
--- the rules for one part but those for edges
-pub record IsPartInside (g : Graph) (part : Part) : Type 0 where
-  pub some : 1 ≤ length part.nodes
-  pub lists : AreLists part
-  pub ascending : ascends part.nodes ≡ true
-  pub within : All (λ v. v < g.nodes) part.nodes
-  pub positive : 1 ≤ part.q
-  pub lowest : IsGcd part.p part.q 1
-  pub walk : IsClosedWalk g part.cycle
-  pub ratio : walk_tokens g part.cycle * part.q ≡ part.p * length part.cycle
-  pub start : IsStartMet part (walk_start g part.cycle)
-  pub nodes : All (IsNodeMet g part (walk_start g part.cycle)) part.nodes
 
 -- the rules for all parts, where each transition has its owner
 pub record AreOwned (g : Graph) (parts : List Part) (owners : List (Option ℕ)) : Type 0 where

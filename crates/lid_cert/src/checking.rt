@@ -3,8 +3,8 @@
 ghost use Rattle.std.specs.Prelude.{◌≡◌, ◌<◌, ℕ, ◌↔◌, ◌∷◌, true, IsTrue, map, replicate, None};
 ghost use Rattle.std.specs.List.{All, count_by};
 ghost use Rattle.lid_graph.specs.Walks.{walk_start};
-ghost use Rattle.lid_cert.specs.Certificates.{ascends, has_node, least_node, IsEdgeMet, IsStartMet, IsNodeMet, IsPart, IsPartInRange, IsInRange, Certifies};
-ghost use Rattle.lid_cert.specs.Owners.{Owns, AreOwned, IsPartInside};
+ghost use Rattle.lid_cert.specs.Certificates.{ascends, has_node, least_node, IsEdgeMet, IsStartMet, IsNodeMet, IsPart, IsPartInside, IsPartInRange, IsInRange, Certifies};
+ghost use Rattle.lid_cert.specs.Owners.{Owns, AreOwned};
 
 use crate::cert::{Cert, Part};
 use crate::owners::{are_all_owned, are_edges_owned, owners_of};

@@ -125,18 +125,10 @@ verify_job found = Some (Verify (file_at 0 found) (file_at 1 found) (first_of ST
 unfoldable pub job_made : Command → List Row → Option Job
 job_made command.Check found = check_job found
 job_made command.Strict found = strict_job found
-job_made command.Clock found = None
-job_made command.Walk found = None
-job_made command.Free found = None
 job_made command.Rate found = rate_job found
 job_made command.Verify found = verify_job found
 job_made command.Place found = place_job found
-job_made command.Gen found = None
-job_made command.Wave found = None
-job_made command.Unwave found = None
-job_made command.Emit found = None
-job_made command.Slack found = None
-job_made command.Size found = None
+job_made unbuilt found = None
 
 -- the job of a form, where the words have it
 unfoldable pub job_formed : List Row → Form → Option Job

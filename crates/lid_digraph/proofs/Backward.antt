@@ -1,5 +1,5 @@
 -- The search back from a number: marks, one number looked at, and the end.
-use Rattle.std.proofs.Common.{◌≡◌, ℕ, zero, suc, ◌+◌, ◌<◌, ◌≢◌, ◌⊎◌, inl, inr, ◌↔◌, Bool, true, false, List, [], ◌∷◌, ◌++◌, length, set, replicate, refl, sym, ◌∙◌, ap, subst, arith}
+use Rattle.std.proofs.Common.{◌≡◌, ℕ, zero, suc, ◌+◌, ◌<◌, ◌≢◌, ◌⊎◌, inl, inr, ◌↔◌, Bool, true, false, if◌then◌else◌, List, [], ◌∷◌, ◌++◌, length, set, replicate, refl, sym, ◌∙◌, ap, subst, arith}
 use Rattle.std.proofs.lemmas.Bool.{cases_eq}
 use Rattle.std.proofs.lemmas.List.{length-set, length-append, length-replicate}
 use Rattle.std.proofs.lemmas.List.Sums.{sum_by-set}
@@ -7,7 +7,7 @@ use Rattle.lid_base.specs.Lists.{Among}
 use Rattle.lid_base.proofs.Lists.{among_left, among_last, among_push}
 use Rattle.lid_digraph.specs.Graphs.{reads_at, flag, WalkPast, IsReaching}
 use Rattle.lid_digraph.specs.PartialOrders.{unmarked, count_false}
-use Rattle.lid_digraph.specs.Searches.{IsFeeding, AreMarked, Marks, IsSearch}
+use Rattle.lid_digraph.specs.Searches.{IsFeeding, followed, AreMarked, Marks, IsSearch}
 use Rattle.lid_digraph.proofs.Lists.{flag_here, flag_there}
 use Rattle.lid_digraph.proofs.Walking.{past_first}
 
@@ -105,33 +105,25 @@ marks_then xs k s t u p q r before after = record {
     added c (inl h) = elim (before.added c h) [ inl old ↦ inl old | inr on ↦ inr (after.kept c on) ]
     added c (inr on) = inr on
 
+pub followed_free : (g : List (List ℕ)) (cut : List Bool) (c : ℕ) → flag cut c ≡ false → followed g cut c ≡ reads_at g c
+followed_free g cut c free = ap (λ (b : Bool). if b then [] else reads_at g c) free
+
+among_followed : (g : List (List ℕ)) (cut : List Bool) (c a : ℕ) → Among a (followed g cut c) → (flag cut c ≡ false) × Among a (reads_at g c)
+among_followed g cut c a h = by_cut (flag cut c) refl h
+  where
+    by_cut : (b : Bool) → flag cut c ≡ b → Among a (if b then [] else reads_at g c) → (flag cut c ≡ false) × Among a (reads_at g c)
+    by_cut true e h = absurd h
+    by_cut false e h = (e, h)
+
 module _ (g : List (List ℕ)) (cut : List Bool) (end : ℕ) where
-  -- nothing is marked, and the end is cut
-  pub search_none : (seen : List Bool) → seen ≡ replicate (length g) false → flag cut end ≡ true → IsSearch g cut end seen []
-  search_none seen e closed = record {
-    count = ap length e ∙ length-replicate (length g) false;
-    sound = λ a on. absurd (let off = none_seen seen e a in cc);
-    first = λ free. absurd (cc);
-    rest = λ c on free. absurd (let off = none_seen seen e c in cc);
-    marked = λ c h. absurd h;
-  }
-    where
-      all_false : (n k : ℕ) → flag (replicate n false) k ≡ false
-      all_false zero k = refl
-      all_false (suc n) zero = refl
-      all_false (suc n) (suc k) = all_false n k
-
-      none_seen : (seen : List Bool) → seen ≡ replicate (length g) false → (k : ℕ) → flag seen k ≡ false
-      none_seen seen e k = ap (λ (flags : List Bool). flag flags k) e ∙ all_false (length g) k
-
-  -- what the end reads is marked
-  pub search_start : (old seen : List Bool) (todo : List ℕ) → old ≡ replicate (length g) false → flag cut end ≡ false → Marks (reads_at g end) old [] seen todo → IsSearch g cut end seen todo
-  search_start old seen todo e free marks = record {
+  -- what is followed from the end is marked, with nothing marked before
+  pub search_start : (old seen : List Bool) (none todo : List ℕ) → old ≡ replicate (length g) false → none ≡ [] → Marks (followed g cut end) old none seen todo → IsSearch g cut end seen todo
+  search_start old seen none todo e empty marks = record {
     count = marks.count ∙ (ap length e ∙ length-replicate (length g) false);
     sound = λ a on. sound a (marks.only a on);
-    first = λ _. marks.all;
-    rest = λ c on open_. inl (rest c (marks.new c on));
-    marked = λ c h. elim (marks.added c h) [ inl none ↦ absurd none | inr on ↦ on ];
+    first = λ free b h. marks.all b (subst (λ (xs : List ℕ). Among b xs) (sym (followed_free g cut end free)) h);
+    rest = λ c on free. inl (rest c (marks.new c on));
+    marked = λ c h. elim (marks.added c h) [ inl old ↦ absurd (subst (λ (xs : List ℕ). Among c xs) empty old) | inr on ↦ on ];
   }
     where
       all_false : (n k : ℕ) → flag (replicate n false) k ≡ false
@@ -142,67 +134,45 @@ module _ (g : List (List ℕ)) (cut : List Bool) (end : ℕ) where
       none_old : (k : ℕ) → flag old k ≡ false
       none_old k = ap (λ (flags : List Bool). flag flags k) e ∙ all_false (length g) k
 
-      sound : (a : ℕ) → (flag old a ≡ true) ⊎ Among a (reads_at g end) → IsFeeding g cut a end
+      sound : (a : ℕ) → (flag old a ≡ true) ⊎ Among a (followed g cut end) → IsFeeding g cut a end
       sound a (inl on) = absurd (let off = none_old a in cc)
-      sound a (inr h) = (0, (a, refl, h, free))
+      sound a (inr h) = let read = among_followed g cut end a h in (0, (a, refl, read.1, read.0))
 
       rest : (c : ℕ) → (flag old c ≡ true) ⊎ Among c todo → Among c todo
       rest c (inl on) = absurd (let off = none_old c in cc)
       rest c (inr h) = h
 
-  module _ (seen : List Bool) (todo : List ℕ) (c : ℕ) (search : IsSearch g cut end seen (todo ++ c ∷ [])) where
-    -- a number that is cut is passed over
-    pub search_over : flag cut c ≡ true → IsSearch g cut end seen todo
-    search_over closed = record {
-      count = search.count;
-      sound = search.sound;
-      first = search.first;
-      rest = λ d on free. rest d free (search.rest d on free);
-      marked = λ d h. search.marked d (among_left d todo (c ∷ []) h);
-    }
-      where
-        rest : (d : ℕ) → flag cut d ≡ false → Among d (todo ++ c ∷ []) ⊎ AreMarked seen (reads_at g d) → Among d todo ⊎ AreMarked seen (reads_at g d)
-        rest d free (inr done) = inr done
-        rest d free (inl h) = elim (among_push d c todo h) [ inl old ↦ inl old | inr is ↦ absurd (let same : flag cut d ≡ flag cut c = ap (λ (x : ℕ). flag cut x) is in cc) ]
+  -- what is followed from a number is marked
+  pub search_on : (seen new_seen : List Bool) (todo new_todo : List ℕ) (c : ℕ) → IsSearch g cut end seen (todo ++ c ∷ []) → Marks (followed g cut c) seen todo new_seen new_todo → IsSearch g cut end new_seen new_todo
+  search_on seen new_seen todo new_todo c search marks = record {
+    count = marks.count ∙ search.count;
+    sound = λ a on. sound a (marks.only a on);
+    first = λ free b h. marks.kept b (search.first free b h);
+    rest = λ d on free. rest d free (marks.new d on);
+    marked = λ d h. marked d (marks.added d h);
+  }
+    where
+      feeds : IsFeeding g cut c end
+      feeds = search.sound c (search.marked c (among_last c todo))
 
-    -- what a number reads is marked
-    pub search_on : flag cut c ≡ false → (new_seen : List Bool) (new_todo : List ℕ) → Marks (reads_at g c) seen todo new_seen new_todo → IsSearch g cut end new_seen new_todo
-    search_on open_ new_seen new_todo marks = record {
-      count = marks.count ∙ search.count;
-      sound = λ a on. sound a (marks.only a on);
-      first = λ free b h. marks.kept b (search.first free b h);
-      rest = λ d on free. rest d free (marks.new d on);
-      marked = λ d h. marked d (marks.added d h);
-    }
-      where
-        feeds : IsFeeding g cut c end
-        feeds = search.sound c (search.marked c (among_last c todo))
+      sound : (a : ℕ) → (flag seen a ≡ true) ⊎ Among a (followed g cut c) → IsFeeding g cut a end
+      sound a (inl on) = search.sound a on
+      sound a (inr h) = let read = among_followed g cut c a h in (suc feeds.0, past_first g cut (suc feeds.0) a c end read.1 read.0 feeds.1)
 
-        sound : (a : ℕ) → (flag seen a ≡ true) ⊎ Among a (reads_at g c) → IsFeeding g cut a end
-        sound a (inl on) = search.sound a on
-        sound a (inr h) = (suc feeds.0, past_first g cut (suc feeds.0) a c end h open_ feeds.1)
+      after : (d : ℕ) → AreMarked seen (reads_at g d) → AreMarked new_seen (reads_at g d)
+      after d done b h = marks.kept b (done b h)
 
-        after : (d : ℕ) → AreMarked seen (reads_at g d) → AreMarked new_seen (reads_at g d)
-        after d done b h = marks.kept b (done b h)
+      popped : (d : ℕ) → flag cut d ≡ false → Among d todo ⊎ (d ≡ c) → Among d new_todo ⊎ AreMarked new_seen (reads_at g d)
+      popped d free (inl old) = inl (marks.stays d old)
+      popped d free (inr is) = inr (subst (λ (xs : List ℕ). AreMarked new_seen xs) (ap (followed g cut) (sym is) ∙ followed_free g cut d free) marks.all)
 
-        popped : (d : ℕ) → Among d todo ⊎ (d ≡ c) → Among d new_todo ⊎ AreMarked new_seen (reads_at g d)
-        popped d (inl old) = inl (marks.stays d old)
-        popped d (inr is) = inr (subst (λ (x : ℕ). AreMarked new_seen (reads_at g x)) (sym is) marks.all)
+      rest : (d : ℕ) → flag cut d ≡ false → (flag seen d ≡ true) ⊎ Among d new_todo → Among d new_todo ⊎ AreMarked new_seen (reads_at g d)
+      rest d free (inr h) = inl h
+      rest d free (inl on) = elim (search.rest d on free) [ inl h ↦ popped d free (among_push d c todo h) | inr done ↦ inr (after d done) ]
 
-        rest : (d : ℕ) → flag cut d ≡ false → (flag seen d ≡ true) ⊎ Among d new_todo → Among d new_todo ⊎ AreMarked new_seen (reads_at g d)
-        rest d free (inr h) = inl h
-        rest d free (inl on) = elim (search.rest d on free) [ inl h ↦ popped d (among_push d c todo h) | inr done ↦ inr (after d done) ]
-
-        marked : (d : ℕ) → Among d todo ⊎ (flag new_seen d ≡ true) → flag new_seen d ≡ true
-        marked d (inl old) = marks.kept d (search.marked d (among_left d todo (c ∷ []) old))
-        marked d (inr on) = on
-
-    pub search_next : flag cut c ≡ false → (row : List ℕ) → row ≡ reads_at g c → (new_seen : List Bool) (new_todo : List ℕ) → Marks row seen todo new_seen new_todo → IsSearch g cut end new_seen new_todo
-    search_next open_ row is new_seen new_todo marks = search_on open_ new_seen new_todo (subst (λ (xs : List ℕ). Marks xs seen todo new_seen new_todo) is marks)
-
-  pub search_begun : (old : List Bool) (none : List ℕ) → old ≡ replicate (length g) false → none ≡ [] → flag cut end ≡ false → (row : List ℕ) → row ≡ reads_at g end → (seen : List Bool) (todo : List ℕ) → Marks row old none seen todo → IsSearch g cut end seen todo
-  search_begun old none e empty free row is seen todo marks =
-      search_start old seen todo e free (subst (λ (xs : List ℕ). Marks xs old [] seen todo) is (subst (λ (ys : List ℕ). Marks row old ys seen todo) empty marks))
+      marked : (d : ℕ) → Among d todo ⊎ (flag new_seen d ≡ true) → flag new_seen d ≡ true
+      marked d (inl old) = marks.kept d (search.marked d (among_left d todo (c ∷ []) old))
+      marked d (inr on) = on
 
   -- where nothing is still to be looked at, exactly what feeds the end is marked
   module _ (seen : List Bool) (search : IsSearch g cut end seen []) where

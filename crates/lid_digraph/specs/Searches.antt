@@ -1,5 +1,5 @@
 -- For the loops: the search back from a number.
-use Rattle.std.specs.Prelude.{◌≡◌, ℕ, suc, ◌+◌, ◌*◌, ◌≤◌, ◌⊎◌, Bool, true, false, List, length}
+use Rattle.std.specs.Prelude.{◌≡◌, ℕ, suc, ◌+◌, ◌*◌, ◌≤◌, ◌⊎◌, Bool, true, false, if◌then◌else◌, List, [], length}
 use Rattle.lid_base.specs.Lists.{Among}
 use Rattle.lid_digraph.specs.Graphs.{reads_at, flag, WalkPast}
 use Rattle.lid_digraph.specs.PartialOrders.{unmarked}
@@ -7,6 +7,10 @@ use Rattle.lid_digraph.specs.PartialOrders.{unmarked}
 -- a walk past the cut with at least one edge leads from a to c
 abbrev pub IsFeeding : List (List ℕ) → List Bool → ℕ → ℕ → Type 0
 IsFeeding g cut a c = (n : ℕ) × WalkPast g cut (suc n) a c
+
+-- the reads of a number that are followed: none where it is cut
+abbrev pub followed : List (List ℕ) → List Bool → ℕ → List ℕ
+followed g cut c = if flag cut c then [] else reads_at g c
 
 abbrev pub AreMarked : List Bool → List ℕ → Type 0
 AreMarked seen numbers = (b : ℕ) → Among b numbers → flag seen b ≡ true

@@ -1,10 +1,10 @@
 //! Reachability: what reaches a number, and what is reached from some.
 
-ghost use Rattle.std.specs.Prelude.{◌≡◌, ◌+◌, ◌*◌, ◌<◌, ◌≤◌, ◌↔◌, ℕ, true, false, [], ◌∷◌, ◌++◌, length, replicate, IsTrue, IfOk, OnOk};
+ghost use Rattle.std.specs.Prelude.{◌≡◌, ◌<◌, ◌↔◌, ℕ, true, false, [], ◌∷◌, length, replicate, IsTrue, IfOk, OnOk};
 ghost use Rattle.lid_base.specs.Lists.{Among};
 ghost use Rattle.lid_digraph.specs.Graphs.{IsOnLoop, IsOrder, reads_at, flag, IsReaching, IsReached};
-ghost use Rattle.lid_digraph.specs.PartialOrders.{unmarked, AreBelow, SparesLoops};
-ghost use Rattle.lid_digraph.specs.Searches.{Marks, IsSearch, IsFeeding};
+ghost use Rattle.lid_digraph.specs.PartialOrders.{AreBelow, SparesLoops};
+ghost use Rattle.lid_digraph.specs.Searches.{followed, Marks, IsSearch, IsFeeding};
 
 use crate::adjacency::{Digraph, is_any};
 use lid_base::Items;
@@ -45,34 +45,12 @@ fn look_at(
     requires seen { length seen.old ≡ length graph.now.reads.now }
     requires cut { length cut.now ≡ length graph.now.reads.now }
     requires within { c < length graph.now.reads.now }
-    ensures search { OnOk result ((end : ℕ) → IsSearch graph.now.reads.now cut.now end seen.old (todo.old.items ++ c ∷ []) → IsSearch graph.now.reads.now cut.now end seen.new todo.new.items) }
-    ensures less { OnOk result (2 * unmarked seen.new + length todo.new.items ≤ 2 * unmarked seen.old + length todo.old.items) }
+    ensures { OnOk result (Marks (followed graph.now.reads.now cut.now c) seen.old todo.old.items seen.new todo.new.items) }
 {
-    let shut = cut[c as usize];
-    if shut {
+    if cut[c as usize] {
         return Ok(());
     }
     mark(seen, todo, graph.reads_of(c))
-}
-
-/// Marks what the end reads, where the end is not cut.
-fn start(
-    seen: &mut [bool],
-    todo: &mut Vec<u32>,
-    graph: &Digraph<'_>,
-    cut: &[bool],
-    end: u32,
-) -> Result<(), AllocError>
-    requires seen { seen.old ≡ replicate (length graph.now.reads.now) false }
-    requires todo { todo.old.items ≡ [] }
-    requires cut { length cut.now ≡ length graph.now.reads.now }
-    requires within { end < length graph.now.reads.now }
-    ensures { OnOk result (IsSearch graph.now.reads.now cut.now end seen.new todo.new.items) }
-{
-    if cut[end as usize] {
-        return Ok(());
-    }
-    mark(seen, todo, graph.reads_of(end))
 }
 
 /// Marks what reaches the end, with nothing marked before.
@@ -89,7 +67,7 @@ fn search_all(
     requires within { end < length graph.now.reads.now }
     ensures { OnOk result (IsSearch graph.now.reads.now cut.now end seen.new []) }
 {
-    start(seen, todo, graph, cut, end)?;
+    look_at(seen, todo, graph, cut, end)?;
     while let Some(c) = todo.pop() {
         look_at(seen, todo, graph, cut, c)?;
     }

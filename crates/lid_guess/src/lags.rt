@@ -1,5 +1,7 @@
 //! Lags by Dijkstra's search, with the values of a policy as potentials.
 
+ghost use Rattle.std.specs.Int.{IsGcd};
+
 use crate::fans::{Fans, Side, fans_of};
 use crate::guess::Plan;
 use crate::heap::{Heap, heap_of, lower, pop};
@@ -44,12 +46,9 @@ fn relax_from(
     plan: &Plan,
     v: u32,
 ) {
-    let first = get(&fans.starts, v, 0);
-    let end = get(&fans.starts, v.wrapping_add(1), 0);
-    for place in first..end {
-        let k = get(&fans.edges, place, 0);
-        let edge = edge_at(edges, k);
-        relax(heap, tight, &plan.policy.values, k, edge, plan.cycle);
+    for k in fans.at(v) {
+        let edge = edge_at(edges, *k);
+        relax(heap, tight, &plan.policy.values, *k, edge, plan.cycle);
     }
 }
 
@@ -93,24 +92,23 @@ pub(crate) fn heap_by_values(
     heap_of(alloc, graph.nodes, &plan.policy.values)
 }
 
-/// The greatest common divisor, or 1 where there is none.
-fn gcd(a: u64, b: u64) -> u64 {
+/// The greatest common divisor.
+pub fn gcd(a: u64, b: u64) -> u64
+    ensures { IsGcd a b result }
+{
     let mut x = a;
     let mut y = b;
-    for _ in 0..128 {
-        if y == 0 {
-            break;
-        }
+    while y != 0 {
         let rest = x % y;
         x = y;
         y = rest;
     }
-    if x == 0 { 1 } else { x }
+    x
 }
 
 /// How far the keys were lowered, in units of the ratio in lowest terms.
 pub(crate) fn lags_of(alloc: Global, heap: &Heap, plan: &Plan) -> Result<Vec<u64>, AllocError> {
-    let unit = gcd(plan.cycle.tokens, plan.cycle.edges);
+    let unit = gcd(plan.cycle.tokens, plan.cycle.edges).max(1);
     let mut lags = Vec::new(alloc);
     let mut v: u32 = 0;
     for value in plan.policy.values.as_slice() {

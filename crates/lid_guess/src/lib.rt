@@ -1,6 +1,6 @@
 //! Guesses for the search of a certificate: the ratio of a graph by Howard's policy iteration, its lags
 //! by Dijkstra's search, and a breadth-first tree. Nothing is promised of them but that they end, so
-//! whoever takes one tests it.
+//! whoever takes one tests it. Beside them Euclid's algorithm, which is proved.
 #![tactic(auto)]
 
 mod fans;
@@ -16,4 +16,5 @@ mod values;
 
 pub use guess::{Guess, propose};
 pub use labels::{Labels, propose_labels};
+pub use lags::gcd;
 pub use tree::{Branches, propose_tree};

@@ -83,10 +83,8 @@ fn raise_from(
     aim: Aim,
     v: u32,
 ) {
-    let first = get(&fans.starts, v, 0);
-    let end = get(&fans.starts, v.wrapping_add(1), 0);
-    for place in first..end {
-        let edge = edge_at(edges, get(&fans.edges, place, 0));
+    for k in fans.at(v) {
+        let edge = edge_at(edges, *k);
         raise(labels, queue, edge, aim);
     }
 }

@@ -14,16 +14,25 @@ pub struct Branches {
     pub depth: Items<u32>,
 }
 
-/// The leads and depths so far, and the transitions that were reached, in order.
+/// The leads and depths so far, and the transitions that were reached, in order. The tree begins at
+/// `start`, and each token adds `q` to the lead.
 #[derive(Drop)]
 struct Front {
     lead: Vec<u64>,
     depth: Vec<u32>,
     queue: Vec<u32>,
+    start: u32,
+    q: u64,
 }
 
 /// Where the tree begins.
-fn new_front(alloc: Global, count: u32, start: u32, first: u64) -> Result<Front, AllocError> {
+fn new_front(
+    alloc: Global,
+    count: u32,
+    start: u32,
+    q: u64,
+    first: u64,
+) -> Result<Front, AllocError> {
     let mut lead = Vec::from_elem(alloc, 0, count as usize)?;
     put(&mut lead, start, first);
     let depth = Vec::from_elem(alloc, 0, count as usize)?;
@@ -31,18 +40,14 @@ fn new_front(alloc: Global, count: u32, start: u32, first: u64) -> Result<Front,
         lead,
         depth,
         queue: Vec::new(alloc),
+        start,
+        q,
     })
 }
 
 /// Adds an edge, which leads to a transition that was not reached.
-fn reach(
-    front: &mut Front,
-    via: &mut [Option<u32>],
-    k: u32,
-    edge: Edge,
-    q: u64,
-) -> Result<(), AllocError> {
-    let lead = q.wrapping_mul(u64::from(edge.tokens));
+fn reach(front: &mut Front, via: &mut [Option<u32>], k: u32, edge: Edge) -> Result<(), AllocError> {
+    let lead = front.q.wrapping_mul(u64::from(edge.tokens));
     let lead = lead.wrapping_add(get(&front.lead, edge.from, 0));
     let depth = get(&front.depth, edge.from, 0).wrapping_add(1);
     put(via, edge.to, Some(k));
@@ -58,17 +63,12 @@ fn reach_from(
     via: &mut [Option<u32>],
     fans: &Fans,
     edges: &[Edge],
-    start: u32,
-    q: u64,
     v: u32,
 ) -> Result<(), AllocError> {
-    let first = get(&fans.starts, v, 0);
-    let end = get(&fans.starts, v.wrapping_add(1), 0);
-    for place in first..end {
-        let k = get(&fans.edges, place, 0);
-        let edge = edge_at(edges, k);
-        if edge.to != start && get(via, edge.to, Some(k)).is_none() {
-            reach(front, via, k, edge, q)?;
+    for k in fans.at(v) {
+        let edge = edge_at(edges, *k);
+        if edge.to != front.start && get(via, edge.to, Some(*k)).is_none() {
+            reach(front, via, *k, edge)?;
         }
     }
     Ok(())
@@ -80,17 +80,15 @@ fn reach_all(
     via: &mut [Option<u32>],
     fans: &Fans,
     edges: &[Edge],
-    start: u32,
-    q: u64,
 ) -> Result<(), AllocError> {
-    front.queue.push(start)?;
+    front.queue.push(front.start)?;
     let mut place: u32 = 0;
     for _ in 0..via.len() {
         if place as usize >= front.queue.len() {
             return Ok(());
         }
         let v = get(&front.queue, place, 0);
-        reach_from(front, via, fans, edges, start, q, v)?;
+        reach_from(front, via, fans, edges, v)?;
         place = place.wrapping_add(1);
     }
     Ok(())
@@ -101,12 +99,10 @@ fn vias_of(
     alloc: Global,
     graph: &Graph,
     front: &mut Front,
-    start: u32,
-    q: u64,
 ) -> Result<Vec<Option<u32>>, AllocError> {
     let fans = fans_of(alloc, graph, Side::Out)?;
     let mut via = Vec::from_elem(alloc, None, graph.nodes as usize)?;
-    reach_all(front, &mut via, &fans, graph.edges.as_slice(), start, q)?;
+    reach_all(front, &mut via, &fans, graph.edges.as_slice())?;
     Ok(via)
 }
 
@@ -122,8 +118,8 @@ pub fn propose_tree(
     q: u64,
     first: u64,
 ) -> Result<Branches, AllocError> {
-    let mut front = new_front(alloc, graph.nodes, start, first)?;
-    let via = vias_of(alloc, graph, &mut front, start, q)?;
+    let mut front = new_front(alloc, graph.nodes, start, q, first)?;
+    let via = vias_of(alloc, graph, &mut front)?;
     let Front { lead, depth, .. } = front;
     Ok(Branches {
         via: Items::from_vec(via),

@@ -86,14 +86,11 @@ fn step_back(
     v: u32,
     any: bool,
 ) {
-    let first = get(&fans.starts, v, 0);
-    let end = get(&fans.starts, v.wrapping_add(1), 0);
-    for place in first..end {
-        let k = get(&fans.edges, place, 0);
-        let edge = edge_at(edges, k);
-        if is_way_back(search, policy, k, edge, any) {
+    for k in fans.at(v) {
+        let edge = edge_at(edges, *k);
+        if is_way_back(search, policy, *k, edge, any) {
             let value = value_along(policy, edge, cycle);
-            choose(policy, k, edge, value);
+            choose(policy, *k, edge, value);
             see(search, edge.from);
         }
     }
@@ -172,14 +169,11 @@ pub(crate) fn evaluate(
 /// Chooses each edge into a transition that lowers the value where it begins. Answers whether one does.
 fn improve_into(policy: &mut Policy, fans: &Fans, edges: &[Edge], cycle: Cycle, v: u32) -> bool {
     let mut lowered = false;
-    let first = get(&fans.starts, v, 0);
-    let end = get(&fans.starts, v.wrapping_add(1), 0);
-    for place in first..end {
-        let k = get(&fans.edges, place, 0);
-        let edge = edge_at(edges, k);
+    for k in fans.at(v) {
+        let edge = edge_at(edges, *k);
         let value = value_along(policy, edge, cycle);
         if value < get(&policy.values, edge.from, 0) {
-            choose(policy, k, edge, value);
+            choose(policy, *k, edge, value);
             lowered = true;
         }
     }

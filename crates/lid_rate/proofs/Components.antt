@@ -220,7 +220,7 @@ module _ (g : Graph) (ok : IsRateable g) (least : List ℕ) (labels : AreLabels 
 
         via_at : (a v : ℕ) → a < length (numbers_where (is_labelled least r) (length least)) → node a ≡ v → via_of part v ≡ option_map number (get_or via a None)
         via_at a v h is =
-            let count = is_found.tree.via_count in
+            let count = is_found.tree.lists.via_count in
             let c = cut.node_count in
             ap (λ (o : Option ℕ). option_map_or (λ i. get_or part.via i None) o None) (placed a v h is) ∙ (ap (λ (l : List (Option ℕ)). get_or l a None) lift.via_is ∙ get_or-map (λ o. option_map number o) via a None None (omega arith))
 
@@ -234,9 +234,9 @@ module _ (g : Graph) (ok : IsRateable g) (least : List ℕ) (labels : AreLabels 
             let depths : length part.depth ≡ length depth = ap length lift.depth_is in
             record {
               lag = (let l = is_found.rate.are_lags.count in omega arith);
-              lead = (let l = is_found.tree.lead_count in omega arith);
-              via = (let l = is_found.tree.via_count in omega arith);
-              depth = (let l = is_found.tree.depth_count in omega arith);
+              lead = (let l = is_found.tree.lists.lead_count in omega arith);
+              via = (let l = is_found.tree.lists.via_count in omega arith);
+              depth = (let l = is_found.tree.lists.depth_count in omega arith);
             }
 
         edge_met : (k : ℕ) → k < length g.edges → IsEdgeMet part (edge_at g k)
@@ -340,17 +340,19 @@ module _ (g : Graph) (ok : IsRateable g) (least : List ℕ) (labels : AreLabels 
 
         is_part : IsPart g part
         is_part = record {
-          some = (let s = start_within in let e = ap length lift.nodes_are in omega arith);
-          lists = lists;
-          ascending = ap ascends lift.nodes_are ∙ nodes_ascend;
-          within = λ i d h. (let at = part_node i d h in subst (λ (n : ℕ). n < g.nodes) (sym at.1) (node_is i at.0).0);
-          positive = (let o = is_found.rate.cycle.lowest.positive in let e = lift.q_is in omega arith);
-          lowest = subst (λ (n : ℕ). IsGcd n part.q 1) (sym lift.p_is) (subst (λ (n : ℕ). IsGcd p n 1) (sym lift.q_is) is_found.rate.cycle.lowest.coprime);
-          walk = is_closed;
-          ratio = ratio_part;
+          inside = record {
+            some = (let s = start_within in let e = ap length lift.nodes_are in omega arith);
+            lists = lists;
+            ascending = ap ascends lift.nodes_are ∙ nodes_ascend;
+            within = λ i d h. (let at = part_node i d h in subst (λ (n : ℕ). n < g.nodes) (sym at.1) (node_is i at.0).0);
+            positive = (let o = is_found.rate.cycle.lowest.positive in let e = lift.q_is in omega arith);
+            lowest = subst (λ (n : ℕ). IsGcd n part.q 1) (sym lift.p_is) (subst (λ (n : ℕ). IsGcd p n 1) (sym lift.q_is) is_found.rate.cycle.lowest.coprime);
+            walk = is_closed;
+            ratio = ratio_part;
+            start = start_met;
+            nodes = λ i d h. (let at = part_node i d h in subst (IsNodeMet g part (walk_start g part.cycle)) (sym at.1) (node_met i at.0));
+          };
           edges = λ k d h. subst (IsEdgeMet part) (get_or_default g.edges k no_edge d h) (edge_met k h);
-          start = start_met;
-          nodes = λ i d h. (let at = part_node i d h in subst (IsNodeMet g part (walk_start g part.cycle)) (sym at.1) (node_met i at.0));
         }
 
         lag_of_node : (v : ℕ) → has_node part v ≡ true → IsLag g part.p part.q v (lag_of part v)

@@ -12,7 +12,7 @@ use lid_base::Items;
 use lid_cert::Part;
 use lid_graph::Graph;
 use lid_guess::Branches;
-use lid_ratio::{Rate, Ratio, edge, rate_of, tree_of};
+use lid_ratio::{Rate, Ratio, Root, edge, rate_of, tree_of};
 use std::alloc::{AllocError, Global};
 
 /// What is found of a piece.
@@ -34,12 +34,7 @@ struct Numbering {
 fn at(numbers: &[u32], place: u32) -> u32
     ensures { result ≡ slice_index numbers.now place }
 {
-    let place = place as usize;
-    if place < numbers.len() {
-        numbers[place]
-    } else {
-        0
-    }
+    numbers.get(place as usize).copied().unwrap_or(0)
 }
 
 /// The numbers at these places.
@@ -113,8 +108,12 @@ fn search_piece(alloc: Global, piece: &Graph, first: u32) -> Result<Findings, Al
 {
     let rate = rate_of(alloc, piece, first)?;
     let start = start_of(piece, rate.walk.as_slice());
-    let lead = first_lead(rate.ratio, rate.walk.len());
-    let tree = tree_of(alloc, piece, start, rate.ratio.q, lead)?;
+    let root = Root {
+        start,
+        q: rate.ratio.q,
+        first: first_lead(rate.ratio, rate.walk.len()),
+    };
+    let tree = tree_of(alloc, piece, root)?;
     Ok(Findings { rate, tree })
 }
 

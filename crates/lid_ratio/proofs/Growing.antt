@@ -26,13 +26,13 @@ different start via u t inside outside same = let e : is_reached start via u ≡
 
 module _ (g : Graph) (es : List ℕ) (start q first k : ℕ) (via : List (Option ℕ)) (lead depth : List ℕ) (tree : IsTree g es start q first via lead depth) (listed : Contains es k) (to : (edge_at g k).to < g.nodes) (tokens : (edge_at g k).tokens ≤ 16) (new_via : List (Option ℕ)) (new_lead new_depth : List ℕ) (ext : AddsEdge (edge_at g k) k start q via lead depth new_via new_lead new_depth) where
   via_is : IsWritten via new_via (edge_at g k).to (Some k) None
-  via_is = is_written via new_via (edge_at g k).to (Some k) None ext.via_is (omega (arith, tree.via_count))
+  via_is = is_written via new_via (edge_at g k).to (Some k) None ext.via_is (omega (arith, tree.lists.via_count))
 
   lead_is : IsWritten lead new_lead (edge_at g k).to (get_or lead (edge_at g k).from 0 + q * (edge_at g k).tokens) 0
-  lead_is = is_written lead new_lead (edge_at g k).to (get_or lead (edge_at g k).from 0 + q * (edge_at g k).tokens) 0 ext.lead_is (omega (arith, tree.lead_count))
+  lead_is = is_written lead new_lead (edge_at g k).to (get_or lead (edge_at g k).from 0 + q * (edge_at g k).tokens) 0 ext.lead_is (omega (arith, tree.lists.lead_count))
 
   depth_is : IsWritten depth new_depth (edge_at g k).to (get_or depth (edge_at g k).from 0 + 1) 0
-  depth_is = is_written depth new_depth (edge_at g k).to (get_or depth (edge_at g k).from 0 + 1) 0 ext.depth_is (omega (arith, tree.depth_count))
+  depth_is = is_written depth new_depth (edge_at g k).to (get_or depth (edge_at g k).from 0 + 1) 0 ext.depth_is (omega (arith, tree.lists.depth_count))
 
   inside_other : (v : ℕ) → is_reached start via v ≡ true → v ≢ (edge_at g k).to
   inside_other v inside = different start via v (edge_at g k).to inside ext.outside
@@ -48,7 +48,7 @@ module _ (g : Graph) (es : List ℕ) (start q first k : ℕ) (via : List (Option
 
   pub fewer : unreached new_via + 1 ≡ unreached via
   fewer =
-      let within : (edge_at g k).to < length via = omega (arith, tree.via_count) in
+      let within : (edge_at g k).to < length via = omega (arith, tree.lists.via_count) in
       let sums : unreached (set via (edge_at g k).to (Some k)) + without_edge (get_or via (edge_at g k).to None) ≡ unreached via + without_edge (Some k) = sum_by-set without_edge via (edge_at g k).to (Some k) None within in
       let one : without_edge (get_or via (edge_at g k).to None) ≡ 1 = ap without_edge was_none in
       let now : unreached new_via ≡ unreached (set via (edge_at g k).to (Some k)) = ap unreached ext.via_is in
@@ -122,9 +122,7 @@ module _ (g : Graph) (es : List ℕ) (start q first k : ℕ) (via : List (Option
 
   pub tree_on : IsTree g es start q first new_via new_lead new_depth
   tree_on = record {
-    via_count = via_is.long ∙ tree.via_count;
-    lead_count = lead_is.long ∙ tree.lead_count;
-    depth_count = depth_is.long ∙ tree.depth_count;
+    lists = record { via_count = via_is.long ∙ tree.lists.via_count; lead_count = lead_is.long ∙ tree.lists.lead_count; depth_count = depth_is.long ∙ tree.lists.depth_count };
     root =
         record {
           no_edge = via_is.there start start_other ∙ tree.root.no_edge;
@@ -210,9 +208,12 @@ module _ (g : Graph) (es : List ℕ) (start q first : ℕ) where
 
   pub plant_tree : (start < g.nodes) → (via : List (Option ℕ)) (lead depth : List ℕ) → via ≡ replicate g.nodes None → lead ≡ set (replicate g.nodes 0) start first → depth ≡ replicate g.nodes 0 → IsTree g es start q first via lead depth
   plant_tree within via lead depth via_is lead_is depth_is = record {
-    via_count = ap length via_is ∙ length-replicate g.nodes None;
-    lead_count = ap length lead_is ∙ (length-set (replicate g.nodes 0) start first ∙ length-replicate g.nodes 0);
-    depth_count = ap length depth_is ∙ length-replicate g.nodes 0;
+    lists =
+        record {
+          via_count = ap length via_is ∙ length-replicate g.nodes None;
+          lead_count = ap length lead_is ∙ (length-set (replicate g.nodes 0) start first ∙ length-replicate g.nodes 0);
+          depth_count = ap length depth_is ∙ length-replicate g.nodes 0;
+        };
     root = record { no_edge = none_at start; first_lead = root_lead; no_depth = no_depth start };
     edges = λ v k e. absurd (no_via v k e);
     shallow = λ v. (let d = no_depth v in let u = all_unreached in omega arith);

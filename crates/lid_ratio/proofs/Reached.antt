@@ -6,12 +6,12 @@ use Rattle.std.proofs.Math.Nat.{mul-le-mul_right}
 use Rattle.lid_graph.specs.declared.graph.Graph.{Graph}
 use Rattle.lid_graph.specs.Walks.{edge_at, IsWalk}
 use Rattle.lid_ratio.specs.SpanningTrees.{is_reached, IsTree, IsSpanning}
-use Rattle.lid_ratio.specs.Components.{IsSmallGraph, AreAllJoined, IsBranch, SpansFrom}
+use Rattle.lid_ratio.specs.Components.{CanSpan, IsBranch, SpansFrom}
 use Rattle.lid_ratio.specs.Numbers.{AreAllNumbers}
 use Rattle.lid_ratio.proofs.Settles.{contains_within}
 use Rattle.lid_ratio.proofs.Searched.{are_edges}
 
-module _ (g : Graph) (ok : IsSmallGraph g) (all : List ℕ) (numbers : AreAllNumbers (length g.edges) all) (start q first : ℕ) (joined : AreAllJoined g start) (small_q : q ≤ 2 ^ 18) (first_low : first ≤ 2 ^ 40) (via : List (Option ℕ)) (lead depth : List ℕ) (tree : IsTree g all start q first via lead depth) (closed : IsSpanning g all start (length all) via) where
+module _ (g : Graph) (start q first : ℕ) (can : CanSpan g start q first) (all : List ℕ) (numbers : AreAllNumbers (length g.edges) all) (via : List (Option ℕ)) (lead depth : List ℕ) (tree : IsTree g all start q first via lead depth) (closed : IsSpanning g all start (length all) via) where
   along : (ks : List ℕ) (u v : ℕ) → IsWalk g u ks v → is_reached start via u ≡ true → is_reached start via v ≡ true
   along [] u v walk reached = subst (λ (n : ℕ). is_reached start via n ≡ true) walk reached
   along (k ∷ ks) u v walk reached =
@@ -23,7 +23,7 @@ module _ (g : Graph) (ok : IsSmallGraph g) (all : List ℕ) (numbers : AreAllNum
   start_reached = let e : start == start ≡ true = eq-eqb start start refl in rw e refl
 
   reached : (v : ℕ) → v < g.nodes → is_reached start via v ≡ true
-  reached v h = let way = joined v h in along way.0 start v way.1 start_reached
+  reached v h = let way = can.joined v h in along way.0 start v way.1 start_reached
 
   branch : (v : ℕ) → v < g.nodes → v ≢ start → MatchOption (get_or via v None) ⊥ (IsBranch g q lead depth v)
   branch v h other = by_edge (get_or via v None) refl
@@ -34,7 +34,7 @@ module _ (g : Graph) (ok : IsSmallGraph g) (all : List ℕ) (numbers : AreAllNum
           let no : is_reached start via v ≡ false = ap (λ (b : Bool). b || is_some (get_or via v None)) (ne_eqb v start other) ∙ ap is_some e in
           absurd (cc)
       by_edge (Some k) e = record {
-        within = contains_within g all k (are_edges g ok all numbers) ((tree.edges v k e).listed);
+        within = contains_within g all k (are_edges g can.graph all numbers) ((tree.edges v k e).listed);
         ends = (tree.edges v k e).ends;
         deeper = (tree.edges v k e).deeper;
         leads = (tree.edges v k e).leads;
@@ -44,15 +44,14 @@ module _ (g : Graph) (ok : IsSmallGraph g) (all : List ℕ) (numbers : AreAllNum
   low v =
       let small = tree.small v in
       let shallow = tree.shallow v in
-      let nodes = ok.nodes in
-      let scaled : q * get_or depth v 0 ≤ 2 ^ 18 * get_or depth v 0 = mul-le-mul_right (get_or depth v 0) small_q in
+      let nodes = can.graph.nodes in
+      let first_low = can.low_first in
+      let scaled : q * get_or depth v 0 ≤ 2 ^ 18 * get_or depth v 0 = mul-le-mul_right (get_or depth v 0) can.small_q in
       omega arith
 
   pub spans : SpansFrom g start q first via lead depth
   spans = record {
-    via_count = tree.via_count;
-    lead_count = tree.lead_count;
-    depth_count = tree.depth_count;
+    lists = tree.lists;
     root = tree.root;
     branches = branch;
     small = low;

@@ -6,7 +6,7 @@ use Rattle.lid_graph.specs.Walks.{edge_at, walk_tokens, IsWalk, IsClosedWalk, Is
 use Rattle.lid_ratio.specs.WalksBack.{MeetsOnce, predecessor_of}
 use Rattle.lid_ratio.specs.Relaxation.{IsMet, AreAtMost}
 use Rattle.lid_ratio.specs.CycleRatios.{IsLowest}
-use Rattle.lid_ratio.specs.SpanningTrees.{IsRoot}
+use Rattle.lid_ratio.specs.SpanningTrees.{AreTreeLists, IsRoot}
 
 -- at most 2^18 transitions, fewer than 2^19 edges, all ends below the number of transitions, and at most
 -- 16 tokens on an edge
@@ -59,11 +59,17 @@ pub record IsBranch (g : Graph) (q : ℕ) (lead depth : List ℕ) (v k : ℕ) : 
   pub deeper : slice_index depth (edge_at g k).from < slice_index depth v
   pub leads : slice_index lead (edge_at g k).from + q * (edge_at g k).tokens ≤ slice_index lead v
 
+-- what is asked of a graph, and of the start of a tree, its lead and what a token adds to leads
+pub record CanSpan (g : Graph) (start q first : ℕ) : Type 0 where
+  pub graph : IsSmallGraph g
+  pub joined : AreAllJoined g start
+  pub within : start < g.nodes
+  pub small_q : q ≤ 2 ^ 18
+  pub low_first : first ≤ 2 ^ 40
+
 -- a tree of edges that comes from the start to each transition
 pub record SpansFrom (g : Graph) (start q first : ℕ) (via : List (Option ℕ)) (lead depth : List ℕ) : Type 0 where
-  pub via_count : length via ≡ g.nodes
-  pub lead_count : length lead ≡ g.nodes
-  pub depth_count : length depth ≡ g.nodes
+  pub lists : AreTreeLists g via lead depth
   pub root : IsRoot start first via lead depth
   pub branches : (v : ℕ) → v < g.nodes → v ≢ start → MatchOption (predecessor_of via v) ⊥ (IsBranch g q lead depth v)
   pub small : AreAtMost lead (2 ^ 61)

@@ -33,6 +33,12 @@ pub record AddsNone (e : Edge) (start : ℕ) (via : List (Option ℕ)) (lead dep
   pub lead_same : new_lead ≡ lead
   pub depth_same : new_depth ≡ depth
 
+-- the lists of a tree have one entry for each transition
+pub record AreTreeLists (g : Graph) (via : List (Option ℕ)) (lead depth : List ℕ) : Type 0 where
+  pub via_count : length via ≡ g.nodes
+  pub lead_count : length lead ≡ g.nodes
+  pub depth_count : length depth ≡ g.nodes
+
 -- the start has no edge, the first lead and no depth
 pub record IsRoot (start first : ℕ) (via : List (Option ℕ)) (lead depth : List ℕ) : Type 0 where
   pub no_edge : predecessor_of via start ≡ None
@@ -51,9 +57,7 @@ pub record IsTreeEdge (g : Graph) (es : List ℕ) (start q : ℕ) (via : List (O
 -- a tree of edges from a start. No transition is deeper than there are others in the tree, and no lead is
 -- larger than its depth allows
 pub record IsTree (g : Graph) (es : List ℕ) (start q first : ℕ) (via : List (Option ℕ)) (lead depth : List ℕ) : Type 0 where
-  pub via_count : length via ≡ g.nodes
-  pub lead_count : length lead ≡ g.nodes
-  pub depth_count : length depth ≡ g.nodes
+  pub lists : AreTreeLists g via lead depth
   pub root : IsRoot start first via lead depth
   pub edges : (v k : ℕ) → predecessor_of via v ≡ Some k → IsTreeEdge g es start q via lead depth v k
   pub shallow : (v : ℕ) → slice_index depth v + unreached via ≤ g.nodes

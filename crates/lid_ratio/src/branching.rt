@@ -2,41 +2,34 @@
 //! where the test fails.
 
 ghost use Rattle.std.specs.Prelude.{◌≡◌, ℕ, ◌+◌, ◌*◌, ◌<◌, ◌≤◌, ◌≢◌, ◌^◌, ◌↔◌, length, slice_index, IsTrue, IfOk};
-ghost use Rattle.std.specs.List.{All};
 ghost use Rattle.std.specs.Option.{MatchOption};
 ghost use Rattle.lid_ratio.specs.Relaxation.{AreAtMost};
 ghost use Rattle.lid_ratio.specs.WalksBack.{predecessor_of};
-ghost use Rattle.lid_ratio.specs.SpanningTrees.{IsRoot};
-ghost use Rattle.lid_ratio.specs.Components.{IsSmallGraph, AreAllJoined, IsBranch, SpansFrom};
+ghost use Rattle.lid_ratio.specs.SpanningTrees.{AreTreeLists, IsRoot};
+ghost use Rattle.lid_ratio.specs.Components.{IsSmallGraph, CanSpan, IsBranch, SpansFrom};
 
+use crate::judging::are_at_most;
 use crate::rating::numbers;
 use crate::relaxation::edge;
-use crate::spanning_tree::{Tree, span};
+use crate::spanning_tree::{Root, Tree, span};
 use lid_base::Items;
 use lid_graph::Graph;
 use lid_guess::{Branches, propose_tree};
 use std::alloc::{AllocError, Global};
 
 /// The largest lead that is taken.
-const MOST: u64 = 1 << 61;
-
-/// Whether no lead is too large.
-fn are_small(leads: &[u64]) -> bool
-    ensures { IsTrue result ↔ All (λ n. n ≤ 2 ^ 61) leads.now }
-{
-    leads.iter().all(|n| *n <= MOST)
-}
+const MOST_LEAD: u64 = 1 << 61;
 
 /// Whether the start has no edge, the first lead and no depth.
-fn is_root(tree: &Branches, start: u32, first: u64) -> bool
-    requires via { start < length tree.now.via }
-    requires lead { start < length tree.now.lead }
-    requires depth { start < length tree.now.depth }
-    ensures { IsTrue result ↔ IsRoot start first tree.now.via tree.now.lead tree.now.depth }
+fn is_root(tree: &Branches, root: Root) -> bool
+    requires via { root.start < length tree.now.via }
+    requires lead { root.start < length tree.now.lead }
+    requires depth { root.start < length tree.now.depth }
+    ensures { IsTrue result ↔ IsRoot root.start root.first tree.now.via tree.now.lead tree.now.depth }
 {
-    let place = start as usize;
+    let place = root.start as usize;
     tree.via.as_slice()[place].is_none()
-        && tree.lead.as_slice()[place] == first
+        && tree.lead.as_slice()[place] == root.first
         && tree.depth.as_slice()[place] == 0
 }
 
@@ -44,8 +37,7 @@ fn is_root(tree: &Branches, start: u32, first: u64) -> bool
 fn is_branch(graph: &Graph, q: u64, tree: &Branches, v: u32, k: u32) -> bool
     requires graph { IsSmallGraph graph.now }
     requires q { q ≤ 2 ^ 18 }
-    requires lead { length tree.now.lead ≡ graph.now.nodes }
-    requires depth { length tree.now.depth ≡ graph.now.nodes }
+    requires lists { AreTreeLists graph.now tree.now.via tree.now.lead tree.now.depth }
     requires small { AreAtMost tree.now.lead (2 ^ 61) }
     requires within { v < graph.now.nodes }
     ensures { IsTrue result ↔ IsBranch graph.now q tree.now.lead tree.now.depth v k }
@@ -63,37 +55,31 @@ fn is_branch(graph: &Graph, q: u64, tree: &Branches, v: u32, k: u32) -> bool
 }
 
 /// Whether a transition is the start, or an edge of the tree leads to it.
-fn is_reached(graph: &Graph, q: u64, tree: &Branches, start: u32, v: u32) -> bool
-    requires graph { IsSmallGraph graph.now }
-    requires q { q ≤ 2 ^ 18 }
-    requires via { length tree.now.via ≡ graph.now.nodes }
-    requires lead { length tree.now.lead ≡ graph.now.nodes }
-    requires depth { length tree.now.depth ≡ graph.now.nodes }
+fn is_reached(graph: &Graph, tree: &Branches, root: Root, v: u32) -> bool
+    requires root { CanSpan graph.now root.start root.q root.first }
+    requires lists { AreTreeLists graph.now tree.now.via tree.now.lead tree.now.depth }
     requires small { AreAtMost tree.now.lead (2 ^ 61) }
     requires within { v < graph.now.nodes }
-    ensures { IsTrue result ↔ (v ≢ start → MatchOption (predecessor_of tree.now.via v) ⊥ (IsBranch graph.now q tree.now.lead tree.now.depth v)) }
+    ensures { IsTrue result ↔ (v ≢ root.start → MatchOption (predecessor_of tree.now.via v) ⊥ (IsBranch graph.now root.q tree.now.lead tree.now.depth v)) }
 {
-    if v == start {
+    if v == root.start {
         return true;
     }
     match tree.via.as_slice()[v as usize] {
-        Some(k) => is_branch(graph, q, tree, v, k),
+        Some(k) => is_branch(graph, root.q, tree, v, k),
         None => false,
     }
 }
 
 /// Whether the edges of the tree lead to all transitions.
-fn are_reached(graph: &Graph, q: u64, tree: &Branches, start: u32) -> bool
-    requires graph { IsSmallGraph graph.now }
-    requires q { q ≤ 2 ^ 18 }
-    requires via { length tree.now.via ≡ graph.now.nodes }
-    requires lead { length tree.now.lead ≡ graph.now.nodes }
-    requires depth { length tree.now.depth ≡ graph.now.nodes }
+fn are_reached(graph: &Graph, tree: &Branches, root: Root) -> bool
+    requires root { CanSpan graph.now root.start root.q root.first }
+    requires lists { AreTreeLists graph.now tree.now.via tree.now.lead tree.now.depth }
     requires small { AreAtMost tree.now.lead (2 ^ 61) }
-    ensures { IsTrue result ↔ ((v : ℕ) → v < graph.now.nodes → v ≢ start → MatchOption (predecessor_of tree.now.via v) ⊥ (IsBranch graph.now q tree.now.lead tree.now.depth v)) }
+    ensures { IsTrue result ↔ ((v : ℕ) → v < graph.now.nodes → v ≢ root.start → MatchOption (predecessor_of tree.now.via v) ⊥ (IsBranch graph.now root.q tree.now.lead tree.now.depth v)) }
 {
     for v in 0..graph.nodes {
-        if !is_reached(graph, q, tree, start, v) {
+        if !is_reached(graph, tree, root, v) {
             return false;
         }
     }
@@ -101,20 +87,18 @@ fn are_reached(graph: &Graph, q: u64, tree: &Branches, start: u32) -> bool
 }
 
 /// Whether a tree comes from the start to each transition.
-fn spans(graph: &Graph, q: u64, tree: &Branches, start: u32, first: u64) -> bool
-    requires graph { IsSmallGraph graph.now }
-    requires q { q ≤ 2 ^ 18 }
-    requires start { start < graph.now.nodes }
-    ensures { IsTrue result ↔ SpansFrom graph.now start q first tree.now.via tree.now.lead tree.now.depth }
+fn spans(graph: &Graph, tree: &Branches, root: Root) -> bool
+    requires { CanSpan graph.now root.start root.q root.first }
+    ensures { IsTrue result ↔ SpansFrom graph.now root.start root.q root.first tree.now.via tree.now.lead tree.now.depth }
 {
     let count = graph.nodes as usize;
     if tree.via.len() != count || tree.lead.len() != count || tree.depth.len() != count {
         return false;
     }
-    if !are_small(tree.lead.as_slice()) || !is_root(tree, start, first) {
+    if !are_at_most(tree.lead.as_slice(), MOST_LEAD) || !is_root(tree, root) {
         return false;
     }
-    are_reached(graph, q, tree, start)
+    are_reached(graph, tree, root)
 }
 
 /// The lists of a tree.
@@ -132,22 +116,13 @@ fn listed(tree: Tree) -> Branches
 }
 
 /// The tree, searched by sweeps over all edges.
-fn sweep(
-    alloc: Global,
-    graph: &Graph,
-    start: u32,
-    q: u64,
-    first: u64,
-) -> Result<Branches, AllocError>
-    requires graph { IsSmallGraph graph.now }
-    requires joined { AreAllJoined graph.now start }
-    requires start { start < graph.now.nodes }
-    requires q { q ≤ 2 ^ 18 }
-    requires first { first ≤ 2 ^ 40 }
-    ensures { IfOk result (λ tree. SpansFrom graph.now start q first tree.via tree.lead tree.depth) }
+fn sweep(alloc: Global, graph: &Graph, root: Root) -> Result<Branches, AllocError>
+    requires { CanSpan graph.now root.start root.q root.first }
+    ensures { IfOk result (λ tree. SpansFrom graph.now root.start root.q root.first tree.via tree.lead tree.depth) }
 {
     let all = numbers(alloc, graph.edges.len())?;
-    Ok(listed(span(alloc, graph, &all, start, q, first)?))
+    let tree = span(alloc, graph, &all, root)?;
+    Ok(listed(tree))
 }
 
 /// The tree that a guess shows, or, where it shows none, the one that is searched. Any guess will do,
@@ -158,22 +133,16 @@ fn sweep(
 pub fn tree_by(
     alloc: Global,
     graph: &Graph,
-    start: u32,
-    q: u64,
-    first: u64,
+    root: Root,
     guess: Branches,
 ) -> Result<Branches, AllocError>
-    requires graph { IsSmallGraph graph.now }
-    requires joined { AreAllJoined graph.now start }
-    requires start { start < graph.now.nodes }
-    requires q { q ≤ 2 ^ 18 }
-    requires first { first ≤ 2 ^ 40 }
-    ensures { IfOk result (λ tree. SpansFrom graph.now start q first tree.via tree.lead tree.depth) }
+    requires { CanSpan graph.now root.start root.q root.first }
+    ensures { IfOk result (λ tree. SpansFrom graph.now root.start root.q root.first tree.via tree.lead tree.depth) }
 {
-    if spans(graph, q, &guess, start, first) {
+    if spans(graph, &guess, root) {
         return Ok(guess);
     }
-    sweep(alloc, graph, start, q, first)
+    sweep(alloc, graph, root)
 }
 
 /// A tree of edges from a start to all transitions, where the lead of the start is `first`, and that of
@@ -181,20 +150,10 @@ pub fn tree_by(
 ///
 /// # Errors
 /// Where there is no memory.
-pub fn tree_of(
-    alloc: Global,
-    graph: &Graph,
-    start: u32,
-    q: u64,
-    first: u64,
-) -> Result<Branches, AllocError>
-    requires graph { IsSmallGraph graph.now }
-    requires joined { AreAllJoined graph.now start }
-    requires start { start < graph.now.nodes }
-    requires q { q ≤ 2 ^ 18 }
-    requires first { first ≤ 2 ^ 40 }
-    ensures { IfOk result (λ tree. SpansFrom graph.now start q first tree.via tree.lead tree.depth) }
+pub fn tree_of(alloc: Global, graph: &Graph, root: Root) -> Result<Branches, AllocError>
+    requires { CanSpan graph.now root.start root.q root.first }
+    ensures { IfOk result (λ tree. SpansFrom graph.now root.start root.q root.first tree.via tree.lead tree.depth) }
 {
-    let guess = propose_tree(alloc, graph, start, q, first)?;
-    tree_by(alloc, graph, start, q, first, guess)
+    let guess = propose_tree(alloc, graph, root.start, root.q, root.first)?;
+    tree_by(alloc, graph, root, guess)
 }

@@ -5,7 +5,7 @@ ghost use Rattle.lid_ratio.specs.Components.{IsSmallGraph};
 ghost use Rattle.lid_ratio.specs.Bounds.{MeetRule, IsLowerWalk, Bounds};
 
 use crate::bellman_ford::{Settled, find_potentials};
-use crate::judging::{are_met, are_small, ratio_of};
+use crate::judging::{MOST_LAG, are_at_most, are_met, ratio_of};
 use crate::lowest_terms::Ratio;
 use crate::rating::numbers;
 use lid_base::Items;
@@ -29,7 +29,7 @@ fn meet_rule(graph: &Graph, labels: &[u64], ratio: Ratio) -> bool
     requires q { ratio.q ≤ 2 ^ 18 }
     ensures { IsTrue result ↔ MeetRule graph.now ratio.p ratio.q labels.now }
 {
-    if labels.len() != graph.nodes as usize || !are_small(labels) {
+    if labels.len() != graph.nodes as usize || !are_at_most(labels, MOST_LAG) {
         return false;
     }
     are_met(graph, labels, ratio)

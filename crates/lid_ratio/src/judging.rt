@@ -15,7 +15,7 @@ use lid_guess::Guess;
 use std::alloc::{AllocError, Global};
 
 /// The largest lag that is taken.
-const MOST: u64 = 1 << 60;
+pub(crate) const MOST_LAG: u64 = 1 << 60;
 
 /// Where the first edge of a walk begins, or 0 where there is no edge of this number.
 fn walk_start(graph: &Graph, walk: &[u32]) -> u32
@@ -77,11 +77,11 @@ pub(crate) fn ratio_of(
     Ok(Some(lowest(tokens_on(graph, walk), walk.len() as u64)))
 }
 
-/// Whether no lag is too large.
-pub(crate) fn are_small(lags: &[u64]) -> bool
-    ensures { IsTrue result ↔ All (λ n. n ≤ 2 ^ 60) lags.now }
+/// Whether no number is above a bound.
+pub(crate) fn are_at_most(numbers: &[u64], most: u64) -> bool
+    ensures { IsTrue result ↔ All (λ n. n ≤ most) numbers.now }
 {
-    lags.iter().all(|n| *n <= MOST)
+    numbers.iter().all(|n| *n <= most)
 }
 
 /// Whether the lag at the end of an edge is as large as it asks.
@@ -186,7 +186,9 @@ fn are_shown(graph: &Graph, guess: &Guess, ratio: Ratio) -> bool
     if guess.lags.len() != count || guess.ranks.len() != count || guess.tight.len() != count {
         return false;
     }
-    if !are_small(guess.lags.as_slice()) || !are_met(graph, guess.lags.as_slice(), ratio) {
+    if !are_at_most(guess.lags.as_slice(), MOST_LAG)
+        || !are_met(graph, guess.lags.as_slice(), ratio)
+    {
         return false;
     }
     are_all_shown(graph, guess, ratio)

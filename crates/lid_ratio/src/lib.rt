@@ -18,3 +18,4 @@ pub use holding::{Bound, holds, holds_by};
 pub use lowest_terms::Ratio;
 pub use rating::{rate_by, rate_of};
 pub use relaxation::edge;
+pub use spanning_tree::Root;

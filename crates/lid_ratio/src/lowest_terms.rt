@@ -1,33 +1,19 @@
 //! Ratios in lowest terms.
 
 ghost use Rattle.std.specs.Prelude.{◌≡◌, ◌*◌, ◌<◌, ◌≤◌, ◌^◌, ℕ, length};
-ghost use Rattle.std.specs.Int.{IsGcd};
 ghost use Rattle.std.specs.List.{All};
 ghost use Rattle.lid_graph.specs.Walks.{edge_at, walk_tokens};
 ghost use Rattle.lid_ratio.specs.CycleRatios.{IsLowest};
 
 use crate::relaxation::edge;
 use lid_graph::Graph;
+use lid_guess::gcd;
 
 /// A ratio in lowest terms.
 #[derive(Clone, Copy)]
 pub struct Ratio {
     pub p: u64,
     pub q: u64,
-}
-
-/// The greatest common divisor.
-fn gcd(a: u64, b: u64) -> u64
-    ensures { IsGcd a b result }
-{
-    let mut x = a;
-    let mut y = b;
-    while y != 0 {
-        let rest = x % y;
-        x = y;
-        y = rest;
-    }
-    x
 }
 
 /// The ratio of two numbers in lowest terms.

@@ -9,6 +9,14 @@ use crate::relaxation::edge;
 use lid_graph::{Edge, Graph};
 use std::alloc::{AllocError, Global};
 
+/// Where a tree starts, the lead there, and what each token adds to leads.
+#[derive(Clone, Copy)]
+pub struct Root {
+    pub start: u32,
+    pub first: u64,
+    pub q: u64,
+}
+
 /// For each transition that is reached the edge from a transition of less depth, its lead and its
 /// depth.
 #[derive(Drop)]
@@ -82,7 +90,7 @@ fn plant(alloc: Global, nodes: u32, start: u32, first: u64) -> Result<Tree, Allo
     Ok(Tree { via, lead, depth })
 }
 
-/// The tree of all that edges lead to from `start`, where the lead is `first`.
+/// The tree of all that edges lead to from its start.
 ///
 /// # Errors
 /// Where there is no memory.
@@ -90,22 +98,20 @@ pub(crate) fn span(
     alloc: Global,
     graph: &Graph,
     edges: &[u32],
-    start: u32,
-    q: u64,
-    first: u64,
+    root: Root,
 ) -> Result<Tree, AllocError>
     requires edges { AreEdges graph.now edges.now }
     requires nodes { graph.now.nodes ≤ 2 ^ 18 }
-    requires start { start < graph.now.nodes }
-    requires q { q ≤ 2 ^ 18 }
-    requires first { first ≤ 2 ^ 40 }
-    ensures tree { IfOk result (λ tree. IsTree graph.now edges.now start q first tree.via.items tree.lead.items tree.depth.items) }
-    ensures all { IfOk result (λ tree. IsSpanning graph.now edges.now start (length edges.now) tree.via.items) }
+    requires start { root.start < graph.now.nodes }
+    requires q { root.q ≤ 2 ^ 18 }
+    requires first { root.first ≤ 2 ^ 40 }
+    ensures tree { IfOk result (λ tree. IsTree graph.now edges.now root.start root.q root.first tree.via.items tree.lead.items tree.depth.items) }
+    ensures all { IfOk result (λ tree. IsSpanning graph.now edges.now root.start (length edges.now) tree.via.items) }
 {
-    let mut tree = plant(alloc, graph.nodes, start, first)?;
+    let mut tree = plant(alloc, graph.nodes, root.start, root.first)?;
     let mut grown = true;
     while grown {
-        grown = grow(&mut tree, graph, edges, start, q, first);
+        grown = grow(&mut tree, graph, edges, root.start, root.q, root.first);
     }
     Ok(tree)
 }

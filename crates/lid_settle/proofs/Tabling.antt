@@ -1,12 +1,14 @@
 -- Truth tables are their bits packed into one number.
-use Rattle.std.proofs.Common.{◌≡◌, ℕ, zero, suc, ◌+◌, ◌-◌, ◌*◌, ◌/◌, ◌%◌, ◌^◌, ◌<◌, ◌≤◌, ◌==◌, Bool, true, false, if◌then◌else◌, List, [], ◌∷◌, length, get_or, take, refl, sym, ◌∙◌, ap, subst, arith}
+use Rattle.std.proofs.Common.{◌≡◌, ℕ, zero, suc, ◌+◌, ◌-◌, ◌*◌, ◌/◌, ◌%◌, ◌^◌, ◌<◌, ◌≤◌, ◌==◌, Bool, true, false, if◌then◌else◌, List, [], ◌∷◌, length, get_or, map, take, drop, refl, sym, ◌∙◌, ap, subst, arith}
 use Rattle.std.proofs.Math.Nat.{pow-le-pow_right, pow-succ', zero-div, div-one}
 use Rattle.std.proofs.lemmas.Nat.{shr-shr, mod-pow-add}
 use Rattle.std.proofs.lemmas.Bool.{eqb-true, eq-eqb}
+use Rattle.std.proofs.lemmas.List.{length-map, length-drop}
 use Rattle.lid_cover.specs.declared.Cover.{Cover}
 use Rattle.lid_cover.specs.Cover.{cover_value, lowest_bit}
 use Rattle.lid_cover.specs.Masks.{packed}
 use Rattle.lid_design.specs.Network.{from_each}
+use Rattle.lid_settle.specs.Rows.{bit_at}
 use Rattle.lid_settle.specs.Truth.{is_set, unpacked, IsTable}
 
 abbrev one : Bool → ℕ
@@ -47,13 +49,19 @@ packed_bound (bit ∷ bits) =
     by true h e = omega arith
     by false h e = omega arith
 
--- the bits of fewer than 64
-pub packed_small : (bits : List Bool) → length bits ≤ 63 → packed bits < 9223372036854775808
-packed_small bits few =
+-- so many bits, or fewer
+pub packed_below : (bits : List Bool) (n : ℕ) → length bits ≤ n → packed bits < 2 ^ n
+packed_below bits n few =
     let h = packed_bound bits in
     let two : 0 < 2 = omega arith in
-    let le : 2 ^ length bits ≤ 2 ^ 63 = pow-le-pow_right two few in
+    let le : 2 ^ length bits ≤ 2 ^ n = pow-le-pow_right two few in
     omega arith
+
+-- the bits of the nets from a place on, where there is one before it
+pub later_below : (bits : List Bool) (nets : List ℕ) (left n : ℕ) → length nets ≤ suc n → 0 < left → packed (map (bit_at bits) (drop left nets)) < 2 ^ n
+later_below bits nets left n few some =
+    let long = length-map (drop left nets) (bit_at bits) ∙ length-drop left nets in
+    packed_below (map (bit_at bits) (drop left nets)) n (omega arith)
 
 pub packed_of_six : (bits : List Bool) → length bits ≡ 6 → packed bits < 64
 packed_of_six bits long = subst (λ (n : ℕ). packed bits < 2 ^ n) long (packed_bound bits)
@@ -121,7 +129,7 @@ pub small_from : (cover : Cover) (table left : ℕ) → HasFrom cover table left
 small_from cover table left has some =
     let long = length_from_each (value_at cover) left (64 - left) in
     let within : left ≤ 64 = has.0 in
-    subst (λ (n : ℕ). n < 9223372036854775808) (sym has.1) (packed_small (from_each (value_at cover) left (64 - left)) (omega arith))
+    subst (λ (n : ℕ). n < 9223372036854775808) (sym has.1) (packed_below (from_each (value_at cover) left (64 - left)) 63 (omega arith))
 
 -- one more value
 pub has_more : (cover : Cover) (table left value : ℕ) → HasFrom cover table left → 0 < left → value ≡ one (value_at cover (left - 1)) → HasFrom cover (table * 2 + value) (left - 1)

@@ -1,9 +1,8 @@
 -- A source gives the rows, and the first rows have the first bits of all.
-use Rattle.std.proofs.Common.{◌≡◌, ℕ, zero, suc, ◌+◌, ◌-◌, ◌<◌, ◌≤◌, Bool, false, List, [], ◌∷◌, ◌++◌, length, take, get_or, map, Some, slice_get, refl, sym, ◌∙◌, ap, subst, arith}
+use Rattle.std.proofs.Common.{◌≡◌, ℕ, zero, suc, ◌+◌, ◌<◌, Bool, false, List, [], ◌∷◌, ◌++◌, length, take, get_or, map, Some, slice_get, refl, sym, ◌∙◌, ap, subst, arith}
 use Rattle.std.specs.Option.{option_map_or}
 use Rattle.std.proofs.lemmas.List.{length-append}
 use Rattle.std.proofs.lemmas.Option.{get_or_from_slice_get, slice_get_within}
-use Rattle.lid_base.specs.Lists.{Among}
 use Rattle.lid_base.proofs.Lists.{all_among}
 use Rattle.lid_design.specs.Network.{Driver, from_input, from_latch, from_cover, from_connection, Table, bit_of, IsStrict, from_each}
 use Rattle.lid_pearl.proofs.Reordering.{all_from_each}

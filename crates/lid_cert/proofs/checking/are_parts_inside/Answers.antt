@@ -1,7 +1,7 @@
 use Rattle.std.proofs.Common.{ℕ, get_or, subst, ◌∙◌, below_more}
 use Rattle.std.proofs.lemmas.List.{get_or_default}
 use Rattle.lid_cert.specs.declared.cert.Part.{Part}
-use Rattle.lid_cert.specs.Owners.{IsPartInside}
+use Rattle.lid_cert.specs.Certificates.{IsPartInside}
 use Rattle.lid_cert.proofs.checking.are_parts_inside.Goals as goal
 
 pub loop-part-preserved : goal.loop-part-preserved

@@ -1,4 +1,4 @@
-use Rattle.std.proofs.Common.{◌≡◌, ◌∙◌, map}
+use Rattle.std.proofs.Common.{◌∙◌, map}
 use Rattle.lid_cli.proofs.Readings.{fit_without_places}
 use Rattle.lid_cli.proofs.form.files_fit.Goals as goal
 

@@ -1,4 +1,4 @@
-use Rattle.std.proofs.Common.{◌≡◌, ◌∙◌, ap, sym, List, ℕ, Some, option_map, option_and_then}
+use Rattle.std.proofs.Common.{◌≡◌, ◌∙◌, ap, sym, List, Some, option_map, option_and_then}
 use Rattle.clap.specs.Walk.{first_of}
 use Rattle.lid_cli.specs.declared.table.TheConstants.{COMMAND}
 use Rattle.lid_cli.specs.Table.{Form, table}

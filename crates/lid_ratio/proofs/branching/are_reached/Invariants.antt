@@ -5,4 +5,4 @@ use Rattle.lid_ratio.specs.Components.{IsBranch}
 use Rattle.lid_ratio.proofs.branching.are_reached.Given as goal
 
 abbrev pub invariant-loop-v : goal.invariant-loop-v
-invariant-loop-v l = (w : ℕ) → w < l.v → w ≢ l.start → MatchOption (predecessor_of l.tree.via w) ⊥ (IsBranch l.graph l.q l.tree.lead l.tree.depth w)
+invariant-loop-v l = (w : ℕ) → w < l.v → w ≢ l.root.start → MatchOption (predecessor_of l.tree.via w) ⊥ (IsBranch l.graph l.root.q l.tree.lead l.tree.depth w)

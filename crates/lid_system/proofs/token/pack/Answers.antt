@@ -2,13 +2,14 @@ use Rattle.std.proofs.Common.{◌≡◌, ◌<◌, ◌^◌, ℕ, length, map, dro
 use Rattle.lid_cover.specs.Masks.{packed}
 use Rattle.lid_settle.specs.Rows.{bit_at}
 use Rattle.lid_settle.specs.Truth.{is_set}
-use Rattle.lid_system.proofs.Packing.{later_bits, bit_of_port, packed_ports}
+use Rattle.lid_settle.proofs.Tabling.{later_below}
+use Rattle.lid_system.proofs.Packing.{bit_of_port, packed_ports}
 use Rattle.lid_system.proofs.token.pack.Goals as goal
 
 pub with_bit-token-requires : goal.with_bit-token-requires
 with_bit-token-requires c =
     let some : 0 < c.loop-left.left = omega (arith, c.loop-left-test.true) in
-    subst (λ (n : ℕ). n < 2147483648) (sym c.loop-left.invariant.1) (later_bits c.args.bits.now c.args.ports.now c.loop-left.left c.requires.few some)
+    subst (λ (n : ℕ). n < 2147483648) (sym c.loop-left.invariant.1) (later_below c.args.bits.now c.args.ports.now c.loop-left.left 31 (omega (arith, c.requires.few)) some)
 
 pub returns-clause-bits : goal.returns-clause-bits
 returns-clause-bits c j port here =
