@@ -2,7 +2,6 @@
 //! to node 2, back, and from node 2 to node 3, the sink; node 0, the source, has none.
 
 ghost use Rattle.std.specs.Prelude.{◌≡◌, ℕ, List, [], ◌∷◌, length, IfSome};
-ghost use Rattle.std.specs.Option.{Option};
 ghost use Rattle.lid_system.specs.Systems.{IsWellFormed};
 ghost use Rattle.lid_stations.specs.Placements.{IsCapacity, Fits};
 
