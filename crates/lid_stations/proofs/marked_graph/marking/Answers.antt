@@ -1,7 +1,12 @@
-use Rattle.std.proofs.Common.{sym, ◌∙◌, subst}
+use Rattle.std.proofs.Common.{◌≤◌, sym, ◌∙◌, subst}
+use Rattle.lid_graph.specs.declared.graph.Graph.{Graph}
 use Rattle.lid_graph.specs.Rateable.{IsRateable}
 use Rattle.lid_graph.specs.Walks.{WalksHaveTokens}
-use Rattle.lid_stations.proofs.Edges.{made}
+use Rattle.lid_stations.specs.Placements.{links_of}
+use Rattle.lid_stations.specs.Stations.{actor_count}
+use Rattle.lid_stations.specs.Markings.{marking}
+use Rattle.lid_stations.proofs.Edges.{made, node_count}
+use Rattle.lid_stations.proofs.Spots.{few_actors}
 use Rattle.lid_stations.proofs.Alive.{rateable, have_tokens}
 use Rattle.lid_stations.proofs.marked_graph.marking.Goals as goal
 
@@ -13,3 +18,9 @@ returns-clause-rateable c = subst IsRateable (sym (returns-clause-is c)) (rateab
 
 pub returns-clause-tokens : goal.returns-clause-tokens
 returns-clause-tokens c = subst WalksHaveTokens (sym (returns-clause-is c)) (have_tokens c.args.system.now c.args.placement.now c.requires.system c.requires.fits)
+
+pub returns-clause-few : goal.returns-clause-few
+returns-clause-few c =
+    let few : actor_count (links_of c.args.system.now) c.args.placement.now ≤ 69634 = few_actors c.args.system.now c.args.placement.now c.requires.system c.requires.fits in
+    let nodes : (marking (links_of c.args.system.now) c.args.placement.now).nodes ≤ 69634 = subst (λ n. n ≤ 69634) (sym (node_count c.args.system.now c.args.placement.now)) few in
+    subst (λ (g : Graph). g.nodes ≤ 69634) (sym (returns-clause-is c)) nodes
