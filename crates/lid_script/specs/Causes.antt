@@ -103,35 +103,39 @@ Misses held name limit read before after (Read file) = (file.now ≡ name) × Ro
 Misses held name limit read before after Memory = Unit {0}
 Misses held name limit read before after Denied = ⊥
 
--- the system of a netlist that is fetched, read and checked, as placements see it
-pub record GotSystem (held : List ℕ → Option (List ℕ)) (net : List ℕ) (root : Option (List ℕ)) (l : Links) : Type 0 where
-  pub design : Design
-  pub got : Got held net net_limit net_reading design
+-- the system of a design that is accepted, as placements see it
+pub record BuildsSystem (root : Option (List ℕ)) (d : Design) (l : Links) : Type 0 where
   pub checked : Design
-  pub is_checked : IsChecked root design checked
+  pub is_checked : IsChecked root d checked
   pub channels : List Channel
   pub has : HasChannels checked channels
   pub links_are : l ≡ links checked channels
 
--- a design that is read is not accepted
-pub record RefusesDesign (held : List ℕ → Option (List ℕ)) (net : List ℕ) (root : Option (List ℕ)) (line : List ℕ) : Type 0 where
-  pub design : Design
-  pub got : Got held net net_limit net_reading design
-  pub refused : IsUnchecked root design line
-
 -- a design that is accepted has too many channels
-pub record RefusesChannels (held : List ℕ → Option (List ℕ)) (net : List ℕ) (root : Option (List ℕ)) (line : List ℕ) : Type 0 where
-  pub design : Design
-  pub got : Got held net net_limit net_reading design
+pub record HasTooMany (root : Option (List ℕ)) (d : Design) (line : List ℕ) : Type 0 where
   pub checked : Design
-  pub is_checked : IsChecked root design checked
+  pub is_checked : IsChecked root d checked
   pub refused : IsOverfull checked line
 
--- why there is no system: the netlist is not read, not accepted, or has too many channels
+-- why a design has no system: it is not accepted, or has too many channels
+abbrev pub FailsSystem : Option (List ℕ) → Design → Stop → Type 0
+FailsSystem root d = Refuses (λ line. IsUnchecked root d line ⊎ HasTooMany root d line)
+
+-- the system of a netlist that is fetched and read
+pub record GotSystem (held : List ℕ → Option (List ℕ)) (net : List ℕ) (root : Option (List ℕ)) (l : Links) : Type 0 where
+  pub design : Design
+  pub got : Got held net net_limit net_reading design
+  pub builds : BuildsSystem root design l
+
+-- a netlist that is read has no system, or is not read
+pub record RefusesSystem (held : List ℕ → Option (List ℕ)) (net : List ℕ) (root : Option (List ℕ)) (line : List ℕ) : Type 0 where
+  pub design : Design
+  pub got : Got held net net_limit net_reading design
+  pub refused : IsUnchecked root design line ⊎ HasTooMany root design line
+
+-- why there is no system
 abbrev pub MissesSystem : (List ℕ → Option (List ℕ)) → List ℕ → Option (List ℕ) → (List ℕ → ℕ) → (List ℕ → ℕ) → Stop → Type 0
-MissesSystem held net root before after (Refused refusal) =
-    RefusesFile held net net_limit net_reading (refusal_line refusal)
-    ⊎ (RefusesDesign held net root (refusal_line refusal) ⊎ RefusesChannels held net root (refusal_line refusal))
+MissesSystem held net root before after (Refused refusal) = RefusesFile held net net_limit net_reading (refusal_line refusal) ⊎ RefusesSystem held net root (refusal_line refusal)
 MissesSystem held net root before after (Read file) = (file.now ≡ net) × Rose (before net) (after net)
 MissesSystem held net root before after Memory = Unit {0}
 MissesSystem held net root before after Denied = ⊥

@@ -1,5 +1,5 @@
 -- The steps of a job, and how they end.
-use Rattle.std.specs.Prelude.{◌≡◌, ◌↔◌, ℕ, true, false, ⊥, ◌+◌, ◌<◌, ◌≤◌, Bool, List, length, take, Option, Some, None, IfSome, Result, Ok, Err, ◌⊎◌}
+use Rattle.std.specs.Prelude.{◌≡◌, ◌↔◌, ℕ, true, false, ◌+◌, ◌<◌, ◌≤◌, Bool, List, length, take, Option, Some, None, IfSome, Result, Ok, Err, ◌⊎◌}
 use Rattle.std.specs.List.{AllByRecursion}
 use Rattle.lid_base.specs.Lines.{logical_lines}
 use Rattle.lid_design.specs.declared.Design.{Design}

@@ -1,11 +1,13 @@
 //! Why a job does not end with its whole output.
 
 ghost use Rattle.std.specs.Prelude.{◌≡◌};
-ghost use Rattle.lid_script.specs.Causes.{stop_of_blif, stop_of_rows, stop_of_check, stop_of_net};
+ghost use Rattle.lid_script.specs.Causes.{stop_of_blif, stop_of_rows, stop_of_check, stop_of_net, stop_of_place, stop_of_cert};
 
 use lid_blif::BlifFault;
+use lid_certtext::CertFault;
 use lid_check::CheckFault;
 use lid_net::NetFault;
+use lid_placetext::PlaceFault;
 use lid_refusals::Refusal;
 use lid_texts::VecFault;
 
@@ -66,5 +68,25 @@ pub fn net_stop<'a>(fault: NetFault) -> Stop<'a>
     match fault {
         NetFault::Memory => Stop::Memory,
         _ => Stop::Refused(Refusal::Net(fault)),
+    }
+}
+
+/// Why a text of stations or wires gives no placement.
+pub fn place_stop<'a>(fault: PlaceFault) -> Stop<'a>
+    ensures { result ≡ stop_of_place fault }
+{
+    match fault {
+        PlaceFault::Memory => Stop::Memory,
+        _ => Stop::Refused(Refusal::Stations(fault)),
+    }
+}
+
+/// Why a text gives no certificate.
+pub fn cert_stop<'a>(fault: CertFault) -> Stop<'a>
+    ensures { result ≡ stop_of_cert fault }
+{
+    match fault {
+        CertFault::Memory => Stop::Memory,
+        _ => Stop::Refused(Refusal::Cert(fault)),
     }
 }

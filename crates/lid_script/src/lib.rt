@@ -3,7 +3,9 @@
 #![tactic(auto)]
 
 mod fault;
+mod placing;
 mod steps;
 
 pub use fault::{End, Stop};
+pub use placing::{read_cert, read_placement, read_system, read_wires};
 pub use steps::{accept, build_system, read_net, read_vec};

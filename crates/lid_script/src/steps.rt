@@ -5,7 +5,8 @@ ghost use Rattle.std.specs.List.{AllByRecursion};
 ghost use Rattle.lid_design.specs.Columns.{root_inputs};
 ghost use Rattle.lid_design.specs.WellFormed.{IsWellFormed};
 ghost use Rattle.lid_system.specs.Systems.{IsWellFormed as IsSystem};
-ghost use Rattle.lid_script.specs.Scripts.{IsFetched, good, net_limit, rows_limit, net_reading, vec_reading, IsChecked, HasChannels};
+ghost use Rattle.lid_script.specs.Scripts.{IsFetched, good, net_limit, rows_limit, net_reading, vec_reading, IsChecked, HasChannels, links};
+ghost use Rattle.lid_stations.specs.Placements.{links_of};
 ghost use Rattle.lid_script.specs.Causes.{Declines, MissesFile, Got, Misses, FailsCheck, FailsNet};
 
 use crate::fault::{Stop, blif_stop, check_stop, net_stop, rows_stop};
@@ -25,7 +26,7 @@ const NET_LIMIT: usize = 16_777_216;
 const ROWS_LIMIT: usize = 67_108_864;
 
 /// Fetches a file, up to one byte more than its limit.
-fn fetch_file<'a, S: Shelf>(
+pub(crate) fn fetch_file<'a, S: Shelf>(
     alloc: Global,
     shelf: &mut S,
     name: &'a str,
@@ -124,6 +125,7 @@ pub fn accept<'a>(alloc: Global, design: Design, root: &Option<Name>) -> Result<
 pub fn build_system<'a>(alloc: Global, checked: &Checked) -> Result<System, Stop<'a>>
     ensures formed { IfOk result IsSystem }
     ensures ok { IfOk result (λ system. HasChannels checked.now system.channels) }
+    ensures links { IfOk result (λ system. links_of system ≡ links checked.now system.channels) }
     ensures err { IfErr result (FailsNet checked.now) }
 {
     match build(alloc, checked) {
