@@ -17,20 +17,14 @@ last_up_to-place-requires-clause-first c = (past_nets c.args.judged.now c.design
 
 pub overflow_cast-inst : goal.overflow_cast-inst
 overflow_cast-inst c =
-    let d = c.args.judged.now in
-    let k = c.args.spot.model in
-    let are = offsets_are d c.args.templates.now c.requires.templates k c.requires.reached c.index-templates-spot.result c.as_slice-offsets.result.now c.as_slice-offsets.ensures in
-    let few = are.few in
-    let most = few_insts d c.design.ensures.judged.formed k in
+    let few = (offsets_are c.args.judged.now c.args.templates.now c.requires.templates c.args.spot.model c.requires.reached c.index-templates-spot.result c.as_slice-offsets.result.now c.as_slice-offsets.ensures).few in
+    let most = few_insts c.args.judged.now c.design.ensures.judged.formed c.args.spot.model in
     let inside = c.last_up_to-place.ensures.inside in
     omega arith
 
 pub returns-clause-number : goal.returns-clause-number
 returns-clause-number c =
-    let d = c.args.judged.now in
-    let k = c.args.spot.model in
-    let are = offsets_are d c.args.templates.now c.requires.templates k c.requires.reached c.index-templates-spot.result c.as_slice-offsets.result.now c.as_slice-offsets.ensures in
-    let here = are.each c.last_up_to-place.result c.last_up_to-place.ensures.inside in
+    let here = (offsets_are c.args.judged.now c.args.templates.now c.requires.templates c.args.spot.model c.requires.reached c.index-templates-spot.result c.as_slice-offsets.result.now c.as_slice-offsets.ensures).each c.last_up_to-place.result c.last_up_to-place.ensures.inside in
     let below = c.last_up_to-place.ensures.below in
     omega arith
 
