@@ -10,8 +10,8 @@ use Rattle.lid_design.specs.Elaboration.{cells_of, model_nets, count_in, is_latc
 use Rattle.lid_counts.specs.declared.counts.Measure.{Measure}
 use Rattle.lid_counts.specs.declared.counts.Measure.TheVariants.{Depth, Cells, Nets, Latches, Defaulted, Covers, CoverInputs, CoverRows}
 
--- what is counted in a cell: of a latch, whether it is one and whether its first bit was left open; of a
--- cover, that it is one, its inputs and its rows
+-- what is counted in a cell: that it is a latch, or one whose first bit was left open; that it is a cover,
+-- or the inputs or the rows of one
 abbrev pub in_cell : Measure → Cell → ℕ
 in_cell Latches (Latch input out kind control init) = 1
 in_cell Defaulted (Latch input out kind control init) = cond (is_open init) 1 0

@@ -1,8 +1,8 @@
 ghost use Rattle.std.specs.Prelude.{◌≡◌, Some, not, map, find, slice_get, IfOk};
 ghost use Rattle.lid_design.specs.Columns.{is_among};
 ghost use Rattle.lid_design.specs.Models.{IsReached, insts_of, is_twice, formal_of, formals};
-ghost use Rattle.lid_names.specs.Names.{texts, firsts};
 ghost use Rattle.lid_ports.specs.Formals.{faulty_formal, name_behind, is_port_of, first_unbound_of};
+ghost use Rattle.lid_names.specs.Names.{texts, firsts};
 
 use crate::ports::{Port, Ports};
 use lid_design::{Bind, Inst};
