@@ -1,4 +1,4 @@
-use Rattle.std.proofs.Common.{◌≡◌, ◌<◌, ◌+◌, Some, length, sym, ◌∙◌, arith}
+use Rattle.std.proofs.Common.{◌<◌, ◌+◌, length, sym, ◌∙◌, arith}
 use Rattle.lid_design.specs.Models.{instance_number, insts_of}
 use Rattle.lid_wiring.proofs.Shallow.{shallow_of}
 use Rattle.lid_elab.proofs.Outer.{template_within}

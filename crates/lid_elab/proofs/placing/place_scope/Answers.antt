@@ -1,13 +1,11 @@
-use Rattle.std.proofs.Common.{◌≡◌, ◌<◌, ◌+◌, ◌++◌, ℕ, List, length, map, slice_get, sym, ◌∙◌, ap, subst, arith}
-use Rattle.std.specs.List.{All}
+use Rattle.std.proofs.Common.{◌≡◌, ◌+◌, ◌++◌, ℕ, List, length, map, sym, ◌∙◌, ap, arith}
 use Rattle.std.proofs.lemmas.List.{length-map}
 use Rattle.lid_design.specs.Network.{Driver}
 use Rattle.lid_design.specs.Elaboration.{model_nets}
 use Rattle.lid_elab.specs.Elaborations.{shown_driver}
 use Rattle.lid_elab.specs.Numbers.{start_of}
 use Rattle.lid_elab.specs.Templates.{seen_around}
-use Rattle.lid_elab.specs.Scopes.{picked, IsSmallAt}
-use Rattle.lid_elab.specs.declared.template.LocalDriver.{LocalDriver}
+use Rattle.lid_elab.specs.Scopes.{picked}
 use Rattle.lid_wiring.proofs.Limits.{few_columns}
 use Rattle.lid_elab.proofs.Numbering.{within}
 use Rattle.lid_elab.proofs.Outer.{picks_fit, placed_more, same_network, on_ok, lengths}
