@@ -12,13 +12,13 @@ use Rattle.lid_design.specs.WellFormed.{IsWellFormed}
 use Rattle.lid_design.specs.Models.{number_named, insts_of, instance_number, IsReached}
 use Rattle.lid_hierarchy.specs.Surveys.{StandsAfterItsModels, IsModelOrder}
 use Rattle.lid_counts.specs.declared.counts.Measure.{Measure}
-use Rattle.lid_counts.specs.declared.counts.Measure.TheVariants.{Depth, Cells, Nets, Latches, Defaulted}
+use Rattle.lid_counts.specs.declared.counts.Measure.TheVariants.{Depth}
 use Rattle.lid_counts.specs.Counts.{own, joined, with_inst, with_insts, count_by_subs, count_within, count_of}
 use Rattle.lid_names.proofs.Numbers.{there}
 use Rattle.lid_hierarchy.proofs.Walks.{reached_below}
 
 abbrev pub cut : ℕ → ℕ
-cut n = min n 4294967295
+cut n = min n 18446744073709551615
 
 abbrev pub whole : ℕ → ℕ
 whole n = n
@@ -29,17 +29,11 @@ Keeps what h = (x y a b : ℕ) → h x ≡ h y → h a ≡ h b → h (joined wha
 
 pub keeps_whole : (what : Measure) → Keeps what whole
 keeps_whole Depth x y a b e f = cc
-keeps_whole Cells x y a b e f = cc
-keeps_whole Nets x y a b e f = cc
-keeps_whole Latches x y a b e f = cc
-keeps_whole Defaulted x y a b e f = cc
+keeps_whole _ x y a b e f = cc
 
 pub keeps_cut : (what : Measure) → Keeps what cut
 keeps_cut Depth x y a b e f = omega arith
-keeps_cut Cells x y a b e f = omega arith
-keeps_cut Nets x y a b e f = omega arith
-keeps_cut Latches x y a b e f = omega arith
-keeps_cut Defaulted x y a b e f = omega arith
+keeps_cut _ x y a b e f = omega arith
 
 -- counts of instances that agree
 module _ (what : Measure) (d : Design) (h : ℕ → ℕ) (keeps : Keeps what h) (f g : ℕ → ℕ) where

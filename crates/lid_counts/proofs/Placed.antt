@@ -2,10 +2,10 @@
 use Rattle.std.specs.Option.{option_map_or}
 use Rattle.lid_design.specs.Elaboration.{instance, Instance, instances_in, instances, greatest, depth, over_instances}
 use Rattle.lid_counts.specs.declared.counts.Measure.TheVariants.{Depth}
-use Rattle.std.proofs.Common.{add-zero, zero-add, ◌≡◌, ℕ, zero, suc, ◌+◌, max, List, [], ◌∷◌, ◌++◌, length, map, flat_map, sum_by, Option, Some, None, sym, ◌∙◌, ap, arith}
+use Rattle.std.proofs.Common.{add-zero, zero-add, ◌≡◌, ℕ, zero, suc, ◌+◌, max, List, [], ◌∷◌, ◌++◌, length, map, flat_map, sum_by, Option, Some, None, refl, sym, ◌∙◌, ap, arith}
 use Rattle.std.specs.List.{enumerate_from}
 use Rattle.std.proofs.lemmas.List.{map-append}
-use Rattle.std.proofs.lemmas.List.Sums.{sum_by-append}
+use Rattle.std.proofs.lemmas.List.Sums.{sum_by-append, sum_by-cons}
 use Rattle.lid_design.specs.declared.Design.{Design}
 use Rattle.lid_design.specs.declared.Inst.{Inst}
 use Rattle.lid_design.specs.Models.{number_named, insts_of}
@@ -15,9 +15,6 @@ use Rattle.lid_counts.specs.Counts.{own, joined, with_insts, count_by_subs, coun
 -- the instances in one
 abbrev pub inside : ℕ → Design → List ℕ → ℕ × Inst → List Instance
 inside n d path p = option_map_or (instances_in n d (p.0 ∷ path)) (number_named d p.1.model) []
-
-pub sum_cons : {A : Type 0} (f : A → ℕ) (x : A) (xs : List A) → sum_by f (x ∷ xs) ≡ f x + sum_by f xs
-sum_cons f x xs = sum_by-append f (x ∷ []) xs ∙ ap (λ (n : ℕ). n + sum_by f xs) (zero-add (f x))
 
 module _ (what : Measure) (d : Design) where
   abbrev pub Sums : Type 0
@@ -51,12 +48,22 @@ module _ (what : Measure) (d : Design) where
   unfolding count_by_subs
   sum_instances sums zero path k = zero-add (own what d k)
   sum_instances sums (suc n) path k =
-      sum_cons (λ p. own what d p.model) (instance path k) (flat_map (inside n d path) (enumerate_from 0 (insts_of d k)))
+      sum_by-cons (λ p. own what d p.model) (instance path k) (flat_map (inside n d path) (enumerate_from 0 (insts_of d k)))
       ∙ sum_insts sums n (sum_instances sums n) path (insts_of d k) 0 (own what d k)
 
+  -- the count of a model, over the model and all instances in it by all paths
+  pub sum_of : Sums → (k : ℕ) → sum_by (λ p. own what d p.model) (instances_in (length d.models) d [] k) ≡ count_of what d k
+  unfolding count_of
+  sum_of sums = sum_instances sums (length d.models) []
+
   pub sum_is : Sums → over_instances (own what) d ≡ count_at_root what d
-  unfolding instances count_at_root count_of
-  sum_is sums = sum_instances sums (length d.models) [] d.root
+  unfolding instances count_at_root
+  sum_is sums = sum_of sums d.root
+
+-- all that is counted but the depth is added
+pub counts_sum : (what : Measure) (d : Design) (k : ℕ) → (what ≡ Depth → ⊥) → count_of what d k ≡ sum_by (λ p. own what d p.model) (instances_in (length d.models) d [] k)
+counts_sum Depth d k other = absurd (other refl)
+counts_sum _ d k other = sym (sum_of _ d (λ x a. refl) k)
 
 greatest_append : (xs ys : List ℕ) → greatest (xs ++ ys) ≡ max (greatest xs) (greatest ys)
 greatest_append [] ys = omega arith

@@ -1,17 +1,17 @@
-ghost use Rattle.std.specs.Prelude.{◌≡◌, ◌<◌, ◌≤◌, ◌^◌, ℕ, min, length, count_by, slice_get, slice_index_or, Some, IfOk};
+ghost use Rattle.std.specs.Prelude.{◌≡◌, ◌<◌, ◌^◌, ℕ, min, length, sum_by, slice_get, slice_index_or, Some, IfOk};
 ghost use Rattle.lid_design.specs.Models.{IsReached, insts_of};
-ghost use Rattle.lid_design.specs.Elaboration.{is_latch, is_defaulted, is_open};
-ghost use Rattle.lid_counts.specs.Counts.{own, joined, with_inst, count_by_subs, count_of, count_at_root};
+ghost use Rattle.lid_design.specs.Elaboration.{is_open};
+ghost use Rattle.lid_counts.specs.Counts.{own, in_cell, joined, with_inst, count_by_subs, count_of, count_at_root};
 
 use lid_design::{Cell, Init, Inst, Model};
 use lid_hierarchy::Survey;
 use lid_names::model_at;
 use std::alloc::{AllocError, Global};
 
-/// The greatest count that is told. A count above it is told as this.
+/// The greatest count that is told of a whole design. A count above it is told as this.
 const TOP: u64 = 4_294_967_295;
 
-/// What is counted over all instances of a design.
+/// What is counted over all instances of a design, or of a model and all that is in it.
 #[derive(Clone, Copy)]
 pub enum Measure {
     /// The longest chain of instances.
@@ -24,6 +24,12 @@ pub enum Measure {
     Latches,
     /// Latches whose first bit was left open.
     Defaulted,
+    /// Covers.
+    Covers,
+    /// The inputs of covers.
+    CoverInputs,
+    /// The rows of covers.
+    CoverRows,
 }
 
 /// What is counted over all instances of a design, at most 4,294,967,295.
@@ -31,13 +37,29 @@ pub enum Measure {
 pub fn count_all(alloc: Global, survey: &Survey<'_>, what: Measure) -> Result<u64, AllocError>
     ensures { IfOk result (λ n. n ≡ min (count_at_root what survey.now) 4294967295) }
 {
-    let counts = count_each(alloc, survey, what)?;
-    Ok(read(counts.as_slice(), survey.design().root))
+    let count = count_model(alloc, survey, what, survey.design().root)?;
+    Ok(count.min(TOP))
 }
 
-/// What is counted over the instances from one of each reached model on, at most `TOP`.
-fn count_each(alloc: Global, survey: &Survey<'_>, what: Measure) -> Result<Vec<u64>, AllocError>
-    ensures { IfOk result (λ counts. (k : ℕ) → IsReached survey.now k → slice_index_or counts.items k 0 ≡ min (count_of what survey.now k) 4294967295) }
+/// What is counted in a reached model and in all instances in it, over all paths, at most
+/// 18,446,744,073,709,551,615. For many models `count_each` takes the time of one.
+pub fn count_model(
+    alloc: Global,
+    survey: &Survey<'_>,
+    what: Measure,
+    model: u32,
+) -> Result<u64, AllocError>
+    requires { IsReached survey.now model }
+    ensures { IfOk result (λ n. n ≡ min (count_of what survey.now model) 18446744073709551615) }
+{
+    let counts = count_each(alloc, survey, what)?;
+    Ok(read(counts.as_slice(), model))
+}
+
+/// What is counted in each reached model and in all instances in it, over all paths, by the numbers of
+/// the models, each at most 18,446,744,073,709,551,615. It goes over each reached model once.
+pub fn count_each(alloc: Global, survey: &Survey<'_>, what: Measure) -> Result<Vec<u64>, AllocError>
+    ensures { IfOk result (λ counts. (k : ℕ) → IsReached survey.now k → slice_index_or counts.items k 0 ≡ min (count_of what survey.now k) 18446744073709551615) }
 {
     let order = survey.order();
     let mut counts = Vec::from_elem(alloc, 0u64, survey.design().models.len())?;
@@ -48,23 +70,29 @@ fn count_each(alloc: Global, survey: &Survey<'_>, what: Measure) -> Result<Vec<u
     Ok(counts)
 }
 
-/// What is counted over the instances from one of a model on, by the counts of the models of its instances.
+/// What is counted in a model and in all instances in it, by the counts of the models of its instances.
 fn count_from(survey: &Survey<'_>, what: Measure, k: u32, counts: &[u64]) -> u64
     requires { IsReached survey.now k }
-    ensures { result ≡ min (count_by_subs what survey.now (λ j. slice_index_or counts.now j 0) k) 4294967295 }
+    ensures { result ≡ min (count_by_subs what survey.now (λ j. slice_index_or counts.now j 0) k) 18446744073709551615 }
 {
     match model_at(survey.design(), k) {
-        Some(model) => count_model(survey, what, k, model, counts),
+        Some(model) => count_with_insts(survey, what, k, model, counts),
         None => 0,
     }
 }
 
-/// What is counted over the instances from one of a model on, by the counts of the models of its instances.
-fn count_model(survey: &Survey<'_>, what: Measure, k: u32, model: &Model, counts: &[u64]) -> u64
+/// What is counted in a model and in all instances in it, by the counts of the models of its instances.
+fn count_with_insts(
+    survey: &Survey<'_>,
+    what: Measure,
+    k: u32,
+    model: &Model,
+    counts: &[u64],
+) -> u64
     requires reached { IsReached survey.now k }
     requires model { slice_get survey.now.models k ≡ Some model.now }
     requires few { length model.now.insts < 2 ^ 32 }
-    ensures { result ≡ min (count_by_subs what survey.now (λ j. slice_index_or counts.now j 0) k) 4294967295 }
+    ensures { result ≡ min (count_by_subs what survey.now (λ j. slice_index_or counts.now j 0) k) 18446744073709551615 }
 {
     let mut count = count_own(survey, what, k, model);
     for i in 0..model.insts.len() {
@@ -75,8 +103,7 @@ fn count_model(survey: &Survey<'_>, what: Measure, k: u32, model: &Model, counts
 
 /// Adds the count of the model of an instance.
 fn join_inst(survey: &Survey<'_>, what: Measure, k: u32, i: u32, count: u64, counts: &[u64]) -> u64
-    requires { count ≤ 4294967295 }
-    ensures { (inst : Inst) → slice_get (insts_of survey.now k) i ≡ Some inst → result ≡ min (with_inst what survey.now (λ j. slice_index_or counts.now j 0) count inst) 4294967295 }
+    ensures { (inst : Inst) → slice_get (insts_of survey.now k) i ≡ Some inst → result ≡ min (with_inst what survey.now (λ j. slice_index_or counts.now j 0) count inst) 18446744073709551615 }
 {
     match survey.model_of(k, i) {
         Some(sub) => join(what, count, read(counts, sub)),
@@ -86,15 +113,17 @@ fn join_inst(survey: &Survey<'_>, what: Measure, k: u32, i: u32, count: u64, cou
 
 /// A count, and that of an instance's model.
 fn join(what: Measure, count: u64, sub: u64) -> u64
-    requires { count ≤ 4294967295 }
-    ensures { result ≡ min (joined what count sub) 4294967295 }
+    ensures { result ≡ min (joined what count sub) 18446744073709551615 }
 {
-    let sub = sub.min(TOP);
     match what {
-        Measure::Depth => count.max(sub + 1).min(TOP),
-        Measure::Cells | Measure::Nets | Measure::Latches | Measure::Defaulted => {
-            (count + sub).min(TOP)
-        }
+        Measure::Depth => count.max(sub.saturating_add(1)),
+        Measure::Cells
+        | Measure::Nets
+        | Measure::Latches
+        | Measure::Defaulted
+        | Measure::Covers
+        | Measure::CoverInputs
+        | Measure::CoverRows => count.saturating_add(sub),
     }
 }
 
@@ -105,52 +134,46 @@ fn read(counts: &[u64], place: u32) -> u64
     counts.get(place as usize).copied().unwrap_or(0)
 }
 
-/// What is counted in a model itself, at most `TOP`.
+/// What is counted in a model itself.
 fn count_own(survey: &Survey<'_>, what: Measure, k: u32, model: &Model) -> u64
     requires reached { IsReached survey.now k }
     requires model { slice_get survey.now.models k ≡ Some model.now }
-    ensures { result ≡ min (own what survey.now k) 4294967295 }
+    ensures { result ≡ min (own what survey.now k) 18446744073709551615 }
 {
     match what {
         Measure::Depth => 0,
-        Measure::Cells => {
-            let cells = (model.cells.len() as u64).min(TOP);
-            let insts = (model.insts.len() as u64).min(TOP);
-            (cells + insts).min(TOP)
-        }
-        Measure::Nets => (survey.count_nets(k) as u64).min(TOP),
-        Measure::Latches => {
-            let latches = model.cells.as_slice().iter().filter(|cell| is_latch(cell));
-            (latches.count() as u64).min(TOP)
-        }
-        Measure::Defaulted => {
-            let open = model
-                .cells
-                .as_slice()
-                .iter()
-                .filter(|cell| is_defaulted(cell));
-            (open.count() as u64).min(TOP)
-        }
+        Measure::Cells => (model.cells.len() as u64).saturating_add(model.insts.len() as u64),
+        Measure::Nets => survey.count_nets(k) as u64,
+        Measure::Latches
+        | Measure::Defaulted
+        | Measure::Covers
+        | Measure::CoverInputs
+        | Measure::CoverRows => count_cells(what, model.cells.as_slice()),
     }
 }
 
-/// Whether a cell is a latch.
-fn is_latch(cell: &Cell) -> bool
-    ensures { result ≡ is_latch cell.now }
+/// What is counted in some cells.
+fn count_cells(what: Measure, cells: &[Cell]) -> u64
+    ensures { result ≡ min (sum_by (in_cell what) cells.now) 18446744073709551615 }
 {
-    match cell {
-        Cell::Latch { .. } => true,
-        Cell::Names { .. } => false,
+    let mut count = 0u64;
+    for cell in cells {
+        count = count.saturating_add(count_in_cell(what, cell));
     }
+    count
 }
 
-/// Whether a cell is a latch whose first bit was left open.
-fn is_defaulted(cell: &Cell) -> bool
-    ensures { result ≡ is_defaulted cell.now }
+/// What is counted in a cell.
+fn count_in_cell(what: Measure, cell: &Cell) -> u64
+    ensures { result ≡ in_cell what cell.now }
 {
-    match cell {
-        Cell::Latch { init, .. } => is_open(*init),
-        Cell::Names { .. } => false,
+    match (what, cell) {
+        (Measure::Latches, Cell::Latch { .. }) => 1,
+        (Measure::Defaulted, Cell::Latch { init, .. }) => u64::from(is_open(*init)),
+        (Measure::Covers, Cell::Names { .. }) => 1,
+        (Measure::CoverInputs, Cell::Names { inputs, .. }) => inputs.len() as u64,
+        (Measure::CoverRows, Cell::Names { cover, .. }) => cover.cubes.len() as u64,
+        _ => 0,
     }
 }
 

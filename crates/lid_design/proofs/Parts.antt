@@ -14,7 +14,7 @@ use Rattle.lid_design.specs.Walks.{read_now, read_before, Feeds, Walk, WalksEnd,
 use Rattle.lid_design.specs.Flat.{inputs_at, latch_at, cover_at, flat_drivers, latch_out, latch_input, latch_init, ReadEarlier, IsFlat, state_at, MeetsRow}
 
 -- a list of at most one item has no two
-same_of_one : {A : Type 0} (xs : List A) (x y : A) → length xs ≤ 1 → Among x xs → Among y xs → x ≡ y
+pub same_of_one : {A : Type 0} (xs : List A) (x y : A) → length xs ≤ 1 → Among x xs → Among y xs → x ≡ y
 same_of_one [] x y few i j = absurd i
 same_of_one (z ∷ []) x y few (inl e) (inl e') = e ∙ sym e'
 same_of_one (z ∷ []) x y few (inl e) (inr j) = absurd j
@@ -55,6 +55,28 @@ at_input k j (net ∷ nets) s among =
       | inr later ↦ at_input k (j + 1) nets s later
     ]
 
+-- what drives net k of items that drive one net each
+abbrev Tried : {A : Type 0} → (A → ℕ) → (A → Driver ℕ) → ℕ → A → List (Driver ℕ)
+Tried out from k x = cond (out x == k) (from x ∷ []) []
+
+-- each item drives its net
+own_driver : {A : Type 0} (out : A → ℕ) (from : A → Driver ℕ) (x : A) (xs : List A) → Among x xs → Among (from x) (flat_map (Tried out from (out x)) xs)
+own_driver {A} out from x xs among =
+    among_flat {A = A} {B = Driver ℕ} (Tried out from (out x)) x (from x) xs among (among_if (out x == out x) (from x) (eq-eqb (out x) (out x) refl))
+
+-- and nothing else of them drives one
+driver_of : {A : Type 0} (out : A → ℕ) (from : A → Driver ℕ) (k : ℕ) (s : Driver ℕ) (xs : List A) → Among s (flat_map (Tried out from k) xs) → (x : A) × Among x xs × (out x ≡ k) × (s ≡ from x)
+driver_of {A} out from k s xs here =
+    let found = flat_among {A = A} {B = Driver ℕ} (Tried out from k) s xs here in
+    let tells = if_among (out found.0 == k) (from found.0) s found.2 in
+    (found.0, found.1, eqb-true (out found.0) k tells.0, tells.1)
+
+abbrev by_latch : FlatLatch → Driver ℕ
+by_latch latch = from_latch latch.init latch.input
+
+abbrev by_cover : FlatCover → Driver ℕ
+by_cover c = from_cover c.cover c.ins
+
 module _ (f : Flat) where
   -- each input, latch and cover drives its net
   pub input_drives : (k i : ℕ) → slice_get f.ins i ≡ Some k → Among {A = Driver ℕ} (from_input i) (flat_drivers f k)
@@ -66,18 +88,14 @@ module _ (f : Flat) where
   pub latch_drives : (latch : FlatLatch) → Among latch f.latches → Among (from_latch latch.init latch.input) (flat_drivers f latch.out)
   unfolding flat_drivers
   latch_drives latch among =
-      let k = latch.out in
-      among_right (from_latch latch.init latch.input) (inputs_at k 0 f.ins) (flat_map (latch_at k) f.latches ++ flat_map (cover_at k) f.covers)
-      (among_left (from_latch latch.init latch.input) (flat_map (latch_at k) f.latches) (flat_map (cover_at k) f.covers)
-      (among_flat {A = FlatLatch} {B = Driver ℕ} (latch_at k) latch (from_latch latch.init latch.input) f.latches among (among_if (k == k) (from_latch latch.init latch.input) (eq-eqb k k refl))))
+      among_right (by_latch latch) (inputs_at latch.out 0 f.ins) (flat_map (latch_at latch.out) f.latches ++ flat_map (cover_at latch.out) f.covers)
+      (among_left (by_latch latch) (flat_map (latch_at latch.out) f.latches) (flat_map (cover_at latch.out) f.covers) (own_driver latch_out by_latch latch f.latches among))
 
   pub cover_drives : (c : FlatCover) → Among c f.covers → Among (from_cover c.cover c.ins) (flat_drivers f c.out)
   unfolding flat_drivers
   cover_drives c among =
-      let k = c.out in
-      among_right (from_cover c.cover c.ins) (inputs_at k 0 f.ins) (flat_map (latch_at k) f.latches ++ flat_map (cover_at k) f.covers)
-      (among_right (from_cover c.cover c.ins) (flat_map (latch_at k) f.latches) (flat_map (cover_at k) f.covers)
-      (among_flat {A = FlatCover} {B = Driver ℕ} (cover_at k) c (from_cover c.cover c.ins) f.covers among (among_if (k == k) (from_cover c.cover c.ins) (eq-eqb k k refl))))
+      among_right (by_cover c) (inputs_at c.out 0 f.ins) (flat_map (latch_at c.out) f.latches ++ flat_map (cover_at c.out) f.covers)
+      (among_right (by_cover c) (flat_map (latch_at c.out) f.latches) (flat_map (cover_at c.out) f.covers) (own_driver (λ c. c.out) by_cover c f.covers among))
 
   -- and nothing else drives one
   abbrev pub IsDriverOf : ℕ → Driver ℕ → Type 0
@@ -90,21 +108,9 @@ module _ (f : Flat) where
   unfolding flat_drivers
   driver_is k s among = by (among_append s (inputs_at k 0 f.ins) (flat_map (latch_at k) f.latches ++ flat_map (cover_at k) f.covers) among)
     where
-      of_latch : Among s (flat_map (latch_at k) f.latches) → IsDriverOf k s
-      of_latch here =
-          let found = flat_among {A = FlatLatch} {B = Driver ℕ} (latch_at k) s f.latches here in
-          let tells = if_among (found.0.out == k) (from_latch found.0.init found.0.input) s found.2 in
-          inr (inl (found.0, found.1, eqb-true found.0.out k tells.0, tells.1))
-
-      of_cover : Among s (flat_map (cover_at k) f.covers) → IsDriverOf k s
-      of_cover here =
-          let found = flat_among {A = FlatCover} {B = Driver ℕ} (cover_at k) s f.covers here in
-          let tells = if_among (found.0.out == k) (from_cover found.0.cover found.0.ins) s found.2 in
-          inr (inr (found.0, found.1, eqb-true found.0.out k tells.0, tells.1))
-
       by_cell : Among s (flat_map (latch_at k) f.latches) ⊎ Among s (flat_map (cover_at k) f.covers) → IsDriverOf k s
-      by_cell (inl here) = of_latch here
-      by_cell (inr here) = of_cover here
+      by_cell (inl here) = inr (inl (driver_of latch_out by_latch k s f.latches here))
+      by_cell (inr here) = inr (inr (driver_of (λ c. c.out) by_cover k s f.covers here))
 
       by : Among s (inputs_at k 0 f.ins) ⊎ Among s (flat_map (latch_at k) f.latches ++ flat_map (cover_at k) f.covers) → IsDriverOf k s
       by (inl here) = inl (at_input k 0 f.ins s here)

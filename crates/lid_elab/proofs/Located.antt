@@ -86,16 +86,20 @@ pub record Located (d : Design) (n : ℕ) (c : Column) : Type 0 where
   pub sum : n ≡ start_of d c.path + net
 
 module _ (d : Design) where
+  -- an instance that is there, and the number of its model
+  record Placed (found : Option Inst) : Type 0 where
+    inst : Inst
+    number : ℕ
+    at : found ≡ Some inst
+    names : number_named d inst.model ≡ Some number
+
   -- a column of the instances of a model
   record InBlock (n : ℕ) (path : List ℕ) (first : ℕ) (insts : List Inst) (m : ℕ) (c : Column) : Type 0 where
     i : ℕ
-    inst : Inst
-    j : ℕ
-    at : slice_get insts i ≡ Some inst
-    names : number_named d inst.model ≡ Some j
+    sub : Placed (slice_get insts i)
     rest : ℕ
     split : m ≡ over_insts d (size_within n d) (take i insts) + rest
-    inner : slice_get (columns_in n d ((first + i) ∷ path) j) rest ≡ Some c
+    inner : slice_get (columns_in n d ((first + i) ∷ path) sub.number) rest ≡ Some c
 
   in_block : (n : ℕ) (path : List ℕ) (first : ℕ) (insts : List Inst) (m : ℕ) (c : Column) → slice_get (flat_map (block d n path) (enumerate_from first insts)) m ≡ Some c → InBlock n path first insts m c
   in_block n path first [] m c here = absurd (let e : None ≡ Some c = here in cc)
@@ -109,10 +113,7 @@ module _ (d : Design) where
       at_first None e none = absurd (let f : None ≡ Some c = none in cc)
       at_first (Some j) e inner = record {
         i = zero;
-        inst = x;
-        j = j;
-        at = refl;
-        names = e;
+        sub = record { inst = x; number = j; at = refl; names = e };
         rest = m;
         split = sym (zero-add m);
         inner = subst (λ (f : ℕ). slice_get (columns_in n d (f ∷ path) j) m ≡ Some c) (sym (add-zero first)) inner;
@@ -128,13 +129,10 @@ module _ (d : Design) where
           let whole : m ≡ (option_map_or (size_within n d) (number_named d x.model) 0 + over_insts d (size_within n d) (take found.i insts)) + found.rest = omega arith in
           record {
             i = suc found.i;
-            inst = found.inst;
-            j = found.j;
-            at = found.at;
-            names = found.names;
+            sub = found.sub;
             rest = found.rest;
             split = whole;
-            inner = subst (λ (f : ℕ). slice_get (columns_in n d (f ∷ path) found.j) found.rest ≡ Some c) number found.inner;
+            inner = subst (λ (f : ℕ). slice_get (columns_in n d (f ∷ path) found.sub.number) found.rest ≡ Some c) number found.inner;
           }
 
   -- enough steps give the size
@@ -163,10 +161,11 @@ module _ (d : Design) where
         by (inl mine) next = own (slice_get (model_nets d k) m) refl (sym (slice_get-map (column path) (model_nets d k) m) ∙ mine)
         by (inr (rest, sum, later)) next =
             let found = in_block n path 0 (insts_of d k) rest c later in
-            let names : instance_number d found.i k ≡ Some found.j = ap (option_and_then (λ inst. number_named d inst.model)) found.at ∙ found.names in
-            let inner_leads : number_from d d.root (found.i ∷ path) ≡ Some found.j = ap (option_and_then (instance_number d found.i)) leads ∙ names in
-            let inner = subst (λ (f : ℕ). slice_get (columns_in n d (f ∷ path) found.j) found.rest ≡ Some c) (zero-add found.i) found.inner in
-            let there = next found.i found.j found.rest c inner inner_leads (deep found.i found.j names) in
+            let j = found.sub.number in
+            let names : instance_number d found.i k ≡ Some j = ap (option_and_then (λ inst. number_named d inst.model)) found.sub.at ∙ found.sub.names in
+            let inner_leads : number_from d d.root (found.i ∷ path) ≡ Some j = ap (option_and_then (instance_number d found.i)) leads ∙ names in
+            let inner = subst (λ (f : ℕ). slice_get (columns_in n d (f ∷ path) j) found.rest ≡ Some c) (zero-add found.i) found.inner in
+            let there = next found.i j found.rest c inner inner_leads (deep found.i j names) in
             let sizes : over_insts d (size_within n d) (take found.i (insts_of d k)) ≡ over_insts d (size_within (length d.models) d) (take found.i (insts_of d k)) =
             over_same d (size_within n d) (size_within (length d.models) d) (take found.i (insts_of d k)) (λ i b named. size_le n (length d.models) b (omega arith) (deep i b (take_get d found.i i b (insts_of d k) named))) in
             let first : start_of d (found.i ∷ path) ≡ start_of d path + offset_of d k found.i = ap (λ (o : Option ℕ). start_of d path + option_map_or (λ k. offset_of d k found.i) o 0) leads in

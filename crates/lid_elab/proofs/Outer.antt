@@ -118,11 +118,22 @@ module _ (d : Design) (judged : IsJudged d) (path : List ℕ) (k : ℕ) (leads :
       let named = get_of (model_nets d k) j (let l = is.picked.long in omega arith) in
       (named.0, named.1, at_net j (slice_index_or t.picks j e) named.0 (slice_get-get_or t.picks j e less) named.1)
 
-  pub picks_within : All (λ pick. pick < length t.locals) t.picks
-  picks_within j e less = (placed_at j e less).2.there
+  -- the picks are places of drivers, whose numbers are small, as slices show them
+  pub record PicksFit (os : List ℕ) (ls : List LocalDriver) (ps : List ℕ) : Type 0 where
+    pub within : All (λ pick. pick < length ls) ps
+    pub small : All (λ pick. IsSmallAt d os around (slice_get ls pick)) ps
 
-  pub picks_small : All (λ pick. IsSmallAt d t.offsets around (slice_get t.locals pick)) t.picks
-  picks_small j e less = (placed_at j e less).2.small
+  all_fit : PicksFit t.offsets t.locals t.picks
+  all_fit = record {
+    within = λ j e less. (placed_at j e less).2.there;
+    small = λ j e less. (placed_at j e less).2.small;
+  }
+
+  pub picks_fit : {os : List ℕ} {ls : List LocalDriver} {ps : List ℕ} → os ≡ t.offsets → ls ≡ t.locals → ps ≡ t.picks → PicksFit os ls ps
+  picks_fit {os} {ls} {ps} a b e =
+      subst (λ (os : List ℕ). PicksFit os ls ps) (sym a)
+      (subst (λ (ls : List LocalDriver). PicksFit t.offsets ls ps) (sym b)
+      (subst (λ (ps : List ℕ). PicksFit t.offsets t.locals ps) (sym e) all_fit))
 
   -- what is written goes on with the columns of the place
   pub placed_more : (old new : List (Driver ℕ)) → start_of d path ≡ length old → ArePlaced d old → new ≡ old ++ map (picked d (start_of d path) t.offsets around t.locals) t.picks → ArePlaced d new

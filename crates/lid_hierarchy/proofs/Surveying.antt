@@ -73,15 +73,15 @@ module _ (d : Design) (formed : IsWellFormed d) (order : List ℕ) (ordered : Is
     given = own_inputs;
   }
 
--- the lists of names of a survey, as a method sees them from outside
-module _ (d : Design) (clocks named inputs : List (List (List ℕ))) (names : AreNames d clocks named inputs) (seen : Design) (view : d ≡ seen) (k : ℕ) (reached : IsReached seen k) where
-  pub own : IsReached d k
+-- a list of names of a survey, as a method sees it from outside: by a slice of the list
+module _ {d : Design} {clocks named inputs : List (List (List ℕ))} (names : AreNames d clocks named inputs) {seen : Design} (view : d ≡ seen) (k : ℕ) (reached : IsReached seen k) {lists held : List (List (List ℕ))} (each : length lists ≡ length d.models) (same_list : held ≡ lists) where
+  own : IsReached d k
   own = subst (λ (e : Design). IsReached e k) (sym view) reached
 
   -- there is an entry for a reached model
-  pub inside_of : (lists held : List (List (List ℕ))) → length lists ≡ length d.models → held ≡ lists → k < length held
-  inside_of lists held each same = let below = names.inside k own in omega (arith, each, ap length same)
+  pub inside_of : k < length held
+  inside_of = let below = names.inside k own in omega (arith, each, ap length same_list)
 
-  -- and it is that of the list
-  pub entry_of : (lists held : List (List (List ℕ))) (x : List (List ℕ)) → length lists ≡ length d.models → held ≡ lists → x ≡ get_or held k x → x ≡ get_or lists k []
-  entry_of lists held x each same is = field_at lists held k [] x same is (inside_of lists held each same)
+  -- and what is known of the list's entry is so of the one that is read
+  pub seen_of : {A : Type 0} (f : List (List ℕ) → A) (want : Design → A) (x : List (List ℕ)) → x ≡ get_or held k x → (IsReached d k → f (get_or lists k []) ≡ want d) → f x ≡ want seen
+  seen_of f want x is known = ap f (field_at lists held k [] x same_list is inside_of) ∙ known own ∙ ap want view

@@ -8,7 +8,8 @@ use Rattle.std.proofs.lemmas.Bool.{ltb-false}
 use Rattle.lid_rules.specs.declared.fault.CheckFault.TheVariants.{Limit}
 use Rattle.lid_counts.specs.declared.counts.Measure.TheVariants.{Latches, Defaulted, Depth, Cells, Nets}
 use Rattle.lid_counts.specs.Counts.{count_at_root}
-use Rattle.lid_counts.proofs.Placed.{sum_cons, sum_is, depth_is}
+use Rattle.std.proofs.lemmas.List.Sums.{sum_by-cons}
+use Rattle.lid_counts.proofs.Placed.{sum_is, depth_is}
 use Rattle.std.proofs.Common.{min, nat_lt, Bool, true, false, count_by, cond, ◌≤◌, ◌≡◌, ℕ, suc, ◌+◌, List, [], ◌∷◌, length, sum_by, Option, Some, None, slice_get, refl, ◌∙◌, ap, arith}
 use Rattle.lid_base.specs.declared.which.Which.TheVariants as which
 use Rattle.lid_design.specs.declared.Design.{Design}
@@ -29,11 +30,11 @@ limits_are d =
 
 sum_below : {A : Type 0} (f g : A → ℕ) (xs : List A) → ((x : A) → f x ≤ g x) → sum_by f xs ≤ sum_by g xs
 sum_below f g [] below = omega arith
-sum_below f g (x ∷ xs) below = let e = sum_below f g xs below in let h = below x in let a = sum_cons f x xs in let b = sum_cons g x xs in omega arith
+sum_below f g (x ∷ xs) below = let e = sum_below f g xs below in let h = below x in let a = sum_by-cons f x xs in let b = sum_by-cons g x xs in omega arith
 
 counted_within : (p : Cell → Bool) (cells : List Cell) → count_by p cells ≤ length cells
 counted_within p [] = omega arith
-counted_within p (cell ∷ cells) = let cons : count_by p (cell ∷ cells) ≡ cond (p cell) 1 0 + count_by p cells = sum_cons (λ c. cond (p c) 1 0) cell cells in let all = by (p cell) (counted_within p cells) in omega arith
+counted_within p (cell ∷ cells) = let cons : count_by p (cell ∷ cells) ≡ cond (p cell) 1 0 + count_by p cells = sum_by-cons (λ c. cond (p c) 1 0) cell cells in let all = by (p cell) (counted_within p cells) in omega arith
   where
     by : (b : Bool) → count_by p cells ≤ length cells → cond b 1 0 + count_by p cells ≤ suc (length cells)
     by true e = omega arith

@@ -56,30 +56,24 @@ fn push_cells<'d>(list: &mut Vec<&'d [u8]>, cells: &'d [Cell]) -> Result<(), All
 fn push_cell<'d>(list: &mut Vec<&'d [u8]>, cell: &'d Cell) -> Result<(), AllocError>
     ensures { OnOk result (texts list.new.items ≡ texts list.old.items ++ cell_names cell.now) }
 {
+    push_read(list, cell)?;
+    if let Cell::Latch {
+        control: Some(control),
+        ..
+    } = cell
+    {
+        push_name(list, control)?;
+    }
+    push_name(list, out_of(cell))
+}
+
+/// Appends what a cell reads.
+fn push_read<'d>(list: &mut Vec<&'d [u8]>, cell: &'d Cell) -> Result<(), AllocError>
+    ensures { OnOk result (texts list.new.items ≡ texts list.old.items ++ cell_reads cell.now) }
+{
     match cell {
-        Cell::Names { inputs, out, .. } => {
-            push_names(list, inputs.as_slice())?;
-            push_name(list, out)
-        }
-        Cell::Latch {
-            input,
-            out,
-            control: Some(control),
-            ..
-        } => {
-            push_name(list, input)?;
-            push_name(list, control)?;
-            push_name(list, out)
-        }
-        Cell::Latch {
-            input,
-            out,
-            control: None,
-            ..
-        } => {
-            push_name(list, input)?;
-            push_name(list, out)
-        }
+        Cell::Names { inputs, .. } => push_names(list, inputs.as_slice()),
+        Cell::Latch { input, .. } => push_name(list, input),
     }
 }
 
@@ -150,16 +144,6 @@ pub fn push_reads<'d>(list: &mut Vec<&'d [u8]>, cells: &'d [Cell]) -> Result<(),
         push_read(list, cell)?;
     }
     Ok(())
-}
-
-/// Appends what a cell reads.
-fn push_read<'d>(list: &mut Vec<&'d [u8]>, cell: &'d Cell) -> Result<(), AllocError>
-    ensures { OnOk result (texts list.new.items ≡ texts list.old.items ++ cell_reads cell.now) }
-{
-    match cell {
-        Cell::Names { inputs, .. } => push_names(list, inputs.as_slice()),
-        Cell::Latch { input, .. } => push_name(list, input),
-    }
 }
 
 /// A set of the names of a list.

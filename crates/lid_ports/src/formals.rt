@@ -1,9 +1,8 @@
 ghost use Rattle.std.specs.Prelude.{◌≡◌, Some, not, map, find, slice_get, IfOk};
 ghost use Rattle.lid_design.specs.Columns.{is_among};
 ghost use Rattle.lid_design.specs.Models.{IsReached, insts_of, is_twice, formal_of, formals};
-ghost use Rattle.lid_names.specs.Names.{texts, firsts};
-ghost use Rattle.lid_ports.specs.declared.formals.InstRule.TheVariants.{UnknownFormal, Unbound};
 ghost use Rattle.lid_ports.specs.Formals.{faulty_formal, name_behind, is_port_of, first_unbound_of};
+ghost use Rattle.lid_names.specs.Names.{texts, firsts};
 
 use crate::ports::{Port, Ports};
 use lid_design::{Bind, Inst};
@@ -34,22 +33,14 @@ pub fn find_formal<'d>(
     requires inst { slice_get (insts_of ports.now k) i ≡ Some inst.now }
     ensures { IfOk result (λ formal. name_behind formal ≡ faulty_formal rule ports.now inst.now) }
 {
-    match rule {
-        InstRule::UnknownFormal => Ok(find_unknown(ports, k, i, inst)),
-        InstRule::FormalTwice => find_again(alloc, inst),
-        InstRule::Unbound => find_unbound(alloc, ports, k, i, inst),
-    }
-}
-
-/// The first formal of an instance that is in no list of its model.
-fn find_unknown<'d>(ports: &Ports<'d>, k: u32, i: u32, inst: &'d Inst) -> Option<&'d [u8]>
-    requires reached { IsReached ports.now k }
-    requires inst { slice_get (insts_of ports.now k) i ≡ Some inst.now }
-    ensures { name_behind result ≡ faulty_formal UnknownFormal ports.now inst.now }
-{
-    match ports.model_of(k, i) {
-        Some(sub) => first_unknown(ports, sub, inst.binds.as_slice()),
-        None => None,
+    match (rule, ports.model_of(k, i)) {
+        (InstRule::FormalTwice, _) => find_again(alloc, inst),
+        (InstRule::UnknownFormal, Some(sub)) => {
+            Ok(first_unknown(ports, sub, inst.binds.as_slice()))
+        }
+        (InstRule::UnknownFormal, None) => Ok(None),
+        (InstRule::Unbound, Some(sub)) => find_unbound(alloc, ports, sub, inst),
+        (InstRule::Unbound, None) => Ok(None),
     }
 }
 
@@ -103,23 +94,18 @@ fn first_in<'d>(names: &[&'d [u8]], set: &NameSet<'d>) -> Option<&'d [u8]>
     None
 }
 
-/// The first data input of the model of an instance that is not bound.
+/// The first data input of a model that an instance does not bind.
 fn find_unbound<'d>(
     alloc: Global,
     ports: &Ports<'d>,
-    k: u32,
-    i: u32,
+    sub: u32,
     inst: &'d Inst,
 ) -> Result<Option<&'d [u8]>, AllocError>
-    requires reached { IsReached ports.now k }
-    requires inst { slice_get (insts_of ports.now k) i ≡ Some inst.now }
-    ensures { IfOk result (λ formal. name_behind formal ≡ faulty_formal Unbound ports.now inst.now) }
+    requires { IsReached ports.now sub }
+    ensures { IfOk result (λ formal. name_behind formal ≡ first_unbound_of ports.now sub (firsts (formals inst.now))) }
 {
     let bound = collect_bound(alloc, inst)?;
-    match ports.model_of(k, i) {
-        Some(sub) => Ok(first_unbound(ports, sub, &bound)),
-        None => Ok(None),
-    }
+    Ok(first_unbound(ports, sub, &bound))
 }
 
 /// The formals that an instance binds.

@@ -31,7 +31,8 @@ few_nets d none =
     let e = or_none (over 262144 Cells (count_cells d)) _ b.1 in
     not_over 1048576 (count_nets d) Nets e.1
 
-sum_same : {A : Type 0} (f g : A → ℕ) (xs : List A) → ((x : A) → f x ≡ g x) → sum_by f xs ≡ sum_by g xs
+-- two sums of the same numbers
+pub sum_same : {A : Type 0} (f g : A → ℕ) (xs : List A) → ((x : A) → f x ≡ g x) → sum_by f xs ≡ sum_by g xs
 sum_same f g [] same = refl
 sum_same f g (x ∷ xs) same =
     let a = sum_by-cons f x xs in

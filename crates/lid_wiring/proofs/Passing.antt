@@ -59,6 +59,7 @@ record AllNone (d : Design) (ks : List ℕ) : Type 0 where
   two : two_drivers d ks ≡ None
   not_driven : undriven d ks ≡ None
   clock : clock_use d ks ≡ None
+  root : root_logic d ≡ None
   limit : limits d ≡ None
 
 all_none : (d : Design) (ks : List ℕ) → fault_after_recursion d ks ≡ None → AllNone d ks
@@ -73,7 +74,11 @@ all_none d ks none =
     let i = or_none (two_clocks d) _ h.1 in
     let j = or_none (mixed_edges d ks) _ i.1 in
     let l = or_none (root_logic d) (limits d) j.1 in
-    record { formal = a.0; twice = b.0; unbounds = e.0; two = f.0; not_driven = g.0; clock = h.0; limit = l.1 }
+    record { formal = a.0; twice = b.0; unbounds = e.0; two = f.0; not_driven = g.0; clock = h.0; root = l.0; limit = l.1 }
+
+-- the root has no logic of its own beside instances
+pub no_root_logic : (d : Design) (ks : List ℕ) → fault_after_recursion d ks ≡ None → root_logic d ≡ None
+no_root_logic d ks none = (all_none d ks none).root
 
 -- no limit is passed
 pub no_limit : (d : Design) (ks : List ℕ) → fault_after_recursion d ks ≡ None → limits d ≡ None

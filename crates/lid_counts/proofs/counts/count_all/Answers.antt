@@ -1,14 +1,17 @@
-use Rattle.std.proofs.Common.{ℕ, [], List, refl, slice_index_or, ◌∙◌, ap}
+use Rattle.std.proofs.Common.{[], refl, ap, arith}
 use Rattle.lid_design.specs.declared.Design.{Design}
-use Rattle.lid_design.specs.Models.{number_from}
-use Rattle.lid_counts.specs.Counts.{count_at_root}
+use Rattle.lid_design.specs.Models.{IsReached, number_from}
+use Rattle.lid_counts.specs.Counts.{count_of, count_at_root}
+use Rattle.std.proofs.Common.{subst, sym}
 use Rattle.lid_counts.proofs.counts.count_all.Goals as goal
 
+pub count_model-requires : goal.count_model-requires
+unfolding number_from
+count_model-requires c = subst (IsReached c.args.survey.now) (sym (ap (λ (d : Design). d.root) c.design.ensures.same)) ([], refl)
+
 pub returns : goal.returns
-unfolding count_at_root number_from
+unfolding count_at_root
 returns c =
-    let root = ap (λ (d : Design). d.root) c.design.ensures.same in
-    c.read.ensures
-    ∙ ap (λ (xs : List ℕ). slice_index_or xs c.design.result.now.root 0) c.as_slice.ensures.value
-    ∙ ap (λ (k : ℕ). slice_index_or c.in_ok-counts.counts.items k 0) root
-    ∙ c.in_ok-counts.ensures c.args.survey.now.root ([], refl)
+    let root = ap (λ (d : Design). count_of c.args.what c.args.survey.now d.root) c.design.ensures.same in
+    let model = c.in_ok-count.ensures in
+    omega arith

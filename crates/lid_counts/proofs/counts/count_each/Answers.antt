@@ -23,7 +23,7 @@ index_mut-requires c =
 pub loop-k-preserved : goal.loop-k-preserved
 loop-k-preserved c =
     let h : c.loop-k.k-index < length c.order-order.result.now = omega arith in
-    let value = c.count_from-count.ensures ∙ ap (λ (xs : List ℕ). min (count_by_subs c.args.what c.args.survey.now (λ j. slice_index_or xs j 0) (get_or c.order-order.result.now c.loop-k.k-index 0)) 4294967295) c.as_slice.ensures.value in
+    let value = c.count_from-count.ensures ∙ ap (λ (xs : List ℕ). min (count_by_subs c.args.what c.args.survey.now (λ j. slice_index_or xs j 0) (get_or c.order-order.result.now c.loop-k.k-index 0)) 18446744073709551615) c.as_slice.ensures.value in
     record {
       long = length-set c.loop-k.counts.items (get_or c.order-order.result.now c.loop-k.k-index 0) c.count_from-count.result ∙ c.loop-k.invariant.long;
       done = counted_more c.args.what c.args.survey.now c.design.ensures.formed c.order-order.result.now c.order-order.ensures c.loop-k.k-index h c.loop-k.counts.items c.loop-k.invariant.long c.loop-k.invariant.done c.count_from-count.result value;

@@ -1,4 +1,4 @@
-use Rattle.std.proofs.Common.{◌≡◌, ◌<◌, ◌+◌, Some, length, sym, ◌∙◌, arith}
+use Rattle.std.proofs.Common.{◌<◌, ◌+◌, length, sym, ◌∙◌, arith}
 use Rattle.lid_design.specs.Models.{instance_number, insts_of}
 use Rattle.lid_wiring.proofs.Shallow.{shallow_of}
 use Rattle.lid_elab.proofs.Outer.{template_within}
@@ -17,36 +17,25 @@ last_up_to-place-requires-clause-first c = (past_nets c.args.judged.now c.design
 
 pub overflow_cast-inst : goal.overflow_cast-inst
 overflow_cast-inst c =
-    let d = c.args.judged.now in
-    let k = c.args.spot.model in
-    let are = offsets_are d c.args.templates.now c.requires.templates k c.requires.reached c.index-templates-spot.result c.as_slice-offsets.result.now c.as_slice-offsets.ensures in
-    let few = are.few in
-    let most = few_insts d c.design.ensures.judged.formed k in
+    let few = (offsets_are c.args.judged.now c.args.templates.now c.requires.templates c.args.spot.model c.requires.reached c.index-templates-spot.result c.as_slice-offsets.result.now c.as_slice-offsets.ensures).few in
+    let most = few_insts c.args.judged.now c.design.ensures.judged.formed c.args.spot.model in
     let inside = c.last_up_to-place.ensures.inside in
     omega arith
 
 pub returns-clause-number : goal.returns-clause-number
 returns-clause-number c =
-    let d = c.args.judged.now in
-    let k = c.args.spot.model in
-    let are = offsets_are d c.args.templates.now c.requires.templates k c.requires.reached c.index-templates-spot.result c.as_slice-offsets.result.now c.as_slice-offsets.ensures in
-    let here = are.each c.last_up_to-place.result c.last_up_to-place.ensures.inside in
+    let here = (offsets_are c.args.judged.now c.args.templates.now c.requires.templates c.args.spot.model c.requires.reached c.index-templates-spot.result c.as_slice-offsets.result.now c.as_slice-offsets.ensures).each c.last_up_to-place.result c.last_up_to-place.ensures.inside in
     let below = c.last_up_to-place.ensures.below in
     omega arith
 
 pub returns-clause-within : goal.returns-clause-within
 returns-clause-within c =
-    let d = c.args.judged.now in
     let k = c.args.spot.model in
     let place = c.last_up_to-place.result in
-    let are = offsets_are d c.args.templates.now c.requires.templates k c.requires.reached c.index-templates-spot.result c.as_slice-offsets.result.now c.as_slice-offsets.ensures in
-    let here = are.each place c.last_up_to-place.ensures.inside in
-    let below = c.last_up_to-place.ensures.below in
-    let few = are.few in
-    let names : instance_number d place k ≡ Some c.in-Some.model = sym c.model_of.ensures ∙ c.in-Some.is in
-    let room = in_inst d k c.args.spot.number place c.in-Some.model (shallow_of d c.design.ensures.judged k c.requires.reached) c.requires.within names
-    (λ h. let inside : place + 1 < length c.as_slice-offsets.result.now = omega arith in let next = are.each (place + 1) inside in let above = c.last_up_to-place.ensures.above inside in omega arith) in
-    omega arith
+    let are = offsets_are c.args.judged.now c.args.templates.now c.requires.templates k c.requires.reached c.index-templates-spot.result c.as_slice-offsets.result.now c.as_slice-offsets.ensures in
+    let room = in_inst c.args.judged.now k c.args.spot.number place c.in-Some.model (shallow_of c.args.judged.now c.design.ensures.judged k c.requires.reached) c.requires.within (sym c.model_of.ensures ∙ c.in-Some.is)
+    (λ h. let inside : place + 1 < length c.as_slice-offsets.result.now = omega (arith, are.few) in let next = are.each (place + 1) inside in let above = c.last_up_to-place.ensures.above inside in omega arith) in
+    omega (arith, are.each place c.last_up_to-place.ensures.inside, c.last_up_to-place.ensures.below)
 
 pub unreachable-requires : goal.unreachable-requires
 unreachable-requires c =

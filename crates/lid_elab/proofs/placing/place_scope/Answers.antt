@@ -1,16 +1,14 @@
-use Rattle.std.proofs.Common.{◌≡◌, ◌<◌, ◌+◌, ◌++◌, ℕ, List, length, map, slice_get, sym, ◌∙◌, ap, subst, arith}
-use Rattle.std.specs.List.{All}
+use Rattle.std.proofs.Common.{◌≡◌, ◌+◌, ◌++◌, ℕ, List, length, map, sym, ◌∙◌, ap, arith}
 use Rattle.std.proofs.lemmas.List.{length-map}
 use Rattle.lid_design.specs.Network.{Driver}
 use Rattle.lid_design.specs.Elaboration.{model_nets}
 use Rattle.lid_elab.specs.Elaborations.{shown_driver}
 use Rattle.lid_elab.specs.Numbers.{start_of}
 use Rattle.lid_elab.specs.Templates.{seen_around}
-use Rattle.lid_elab.specs.Scopes.{picked, IsSmallAt}
-use Rattle.lid_elab.specs.declared.template.LocalDriver.{LocalDriver}
+use Rattle.lid_elab.specs.Scopes.{picked}
 use Rattle.lid_wiring.proofs.Limits.{few_columns}
 use Rattle.lid_elab.proofs.Numbering.{within}
-use Rattle.lid_elab.proofs.Outer.{picks_within, picks_small, placed_more, same_network, on_ok, lengths}
+use Rattle.lid_elab.proofs.Outer.{picks_fit, placed_more, same_network, on_ok, lengths}
 use Rattle.lid_elab.proofs.placing.place_scope.Goals as goal
 
 pub push_drivers-requires-clause-start : goal.push_drivers-requires-clause-start
@@ -22,28 +20,10 @@ push_drivers-requires-clause-start c =
     omega arith
 
 pub push_drivers-requires-clause-picks : goal.push_drivers-requires-clause-picks
-push_drivers-requires-clause-picks c =
-    let there = c.requires.there in
-    let d = c.args.judged.now in
-    let k = c.args.scope.model in
-    let t = c.scope_template-template.result.now in
-    let outer = c.around_of-around.ensures there.0 there.1 in
-    let all = picks_within d c.design.ensures.judged there.0 k there.1.leads t c.scope_template-template.ensures (seen_around c.around_of-around.result) outer in
-    subst (λ (xs : List ℕ). All (λ pick. pick < length c.as_slice-2.result.now) xs) (sym c.as_slice-3.ensures)
-    (subst (λ (ls : List LocalDriver). All (λ pick. pick < length ls) t.picks) (sym c.as_slice-2.ensures) all)
+push_drivers-requires-clause-picks c = (picks_fit c.args.judged.now c.design.ensures.judged c.requires.there.0 c.args.scope.model c.requires.there.1.leads c.scope_template-template.result.now c.scope_template-template.ensures (seen_around c.around_of-around.result) (c.around_of-around.ensures c.requires.there.0 c.requires.there.1) c.as_slice.ensures c.as_slice-2.ensures c.as_slice-3.ensures).within
 
 pub push_drivers-requires-clause-small : goal.push_drivers-requires-clause-small
-push_drivers-requires-clause-small c =
-    let there = c.requires.there in
-    let d = c.args.judged.now in
-    let k = c.args.scope.model in
-    let t = c.scope_template-template.result.now in
-    let around = seen_around c.around_of-around.result in
-    let outer = c.around_of-around.ensures there.0 there.1 in
-    let all = picks_small d c.design.ensures.judged there.0 k there.1.leads t c.scope_template-template.ensures around outer in
-    subst (λ (os : List ℕ). All (λ pick. IsSmallAt d os around (slice_get c.as_slice-2.result.now pick)) c.as_slice-3.result.now) (sym c.as_slice.ensures)
-    (subst (λ (xs : List ℕ). All (λ pick. IsSmallAt d t.offsets around (slice_get c.as_slice-2.result.now pick)) xs) (sym c.as_slice-3.ensures)
-    (subst (λ (ls : List LocalDriver). All (λ pick. IsSmallAt d t.offsets around (slice_get ls pick)) t.picks) (sym c.as_slice-2.ensures) all))
+push_drivers-requires-clause-small c = (picks_fit c.args.judged.now c.design.ensures.judged c.requires.there.0 c.args.scope.model c.requires.there.1.leads c.scope_template-template.result.now c.scope_template-template.ensures (seen_around c.around_of-around.result) (c.around_of-around.ensures c.requires.there.0 c.requires.there.1) c.as_slice.ensures c.as_slice-2.ensures c.as_slice-3.ensures).small
 
 pub returns-clause-after : goal.returns-clause-after
 returns-clause-after c =
@@ -62,10 +42,6 @@ returns-clause-after c =
 
 pub returns-clause-long : goal.returns-clause-long
 returns-clause-long c =
-    let there = c.requires.there in
     let d = c.args.judged.now in
-    let k = c.args.scope.model in
-    let t = c.scope_template-template.result.now in
-    let around = seen_around c.around_of-around.result in
     let picks : length c.as_slice-3.result.now ≡ length (model_nets d c.args.scope.model) = ap length c.as_slice-3.ensures ∙ c.scope_template-template.ensures.picked.long in
-    on_ok (λ whole. lengths (shown_driver d) (picked d c.args.scope.start c.as_slice.result.now around c.as_slice-2.result.now) c.push_drivers.new.drivers.items c.args.drivers.now.items c.as_slice-3.result.now whole ∙ ap (λ (n : ℕ). length c.args.drivers.now.items + n) picks) c.push_drivers.result c.push_drivers.ensures
+    on_ok (λ whole. lengths (shown_driver d) (picked d c.args.scope.start c.as_slice.result.now (seen_around c.around_of-around.result) c.as_slice-2.result.now) c.push_drivers.new.drivers.items c.args.drivers.now.items c.as_slice-3.result.now whole ∙ ap (λ (n : ℕ). length c.args.drivers.now.items + n) picks) c.push_drivers.result c.push_drivers.ensures
