@@ -1,1 +1,3 @@
-
+pub mod FirstPlaces
+pub mod ChannelOrder
+pub mod LineFaults
