@@ -1,3 +1,5 @@
 pub mod FirstPlaces
 pub mod ChannelOrder
 pub mod LineFaults
+pub mod Amounts
+pub mod Fitting
