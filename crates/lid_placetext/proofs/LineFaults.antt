@@ -2,7 +2,7 @@
 use Rattle.std.proofs.Common.{◌≡◌, ℕ, suc, ◌+◌, ◌<◌, ◌==◌, Bool, true, false, not, List, [], ◌∷◌, ◌++◌, length, get_or, take, drop, set, Option, Some, None, refl, sym, ap, subst, ◌∙◌, inl, inr, ◌≢◌, length-append, length-set, length-take, arith}
 use Rattle.std.specs.Prelude.{is_some}
 use Rattle.std.proofs.lemmas.Bool.{cases_eq, eq-eqb, ne_eqb}
-use Rattle.std.proofs.lemmas.List.{take_more, drop_more, get_or-set_same, get_or-set_other}
+use Rattle.std.proofs.lemmas.List.{take_more, drop_more, get_or-set_same, get_or-set_other, length-take-le}
 use Rattle.lid_base.specs.declared.line.Line.{Line}
 use Rattle.lid_stations.specs.Placements.{Links}
 use Rattle.lid_placetext.specs.declared.form.Form.{Form}
@@ -49,13 +49,20 @@ placed_more l earlier places line c p is free = record { long = length-set place
           | inl same' ↦
               let named : is_of l c line ≡ true = ap (λ (o : Option ℕ). is_number o c) is ∙ eq-eqb c c refl in
               let none : place_where (is_of l c) 0 earlier ≡ None = sym (p.each c inside) ∙ free in
-              let put : get_or (set places c (Some (length earlier))) c None ≡ Some (length earlier) = get_or-set_same places c (Some (length earlier)) None (let h = p.long in omega arith) in
+              let put : get_or (set places c (Some (length earlier))) c None ≡ Some (length earlier) = get_or-set_same places c (Some (length earlier)) None (let long = p.long in let here : c < length l.channels = inside in omega arith) in
               let last : place_where (is_of l c) 0 (earlier ++ line ∷ []) ≡ Some (length earlier) = more_passed (is_of l c) 0 earlier line none named ∙ (let z : 0 + length earlier ≡ length earlier = omega arith in ap Some z) in
               subst (λ (j : ℕ). get_or (set places c (Some (length earlier))) j None ≡ place_where (is_of l j) 0 (earlier ++ line ∷ [])) (sym same') (put ∙ sym last)
           | inr other ↦
               let unnamed : is_of l k line ≡ false = ap (λ (o : Option ℕ). is_number o k) is ∙ ne_eqb c k (λ e. other (sym e)) in
               get_or-set_other places c k (Some (length earlier)) None other ∙ p.each k h ∙ sym (more_failed (is_of l k) 0 earlier line unnamed)
         ]
+
+pub placed_next : (l : Links) (lines : List Line) (i : ℕ) (line : Line) (places : List (Option ℕ)) (c : ℕ) → i < length lines → line ≡ get_or lines i line → IsPlaced l (take i lines) places → channel_of l line.words ≡ Some c → get_or places c None ≡ None → IsPlaced l (take (i + 1) lines) (set places c (Some i))
+placed_next l lines i line places c h at p is free =
+    let grown : take i lines ++ line ∷ [] ≡ take (i + 1) lines = ap (λ (x : Line). take i lines ++ x ∷ []) at ∙ sym (take_more lines i line h) in
+    let number : length (take i lines) ≡ i = length-take-le i lines (omega arith) in
+    subst (λ (n : ℕ). IsPlaced l (take (i + 1) lines) (set places c (Some n))) number
+      (subst (λ (before : List Line). IsPlaced l before (set places c (Some (length (take i lines))))) grown (placed_more l (take i lines) places line c p is free))
 
 -- the fault of the lines from one on
 pub from_line : (l : Links) (form : Form) (lines : List Line) (i : ℕ) (line : Line) → i < length lines → line ≡ get_or lines i line → lines_fault l form (take i lines) (drop i lines) ≡ or_else (line_fault l form (take i lines) line) (lines_fault l form (take (i + 1) lines) (drop (i + 1) lines))
