@@ -1,8 +1,9 @@
 -- What lines without fault say of their channels.
-use Rattle.std.proofs.Common.{◌≡◌, ℕ, zero, suc, ◌+◌, ◌-◌, ◌^◌, ◌<◌, ◌≤◌, Bool, true, false, not, List, [], ◌∷◌, ◌++◌, length, get_or, drop, map, replicate, Option, Some, None, refl, sym, ap, ◌∙◌, arith, length-map, length-drop, length-replicate}
-use Rattle.std.specs.Prelude.{◌&&◌, nat_lt, nat_le}
+use Rattle.std.proofs.Common.{◌≡◌, ℕ, zero, suc, ◌+◌, ◌-◌, ◌^◌, ◌<◌, ◌≤◌, Bool, true, false, not, List, [], ◌∷◌, ◌++◌, length, get_or, drop, map, replicate, Option, Some, None, refl, sym, ap, ◌∙◌, arith, length-drop}
+use Rattle.std.specs.Prelude.{◌&&◌, nat_lt, nat_le, is_some}
 use Rattle.std.specs.List.{All, list_all}
 use Rattle.std.proofs.lemmas.Bool.{and_parts, leb-true, ltb-false, eqb-true}
+use Rattle.std.proofs.lemmas.List.{length-map, length-replicate}
 use Rattle.std.proofs.lemmas.List.Elements.{All-nil, All-cons, All-replicate}
 use Rattle.lid_base.specs.Numbers.{value_below}
 use Rattle.lid_base.specs.declared.line.Line.{Line}
@@ -10,9 +11,9 @@ use Rattle.lid_stations.specs.Placements.{Links, IsCapacity}
 use Rattle.lid_placetext.specs.declared.form.Form.{Form}
 use Rattle.lid_placetext.specs.declared.form.Form.TheVariants.{Relays, Capacities, Wires}
 use Rattle.lid_placetext.specs.declared.fault.PlaceFault.{PlaceFault}
-use Rattle.lid_placetext.specs.declared.fault.PlaceFault.TheVariants.{Word}
+use Rattle.lid_placetext.specs.declared.fault.PlaceFault.TheVariants.{NoChannel, Twice}
 use Rattle.lid_placetext.specs.Forms.{has_form, has_length, begins_well, relays_of, caps_of, named_caps, amount, is_number_word, is_empty_wire, is_capacity_word, has_capacities}
-use Rattle.lid_placetext.specs.Faults.{first_fault, or_else, channel_fault, amount_fault, line_fault}
+use Rattle.lid_placetext.specs.Faults.{first_fault, or_else, channel_of, stands_on, channel_fault, amount_fault, line_fault}
 use Rattle.lid_placetext.specs.Readings.{lines_fault}
 use Rattle.lid_placetext.specs.Places.{IsAmountSound}
 
@@ -66,7 +67,7 @@ sound_line l form earlier line h =
     record {
       few = ltb-false 64 (relays_of form line.words) amounts.0;
       caps = amounts.1;
-      long = caps_are_long form line.words (first_holds (has_form form line.words) _ _ parts.0);
+      long = caps_are_long form line.words (first_holds (has_form form line.words) _ ((not (is_some (channel_of l line.words)), NoChannel line.number) ∷ (stands_on l earlier (channel_of l line.words), Twice line.number) ∷ []) parts.0);
     }
 
 -- all lines

@@ -1,11 +1,12 @@
 -- From where lines stand to a placement that fits.
-use Rattle.std.proofs.Common.{◌≡◌, ℕ, zero, suc, ◌+◌, ◌<◌, ◌≤◌, Bool, true, false, List, [], ◌∷◌, ◌++◌, length, get_or, map, Option, Some, None, Result, Ok, Err, IfOk, IfErr, refl, sym, ap, subst, ◌∙◌, inl, inr, ◌⊎◌, arith, tt, length-map, length-append}
-use Rattle.std.specs.Prelude.{flat_map, nat_lt}
+use Rattle.std.proofs.Common.{◌≡◌, ℕ, zero, suc, ◌+◌, ◌<◌, ◌≤◌, Bool, true, false, List, [], ◌∷◌, ◌++◌, length, get_or, map, Option, Some, None, Result, Ok, Err, IfOk, IfErr, refl, sym, ap, subst, ◌∙◌, inl, inr, ◌⊎◌, arith, length-append}
+use Rattle.std.specs.Prelude.{flat_map, nat_lt, if◌then◌else◌}
 use Rattle.std.specs.List.{All, sum_by}
 use Rattle.std.specs.Option.{option_map_or}
 use Rattle.std.proofs.lemmas.Bool.{cases_Bool, ltb-false, cond-true, cond-false}
-use Rattle.std.proofs.lemmas.List.{same_lists, get_or_default, get_or-map}
+use Rattle.std.proofs.lemmas.List.{same_lists, get_or_default, get_or-map, length-map}
 use Rattle.std.proofs.lemmas.List.Elements.{All-nil, All-cons, All-head, All-tail, All-append, All-from_get_or}
+use Rattle.std.proofs.lemmas.List.Sums.{sum_by-cons}
 use Rattle.lid_base.specs.declared.line.Line.{Line}
 use Rattle.lid_design.specs.Network.{from_each}
 use Rattle.lid_system.specs.declared.System.{System}
@@ -13,10 +14,10 @@ use Rattle.lid_stations.specs.declared.placement.Placement.{Placement}
 use Rattle.lid_stations.specs.Placements.{Links, links_of, station_count, IsCapacity, IsPlacement, Fits}
 use Rattle.lid_placetext.specs.declared.form.Form.{Form}
 use Rattle.lid_placetext.specs.declared.fault.PlaceFault.{PlaceFault}
-use Rattle.lid_placetext.specs.declared.fault.PlaceFault.TheVariants.{TotalLimit}
+use Rattle.lid_placetext.specs.declared.fault.PlaceFault.TheVariants.{TotalLimit, Memory}
 use Rattle.lid_placetext.specs.Forms.{relays_of, caps_of}
 use Rattle.lid_placetext.specs.Faults.{place_where, is_of}
-use Rattle.lid_placetext.specs.Places.{IsPlaced, IsSound, words_at, relays_at, caps_at}
+use Rattle.lid_placetext.specs.Places.{IsPlaced, IsSound, IsMade, words_at, relays_at, caps_at}
 use Rattle.lid_placetext.specs.Readings.{lines_fault, first_line, relays_on, caps_on, placement_of, whole, rows_reading, unless}
 use Rattle.lid_placetext.proofs.FirstPlaces.{place_in, no_line, line_at}
 use Rattle.lid_placetext.proofs.Amounts.{sound_lines, caps_in_range}
@@ -100,6 +101,7 @@ module _ (form : Form) (lines : List Line) where
   as_many (place ∷ places) s =
       let here = long_at place (All-head (IsSound form lines) place places s) in
       let after = as_many places (All-tail (IsSound form lines) place places s) in
+      let step : station_count (map (relays_at form lines) (place ∷ places)) ≡ (relays_at form lines place + 1) + station_count (map (relays_at form lines) places) = sum_by-cons (λ k. k + 1) (relays_at form lines place) (map (relays_at form lines) places) in
       length-append (caps_at form lines place) (flat_map (caps_at form lines) places) ∙ omega arith
 
   pub in_range : (places : List (Option ℕ)) → All (IsSound form lines) places → All IsCapacity (flat_map (caps_at form lines) places)
@@ -107,19 +109,15 @@ module _ (form : Form) (lines : List Line) where
   in_range (place ∷ places) s =
       All-append IsCapacity (caps_at form lines place) _ (range_at place (All-head (IsSound form lines) place places s)) (in_range places (All-tail (IsSound form lines) place places s))
 
--- what a placement is made of
-pub record IsMade (form : Form) (lines : List Line) (places : List (Option ℕ)) (p : Placement) : Type 0 where
-  pub relays : p.relays ≡ map (relays_at form lines) places
-  pub few : All (λ k. k ≤ 64) p.relays
-  pub caps : p.caps ≡ flat_map (caps_at form lines) places
-
--- it is that of the lines
+-- what is made is the placement of the lines
 pub is_read : (l : Links) (form : Form) (lines : List Line) (places : List (Option ℕ)) (p : Placement) → lines_fault l form [] lines ≡ None → IsPlaced l lines places → IsMade form lines places p → rows_reading l form lines ≡ whole p
 unfolding placement_of
 is_read l form lines places p none placed made =
     let relays = made.relays ∙ relays_are l form lines places placed in
     let caps = made.caps ∙ caps_are l form lines places placed in
-    let is : placement_of l form lines ≡ p = cc in
+    let is : placement_of l form lines ≡ p =
+        ap (λ (ks : List ℕ). record { relays = ks; caps = flat_map (caps_on l form lines) (from_each (λ c. c) 0 (length l.channels)) }) (sym relays)
+        ∙ ap (λ (cs : List ℕ). record { relays = p.relays; caps = cs }) (sym caps) in
     ap (λ (f : Option PlaceFault). unless f (whole (placement_of l form lines))) none ∙ ap whole is
 
 -- and fits where its stations are not too many
@@ -136,10 +134,22 @@ fits s form lines places p none placed made most =
       counts = ap length made.relays ∙ length-map places (relays_at form lines) ∙ placed.long;
     }
 
--- whole placements
-pub whole_ok : (p q : Placement) → whole p ≡ Ok q → (p ≡ q) × (station_count p.relays ≤ 65536)
+-- a whole placement, as it is answered
+whole_ok : (p q : Placement) → whole p ≡ Ok q → (p ≡ q) × (station_count p.relays ≤ 65536)
 whole_ok p q e =
     (elim (nat_lt 65536 (station_count p.relays)) as (λ b. nat_lt 65536 (station_count p.relays) ≡ b → (if b then Err (TotalLimit (station_count p.relays)) else Ok p) ≡ Ok q → (p ≡ q) × (station_count p.relays ≤ 65536)) [
       | true ↦ λ t e. absurd (cc)
       | false ↦ λ t e. (cc, ltb-false 65536 (station_count p.relays) t)
     ]) refl e
+
+pub told_ok : (reading r : Result Placement PlaceFault) → reading ≡ r → IfOk r (λ p. reading ≡ Ok p)
+told_ok reading (Ok p) e = e
+told_ok reading (Err fault) e = tt
+
+pub told_err : (reading r : Result Placement PlaceFault) → reading ≡ r → IfErr r (λ e. (e ≡ Memory) ⊎ (reading ≡ Err e))
+told_err reading (Ok p) e = tt
+told_err reading (Err fault) e = inr e
+
+pub told_fits : (s : System) (p : Placement) (r : Result Placement PlaceFault) → r ≡ whole p → (station_count p.relays ≤ 65536 → Fits s p) → IfOk r (Fits s)
+told_fits s p (Ok q) e f = let both = whole_ok p q (sym e) in subst (Fits s) both.0 (f both.1)
+told_fits s p (Err fault) e f = tt

@@ -3,3 +3,4 @@ pub mod ChannelOrder
 pub mod LineFaults
 pub mod Amounts
 pub mod Fitting
+pub mod LineTexts

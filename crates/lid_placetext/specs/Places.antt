@@ -1,6 +1,8 @@
 -- For the reader: which line names each channel, and what that line says of it.
-use Rattle.std.specs.Prelude.{◌≡◌, ℕ, ◌+◌, ◌<◌, ◌≤◌, Bool, true, List, [], ◌∷◌, length, replicate, Option, Some, None, slice_index_or}
+use Rattle.std.specs.Prelude.{◌≡◌, ℕ, ◌+◌, ◌<◌, ◌≤◌, Bool, true, List, [], ◌∷◌, length, map, flat_map, Option, Some, None, slice_index_or}
+use Rattle.std.specs.List.{All}
 use Rattle.lid_base.specs.declared.line.Line.{Line}
+use Rattle.lid_stations.specs.declared.placement.Placement.{Placement}
 use Rattle.lid_stations.specs.Placements.{Links}
 use Rattle.lid_placetext.specs.declared.form.Form.{Form}
 use Rattle.lid_placetext.specs.Forms.{relays_of, caps_of, has_capacities}
@@ -35,3 +37,9 @@ relays_at form lines (Some i) = relays_of form (words_at lines i)
 abbrev pub caps_at : Form → List Line → Option ℕ → List ℕ
 caps_at form lines None = 2 ∷ []
 caps_at form lines (Some i) = caps_of form (words_at lines i)
+
+-- a placement of what these lines say at the places of the channels
+pub record IsMade (form : Form) (lines : List Line) (places : List (Option ℕ)) (p : Placement) : Type 0 where
+  pub relays : p.relays ≡ map (relays_at form lines) places
+  pub few : All (λ k. k ≤ 64) p.relays
+  pub caps : p.caps ≡ flat_map (caps_at form lines) places
