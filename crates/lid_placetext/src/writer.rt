@@ -76,9 +76,9 @@ fn append_channels(
 {
     let mut left = caps;
     for (i, channel) in channels.iter().enumerate() {
-        let stations = relays[i] as usize + 1;
-        append_channel(count, two, channel, relays[i], &left[..stations], into)?;
-        left = &left[stations..];
+        let (own, after) = left.split_at(relays[i] as usize + 1);
+        append_channel(count, two, channel, relays[i], own, into)?;
+        left = after;
     }
     Ok(())
 }

@@ -1,11 +1,12 @@
-use Rattle.std.proofs.Common.{rules, ◌≡◌, ◌++◌, ◌∷◌, length, OnOk, OnErr, ℕ, ◌+◌, ◌-◌, ◌*◌, ◌<◌, ◌≤◌, ◌/◌, ◌%◌, Bool, true, false, nat_eq, nat_lt, List, [], slice_index_or, slice_set, bit_and, bit_or, w8, w32, w64, Bor, MutBor}
-use Rattle.lid_base.specs.Lists.{Keeps}
-use Rattle.lid_lines.specs.Texts.{line_text, lines_text, spaced}
+use Rattle.std.proofs.Common.{map, [], ◌∷◌}
+use Rattle.std.specs.Fmt.{decimal}
 use Rattle.lid_reports.specs.Pieces.{node_name}
-use Rattle.lid_stations.specs.Placements.{links_of, Fits, station_count}
-use Rattle.lid_placetext.specs.Written.{are_all_two, caps_words, channel_words, channel_lines, version_words, stations_text}
+use Rattle.lid_placetext.specs.Written.{caps_words}
+use Rattle.lid_placetext.proofs.LineTexts.{channel_made}
 use Rattle.lid_placetext.proofs.writer.append_channel.Goals as goal
 
--- src/writer.rt:45:1
 pub returns-clause-ok : goal.returns-clause-ok
-returns-clause-ok c = ?
+returns-clause-ok c =
+    let channel = c.args.channel.now in
+    channel_made c.args.into.now.items _ _ _ c.push.new.self.items (node_name c.args.count channel.from) (node_name c.args.count channel.to) (map decimal (channel.piece ∷ c.args.relays ∷ [])) (caps_words c.args.two c.args.caps.now)
+      c.in_ok-append_ends.ensures.ok c.in_ok-append_small_numbers.ensures.ok c.in_ok-append_caps.ensures.ok c.in_ok-push.ensures.items
