@@ -116,8 +116,8 @@ is_read l form lines places p none placed made =
     let relays = made.relays ∙ relays_are l form lines places placed in
     let caps = made.caps ∙ caps_are l form lines places placed in
     let is : placement_of l form lines ≡ p =
-        ap (λ (ks : List ℕ). record { relays = ks; caps = flat_map (caps_on l form lines) (from_each (λ c. c) 0 (length l.channels)) }) (sym relays)
-        ∙ ap (λ (cs : List ℕ). record { relays = p.relays; caps = cs }) (sym caps) in
+    ap (λ (ks : List ℕ). record { relays = ks; caps = flat_map (caps_on l form lines) (from_each (λ c. c) 0 (length l.channels)) }) (sym relays)
+    ∙ ap (λ (cs : List ℕ). record { relays = p.relays; caps = cs }) (sym caps) in
     ap (λ (f : Option PlaceFault). unless f (whole (placement_of l form lines))) none ∙ ap whole is
 
 -- and fits where its stations are not too many

@@ -62,7 +62,7 @@ placed_next l lines i line places c h at p is free =
     let grown : take i lines ++ line ∷ [] ≡ take (i + 1) lines = ap (λ (x : Line). take i lines ++ x ∷ []) at ∙ sym (take_more lines i line h) in
     let number : length (take i lines) ≡ i = length-take-le i lines (omega arith) in
     subst (λ (n : ℕ). IsPlaced l (take (i + 1) lines) (set places c (Some n))) number
-      (subst (λ (before : List Line). IsPlaced l before (set places c (Some (length (take i lines))))) grown (placed_more l (take i lines) places line c p is free))
+    (subst (λ (before : List Line). IsPlaced l before (set places c (Some (length (take i lines))))) grown (placed_more l (take i lines) places line c p is free))
 
 -- the fault of the lines from one on
 pub from_line : (l : Links) (form : Form) (lines : List Line) (i : ℕ) (line : Line) → i < length lines → line ≡ get_or lines i line → lines_fault l form (take i lines) (drop i lines) ≡ or_else (line_fault l form (take i lines) line) (lines_fault l form (take (i + 1) lines) (drop (i + 1) lines))

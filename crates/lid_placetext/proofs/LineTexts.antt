@@ -15,10 +15,10 @@ channel_made old a b c new from to numbers more ea eb ec en =
     let whole = appended old c new _ (10 ∷ []) words en in
     let after : spaced numbers ++ spaced more ≡ spaced (numbers ++ more) = sym (spaced_append numbers more) in
     let said : (((from ++ 32 ∷ to) ++ spaced numbers) ++ spaced more) ++ 10 ∷ [] ≡ line_text (from ∷ to ∷ (numbers ++ more)) =
-        simp append_assoc (
-            ap (λ (bytes : List ℕ). from ++ 32 ∷ (to ++ bytes)) (sym (append_assoc (spaced numbers) (spaced more) (10 ∷ [])) ∙ ap (λ (bytes : List ℕ). bytes ++ 10 ∷ []) after)
-            ∙ ap (λ (bytes : List ℕ). from ++ 32 ∷ bytes) (sym (append_assoc to (spaced (numbers ++ more)) (10 ∷ [])))
-            ∙ sym (line_text_cons from (to ∷ (numbers ++ more)))) in
+    simp append_assoc (
+    ap (λ (bytes : List ℕ). from ++ 32 ∷ (to ++ bytes)) (sym (append_assoc (spaced numbers) (spaced more) (10 ∷ [])) ∙ ap (λ (bytes : List ℕ). bytes ++ 10 ∷ []) after)
+    ∙ ap (λ (bytes : List ℕ). from ++ 32 ∷ bytes) (sym (append_assoc to (spaced (numbers ++ more)) (10 ∷ [])))
+    ∙ sym (line_text_cons from (to ∷ (numbers ++ more)))) in
     whole ∙ ap (λ (bytes : List ℕ). old ++ bytes) said
 
 -- the lines from a channel on, whose capacities stand first in what is left

@@ -97,11 +97,7 @@ fn append_header(two: bool, into: &mut Vec<u8>) -> Result<(), AllocError>
 
 /// Appends the header and the lines of all channels.
 #[tactic(auto, unfolding(crate::specs::Written::stations_text))]
-fn append_text(
-    system: &System,
-    placement: &Placement,
-    into: &mut Vec<u8>,
-) -> Result<(), AllocError>
+fn append_text(system: &System, placement: &Placement, into: &mut Vec<u8>) -> Result<(), AllocError>
     requires { Fits system.now placement.now }
     ensures ok { OnOk result (into.new.items ≡ into.old.items ++ stations_text (links_of system.now) placement.now) }
     ensures kept { Keeps into.old.items into.new.items }

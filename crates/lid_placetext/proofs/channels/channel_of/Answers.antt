@@ -34,6 +34,6 @@ returns c =
     c.find_channel.ensures
     ∙ ap (place_where (is_between ends) 0) c.as_slice-2.ensures
     ∙ by_ends (links_of c.args.system.now) c.args.words.now ends
-        (sym (count 0) ∙ sym from ∙ sym c.node_by.ensures ∙ c.in-Some.is)
-        (sym (count 1) ∙ sym to ∙ sym c.node_by-2.ensures ∙ c.in-Some-node_by.is)
-        (sym (ap number c.word_at-3.ensures) ∙ sym c.number.ensures ∙ c.in-Some-number.is)
+    (sym (count 0) ∙ sym from ∙ sym c.node_by.ensures ∙ c.in-Some.is)
+    (sym (count 1) ∙ sym to ∙ sym c.node_by-2.ensures ∙ c.in-Some-node_by.is)
+    (sym (ap number c.word_at-3.ensures) ∙ sym c.number.ensures ∙ c.in-Some-number.is)

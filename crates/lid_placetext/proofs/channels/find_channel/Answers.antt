@@ -17,8 +17,8 @@ pub returns-else-place-channels : goal.returns-else-place-channels
 returns-else-place-channels c =
     let cut = IsPartitionPoint-from_clause (comes_before c.args.ends) _ _ c.partition_point-place.ensures.partitioned (partitioned c.args.channels.now c.args.ends c.requires) (λ a r q k. search rules) in
     sym (not_found c.args.channels.now c.args.ends c.partition_point-place.result c.requires cut
-        (elim c.else-place-channels.branch [
-          | else-place-channels-via-then-place-channels+else-is_between w ↦
-              λ h d. ap (is_between c.args.ends) (sym (get_or_read _ _ _ h w.index-channels-place.is d)) ∙ sym w.is_between.ensures ∙ w.if-is_between.false
-          | else-place-channels-via-else-place-channels w ↦ λ h d. absurd (omega arith)
-        ]))
+    (elim c.else-place-channels.branch [
+      | else-place-channels-via-then-place-channels+else-is_between w ↦
+          λ h d. ap (is_between c.args.ends) (sym (get_or_read _ _ _ h w.index-channels-place.is d)) ∙ sym w.is_between.ensures ∙ w.if-is_between.false
+      | else-place-channels-via-else-place-channels w ↦ λ h d. absurd (omega arith)
+    ]))

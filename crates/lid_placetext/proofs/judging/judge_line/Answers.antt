@@ -45,8 +45,8 @@ returns-in-Some-find_wrong_amount-clause-err c =
     let well = well_said c.args.form _ c.args.line.now.words _ c.as_slice-words.ensures c.has_form.ensures c.if-not-has_form.false in
     let named = named_said l _ c.args.line.now.words _ _ c.as_slice-words.ensures c.channel_of.ensures c.in-Some.is in
     λ earlier p.
-      told_by_amount l c.args.form earlier c.args.line.now c.in-Some.channel well named (stands_said l earlier c.args.places.now _ false _ p (is_channel l c.args.line.now.words _ named) c.is_some.ensures c.if-is_some.false)
-      ∙ sym c.find_wrong_amount.ensures ∙ c.in-Some-find_wrong_amount.is
+    told_by_amount l c.args.form earlier c.args.line.now c.in-Some.channel well named (stands_said l earlier c.args.places.now _ false _ p (is_channel l c.args.line.now.words _ named) c.is_some.ensures c.if-is_some.false)
+    ∙ sym c.find_wrong_amount.ensures ∙ c.in-Some-find_wrong_amount.is
 
 pub returns-in-None-clause-ok : goal.returns-in-None-clause-ok
 returns-in-None-clause-ok c =
@@ -54,5 +54,5 @@ returns-in-None-clause-ok c =
     let well = well_said c.args.form _ c.args.line.now.words _ c.as_slice-words.ensures c.has_form.ensures c.if-not-has_form.false in
     let named = named_said l _ c.args.line.now.words _ _ c.as_slice-words.ensures c.channel_of.ensures c.in-Some.is in
     λ earlier p.
-      told_by_amount l c.args.form earlier c.args.line.now c.in-Some.channel well named (stands_said l earlier c.args.places.now _ false _ p (is_channel l c.args.line.now.words _ named) c.is_some.ensures c.if-is_some.false)
-      ∙ sym c.find_wrong_amount.ensures ∙ c.in-None.is
+    told_by_amount l c.args.form earlier c.args.line.now c.in-Some.channel well named (stands_said l earlier c.args.places.now _ false _ p (is_channel l c.args.line.now.words _ named) c.is_some.ensures c.if-is_some.false)
+    ∙ sym c.find_wrong_amount.ensures ∙ c.in-None.is
