@@ -1,1 +1,6 @@
-
+pub mod FirstPlaces
+pub mod ChannelOrder
+pub mod LineFaults
+pub mod Amounts
+pub mod Fitting
+pub mod LineTexts

@@ -10,7 +10,7 @@ comes_before e c = nat_lt c.from e.from || ((c.from == e.from) && (nat_lt c.to e
 
 -- whether a channel has these ends
 abbrev pub is_between : Ends → Channel → Bool
-is_between e c = (c.from == e.from) && ((c.to == e.to) && (c.piece == e.piece))
+is_between e c = (e.from == c.from) && ((e.to == c.to) && (e.piece == c.piece))
 
 -- each stands before all later ones
 abbrev pub AreInOrder : List Channel → Type 0

@@ -1,6 +1,8 @@
 -- For the reader: which line names each channel, and what that line says of it.
-use Rattle.std.specs.Prelude.{◌≡◌, ℕ, ◌<◌, ◌≤◌, Bool, true, List, [], ◌∷◌, length, replicate, Option, Some, None, slice_index_or}
+use Rattle.std.specs.Prelude.{◌≡◌, ℕ, ◌+◌, ◌<◌, ◌≤◌, Bool, true, List, [], ◌∷◌, length, map, flat_map, Option, Some, None, slice_index_or}
+use Rattle.std.specs.List.{All}
 use Rattle.lid_base.specs.declared.line.Line.{Line}
+use Rattle.lid_stations.specs.declared.placement.Placement.{Placement}
 use Rattle.lid_stations.specs.Placements.{Links}
 use Rattle.lid_placetext.specs.declared.form.Form.{Form}
 use Rattle.lid_placetext.specs.Forms.{relays_of, caps_of, has_capacities}
@@ -15,10 +17,11 @@ pub record IsPlaced (l : Links) (lines : List Line) (places : List (Option ℕ))
 abbrev pub words_at : List Line → ℕ → List (List ℕ)
 words_at lines i = (slice_index_or lines i (record { number = 0; words = [] })).words
 
--- a line asks for at most 64 relay stations, and for capacities in 2 to 16
+-- a line asks for at most 64 relay stations, and for a capacity in 2 to 16 for each station
 pub record IsAmountSound (form : Form) (words : List (List ℕ)) : Type 0 where
   pub few : relays_of form words ≤ 64
   pub caps : has_capacities words ≡ true
+  pub long : length (caps_of form words) ≡ relays_of form words + 1
 
 -- where a place is told, a line stands there, and what it says is sound
 pub record IsSound (form : Form) (lines : List Line) (place : Option ℕ) : Type 0 where
@@ -34,3 +37,9 @@ relays_at form lines (Some i) = relays_of form (words_at lines i)
 abbrev pub caps_at : Form → List Line → Option ℕ → List ℕ
 caps_at form lines None = 2 ∷ []
 caps_at form lines (Some i) = caps_of form (words_at lines i)
+
+-- a placement of what these lines say at the places of the channels
+pub record IsMade (form : Form) (lines : List Line) (places : List (Option ℕ)) (p : Placement) : Type 0 where
+  pub relays : p.relays ≡ map (relays_at form lines) places
+  pub few : All (λ k. k ≤ 64) p.relays
+  pub caps : p.caps ≡ flat_map (caps_at form lines) places

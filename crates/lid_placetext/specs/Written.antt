@@ -12,10 +12,14 @@ use Rattle.lid_stations.specs.declared.placement.Placement.{Placement}
 abbrev pub are_all_two : List ℕ → Bool
 are_all_two caps = list_all (λ c. c == 2) caps
 
--- the line of a channel with so many relay stations and such capacities; without these where all are 2
+-- the capacities in a line; none where all are 2
+abbrev pub caps_words : Bool → List ℕ → Words
+caps_words two caps = if two then [] else map decimal caps
+
+-- the line of a channel with so many relay stations and such capacities
 abbrev pub channel_words : ℕ → Bool → Channel → ℕ → List ℕ → Words
 channel_words count two c relays caps =
-    node_name count c.from ∷ node_name count c.to ∷ decimal c.piece ∷ decimal relays ∷ (if two then [] else map decimal caps)
+    node_name count c.from ∷ node_name count c.to ∷ decimal c.piece ∷ decimal relays ∷ caps_words two caps
 
 -- a line for each channel in order, each with the capacities of its own stations
 abbrev pub channel_lines : ℕ → Bool → List Channel → List ℕ → List ℕ → List Words

@@ -5,7 +5,7 @@ ghost use Rattle.std.specs.List.{All};
 ghost use Rattle.lid_stations.specs.Placements.{links_of, Fits, station_count};
 ghost use Rattle.lid_system.specs.Systems.{IsWellFormed};
 ghost use Rattle.lid_placetext.specs.Forms.{IsForm};
-ghost use Rattle.lid_placetext.specs.Places.{IsPlaced, IsSound, relays_at, caps_at};
+ghost use Rattle.lid_placetext.specs.Places.{IsSound, IsMade, relays_at, caps_at};
 ghost use Rattle.lid_placetext.specs.Readings.{whole, rows_reading};
 
 use crate::fault::PlaceFault;
@@ -111,9 +111,7 @@ fn build_from(
 ) -> Result<Placement, AllocError>
     requires form { IsForm form }
     requires sound { All (IsSound form lines.now) places.now }
-    ensures relays { IfOk result (λ p. p.relays ≡ map (relays_at form lines.now) places.now) }
-    ensures few { IfOk result (λ p. All (λ k. k ≤ 64) p.relays) }
-    ensures caps { IfOk result (λ p. p.caps ≡ flat_map (caps_at form lines.now) places.now) }
+    ensures { IfOk result (IsMade form lines.now places.now) }
 {
     let relays = all_relays(alloc, form, lines, places)?;
     let caps = all_caps(alloc, form, lines, places)?;

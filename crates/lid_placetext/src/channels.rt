@@ -64,9 +64,9 @@ fn comes_before(channel: &Channel, ends: Ends) -> bool
 fn is_between(channel: &Channel, ends: Ends) -> bool
     ensures { result ≡ is_between ends channel.now }
 {
-    u64::from(channel.from) == ends.from
-        && u64::from(channel.to) == ends.to
-        && u64::from(channel.piece) == ends.piece
+    ends.from == u64::from(channel.from)
+        && ends.to == u64::from(channel.to)
+        && ends.piece == u64::from(channel.piece)
 }
 
 /// The place of the channel with these ends.

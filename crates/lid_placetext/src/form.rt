@@ -192,10 +192,7 @@ fn push_twos(relays: u64, caps: &mut Vec<u32>) -> Result<(), AllocError>
     requires { relays ≤ 64 }
     ensures { OnOk result (caps.new.items ≡ caps.old.items ++ replicate (relays + 1) 2) }
 {
-    for _ in 0..relays + 1 {
-        caps.push(2)?;
-    }
-    Ok(())
+    caps.resize(caps.len() + relays as usize + 1, 2)
 }
 
 /// Appends the capacities that words name.

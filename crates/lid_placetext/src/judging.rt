@@ -1,6 +1,6 @@
 //! What is at fault in lines of stations and wires.
 
-ghost use Rattle.std.specs.Prelude.{◌≡◌, ◌⊎◌, [], length, Some, None, IfOk, IfErr, OnOk};
+ghost use Rattle.std.specs.Prelude.{◌≡◌, ◌⊎◌, [], length, slice_index_or, Some, None, IfOk, IfErr, OnOk};
 ghost use Rattle.lid_system.specs.Systems.{IsWellFormed};
 ghost use Rattle.lid_stations.specs.Placements.{links_of};
 ghost use Rattle.lid_placetext.specs.Forms.{IsForm};
@@ -47,6 +47,7 @@ fn judge_line(
     requires form { IsForm form }
     requires long { length places.now ≡ length system.now.channels }
     ensures channel { IfOk result (λ c. channel_of (links_of system.now) line.now.words ≡ Some c) }
+    ensures free { IfOk result (λ c. slice_index_or places.now c None ≡ None) }
     ensures ok { IfOk result (λ c. (earlier : _) → IsPlaced (links_of system.now) earlier places.now → line_fault (links_of system.now) form earlier line.now ≡ None) }
     ensures err { IfErr result (λ e. (earlier : _) → IsPlaced (links_of system.now) earlier places.now → line_fault (links_of system.now) form earlier line.now ≡ Some e) }
 {

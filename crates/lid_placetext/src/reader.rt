@@ -57,12 +57,7 @@ fn read_lines(
 
 /// The placement that a text stands for.
 #[tactic(auto, unfolding(crate::specs::Readings::reading))]
-fn read(
-    alloc: Global,
-    system: &System,
-    kind: Kind,
-    bytes: &[u8],
-) -> Result<Placement, PlaceFault>
+fn read(alloc: Global, system: &System, kind: Kind, bytes: &[u8]) -> Result<Placement, PlaceFault>
     requires system { IsWellFormed system.now }
     requires kind { IsKind kind }
     ensures ok { IfOk result (λ p. reading (links_of system.now) kind bytes.now ≡ Ok p) }
@@ -94,11 +89,7 @@ fn read(
 /// earlier line, by `TooMany` with more than 64 relay stations, and by `Capacity` with a capacity that
 /// is not in 2 to 16. Last comes `TotalLimit`, with more than 65,536 stations in all. `Memory` may come
 /// at any text.
-pub fn read_stations(
-    alloc: Global,
-    bytes: &[u8],
-    system: &System,
-) -> Result<Placement, PlaceFault>
+pub fn read_stations(alloc: Global, bytes: &[u8], system: &System) -> Result<Placement, PlaceFault>
     requires { IsWellFormed system.now }
     ensures ok { IfOk result (λ p. stations_reading (links_of system.now) bytes.now ≡ Ok p) }
     ensures err { IfErr result (λ e. (e ≡ PlaceFault.Memory) ⊎ (stations_reading (links_of system.now) bytes.now ≡ Err e)) }

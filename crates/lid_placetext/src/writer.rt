@@ -1,12 +1,13 @@
 //! The printing of stations.
 
-ghost use Rattle.std.specs.Prelude.{◌≡◌, ◌≤◌, ◌+◌, ◌++◌, length, take, suc, OnOk, OnErr};
+ghost use Rattle.std.specs.Prelude.{◌≡◌, ◌++◌, ◌∷◌, length, OnOk, OnErr};
 ghost use Rattle.lid_base.specs.Lists.{Keeps};
-ghost use Rattle.lid_lines.specs.Texts.{line_text, lines_text};
+ghost use Rattle.lid_lines.specs.Texts.{line_text, lines_text, spaced};
+ghost use Rattle.lid_reports.specs.Pieces.{node_name};
 ghost use Rattle.lid_stations.specs.Placements.{links_of, Fits, station_count};
-ghost use Rattle.lid_placetext.specs.Written.{are_all_two, channel_words, channel_lines, version_words, stations_text};
+ghost use Rattle.lid_placetext.specs.Written.{are_all_two, caps_words, channel_words, channel_lines, version_words, stations_text};
 
-use lid_lines::{append_number_word, append_small_numbers, cut_back};
+use lid_lines::{append_small_numbers, cut_back};
 use lid_reports::append_node;
 use lid_stations::Placement;
 use lid_system::{Channel, System};
@@ -19,8 +20,28 @@ fn are_all_two(caps: &[u32]) -> bool
     caps.iter().all(|capacity| *capacity == 2)
 }
 
-/// Appends the line of a channel, without its capacities where all are 2.
-#[tactic(auto, unfolding(lid_lines::specs::Texts::line_text))]
+/// Appends the names of the nodes that a channel joins.
+fn append_ends(count: u64, channel: &Channel, into: &mut Vec<u8>) -> Result<(), AllocError>
+    ensures ok { OnOk result (into.new.items ≡ into.old.items ++ (node_name count channel.now.from ++ 32 ∷ node_name count channel.now.to)) }
+    ensures kept { Keeps into.old.items into.new.items }
+{
+    append_node(count, u64::from(channel.from), into)?;
+    into.push(b' ')?;
+    append_node(count, u64::from(channel.to), into)
+}
+
+/// Appends the capacities of a channel, where not all are 2.
+fn append_caps(two: bool, caps: &[u32], into: &mut Vec<u8>) -> Result<(), AllocError>
+    ensures ok { OnOk result (into.new.items ≡ into.old.items ++ spaced (caps_words two caps.now)) }
+    ensures kept { Keeps into.old.items into.new.items }
+{
+    if two {
+        return Ok(());
+    }
+    append_small_numbers(caps, into)
+}
+
+/// Appends the line of a channel.
 fn append_channel(
     count: u64,
     two: bool,
@@ -32,14 +53,9 @@ fn append_channel(
     ensures ok { OnOk result (into.new.items ≡ into.old.items ++ line_text (channel_words count two channel.now relays caps.now)) }
     ensures kept { Keeps into.old.items into.new.items }
 {
-    append_node(count, u64::from(channel.from), into)?;
-    into.push(b' ')?;
-    append_node(count, u64::from(channel.to), into)?;
-    append_number_word(u64::from(channel.piece), into)?;
-    append_number_word(u64::from(relays), into)?;
-    if !two {
-        append_small_numbers(caps, into)?;
-    }
+    append_ends(count, channel, into)?;
+    append_small_numbers(&[channel.piece, relays], into)?;
+    append_caps(two, caps, into)?;
     into.push(b'\n')?;
     Ok(())
 }
@@ -60,35 +76,37 @@ fn append_channels(
 {
     let mut left = caps;
     for (i, channel) in channels.iter().enumerate() {
-        let stations = relays[i] as usize + 1;
-        append_channel(count, two, channel, relays[i], &left[..stations], into)?;
-        left = &left[stations..];
+        let (own, after) = left.split_at(relays[i] as usize + 1);
+        append_channel(count, two, channel, relays[i], own, into)?;
+        left = after;
     }
     Ok(())
 }
 
+/// Appends the header of stations.
+#[tactic(auto, unfolding(lid_lines::specs::Texts::line_text))]
+fn append_header(two: bool, into: &mut Vec<u8>) -> Result<(), AllocError>
+    ensures ok { OnOk result (into.new.items ≡ into.old.items ++ line_text (version_words two)) }
+    ensures kept { Keeps into.old.items into.new.items }
+{
+    if two {
+        return into.extend_from_slice(b"lid-stations 1\n");
+    }
+    into.extend_from_slice(b"lid-stations 2\n")
+}
+
 /// Appends the header and the lines of all channels.
 #[tactic(auto, unfolding(crate::specs::Written::stations_text))]
-fn append_text(
-    system: &System,
-    placement: &Placement,
-    into: &mut Vec<u8>,
-) -> Result<(), AllocError>
+fn append_text(system: &System, placement: &Placement, into: &mut Vec<u8>) -> Result<(), AllocError>
     requires { Fits system.now placement.now }
     ensures ok { OnOk result (into.new.items ≡ into.old.items ++ stations_text (links_of system.now) placement.now) }
     ensures kept { Keeps into.old.items into.new.items }
 {
-    let count = system.nodes.as_slice().len() as u64;
     let caps = placement.caps.as_slice();
     let two = are_all_two(caps);
-    let header: &[u8] = if two {
-        b"lid-stations 1\n"
-    } else {
-        b"lid-stations 2\n"
-    };
-    into.extend_from_slice(header)?;
+    append_header(two, into)?;
     append_channels(
-        count,
+        system.nodes.as_slice().len() as u64,
         two,
         system.channels.as_slice(),
         placement.relays.as_slice(),
