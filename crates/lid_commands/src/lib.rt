@@ -2,7 +2,13 @@
 #![tactic(auto)]
 
 mod check;
+mod place;
+mod rate;
 mod strict;
+mod verify;
 
 pub use check::check_text;
+pub use place::place_text;
+pub use rate::rate_text;
 pub use strict::strict_text;
+pub use verify::verify_text;

@@ -18,6 +18,7 @@ use lid_placetext::{place, read_stations};
 use lid_stations::{Placement, none};
 use lid_system::System;
 use std::alloc::Global;
+use std::convert::AsStr;
 
 /// The greatest size of a text of stations or wires, or of a certificate, in bytes.
 const TEXT_LIMIT: usize = 16_777_216;

@@ -1,5 +1,6 @@
 -- Where the shelf tells its contents, a script ends in one way.
-use Rattle.std.proofs.Common.{◌≡◌, ℕ, ◌+◌, Bool, List, length, take, Option, Some, None, is_some, true≢false, IsSome, IfSome, inl, inr, refl, sym, ◌∙◌, ap, subst, arith}
+use Rattle.std.proofs.Common.{◌≡◌, ℕ, ◌+◌, Bool, true, false, List, length, take, Option, Some, None, is_some, true≢false, IsSome, IfSome, inl, inr, refl, sym, ◌∙◌, ap, subst, arith}
+use Rattle.std.specs.Prelude.{◌↔◌}
 use Rattle.lid_design.specs.declared.Design.{Design}
 use Rattle.lid_rules.specs.declared.fault.CheckFault.{CheckFault}
 use Rattle.lid_check.specs.Acceptance.{with_root, IsAccepted, IsRefused, IsRefusal}
@@ -7,10 +8,15 @@ use Rattle.lid_system.specs.declared.Channel.{Channel}
 use Rattle.lid_channels.specs.declared.fault.NetFault.TheVariants.{TooManyChannels}
 use Rattle.lid_net.specs.Graphs.{IsGraphOf}
 use Rattle.lid_cli.specs.declared.job.Job.{Job}
-use Rattle.lid_cli.specs.declared.job.Job.TheVariants.{Check, Strict}
+use Rattle.lid_cli.specs.declared.job.Job.TheVariants.{Check, Place, Rate, Strict, Verify}
 use Rattle.lid_refusals.specs.Faults.{check_line, net_line}
-use Rattle.lid_script.specs.Outputs.{strict_output, report}
-use Rattle.lid_script.specs.Scripts.{Ending, refuses, gives, Script, fetch, again, decide, end, Reading, good, bad, step, net_reading, vec_reading, check_step, net_step, report_script, check_script, rows_script, checked_script, strict_script, script_of, IsFetched, IsReread, IsChecked, IsUnchecked, EndsIn}
+use Rattle.lid_script.specs.Outputs.{strict_output, report, placed}
+use Rattle.lid_graph.specs.declared.graph.Graph.{Graph}
+use Rattle.lid_cert.specs.declared.cert.Cert.{Cert}
+use Rattle.lid_stations.specs.declared.placement.Placement.{Placement}
+use Rattle.lid_stations.specs.Placements.{Links, no_relays}
+use Rattle.lid_stations.specs.Markings.{marking}
+use Rattle.lid_script.specs.Scripts.{Ending, refuses, gives, Script, fetch, again, decide, end, Reading, good, bad, step, net_reading, vec_reading, check_step, net_step, report_script, check_script, rows_script, checked_script, strict_script, links, system_step, placement_step, stations_read, wires_read, cert_read, wires_script, rated_script, IsJudged, NoLine, judged_script, judging_script, cert_script, place_script, rate_script, verify_script, script_of, IsFetched, IsReread, IsChecked, IsUnchecked, EndsIn}
 use Rattle.lid_script.specs.Statuses.{TellsAll}
 
 -- each step of the script without a fetch has one outcome
@@ -57,6 +63,31 @@ or_else a (Some b) = b
 some_same : {A : Type 0} (o : Option A) (a b : A) → o ≡ Some a → o ≡ Some b → a ≡ b
 some_same o a b e f = ap (or_else a) (sym e ∙ f)
 
+-- whether a certificate is one of a graph has one answer
+same_answer : {P : Type 0} (a b : Bool) → ((a ≡ true) ↔ P) → ((b ≡ true) ↔ P) → a ≡ b
+same_answer true true g h = refl
+same_answer true false g h = sym (h.1 (g.0 refl))
+same_answer false true g h = g.1 (h.0 refl)
+same_answer false false g h = refl
+
+judged_once : (held : List ℕ → Option (List ℕ)) (l : Links) (p : Placement) (cert : Cert) → IsSettled held (judging_script l p cert)
+unfolding judging_script
+judged_once held l p cert = (
+  (λ a b g h. same_answer a b g h),
+  (λ a line g n. n),
+  (λ line other n. absurd n),
+  (λ a g. settled a),
+)
+  where
+    settled : (a : Bool) → IsSettled held (judged_script l cert a)
+    settled true = tt
+    settled false = tt
+
+-- a placement has one outcome
+placed_once : (held : List ℕ → Option (List ℕ)) (l : Links) (stations : Option (List ℕ)) (next : Placement → Script) → ((p : Placement) → IsSettled held (next p)) → IsSettled held (placement_step l stations next)
+placed_once held l None next s = s (no_relays l)
+placed_once held l (Some stations) next s = λ bytes _. settled_step held (stations_read l bytes) next s
+
 -- acceptance has one outcome
 module _ (apart : (d : Design) (fault : CheckFault) → IsAccepted d → IsRefusal d fault → ⊥) (one : (d : Design) (fault other : CheckFault) → IsRefusal d fault → IsRefusal d other → fault ≡ other) (graph : (d : Design) (a b : List Channel) → IsGraphOf d a → IsGraphOf d b → a ≡ b) where
   refused_once : (o : Option Design) (fault other : CheckFault) → IsRefused o fault → IsRefused o other → fault ≡ other
@@ -83,11 +114,25 @@ module _ (apart : (d : Design) (fault : CheckFault) → IsAccepted d → IsRefus
     (λ a _. s a),
   )
 
+  -- the system of a netlist has one outcome
+  system_once : (held : List ℕ → Option (List ℕ)) (net : List ℕ) (root : Option (List ℕ)) (next : Links → Script) → ((l : Links) → IsSettled held (next l)) → IsSettled held (system_step net root next)
+  system_once held net root next s = λ bytes _.
+      let built : Design → Script = λ checked. net_step checked (λ channels. next (links checked channels)) in
+      settled_step held (net_reading bytes) (λ d. check_step root d built)
+      (λ d. checked_once held root d built (λ checked. built_once held checked (λ channels. next (links checked channels)) (λ channels. s (links checked channels))))
+
   settled_job : (held : List ℕ → Option (List ℕ)) (job : Job) → IsSettled held (script_of job)
-  unfolding check_script report_script strict_script checked_script rows_script
+  unfolding check_script report_script strict_script checked_script rows_script place_script wires_script rate_script rated_script verify_script cert_script
   settled_job held (Check net root) = λ bytes _.
       let reported : (d : Design) → IsSettled held (report_script d) = λ d. built_once held d (λ channels. end (gives (report d channels))) (λ _. tt) in
       settled_step held (net_reading bytes) (λ d. check_step root d report_script) (λ d. checked_once held root d report_script reported)
+  settled_job held (Place net wires reach root) =
+      system_once held net root (λ l. wires_script l wires reach) (λ l bytes _. settled_step held (wires_read reach l bytes) (λ p. end (gives (placed l p))) (λ _. tt))
+  settled_job held (Rate net stations root) =
+      system_once held net root (λ l. placement_step l stations (rated_script l)) (λ l. placed_once held l stations (rated_script l) (λ _. tt))
+  settled_job held (Verify net cert stations root) =
+      system_once held net root (λ l. placement_step l stations (λ p. cert_script l p cert))
+      (λ l. placed_once held l stations (λ p. cert_script l p cert) (λ p bytes _. settled_step held (cert_read bytes) (judging_script l p) (λ c. judged_once held l p c)))
   settled_job held (Strict net vec root) = λ bytes _.
       let rows : (d : Design) → IsSettled held (rows_script d vec) = λ d text _. settled_step held (vec_reading d text) (λ bits. end (gives (strict_output d bits))) (λ _. tt) in
       settled_step held (net_reading bytes) (λ d. checked_script d vec root)

@@ -2,13 +2,14 @@
 
 ghost use Rattle.std.specs.Prelude.{◌≡◌, ℕ, ◌≤◌, false, List, [], OnOk, OnErr, IfOk, IfErr};
 ghost use Rattle.lid_base.specs.Outside.{Rose, Appended, AppendedPrefix};
+ghost use Rattle.lid_cli.specs.Jobs.{IsSound};
 ghost use Rattle.lid_script.specs.Scripts.{script_of};
 ghost use Rattle.lid_script.specs.Causes.{IsCause, IsEnd, IsStopped, IsRefusal};
 ghost use Rattle.lid_script.specs.Statuses.{HasText, Writes, WritesPrefix, TellsAll, Leaves, writes_early};
 
 use lid_base::{Gate, Shelf, Sink, SinkFailed};
 use lid_cli::Job;
-use lid_commands::{check_text, strict_text};
+use lid_commands::{check_text, place_text, rate_text, strict_text, verify_text};
 use lid_io::PieceWriter;
 use lid_script::{End, Stop};
 use std::alloc::Global;
@@ -17,7 +18,8 @@ use std::thread::Threads;
 
 /// What a job writes that writes nothing before its output is whole.
 fn text_of<'a, S: Shelf>(alloc: Global, shelf: &mut S, job: &'a Job) -> Result<Vec<u8>, Stop<'a>>
-    requires { writes_early job.now ≡ false }
+    requires whole { writes_early job.now ≡ false }
+    requires sound { IsSound job.now }
     ensures ok { IfOk result (λ text. HasText (S.held shelf.old) (script_of job.now) text.items) }
     ensures err { IfErr result (IsCause (S.held shelf.old) (script_of job.now) (S.faults shelf.old) (S.faults shelf.new)) }
     ensures kept { S.held shelf.new ≡ S.held shelf.old }
@@ -25,9 +27,26 @@ fn text_of<'a, S: Shelf>(alloc: Global, shelf: &mut S, job: &'a Job) -> Result<V
 {
     match job {
         Job::Check { net, root } => check_text(alloc, shelf, net.as_str(), root),
+        Job::Place {
+            net,
+            wires,
+            reach,
+            root,
+        } => place_text(alloc, shelf, net.as_str(), wires.as_str(), *reach, root),
+        Job::Rate {
+            net,
+            stations,
+            root,
+        } => rate_text(alloc, shelf, net.as_str(), stations, root),
         Job::Strict { net, vec, root } => {
             strict_text(alloc, shelf, net.as_str(), vec.as_str(), root)
         }
+        Job::Verify {
+            net,
+            cert,
+            stations,
+            root,
+        } => verify_text(alloc, shelf, net.as_str(), cert.as_str(), stations, root),
     }
 }
 
@@ -70,7 +89,8 @@ fn run_whole<'a, S: Shelf, O: Sink>(
     shelf: &mut S,
     out: &mut O,
 ) -> Result<(), End<'a>>
-    requires { writes_early job.now ≡ false }
+    requires whole { writes_early job.now ≡ false }
+    requires sound { IsSound job.now }
     ensures done { OnOk result (Writes (S.held shelf.old) (script_of job.now) (O.written out.old) (O.written out.new)) }
     ensures fails { IfErr result (IsEnd (S.held shelf.old) (script_of job.now) (S.faults shelf.old) (S.faults shelf.new)
         (Rose (O.faults out.old) (O.faults out.new) × WritesPrefix (S.held shelf.old) (script_of job.now) (O.written out.old) (O.written out.new))) }
@@ -96,6 +116,7 @@ where
     S: Shelf,
     O: Sink,
     G: Gate,
+    requires { IsSound job.now }
     ensures done { OnOk result (Writes (S.held shelf.old) (script_of job.now) (O.written out.old) (O.written out.new)) }
     ensures fails { IfErr result (IsEnd (S.held shelf.old) (script_of job.now) (S.faults shelf.old) (S.faults shelf.new)
         (Rose (O.faults out.old) (O.faults out.new) × WritesPrefix (S.held shelf.old) (script_of job.now) (O.written out.old) (O.written out.new))) }
@@ -105,6 +126,10 @@ where
 {
     let _ = gate;
     match job {
-        Job::Check { .. } | Job::Strict { .. } => run_whole(rt.alloc(), job, shelf, out),
+        Job::Check { .. }
+        | Job::Place { .. }
+        | Job::Rate { .. }
+        | Job::Strict { .. }
+        | Job::Verify { .. } => run_whole(rt.alloc(), job, shelf, out),
     }
 }
