@@ -15,13 +15,13 @@ use Rattle.lid_design.specs.Elaboration.{columns, model_nets}
 use Rattle.lid_design.specs.Models.{insts_of, IsReached, number_from}
 use Rattle.lid_wiring.specs.Judged.{IsJudged}
 use Rattle.lid_wiring.proofs.Clocking.{model_at_number}
-use Rattle.lid_strict.proofs.Accepted.{judged_of}
+use Rattle.lid_check.proofs.Judging.{judged_of}
 use Rattle.lid_parts.specs.PearlParts.{ArePortsApart}
 use Rattle.lid_parts.proofs.Beginning.{AreApart, apart_filter, inputs_apart, outputs_apart, nets_begin, columns_begin}
 use Rattle.lid_wiring.proofs.Limits.{few_columns}
 use Rattle.lid_elab.specs.Numbers.{columns_in, start_of}
 use Rattle.lid_elab.proofs.Numbering.{numbering}
-use Rattle.lid_net.proofs.Numbering.{stands_few}
+use Rattle.lid_parts.proofs.Columns.{stands_few}
 use Rattle.lid_parts.proofs.Finding.{whole_pearls, inst_count, inst_pearl}
 use Rattle.std.proofs.lemmas.Bool.{cases_lt}
 use Rattle.lid_design.specs.Loops.{pearls}
@@ -211,7 +211,7 @@ net_count_few d formed accepted k reached =
     let j = judged d formed accepted in
     let stands = numbering d j reached.0 k reached.1 in
     let begin = columns_begin d (length d.models) reached.0 k in
-    let few = stands_few (columns d) (columns_in (length d.models) d reached.0 k) (start_of d reached.0) stands in
+    let few = stands_few (columns d) (start_of d reached.0) (columns_in (length d.models) d reached.0 k) stands in
     let most = few_columns d j in
     let a = ap length begin.1 in
     let b = length-append (map (column reached.0) (model_nets d k)) begin.0 in
