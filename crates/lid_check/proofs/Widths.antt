@@ -11,8 +11,8 @@ use Rattle.lid_base.proofs.Lists.{same_bytes, bytes_same}
 use Rattle.lid_design.specs.declared.Design.{Design}
 use Rattle.lid_design.specs.declared.Model.{Model}
 use Rattle.lid_design.specs.Columns.{column, is_clock, data_inputs, root_inputs, root_outputs}
-use Rattle.lid_design.specs.Models.{nets}
-use Rattle.lid_design.specs.Elaboration.{instances, model_nets, columns}
+use Rattle.lid_design.specs.Models.{nets, IsReached}
+use Rattle.lid_design.specs.Elaboration.{model_nets, columns}
 use Rattle.lid_design.specs.WellFormed.{IsWellFormed}
 use Rattle.lid_design.proofs.Reached.{root_reached}
 use Rattle.lid_hierarchy.proofs.Numbers.{bytes_eq_comm}
@@ -21,6 +21,9 @@ use Rattle.lid_wiring.specs.Judged.{IsJudged}
 use Rattle.lid_wiring.proofs.Names.{to_among, from_among}
 use Rattle.lid_wiring.proofs.Wired.{output_read, read_is_net}
 use Rattle.lid_wiring.proofs.Limits.{few_columns}
+use Rattle.lid_elab.specs.Numbers.{start_of, columns_in}
+use Rattle.lid_elab.proofs.Numbering.{numbering}
+use Rattle.lid_parts.proofs.Columns.{stands_few}
 use Rattle.lid_parts.proofs.Beginning.{AreApart, apart_filter, inputs_apart, outputs_apart, columns_begin}
 use Rattle.lid_flaws.proofs.Geometry.{input_net}
 use Rattle.lid_check.proofs.Judging.{judged_of}
@@ -47,20 +50,21 @@ names_equal = record {
 }
 
 module _ (d : Design) (judged : IsJudged d) where
-  -- the nets of the root are some of the columns
-  root_nets : length (model_nets d d.root) ≤ 1048576
-  unfolding columns instances
-  root_nets =
-      let begin = columns_begin d (length d.models) [] d.root in
-      let whole : length (columns d) ≡ length (map (column []) (model_nets d d.root)) + length begin.0 = ap length begin.1 ∙ length-append (map (column []) (model_nets d d.root)) begin.0 in
-      let long = length-map (model_nets d d.root) (column []) in
+  -- the nets of a reached model are no more than there are columns
+  pub nets_few : (k : ℕ) → IsReached d k → length (model_nets d k) ≤ 1048576
+  nets_few k reached =
+      let own = columns_in (length d.models) d reached.0 k in
+      let within = stands_few (columns d) (start_of d reached.0) own (numbering d judged reached.0 k reached.1) in
+      let begin = columns_begin d (length d.models) reached.0 k in
+      let whole = ap length begin.1 ∙ length-append (map (column reached.0) (model_nets d k)) begin.0 in
+      let long = length-map (model_nets d k) (column reached.0) in
       let few = few_columns d judged in
       omega arith
 
   few_names : (names : List (List ℕ)) → AreApart names → ((net : List ℕ) → Among net names → Among net (model_nets d d.root)) → length names ≤ 1048576
   few_names names apart among =
       let few = length-le_from_is_member names_equal names (model_nets d d.root) (distinct names apart) (λ net is. from_among net (model_nets d d.root) (among net (to_among net names is))) in
-      let all = root_nets in
+      let all = nets_few d.root (root_reached d) in
       omega arith
 
   outputs_few : (m : Model) → slice_get d.models d.root ≡ Some m → length m.outputs ≤ 1048576

@@ -28,6 +28,7 @@ use Rattle.lid_leads.specs.declared.origin.Origin.TheVariants.{Const, Port}
 use Rattle.lid_leads.specs.declared.step.Step.{Step}
 use Rattle.lid_leads.specs.declared.step.Step.TheVariants.{Ends, Passes, Stops}
 use Rattle.lid_leads.specs.Steps.{step_from, origin_at, LeadsWithin, IsLedTo, AreOrigins}
+use Rattle.lid_check.proofs.Flats.{driven}
 use Rattle.lid_net.specs.Graphs.{ports_of, IsPort, IsNoPort, LeadsIn, LeadsTo}
 use Rattle.lid_net.specs.Systems.{AreColumnsLed}
 
@@ -79,7 +80,7 @@ module _ (d : Design) (n : Network) (is : IsNetwork d n) where
   driven_of k less = let whole = is.elaborated.whole in let l = long in is.elaborated.each k (column_at d k) (slice_get-get_or (columns d) k (column [] []) (omega arith))
 
   pub only : (k : ℕ) → k < length n.columns.drivers → drivers d (column_at d k) ≡ map_driver (column_at d) (shown_driver d (driver_at n.columns.drivers k)) ∷ []
-  only k less = let by = driven_of k less in by.only ∙ ap (λ (s : Driver ℕ). map_driver (column_at d) s ∷ []) (shown_at d n.columns.drivers k by.driver less by.here)
+  only = driven d n.columns.drivers n.columns.starts is.elaborated
 
 module _ (d : Design) (n : Network) (is : IsNetwork d n) (covers : AllByRecursion (HasCover d) n.columns.drivers) (marks : List (Option Origin)) (right : AreShellMarks d (length n.columns.drivers) marks) (once : ArePortsOnce d) (inputs : AreInputsPorts d) where
   abbrev ds : List ColumnDriver

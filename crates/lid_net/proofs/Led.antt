@@ -41,7 +41,8 @@ use Rattle.lid_net.specs.Graphs.{outputs_at, inputs_at, ports_of, inputs_of, IsP
 use Rattle.lid_net.proofs.Joining.{got_here}
 use Rattle.lid_net.proofs.Leading.{only, one_of, source_driven}
 use Rattle.lid_net.proofs.Rooted.{RootShape, given, constant, buffer, output, root_shape, root_plain}
-use Rattle.lid_net.proofs.Facts.{judged, inputs_ports, ports_apart, source_name, shell_name}
+use Rattle.lid_check.proofs.Flats.{ports_apart}
+use Rattle.lid_net.proofs.Facts.{judged, inputs_ports, source_name, shell_name}
 
 logic_passes : (d : Design) (ks : List ℕ) → fault_after_recursion d ks ≡ None → root_logic d ≡ None
 unfolding fault_after_recursion
@@ -196,7 +197,7 @@ module _ (d : Design) (n : Network) (formed : IsWellFormed d) (accepted : IsAcce
     shell_portless i sub net body among (suc p) place h =
         let x = shell_name d (column (i ∷ []) net) p place h in
         let model : sub ≡ x.model = (let e : Some sub ≡ Some x.model = sym body ∙ ap (model_at d) x.at ∙ x.body in cc) in
-        ports_apart d accepted p x.path net x.model x.here x.body (subst (λ (m : Model). Among net (data_inputs d m)) model among) (get_among x.model.outputs place net x.name)
+        ports_apart d accepted.outputs p x.path net x.model x.here x.body (subst (λ (m : Model). Among net (data_inputs d m)) model among) (get_among x.model.outputs place net x.name)
 
     from_shell : (i k : ℕ) (sub : Model) (net : List ℕ) → k < count → column_at d k ≡ column (i ∷ []) net → model_at d (i ∷ []) ≡ Some sub → Among net (data_inputs d sub) → (o : Origin) × LeadsTo d (column_at d k) o
     from_shell i k sub net less e body among =

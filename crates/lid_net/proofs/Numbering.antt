@@ -56,24 +56,6 @@ module _ (d : Design) (pearl : ℕ) (numbers : Numbers) (f : Flat) (is : IsPearl
         each = each;
       }
 
--- a part more
-pub parts_more : (d : Design) (count n : ℕ) (old new : List Part) (part : Part) → length old ≡ n → ((i : ℕ) (p : Part) → slice_get old i ≡ Some p → IsPartOf d count i p) → IsPartOf d count n part → new ≡ old ++ part ∷ [] → (i : ℕ) (p : Part) → slice_get new i ≡ Some p → IsPartOf d count i p
-parts_more d count n old new part long each last pushed i p here = by (at old i (ap (λ (ps : List Part). slice_get ps i) (sym pushed) ∙ here))
-  where
-    at : (ps : List Part) (j : ℕ) → slice_get (ps ++ part ∷ []) j ≡ Some p → (slice_get ps j ≡ Some p) ⊎ ((j ≡ length ps) × (p ≡ part))
-    at [] zero h = inr (refl, (let e : Some part ≡ Some p = h in cc))
-    at [] (suc j) h = absurd (let e : None ≡ Some p = h in cc)
-    at (q ∷ ps) zero h = inl h
-    at (q ∷ ps) (suc j) h = next (at ps j h)
-      where
-        next : (slice_get ps j ≡ Some p) ⊎ ((j ≡ length ps) × (p ≡ part)) → (slice_get ps j ≡ Some p) ⊎ ((suc j ≡ suc (length ps)) × (p ≡ part))
-        next (inl e) = inl e
-        next (inr e) = inr (ap suc e.0, e.1)
-
-    by : (slice_get old i ≡ Some p) ⊎ ((i ≡ length old) × (p ≡ part)) → IsPartOf d count i p
-    by (inl h) = each i p h
-    by (inr e) = subst (λ (j : ℕ). IsPartOf d count j p) (sym (e.0 ∙ long)) (subst (IsPartOf d count n) (sym e.1) last)
-
 pub columns_few : (d : Design) (n : Network) → IsNetwork d n → length (columns d) ≤ 1048576
 columns_few d n is =
     let whole = is.elaborated.whole in

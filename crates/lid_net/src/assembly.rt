@@ -107,9 +107,10 @@ fn lead_columns(checked: &Checked, parts: &[Part], origins: &mut [Option<Origin>
     ensures led { AreColumnsLed checked.now origins.new }
 {
     let network = checked.network();
+    let design = checked.design();
     mark_ports(parts, origins);
     lead_back(
-        checked.design(),
+        design,
         network.columns.drivers.as_slice(),
         network.order.as_slice(),
         origins,

@@ -136,3 +136,21 @@ one_part d drivers parts part none is same = record {
     at : (p : ℕ) (x : Part) → slice_get (part ∷ []) p ≡ Some x → IsPearlPart d p x × IsPart drivers x
     at zero x here = let e : Some part ≡ Some x = here in subst (λ (y : Part). IsPearlPart d 0 y × IsPart drivers y) (let f : part ≡ x = cc in f) is
     at (suc p) x here = absurd (let e : None ≡ Some x = here in cc)
+
+-- what holds of each item of a list and of one more holds of each of the longer list
+pub each_more : {A : Type 0} (P : ℕ → A → Type 0) (old new : List A) (n : ℕ) (x : A) → length old ≡ n → ((i : ℕ) (y : A) → slice_get old i ≡ Some y → P i y) → P n x → new ≡ old ++ x ∷ [] → (i : ℕ) (y : A) → slice_get new i ≡ Some y → P i y
+each_more {A} P old new n x long each last pushed i y here = by (at old i (ap (λ (ys : List A). slice_get ys i) (sym pushed) ∙ here))
+  where
+    at : (ys : List A) (j : ℕ) → slice_get (ys ++ x ∷ []) j ≡ Some y → (slice_get ys j ≡ Some y) ⊎ ((j ≡ length ys) × (y ≡ x))
+    at [] zero h = inr (refl, (let e : Some x ≡ Some y = h in cc))
+    at [] (suc j) h = absurd (let e : None ≡ Some y = h in cc)
+    at (z ∷ ys) zero h = inl h
+    at (z ∷ ys) (suc j) h = next (at ys j h)
+      where
+        next : (slice_get ys j ≡ Some y) ⊎ ((j ≡ length ys) × (y ≡ x)) → (slice_get ys j ≡ Some y) ⊎ ((suc j ≡ suc (length ys)) × (y ≡ x))
+        next (inl e) = inl e
+        next (inr e) = inr (ap suc e.0, e.1)
+
+    by : (slice_get old i ≡ Some y) ⊎ ((i ≡ length old) × (y ≡ x)) → P i y
+    by (inl h) = each i y h
+    by (inr e) = subst (λ (j : ℕ). P j y) (sym (e.0 ∙ long)) (subst (P n) (sym e.1) last)

@@ -130,7 +130,7 @@ module _ (network : List (Driver ℕ)) (order : List ℕ) (ordered : IsOrder (re
       omega arith
 
   -- what a number of the order reads has a number
-  pub reads_below : (i : ℕ) → i < length order → AllByRecursion (λ a. a < length network) (read_now (driver_at network (slice_index_or order i 0)))
+  reads_below : (i : ℕ) → i < length order → AllByRecursion (λ a. a < length network) (read_now (driver_at network (slice_index_or order i 0)))
   reads_below i h =
       let k = slice_index_or order i 0 in
       all_of_each (λ a. a < length network) (read_now (driver_at network k)) (λ a among. order_below a (subst (Among a) (take-append-drop i order) (among_left a (take i order) (drop i order) (ordered.earlier i a h (subst (Among a) (sym (reads_here network k)) among)))))
@@ -222,3 +222,10 @@ module _ (d : Design) (drivers : List ColumnDriver) (order : List ℕ) (ordered 
 
     pub driver_same : shown_driver d driver ≡ driver_at (map (shown_driver d) drivers) number
     driver_same = driver_is d drivers number driver driver_there
+
+    -- what it reads has a number
+    pub reads_within : AllByRecursion (λ a. a < length drivers) (read_now (shown_driver d driver))
+    reads_within =
+        let network = map (shown_driver d) drivers in
+        subst (λ (n : ℕ). AllByRecursion (λ a. a < n) (read_now (shown_driver d driver))) (length-map drivers (shown_driver d))
+        (subst (λ (s : Driver ℕ). AllByRecursion (λ a. a < length network) (read_now s)) (sym driver_same) (reads_below network order ordered i h))

@@ -47,7 +47,7 @@ told d e same facts are ds drivers ps parts p below made flattened =
     ))
     below
   where
-    none : Part
+    abbrev none : Part
     none = record { start = 0; nets = 0; inputs = 0; outputs = 0 }
 
 pub returns-clause-rules : goal.returns-clause-rules
