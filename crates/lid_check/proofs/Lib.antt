@@ -6,4 +6,4 @@ pub mod Refusing
 pub mod Widths
 pub mod Descent
 pub mod Levels
-pub mod Judging
+pub mod Sound

@@ -26,7 +26,7 @@ use Rattle.lid_elab.proofs.Numbering.{numbering}
 use Rattle.lid_parts.proofs.Columns.{stands_few}
 use Rattle.lid_parts.proofs.Beginning.{AreApart, apart_filter, inputs_apart, outputs_apart, columns_begin}
 use Rattle.lid_flaws.proofs.Geometry.{input_net}
-use Rattle.lid_check.proofs.Judging.{judged_of}
+use Rattle.lid_check.proofs.Sound.{judged_of}
 
 -- names of which none stands twice are distinct
 distinct : (xs : List (List ℕ)) → AreApart xs → IsDistinct bytes_eq xs

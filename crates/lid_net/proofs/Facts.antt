@@ -15,7 +15,7 @@ use Rattle.lid_design.specs.Elaboration.{columns, model_nets}
 use Rattle.lid_design.specs.Models.{insts_of, IsReached, number_from}
 use Rattle.lid_wiring.specs.Judged.{IsJudged}
 use Rattle.lid_wiring.proofs.Clocking.{model_at_number}
-use Rattle.lid_check.proofs.Judging.{judged_of}
+use Rattle.lid_check.proofs.Sound.{judged_of}
 use Rattle.lid_parts.specs.PearlParts.{ArePortsApart}
 use Rattle.lid_parts.proofs.Beginning.{AreApart, apart_filter, inputs_apart, outputs_apart, nets_begin, columns_begin}
 use Rattle.lid_wiring.proofs.Limits.{few_columns}
