@@ -1,5 +1,4 @@
 -- A design whose models pass the conditions is judged.
-use Rattle.std.proofs.Common.{◌≡◌, Some, None}
 use Rattle.lid_design.specs.declared.Design.{Design}
 use Rattle.lid_design.specs.WellFormed.{IsWellFormed}
 use Rattle.lid_hierarchy.specs.Surveys.{AreKnown}

@@ -1,26 +1,23 @@
 -- What drives the nets of a flat part that is made in an order.
-use Rattle.std.proofs.Common.{◌≡◌, ◌<◌, ◌≤◌, ◌+◌, ◌-◌, ◌==◌, nat_lt, ℕ, zero, suc, Bool, true, false, cond, List, [], ◌∷◌, ◌++◌, length, map, take, get_or, inl, inr, refl, sym, ◌∙◌, ap, subst, arith, zero-add}
-use Rattle.std.specs.List.{AllByRecursion, flat_map, range_with_len}
+use Rattle.std.proofs.Common.{◌≡◌, ◌<◌, ◌≤◌, ◌+◌, ◌==◌, ℕ, zero, suc, Bool, true, false, cond, List, [], ◌∷◌, ◌++◌, length, map, get_or, refl, ◌∙◌, ap, arith}
+use Rattle.std.specs.List.{flat_map, range_with_len}
 use Rattle.std.proofs.lemmas.List.{append-nil, length-map}
-use Rattle.std.proofs.lemmas.List.FromFn.{length-map-range_with_len, get_or-map-range_with_len}
-use Rattle.std.proofs.lemmas.Bool.{ltb-false, eqb-true, eqb-false, eq-eqb, ne_eqb}
+use Rattle.std.proofs.lemmas.Bool.{eqb-true, eqb-false, eq-eqb, ne_eqb}
 use Rattle.lid_base.specs.Lists.{Among}
-use Rattle.lid_cover.specs.Cover.{cover_value}
 use Rattle.lid_design.specs.declared.Design.{Design}
 use Rattle.lid_design.specs.declared.Flat.{Flat}
 use Rattle.lid_design.specs.declared.FlatLatch.{FlatLatch}
 use Rattle.lid_design.specs.declared.FlatCover.{FlatCover}
-use Rattle.lid_design.specs.Network.{Driver, from_input, from_latch, from_cover, from_connection}
+use Rattle.lid_design.specs.Network.{Driver, from_input, from_latch, from_cover}
 use Rattle.lid_design.specs.Flat.{inputs_at, latch_at, cover_at, flat_drivers}
 use Rattle.lid_digraph.specs.Graphs.{IsOrder}
 use Rattle.lid_elab.specs.declared.driver.ColumnDriver.{ColumnDriver}
 use Rattle.lid_elab.specs.declared.driver.ColumnDriver.TheVariants.{Input, Latch, Cover as OfCover, Connection}
 use Rattle.lid_elab.specs.Covers.{cover_in}
 use Rattle.lid_elab.specs.Elaborations.{driver_reads, shown_driver}
-use Rattle.lid_flatten.specs.Parts.{driver_at, StaysIn, IsPart, IsIn}
-use Rattle.lid_flatten.specs.Inner.{buffer, counted_from, inner_driver, inner_drivers, latches_of, cells_of, latches_in, cells_in}
-use Rattle.lid_flatten.specs.declared.part.Part.{Part}
-use Rattle.lid_flatten.proofs.Lists.{flat_flat, flat_none, flat_one, order_apart, AreApart}
+use Rattle.lid_flatten.specs.Parts.{driver_at}
+use Rattle.lid_flatten.specs.Inner.{buffer, latches_of, cells_of, latches_in, cells_in}
+use Rattle.lid_flatten.proofs.Lists.{flat_flat, flat_none, flat_one, order_apart}
 
 inputs_none : (k a n : ℕ) → ((i : ℕ) → a ≤ i → i < a + n → i ≡ k → ⊥) → inputs_at k a (range_with_len a n) ≡ []
 inputs_none k a zero none = refl

@@ -1,30 +1,25 @@
 -- A flat part that is made in an order meets the rules of flat parts.
-use Rattle.std.proofs.Common.{◌≡◌, ◌⊎◌, ◌<◌, ◌≤◌, ◌+◌, ◌-◌, ◌^◌, nat_lt, ℕ, zero, suc, Bool, true, false, cond, List, [], ◌∷◌, ◌++◌, length, map, take, get_or, inl, inr, refl, sym, ◌∙◌, ap, subst, arith}
-use Rattle.std.specs.Prelude.{slice_index}
-use Rattle.std.specs.List.{AllByRecursion, flat_map, range_with_len}
+use Rattle.std.proofs.Common.{◌≡◌, ◌⊎◌, ◌<◌, ◌≤◌, ◌+◌, nat_lt, ℕ, zero, suc, Bool, true, false, List, [], ◌∷◌, ◌++◌, length, map, inl, inr, refl, sym, ◌∙◌, ap, subst, arith}
+use Rattle.std.specs.List.{AllByRecursion, range_with_len}
 use Rattle.std.proofs.lemmas.Bool.{ltb-false, ltb-true}
-use Rattle.std.proofs.lemmas.List.{length-append}
-use Rattle.std.proofs.Math.Seq.{take-append_seam, get_or-append_seam}
 use Rattle.lid_base.specs.Lists.{Among}
-use Rattle.lid_base.proofs.Lists.{among_left, among_right, among_flat, among_map, among_push, all_among}
+use Rattle.lid_base.proofs.Lists.{among_left, among_right, among_flat, among_map}
 use Rattle.lid_cover.specs.Cover.{IsCover}
 use Rattle.lid_design.specs.declared.Design.{Design}
 use Rattle.lid_design.specs.declared.Flat.{Flat}
 use Rattle.lid_design.specs.declared.FlatLatch.{FlatLatch}
 use Rattle.lid_design.specs.declared.FlatCover.{FlatCover}
-use Rattle.lid_design.specs.Network.{Driver}
 use Rattle.lid_design.specs.Walks.{IsDriven}
 use Rattle.lid_design.specs.Flat.{flat_drivers, latch_out, IsNumbered, ReadEarlier, IsFlatCover}
-use Rattle.lid_digraph.specs.Graphs.{reads_at, IsOrder}
+use Rattle.lid_digraph.specs.Graphs.{reads_at}
 use Rattle.lid_elab.specs.declared.driver.ColumnDriver.{ColumnDriver}
 use Rattle.lid_elab.specs.declared.driver.ColumnDriver.TheVariants.{Input, Latch, Cover as OfCover, Connection}
-use Rattle.lid_elab.specs.Covers.{cover_in}
 use Rattle.lid_elab.specs.Elaborations.{driver_reads, shown_driver}
 use Rattle.lid_flatten.specs.Parts.{driver_at, HasCover, IsUnjudged}
 use Rattle.lid_flatten.specs.Inner.{buffer, latches_of, cells_of, latches_in, cells_in}
-use Rattle.lid_flatten.proofs.Lists.{all_of_each, all_flat, all_range, among_range}
+use Rattle.lid_flatten.proofs.Lists.{all_flat, all_range, among_range}
 use Rattle.lid_flatten.proofs.Earlier.{Gives, read_earlier}
-use Rattle.lid_flatten.proofs.Nets.{is_input, as_net, IsMade, in_order, order_below, input_driver, cell_driver, no_driver}
+use Rattle.lid_flatten.proofs.Nets.{is_input, IsMade, order_below, input_driver, cell_driver, no_driver}
 
 -- all numbers that a driver reads
 abbrev pub numbers_of : ColumnDriver → List ℕ

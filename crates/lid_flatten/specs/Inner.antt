@@ -1,7 +1,7 @@
 -- The drivers of a part with numbers counted from its first, and the latches and covers that they make in
 -- an order. These definitions serve the functions that make flat parts.
-use Rattle.std.specs.Prelude.{◌≡◌, ◌+◌, ◌-◌, ◌<◌, ◌≤◌, nat_lt, ℕ, Bool, true, if◌then◌else◌, List, [], ◌∷◌, length, map, flat_map}
-use Rattle.std.specs.List.{AllByRecursion, range_with_len}
+use Rattle.std.specs.Prelude.{◌+◌, ◌-◌, nat_lt, ℕ, true, if◌then◌else◌, List, [], ◌∷◌, map, flat_map}
+use Rattle.std.specs.List.{range_with_len}
 use Rattle.lid_cover.specs.declared.Cover.{Cover}
 use Rattle.lid_design.specs.declared.Design.{Design}
 use Rattle.lid_design.specs.declared.FlatLatch.{FlatLatch}
@@ -10,7 +10,7 @@ use Rattle.lid_design.specs.Network.{Driver, from_input, from_latch, from_cover,
 use Rattle.lid_elab.specs.declared.driver.ColumnDriver.{ColumnDriver}
 use Rattle.lid_elab.specs.declared.driver.ColumnDriver.TheVariants.{Input, Latch, Cover as OfCover, Connection}
 use Rattle.lid_elab.specs.Elaborations.{shown_driver}
-use Rattle.lid_flatten.specs.Parts.{driver_at, StaysIn}
+use Rattle.lid_flatten.specs.Parts.{driver_at}
 use Rattle.lid_flatten.specs.declared.part.Part.{Part}
 
 -- the cover that gives its one input

@@ -1,7 +1,6 @@
 -- What the drivers of a flat part stand for, where its nets stand for columns.
 use Rattle.std.specs.Prelude.{◌≡◌, ◌⊎◌, ⊤, ℕ, true, List, [], ◌∷◌, map}
 use Rattle.lid_base.specs.Lists.{Among}
-use Rattle.lid_cover.specs.declared.Cover.{Cover}
 use Rattle.lid_design.specs.declared.Flat.{Flat}
 use Rattle.lid_design.specs.Network.{Driver, from_input, from_latch, from_cover, from_connection}
 use Rattle.lid_design.specs.Flat.{flat_drivers}

@@ -51,11 +51,7 @@ fn found_origin(
 }
 
 /// Where a number is led back to, by where the one that it passes on is.
-fn next_origin(
-    design: &Design,
-    driver: &ColumnDriver,
-    origins: &[Option<Origin>],
-) -> Option<Origin>
+fn next_origin(design: &Design, driver: &ColumnDriver, origins: &[Option<Origin>]) -> Option<Origin>
     requires cover { HasCover design.now driver.now }
     ensures { result ≡ origin_after origins.now (step_from design.now driver.now) }
 {

@@ -39,11 +39,7 @@ fn part_of(alloc: Global, checked: &Checked, pearl: u32) -> Result<Part, AllocEr
 }
 
 /// The part of a flat part whose columns have these numbers.
-fn number_flat(
-    alloc: Global,
-    flat: &Flat,
-    numbers: lid_check::Part,
-) -> Result<Part, AllocError>
+fn number_flat(alloc: Global, flat: &Flat, numbers: lid_check::Part) -> Result<Part, AllocError>
     requires rules { IsFlat flat.now }
     requires ports { numbers.inputs + numbers.outputs ≤ numbers.nets }
     requires few { numbers.start + numbers.nets ≤ 1048576 }

@@ -1,8 +1,8 @@
 -- The columns of a pearl as a part of the network.
-use Rattle.std.proofs.Common.{◌≡◌, ◌⊎◌, ℕ, zero, suc, ◌+◌, ◌<◌, ◌≤◌, List, [], ◌∷◌, ◌++◌, length, map, get_or, Option, Some, None, option_and_then, option_map, slice_get, inl, inr, refl, sym, ◌∙◌, ap, subst, arith}
+use Rattle.std.proofs.Common.{◌≡◌, ◌⊎◌, ℕ, ◌+◌, ◌<◌, ◌≤◌, List, [], ◌∷◌, ◌++◌, length, map, Option, Some, option_and_then, option_map, slice_get, inl, inr, refl, sym, ◌∙◌, ap, subst, arith}
 use Rattle.std.specs.Option.{option_map_or}
 use Rattle.std.specs.List.{AllByRecursion}
-use Rattle.std.proofs.lemmas.List.{length-map, length-append}
+use Rattle.std.proofs.lemmas.List.{length-map}
 use Rattle.std.proofs.lemmas.Option.{slice_get_within, slice_get-get_or, slice_get-map}
 use Rattle.lid_base.specs.Lists.{Among}
 use Rattle.lid_base.proofs.Lists.{among_left, among_append, among_map, get_among, among_get, all_among}
@@ -31,7 +31,7 @@ use Rattle.lid_flatten.proofs.Lists.{all_of_each}
 use Rattle.lid_flatten.proofs.Rules.{numbers_of}
 use Rattle.lid_parts.specs.PearlParts.{outputs_of, ArePortsApart, IsPearlPart}
 use Rattle.lid_parts.proofs.Inside.{column_inside, number_inside}
-use Rattle.lid_parts.proofs.Reading.{IsLocal, IsOuter, IsNear, driver_near}
+use Rattle.lid_parts.proofs.Reading.{IsOuter, IsNear, driver_near}
 use Rattle.lid_parts.proofs.Columns.{stands_few}
 use Rattle.lid_parts.proofs.Beginning.{nets_begin, ports_begin}
 

@@ -4,7 +4,7 @@ use Rattle.std.specs.Option.{option_map_or}
 use Rattle.std.specs.List.{range_with_len}
 use Rattle.std.proofs.lemmas.List.{append-nil, length-map}
 use Rattle.std.proofs.lemmas.List.FromFn.{length-map-range_with_len, get_or-map-range_with_len}
-use Rattle.std.proofs.lemmas.Option.{slice_get-get_or, slice_get_read, slice_get_within}
+use Rattle.std.proofs.lemmas.Option.{slice_get-get_or, slice_get_read}
 use Rattle.lid_design.specs.declared.Design.{Design}
 use Rattle.lid_design.specs.declared.Model.{Model}
 use Rattle.lid_design.specs.Models.{insts_of, instance_number, number_from, data_inputs_of, IsReached}
@@ -14,7 +14,6 @@ use Rattle.lid_wiring.specs.Judged.{IsJudged}
 use Rattle.lid_elab.specs.declared.driver.ColumnDriver.{ColumnDriver}
 use Rattle.lid_elab.specs.Numbers.{columns_in, StandsAt}
 use Rattle.lid_elab.specs.Elaborations.{shown_driver, IsElaborated}
-use Rattle.lid_elab.proofs.Outer.{get_of}
 use Rattle.lid_flatten.specs.declared.part.Part.{Part}
 use Rattle.lid_flatten.specs.Parts.{IsPart}
 use Rattle.lid_parts.specs.PearlParts.{outputs_of, ArePortsApart, IsPearlPart, ArePearlParts}

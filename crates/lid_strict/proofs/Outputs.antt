@@ -1,16 +1,16 @@
 -- The outputs of a run are those of every strict table of the design.
-use Rattle.std.proofs.Common.{◌≡◌, ℕ, zero, suc, ◌+◌, ◌<◌, Bool, List, [], ◌∷◌, ◌++◌, length, map, Some, slice_get, option_map, refl, sym, ◌∙◌, ap, subst, arith}
+use Rattle.std.proofs.Common.{◌≡◌, ℕ, zero, suc, ◌+◌, ◌<◌, Bool, List, [], ◌∷◌, ◌++◌, length, map, Some, slice_get, refl, sym, ◌∙◌, ap, subst, arith}
 use Rattle.std.specs.List.{AllByRecursion}
 use Rattle.std.proofs.lemmas.List.{length-map}
-use Rattle.std.proofs.lemmas.Option.{slice_get_within, slice_get-map}
+use Rattle.std.proofs.lemmas.Option.{slice_get_within}
 use Rattle.lid_base.proofs.Lists.{among_get}
 use Rattle.lid_design.specs.declared.Design.{Design}
-use Rattle.lid_design.specs.Network.{Driver, from_input, from_latch, from_cover, from_connection, Table, IsStrict, from_each}
+use Rattle.lid_design.specs.Network.{Driver, Table, IsStrict, from_each}
 use Rattle.lid_design.specs.Columns.{Column, column, root_outputs, output_row, IsStrictOutput}
 use Rattle.lid_design.specs.Walks.{read_now, read_before}
 use Rattle.lid_digraph.specs.Graphs.{IsOrder}
 use Rattle.lid_elab.specs.declared.driver.ColumnDriver.{ColumnDriver}
-use Rattle.lid_elab.specs.Elaborations.{shown_driver, map_driver, column_at, IsElaborated}
+use Rattle.lid_elab.specs.Elaborations.{shown_driver, column_at, IsElaborated}
 use Rattle.lid_flatten.proofs.Lists.{all_of_each}
 use Rattle.lid_flaws.proofs.Numbered.{column_here}
 use Rattle.lid_check.specs.Networks.{AreNumbersOf}

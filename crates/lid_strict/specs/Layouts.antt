@@ -1,5 +1,5 @@
 -- Networks laid out for running, in an order of their numbers.
-use Rattle.std.specs.Prelude.{◌≡◌, ◌++◌, ◌<◌, ℕ, Bool, true, zero, suc, List, [], ◌∷◌, length, map, slice_index_or}
+use Rattle.std.specs.Prelude.{◌≡◌, ◌++◌, ◌<◌, ℕ, Bool, zero, suc, List, [], ◌∷◌, length, map, slice_index_or}
 use Rattle.std.specs.List.{AllByRecursion, flat_map}
 use Rattle.lid_base.specs.Lists.{Among}
 use Rattle.lid_design.specs.declared.FlatLatch.{FlatLatch}

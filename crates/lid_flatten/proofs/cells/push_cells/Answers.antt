@@ -1,4 +1,4 @@
-use Rattle.std.proofs.Common.{◌≡◌, ◌<◌, ◌+◌, ◌++◌, ℕ, List, length, map, take, slice_index_or, ap, arith}
+use Rattle.std.proofs.Common.{slice_index_or, ap, arith}
 use Rattle.std.proofs.lemmas.List.{length-map}
 use Rattle.lid_base.proofs.Lists.{among_at}
 use Rattle.lid_elab.specs.declared.driver.ColumnDriver.{ColumnDriver}

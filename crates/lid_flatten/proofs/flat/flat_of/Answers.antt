@@ -1,4 +1,4 @@
-use Rattle.std.proofs.Common.{ℕ, List, map, refl, sym, ◌∙◌, ap}
+use Rattle.std.proofs.Common.{ℕ, List, refl, ◌∙◌, ap}
 use Rattle.lid_flatten.specs.Inner.{latches_in, cells_in}
 use Rattle.lid_flatten.proofs.Looping.{graph_by, loops_by, flattened_by}
 use Rattle.lid_flatten.proofs.flat.flat_of.Goals as goal

@@ -1,4 +1,4 @@
-use Rattle.std.proofs.Common.{◌≡◌, ℕ, Bool, ◌||◌, length, nat_eq, sym, ◌∙◌, ap}
+use Rattle.std.proofs.Common.{ℕ, Bool, ◌||◌, length, nat_eq, sym, ◌∙◌, ap}
 use Rattle.lid_rules.proofs.Buffers.{wire_is}
 use Rattle.lid_rules.proofs.root.is_wire.Goals as goal
 

@@ -1,4 +1,4 @@
-use Rattle.std.proofs.Common.{◌≡◌, Bool, true, false, not, ◌&&◌, [], ◌∷◌, refl, sym, ◌∙◌, ap}
+use Rattle.std.proofs.Common.{Bool, true, false, not, ◌&&◌, [], ◌∷◌, refl, sym, ◌∙◌, ap}
 use Rattle.lid_cover.specs.Cover.{cover_value}
 use Rattle.lid_rules.proofs.Buffers.{passes_none, passes_one}
 use Rattle.lid_rules.proofs.root.passes_on.Goals as goal

@@ -44,7 +44,7 @@ told d e same facts are ds drivers ps parts p below made flattened =
     let none : Part = record { start = 0; nets = 0; inputs = 0; outputs = 0 } in
     subst (λ (g : Design). (p < length (pearls g)) → IfOk made (λ f. IsFlat f × IsFlatOf g p f)) same
     (λ less. if_ok made (flat_made d facts are p none less) (
-      subst (λ (xs : List Part). IfOk made (IsFlattened d facts.network.columns.drivers (slice_index_or xs p none))) parts (subst (λ (xs : List ColumnDriver). IfOk made (IsFlattened d xs (slice_index_or ps p none))) drivers flattened)
+    subst (λ (xs : List Part). IfOk made (IsFlattened d facts.network.columns.drivers (slice_index_or xs p none))) parts (subst (λ (xs : List ColumnDriver). IfOk made (IsFlattened d xs (slice_index_or ps p none))) drivers flattened)
     ))
     below
 
