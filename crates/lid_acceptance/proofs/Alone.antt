@@ -11,7 +11,7 @@ use Rattle.lid_design.specs.Loops.{HasNoLoop, WalkInside}
 use Rattle.lid_flaws.specs.Dependence.{HasNoDependence}
 use Rattle.lid_acceptance.specs.Plain.{IsRising, IsApart}
 use Rattle.lid_acceptance.proofs.Walking.{walk_keeps, Edge, none_closed}
-use Rattle.lid_acceptance.proofs.Edges.{OfCover, OfInput, OfOutput, EdgeAt, edge_at}
+use Rattle.lid_flaws.proofs.Edges.{OfCover, OfInput, OfOutput, EdgeAt, edge_at}
 
 pub some_none : {A : Type 0} (a : A) → Some a ≡ None → ⊥
 some_none a e = absurd (let f : Some a ≡ None = e in cc)

@@ -1,7 +1,7 @@
 -- The flat part of a pearl of an accepted design has no more nets and cells than the design may have.
-use Rattle.std.proofs.Common.{◌≡◌, ◌⊎◌, ℕ, zero, suc, ◌+◌, ◌≤◌, ◌==◌, ◌&&◌, not, Bool, true, false, cond, nat_lt, min, List, [], ◌∷◌, ◌++◌, length, filter, Some, None, inl, inr, refl, sym, ◌∙◌, ap, arith}
+use Rattle.std.proofs.Common.{◌≡◌, ◌⊎◌, ℕ, zero, suc, ◌+◌, ◌≤◌, ◌==◌, ◌&&◌, not, Bool, true, false, cond, nat_lt, min, List, [], ◌∷◌, ◌++◌, length, filter, Some, None, inl, inr, refl, sym, ◌∙◌, ap, subst, arith}
 use Rattle.std.specs.List.{AllByRecursion, count_by, flat_map, sum_by}
-use Rattle.std.proofs.lemmas.Bool.{eq-eqb, ltb-false}
+use Rattle.std.proofs.lemmas.Bool.{eqb-true, ltb-false}
 use Rattle.std.proofs.lemmas.List.{length-append, length-map}
 use Rattle.std.proofs.lemmas.List.Concat.{length-flat_map}
 use Rattle.std.proofs.lemmas.List.Sums.{sum_by-cons, sum_by-append, length-filter}
@@ -18,19 +18,23 @@ use Rattle.lid_design.specs.Columns.{Column, column, drivers}
 use Rattle.lid_design.specs.Models.{insts_of}
 use Rattle.lid_design.specs.Elaboration.{Instance, instances, model_nets, columns_at, columns, count_cells, count_nets, depth}
 use Rattle.lid_design.specs.Flat.{inputs_at, latch_at, cover_at, flat_drivers, IsFlat}
+use Rattle.lid_design.proofs.Parts.{latch_drives, cover_drives}
 use Rattle.lid_elab.specs.Numbers.{columns_in}
-use Rattle.lid_flatten.specs.Standing.{PassesOn, StandsFor, IsInput}
+use Rattle.lid_rules.specs.Buffers.{passes_on}
+use Rattle.lid_flatten.specs.Standing.{StandsFor, IsInput}
 use Rattle.lid_rules.specs.declared.fault.CheckFault.TheVariants.{Limit}
 use Rattle.lid_rules.specs.Conditions.{over, limits}
 use Rattle.lid_wiring.proofs.Passing.{or_none, no_limit}
 use Rattle.lid_wiring.proofs.Limits.{few_nets}
-use Rattle.lid_check.specs.declared.blocks.Block.{Block}
+use Rattle.lid_flatten.specs.declared.part.Part.{Part}
+use Rattle.lid_parts.specs.PearlParts.{IsPearlPart}
+use Rattle.lid_parts.proofs.Columns.{part_within}
 use Rattle.lid_check.specs.Acceptance.{IsAccepted}
-use Rattle.lid_check.specs.Blocks.{IsBlock}
 use Rattle.lid_check.specs.Flats.{IsFlatOf}
-use Rattle.lid_acceptance.specs.Sizes.{passes_on, count_logic}
+use Rattle.lid_acceptance.specs.Sizes.{count_logic}
+use Rattle.lid_acceptance.proofs.Sets.{kept_all}
 use Rattle.lid_acceptance.proofs.Totals.{total_add, total_less, total_each, total_counts}
-use Rattle.lid_acceptance.proofs.Flats.{drivers_counted, latches_below, covers_below, columns_same, each_long}
+use Rattle.lid_acceptance.proofs.Flats.{drivers_counted, latches_below, covers_below, columns_same, part_long}
 use Rattle.lid_acceptance.proofs.Counted.{sum_same}
 use Rattle.lid_acceptance.proofs.Cells.{is_cell, cell_drivers, columns_few}
 
@@ -40,13 +44,10 @@ nets_counted d =
     length-flat_map (columns_at d) (instances d)
     ∙ sum_same (λ p. length (columns_at d p)) (λ (p : Instance). length (model_nets d p.model)) (instances d) (λ p. length-map (model_nets d p.model) (column p.path))
 
-pub part_nets : (d : Design) (pearl : ℕ) (block : Block) (f : Flat) → IsAccepted d → IsBlock d pearl block → IsFlatOf d pearl f → f.nets ≤ 1048576
-part_nets d pearl block f accepted is of =
-    let same = ap length (columns_same d pearl block f is of) in
-    let long = each_long of.col 0 f.nets in
-    let whole = ap length is.stands.parts in
-    let a = length-append is.stands.before (columns_in (length d.models) d is.path is.model ++ is.stands.after) in
-    let b = length-append (columns_in (length d.models) d is.path is.model) is.stands.after in
+pub part_nets : (d : Design) (pearl : ℕ) (part : Part) (f : Flat) → IsAccepted d → IsPearlPart d pearl part → IsFlatOf d pearl f → f.nets ≤ 1048576
+part_nets d pearl part f accepted is flat =
+    let long = part_long d pearl part f is flat in
+    let within = part_within d pearl part is in
     let c = nets_counted d in
     let few = few_nets d (no_limit d accepted.models.ks accepted.models.after) in
     omega arith
@@ -63,14 +64,6 @@ cells_small d accepted =
     below : (b : Bool) → nat_lt 262144 (count_cells d) ≡ b → cond b (Some (Limit Cells (min (count_cells d) 4294967295))) None ≡ None → count_cells d ≤ 262144
     below true e some = absurd (let f : Some (Limit Cells (min (count_cells d) 4294967295)) ≡ None = some in cc)
     below false e none = ltb-false 262144 (count_cells d) e
-
-kept_all : {A : Type 0} (P : A → Type 0) (p : A → Bool) (xs : List A) → AllByRecursion P xs → AllByRecursion P (filter p xs)
-kept_all P p [] all = tt
-kept_all P p (x ∷ xs) all = by (p x) (kept_all P p xs all.1)
-  where
-    by : (b : Bool) → AllByRecursion P (filter p xs) → AllByRecursion P (cond b (x ∷ filter p xs) (filter p xs))
-    by true later = (all.0, later)
-    by false later = later
 
 kept_few : {A : Type 0} (p q : A → Bool) (xs : List A) → count_by q (filter p xs) ≤ count_by q xs
 kept_few p q [] = omega arith
@@ -103,70 +96,46 @@ counted_some p (y ∷ ys) x (inr later) passes =
     let some = counted_some p ys x later passes in
     omega arith
 
-passing : (c : FlatCover) → PassesOn c.cover → passes_on c ≡ true
-passing c on = by (c.cover.inputs == 1) (eq-eqb c.cover.inputs 1 on.0) (cover_value c.cover (false ∷ [])) on.1 (cover_value c.cover (true ∷ [])) on.2
-  where
-    by : (a : Bool) → a ≡ true → (b : Bool) → b ≡ false → (e : Bool) → e ≡ true → (a && (not b && e)) ≡ true
-    by true h false g e f = f
-    by true h true g e f = absurd (let x : true ≡ false = g in cc)
-    by false h b g e f = absurd (let x : false ≡ true = h in cc)
+module _ (d : Design) (pearl : ℕ) (part : Part) (f : Flat) (accepted : IsAccepted d) (is : IsPearlPart d pearl part) (of : IsFlatOf d pearl f) (flat : IsFlat f) where
+  latch_at_net : (k : ℕ) (l : FlatLatch) → Among l f.latches → (l.out == k) ≡ true → Among (from_latch l.init l.input) (flat_drivers f k)
+  latch_at_net k l among here = subst (λ (n : ℕ). Among (from_latch l.init l.input) (flat_drivers f n)) (eqb-true l.out k here) (latch_drives f l among)
 
-module _ (d : Design) (pearl : ℕ) (block : Block) (f : Flat) (accepted : IsAccepted d) (is : IsBlock d pearl block) (of : IsFlatOf d pearl f) (flat : IsFlat f) where
-  latch_drives : (k : ℕ) (l : FlatLatch) → Among l f.latches → (l.out == k) ≡ true → Among (from_latch l.init l.input) (flat_drivers f k)
-  unfolding flat_drivers
-  latch_drives k l among here =
-      among_right _ (inputs_at k 0 f.ins) (flat_map (latch_at k) f.latches ++ flat_map (cover_at k) f.covers)
-      (among_left _ (flat_map (latch_at k) f.latches) (flat_map (cover_at k) f.covers)
-      (among_flat (latch_at k) l (from_latch l.init l.input) f.latches among (by (l.out == k) here)))
-    where
-      by : (b : Bool) → b ≡ true → Among {A = Driver ℕ} (from_latch l.init l.input) (cond b (from_latch l.init l.input ∷ []) [])
-      by true e = inl refl
-      by false e = absurd (let x : false ≡ true = e in cc)
-
-  cover_drives : (k : ℕ) (c : FlatCover) → Among c f.covers → (c.out == k) ≡ true → Among (from_cover c.cover c.ins) (flat_drivers f k)
-  unfolding flat_drivers
-  cover_drives k c among here =
-      among_right _ (inputs_at k 0 f.ins) (flat_map (latch_at k) f.latches ++ flat_map (cover_at k) f.covers)
-      (among_right _ (flat_map (latch_at k) f.latches) (flat_map (cover_at k) f.covers)
-      (among_flat (cover_at k) c (from_cover c.cover c.ins) f.covers among (by (c.out == k) here)))
-    where
-      by : (b : Bool) → b ≡ true → Among {A = Driver ℕ} (from_cover c.cover c.ins) (cond b (from_cover c.cover c.ins ∷ []) [])
-      by true e = inl refl
-      by false e = absurd (let x : false ≡ true = e in cc)
+  cover_at_net : (k : ℕ) (c : FlatCover) → Among c f.covers → (c.out == k) ≡ true → Among (from_cover c.cover c.ins) (flat_drivers f k)
+  cover_at_net k c among here = subst (λ (n : ℕ). Among (from_cover c.cover c.ins) (flat_drivers f n)) (eqb-true c.out k here) (cover_drives f c among)
 
   some_cell : (k : ℕ) (r : Driver Column) → Among r (drivers d (of.col k)) → is_cell r ≡ true → 1 ≤ cell_drivers d (of.col k)
   some_cell k r among cell = counted_some is_cell (drivers d (of.col k)) r among cell
 
   latch_stands : (k : ℕ) (l : FlatLatch) → Among l f.latches → (l.out == k) ≡ true → 1 ≤ cell_drivers d (of.col k)
-  latch_stands k l among here = by (of.each k (from_latch l.init l.input) (latch_drives k l among here))
+  latch_stands k l among here = by (of.each k (from_latch l.init l.input) (latch_at_net k l among here))
     where
       by : IsInput {C = ℕ} (from_latch l.init l.input) ⊎ ((r : Driver Column) × Among r (drivers d (of.col k)) × StandsFor of.col (from_latch l.init l.input) r) → 1 ≤ cell_drivers d (of.col k)
       by (inl none) = absurd none
       by (inr stands) = some_cell k stands.0 stands.1 (ap is_cell stands.2)
 
-  cover_stands : (k : ℕ) (c : FlatCover) → Among c f.covers → (c.out == k) ≡ true → not (passes_on c) ≡ true → 1 ≤ cell_drivers d (of.col k)
-  cover_stands k c among here logic = by (of.each k (from_cover c.cover c.ins) (cover_drives k c among here))
+  cover_stands : (k : ℕ) (c : FlatCover) → Among c f.covers → (c.out == k) ≡ true → not (passes_on c.cover) ≡ true → 1 ≤ cell_drivers d (of.col k)
+  cover_stands k c among here logic = by (of.each k (from_cover c.cover c.ins) (cover_at_net k c among here))
     where
       drives : (r : Driver Column) → Among r (drivers d (of.col k)) → StandsFor of.col (from_cover c.cover c.ins) r → 1 ≤ cell_drivers d (of.col k)
       drives r there (inl cover) = some_cell k r there (ap is_cell cover)
-      drives r there (inr passes) = absurd (let x : false ≡ true = sym (ap not (passing c passes.2)) ∙ logic in cc)
+      drives r there (inr passes) = absurd (let x : false ≡ true = sym (ap not passes.2) ∙ logic in cc)
 
       by : IsInput {C = ℕ} (from_cover c.cover c.ins) ⊎ ((r : Driver Column) × Among r (drivers d (of.col k)) × StandsFor of.col (from_cover c.cover c.ins) r) → 1 ≤ cell_drivers d (of.col k)
       by (inl none) = absurd none
       by (inr stands) = drives stands.0 stands.1 stands.2
 
   -- the latches and covers that drive a net are no more than those that drive its column
-  net_few : (k : ℕ) → count_by (λ l. l.out == k) f.latches + count_by (λ c. c.out == k) (filter (λ c. not (passes_on c)) f.covers) ≤ cell_drivers d (of.col k)
-  net_few k = by (count_by (λ l. l.out == k) f.latches) refl (count_by (λ c. c.out == k) (filter (λ c. not (passes_on c)) f.covers)) refl
+  net_few : (k : ℕ) → count_by (λ l. l.out == k) f.latches + count_by (λ c. c.out == k) (filter (λ c. not (passes_on c.cover)) f.covers) ≤ cell_drivers d (of.col k)
+  net_few k = by (count_by (λ l. l.out == k) f.latches) refl (count_by (λ c. c.out == k) (filter (λ c. not (passes_on c.cover)) f.covers)) refl
     where
-      once : count_by (λ l. l.out == k) f.latches + count_by (λ c. c.out == k) (filter (λ c. not (passes_on c)) f.covers) ≤ 1
+      once : count_by (λ l. l.out == k) f.latches + count_by (λ c. c.out == k) (filter (λ c. not (passes_on c.cover)) f.covers) ≤ 1
       once =
           let a = flat.once k in
           let b = drivers_counted f k in
-          let c = kept_few (λ c. not (passes_on c)) (λ (c : FlatCover). c.out == k) f.covers in
+          let c = kept_few (λ c. not (passes_on c.cover)) (λ (c : FlatCover). c.out == k) f.covers in
           omega arith
 
-      by : (l : ℕ) → count_by (λ l. l.out == k) f.latches ≡ l → (c : ℕ) → count_by (λ c. c.out == k) (filter (λ c. not (passes_on c)) f.covers) ≡ c → l + c ≤ cell_drivers d (of.col k)
+      by : (l : ℕ) → count_by (λ l. l.out == k) f.latches ≡ l → (c : ℕ) → count_by (λ c. c.out == k) (filter (λ c. not (passes_on c.cover)) f.covers) ≡ c → l + c ≤ cell_drivers d (of.col k)
       by zero e zero g = omega arith
       by (suc l) e c g =
           let found = some_counted (λ (l : FlatLatch). l.out == k) f.latches (omega arith) in
@@ -174,8 +143,8 @@ module _ (d : Design) (pearl : ℕ) (block : Block) (f : Flat) (accepted : IsAcc
           let h = once in
           omega arith
       by zero e (suc c) g =
-          let found = some_counted (λ (c : FlatCover). c.out == k) (filter (λ c. not (passes_on c)) f.covers) (omega arith) in
-          let there = filter_among (λ c. not (passes_on c)) found.0 f.covers found.1 in
+          let found = some_counted (λ (c : FlatCover). c.out == k) (filter (λ c. not (passes_on c.cover)) f.covers) (omega arith) in
+          let there = filter_among (λ c. not (passes_on c.cover)) found.0 f.covers found.1 in
           let some = cover_stands k found.0 there.0 found.2 there.1 in
           let h = once in
           omega arith
@@ -183,15 +152,15 @@ module _ (d : Design) (pearl : ℕ) (block : Block) (f : Flat) (accepted : IsAcc
   pub part_cells : length f.latches + count_logic f.covers ≤ 262144
   part_cells =
       let l = total_counts (λ (l : FlatLatch). l.out) f.nets f.latches (latches_below f flat) in
-      let c = total_counts (λ (c : FlatCover). c.out) f.nets (filter (λ c. not (passes_on c)) f.covers) (kept_all _ (λ c. not (passes_on c)) f.covers (covers_below f flat)) in
-      let long = length-filter (λ c. not (passes_on c)) f.covers in
-      let both = total_add (λ k. count_by (λ (l : FlatLatch). l.out == k) f.latches) (λ k. count_by (λ (c : FlatCover). c.out == k) (filter (λ c. not (passes_on c)) f.covers)) 0 f.nets in
-      let less = total_less (λ k. count_by (λ (l : FlatLatch). l.out == k) f.latches + count_by (λ (c : FlatCover). c.out == k) (filter (λ c. not (passes_on c)) f.covers)) (λ k. cell_drivers d (of.col k)) 0 f.nets (λ k low high. net_few k) in
+      let c = total_counts (λ (c : FlatCover). c.out) f.nets (filter (λ c. not (passes_on c.cover)) f.covers) (kept_all _ (λ c. not (passes_on c.cover)) f.covers (covers_below f flat)) in
+      let long = length-filter (λ c. not (passes_on c.cover)) f.covers in
+      let both = total_add (λ k. count_by (λ (l : FlatLatch). l.out == k) f.latches) (λ k. count_by (λ (c : FlatCover). c.out == k) (filter (λ c. not (passes_on c.cover)) f.covers)) 0 f.nets in
+      let less = total_less (λ k. count_by (λ (l : FlatLatch). l.out == k) f.latches + count_by (λ (c : FlatCover). c.out == k) (filter (λ c. not (passes_on c.cover)) f.covers)) (λ k. cell_drivers d (of.col k)) 0 f.nets (λ k low high. net_few k) in
       let each = total_each (cell_drivers d) of.col 0 f.nets in
-      let same = ap (sum_by (cell_drivers d)) (columns_same d pearl block f is of) in
+      let same = ap (sum_by (cell_drivers d)) (columns_same d pearl is.of f of) in
       let whole = ap (sum_by (cell_drivers d)) is.stands.parts in
-      let a = sum_by-append (cell_drivers d) is.stands.before (columns_in (length d.models) d is.path is.model ++ is.stands.after) in
-      let b = sum_by-append (cell_drivers d) (columns_in (length d.models) d is.path is.model) is.stands.after in
+      let a = sum_by-append (cell_drivers d) is.stands.before (columns_in (length d.models) d is.of.path is.of.number ++ is.stands.after) in
+      let b = sum_by-append (cell_drivers d) (columns_in (length d.models) d is.of.path is.of.number) is.stands.after in
       let few = columns_few d in
       let small = cells_small d accepted in
       omega arith

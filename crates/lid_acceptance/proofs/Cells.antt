@@ -17,6 +17,7 @@ use Rattle.lid_design.specs.Columns.{Column, column, is_among, model_named, mode
 use Rattle.lid_design.specs.Models.{cell_out, occurrences, firsts, nets, insts_of, number_named, instance_number, number_from}
 use Rattle.lid_design.specs.Elaboration.{Instance, instances_in, instances, columns_at, columns, cells_of, count_cells}
 use Rattle.lid_wiring.proofs.Clocking.{model_at_number}
+use Rattle.lid_flaws.proofs.Geometry.{place_number}
 use Rattle.lid_acceptance.proofs.Sets.{once_counted}
 use Rattle.lid_acceptance.proofs.Nets.{distinct_kept, firsts_apart}
 use Rattle.lid_acceptance.proofs.Counted.{sum_flat, sum_less}
@@ -139,24 +140,6 @@ module _ (d : Design) where
           let f = split xs in
           omega arith
 
-  -- the number of the model of a place
-  place_number : (n : ℕ) (path : List ℕ) (k : ℕ) → number_from d d.root path ≡ Some k → (p : Instance) → Among p (instances_in n d path k) → number_from d d.root p.path ≡ Some p.model
-  unfolding number_from
-  place_number zero path k leads p (inl e) = subst (λ (q : Instance). number_from d d.root q.path ≡ Some q.model) (sym e) leads
-  place_number zero path k leads p (inr none) = absurd none
-  place_number (suc n) path k leads p (inl e) = subst (λ (q : Instance). number_from d d.root q.path ≡ Some q.model) (sym e) leads
-  place_number (suc n) path k leads p (inr among) =
-      let found = flat_among (λ q. option_map_or (instances_in n d (q.0 ∷ path)) (number_named d q.1.model) []) p (enumerate_from 0 (insts_of d k)) among in
-      let at = enumerate_among 0 (insts_of d k) found.0 found.1 in
-      let number : found.0.0 ≡ at.0 = (let e = at.1 in omega arith) in
-      let inst : instance_number d found.0.0 k ≡ number_named d found.0.1.model = ap (λ (i : ℕ). option_and_then (λ inst. number_named d inst.model) (slice_get (insts_of d k) i)) number ∙ ap (option_and_then (λ inst. number_named d inst.model)) at.2 in
-      let there : number_from d d.root (found.0.0 ∷ path) ≡ number_named d found.0.1.model = ap (option_and_then (instance_number d found.0.0)) leads ∙ inst in
-      by found.0.0 (number_named d found.0.1.model) there found.2 (place_number n (found.0.0 ∷ path))
-    where
-      by : (i : ℕ) (o : Option ℕ) → number_from d d.root (i ∷ path) ≡ o → Among p (option_map_or (instances_in n d (i ∷ path)) o []) → ((j : ℕ) → number_from d d.root (i ∷ path) ≡ Some j → (q : Instance) → Among q (instances_in n d (i ∷ path) j) → number_from d d.root q.path ≡ Some q.model) → number_from d d.root p.path ≡ Some p.model
-      by i None there none next = absurd none
-      by i (Some j) there here next = next j there p here
-
   sum_mapped : {A B : Type 0} (f : B → ℕ) (g : A → B) (xs : List A) → sum_by f (map g xs) ≡ sum_by (λ x. f (g x)) xs
   sum_mapped f g [] = refl
   sum_mapped f g (x ∷ xs) =
@@ -185,5 +168,5 @@ module _ (d : Design) where
   unfolding columns count_cells instances number_from
   columns_few =
       let a = sum_flat (cell_drivers d) (columns_at d) (λ (p : Instance). sum_by (cell_drivers d) (columns_at d p)) (instances d) (λ p among. refl) in
-      let b = sum_less (λ (p : Instance). sum_by (cell_drivers d) (columns_at d p)) (λ (p : Instance). cells_of d p.model) (instances d) (λ p among. place_few p (place_number (length d.models) [] d.root refl p among)) in
+      let b = sum_less (λ (p : Instance). sum_by (cell_drivers d) (columns_at d p)) (λ (p : Instance). cells_of d p.model) (instances d) (λ p among. place_few p (place_number d (length d.models) [] d.root refl p among)) in
       omega arith

@@ -36,15 +36,6 @@ sum_numbered h i (x ∷ xs) =
     let whole = sum_by-cons h x xs in
     omega arith
 
-pub sum_same : {A : Type 0} (f g : A → ℕ) (xs : List A) → ((x : A) → f x ≡ g x) → sum_by f xs ≡ sum_by g xs
-sum_same f g [] same = refl
-sum_same f g (x ∷ xs) same =
-    let a = sum_by-cons f x xs in
-    let b = sum_by-cons g x xs in
-    let h = same x in
-    let t = sum_same f g xs same in
-    omega arith
-
 pub sum_less : {A : Type 0} (f g : A → ℕ) (xs : List A) → ((x : A) → Among x xs → f x ≤ g x) → sum_by f xs ≤ sum_by g xs
 sum_less f g [] less = omega arith
 sum_less f g (x ∷ xs) less =
@@ -52,6 +43,12 @@ sum_less f g (x ∷ xs) less =
     let b = sum_by-cons g x xs in
     let here = less x (inl refl) in
     let later = sum_less f g xs (λ y among. less y (inr among)) in
+    omega arith
+
+pub sum_same : {A : Type 0} (f g : A → ℕ) (xs : List A) → ((x : A) → f x ≡ g x) → sum_by f xs ≡ sum_by g xs
+sum_same f g xs same =
+    let most = sum_less f g xs (λ x among. let e = same x in omega arith) in
+    let least = sum_less g f xs (λ x among. let e = same x in omega arith) in
     omega arith
 
 module _ (d : Design) (formed : IsWellFormed d) (m : Model) (root : slice_get d.models d.root ≡ Some m) (plain : IsPlainRoot d m) where

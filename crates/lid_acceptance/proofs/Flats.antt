@@ -1,18 +1,19 @@
 -- The inputs, latches and covers of a flat part are as many as its nets.
-use Rattle.std.proofs.Common.{◌≡◌, ℕ, zero, suc, ◌+◌, ◌*◌, ◌<◌, ◌≤◌, ◌==◌, Bool, true, false, cond, List, [], ◌∷◌, ◌++◌, length, Option, Some, refl, sym, ◌∙◌, ap, arith}
-use Rattle.std.specs.List.{AllByRecursion, count_by, flat_map, sum_by}
+use Rattle.std.proofs.Common.{◌≡◌, ℕ, zero, suc, ◌+◌, ◌*◌, ◌<◌, ◌≤◌, ◌==◌, Bool, true, false, cond, List, [], ◌∷◌, ◌++◌, length, map, Option, Some, refl, sym, ◌∙◌, ap, arith}
+use Rattle.std.specs.List.{AllByRecursion, count_by, flat_map, sum_by, range_with_len}
 use Rattle.std.proofs.lemmas.List.{length-append}
 use Rattle.std.proofs.lemmas.List.Sums.{sum_by-cons}
+use Rattle.std.proofs.lemmas.List.FromFn.{length-map-range_with_len}
 use Rattle.lid_design.specs.declared.Design.{Design}
 use Rattle.lid_design.specs.declared.Flat.{Flat}
 use Rattle.lid_design.specs.declared.FlatLatch.{FlatLatch}
 use Rattle.lid_design.specs.declared.FlatCover.{FlatCover}
-use Rattle.lid_design.specs.Network.{Driver, from_input, from_latch, from_cover, from_each}
+use Rattle.lid_design.specs.Network.{Driver, from_input, from_latch, from_cover}
 use Rattle.lid_design.specs.Models.{number_from}
 use Rattle.lid_design.specs.Flat.{inputs_at, latch_at, cover_at, flat_drivers, IsFlatCover, IsFlat}
 use Rattle.lid_elab.specs.Numbers.{columns_in}
-use Rattle.lid_check.specs.declared.blocks.Block.{Block}
-use Rattle.lid_check.specs.Blocks.{IsBlock}
+use Rattle.lid_flatten.specs.declared.part.Part.{Part}
+use Rattle.lid_parts.specs.PearlParts.{IsPearl, IsPearlPart}
 use Rattle.lid_check.specs.Flats.{IsFlatOf}
 use Rattle.lid_acceptance.proofs.Totals.{total_add, total_less, total_one, total_counts}
 
@@ -28,29 +29,24 @@ inputs_counted k j (net ∷ nets) =
     by true = omega arith
     by false = omega arith
 
-pub latches_counted : (k : ℕ) (latches : List FlatLatch) → length (flat_map (latch_at k) latches) ≡ count_by (λ l. l.out == k) latches
-latches_counted k [] = refl
-latches_counted k (latch ∷ latches) =
-    let split = sum_by-cons (λ (l : FlatLatch). cond (l.out == k) 1 0) latch latches in
-    let here = by (latch.out == k) in
-    let later = latches_counted k latches in
+-- what items give of a net is as long as those of them are many that drive it
+items_counted : {A : Type 0} (out : A → ℕ) (driver : A → Driver ℕ) (k : ℕ) (xs : List A) → length (flat_map (λ x. cond (out x == k) (driver x ∷ []) []) xs) ≡ count_by (λ x. out x == k) xs
+items_counted out driver k [] = refl
+items_counted out driver k (x ∷ xs) =
+    let split = sum_by-cons (λ y. cond (out y == k) 1 0) x xs in
+    let here = by (out x == k) in
+    let later = items_counted out driver k xs in
     omega arith
   where
-    by : (b : Bool) → length {A = Driver ℕ} (cond b (from_latch latch.init latch.input ∷ []) [] ++ flat_map (latch_at k) latches) ≡ cond b 1 0 + length (flat_map (latch_at k) latches)
+    by : (b : Bool) → length {A = Driver ℕ} (cond b (driver x ∷ []) [] ++ flat_map (λ y. cond (out y == k) (driver y ∷ []) []) xs) ≡ cond b 1 0 + length (flat_map (λ y. cond (out y == k) (driver y ∷ []) []) xs)
     by true = omega arith
     by false = omega arith
 
+pub latches_counted : (k : ℕ) (latches : List FlatLatch) → length (flat_map (latch_at k) latches) ≡ count_by (λ l. l.out == k) latches
+latches_counted k latches = items_counted (λ (l : FlatLatch). l.out) (λ l. from_latch l.init l.input) k latches
+
 pub covers_counted : (k : ℕ) (covers : List FlatCover) → length (flat_map (cover_at k) covers) ≡ count_by (λ c. c.out == k) covers
-covers_counted k [] = refl
-covers_counted k (cover ∷ covers) =
-    let split = sum_by-cons (λ (c : FlatCover). cond (c.out == k) 1 0) cover covers in
-    let here = by (cover.out == k) in
-    let later = covers_counted k covers in
-    omega arith
-  where
-    by : (b : Bool) → length {A = Driver ℕ} (cond b (from_cover cover.cover cover.ins ∷ []) [] ++ flat_map (cover_at k) covers) ≡ cond b 1 0 + length (flat_map (cover_at k) covers)
-    by true = omega arith
-    by false = omega arith
+covers_counted k covers = items_counted (λ (c : FlatCover). c.out) (λ c. from_cover c.cover c.ins) k covers
 
 pub drivers_counted : (f : Flat) (k : ℕ) → length (flat_drivers f k) ≡ count_by (λ n. n == k) f.ins + (count_by (λ l. l.out == k) f.latches + count_by (λ c. c.out == k) f.covers)
 unfolding flat_drivers
@@ -84,26 +80,18 @@ all_driven f flat =
     let least = total_less (λ k. 1) (λ k. count_by (λ (n : ℕ). n == k) f.ins + (count_by (λ (l : FlatLatch). l.out == k) f.latches + count_by (λ (c : FlatCover). c.out == k) f.covers)) 0 f.nets (λ k low high. let h = flat.driven k (omega arith) in let c = drivers_counted f k in omega arith) in
     omega arith
 
-pub each_long : {A : Type 0} (f : ℕ → A) (k n : ℕ) → length (from_each f k n) ≡ n
-each_long f k zero = refl
-each_long f k (suc n) = ap suc (each_long f (k + 1) n)
-
 some_one : {A : Type 0} (o : Option A) (x y : A) → o ≡ Some x → o ≡ Some y → x ≡ y
 some_one o x y a b = let e = sym a ∙ b in cc
 
--- the columns of a flat part are those of its block
-pub columns_same : (d : Design) (pearl : ℕ) (block : Block) (f : Flat) (is : IsBlock d pearl block) (of : IsFlatOf d pearl f) → from_each of.col 0 f.nets ≡ columns_in (length d.models) d is.path is.model
-columns_same d pearl block f is of =
-    let path : of.path ≡ is.path = some_one _ of.path is.path of.here is.here in
-    let model : of.number ≡ is.model = some_one _ of.number is.model of.leads (ap (number_from d d.root) path ∙ is.leads) in
-    of.all ∙ ap (λ (p : List ℕ). columns_in (length d.models) d p of.number) path ∙ ap (columns_in (length d.models) d is.path) model
+-- the columns of a flat part are those of its pearl
+pub columns_same : (d : Design) (pearl : ℕ) (is : IsPearl d pearl) (f : Flat) (flat : IsFlatOf d pearl f) → map flat.col (range_with_len 0 f.nets) ≡ columns_in (length d.models) d is.path is.number
+columns_same d pearl is f flat =
+    let path : flat.of.path ≡ is.path = some_one _ flat.of.path is.path flat.of.here is.here in
+    let number : flat.of.number ≡ is.number = some_one _ flat.of.number is.number flat.of.leads (ap (number_from d d.root) path ∙ is.leads) in
+    flat.all ∙ ap (λ (p : List ℕ). columns_in (length d.models) d p flat.of.number) path ∙ ap (columns_in (length d.models) d is.path) number
 
-pub block_long : (d : Design) (pearl : ℕ) (block : Block) (f : Flat) → IsBlock d pearl block → IsFlatOf d pearl f → block.start + f.nets ≡ block.end
-block_long d pearl block f is of =
-    let same = ap length (columns_same d pearl block f is of) in
-    let long = each_long of.col 0 f.nets in
-    let end = is.long in
-    omega arith
+pub part_long : (d : Design) (pearl : ℕ) (part : Part) (f : Flat) → IsPearlPart d pearl part → IsFlatOf d pearl f → f.nets ≡ part.nets
+part_long d pearl part f is flat = sym (length-map-range_with_len flat.col 0 f.nets) ∙ ap length (columns_same d pearl is.of f flat) ∙ is.long
 
 -- a cover has at most 64 inputs
 sum_reads : (covers : List FlatCover) → AllByRecursion IsFlatCover covers → sum_by (λ (c : FlatCover). length c.ins) covers ≤ 64 * length covers

@@ -16,7 +16,7 @@ use Rattle.lid_design.specs.WellFormed.{IsWellFormed}
 use Rattle.lid_flaws.specs.Dependence.{HasNoDependence}
 use Rattle.lid_acceptance.specs.Plain.{IsRising, IsApart, IsPlainInst, IsPlainRoot}
 use Rattle.lid_acceptance.proofs.Walking.{Inside, Edge, none_closed, stays_late}
-use Rattle.lid_acceptance.proofs.Edges.{OfCover, OfInput, OfOutput, EdgeAt, edge_at}
+use Rattle.lid_flaws.proofs.Edges.{OfCover, OfInput, OfOutput, EdgeAt, edge_at}
 use Rattle.lid_acceptance.proofs.Alone.{some_none, no_inst, walk_of, data_among}
 use Rattle.lid_acceptance.proofs.Below.{one_of, sub_of, insts_are}
 

@@ -1,5 +1,4 @@
 pub mod Walking
-pub mod Edges
 pub mod Alone
 pub mod Sets
 pub mod Sound

@@ -15,23 +15,10 @@ use Rattle.lid_design.specs.Models.{control_names, cell_names, cell_out, cell_re
 use Rattle.lid_names.proofs.Lists.{is_among_firsts}
 use Rattle.lid_hierarchy.proofs.Numbers.{bytes_eq_comm}
 use Rattle.lid_wiring.proofs.Names.{to_among, from_among}
+use Rattle.lid_check.proofs.Widths.{names_equal}
+use Rattle.lid_acceptance.proofs.Sets.{kept_all}
 use Rattle.lid_acceptance.specs.Plain.{IsUnclocked, root_drivers}
 use Rattle.lid_acceptance.proofs.Sound.{IsPlainModel}
-
-names_equal : IsEquivalence bytes_eq
-names_equal = record {
-  refl = λ x. bytes_same x x refl;
-  symm = bytes_eq_comm;
-  congr = λ x y z e. ap (λ (w : List ℕ). bytes_eq w z) (same_bytes x y e);
-}
-
-all_kept : (P : List ℕ → Type 0) (p : List ℕ → Bool) (xs : List (List ℕ)) → AllByRecursion P xs → AllByRecursion P (filter p xs)
-all_kept P p [] all = tt
-all_kept P p (x ∷ xs) all = by (p x) (all_kept P p xs all.1)
-  where
-    by : (b : Bool) → AllByRecursion P (filter p xs) → AllByRecursion P (cond b (x ∷ filter p xs) (filter p xs))
-    by true later = (all.0, later)
-    by false later = later
 
 pub distinct_kept : (p : List ℕ → Bool) (xs : List (List ℕ)) → IsDistinct bytes_eq xs → IsDistinct bytes_eq (filter p xs)
 unfolding IsDistinct
@@ -39,7 +26,7 @@ distinct_kept p [] distinct = tt
 distinct_kept p (x ∷ xs) distinct = by (p x) (distinct_kept p xs distinct.1)
   where
     by : (b : Bool) → IsDistinct bytes_eq (filter p xs) → IsDistinct bytes_eq (cond b (x ∷ filter p xs) (filter p xs))
-    by true later = (all_kept (λ y. bytes_eq x y ≡ false) p xs distinct.0, later)
+    by true later = (kept_all (λ y. bytes_eq x y ≡ false) p xs distinct.0, later)
     by false later = later
 
 others : (x : List ℕ) (xs : List (List ℕ)) → AllByRecursion (λ y. bytes_eq x y ≡ false) (filter (λ other. not (bytes_eq other x)) xs)

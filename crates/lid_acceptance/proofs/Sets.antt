@@ -67,3 +67,12 @@ among_none name xs none = by (is_among name xs) refl
     by : (b : Bool) → is_among name xs ≡ b → is_among name xs ≡ false
     by true e = absurd (none (to_among name xs e))
     by false e = e
+
+-- what is kept of items of which each is so
+pub kept_all : {A : Type 0} (P : A → Type 0) (p : A → Bool) (xs : List A) → AllByRecursion P xs → AllByRecursion P (filter p xs)
+kept_all P p [] all = tt
+kept_all P p (x ∷ xs) all = by (p x) (kept_all P p xs all.1)
+  where
+    by : (b : Bool) → AllByRecursion P (filter p xs) → AllByRecursion P (cond b (x ∷ filter p xs) (filter p xs))
+    by true later = (all.0, later)
+    by false later = later

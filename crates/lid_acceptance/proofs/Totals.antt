@@ -1,9 +1,8 @@
 -- Sums over consecutive numbers.
-use Rattle.std.proofs.Common.{◌≡◌, ℕ, zero, suc, ◌+◌, ◌<◌, ◌≤◌, ◌==◌, Bool, true, false, cond, List, [], ◌∷◌, length, refl, ap, arith}
-use Rattle.std.specs.List.{AllByRecursion, sum_by, count_by}
+use Rattle.std.proofs.Common.{◌≡◌, ℕ, zero, suc, ◌+◌, ◌<◌, ◌≤◌, ◌==◌, Bool, true, false, cond, List, [], ◌∷◌, length, map, refl, ap, arith}
+use Rattle.std.specs.List.{AllByRecursion, sum_by, count_by, range_with_len}
 use Rattle.std.proofs.lemmas.Bool.{eqb-true, eqb-false, ne_eqb}
 use Rattle.std.proofs.lemmas.List.Sums.{sum_by-cons}
-use Rattle.lid_design.specs.Network.{from_each}
 
 -- the sum of a number for each of so many numbers from k on
 abbrev pub total : (ℕ → ℕ) → ℕ → ℕ → ℕ
@@ -34,10 +33,10 @@ total_none k zero = refl
 total_none k (suc n) = let later = total_none (k + 1) n in omega arith
 
 -- what is summed over numbers is summed over what they stand for
-pub total_each : {A : Type 0} (f : A → ℕ) (g : ℕ → A) (k n : ℕ) → sum_by f (from_each g k n) ≡ total (λ j. f (g j)) k n
+pub total_each : {A : Type 0} (f : A → ℕ) (g : ℕ → A) (k n : ℕ) → sum_by f (map g (range_with_len k n)) ≡ total (λ j. f (g j)) k n
 total_each f g k zero = refl
 total_each f g k (suc n) =
-    let one = sum_by-cons f (g k) (from_each g (k + 1) n) in
+    let one = sum_by-cons f (g k) (map g (range_with_len (k + 1) n)) in
     let later = total_each f g (k + 1) n in
     omega arith
 

@@ -16,12 +16,13 @@ use Rattle.lid_system.specs.declared.Channel.{Channel}
 use Rattle.lid_system.specs.Systems.{source_port, ports_at}
 use Rattle.lid_system.specs.Tables.{in_bit, carried_at}
 use Rattle.lid_system.proofs.Points.{carried_is}
-use Rattle.lid_flatten.specs.Standing.{PassesOn}
+use Rattle.lid_rules.specs.Buffers.{passes_on}
+use Rattle.lid_rules.proofs.Buffers.{passed_on}
 use Rattle.lid_agree.specs.Agreement.{column_of, seen, IsPassedOn, LeadsBack, AreLed}
 
-pub passed_value : (cover : Cover) → PassesOn cover → (bit : Bool) → cover_value cover (bit ∷ []) ≡ bit
-passed_value cover passes true = passes.2
-passed_value cover passes false = passes.1
+pub passed_value : (cover : Cover) → passes_on cover ≡ true → (bit : Bool) → cover_value cover (bit ∷ []) ≡ bit
+passed_value cover passes true = (passed_on cover passes).2
+passed_value cover passes false = (passed_on cover passes).1
 
 module _ (d : Design) (s : System) (columns : ℕ → ℕ → Column) (rows : List (List Bool)) (b : Table Column) (strict : IsStrict (drivers d) rows b) (t : ℕ) (below : t < length rows) where
   pub given_bit : (c : Column) (r : Driver Column) → Among r (drivers d c) → b t c ≡ bit_of rows b t r

@@ -1,5 +1,5 @@
 -- The system of a design: whose nets stand for which columns, and where inputs are led back to.
-use Rattle.std.specs.Prelude.{◌≡◌, ◌⊎◌, ◌+◌, ℕ, zero, suc, List, [], ◌∷◌, length, map, Some, slice_get, slice_index_or}
+use Rattle.std.specs.Prelude.{◌≡◌, ◌⊎◌, ◌+◌, ℕ, zero, suc, true, List, [], ◌∷◌, length, map, Some, slice_get, slice_index_or}
 use Rattle.lid_base.specs.Lists.{Among}
 use Rattle.lid_cover.specs.declared.Cover.{Cover}
 use Rattle.lid_cover.specs.Cover.{cover_value}
@@ -15,7 +15,8 @@ use Rattle.lid_system.specs.declared.InBit.{InBit}
 use Rattle.lid_system.specs.declared.InBit.TheVariants.{Const, Port}
 use Rattle.lid_system.specs.Systems.{Point, source_port, shell_net}
 use Rattle.lid_system.specs.Tables.{carried_at}
-use Rattle.lid_flatten.specs.Standing.{PassesOn, StandsForAll}
+use Rattle.lid_rules.specs.Buffers.{passes_on}
+use Rattle.lid_flatten.specs.Standing.{StandsForAll}
 
 -- the column of a point, where net k of node i stands for `columns i k`: a port of the source stands for
 -- a data input of the root
@@ -31,7 +32,7 @@ seen d columns b t p = b t (column_of d columns p)
 abbrev pub IsPassedOn : Design → Column → Column → Type 0
 IsPassedOn d a c =
     Among {A = Driver Column} (from_connection a) (drivers d c)
-    ⊎ ((cover : Cover) × PassesOn cover × Among {A = Driver Column} (from_cover cover (a ∷ [])) (drivers d c))
+    ⊎ ((cover : Cover) × (passes_on cover ≡ true) × Among {A = Driver Column} (from_cover cover (a ∷ [])) (drivers d c))
 
 -- so many steps back a column is a constant of this bit, or the port that has this bit of a channel
 abbrev pub LeadsBack : Design → System → (ℕ → ℕ → Column) → ℕ → Column → InBit → Type 0

@@ -74,30 +74,30 @@ loop_one : (d : Design) (f g : CheckFault) → TellsLoop d f → TellsLoop d g �
 loop_one d f g a b = by (either_way a.k b.k)
   where
     by : (a.k < b.k) ⊎ (a.k ≡ b.k) ⊎ (b.k < a.k) → f ≡ g
-    by (inl lt) = absurd (b.first a.k a.c lt a.here a.on)
+    by (inl lt) = absurd (b.is.first a.k a.is.c lt a.is.here a.is.on)
     by (inr (inl same)) =
-        let c : a.c ≡ b.c = some_one _ a.c b.c a.here (ap (slice_get _) same ∙ b.here) in
+        let c : a.is.c ≡ b.is.c = some_one _ a.is.c b.is.c a.is.here (ap (slice_get _) same ∙ b.is.here) in
         let e = a.told in let h = b.told in cc
-    by (inr (inr gt)) = absurd (a.first b.k b.c gt b.here b.on)
+    by (inr (inr gt)) = absurd (a.is.first b.k b.is.c gt b.is.here b.is.on)
 
 dependence_one : (d : Design) (f g : CheckFault) → TellsDependence d f → TellsDependence d g → f ≡ g
-dependence_one d f g a b = by (either_way a.p b.p) (either_way a.o b.o) (either_way a.i b.i)
+dependence_one d f g a b = by (either_way a.is.p b.is.p) (either_way a.o b.o) (either_way a.i b.i)
   where
-    left : StandsBefore a.p a.o a.i b.p b.o b.i → f ≡ g
-    left before = absurd (b.first a.p a.o a.i a.m a.output a.input before a.on)
+    left : StandsBefore a.is.p a.o a.i b.is.p b.o b.i → f ≡ g
+    left before = absurd (b.is.first a.is.p a.o a.i a.is.m a.is.output a.is.input before a.is.on)
 
-    right : StandsBefore b.p b.o b.i a.p a.o a.i → f ≡ g
-    right before = absurd (a.first b.p b.o b.i b.m b.output b.input before b.on)
+    right : StandsBefore b.is.p b.o b.i a.is.p a.o a.i → f ≡ g
+    right before = absurd (a.is.first b.is.p b.o b.i b.is.m b.is.output b.is.input before b.is.on)
 
-    equal : a.p ≡ b.p → a.o ≡ b.o → a.i ≡ b.i → f ≡ g
+    equal : a.is.p ≡ b.is.p → a.o ≡ b.o → a.i ≡ b.i → f ≡ g
     equal p o i =
-        let path : a.on.path ≡ b.on.path = some_one (slice_get (pearls d) a.p) _ _ a.on.pearl (ap (slice_get (pearls d)) p ∙ b.on.pearl) in
-        let m : a.m ≡ b.m = some_one (model_at d a.on.path) _ _ a.on.model (ap (model_at d) path ∙ b.on.model) in
-        let output : a.output ≡ b.output = some_one (slice_get a.m.outputs a.o) _ _ a.on.out (ap (λ (x : Model). slice_get x.outputs a.o) m ∙ ap (slice_get b.m.outputs) o ∙ b.on.out) in
-        let input : a.input ≡ b.input = some_one (slice_get (data_inputs d a.m) a.i) _ _ a.on.given (ap (λ (x : Model). slice_get (data_inputs d x) a.i) m ∙ ap (slice_get (data_inputs d b.m)) i ∙ b.on.given) in
+        let path : a.is.on.path ≡ b.is.on.path = some_one (slice_get (pearls d) a.is.p) _ _ a.is.on.pearl (ap (slice_get (pearls d)) p ∙ b.is.on.pearl) in
+        let m : a.is.m ≡ b.is.m = some_one (model_at d a.is.on.path) _ _ a.is.on.model (ap (model_at d) path ∙ b.is.on.model) in
+        let output : a.is.output ≡ b.is.output = some_one (slice_get a.is.m.outputs a.o) _ _ a.is.on.out (ap (λ (x : Model). slice_get x.outputs a.o) m ∙ ap (slice_get b.is.m.outputs) o ∙ b.is.on.out) in
+        let input : a.is.input ≡ b.is.input = some_one (slice_get (data_inputs d a.is.m) a.i) _ _ a.is.on.given (ap (λ (x : Model). slice_get (data_inputs d x) a.i) m ∙ ap (slice_get (data_inputs d b.is.m)) i ∙ b.is.on.given) in
         let e = a.told in let h = b.told in let name = ap (λ (x : Model). x.name) m in cc
 
-    by : (a.p < b.p) ⊎ (a.p ≡ b.p) ⊎ (b.p < a.p) → (a.o < b.o) ⊎ (a.o ≡ b.o) ⊎ (b.o < a.o) → (a.i < b.i) ⊎ (a.i ≡ b.i) ⊎ (b.i < a.i) → f ≡ g
+    by : (a.is.p < b.is.p) ⊎ (a.is.p ≡ b.is.p) ⊎ (b.is.p < a.is.p) → (a.o < b.o) ⊎ (a.o ≡ b.o) ⊎ (b.o < a.o) → (a.i < b.i) ⊎ (a.i ≡ b.i) ⊎ (b.i < a.i) → f ≡ g
     by (inl p) o i = left (inl p)
     by (inr (inr p)) o i = right (inl p)
     by (inr (inl p)) (inl o) i = left (inr (p, inl o))
@@ -113,13 +113,13 @@ refusal_one d f g (inl a) (inr (inl b)) = absurd (model_apart d f b.0 a)
 refusal_one d f g (inl a) (inr (inr b)) = absurd (model_apart d f b.0 a)
 refusal_one d f g (inr (inl a)) (inl b) = absurd (model_apart d g a.0 b)
 refusal_one d f g (inr (inl a)) (inr (inl b)) = loop_one d f g a.1 b.1
-refusal_one d f g (inr (inl a)) (inr (inr b)) = absurd (b.1 a.1.c a.1.on)
+refusal_one d f g (inr (inl a)) (inr (inr b)) = absurd (b.1 a.1.is.c a.1.is.on)
 refusal_one d f g (inr (inr a)) (inl b) = absurd (model_apart d g a.0 b)
-refusal_one d f g (inr (inr a)) (inr (inl b)) = absurd (a.1 b.1.c b.1.on)
+refusal_one d f g (inr (inr a)) (inr (inl b)) = absurd (a.1 b.1.is.c b.1.is.on)
 refusal_one d f g (inr (inr a)) (inr (inr b)) = dependence_one d f g a.2 b.2
 
 -- an accepted design is not refused
 pub refusal_apart : (d : Design) (f : CheckFault) → IsAccepted d → IsRefusal d f → ⊥
 refusal_apart d f accepted (inl a) = model_apart d f accepted.models a
-refusal_apart d f accepted (inr (inl a)) = accepted.loops a.1.c a.1.on
-refusal_apart d f accepted (inr (inr a)) = accepted.outputs a.2.p a.2.o a.2.i a.2.m a.2.output a.2.input a.2.on
+refusal_apart d f accepted (inr (inl a)) = accepted.loops a.1.is.c a.1.is.on
+refusal_apart d f accepted (inr (inr a)) = accepted.outputs a.2.is.p a.2.o a.2.i a.2.is.m a.2.is.output a.2.is.input a.2.is.on

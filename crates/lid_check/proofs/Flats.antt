@@ -1,5 +1,5 @@
 -- The flat part of a pearl of an accepted design.
-use Rattle.std.proofs.Common.{◌≡◌, ◌⊎◌, ℕ, zero, suc, ◌+◌, ◌<◌, ◌≤◌, nat_lt, Bool, true, false, List, [], ◌∷◌, ◌++◌, length, map, Some, None, option_map, slice_get, inl, inr, refl, sym, ◌∙◌, ap, subst, arith}
+use Rattle.std.proofs.Common.{◌≡◌, ◌⊎◌, ℕ, zero, suc, ◌+◌, ◌<◌, ◌≤◌, nat_lt, Bool, true, false, List, [], ◌∷◌, length, map, Some, option_map, slice_get, inl, inr, refl, sym, ◌∙◌, ap, subst, arith}
 use Rattle.std.specs.Prelude.{slice_index_or}
 use Rattle.std.specs.List.{AllByRecursion, range_with_len}
 use Rattle.std.proofs.lemmas.Bool.{ltb-false, ltb-true}
@@ -9,7 +9,7 @@ use Rattle.lid_base.specs.Lists.{Among}
 use Rattle.lid_base.proofs.Lists.{among_map, get_among, among_get}
 use Rattle.lid_design.specs.declared.Design.{Design}
 use Rattle.lid_design.specs.declared.Flat.{Flat}
-use Rattle.lid_design.specs.Network.{Driver, from_input, from_latch, from_cover, from_connection, from_each}
+use Rattle.lid_design.specs.Network.{Driver, from_input, from_latch, from_cover, from_connection}
 use Rattle.lid_design.specs.Columns.{Column, column, data_inputs, drivers}
 use Rattle.lid_design.specs.WellFormed.{IsWellFormed}
 use Rattle.lid_design.specs.Walks.{read_now, Feeds, Walk}
@@ -22,15 +22,17 @@ use Rattle.lid_elab.specs.declared.driver.ColumnDriver.{ColumnDriver}
 use Rattle.lid_elab.specs.declared.driver.ColumnDriver.TheVariants.{Input, Latch, Cover as OfCover, Connection}
 use Rattle.lid_elab.specs.Numbers.{columns_in}
 use Rattle.lid_elab.specs.Elaborations.{driver_reads, shown_driver, map_driver, column_at, IsElaborated}
-use Rattle.lid_elab.proofs.Numbering.{stands_get}
 use Rattle.lid_elab.proofs.Outer.{get_of}
 use Rattle.lid_flatten.specs.declared.part.Part.{Part}
 use Rattle.lid_flatten.specs.Standing.{IsInput, StandsFor, StandsForAll}
-use Rattle.lid_flatten.specs.Parts.{driver_at, HasCover, IsFlattened}
-use Rattle.lid_parts.specs.PearlParts.{ArePortsApart, IsPearlPart, ArePearlParts}
+use Rattle.lid_flatten.specs.Parts.{driver_at, HasCover, IsPart, IsFlattened}
+use Rattle.lid_flatten.proofs.Lists.{all_of_each}
+use Rattle.lid_parts.specs.PearlParts.{ArePortsApart, IsPearlPart}
 use Rattle.lid_parts.proofs.Inside.{column_inside}
+use Rattle.lid_parts.proofs.Columns.{col as col_of, own_at, input_at, output_at, all_are, ins_are, outs_are}
 use Rattle.lid_flaws.specs.Dependence.{HasNoDependence}
-use Rattle.lid_check.specs.Blocks.{IsBlock}
+use Rattle.lid_check.specs.declared.judging.Facts.{Facts}
+use Rattle.lid_check.specs.Facts.{AreFacts}
 use Rattle.lid_check.specs.Flats.{IsFlatOf}
 use Rattle.lid_check.proofs.Covered.{IsCovered, all_covered}
 use Rattle.lid_flaws.proofs.Numbered.{reads_shown}
@@ -42,10 +44,6 @@ ports_apart d none p path net m pearl model given out =
     let output = among_get m.outputs net out in
     none p output.0 input.0 m net net (record { path = path; pearl = pearl; model = model; out = output.1; given = input.1; walk = (0, (refl, ([], refl))) })
 
-all_from_at : {A : Type 0} (P : A → Type 0) (xs : List A) → ((k : ℕ) (x : A) → slice_get xs k ≡ Some x → P x) → AllByRecursion P xs
-all_from_at P [] each = tt
-all_from_at P (x ∷ xs) each = (each zero x refl, all_from_at P xs (λ k y here. each (suc k) y here))
-
 below_or_not : (k n : ℕ) → (k < n) ⊎ (n ≤ k)
 below_or_not k n = by (nat_lt k n) refl
   where
@@ -53,31 +51,10 @@ below_or_not k n = by (nat_lt k n) refl
     by true e = inl (ltb-true k n e)
     by false e = inr (ltb-false k n e)
 
--- a list by what stands at each place
-each_is : {A : Type 0} (f : ℕ → A) (a : ℕ) (xs : List A) → ((i : ℕ) (x : A) → slice_get xs i ≡ Some x → f (a + i) ≡ x) → from_each f a (length xs) ≡ xs
-each_is f a [] at = refl
-each_is {A} f a (x ∷ xs) at =
-    let first : f a ≡ x = (let e : a + 0 ≡ a = omega arith in ap f (sym e) ∙ at zero x refl) in
-    let later = each_is f (a + 1) xs (λ i y here. (let e : a + 1 + i ≡ a + suc i = omega arith in ap f e ∙ at (suc i) y here)) in
-    ap (λ (y : A). y ∷ from_each f (a + 1) (length xs)) first ∙ ap (λ (ys : List A). x ∷ ys) later
-
-map_range : {A : Type 0} (f : ℕ → A) (a n : ℕ) → map f (range_with_len a n) ≡ from_each f a n
-map_range f a zero = refl
-map_range {A} f a (suc n) = ap (λ (xs : List A). f a ∷ xs) (map_range f (a + 1) n)
-
 range_among : (a n k : ℕ) → Among k (range_with_len a n) → (a ≤ k) × (k < a + n)
 range_among a zero k none = absurd none
 range_among a (suc n) k (inl here) = (omega arith, omega arith)
 range_among a (suc n) k (inr later) = let at = range_among (a + 1) n k later in let low = at.0 in let high = at.1 in (omega arith, omega arith)
-
-get_left : {A : Type 0} (xs ys : List A) (i : ℕ) (x : A) → slice_get xs i ≡ Some x → slice_get (xs ++ ys) i ≡ Some x
-get_left [] ys i x none = absurd (let e : None ≡ Some x = none in cc)
-get_left (y ∷ xs) ys zero x at = at
-get_left (y ∷ xs) ys (suc i) x at = get_left xs ys i x at
-
-get_right : {A : Type 0} (xs ys : List A) (i : ℕ) (x : A) → slice_get ys i ≡ Some x → slice_get (xs ++ ys) (length xs + i) ≡ Some x
-get_right [] ys i x at = (let e : 0 + i ≡ i = omega arith in ap (slice_get ys) e) ∙ at
-get_right (y ∷ xs) ys i x at = (let e : suc (length xs) + i ≡ suc (length xs + i) = omega arith in ap (slice_get (y ∷ (xs ++ ys))) e) ∙ get_right xs ys i x at
 
 map_twice : {A B C : Type 0} (h : B → C) (g : A → B) (xs : List A) → map h (map g xs) ≡ map (λ x. h (g x)) xs
 map_twice h g [] = refl
@@ -132,7 +109,7 @@ module _ (d : Design) (list : List ColumnDriver) (starts : List ℕ) (is : IsEla
       by.only ∙ ap (λ (x : Driver ℕ). map_driver (column_at d) x ∷ []) same
 
   pub covers : IsWellFormed d → AllByRecursion (HasCover d) list
-  covers formed = all_from_at (HasCover d) list each
+  covers formed = all_of_each (HasCover d) list (λ s among. let at = among_get list s among in each at.0 s at.1)
     where
       each : (k : ℕ) (s : ColumnDriver) → slice_get list k ≡ Some s → HasCover d s
       each k s here =
@@ -143,47 +120,18 @@ module _ (d : Design) (list : List ColumnDriver) (starts : List ℕ) (is : IsEla
   pub loops : (order : List ℕ) → IsOrder (map read_now (map (shown_driver d) list)) order → HasNoLoop (map driver_reads list)
   loops order ordered = subst (λ (g : List (List ℕ)). HasNoLoop g) (sym (reads_shown d list)) (order_has_none (map read_now (map (shown_driver d) list)) order ordered)
 
-  module _ (p : ℕ) (part : Part) (pearl : IsPearlPart d list p part) where
+  module _ (p : ℕ) (part : Part) (pearl : IsPearlPart d p part) (is_part : IsPart list part) where
     abbrev own : List Column
-    own = columns_in (length d.models) d pearl.path pearl.number
+    own = columns_in (length d.models) d pearl.of.path pearl.of.number
 
     abbrev col : ℕ → Column
-    col k = column_at d (part.start + k)
+    col = col_of d p part pearl
 
-    at_own : (i : ℕ) (c : Column) → slice_get own i ≡ Some c → col i ≡ c
-    at_own i c here = get_or_from_slice_get (columns d) (part.start + i) c (column [] []) (stands_get (columns d) part.start own pearl.stands i c here)
-
-    inside : (k : ℕ) → k < part.nets → IsInside pearl.path (col k).path
+    inside : (k : ℕ) → k < part.nets → IsInside pearl.of.path (col k).path
     inside k h =
         let long = pearl.long in
         let c = get_of own k (omega arith) in
-        subst (λ (x : Column). IsInside pearl.path x.path) (sym (at_own k c.0 c.1)) (column_inside d (length d.models) pearl.path pearl.number c.0 (get_among own k c.0 c.1))
-
-    pub all : from_each col 0 part.nets ≡ own
-    all = ap (from_each col 0) (sym pearl.long) ∙ each_is col 0 own (λ i c here. (let e : 0 + i ≡ i = omega arith in ap col e ∙ at_own i c here))
-
-    ins_at : (i : ℕ) (c : Column) → slice_get (map (column pearl.path) (data_inputs d pearl.model)) i ≡ Some c → col i ≡ c
-    ins_at i c here = at_own i c (ap (λ (cs : List Column). slice_get cs i) pearl.begins ∙ get_left (map (column pearl.path) (data_inputs d pearl.model)) _ i c here)
-
-    ins_long : part.inputs ≡ length (map (column pearl.path) (data_inputs d pearl.model))
-    ins_long = pearl.inputs ∙ sym (length-map (data_inputs d pearl.model) (column pearl.path))
-
-    outs_at : (i : ℕ) (c : Column) → slice_get (map (column pearl.path) pearl.model.outputs) i ≡ Some c → col (part.inputs + i) ≡ c
-    outs_at i c here =
-        ap (λ (n : ℕ). col (n + i)) ins_long
-        ∙ at_own (length (map (column pearl.path) (data_inputs d pearl.model)) + i) c
-        (ap (λ (cs : List Column). slice_get cs (length (map (column pearl.path) (data_inputs d pearl.model)) + i)) pearl.begins
-        ∙ get_right (map (column pearl.path) (data_inputs d pearl.model)) (map (column pearl.path) pearl.model.outputs ++ pearl.more) i c (get_left (map (column pearl.path) pearl.model.outputs) pearl.more i c here))
-
-    pub block_is : IsBlock d p (record { start = part.start; end = part.start + part.nets })
-    block_is = record {
-      path = pearl.path;
-      here = pearl.here;
-      model = pearl.number;
-      leads = pearl.leads;
-      stands = pearl.stands;
-      long = ap (λ (n : ℕ). part.start + n) pearl.long;
-    }
+        subst (λ (x : Column). IsInside pearl.of.path x.path) (sym (own_at d p part pearl k c.0 c.1)) (column_inside d (length d.models) pearl.of.path pearl.of.number c.0 (get_among own k c.0 c.1))
 
     module _ (f : Flat) (flattened : IsFlattened d list part f) where
       driven_net : (k : ℕ) (s : Driver ℕ) → Among s (flat_drivers f k) → k < part.nets
@@ -195,7 +143,7 @@ module _ (d : Design) (list : List ColumnDriver) (starts : List ℕ) (is : IsEla
       each : StandsForAll (drivers d) col f
       each k s among =
           let below = driven_net k s among in
-          let there = pearl.inner.there in
+          let there = is_part.there in
           let only_driver = driven (part.start + k) (omega arith) in
           elim (flattened.each k s among) [
             | inl input ↦ inl input
@@ -217,7 +165,7 @@ module _ (d : Design) (list : List ColumnDriver) (starts : List ℕ) (is : IsEla
       end_below zero a k below w = subst (λ (x : ℕ). x < part.nets) w below
       end_below (suc n) a k below w = driven_net k w.2.0 w.2.1
 
-      walk_inside : (n a k : ℕ) → a < part.nets → Walk (flat_drivers f) n a k → WalkInside d pearl.path n (col a) (col k)
+      walk_inside : (n a k : ℕ) → a < part.nets → Walk (flat_drivers f) n a k → WalkInside d pearl.of.path n (col a) (col k)
       walk_inside zero a k below w = (ap col w, inside k (end_below zero a k below w))
       walk_inside (suc n) a k below w = (col w.0, walk_inside n a w.0 below w.1, feeds w.0 k w.2, inside k (end_below (suc n) a k below w))
 
@@ -228,23 +176,23 @@ module _ (d : Design) (list : List ColumnDriver) (starts : List ℕ) (is : IsEla
           let in_below = in_range.1 in
           let out_low = out_range.0 in
           let out_high = out_range.1 in
-          let ports = pearl.inner.ports in
+          let ports = is_part.ports in
           let counted = pearl.inputs in
           let counted_outs = pearl.outputs in
-          let name = get_of (data_inputs d pearl.model) input (omega arith) in
+          let name = get_of (data_inputs d pearl.of.model) input (omega arith) in
           let place : (j : ℕ) × (output ≡ part.inputs + j) = from_low part.inputs output out_low in
           let at = place.1 in
-          let out_name = get_of pearl.model.outputs place.0 (omega arith) in
-          let in_column : col input ≡ column pearl.path name.0 = ins_at input (column pearl.path name.0) (slice_get-map (column pearl.path) (data_inputs d pearl.model) input ∙ ap (option_map (column pearl.path)) name.1) in
-          let out_column : col output ≡ column pearl.path out_name.0 = ap col at ∙ outs_at place.0 (column pearl.path out_name.0) (slice_get-map (column pearl.path) pearl.model.outputs place.0 ∙ ap (option_map (column pearl.path)) out_name.1) in
+          let out_name = get_of pearl.of.model.outputs place.0 (omega arith) in
+          let in_column : col input ≡ column pearl.of.path name.0 = input_at d p part pearl input (column pearl.of.path name.0) (slice_get-map (column pearl.of.path) (data_inputs d pearl.of.model) input ∙ ap (option_map (column pearl.of.path)) name.1) in
+          let out_column : col output ≡ column pearl.of.path out_name.0 = ap col at ∙ output_at d p part pearl place.0 (column pearl.of.path out_name.0) (slice_get-map (column pearl.of.path) pearl.of.model.outputs place.0 ∙ ap (option_map (column pearl.of.path)) out_name.1) in
           let inner = walk_inside n input output (omega arith) walk in
-          none p place.0 input pearl.model out_name.0 name.0 (record {
-            path = pearl.path;
-            pearl = pearl.here;
-            model = pearl.body;
+          none p place.0 input pearl.of.model out_name.0 name.0 (record {
+            path = pearl.of.path;
+            pearl = pearl.of.here;
+            model = pearl.of.body;
             out = out_name.1;
             given = name.1;
-            walk = (n, subst (λ (c : Column). WalkInside d pearl.path n c (column pearl.path out_name.0)) in_column (subst (λ (c : Column). WalkInside d pearl.path n (col input) c) out_column inner));
+            walk = (n, subst (λ (c : Column). WalkInside d pearl.of.path n c (column pearl.of.path out_name.0)) in_column (subst (λ (c : Column). WalkInside d pearl.of.path n (col input) c) out_column inner));
           })
         where
           from_low : (a k : ℕ) → a ≤ k → (j : ℕ) × (k ≡ a + j)
@@ -264,19 +212,23 @@ module _ (d : Design) (list : List ColumnDriver) (starts : List ℕ) (is : IsEla
 
       pub flat_of : IsFlatOf d p f
       flat_of = record {
-        path = pearl.path;
-        here = pearl.here;
-        number = pearl.number;
-        leads = pearl.leads;
-        model = pearl.model;
-        body = pearl.body;
+        of = pearl.of;
         col = col;
-        all = ap (from_each col 0) flattened.nets ∙ all;
-        ins = ap (map col) flattened.ins ∙ map_range col 0 part.inputs ∙ ap (from_each col 0) ins_long ∙ each_is col 0 (map (column pearl.path) (data_inputs d pearl.model)) (λ i c at. (let e : 0 + i ≡ i = omega arith in ap col e ∙ ins_at i c at));
-        outs = ap (map col) flattened.outs ∙ map_range col part.inputs part.outputs ∙ ap (from_each col part.inputs) (pearl.outputs ∙ sym (length-map pearl.model.outputs (column pearl.path))) ∙ each_is col part.inputs (map (column pearl.path) pearl.model.outputs) outs_at;
+        all = ap (λ (n : ℕ). map col (range_with_len 0 n)) flattened.nets ∙ all_are d p part pearl;
+        ins = ap (map col) flattened.ins ∙ ins_are d p part pearl;
+        outs = ap (map col) flattened.outs ∙ outs_are d p part pearl;
         each = each;
       }
 
--- the part of a pearl
-pub pearl_part : (d : Design) (list : List ColumnDriver) (parts : List Part) → ArePearlParts d list parts → (p : ℕ) (other : Part) → p < length (pearls d) → IsPearlPart d list p (slice_index_or parts p other)
-pearl_part d list parts are p other below = let count = are.count in are.each p (slice_index_or parts p other) (slice_get-get_or parts p other (omega arith))
+-- the part of a pearl among those of all
+pub part_of_pearl : (d : Design) (facts : Facts) → AreFacts d facts → (p : ℕ) (other : Part) → p < length (pearls d) → IsPearlPart d p (slice_index_or facts.parts p other) × IsPart facts.network.columns.drivers (slice_index_or facts.parts p other)
+part_of_pearl d facts are p other below = let count = are.parts.count in are.parts.each p (slice_index_or facts.parts p other) (slice_get-get_or facts.parts p other (omega arith))
+
+-- what is made of the part of a pearl is its flat part
+pub flat_made : (d : Design) (facts : Facts) → AreFacts d facts → (p : ℕ) (other : Part) → p < length (pearls d) → (f : Flat) → IsFlattened d facts.network.columns.drivers (slice_index_or facts.parts p other) f → IsFlat f × IsFlatOf d p f
+flat_made d facts are p other below f flattened =
+    let part = part_of_pearl d facts are p other below in
+    let list = facts.network.columns.drivers in
+    let starts = facts.network.columns.starts in
+    let is = are.network.elaborated in
+    (flat_is d list starts is p (slice_index_or facts.parts p other) part.0 part.1 f flattened are.accepted.outputs, flat_of d list starts is p (slice_index_or facts.parts p other) part.0 part.1 f flattened)

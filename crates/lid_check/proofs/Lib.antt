@@ -4,3 +4,6 @@ pub mod Flats
 pub mod Placing
 pub mod Refusing
 pub mod Widths
+pub mod Descent
+pub mod Levels
+pub mod Sound

@@ -1,5 +1,4 @@
 pub mod Acceptance
-pub mod Blocks
 pub mod Facts
 pub mod Flats
 pub mod Networks

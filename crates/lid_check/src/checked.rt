@@ -7,17 +7,16 @@ ghost use Rattle.lid_design.specs.Loops.{pearls};
 ghost use Rattle.lid_design.specs.Elaboration.{count_latches, count_defaulted};
 ghost use Rattle.lid_design.specs.WellFormed.{IsWellFormed};
 ghost use Rattle.lid_rules.specs.declared.fault.CheckFault.TheVariants.{Memory};
-ghost use Rattle.lid_check.specs.Blocks.{IsBlock};
+ghost use Rattle.lid_parts.specs.PearlParts.{IsPearlPart};
 ghost use Rattle.lid_check.specs.Flats.{IsFlatOf};
 ghost use Rattle.lid_check.specs.Networks.{IsNetwork};
 ghost use Rattle.lid_check.specs.Acceptance.{rooted_at, with_root, IsAccepted, IsRefused};
 
-use crate::blocks::Block;
 use crate::judging::{Facts, accept};
 use crate::network::Network;
 use lid_base::Name;
 use lid_design::{Design, Flat};
-use lid_flatten::flatten;
+use lid_flatten::{Part, flatten};
 use lid_rules::CheckFault;
 use std::alloc::{AllocError, Global};
 use std::marker::Model;
@@ -156,16 +155,12 @@ impl Checked {
         &self.facts.network
     }
 
-    /// The numbers of the columns of a pearl and of all instances in it, which are consecutive.
-    pub fn block(&self, pearl: u32) -> Block
+    /// The columns of a pearl and of all instances in it, which have consecutive numbers.
+    pub fn part(&self, pearl: u32) -> Part
         requires { pearl < length (pearls self.now) }
-        ensures { IsBlock self.now pearl result }
+        ensures { IsPearlPart self.now pearl result }
     {
-        let part = self.facts.parts.as_slice()[pearl as usize];
-        Block {
-            start: part.start,
-            end: part.start + part.nets,
-        }
+        self.facts.parts.as_slice()[pearl as usize]
     }
 
     /// The flat part of a pearl: its columns with numbers from 0 on, and what drives each. It takes time

@@ -1,14 +1,13 @@
 //! The test that accepts designs: which netlists are well made, and what is told of the others.
 #![tactic(auto)]
 
-mod blocks;
 mod checked;
 mod judging;
 mod laws;
 mod network;
 
-pub use blocks::Block;
 pub use checked::{Checked, check};
 pub use laws::acceptance_is_one;
+pub use lid_flatten::Part;
 pub use lid_rules::CheckFault;
 pub use network::Network;

@@ -1,5 +1,5 @@
 -- Parts of a network: what their drivers read, and that no closed walk comes by counting from the start.
-use Rattle.std.proofs.Common.{◌≡◌, ◌⊎◌, ◌<◌, ◌≤◌, ◌+◌, ◌-◌, ◌^◌, nat_lt, ℕ, zero, suc, Bool, true, false, cond, List, [], ◌∷◌, ◌++◌, length, map, take, get_or, inl, inr, refl, sym, ◌∙◌, ap, subst, arith, zero-add}
+use Rattle.std.proofs.Common.{◌≡◌, ◌⊎◌, ◌<◌, ◌≤◌, ◌+◌, ◌-◌, ℕ, zero, suc, Bool, true, false, cond, List, [], ◌∷◌, length, map, inl, inr, refl, sym, ◌∙◌, ap, subst, arith, zero-add}
 use Rattle.std.specs.List.{AllByRecursion, range_with_len}
 use Rattle.std.proofs.lemmas.Bool.{lt-ltb, le-ltb}
 use Rattle.std.proofs.lemmas.List.{length-map}
@@ -12,15 +12,16 @@ use Rattle.lid_design.specs.declared.Design.{Design}
 use Rattle.lid_design.specs.declared.Flat.{Flat}
 use Rattle.lid_design.specs.Network.{Driver, from_input, from_latch, from_cover, from_connection}
 use Rattle.lid_design.specs.Flat.{flat_drivers}
-use Rattle.lid_digraph.specs.Graphs.{reads_at, IsGraph, Walk, IsOnLoop, HasNoLoop, IsOrder}
-use Rattle.lid_digraph.proofs.Orders.{reader_within, loop_within}
+use Rattle.lid_digraph.specs.Graphs.{reads_at, IsGraph, Walk, HasNoLoop, IsOrder}
+use Rattle.lid_digraph.proofs.Orders.{reader_within}
 use Rattle.lid_elab.specs.declared.driver.ColumnDriver.{ColumnDriver}
 use Rattle.lid_elab.specs.declared.driver.ColumnDriver.TheVariants.{Input, Latch, Cover as OfCover, Connection}
 use Rattle.lid_elab.specs.Covers.{cover_in}
 use Rattle.lid_elab.specs.Elaborations.{driver_reads, shown_driver}
-use Rattle.lid_flatten.specs.Standing.{PassesOn, StandsFor, IsInput, StandsForAll}
+use Rattle.lid_rules.proofs.Buffers.{passing}
+use Rattle.lid_flatten.specs.Standing.{StandsFor, IsInput, StandsForAll}
 use Rattle.lid_flatten.specs.Parts.{driver_at, IsIn, StaysIn, IsPart, HasCover, IsFlattened}
-use Rattle.lid_flatten.specs.Inner.{buffer, counted_from, inner_driver, inner_drivers, latches_in, covers_in}
+use Rattle.lid_flatten.specs.Inner.{buffer, counted_from, inner_driver, inner_drivers, latches_in, cells_in}
 use Rattle.lid_flatten.specs.declared.part.Part.{Part}
 use Rattle.lid_flatten.proofs.Nets.{is_input, as_net, IsMade, input_driver, cell_driver, no_driver}
 use Rattle.lid_flatten.proofs.Rules.{numbers_of, reads_here, below_or_not, rules}
@@ -71,7 +72,8 @@ read_back part (OfCover model cell inputs) b stays among =
 read_back part (Connection other) b stays (inl here) = inl (ap (λ (k : ℕ). part.start + k) here ∙ back part other stays)
 read_back part (Connection other) b stays (inr none) = absurd none
 
-buffered : (v : Bool) → cover_value buffer (v ∷ []) ≡ v
+-- a buffer gives the bit that it reads
+pub buffered : (v : Bool) → cover_value buffer (v ∷ []) ≡ v
 unfolding cover_value
 buffered true = refl
 buffered false = refl
@@ -81,7 +83,7 @@ stands : (d : Design) (part : Part) (s : ColumnDriver) → StaysIn part s → St
 stands d part (Input place) stays = absurd stays
 stands d part (Latch first input) stays = ap (from_latch first) (sym (back part input stays))
 stands d part (OfCover model cell inputs) stays = inl (ap (from_cover (cover_in d model cell)) (sym (back_all part inputs stays)))
-stands d part (Connection other) stays = inr (other - part.start, refl, (refl, buffered false, buffered true), ap from_connection (sym (back part other stays)))
+stands d part (Connection other) stays = inr (other - part.start, refl, passing buffer refl (buffered false) (buffered true), ap from_connection (sym (back part other stays)))
 
 module _ (drivers : List ColumnDriver) (part : Part) (is : IsPart drivers part) where
   abbrev inner : List ColumnDriver
@@ -150,7 +152,7 @@ module _ (drivers : List ColumnDriver) (part : Part) (is : IsPart drivers part) 
   module _ (d : Design) (f : Flat) (order : List ℕ) (few : length drivers ≤ 1048576) (ordered : IsOrder (map driver_reads inner) order)
       (covered : AllByRecursion (HasCover d) drivers)
       (nets : f.nets ≡ part.nets) (ins : f.ins ≡ range_with_len 0 part.inputs) (outs : f.outs ≡ range_with_len part.inputs part.outputs)
-      (latches : f.latches ≡ latches_in inner order) (covers : f.covers ≡ covers_in d inner order) where
+      (latches : f.latches ≡ latches_in d inner order) (covers : f.covers ≡ cells_in d inner order) where
     few_inputs : part.inputs ≤ part.nets
     few_inputs = let ports = is.ports in omega arith
 
@@ -227,8 +229,8 @@ module _ (drivers : List ColumnDriver) (part : Part) (is : IsPart drivers part) 
   pub flattened_by :
       (own : List ColumnDriver) → own ≡ inner → (d : Design) (f : Flat) (order : List ℕ) → length drivers ≤ 1048576 → IsOrder (map driver_reads own) order
       → AllByRecursion (HasCover d) drivers → f.nets ≡ part.nets → f.ins ≡ range_with_len 0 part.inputs → f.outs ≡ range_with_len part.inputs part.outputs
-      → f.latches ≡ latches_in own order → f.covers ≡ covers_in d own order → IsFlattened d drivers part f
+      → f.latches ≡ latches_in d own order → f.covers ≡ cells_in d own order → IsFlattened d drivers part f
   flattened_by own same d f order few ordered covered nets ins outs latches covers =
       flattened d f order few (subst (λ (xs : List ColumnDriver). IsOrder (map driver_reads xs) order) same ordered) covered nets ins outs
-      (latches ∙ ap (λ (xs : List ColumnDriver). latches_in xs order) same)
-      (covers ∙ ap (λ (xs : List ColumnDriver). covers_in d xs order) same)
+      (latches ∙ ap (λ (xs : List ColumnDriver). latches_in d xs order) same)
+      (covers ∙ ap (λ (xs : List ColumnDriver). cells_in d xs order) same)

@@ -1,26 +1,23 @@
 -- What drives the nets of a flat part that is made in an order.
-use Rattle.std.proofs.Common.{◌≡◌, ◌<◌, ◌≤◌, ◌+◌, ◌-◌, ◌==◌, nat_lt, ℕ, zero, suc, Bool, true, false, cond, List, [], ◌∷◌, ◌++◌, length, map, take, get_or, inl, inr, refl, sym, ◌∙◌, ap, subst, arith, zero-add}
-use Rattle.std.specs.List.{AllByRecursion, flat_map, range_with_len}
+use Rattle.std.proofs.Common.{◌≡◌, ◌<◌, ◌≤◌, ◌+◌, ◌==◌, ℕ, zero, suc, Bool, true, false, cond, List, [], ◌∷◌, ◌++◌, length, map, get_or, refl, ◌∙◌, ap, arith}
+use Rattle.std.specs.List.{flat_map, range_with_len}
 use Rattle.std.proofs.lemmas.List.{append-nil, length-map}
-use Rattle.std.proofs.lemmas.List.FromFn.{length-map-range_with_len, get_or-map-range_with_len}
-use Rattle.std.proofs.lemmas.Bool.{ltb-false, eqb-true, eqb-false, eq-eqb, ne_eqb}
+use Rattle.std.proofs.lemmas.Bool.{eqb-true, eqb-false, eq-eqb, ne_eqb}
 use Rattle.lid_base.specs.Lists.{Among}
-use Rattle.lid_cover.specs.Cover.{cover_value}
 use Rattle.lid_design.specs.declared.Design.{Design}
 use Rattle.lid_design.specs.declared.Flat.{Flat}
 use Rattle.lid_design.specs.declared.FlatLatch.{FlatLatch}
 use Rattle.lid_design.specs.declared.FlatCover.{FlatCover}
-use Rattle.lid_design.specs.Network.{Driver, from_input, from_latch, from_cover, from_connection}
+use Rattle.lid_design.specs.Network.{Driver, from_input, from_latch, from_cover}
 use Rattle.lid_design.specs.Flat.{inputs_at, latch_at, cover_at, flat_drivers}
 use Rattle.lid_digraph.specs.Graphs.{IsOrder}
 use Rattle.lid_elab.specs.declared.driver.ColumnDriver.{ColumnDriver}
 use Rattle.lid_elab.specs.declared.driver.ColumnDriver.TheVariants.{Input, Latch, Cover as OfCover, Connection}
 use Rattle.lid_elab.specs.Covers.{cover_in}
-use Rattle.lid_elab.specs.Elaborations.{driver_reads}
-use Rattle.lid_flatten.specs.Parts.{driver_at, StaysIn, IsPart, IsIn}
-use Rattle.lid_flatten.specs.Inner.{buffer, counted_from, inner_driver, inner_drivers, latches_of, covers_of, latches_in, covers_in}
-use Rattle.lid_flatten.specs.declared.part.Part.{Part}
-use Rattle.lid_flatten.proofs.Lists.{flat_flat, flat_none, flat_one, order_apart, AreApart}
+use Rattle.lid_elab.specs.Elaborations.{driver_reads, shown_driver}
+use Rattle.lid_flatten.specs.Parts.{driver_at}
+use Rattle.lid_flatten.specs.Inner.{buffer, latches_of, cells_of, latches_in, cells_in}
+use Rattle.lid_flatten.proofs.Lists.{flat_flat, flat_none, flat_one, order_apart}
 
 inputs_none : (k a n : ℕ) → ((i : ℕ) → a ≤ i → i < a + n → i ≡ k → ⊥) → inputs_at k a (range_with_len a n) ≡ []
 inputs_none k a zero none = refl
@@ -57,13 +54,13 @@ read_at inner k s h is = is ∙ get_default inner k h
     get_default (x ∷ xs) zero h = refl
     get_default (x ∷ xs) (suc i) h = get_default xs i (omega arith)
 
-latch_elsewhere : (k j : ℕ) (s : ColumnDriver) → (j ≡ k → ⊥) → flat_map (latch_at k) (latches_of j s) ≡ []
-latch_elsewhere k j (Latch first input) apart = ap (λ (b : Bool). cond b (from_latch first input ∷ []) [] ++ []) (ne_eqb j k apart)
-latch_elsewhere k j (Input place) apart = refl
-latch_elsewhere k j (OfCover model cell inputs) apart = refl
-latch_elsewhere k j (Connection other) apart = refl
+latch_elsewhere : (d : Design) (k j : ℕ) (s : ColumnDriver) → (j ≡ k → ⊥) → flat_map (latch_at k) (latches_of j (shown_driver d s)) ≡ []
+latch_elsewhere d k j (Latch first input) apart = ap (λ (b : Bool). cond b (from_latch first input ∷ []) [] ++ []) (ne_eqb j k apart)
+latch_elsewhere d k j (Input place) apart = refl
+latch_elsewhere d k j (OfCover model cell inputs) apart = refl
+latch_elsewhere d k j (Connection other) apart = refl
 
-cover_elsewhere : (d : Design) (k j : ℕ) (s : ColumnDriver) → (j ≡ k → ⊥) → flat_map (cover_at k) (covers_of d j s) ≡ []
+cover_elsewhere : (d : Design) (k j : ℕ) (s : ColumnDriver) → (j ≡ k → ⊥) → flat_map (cover_at k) (cells_of j (shown_driver d s)) ≡ []
 cover_elsewhere d k j (OfCover model cell inputs) apart = ap (λ (b : Bool). cond b (from_cover (cover_in d model cell) inputs ∷ []) [] ++ []) (ne_eqb j k apart)
 cover_elsewhere d k j (Connection other) apart = ap (λ (b : Bool). cond b (from_cover buffer (other ∷ []) ∷ []) [] ++ []) (ne_eqb j k apart)
 cover_elsewhere d k j (Input place) apart = refl
@@ -82,13 +79,13 @@ is_input (Latch first input) = false
 is_input (OfCover model cell inputs) = false
 is_input (Connection other) = false
 
-cell_here : (d : Design) (k : ℕ) (s : ColumnDriver) → is_input s ≡ false → flat_map (latch_at k) (latches_of k s) ++ flat_map (cover_at k) (covers_of d k s) ≡ as_net d s ∷ []
+cell_here : (d : Design) (k : ℕ) (s : ColumnDriver) → is_input s ≡ false → flat_map (latch_at k) (latches_of k (shown_driver d s)) ++ flat_map (cover_at k) (cells_of k (shown_driver d s)) ≡ as_net d s ∷ []
 cell_here d k (Latch first input) e = ap (λ (b : Bool). (cond b (from_latch first input ∷ []) [] ++ []) ++ []) (eq-eqb k k refl)
 cell_here d k (OfCover model cell inputs) e = ap (λ (b : Bool). cond b (from_cover (cover_in d model cell) inputs ∷ []) [] ++ []) (eq-eqb k k refl)
 cell_here d k (Connection other) e = ap (λ (b : Bool). cond b (from_cover buffer (other ∷ []) ∷ []) [] ++ []) (eq-eqb k k refl)
 cell_here d k (Input place) e = absurd (let f : true ≡ false = e in cc)
 
-cell_none : (d : Design) (k : ℕ) (s : ColumnDriver) → is_input s ≡ true → flat_map (latch_at k) (latches_of k s) ++ flat_map (cover_at k) (covers_of d k s) ≡ []
+cell_none : (d : Design) (k : ℕ) (s : ColumnDriver) → is_input s ≡ true → flat_map (latch_at k) (latches_of k (shown_driver d s)) ++ flat_map (cover_at k) (cells_of k (shown_driver d s)) ≡ []
 cell_none d k (Input place) e = refl
 cell_none d k (Latch first input) e = absurd (let f : false ≡ true = e in cc)
 cell_none d k (OfCover model cell inputs) e = absurd (let f : false ≡ true = e in cc)
@@ -98,8 +95,8 @@ cell_none d k (Connection other) e = absurd (let f : false ≡ true = e in cc)
 pub record IsMade (d : Design) (inner : List ColumnDriver) (order : List ℕ) (inputs : ℕ) (f : Flat) : Type 0 where
   pub nets : f.nets ≡ length inner
   pub ins : f.ins ≡ range_with_len 0 inputs
-  pub latches : f.latches ≡ latches_in inner order
-  pub covers : f.covers ≡ covers_in d inner order
+  pub latches : f.latches ≡ latches_in d inner order
+  pub covers : f.covers ≡ cells_in d inner order
   pub ordered : IsOrder (map driver_reads inner) order
   pub few : inputs ≤ length inner
   pub given : (k : ℕ) → k < inputs → driver_at inner k ≡ Input k
@@ -118,18 +115,18 @@ module _ (d : Design) (inner : List ColumnDriver) (order : List ℕ) (inputs : �
   abbrev drivers_by : ℕ → List (Driver ℕ) → List (Driver ℕ) → List (Driver ℕ)
   drivers_by k latched covered = inputs_at k 0 (range_with_len 0 inputs) ++ (latched ++ covered)
 
-  parts : (k : ℕ) → flat_drivers f k ≡ drivers_by k (flat_map (latch_at k) (latches_in inner order)) (flat_map (cover_at k) (covers_in d inner order))
+  parts : (k : ℕ) → flat_drivers f k ≡ drivers_by k (flat_map (latch_at k) (latches_in d inner order)) (flat_map (cover_at k) (cells_in d inner order))
   unfolding flat_drivers
   parts k =
       ap (λ (ns : List ℕ). inputs_at k 0 ns ++ (flat_map (latch_at k) f.latches ++ flat_map (cover_at k) f.covers)) made.ins
       ∙ ap (λ (ls : List FlatLatch). drivers_by k (flat_map (latch_at k) ls) (flat_map (cover_at k) f.covers)) made.latches
-      ∙ ap (λ (cs : List FlatCover). drivers_by k (flat_map (latch_at k) (latches_in inner order)) (flat_map (cover_at k) cs)) made.covers
+      ∙ ap (λ (cs : List FlatCover). drivers_by k (flat_map (latch_at k) (latches_in d inner order)) (flat_map (cover_at k) cs)) made.covers
 
   abbrev latched : ℕ → ℕ → List (Driver ℕ)
-  latched k j = flat_map (latch_at k) (latches_of j (driver_at inner j))
+  latched k j = flat_map (latch_at k) (latches_of j (shown_driver d (driver_at inner j)))
 
   abbrev covered : ℕ → ℕ → List (Driver ℕ)
-  covered k j = flat_map (cover_at k) (covers_of d j (driver_at inner j))
+  covered k j = flat_map (cover_at k) (cells_of j (shown_driver d (driver_at inner j)))
 
   -- a net is driven by what its number says alone
   here : (k : ℕ) → k < length inner → flat_drivers f k ≡ drivers_by k (latched k k) (covered k k)
@@ -137,11 +134,11 @@ module _ (d : Design) (inner : List ColumnDriver) (order : List ℕ) (inputs : �
       let apart = order_apart (map driver_reads inner) order made.ordered in
       let among = in_order k h in
       parts k
-      ∙ ap (λ (ss : List (Driver ℕ)). drivers_by k ss (flat_map (cover_at k) (covers_in d inner order)))
-      (flat_flat (latch_at k) (λ j. latches_of j (driver_at inner j)) order
-      ∙ flat_one (latched k) k (λ j other. latch_elsewhere k j (driver_at inner j) other) order apart among)
+      ∙ ap (λ (ss : List (Driver ℕ)). drivers_by k ss (flat_map (cover_at k) (cells_in d inner order)))
+      (flat_flat (latch_at k) (λ j. latches_of j (shown_driver d (driver_at inner j))) order
+      ∙ flat_one (latched k) k (λ j other. latch_elsewhere d k j (driver_at inner j) other) order apart among)
       ∙ ap (λ (ss : List (Driver ℕ)). drivers_by k (latched k k) ss)
-      (flat_flat (cover_at k) (λ j. covers_of d j (driver_at inner j)) order
+      (flat_flat (cover_at k) (λ j. cells_of j (shown_driver d (driver_at inner j))) order
       ∙ flat_one (covered k) k (λ j other. cover_elsewhere d k j (driver_at inner j) other) order apart among)
 
   pub input_driver : (k : ℕ) → k < inputs → flat_drivers f k ≡ from_input k ∷ []
@@ -163,9 +160,9 @@ module _ (d : Design) (inner : List ColumnDriver) (order : List ℕ) (inputs : �
       let few = made.few in
       let not_there : Among k order → ⊥ = λ among. (let h = order_below k among in absurd (omega arith)) in
       parts k
-      ∙ ap (λ (ss : List (Driver ℕ)). ss ++ (flat_map (latch_at k) (latches_in inner order) ++ flat_map (cover_at k) (covers_in d inner order))) (inputs_none k 0 inputs (λ i first last e. absurd (omega arith)))
-      ∙ ap (λ (ss : List (Driver ℕ)). ss ++ flat_map (cover_at k) (covers_in d inner order))
-      (flat_flat (latch_at k) (λ j. latches_of j (driver_at inner j)) order
-      ∙ flat_none (latched k) k (λ j other. latch_elsewhere k j (driver_at inner j) other) order not_there)
-      ∙ flat_flat (cover_at k) (λ j. covers_of d j (driver_at inner j)) order
+      ∙ ap (λ (ss : List (Driver ℕ)). ss ++ (flat_map (latch_at k) (latches_in d inner order) ++ flat_map (cover_at k) (cells_in d inner order))) (inputs_none k 0 inputs (λ i first last e. absurd (omega arith)))
+      ∙ ap (λ (ss : List (Driver ℕ)). ss ++ flat_map (cover_at k) (cells_in d inner order))
+      (flat_flat (latch_at k) (λ j. latches_of j (shown_driver d (driver_at inner j))) order
+      ∙ flat_none (latched k) k (λ j other. latch_elsewhere d k j (driver_at inner j) other) order not_there)
+      ∙ flat_flat (cover_at k) (λ j. cells_of j (shown_driver d (driver_at inner j))) order
       ∙ flat_none (covered k) k (λ j other. cover_elsewhere d k j (driver_at inner j) other) order not_there

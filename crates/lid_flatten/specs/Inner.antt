@@ -1,15 +1,16 @@
 -- The drivers of a part with numbers counted from its first, and the latches and covers that they make in
 -- an order. These definitions serve the functions that make flat parts.
-use Rattle.std.specs.Prelude.{◌≡◌, ◌+◌, ◌-◌, ◌<◌, ◌≤◌, nat_lt, ℕ, Bool, true, if◌then◌else◌, List, [], ◌∷◌, length, map, flat_map}
-use Rattle.std.specs.List.{AllByRecursion, range_with_len}
+use Rattle.std.specs.Prelude.{◌+◌, ◌-◌, nat_lt, ℕ, true, if◌then◌else◌, List, [], ◌∷◌, map, flat_map}
+use Rattle.std.specs.List.{range_with_len}
 use Rattle.lid_cover.specs.declared.Cover.{Cover}
 use Rattle.lid_design.specs.declared.Design.{Design}
 use Rattle.lid_design.specs.declared.FlatLatch.{FlatLatch}
 use Rattle.lid_design.specs.declared.FlatCover.{FlatCover}
+use Rattle.lid_design.specs.Network.{Driver, from_input, from_latch, from_cover, from_connection}
 use Rattle.lid_elab.specs.declared.driver.ColumnDriver.{ColumnDriver}
 use Rattle.lid_elab.specs.declared.driver.ColumnDriver.TheVariants.{Input, Latch, Cover as OfCover, Connection}
-use Rattle.lid_elab.specs.Covers.{cover_in}
-use Rattle.lid_flatten.specs.Parts.{driver_at, StaysIn}
+use Rattle.lid_elab.specs.Elaborations.{shown_driver}
+use Rattle.lid_flatten.specs.Parts.{driver_at}
 use Rattle.lid_flatten.specs.declared.part.Part.{Part}
 
 -- the cover that gives its one input
@@ -32,22 +33,22 @@ abbrev pub inner_drivers : List ColumnDriver → Part → List ColumnDriver
 inner_drivers drivers part = map (inner_driver drivers part) (range_with_len 0 part.nets)
 
 -- the latch that gives net k its bit
-abbrev pub latches_of : ℕ → ColumnDriver → List FlatLatch
-latches_of k (Input place) = []
-latches_of k (Latch first input) = record { input = input; out = k; init = first } ∷ []
-latches_of k (OfCover model cell inputs) = []
-latches_of k (Connection other) = []
+abbrev pub latches_of : ℕ → Driver ℕ → List FlatLatch
+latches_of k (from_input j) = []
+latches_of k (from_latch first input) = record { input = input; out = k; init = first } ∷ []
+latches_of k (from_cover cover inputs) = []
+latches_of k (from_connection other) = []
 
 -- the cover that gives net k its bit, which is a buffer where a connection does
-abbrev pub covers_of : Design → ℕ → ColumnDriver → List FlatCover
-covers_of d k (Input place) = []
-covers_of d k (Latch first input) = []
-covers_of d k (OfCover model cell inputs) = record { ins = inputs; out = k; cover = cover_in d model cell } ∷ []
-covers_of d k (Connection other) = record { ins = other ∷ []; out = k; cover = buffer } ∷ []
+abbrev pub cells_of : ℕ → Driver ℕ → List FlatCover
+cells_of k (from_input j) = []
+cells_of k (from_latch first input) = []
+cells_of k (from_cover cover inputs) = record { ins = inputs; out = k; cover = cover } ∷ []
+cells_of k (from_connection other) = record { ins = other ∷ []; out = k; cover = buffer } ∷ []
 
 -- those of the nets of an order, one after the other
-abbrev pub latches_in : List ColumnDriver → List ℕ → List FlatLatch
-latches_in inner order = flat_map (λ k. latches_of k (driver_at inner k)) order
+abbrev pub latches_in : Design → List ColumnDriver → List ℕ → List FlatLatch
+latches_in d inner order = flat_map (λ k. latches_of k (shown_driver d (driver_at inner k))) order
 
-abbrev pub covers_in : Design → List ColumnDriver → List ℕ → List FlatCover
-covers_in d inner order = flat_map (λ k. covers_of d k (driver_at inner k)) order
+abbrev pub cells_in : Design → List ColumnDriver → List ℕ → List FlatCover
+cells_in d inner order = flat_map (λ k. cells_of k (shown_driver d (driver_at inner k))) order

@@ -1,14 +1,10 @@
 -- Parts of networks: consecutive columns, what drives them with numbers counted from their first, and the
 -- flat part that they make.
-use Rattle.std.specs.Prelude.{◌≡◌, ◌+◌, ◌-◌, ◌<◌, ◌≤◌, nat_lt, ℕ, Bool, true, if◌then◌else◌, List, [], ◌∷◌, ◌++◌, length, map, flat_map, Some, slice_get, slice_index_or}
+use Rattle.std.specs.Prelude.{◌≡◌, ◌+◌, ◌<◌, ◌≤◌, ℕ, List, [], ◌∷◌, ◌++◌, length, map, slice_index_or}
 use Rattle.std.specs.List.{AllByRecursion, range_with_len}
-use Rattle.lid_cover.specs.declared.Cover.{Cover}
 use Rattle.lid_cover.specs.Cover.{IsCover}
 use Rattle.lid_design.specs.declared.Design.{Design}
 use Rattle.lid_design.specs.declared.Flat.{Flat}
-use Rattle.lid_design.specs.declared.FlatLatch.{FlatLatch}
-use Rattle.lid_design.specs.declared.FlatCover.{FlatCover}
-use Rattle.lid_design.specs.Network.{Driver}
 use Rattle.lid_design.specs.Walks.{IsDriven, IsDrivenOnce}
 use Rattle.lid_design.specs.Flat.{flat_drivers, latch_out, IsNumbered, ReadEarlier, IsFlatCover}
 use Rattle.lid_elab.specs.declared.driver.ColumnDriver.{ColumnDriver}

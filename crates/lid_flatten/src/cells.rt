@@ -3,8 +3,8 @@
 ghost use Rattle.std.specs.Prelude.{◌≡◌, ◌++◌, [], ◌∷◌, map, IfOk, OnOk};
 ghost use Rattle.lid_digraph.specs.Graphs.{IsOrder};
 ghost use Rattle.lid_elab.specs.Covers.{cover_in};
-ghost use Rattle.lid_elab.specs.Elaborations.{driver_reads};
-ghost use Rattle.lid_flatten.specs.Inner.{buffer, latches_of, covers_of, latches_in, covers_in};
+ghost use Rattle.lid_elab.specs.Elaborations.{driver_reads, shown_driver};
+ghost use Rattle.lid_flatten.specs.Inner.{buffer, latches_of, cells_of, latches_in, cells_in};
 
 use lid_base::Items;
 use lid_cover::{Cover, Cube};
@@ -20,7 +20,10 @@ pub(crate) struct Cells {
 }
 
 /// The cover that gives its one input.
-fn buffer(alloc: Global) -> Result<Cover, AllocError>
+///
+/// # Errors
+/// Where there is no memory.
+pub fn buffer(alloc: Global) -> Result<Cover, AllocError>
     ensures { IfOk result (λ cover. cover ≡ buffer) }
 {
     let mut cubes = Vec::new(alloc);
@@ -83,8 +86,8 @@ fn push_cell(
     net: u32,
     driver: &ColumnDriver,
 ) -> Result<(), AllocError>
-    ensures latches { OnOk result (cells.new.latches.items ≡ cells.old.latches.items ++ latches_of net driver.now) }
-    ensures covers { OnOk result (cells.new.covers.items ≡ cells.old.covers.items ++ covers_of design.now net driver.now) }
+    ensures latches { OnOk result (cells.new.latches.items ≡ cells.old.latches.items ++ latches_of net (shown_driver design.now driver.now)) }
+    ensures covers { OnOk result (cells.new.covers.items ≡ cells.old.covers.items ++ cells_of net (shown_driver design.now driver.now)) }
 {
     match driver {
         ColumnDriver::Input(_) => (),
@@ -114,8 +117,8 @@ pub(crate) fn find_cells(
     order: &[u32],
 ) -> Result<Cells, AllocError>
     requires { IsOrder (map driver_reads inner.now) order.now }
-    ensures latches { IfOk result (λ cells. cells.latches.items ≡ latches_in inner.now order.now) }
-    ensures covers { IfOk result (λ cells. cells.covers.items ≡ covers_in design.now inner.now order.now) }
+    ensures latches { IfOk result (λ cells. cells.latches.items ≡ latches_in design.now inner.now order.now) }
+    ensures covers { IfOk result (λ cells. cells.covers.items ≡ cells_in design.now inner.now order.now) }
 {
     let mut cells = Cells {
         latches: Vec::new(alloc),
@@ -134,8 +137,8 @@ fn push_cells(
     order: &[u32],
 ) -> Result<(), AllocError>
     requires { IsOrder (map driver_reads inner.now) order.now }
-    ensures latches { OnOk result (cells.new.latches.items ≡ cells.old.latches.items ++ latches_in inner.now order.now) }
-    ensures covers { OnOk result (cells.new.covers.items ≡ cells.old.covers.items ++ covers_in design.now inner.now order.now) }
+    ensures latches { OnOk result (cells.new.latches.items ≡ cells.old.latches.items ++ latches_in design.now inner.now order.now) }
+    ensures covers { OnOk result (cells.new.covers.items ≡ cells.old.covers.items ++ cells_in design.now inner.now order.now) }
 {
     for net in order {
         push_cell(alloc, cells, design, *net, &inner[*net as usize])?;

@@ -24,7 +24,10 @@ struct Ports {
 }
 
 /// So many numbers, from a first one on.
-fn numbers_from(alloc: Global, first: u32, count: u32) -> Result<Items<u32>, AllocError>
+///
+/// # Errors
+/// Where there is no memory.
+pub fn numbers_from(alloc: Global, first: u32, count: u32) -> Result<Items<u32>, AllocError>
     requires { first + count < 2 ^ 32 }
     ensures { IfOk result (λ numbers. numbers ≡ range_with_len first count) }
 {

@@ -6,5 +6,6 @@ mod flat;
 mod inner;
 mod part;
 
-pub use flat::flatten;
+pub use cells::buffer;
+pub use flat::{flatten, numbers_from};
 pub use part::Part;

@@ -1,10 +1,9 @@
 -- The cut keeps the pearls of a design apart.
-use Rattle.std.proofs.Common.{◌≡◌, ◌⊎◌, ◌↔◌, ℕ, zero, suc, ◌<◌, ◌≤◌, ◌==◌, Bool, true, false, cond, List, [], ◌∷◌, ◌++◌, length, map, get_or, Option, Some, None, option_and_then, slice_get, nat_lt, inl, inr, refl, sym, ◌∙◌, ap, subst, arith}
+use Rattle.std.proofs.Common.{◌≡◌, ◌⊎◌, ◌↔◌, ℕ, zero, suc, ◌<◌, ◌≤◌, ◌==◌, Bool, true, false, cond, List, [], ◌∷◌, ◌++◌, length, get_or, Option, Some, None, option_and_then, slice_get, nat_lt, inl, inr, refl, sym, ◌∙◌, ap, subst, arith}
 use Rattle.std.specs.Option.{option_map_or}
-use Rattle.std.specs.List.{range_with_len, AllByRecursion}
+use Rattle.std.specs.List.{AllByRecursion}
 use Rattle.std.specs.Str.{bytes_eq}
 use Rattle.std.proofs.lemmas.List.{append-nil}
-use Rattle.std.proofs.lemmas.List.FromFn.{length-map-range_with_len, get_or-map-range_with_len}
 use Rattle.std.proofs.lemmas.Option.{slice_get_within, slice_get-get_or}
 use Rattle.std.proofs.lemmas.Bool.{ltb-true, ltb-false}
 use Rattle.lid_base.specs.Lists.{Among}
@@ -21,6 +20,8 @@ use Rattle.lid_design.specs.Elaboration.{model_nets, columns}
 use Rattle.lid_design.specs.Loops.{IsInside, pearls}
 use Rattle.lid_digraph.specs.Graphs.{flag, IsReached}
 use Rattle.lid_elab.specs.Elaborations.{column_at, StartsAt, IsElaborated}
+use Rattle.lid_flatten.proofs.Lists.{all_of_each}
+use Rattle.lid_parts.proofs.Finding.{whole_pearls, inst_count, inst_pearl}
 use Rattle.lid_flaws.specs.declared.pearls.Pearl.{Pearl}
 use Rattle.lid_flaws.specs.Pearls.{IsInputOf, Fits, IsCutOff, AreReachedIn, AreCutOff, ArePearls, count_cut}
 use Rattle.lid_flaws.proofs.Numbered.{graph, graph_length, column_here, column_is}
@@ -59,19 +60,6 @@ one_inside i j ([], e) = let f : j ∷ [] ≡ i ∷ [] = e in cc
 one_inside i j (x ∷ [], e) = let f : j ∷ [] ≡ x ∷ i ∷ [] = e in absurd (let h : [] ≡ i ∷ [] = cc in cc)
 one_inside i j (x ∷ y ∷ inner, e) = let f : j ∷ [] ≡ x ∷ y ∷ (inner ++ i ∷ []) = e in absurd (let h : [] ≡ y ∷ (inner ++ i ∷ []) = cc in cc)
 
-pub inst_pearls : (d : Design) → 0 < length (insts_of d d.root) → pearls d ≡ map (λ i. i ∷ []) (range_with_len 0 (length (insts_of d d.root)))
-inst_pearls d some = by (length (insts_of d d.root)) some
-  where
-    by : (n : ℕ) → 0 < n → cond (n == 0) ([] ∷ []) (map (λ i. i ∷ []) (range_with_len 0 n)) ≡ map (λ i. i ∷ []) (range_with_len 0 n)
-    by zero h = absurd (omega arith)
-    by (suc n) h = ap (λ (b : Bool). cond b ([] ∷ []) (map (λ i. i ∷ []) (range_with_len 0 (suc n)))) (suc_zero n)
-      where
-        suc_zero : (m : ℕ) → (suc m == 0) ≡ false
-        suc_zero m = grind arith
-
-pub inst_count : (d : Design) → 0 < length (insts_of d d.root) → length (pearls d) ≡ length (insts_of d d.root)
-inst_count d some = ap length (inst_pearls d some) ∙ length-map-range_with_len (λ i. i ∷ []) 0 (length (insts_of d d.root))
-
 -- the model of the root, as it was read
 pub root_insts : (d e : Design) (models : List Model) (m : Model) → e ≡ d → models ≡ e.models → d.root < length d.models → m ≡ get_or models e.root m → insts_of d d.root ≡ m.insts
 root_insts d e models m same listed below read =
@@ -94,10 +82,6 @@ zero_or_more : (n : ℕ) → (n ≡ 0) ⊎ (0 < n)
 zero_or_more zero = inl refl
 zero_or_more (suc n) = inr (omega arith)
 
-among_all : {A : Type 0} (P : A → Type 0) (xs : List A) → ((x : A) → Among x xs → P x) → AllByRecursion P xs
-among_all P [] each = tt
-among_all P (x ∷ xs) each = (each x (inl refl), among_all P xs (λ y among. each y (inr among)))
-
 module _ (d : Design) (network : List (Driver ℕ)) (starts : List ℕ) (is : IsElaborated d network starts)
     (ps : List Pearl) (are : ArePearls d starts ps) where
   abbrev g : List (List ℕ)
@@ -110,9 +94,6 @@ module _ (d : Design) (network : List (Driver ℕ)) (starts : List ℕ) (is : Is
     root_placed : IsPlaced d [] root
     unfolding number_from
     root_placed = record { number = refl; starts_at = is.root }
-
-    whole_pearls : pearls d ≡ [] ∷ []
-    whole_pearls = ap (λ (n : ℕ). cond (n == 0) ([] ∷ []) (map (λ i. i ∷ []) (range_with_len 0 (length (insts_of d d.root))))) none
 
     one_among : {A : Type 0} (x y : A) → Among x (y ∷ []) → x ≡ y
     one_among x y (inl e) = e
@@ -134,9 +115,9 @@ module _ (d : Design) (network : List (Driver ℕ)) (starts : List ℕ) (is : Is
 
       pub whole_cut_off : AreCutOff d g cut reached ps
       whole_cut_off = record {
-        count = ap length (are.whole none) ∙ sym (ap length whole_pearls);
+        count = ap length (are.whole none) ∙ sym (ap length (whole_pearls d none));
         each = λ p path pearl there here.
-            (let path_is : path ≡ [] = one_among path [] (subst (λ (xs : List (List ℕ)). Among path xs) whole_pearls (get_among (pearls d) p path there)) in
+            (let path_is : path ≡ [] = one_among path [] (subst (λ (xs : List (List ℕ)). Among path xs) (whole_pearls d none) (get_among (pearls d) p path there)) in
             let pearl_is : pearl ≡ root = one_among pearl root (subst (λ (xs : List Pearl). Among pearl xs) (are.whole none) (get_among ps p pearl here)) in
             let off = cut_off d network starts is cut [] None_out (λ a c feeds inside. inl (anywhere a.path)) (λ k below free out. out) (λ k below inside. uncut k below) root root_placed (λ out. out) root_model in
             subst (λ (q : List ℕ). IsCutOff d g cut q pearl) (sym path_is) (subst (λ (q : Pearl). IsCutOff d g cut [] q) (sym pearl_is) off));
@@ -151,12 +132,6 @@ module _ (d : Design) (network : List (Driver ℕ)) (starts : List ℕ) (is : Is
       }
 
   module _ (some : 0 < length (insts_of d d.root)) where
-    inst_path : (p : ℕ) → p < length (insts_of d d.root) → slice_get (pearls d) p ≡ Some (p ∷ [])
-    inst_path p below =
-        let count = inst_count d some in
-        let entry : get_or (pearls d) p [] ≡ p ∷ [] = ap (λ (xs : List (List ℕ)). get_or xs p []) (inst_pearls d some) ∙ get_or-map-range_with_len (λ i. i ∷ []) 0 (length (insts_of d d.root)) p p [] below (omega arith) in
-        slice_get-get_or (pearls d) p [] (omega arith) ∙ ap Some entry
-
     inst_below : (p : ℕ) (pearl : Pearl) → slice_get ps p ≡ Some pearl → p < length starts
     inst_below p pearl here = let below = slice_get_within ps p pearl here in let count = are.count some in omega arith
 
@@ -219,7 +194,7 @@ module _ (d : Design) (network : List (Driver ℕ)) (starts : List ℕ) (is : Is
         each = λ p path pearl there here.
             (let below = inst_below p pearl here in
             let insts = is.insts in
-            let paths : Some (p ∷ []) ≡ Some path = sym (inst_path p (omega arith)) ∙ there in
+            let paths : Some (p ∷ []) ≡ Some path = sym (inst_pearl d p (omega arith)) ∙ there in
             let path_is : p ∷ [] ≡ path = cc in
             let entry = inst_entry p pearl here in
             let off = cut_off d network starts is cut (p ∷ []) Root (edge p) cut_out (cut_in p) pearl entry.1 (stays p) (instance_at d p pearl.model entry.0) in
@@ -250,7 +225,7 @@ module _ (d : Design) (network : List (Driver ℕ)) (starts : List ℕ) (is : Is
           omega arith
 
   pub pearls_fit : AllByRecursion (Fits d (length g)) ps
-  pearls_fit = among_all (Fits d (length g)) ps (by (zero_or_more (length (insts_of d d.root))))
+  pearls_fit = all_of_each (Fits d (length g)) ps (by (zero_or_more (length (insts_of d d.root))))
     where
       by : (length (insts_of d d.root) ≡ 0) ⊎ (0 < length (insts_of d d.root)) → (pearl : Pearl) → Among pearl ps → Fits d (length g) pearl
       by (inl none) pearl among =

@@ -135,21 +135,23 @@ module _ (d : Design) (g : List (List ℕ)) (cut reached : List Bool) (ps : List
       let input = told.leads.input in
       let inputs = inputs_at d pearl.model told.m told.here in
       record {
-        p = p;
-        m = told.m;
-        output = told.output;
-        input = input;
+        is = record {
+          p = p;
+          m = told.m;
+          output = told.output;
+          input = input;
+          on = record {
+            path = at.0;
+            pearl = at.1;
+            model = off.model ∙ told.here;
+            out = told.out;
+            given = subst (λ (xs : List (List ℕ)). slice_get xs lead.input ≡ Some input) inputs told.leads.here;
+            walk = (off.exact input told.output (get_among (data_inputs_of d pearl.model) lead.input input told.leads.here)).1 told.leads.on;
+          };
+          first = earlier;
+        };
         reached = subst (λ (k : ℕ). IsReached d k) (sym told.same) off.fits.reached;
         here = ap (slice_get d.models) told.same ∙ told.here;
-        on = record {
-          path = at.0;
-          pearl = at.1;
-          model = off.model ∙ told.here;
-          out = told.out;
-          given = subst (λ (xs : List (List ℕ)). slice_get xs lead.input ≡ Some input) inputs told.leads.here;
-          walk = (off.exact input told.output (get_among (data_inputs_of d pearl.model) lead.input input told.leads.here)).1 told.leads.on;
-        };
-        first = earlier;
       }
     where
       same_pearl : (q o i : ℕ) (m : Model) (output input : List ℕ) → DependsOn d q o i m output input → q ≡ p → (slice_get d.models pearl.model ≡ Some m) × Among input (data_inputs_of d pearl.model) × LeadsTo d g cut pearl input output
@@ -174,20 +176,10 @@ module _ (d : Design) (g : List (List ℕ)) (cut reached : List Bool) (ps : List
           told.leads.first i input below given (subst (λ (x : List ℕ). LeadsTo d g cut pearl input x) output_is leads.2)
 
 -- the first output that depends on an input, told by names
-pub tells_dependence : (d : Design) (lead : Lead) (first : IsFirstDependence d lead) (name output input : List ℕ) → name ≡ first.m.name → slice_get first.m.outputs lead.output ≡ Some output → slice_get (data_inputs_of d lead.model) lead.input ≡ Some input → TellsDependence d (OutputFromInput name output input)
+pub tells_dependence : (d : Design) (lead : Lead) (first : IsFirstDependence d lead) (name output input : List ℕ) → name ≡ first.is.m.name → slice_get first.is.m.outputs lead.output ≡ Some output → slice_get (data_inputs_of d lead.model) lead.input ≡ Some input → TellsDependence d (OutputFromInput name output input)
 tells_dependence d lead first name output input named out given =
-    let out_same : Some output ≡ Some first.output = sym out ∙ first.on.out in
-    let output_is : output ≡ first.output = cc in
-    let in_same : Some input ≡ Some first.input = sym given ∙ ap (λ (xs : List (List ℕ)). slice_get xs lead.input) (inputs_at d lead.model first.m first.here) ∙ first.on.given in
-    let input_is : input ≡ first.input = cc in
-    record {
-      p = first.p;
-      o = lead.output;
-      i = lead.input;
-      m = first.m;
-      output = first.output;
-      input = first.input;
-      on = first.on;
-      first = first.first;
-      told = cc;
-    }
+    let out_same : Some output ≡ Some first.is.output = sym out ∙ first.is.on.out in
+    let output_is : output ≡ first.is.output = cc in
+    let in_same : Some input ≡ Some first.is.input = sym given ∙ ap (λ (xs : List (List ℕ)). slice_get xs lead.input) (inputs_at d lead.model first.is.m first.here) ∙ first.is.on.given in
+    let input_is : input ≡ first.is.input = cc in
+    record { o = lead.output; i = lead.input; is = first.is; told = cc }

@@ -18,9 +18,7 @@ use Rattle.lid_elab.specs.Elaborations.{driver_reads, shown_driver, map_driver, 
 use Rattle.lid_elab.specs.declared.driver.ColumnDriver.{ColumnDriver}
 use Rattle.lid_elab.specs.declared.driver.ColumnDriver.TheVariants.{Input, Latch, Cover as OfCover, Connection}
 use Rattle.lid_rules.specs.declared.fault.CheckFault.TheVariants.{CombLoop}
-use Rattle.lid_flaws.specs.Dependence.{TellsLoop}
-use Rattle.lid_flaws.specs.Flaws.{IsFirstOnLoop}
-use Rattle.lid_flaws.proofs.Lists.{to_numbers, from_numbers}
+use Rattle.lid_flaws.specs.Dependence.{IsFirstOnLoop, TellsLoop}
 
 -- what drivers read does not depend on what their covers are
 pub reads_shown : (d : Design) (ds : List ColumnDriver) → map driver_reads ds ≡ map read_now (map (shown_driver d) ds)
@@ -78,7 +76,7 @@ module _ (d : Design) (network : List (Driver ℕ)) (starts : List ℕ) (is : Is
   pub edge_down : (k b : ℕ) → Among b (reads_at graph k) → (b < length network) × Feeds (drivers d) (column_at d b) (column_at d k)
   edge_down k b among =
       let driven = is.each k (column_at d k) (column_here k (reader_within k b among)) in
-      let here : Among b (read_now driven.driver) = from_numbers b (read_now driven.driver) (subst (λ (xs : List ℕ). Among b xs) (reads_are k driven.driver driven.here) among) in
+      let here : Among b (read_now driven.driver) = subst (λ (xs : List ℕ). Among b xs) (reads_are k driven.driver driven.here) among in
       let below = all_among (λ (a : ℕ). a < length network) (read_now driven.driver ++ read_before driven.driver) b driven.below (among_left b (read_now driven.driver) (read_before driven.driver) here) in
       let mapped : Among (column_at d b) (read_now (map_driver (column_at d) driven.driver)) = subst (λ (xs : List Column). Among (column_at d b) xs) (sym (read_now_map (column_at d) driven.driver)) (among_map (column_at d) b (read_now driven.driver) here) in
       (below, (map_driver (column_at d) driven.driver, subst (λ (ss : List (Driver Column)). Among (map_driver (column_at d) driven.driver) ss) (sym driven.only) (inl refl), mapped))
@@ -95,7 +93,7 @@ module _ (d : Design) (network : List (Driver ℕ)) (starts : List ℕ) (is : Is
       let read : Among a (read_now (map_driver (column_at d) driven.driver)) = subst (λ (s : Driver Column). Among a (read_now s)) driver feeds.2 in
       let found = map_among (column_at d) a (read_now driven.driver) (subst (λ (xs : List Column). Among a xs) (read_now_map (column_at d) driven.driver) read) in
       let below = all_among (λ (x : ℕ). x < length network) (read_now driven.driver ++ read_before driven.driver) found.0 driven.below (among_left found.0 (read_now driven.driver) (read_before driven.driver) found.1) in
-      (found.0, below, sym found.2, subst (λ (xs : List ℕ). Among found.0 xs) (sym (reads_are k driven.driver driven.here)) (to_numbers found.0 (read_now driven.driver) found.1))
+      (found.0, below, sym found.2, subst (λ (xs : List ℕ). Among found.0 xs) (sym (reads_are k driven.driver driven.here)) found.1)
 
   pub walk_down : (n a k : ℕ) → Walk graph n a k → WalkOf (drivers d) n (column_at d a) (column_at d k)
   walk_down zero a k w = ap (column_at d) w
@@ -162,9 +160,6 @@ tells_loop d k path net first here =
     let told : first.c ≡ column (reverse path) net = cc in
     record {
       k = k;
-      c = column (reverse path) net;
-      here = here;
-      on = subst (λ (x : Column). IsColumnOnLoop d x) told first.on;
-      first = first.first;
-      told = ap (λ (p : List ℕ). CombLoop p net) (sym (reverse-reverse path));
+      is = first;
+      told = ap (λ (p : List ℕ). CombLoop p net) (sym (reverse-reverse path)) ∙ ap (λ (c : Column). CombLoop (reverse c.path) c.net) (sym told);
     }

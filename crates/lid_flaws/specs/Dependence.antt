@@ -8,14 +8,18 @@ use Rattle.lid_design.specs.Loops.{IsOnLoop, pearls, IsDependent}
 use Rattle.lid_rules.specs.declared.fault.CheckFault.{CheckFault}
 use Rattle.lid_rules.specs.declared.fault.CheckFault.TheVariants.{CombLoop, OutputFromInput}
 
--- the first column on a closed walk is told
-pub record TellsLoop (d : Design) (fault : CheckFault) : Type 0 where
-  pub k : ℕ
+-- the number of the first column on a closed walk
+pub record IsFirstOnLoop (d : Design) (k : ℕ) : Type 0 where
   pub c : Column
   pub here : slice_get (columns d) k ≡ Some c
   pub on : IsOnLoop d c
   pub first : (j : ℕ) (b : Column) → j < k → slice_get (columns d) j ≡ Some b → ¬ IsOnLoop d b
-  pub told : fault ≡ CombLoop (reverse c.path) c.net
+
+-- the first column on a closed walk is told
+pub record TellsLoop (d : Design) (fault : CheckFault) : Type 0 where
+  pub k : ℕ
+  pub is : IsFirstOnLoop d k
+  pub told : fault ≡ CombLoop (reverse is.c.path) is.c.net
 
 -- output o of pearl p depends on data input i of it, in one row
 pub record DependsOn (d : Design) (p o i : ℕ) (m : Model) (output input : List ℕ) : Type 0 where
@@ -34,14 +38,18 @@ HasNoDependence d = (p o i : ℕ) (m : Model) (output input : List ℕ) → ¬ D
 abbrev pub StandsBefore : ℕ → ℕ → ℕ → ℕ → ℕ → ℕ → Type 0
 StandsBefore p o i p' o' i' = (p < p') ⊎ ((p ≡ p') × ((o < o') ⊎ ((o ≡ o') × (i < i'))))
 
--- the first output that depends on an input is told, with the first such input
-pub record TellsDependence (d : Design) (fault : CheckFault) : Type 0 where
+-- the place of the first output that depends on an input, and that of the first such input
+pub record IsFirstDependent (d : Design) (o i : ℕ) : Type 0 where
   pub p : ℕ
-  pub o : ℕ
-  pub i : ℕ
   pub m : Model
   pub output : List ℕ
   pub input : List ℕ
   pub on : DependsOn d p o i m output input
   pub first : (p' o' i' : ℕ) (m' : Model) (output' input' : List ℕ) → StandsBefore p' o' i' p o i → ¬ DependsOn d p' o' i' m' output' input'
-  pub told : fault ≡ OutputFromInput m.name output input
+
+-- the first output that depends on an input is told, with the first such input
+pub record TellsDependence (d : Design) (fault : CheckFault) : Type 0 where
+  pub o : ℕ
+  pub i : ℕ
+  pub is : IsFirstDependent d o i
+  pub told : fault ≡ OutputFromInput is.m.name is.output is.input

@@ -3,12 +3,10 @@ use Rattle.std.specs.Prelude.{◌≡◌, ℕ, ◌<◌, ◌⊎◌, Bool, List, ma
 use Rattle.lid_base.specs.Lists.{Among}
 use Rattle.lid_design.specs.declared.Design.{Design}
 use Rattle.lid_design.specs.declared.Model.{Model}
-use Rattle.lid_design.specs.Columns.{Column}
 use Rattle.lid_design.specs.Models.{IsReached, data_inputs_of}
-use Rattle.lid_design.specs.Elaboration.{columns}
-use Rattle.lid_design.specs.Loops.{IsOnLoop, HasNoLoop}
+use Rattle.lid_design.specs.Loops.{HasNoLoop}
 use Rattle.lid_rules.specs.declared.fault.CheckFault.{CheckFault}
-use Rattle.lid_flaws.specs.Dependence.{TellsLoop, DependsOn, HasNoDependence, StandsBefore, TellsDependence}
+use Rattle.lid_flaws.specs.Dependence.{IsFirstOnLoop, TellsLoop, HasNoDependence, IsFirstDependent, TellsDependence}
 use Rattle.lid_flaws.specs.Pearls.{LeadsTo, NoneLeads, IsFirstInput}
 use Rattle.lid_digraph.specs.Graphs.{IsOrder}
 use Rattle.lid_elab.specs.declared.driver.ColumnDriver.{ColumnDriver}
@@ -19,13 +17,6 @@ use Rattle.lid_flaws.specs.declared.flaws.Flaw.{Flaw}
 use Rattle.lid_flaws.specs.declared.flaws.Flaw.TheVariants.{Loop, Dependence}
 use Rattle.lid_flaws.specs.declared.outputs.Lead.{Lead}
 use Rattle.lid_flaws.specs.declared.pearls.Pearl.{Pearl}
-
--- the number of the first column on a closed walk
-pub record IsFirstOnLoop (d : Design) (k : ℕ) : Type 0 where
-  pub c : Column
-  pub here : slice_get (columns d) k ≡ Some c
-  pub on : IsOnLoop d c
-  pub first : (j : ℕ) (b : Column) → j < k → slice_get (columns d) j ≡ Some b → ¬ IsOnLoop d b
 
 -- the places of the first output of a pearl to which a data input leads, and of the first such input
 pub record IsFirstLead (d : Design) (g : List (List ℕ)) (cut : List Bool) (pearl : Pearl) (lead : Lead) : Type 0 where
@@ -49,14 +40,9 @@ FindsLead d g cut pearl (Some lead) = IsFirstLead d g cut pearl lead
 
 -- the places of the first output that depends on an input of its pearl, and of the first such input
 pub record IsFirstDependence (d : Design) (lead : Lead) : Type 0 where
-  pub p : ℕ
-  pub m : Model
-  pub output : List ℕ
-  pub input : List ℕ
+  pub is : IsFirstDependent d lead.output lead.input
   pub reached : IsReached d lead.model
-  pub here : slice_get d.models lead.model ≡ Some m
-  pub on : DependsOn d p lead.output lead.input m output input
-  pub first : (p' o' i' : ℕ) (m' : Model) (output' input' : List ℕ) → StandsBefore p' o' i' p lead.output lead.input → ¬ DependsOn d p' o' i' m' output' input'
+  pub here : slice_get d.models lead.model ≡ Some is.m
 
 -- whether an output depends on an input of its pearl, and where first
 abbrev pub FindsDependence : Design → Option Lead → Type 0

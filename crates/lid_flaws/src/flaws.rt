@@ -4,9 +4,9 @@ ghost use Rattle.std.specs.Prelude.{◌≡◌, Some, map, slice_get, IfOk};
 ghost use Rattle.lid_design.specs.Loops.{HasNoLoop};
 ghost use Rattle.lid_digraph.specs.Graphs.{IsOrder};
 ghost use Rattle.lid_elab.specs.Elaborations.{driver_reads};
-ghost use Rattle.lid_flaws.specs.Dependence.{TellsLoop, TellsDependence};
+ghost use Rattle.lid_flaws.specs.Dependence.{IsFirstOnLoop, TellsLoop, TellsDependence};
 ghost use Rattle.lid_design.specs.Models.{data_inputs_of};
-ghost use Rattle.lid_flaws.specs.Flaws.{IsFirstOnLoop, IsFirstDependence, IsFirstFlaw, IsVerdict, TellsFlaw};
+ghost use Rattle.lid_flaws.specs.Flaws.{IsFirstDependence, IsFirstFlaw, IsVerdict, TellsFlaw};
 
 use crate::outputs::{Lead, find_dependence};
 use crate::pearls::find_inputs;

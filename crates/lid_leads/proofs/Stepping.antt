@@ -6,18 +6,29 @@ use Rattle.lid_base.specs.Lists.{Among}
 use Rattle.std.specs.List.{AllByRecursion}
 use Rattle.lid_base.proofs.Lists.{all_among, among_left, among_push, among_at}
 use Rattle.lid_cover.specs.declared.Cover.{Cover}
+use Rattle.lid_cover.specs.Cover.{cover_value}
 use Rattle.lid_design.specs.declared.Design.{Design}
 use Rattle.lid_digraph.specs.Graphs.{reads_at, IsOrder}
 use Rattle.lid_elab.specs.declared.driver.ColumnDriver.{ColumnDriver}
 use Rattle.lid_elab.specs.declared.driver.ColumnDriver.TheVariants.{Input, Latch, Cover as OfCover, Connection}
-use Rattle.lid_elab.specs.Covers.{cover_in}
+use Rattle.lid_elab.specs.Covers.{no_cover, cover_in}
 use Rattle.lid_elab.specs.Elaborations.{driver_reads}
 use Rattle.lid_flatten.specs.Parts.{driver_at, HasCover}
 use Rattle.lid_leads.specs.declared.origin.Origin.{Origin}
 use Rattle.lid_leads.specs.declared.origin.Origin.TheVariants.{Const, Port}
 use Rattle.lid_leads.specs.declared.step.Step.{Step}
 use Rattle.lid_leads.specs.declared.step.Step.TheVariants.{Ends, Passes, Stops}
-use Rattle.lid_leads.specs.Steps.{passes_on, cover_step, step_from, origin_at, origin_after, known_or, LeadsWithin, IsLedTo, IsOriginOf, AreLedSoFar, AreOrigins}
+use Rattle.lid_rules.specs.Buffers.{passes_on}
+use Rattle.lid_leads.specs.Steps.{cover_step, step_from, origin_at, origin_after, known_or, LeadsWithin, IsLedTo, IsOriginOf, AreLedSoFar, AreOrigins}
+
+-- where there is no cover, a column reads nothing and is the constant 1
+pub no_cover_step : (d : Design) (model cell : ℕ) (inputs : List ℕ) → no_cover ≡ cover_in d model cell → HasCover d (OfCover model cell inputs) → Ends (Const true) ≡ step_from d (OfCover model cell inputs)
+unfolding cover_value
+no_cover_step d model cell inputs none has = by inputs (ap (λ (c : Cover). c.inputs) none ∙ has.1)
+  where
+    by : (ks : List ℕ) → 0 ≡ length ks → Ends (Const true) ≡ cover_step (cover_in d model cell) ks
+    by [] e = ap (λ (c : Cover). Ends (Const (cover_value c []))) none
+    by (k ∷ ks) e = absurd (omega arith)
 
 -- the origin that a step ends at, or passes on
 ends_at : Step → Step → Type 0

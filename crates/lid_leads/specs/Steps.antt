@@ -1,5 +1,5 @@
 -- Numbers of a network that are led back along what drives them.
-use Rattle.std.specs.Prelude.{◌≡◌, ◌<◌, ◌⊎◌, ◌↔◌, ℕ, zero, suc, Bool, true, false, not, ◌&&◌, if◌then◌else◌, List, [], ◌∷◌, length, take, Option, Some, None, slice_index_or}
+use Rattle.std.specs.Prelude.{◌≡◌, ◌<◌, ◌⊎◌, ◌↔◌, ℕ, zero, suc, if◌then◌else◌, List, [], ◌∷◌, length, take, Option, Some, None, slice_index_or}
 use Rattle.lid_base.specs.Lists.{Among}
 use Rattle.lid_cover.specs.declared.Cover.{Cover}
 use Rattle.lid_cover.specs.Cover.{cover_value}
@@ -8,14 +8,11 @@ use Rattle.lid_elab.specs.declared.driver.ColumnDriver.{ColumnDriver}
 use Rattle.lid_elab.specs.declared.driver.ColumnDriver.TheVariants.{Input, Latch, Cover as OfCover, Connection}
 use Rattle.lid_elab.specs.Covers.{cover_in}
 use Rattle.lid_flatten.specs.Parts.{driver_at}
+use Rattle.lid_rules.specs.Buffers.{passes_on}
 use Rattle.lid_leads.specs.declared.origin.Origin.{Origin}
 use Rattle.lid_leads.specs.declared.origin.Origin.TheVariants.{Const, Port}
 use Rattle.lid_leads.specs.declared.step.Step.{Step}
 use Rattle.lid_leads.specs.declared.step.Step.TheVariants.{Ends, Passes, Stops}
-
--- whether a cover of one input has its value
-unfoldable pub passes_on : Cover → Bool
-passes_on cover = not (cover_value cover (false ∷ [])) && cover_value cover (true ∷ [])
 
 -- a constant ends, and a buffer passes its input on
 abbrev pub cover_step : Cover → List ℕ → Step

@@ -3,28 +3,23 @@
 ghost use Rattle.std.specs.Prelude.{◌≡◌, ◌<◌, length, map};
 ghost use Rattle.std.specs.List.{AllByRecursion};
 ghost use Rattle.lid_digraph.specs.Graphs.{IsOrder};
-ghost use Rattle.lid_elab.specs.Covers.{no_cover};
 ghost use Rattle.lid_elab.specs.Elaborations.{driver_reads};
 ghost use Rattle.lid_flatten.specs.Parts.{HasCover};
 ghost use Rattle.lid_leads.specs.Steps.{origin_at, origin_after, known_or, step_from, AreOrigins};
 
 use crate::origin::Origin;
 use crate::step::{Step, step_of};
-use lid_cover::Cover;
 use lid_design::Design;
 use lid_elab::ColumnDriver;
 
 /// Finds where each number of a network is led back to, in an order in which each number stands after
-/// those that it reads. Where an origin is known at first, it stays. `none` is a cover without inputs
-/// and rows. It takes no memory.
+/// those that it reads. Where an origin is known at first, it stays. It takes no memory.
 pub fn lead_back(
     design: &Design,
-    none: &Cover,
     drivers: &[ColumnDriver],
     order: &[u32],
     origins: &mut [Option<Origin>],
 )
-    requires none { none.now ≡ no_cover }
     requires size { length origins.old ≡ length drivers.now }
     requires ordered { IsOrder (map driver_reads drivers.now) order.now }
     requires covers { AllByRecursion (HasCover design.now) drivers.now }
@@ -33,7 +28,7 @@ pub fn lead_back(
 {
     for number in order {
         let k = *number as usize;
-        let origin = found_origin(design, none, &drivers[k], k, origins);
+        let origin = found_origin(design, &drivers[k], k, origins);
         origins[k] = origin;
     }
 }
@@ -41,34 +36,26 @@ pub fn lead_back(
 /// The origin of a number: the one that is known, and else that by the step back from its driver.
 fn found_origin(
     design: &Design,
-    none: &Cover,
     driver: &ColumnDriver,
     k: usize,
     origins: &[Option<Origin>],
 ) -> Option<Origin>
-    requires none { none.now ≡ no_cover }
     requires cover { HasCover design.now driver.now }
     requires there { k < length origins.now }
     ensures { result ≡ known_or (origin_at origins.now k) (origin_after origins.now (step_from design.now driver.now)) }
 {
     match origins[k] {
         Some(origin) => Some(origin),
-        None => next_origin(design, none, driver, origins),
+        None => next_origin(design, driver, origins),
     }
 }
 
 /// Where a number is led back to, by where the one that it passes on is.
-fn next_origin(
-    design: &Design,
-    none: &Cover,
-    driver: &ColumnDriver,
-    origins: &[Option<Origin>],
-) -> Option<Origin>
-    requires none { none.now ≡ no_cover }
+fn next_origin(design: &Design, driver: &ColumnDriver, origins: &[Option<Origin>]) -> Option<Origin>
     requires cover { HasCover design.now driver.now }
     ensures { result ≡ origin_after origins.now (step_from design.now driver.now) }
 {
-    match step_of(design, none, driver) {
+    match step_of(design, driver) {
         Step::Ends(origin) => Some(origin),
         Step::Passes(other) => origin_of(origins, other),
         Step::Stops => None,

@@ -2,14 +2,14 @@
 
 ghost use Rattle.std.specs.Prelude.{◌≡◌, [], ◌∷◌, length};
 ghost use Rattle.lid_cover.specs.Cover.{IsCover};
-ghost use Rattle.lid_elab.specs.Covers.{no_cover};
 ghost use Rattle.lid_flatten.specs.Parts.{HasCover};
-ghost use Rattle.lid_leads.specs.Steps.{passes_on, cover_step, step_from};
+ghost use Rattle.lid_leads.specs.Steps.{cover_step, step_from};
 
 use crate::origin::Origin;
 use lid_cover::{Cover, eval};
 use lid_design::Design;
 use lid_elab::{ColumnDriver, cover_at};
+use lid_rules::passes_on;
 
 /// One step back from a column.
 #[derive(Clone, Copy)]
@@ -22,10 +22,9 @@ pub enum Step {
     Stops,
 }
 
-/// The step back from what is driven so; `none` is a cover without inputs and rows.
-pub(crate) fn step_of(design: &Design, none: &Cover, driver: &ColumnDriver) -> Step
-    requires none { none.now ≡ no_cover }
-    requires cover { HasCover design.now driver.now }
+/// The step back from what is driven so.
+pub(crate) fn step_of(design: &Design, driver: &ColumnDriver) -> Step
+    requires { HasCover design.now driver.now }
     ensures { result ≡ step_from design.now driver.now }
 {
     match driver {
@@ -38,10 +37,10 @@ pub(crate) fn step_of(design: &Design, none: &Cover, driver: &ColumnDriver) -> S
             model,
             cell,
             inputs,
-        } => {
-            let cover = cover_at(design, *model, *cell).unwrap_or(none);
-            step_through(cover, inputs.as_slice())
-        }
+        } => match cover_at(design, *model, *cell) {
+            Some(cover) => step_through(cover, inputs.as_slice()),
+            None => Step::Ends(Origin::Const(true)),
+        },
         ColumnDriver::Connection(other) => Step::Passes(*other),
     }
 }
@@ -62,24 +61,12 @@ fn step_through(cover: &Cover, inputs: &[u32]) -> Step
 
 /// The step back through a cover of one input.
 fn step_past(cover: &Cover, input: u32) -> Step
-    requires rules { IsCover cover.now }
-    requires inputs { cover.now.inputs ≡ 1 }
+    requires { IsCover cover.now }
     ensures { result ≡ cover_step cover.now (input ∷ []) }
 {
-    if is_buffer(cover) {
+    if passes_on(cover) {
         Step::Passes(input)
     } else {
         Step::Stops
     }
-}
-
-/// Whether a cover of one input has its value.
-fn is_buffer(cover: &Cover) -> bool
-    requires rules { IsCover cover.now }
-    requires inputs { cover.now.inputs ≡ 1 }
-    ensures { result ≡ passes_on cover.now }
-{
-    let zero = eval(cover, 0);
-    let one = eval(cover, 1);
-    !zero && one
 }

@@ -15,13 +15,13 @@ use Rattle.lid_design.specs.Elaboration.{columns, model_nets}
 use Rattle.lid_design.specs.Models.{insts_of, IsReached, number_from}
 use Rattle.lid_wiring.specs.Judged.{IsJudged}
 use Rattle.lid_wiring.proofs.Clocking.{model_at_number}
-use Rattle.lid_strict.proofs.Accepted.{judged_of}
+use Rattle.lid_check.proofs.Sound.{judged_of}
 use Rattle.lid_parts.specs.PearlParts.{ArePortsApart}
 use Rattle.lid_parts.proofs.Beginning.{AreApart, apart_filter, inputs_apart, outputs_apart, nets_begin, columns_begin}
 use Rattle.lid_wiring.proofs.Limits.{few_columns}
 use Rattle.lid_elab.specs.Numbers.{columns_in, start_of}
 use Rattle.lid_elab.proofs.Numbering.{numbering}
-use Rattle.lid_net.proofs.Numbering.{stands_few}
+use Rattle.lid_check.proofs.Widths.{nets_few}
 use Rattle.lid_parts.proofs.Finding.{whole_pearls, inst_count, inst_pearl}
 use Rattle.std.proofs.lemmas.Bool.{cases_lt}
 use Rattle.lid_design.specs.Loops.{pearls}
@@ -36,7 +36,7 @@ use Rattle.lid_flaws.proofs.Numbered.{same_number}
 use Rattle.lid_check.specs.Acceptance.{IsAccepted}
 use Rattle.lid_check.specs.Networks.{IsNetwork}
 use Rattle.lid_check.specs.declared.network.Network.{Network}
-use Rattle.lid_check.proofs.Covered.{IsCovered, all_covered}
+use Rattle.lid_check.proofs.Flats.{ports_apart, covers}
 use Rattle.lid_leads.specs.declared.origin.Origin.{Origin}
 use Rattle.lid_system.specs.declared.Channel.{Channel}
 use Rattle.lid_system.specs.declared.InBit.{InBit}
@@ -92,13 +92,6 @@ pearls_apart d p q path a b = by (cases_lt 0 (length (insts_of d d.root)))
         let lq = less_q in
         omega arith
 
--- no data input of a pearl is an output of it
-pub ports_apart : (d : Design) → IsAccepted d → ArePortsApart d
-ports_apart d accepted p path net m here body given out =
-    let i = among_get (data_inputs d m) net given in
-    let o = among_get m.outputs net out in
-    accepted.outputs p o.0 i.0 m net net (record { path = path; pearl = here; model = body; out = o.1; given = i.1; walk = (0, (refl, ([], refl))) })
-
 -- the names of the ports of a pearl's model are apart
 model_apart : (d : Design) → IsWellFormed d → IsAccepted d → (path : List ℕ) (m : Model) (p : ℕ) → slice_get (pearls d) p ≡ Some path → model_at d path ≡ Some m → AreApart m.inputs × AreApart m.outputs
 model_apart d formed accepted path m p here body =
@@ -150,7 +143,7 @@ mixed d formed accepted c p i j a b =
     let y = shell_name d c p j b in
     let root : model_at d [] ≡ Some y.model = ap (model_at d) (sym x.1 ∙ y.at) ∙ y.body in
     let names : root_inputs d ≡ data_inputs d y.model = ap (λ (o : Option Model). option_map_or (data_inputs d) o []) (root_model d y.model root) in
-    ports_apart d accepted p y.path c.net y.model y.here y.body
+    ports_apart d accepted.outputs p y.path c.net y.model y.here y.body
     (subst (λ (ns : List (List ℕ)). Among c.net ns) names (get_among (root_inputs d) i c.net x.0))
     (get_among y.model.outputs j c.net y.name)
 
@@ -205,47 +198,22 @@ inputs_ports d formed accepted c j only_driver = by (model_at d c.path) refl
         near (inl (given, inl outer)) = absurd (outer.cell tt)
         near (inl (given, inr path)) = at_root m here path given
 
--- a reached model has no more nets than there are columns
-net_count_few : (d : Design) → IsWellFormed d → IsAccepted d → (k : ℕ) → IsReached d k → length (model_nets d k) ≤ 1048576
-net_count_few d formed accepted k reached =
-    let j = judged d formed accepted in
-    let stands = numbering d j reached.0 k reached.1 in
-    let begin = columns_begin d (length d.models) reached.0 k in
-    let few = stands_few (columns d) (columns_in (length d.models) d reached.0 k) (start_of d reached.0) stands in
-    let most = few_columns d j in
-    let a = ap length begin.1 in
-    let b = length-append (map (column reached.0) (model_nets d k)) begin.0 in
-    let e = length-map (model_nets d k) (column reached.0) in
-    omega arith
-
 -- a pearl has no more outputs than there are columns
 pub outputs_few : (d : Design) → IsWellFormed d → IsAccepted d → (count i : ℕ) (part : Part) → IsPartOf d count i part → length part.outs ≤ 1048576
 outputs_few d formed accepted count i part is =
     let at = then_some (number_from d d.root is.path) (slice_get d.models) is.model (sym (model_at_number d is.path) ∙ is.body) in
     let reached : IsReached d at.0 = (is.path, at.1) in
-    let begins = nets_begin d (judged d formed accepted) at.0 reached is.model at.2 (λ net. ports_apart d accepted i is.path net is.model is.here is.body) in
-    let few = net_count_few d formed accepted at.0 reached in
+    let begins = nets_begin d (judged d formed accepted) at.0 reached is.model at.2 (λ net. ports_apart d accepted.outputs i is.path net is.model is.here is.body) in
+    let few = nets_few d (judged d formed accepted) at.0 reached in
     let a = ap length begins.1 in
     let b = length-append (data_inputs d is.model) (is.model.outputs ++ begins.0) in
     let e = length-append is.model.outputs begins.0 in
     let f = sym (length-map part.outs (column_at d)) ∙ ap length is.outs ∙ length-map is.model.outputs (column is.path) in
     omega arith
 
-all_at : (P : ColumnDriver → Type 0) (ds : List ColumnDriver) → ((k : ℕ) → k < length ds → P (driver_at ds k)) → AllByRecursion P ds
-all_at P [] h = tt
-all_at P (x ∷ ds) h = (h 0 (omega arith), all_at P ds (λ k less. h (suc k) (omega arith)))
-
-covered_by : (d : Design) (f : ℕ → Column) (x : ColumnDriver) → IsCovered (map_driver f (shown_driver d x)) → HasCover d x
-covered_by d f (Input place) h = tt
-covered_by d f (Latch b a) h = tt
-covered_by d f (OfCover m c ks) h = (h.0, h.1 ∙ length-map ks f)
-covered_by d f (Connection a) h = tt
-
 -- the covers of drivers meet their rules
 pub all_cover : (d : Design) (n : Network) → IsWellFormed d → IsNetwork d n → AllByRecursion (HasCover d) n.columns.drivers
-all_cover d n formed is = all_at (HasCover d) n.columns.drivers (λ k less.
-    covered_by d (column_at d) (driver_at n.columns.drivers k)
-    (subst (AllByRecursion IsCovered) (only d n is k less) (all_covered d formed (column_at d k))).0)
+all_cover d n formed is = covers d n.columns.drivers n.columns.starts is.elaborated formed
 
 pub parts_below : (d : Design) (parts : List Part) (n : ℕ) → ArePartsOf d (length (columns d)) parts → n ≡ length (columns d) → AllByRecursion (λ part. AllByRecursion (λ k. k < n) (part_outs part)) parts
 parts_below d parts n are size = all_by (λ part. AllByRecursion (λ k. k < n) (part_outs part)) parts (λ part among.

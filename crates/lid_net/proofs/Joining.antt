@@ -358,7 +358,7 @@ module _ (d : Design) (parts : List Part) (origins : List (Option Origin)) (chan
         led = subst (λ (cs : List Column). AreLed d s cols cs ins) (q.ins ∙ sym q.inputs ∙ sym (map_same (cols (suc at.j)) q.col at.part.pearl.flat.ins pick.col)) (all_led i at.part.ins ins q.ins_below at.bits);
       }))
 
-  pub system_is : IsSystemOf d s
+  system_is : IsSystemOf d s
   system_is = record {
     nodes = nodes_long;
     columns = cols;
@@ -451,7 +451,7 @@ module _ (d : Design) (parts : List Part) (origins : List (Option Origin)) (chan
             reads = bits_read s origins i made.numbers made.are.ins bits;
           })
 
-  pub formed : IsWellFormed s
+  formed : IsWellFormed s
   formed =
       let long = nodes_long in
       record {
@@ -462,3 +462,10 @@ module _ (d : Design) (parts : List Part) (origins : List (Option Origin)) (chan
         each_channel = all_by (IsChannel s) channels channel_is;
         ascending = channels_rise channels (subst AreAscending (sym cut.carry) leads.ascending) cut.cut;
       }
+
+-- what is joined from the channels of some reads is the system of the design, and well formed
+pub joined : (d : Design) (parts : List Part) (origins : List (Option Origin)) (channels seen : List Channel) (nodes : List Node) (reads read : List Read) → ArePartsOf d (length (columns d)) parts → AreLeads d origins reads → read ≡ reads → AreChannelsOf read channels → seen ≡ channels → AreNodesOf d parts origins seen nodes → length channels ≤ 16384 → IsSystemOf d (record { nodes = nodes; channels = channels }) × IsWellFormed (record { nodes = nodes; channels = channels })
+joined d parts origins channels seen nodes reads read are leads same cut shown made few =
+    let cuts = subst (λ (rs : List Read). AreChannelsOf rs channels) same cut in
+    let makes = subst (λ (cs : List Channel). AreNodesOf d parts origins cs nodes) shown made in
+    (system_is d parts origins channels nodes reads are leads cuts makes few are.few, formed d parts origins channels nodes reads are leads cuts makes few are.few)

@@ -18,7 +18,7 @@ use Rattle.lid_elab.specs.declared.driver.ColumnDriver.TheVariants.{Input, Latch
 use Rattle.lid_elab.specs.Covers.{cover_in}
 use Rattle.lid_elab.specs.Elaborations.{shown_driver, map_driver, column_at, IsElaborated, IsDrivenBy}
 use Rattle.lid_flatten.specs.Parts.{driver_at, HasCover}
-use Rattle.lid_flatten.specs.Standing.{PassesOn}
+use Rattle.lid_rules.specs.Buffers.{passes_on}
 use Rattle.lid_check.specs.Networks.{IsNetwork}
 use Rattle.lid_check.specs.declared.network.Network.{Network}
 use Rattle.lid_agree.specs.Agreement.{IsPassedOn}
@@ -27,7 +27,8 @@ use Rattle.lid_leads.specs.declared.origin.Origin.{Origin}
 use Rattle.lid_leads.specs.declared.origin.Origin.TheVariants.{Const, Port}
 use Rattle.lid_leads.specs.declared.step.Step.{Step}
 use Rattle.lid_leads.specs.declared.step.Step.TheVariants.{Ends, Passes, Stops}
-use Rattle.lid_leads.specs.Steps.{passes_on, step_from, origin_at, LeadsWithin, IsLedTo, AreOrigins}
+use Rattle.lid_leads.specs.Steps.{step_from, origin_at, LeadsWithin, IsLedTo, AreOrigins}
+use Rattle.lid_check.proofs.Flats.{driven}
 use Rattle.lid_net.specs.Graphs.{ports_of, IsPort, IsNoPort, LeadsIn, LeadsTo}
 use Rattle.lid_net.specs.Systems.{AreColumnsLed}
 
@@ -39,18 +40,6 @@ shown_at : (d : Design) (ds : List ColumnDriver) (k : ℕ) (s : Driver ℕ) → 
 shown_at d [] k s less here = absurd (omega arith)
 shown_at d (x ∷ ds) zero s less here = let e : Some (shown_driver d x) ≡ Some s = here in cc
 shown_at d (x ∷ ds) (suc k) s less here = shown_at d ds k s (omega arith) here
-
-passing : (cover : Cover) → passes_on cover ≡ true → (cover_value cover (false ∷ []) ≡ false) × (cover_value cover (true ∷ []) ≡ true)
-unfolding passes_on
-passing cover e = by (cover_value cover (false ∷ [])) (cover_value cover (true ∷ [])) e
-  where
-    by : (a b : Bool) → not a && b ≡ true → (a ≡ false) × (b ≡ true)
-    by true b h = absurd (let f : false ≡ true = h in cc)
-    by false b h = (refl, h)
-
-does_pass : (cover : Cover) → PassesOn cover → passes_on cover ≡ true
-unfolding passes_on
-does_pass cover h = ap (λ (a : Bool). not a && cover_value cover (true ∷ [])) h.1 ∙ h.2
 
 -- what a port of the source is
 source_port_is : (d : Design) (c : Column) (place : ℕ) → IsPort d c 0 place → (place < length (root_inputs d)) × (c ≡ column [] (get_or (root_inputs d) place []))
@@ -91,7 +80,7 @@ module _ (d : Design) (n : Network) (is : IsNetwork d n) where
   driven_of k less = let whole = is.elaborated.whole in let l = long in is.elaborated.each k (column_at d k) (slice_get-get_or (columns d) k (column [] []) (omega arith))
 
   pub only : (k : ℕ) → k < length n.columns.drivers → drivers d (column_at d k) ≡ map_driver (column_at d) (shown_driver d (driver_at n.columns.drivers k)) ∷ []
-  only k less = let by = driven_of k less in by.only ∙ ap (λ (s : Driver ℕ). map_driver (column_at d) s ∷ []) (shown_at d n.columns.drivers k by.driver less by.here)
+  only = driven d n.columns.drivers n.columns.starts is.elaborated
 
 module _ (d : Design) (n : Network) (is : IsNetwork d n) (covers : AllByRecursion (HasCover d) n.columns.drivers) (marks : List (Option Origin)) (right : AreShellMarks d (length n.columns.drivers) marks) (once : ArePortsOnce d) (inputs : AreInputsPorts d) where
   abbrev ds : List ColumnDriver
@@ -176,12 +165,10 @@ module _ (d : Design) (n : Network) (is : IsNetwork d n) (covers : AllByRecursio
           chosen : (v : Bool) → passes_on (cover_in d m c) ≡ v → cond v (Passes b) Stops ≡ Passes a → Passed k a
           chosen true p g =
               let same : b ≡ a = (let i : Passes b ≡ Passes a = g in cc) in
-              let bits = passing (cover_in d m c) p in
-              let has = subst (HasCover d) e (cover_here k less) in
               subst (Passed k) same (record {
                 within = subst (λ (y : ℕ). y < length ds) (sym same) (reads (OfCover m c (b ∷ [])) e (subst (λ (y : ℕ). Among y (b ∷ [])) same (inl refl)));
                 no = λ place i. absurd (let j : OfCover m c (b ∷ []) ≡ Input place = sym e ∙ i in cc);
-                on = inr (cover_in d m c, (has.1, bits.0, bits.1), subst (λ (rs : List (Driver Column)). Among {A = Driver Column} (from_cover (cover_in d m c) (column_at d b ∷ [])) rs) (sym (only d n is k less ∙ ap (λ (x : ColumnDriver). map_driver (column_at d) (shown_driver d x) ∷ []) e)) (inl refl));
+                on = inr (cover_in d m c, p, subst (λ (rs : List (Driver Column)). Among {A = Driver Column} (from_cover (cover_in d m c) (column_at d b ∷ [])) rs) (sym (only d n is k less ∙ ap (λ (x : ColumnDriver). map_driver (column_at d) (shown_driver d x) ∷ []) e)) (inl refl));
               })
           chosen false p g = absurd (let i : Stops ≡ Passes a = g in cc)
       by (OfCover m c (b ∷ f ∷ more)) e h = absurd (let g : Stops ≡ Passes a = h in cc)
@@ -273,7 +260,7 @@ module _ (d : Design) (n : Network) (is : IsNetwork d n) (covers : AllByRecursio
           let list : a ∷ [] ≡ map (column_at d) ks = cc in
           let one = one_left a ks list in
           let whole : driver_at ds k ≡ OfCover m c (one.0 ∷ []) = e ∙ ap (OfCover m c) one.1 in
-          let true_of : passes_on (cover_in d m c) ≡ true = ap passes_on same ∙ does_pass cover passes in
+          let true_of : passes_on (cover_in d m c) ≡ true = ap passes_on same ∙ passes in
           record {
             j = one.0;
             step = ap (step_from d) whole ∙ ap (λ (v : Bool). cond v (Passes one.0) Stops) true_of;

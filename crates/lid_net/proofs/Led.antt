@@ -23,15 +23,15 @@ use Rattle.lid_design.specs.Walks.{Feeds, HasNoWalk, WalksEnd}
 use Rattle.lid_design.specs.WellFormed.{IsWellFormed, IsWellFormedCell}
 use Rattle.lid_elab.specs.Elaborations.{shown_driver, map_driver, column_at}
 use Rattle.lid_flatten.specs.Parts.{driver_at}
-use Rattle.lid_flatten.specs.Standing.{PassesOn}
+use Rattle.lid_rules.specs.Buffers.{passes_on}
 use Rattle.lid_check.specs.Acceptance.{IsAccepted}
 use Rattle.lid_check.specs.Networks.{IsNetwork}
 use Rattle.lid_check.specs.declared.network.Network.{Network}
 use Rattle.lid_flaws.proofs.Numbered.{walk_up}
 use Rattle.lid_rules.specs.Conditions.{unknown_formal, formal_twice, unbound, two_drivers, undriven, clock_use, two_clocks, mixed_edges, root_logic, limits}
 use Rattle.lid_rules.specs.Acceptance.{fault_after_recursion}
-use Rattle.lid_strict.proofs.Accepted.{column_of}
-use Rattle.lid_strict.proofs.Descent.{walks_end}
+use Rattle.lid_elab.proofs.Every.{driven_column}
+use Rattle.lid_check.proofs.Descent.{walks_end}
 use Rattle.lid_wiring.proofs.Names.{to_among, from_among}
 use Rattle.lid_wiring.proofs.Passing.{or_none, sound_model}
 use Rattle.lid_parts.proofs.Finding.{whole_pearls, inst_count, inst_pearl}
@@ -41,7 +41,8 @@ use Rattle.lid_net.specs.Graphs.{outputs_at, inputs_at, ports_of, inputs_of, IsP
 use Rattle.lid_net.proofs.Joining.{got_here}
 use Rattle.lid_net.proofs.Leading.{only, one_of, source_driven}
 use Rattle.lid_net.proofs.Rooted.{RootShape, given, constant, buffer, output, root_shape, root_plain}
-use Rattle.lid_net.proofs.Facts.{judged, inputs_ports, ports_apart, source_name, shell_name}
+use Rattle.lid_check.proofs.Flats.{ports_apart}
+use Rattle.lid_net.proofs.Facts.{judged, inputs_ports, source_name, shell_name}
 
 logic_passes : (d : Design) (ks : List ℕ) → fault_after_recursion d ks ≡ None → root_logic d ≡ None
 unfolding fault_after_recursion
@@ -156,7 +157,7 @@ module _ (d : Design) (n : Network) (formed : IsWellFormed d) (accepted : IsAcce
         )
 
     ends : WalksEnd (drivers d) (suc (length (columns d)))
-    ends = walks_end (drivers d) (λ c loop. accepted.loops c loop) (columns d) (column_of d (judged d formed accepted))
+    ends = walks_end (drivers d) (λ c loop. accepted.loops c loop) (columns d) (driven_column d (judged d formed accepted))
 
     from_root : (k : ℕ) (net : List ℕ) → k < count → column_at d k ≡ column [] net → (o : Origin) × LeadsTo d (column_at d k) o
     from_root k net less e = root_led (suc (length (columns d))) k net less e (ends (column_at d k))
@@ -196,7 +197,7 @@ module _ (d : Design) (n : Network) (formed : IsWellFormed d) (accepted : IsAcce
     shell_portless i sub net body among (suc p) place h =
         let x = shell_name d (column (i ∷ []) net) p place h in
         let model : sub ≡ x.model = (let e : Some sub ≡ Some x.model = sym body ∙ ap (model_at d) x.at ∙ x.body in cc) in
-        ports_apart d accepted p x.path net x.model x.here x.body (subst (λ (m : Model). Among net (data_inputs d m)) model among) (get_among x.model.outputs place net x.name)
+        ports_apart d accepted.outputs p x.path net x.model x.here x.body (subst (λ (m : Model). Among net (data_inputs d m)) model among) (get_among x.model.outputs place net x.name)
 
     from_shell : (i k : ℕ) (sub : Model) (net : List ℕ) → k < count → column_at d k ≡ column (i ∷ []) net → model_at d (i ∷ []) ≡ Some sub → Among net (data_inputs d sub) → (o : Origin) × LeadsTo d (column_at d k) o
     from_shell i k sub net less e body among =

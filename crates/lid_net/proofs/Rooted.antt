@@ -19,7 +19,8 @@ use Rattle.lid_design.specs.Columns.{Column, column, is_among, model_named, inst
 use Rattle.lid_design.specs.Models.{insts_of, is_buffer, is_constant, cell_out}
 use Rattle.lid_design.specs.Loops.{pearls}
 use Rattle.lid_design.specs.WellFormed.{IsWellFormed, IsWellFormedCell}
-use Rattle.lid_flatten.specs.Standing.{PassesOn}
+use Rattle.lid_rules.specs.Buffers.{passes_on}
+use Rattle.lid_rules.proofs.Buffers.{buffer_passes}
 use Rattle.lid_rules.specs.declared.fault.CheckFault.{CheckFault}
 use Rattle.lid_rules.specs.declared.fault.CheckFault.TheVariants.{RootLogic}
 use Rattle.lid_rules.specs.Conditions.{root_logic, logic_in}
@@ -32,17 +33,13 @@ use Rattle.lid_net.specs.Graphs.{outputs_at, ports_of, IsPort}
 pub data RootShape (d : Design) (s : Driver Column) : Type 0 where
   given : (j : ℕ) → s ≡ from_input j → RootShape d s
   constant : (cover : Cover) → s ≡ from_cover cover [] → RootShape d s
-  buffer : (cover : Cover) (a : List ℕ) → s ≡ from_cover cover (column [] a ∷ []) → PassesOn cover → RootShape d s
+  buffer : (cover : Cover) (a : List ℕ) → s ≡ from_cover cover (column [] a ∷ []) → passes_on cover ≡ true → RootShape d s
   output : (i place : ℕ) (formal : List ℕ) → s ≡ from_connection (column (i ∷ []) formal) → IsPort d (column (i ∷ []) formal) (suc i) place → RootShape d s
 
 chosen : {A : Type 0} (b : Bool) (x y : A) → Among x (cond b (y ∷ []) []) → (b ≡ true) × (x ≡ y)
 chosen true x y (inl e) = (refl, e)
 chosen true x y (inr none) = absurd none
 chosen false x y none = absurd none
-
-one_bit : (a b : Bool) → not a && b ≡ true → (a ≡ false) × (b ≡ true)
-one_bit true b h = absurd (let f : false ≡ true = h in cc)
-one_bit false b h = (refl, h)
 
 module _ (d : Design) (m : Model) (root : model_at d [] ≡ Some m) (here : slice_get d.models d.root ≡ Some m) (some : 0 < length m.insts) (formed : AllByRecursion IsWellFormedCell m.cells) (plain : (cell : Cell) → Among cell m.cells → (is_buffer cell || is_constant cell) ≡ true) (net : List ℕ) (s : Driver Column) where
   by_place : (k : ℕ) (names : List (List ℕ)) → Among s (places_of net k names) → RootShape d s
@@ -54,16 +51,11 @@ module _ (d : Design) (m : Model) (root : model_at d [] ≡ Some m) (here : slic
 
   by_cover : (inputs : List (List ℕ)) (out : List ℕ) (cover : Cover) → cover.inputs ≡ length inputs → (is_buffer (Names inputs out cover) || is_constant (Names inputs out cover)) ≡ true → s ≡ from_cover cover (map (column []) inputs) → RootShape d s
   by_cover [] out cover long ok is = constant cover is
-  by_cover (a ∷ []) out cover long ok is =
-      let bits = one_bit (cover_value cover (false ∷ [])) (cover_value cover (true ∷ [])) (no_constant ok) in
-      buffer cover a is (long, bits.0, bits.1)
+  by_cover (a ∷ []) out cover long ok is = buffer cover a is (buffer_passes (a ∷ []) out cover long ∙ no_constant (is_buffer (Names (a ∷ []) out cover)) ok)
     where
-      no_constant : (is_buffer (Names (a ∷ []) out cover) || is_constant (Names (a ∷ []) out cover)) ≡ true → (not (cover_value cover (false ∷ [])) && cover_value cover (true ∷ [])) ≡ true
-      no_constant h = by (not (cover_value cover (false ∷ [])) && cover_value cover (true ∷ [])) h
-        where
-          by : (b : Bool) → ((true && b) || false) ≡ true → b ≡ true
-          by true e = refl
-          by false e = absurd (let f : false ≡ true = e in cc)
+      no_constant : (b : Bool) → (b || false) ≡ true → b ≡ true
+      no_constant true e = refl
+      no_constant false e = absurd (let f : false ≡ true = e in cc)
   by_cover (a ∷ b ∷ more) out cover long ok is = absurd (never ok)
     where
       wide : eqb (suc (suc (length more))) 1 ≡ false

@@ -1,12 +1,13 @@
 -- Pearls of a design with the numbers of the columns of their inputs and outputs.
 use Rattle.std.specs.Prelude.{◌≡◌, ◌<◌, ◌≤◌, ◌+◌, ℕ, List, length, map, slice_get, Some}
-use Rattle.std.specs.List.{AllByRecursion}
+use Rattle.std.specs.List.{AllByRecursion, range_with_len}
 use Rattle.lid_design.specs.declared.Design.{Design}
 use Rattle.lid_design.specs.declared.Model.{Model}
 use Rattle.lid_design.specs.Columns.{Column, column, model_at, data_inputs, drivers}
 use Rattle.lid_design.specs.Flat.{IsFlat, latch_init}
 use Rattle.lid_design.specs.Loops.{pearls}
 use Rattle.lid_elab.specs.Elaborations.{column_at}
+use Rattle.lid_flatten.specs.declared.part.Part.{Part as Numbers}
 use Rattle.lid_flatten.specs.Standing.{StandsForAll}
 use Rattle.lid_design.specs.declared.Flat.{Flat}
 use Rattle.lid_pearl.specs.Pearls.{IsReordered}
@@ -35,10 +36,10 @@ pub record ArePartsOf (d : Design) (count : ℕ) (parts : List Part) : Type 0 wh
   pub few : length (pearls d) ≤ 4096
   pub each : (i : ℕ) (part : Part) → slice_get parts i ≡ Some part → IsPartOf d count i part
 
--- the part of a flat part whose net k is number `start + k`
-pub record IsNumberedFrom (start : ℕ) (f : Flat) (part : Part) : Type 0 where
-  pub ins : part.ins ≡ map (λ k. start + k) f.ins
-  pub outs : part.outs ≡ map (λ k. start + k) f.outs
+-- the part of a flat part whose columns have these numbers
+pub record IsNumbered (numbers : Numbers) (f : Flat) (part : Part) : Type 0 where
+  pub ins : part.ins ≡ range_with_len numbers.start numbers.inputs
+  pub outs : part.outs ≡ range_with_len (numbers.start + numbers.inputs) numbers.outputs
   pub pearl : IsReordered f part.pearl.flat
   pub rules : IsFlat part.pearl.flat
   pub begins : part.pearl.state ≡ map latch_init f.latches

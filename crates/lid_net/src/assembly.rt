@@ -20,7 +20,6 @@ use crate::pearls::collect_parts;
 use lid_base::Items;
 use lid_channels::{NetFault, Read, cut_channels, name_bits, put_in_order};
 use lid_check::Checked;
-use lid_cover::Cover;
 use lid_leads::{Origin, lead_back};
 use lid_system::{Channel, Node, System};
 use std::alloc::{AllocError, Global};
@@ -95,12 +94,12 @@ fn find_origins(
     ensures { IfOk result (λ origins. AreColumnsLed checked.now origins.items) }
 {
     let mut origins = Vec::from_elem(alloc, None, checked.network().columns.drivers.len())?;
-    lead_columns(alloc, checked, parts, origins.as_mut_slice());
+    lead_columns(checked, parts, origins.as_mut_slice());
     Ok(origins)
 }
 
 /// Leads each column back, where none has an origin yet.
-fn lead_columns(alloc: Global, checked: &Checked, parts: &[Part], origins: &mut [Option<Origin>])
+fn lead_columns(checked: &Checked, parts: &[Part], origins: &mut [Option<Origin>])
     requires parts { ArePartsOf checked.now (length (columns checked.now)) parts.now }
     requires size { length origins.old ≡ length (columns checked.now) }
     requires none { (k : ℕ) → origin_at origins.old k ≡ None }
@@ -109,15 +108,9 @@ fn lead_columns(alloc: Global, checked: &Checked, parts: &[Part], origins: &mut 
 {
     let network = checked.network();
     let design = checked.design();
-    let none = Cover {
-        inputs: 0,
-        on: false,
-        cubes: Items::from_vec(Vec::new(alloc)),
-    };
     mark_ports(parts, origins);
     lead_back(
         design,
-        &none,
         network.columns.drivers.as_slice(),
         network.order.as_slice(),
         origins,

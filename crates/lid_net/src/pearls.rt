@@ -1,19 +1,16 @@
 //! The pearls of a design, with the numbers of the columns of their inputs and outputs.
 
-ghost use Rattle.std.specs.Prelude.{◌≡◌, ◌+◌, ◌<◌, ◌≤◌, length, map, IfOk};
-ghost use Rattle.std.specs.List.{AllByRecursion};
+ghost use Rattle.std.specs.Prelude.{◌≡◌, ◌+◌, ◌<◌, ◌≤◌, length, IfOk};
 ghost use Rattle.lid_design.specs.Flat.{IsFlat};
 ghost use Rattle.lid_design.specs.Loops.{pearls};
 ghost use Rattle.lid_design.specs.Elaboration.{columns};
-ghost use Rattle.lid_check.specs.Blocks.{IsBlock};
-ghost use Rattle.lid_check.specs.Flats.{IsFlatOf};
-ghost use Rattle.lid_net.specs.PearlParts.{IsPartOf, ArePartsOf, IsNumberedFrom};
+ghost use Rattle.lid_net.specs.PearlParts.{IsPartOf, ArePartsOf, IsNumbered};
 
 use crate::part::Part;
 use lid_agree::pearls_stand_for_columns;
-use lid_base::Items;
 use lid_check::Checked;
 use lid_design::Flat;
+use lid_flatten::numbers_from;
 use lid_pearl::Pearl;
 use std::alloc::{AllocError, Global};
 
@@ -36,31 +33,21 @@ fn part_of(alloc: Global, checked: &Checked, pearl: u32) -> Result<Part, AllocEr
 {
     pearls_stand_for_columns();
     let _ = checked.network();
-    let start = checked.block(pearl).start;
+    let numbers = checked.part(pearl);
     let flat = checked.flat(alloc, pearl)?;
-    number_flat(alloc, &flat, start)
+    number_flat(alloc, &flat, numbers)
 }
 
-/// The part of a flat part whose first net has this number.
-fn number_flat(alloc: Global, flat: &Flat, start: u32) -> Result<Part, AllocError>
+/// The part of a flat part whose columns have these numbers.
+fn number_flat(alloc: Global, flat: &Flat, numbers: lid_check::Part) -> Result<Part, AllocError>
     requires rules { IsFlat flat.now }
-    requires few { start + flat.now.nets ≤ 1048576 }
-    ensures { IfOk result (IsNumberedFrom start flat.now) }
+    requires ports { numbers.inputs + numbers.outputs ≤ numbers.nets }
+    requires few { numbers.start + numbers.nets ≤ 1048576 }
+    ensures { IfOk result (IsNumbered numbers flat.now) }
 {
-    let ins = shift(alloc, flat.ins.as_slice(), start)?;
-    let outs = shift(alloc, flat.outs.as_slice(), start)?;
+    let outputs = numbers.start + numbers.inputs;
+    let ins = numbers_from(alloc, numbers.start, numbers.inputs)?;
+    let outs = numbers_from(alloc, outputs, numbers.outputs)?;
     let pearl = Pearl::make(alloc, flat)?;
     Ok(Part { pearl, ins, outs })
-}
-
-/// Numbers that are greater by this.
-fn shift(alloc: Global, numbers: &[u32], by: u32) -> Result<Items<u32>, AllocError>
-    requires { AllByRecursion (λ k. by + k ≤ 1048576) numbers.now }
-    ensures { IfOk result (λ shifted. shifted ≡ map (λ k. by + k) numbers.now) }
-{
-    let mut shifted = Vec::with_capacity(alloc, numbers.len())?;
-    for number in numbers {
-        shifted.push(by + *number)?;
-    }
-    Ok(Items::from_vec(shifted))
 }

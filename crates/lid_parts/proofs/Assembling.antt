@@ -1,8 +1,8 @@
 -- The columns of a pearl as a part of the network.
-use Rattle.std.proofs.Common.{◌≡◌, ◌⊎◌, ℕ, zero, suc, ◌+◌, ◌<◌, ◌≤◌, List, [], ◌∷◌, ◌++◌, length, map, get_or, Option, Some, None, option_and_then, option_map, slice_get, inl, inr, refl, sym, ◌∙◌, ap, subst, arith}
+use Rattle.std.proofs.Common.{◌≡◌, ◌⊎◌, ℕ, ◌+◌, ◌<◌, ◌≤◌, List, [], ◌∷◌, ◌++◌, length, map, Option, Some, option_and_then, option_map, slice_get, inl, inr, refl, sym, ◌∙◌, ap, subst, arith}
 use Rattle.std.specs.Option.{option_map_or}
 use Rattle.std.specs.List.{AllByRecursion}
-use Rattle.std.proofs.lemmas.List.{length-map, length-append}
+use Rattle.std.proofs.lemmas.List.{length-map}
 use Rattle.std.proofs.lemmas.Option.{slice_get_within, slice_get-get_or, slice_get-map}
 use Rattle.lid_base.specs.Lists.{Among}
 use Rattle.lid_base.proofs.Lists.{among_left, among_append, among_map, get_among, among_get, all_among}
@@ -31,7 +31,8 @@ use Rattle.lid_flatten.proofs.Lists.{all_of_each}
 use Rattle.lid_flatten.proofs.Rules.{numbers_of}
 use Rattle.lid_parts.specs.PearlParts.{outputs_of, ArePortsApart, IsPearlPart}
 use Rattle.lid_parts.proofs.Inside.{column_inside, number_inside}
-use Rattle.lid_parts.proofs.Reading.{IsLocal, IsOuter, IsNear, driver_near}
+use Rattle.lid_parts.proofs.Reading.{IsOuter, IsNear, driver_near}
+use Rattle.lid_parts.proofs.Columns.{stands_few}
 use Rattle.lid_parts.proofs.Beginning.{nets_begin, ports_begin}
 
 numbers_read : (d : Design) (s : ColumnDriver) (a : ℕ) → Among a (numbers_of s) → Among a (read_now (shown_driver d s) ++ read_before (shown_driver d s))
@@ -91,22 +92,20 @@ module _ (d : Design) (judged : IsJudged d) (drivers_of : List ColumnDriver) (st
       let nets = nets_begin d judged k reached m model.1 (λ net here there. apart p path net m pearl body here there) in
       ports_begin d (length d.models) path k (data_inputs d m) m.outputs nets.0 nets.1
 
+  -- the outputs stand behind the data inputs
+  outs_stand : StandsAt own (length (map (column path) (data_inputs d m))) (map (column path) m.outputs)
+  outs_stand = record { before = map (column path) (data_inputs d m); after = begin.0; parts = begin.1; long = refl }
+
   pub ports_few : part.inputs + part.outputs ≤ part.nets
   ports_few =
-      let whole : length own ≡ length (data_inputs d m) + (length m.outputs + length begin.0) =
-      ap length begin.1
-      ∙ length-append (map (column path) (data_inputs d m)) (map (column path) m.outputs ++ begin.0)
-      ∙ ap (λ (n : ℕ). n + length (map (column path) m.outputs ++ begin.0)) (length-map (data_inputs d m) (column path))
-      ∙ ap (λ (n : ℕ). length (data_inputs d m) + n) (length-append (map (column path) m.outputs) begin.0 ∙ ap (λ (n : ℕ). n + length begin.0) (length-map m.outputs (column path))) in
-      let ins : part.inputs ≡ length (data_inputs d m) = inputs ∙ ap length data_are in
-      let outs : part.outputs ≡ length m.outputs = outputs ∙ ap length outputs_are in
+      let few = stands_few own (length (map (column path) (data_inputs d m))) (map (column path) m.outputs) outs_stand in
+      let ins : part.inputs ≡ length (map (column path) (data_inputs d m)) = inputs ∙ ap length data_are ∙ sym (length-map (data_inputs d m) (column path)) in
+      let outs : part.outputs ≡ length (map (column path) m.outputs) = outputs ∙ ap length outputs_are ∙ sym (length-map m.outputs (column path)) in
       omega arith
 
   there : part.start + part.nets ≤ length drivers_of
   there =
-      let first = stands.long in
-      let whole : length (columns d) ≡ length stands.before + (length own + length stands.after) =
-      ap length stands.parts ∙ length-append stands.before (own ++ stands.after) ∙ ap (λ (n : ℕ). length stands.before + n) (length-append own stands.after) in
+      let few = stands_few (columns d) part.start own stands in
       let all = is.whole in
       let drivers_long = length-map drivers_of (shown_driver d) in
       omega arith
@@ -179,17 +178,13 @@ module _ (d : Design) (judged : IsJudged d) (drivers_of : List ColumnDriver) (st
         let model_same : around.0 ≡ m = cc in
         let given = among_get (map (column path) (data_inputs d m)) (column path c.net) (among_map (column path) c.net (data_inputs d m) (subst (λ (x : Model). Among c.net (data_inputs d x)) model_same among)) in
         let few = slice_get_within (map (column path) (data_inputs d m)) given.0 (column path c.net) given.1 in
-        let first : slice_get own given.0 ≡ Some (column path c.net) = ap (λ (cs : List Column). slice_get cs given.0) begin.1 ∙ get_left (map (column path) (data_inputs d m)) (map (column path) m.outputs ++ begin.0) given.0 (column path c.net) given.1 in
+        let ports : StandsAt own 0 (map (column path) (data_inputs d m)) = record { before = []; after = map (column path) m.outputs ++ begin.0; parts = begin.1; long = refl } in
+        let first : slice_get own given.0 ≡ Some (column path c.net) = (let e : given.0 ≡ 0 + given.0 = omega arith in ap (slice_get own) e) ∙ stands_get own 0 (map (column path) (data_inputs d m)) ports given.0 (column path c.net) given.1 in
         let number = stands_get (columns d) part.start own stands given.0 (column path c.net) first in
         let is_c : column path c.net ≡ c = ap (λ (q : List ℕ). column q c.net) (sym same) in
         let equal = is.once (part.start + given.0) (part.start + n) c (number ∙ ap Some is_c) here in
         let many : part.inputs ≡ length (map (column path) (data_inputs d m)) = inputs ∙ ap length data_are ∙ sym (length-map (data_inputs d m) (column path)) in
         omega arith
-      where
-        get_left : {A : Type 0} (xs ys : List A) (i : ℕ) (x : A) → slice_get xs i ≡ Some x → slice_get (xs ++ ys) i ≡ Some x
-        get_left [] ys i x none = absurd (let e : None ≡ Some x = none in cc)
-        get_left (y ∷ xs) ys zero x at = at
-        get_left (y ∷ xs) ys (suc i) x at = get_left xs ys i x at
 
     abbrev StaysInside : Type 0
     StaysInside = (IsInput r → ⊥) × ((a : Column) → Among a (read_now r ++ read_before r) → IsInside path a.path)
@@ -224,19 +219,16 @@ module _ (d : Design) (judged : IsJudged d) (drivers_of : List ColumnDriver) (st
             let column_here = slice_get-get_or (columns d) a (column [] []) (omega arith) in
             in_part (omega arith) a (column_at d a) column_here (all_inside.1 (column_at d a) (read_mapped (column_at d) (shown_driver d s) a read))
 
-  pub is_pearl_part : IsPearlPart d drivers_of p part
-  is_pearl_part = record {
-    path = path;
-    here = pearl;
-    number = k;
-    leads = leads;
-    model = m;
-    body = body;
-    stands = stands;
-    long = long;
-    more = begin.0;
-    begins = begin.1;
-    inputs = inputs ∙ ap length data_are;
-    outputs = outputs ∙ ap length outputs_are;
-    inner = record { ports = ports_few; there = there; inner = stays };
-  }
+  pub is_pearl_part : IsPearlPart d p part × IsPart drivers_of part
+  is_pearl_part = (
+    record {
+      of = record { path = path; here = pearl; number = k; leads = leads; model = m; body = body };
+      stands = stands;
+      long = long;
+      more = begin.0;
+      begins = begin.1;
+      inputs = inputs ∙ ap length data_are;
+      outputs = outputs ∙ ap length outputs_are;
+    },
+    record { ports = ports_few; there = there; inner = stays },
+  )

@@ -1,5 +1,5 @@
 -- The columns of a pearl begin with those of its data inputs and of its outputs.
-use Rattle.std.proofs.Common.{◌≡◌, ◌⊎◌, ℕ, zero, suc, ◌+◌, ◌<◌, ◌≤◌, ◌==◌, Bool, true, false, not, ◌&&◌, ◌||◌, cond, List, [], ◌∷◌, ◌++◌, length, map, filter, Option, Some, None, option_and_then, slice_get, inl, inr, refl, sym, ◌∙◌, ap, subst, arith}
+use Rattle.std.proofs.Common.{◌≡◌, ◌⊎◌, ℕ, zero, suc, ◌+◌, ◌==◌, Bool, true, false, not, ◌||◌, cond, List, [], ◌∷◌, ◌++◌, map, filter, Option, Some, None, option_and_then, slice_get, inl, inr, refl, sym, ◌∙◌, ap, subst, arith}
 use Rattle.std.specs.Option.{option_map_or}
 use Rattle.std.specs.List.{flat_map, count_by, enumerate_from}
 use Rattle.std.specs.Str.{bytes_eq}
@@ -9,11 +9,11 @@ use Rattle.lid_base.specs.Lists.{Among}
 use Rattle.lid_base.proofs.Lists.{among_left, among_right, among_append, filter_among, same_bytes, bytes_same}
 use Rattle.lid_design.specs.declared.Design.{Design}
 use Rattle.lid_design.specs.declared.Model.{Model}
-use Rattle.lid_design.specs.Columns.{Column, column, is_among, is_clock, data_inputs}
-use Rattle.lid_design.specs.Models.{cell_names, actual_names, occurrences, firsts, nets, insts_of, number_named, IsReached, is_twice, data_inputs_of}
-use Rattle.lid_design.specs.Elaboration.{instance, model_nets, columns_at}
+use Rattle.lid_design.specs.Columns.{Column, column, is_clock, data_inputs}
+use Rattle.lid_design.specs.Models.{cell_names, actual_names, occurrences, firsts, nets, insts_of, IsReached, is_twice}
+use Rattle.lid_design.specs.Elaboration.{model_nets}
 use Rattle.lid_rules.specs.Conditions.{is_duplicate, duplicate_in, duplicate_name, unknown_model}
-use Rattle.lid_rules.specs.Acceptance.{ModelsPass, fault_before_recursion}
+use Rattle.lid_rules.specs.Acceptance.{fault_before_recursion}
 use Rattle.lid_hierarchy.proofs.Listing.{firsts_filter}
 use Rattle.lid_wiring.specs.Judged.{IsJudged}
 use Rattle.lid_wiring.proofs.Names.{from_among, none_found, count-cons, count_some}

@@ -4,7 +4,7 @@ use Rattle.std.specs.Option.{option_map_or}
 use Rattle.std.specs.List.{range_with_len}
 use Rattle.std.proofs.lemmas.List.{append-nil, length-map}
 use Rattle.std.proofs.lemmas.List.FromFn.{length-map-range_with_len, get_or-map-range_with_len}
-use Rattle.std.proofs.lemmas.Option.{slice_get-get_or, slice_get_read, slice_get_within}
+use Rattle.std.proofs.lemmas.Option.{slice_get-get_or, slice_get_read}
 use Rattle.lid_design.specs.declared.Design.{Design}
 use Rattle.lid_design.specs.declared.Model.{Model}
 use Rattle.lid_design.specs.Models.{insts_of, instance_number, number_from, data_inputs_of, IsReached}
@@ -14,8 +14,8 @@ use Rattle.lid_wiring.specs.Judged.{IsJudged}
 use Rattle.lid_elab.specs.declared.driver.ColumnDriver.{ColumnDriver}
 use Rattle.lid_elab.specs.Numbers.{columns_in, StandsAt}
 use Rattle.lid_elab.specs.Elaborations.{shown_driver, IsElaborated}
-use Rattle.lid_elab.proofs.Outer.{get_of}
 use Rattle.lid_flatten.specs.declared.part.Part.{Part}
+use Rattle.lid_flatten.specs.Parts.{IsPart}
 use Rattle.lid_parts.specs.PearlParts.{outputs_of, ArePortsApart, IsPearlPart, ArePearlParts}
 use Rattle.lid_parts.proofs.Assembling.{is_pearl_part}
 
@@ -69,14 +69,14 @@ module _ (d : Design) (judged : IsJudged d) (drivers_of : List ColumnDriver) (st
     unfolding columns instances
     whole_long = let e = is.whole in let long = length-map drivers_of (shown_driver d) in let all : length (columns d) ≡ part.nets = omega arith in all
 
-    pub whole_is : IsPearlPart d drivers_of 0 part
+    pub whole_is : IsPearlPart d 0 part × IsPart drivers_of part
     whole_is = is_pearl_part d judged drivers_of starts is apart 0 [] first_pearl d.root whole_leads part whole_stands whole_long inputs outputs
 
   pub whole_few : length starts ≡ 0 → length (data_inputs_of d d.root) + length (outputs_of d d.root) ≤ length drivers_of
   whole_few none =
       let part : Part = record { start = 0; nets = length drivers_of; inputs = length (data_inputs_of d d.root); outputs = length (outputs_of d d.root) } in
       let pearl = whole_is none part refl refl refl refl in
-      let ports = pearl.inner.ports in
+      let ports = pearl.1.ports in
       omega arith
 
   module _ (i model : ℕ) (below : i < length starts) (names : instance_number d i d.root ≡ Some model) where
@@ -110,15 +110,15 @@ module _ (d : Design) (judged : IsJudged d) (drivers_of : List ColumnDriver) (st
           let own : length (columns_in (length d.models) d (i ∷ []) block.0) ≡ part.nets = omega arith in
           ap (λ (k : ℕ). length (columns_in (length d.models) d (i ∷ []) k)) (sym block.1) ∙ own
 
-      pub inst_is : IsPearlPart d drivers_of i part
+      pub inst_is : IsPearlPart d i part × IsPart drivers_of part
       inst_is = is_pearl_part d judged drivers_of starts is apart i (i ∷ []) (inst_pearl d i (let e = is.insts in omega arith)) model inst_leads part inst_stands inst_long inputs outputs
 
     pub inst_few : length (data_inputs_of d model) + length (outputs_of d model) ≤ length drivers_of
     inst_few =
         let part : Part = record { start = first; nets = end - first; inputs = length (data_inputs_of d model); outputs = length (outputs_of d model) } in
         let pearl = inst_is part refl refl refl refl in
-        let ports = pearl.inner.ports in
-        let there = pearl.inner.there in
+        let ports = pearl.1.ports in
+        let there = pearl.1.there in
         omega arith
 
 pub inst_reached : (d : Design) (i model : ℕ) → instance_number d i d.root ≡ Some model → IsReached d model
@@ -126,12 +126,30 @@ unfolding number_from
 inst_reached d i model names = (i ∷ [], names)
 
 -- the part of the root alone is that of the only pearl
-pub one_part : (d : Design) (drivers : List ColumnDriver) (parts : List Part) (part : Part) → length (insts_of d d.root) ≡ 0 → IsPearlPart d drivers 0 part → parts ≡ part ∷ [] → ArePearlParts d drivers parts
+pub one_part : (d : Design) (drivers : List ColumnDriver) (parts : List Part) (part : Part) → length (insts_of d d.root) ≡ 0 → IsPearlPart d 0 part × IsPart drivers part → parts ≡ part ∷ [] → ArePearlParts d drivers parts
 one_part d drivers parts part none is same = record {
   count = ap length same ∙ sym (ap length (whole_pearls d none));
   each = λ p x here. at p x (ap (λ (xs : List Part). slice_get xs p) (sym same) ∙ here);
 }
   where
-    at : (p : ℕ) (x : Part) → slice_get (part ∷ []) p ≡ Some x → IsPearlPart d drivers p x
-    at zero x here = let e : Some part ≡ Some x = here in subst (IsPearlPart d drivers 0) (let f : part ≡ x = cc in f) is
+    at : (p : ℕ) (x : Part) → slice_get (part ∷ []) p ≡ Some x → IsPearlPart d p x × IsPart drivers x
+    at zero x here = let e : Some part ≡ Some x = here in subst (λ (y : Part). IsPearlPart d 0 y × IsPart drivers y) (let f : part ≡ x = cc in f) is
     at (suc p) x here = absurd (let e : None ≡ Some x = here in cc)
+
+-- what holds of each item of a list and of one more holds of each of the longer list
+pub each_more : {A : Type 0} (P : ℕ → A → Type 0) (old new : List A) (n : ℕ) (x : A) → length old ≡ n → ((i : ℕ) (y : A) → slice_get old i ≡ Some y → P i y) → P n x → new ≡ old ++ x ∷ [] → (i : ℕ) (y : A) → slice_get new i ≡ Some y → P i y
+each_more {A} P old new n x long each last pushed i y here = by (at old i (ap (λ (ys : List A). slice_get ys i) (sym pushed) ∙ here))
+  where
+    at : (ys : List A) (j : ℕ) → slice_get (ys ++ x ∷ []) j ≡ Some y → (slice_get ys j ≡ Some y) ⊎ ((j ≡ length ys) × (y ≡ x))
+    at [] zero h = inr (refl, (let e : Some x ≡ Some y = h in cc))
+    at [] (suc j) h = absurd (let e : None ≡ Some y = h in cc)
+    at (z ∷ ys) zero h = inl h
+    at (z ∷ ys) (suc j) h = next (at ys j h)
+      where
+        next : (slice_get ys j ≡ Some y) ⊎ ((j ≡ length ys) × (y ≡ x)) → (slice_get ys j ≡ Some y) ⊎ ((suc j ≡ suc (length ys)) × (y ≡ x))
+        next (inl e) = inl e
+        next (inr e) = inr (ap suc e.0, e.1)
+
+    by : (slice_get old i ≡ Some y) ⊎ ((i ≡ length old) × (y ≡ x)) → P i y
+    by (inl h) = each i y h
+    by (inr e) = subst (λ (j : ℕ). P j y) (sym (e.0 ∙ long)) (subst (P n) (sym e.1) last)

@@ -1,7 +1,7 @@
 -- The numbers of the columns inside a place.
-use Rattle.std.proofs.Common.{◌≡◌, ◌⊎◌, ℕ, zero, suc, ◌+◌, ◌<◌, ◌≤◌, List, [], ◌∷◌, ◌++◌, length, map, take, Option, Some, None, option_and_then, slice_get, inl, inr, refl, sym, ◌∙◌, ap, subst, arith}
+use Rattle.std.proofs.Common.{◌≡◌, ℕ, zero, suc, ◌+◌, ◌<◌, ◌≤◌, List, [], ◌∷◌, ◌++◌, take, Option, Some, None, slice_get, inl, inr, refl, sym, ◌∙◌, ap, arith}
 use Rattle.std.specs.Option.{option_map_or}
-use Rattle.std.specs.List.{flat_map, enumerate_from}
+use Rattle.std.specs.List.{enumerate_from}
 use Rattle.std.proofs.lemmas.Option.{slice_get_within}
 use Rattle.lid_base.specs.Lists.{Among}
 use Rattle.lid_base.proofs.Lists.{flat_among, map_among, then_some}
@@ -9,11 +9,11 @@ use Rattle.lid_design.specs.declared.Design.{Design}
 use Rattle.lid_design.specs.declared.Inst.{Inst}
 use Rattle.lid_design.specs.Columns.{Column, column}
 use Rattle.lid_design.specs.Models.{insts_of, number_named, instance_number, number_from, IsReached}
-use Rattle.lid_design.specs.Elaboration.{Instance, instance, instances_in, model_nets, columns_at, columns}
+use Rattle.lid_design.specs.Elaboration.{Instance, instances_in, model_nets, columns_at, columns}
 use Rattle.lid_design.specs.Loops.{IsInside}
 use Rattle.lid_elab.specs.Numbers.{over_insts, size_of, offset_of, start_of, columns_in}
 use Rattle.lid_wiring.specs.Judged.{IsJudged}
-use Rattle.lid_elab.proofs.Located.{Located, located}
+use Rattle.lid_elab.proofs.Located.{located}
 use Rattle.lid_elab.proofs.Counting.{size_is, offset_next}
 
 -- the places in a place have paths that lead into it

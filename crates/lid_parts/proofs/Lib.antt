@@ -3,3 +3,4 @@ pub mod Reading
 pub mod Beginning
 pub mod Assembling
 pub mod Finding
+pub mod Columns

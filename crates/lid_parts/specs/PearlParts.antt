@@ -26,24 +26,27 @@ ArePortsApart d =
     → Among net (data_inputs d m)
     → ¬ Among net m.outputs
 
--- a part has, in order, the columns of a pearl and of all instances in it, of which those of the pearl's
--- data inputs come first and those of its outputs next
-pub record IsPearlPart (d : Design) (drivers : List ColumnDriver) (pearl : ℕ) (part : Part) : Type 0 where
+-- the number of a pearl, with its path, the number of its model, and the model
+pub record IsPearl (d : Design) (pearl : ℕ) : Type 0 where
   pub path : List ℕ
   pub here : slice_get (pearls d) pearl ≡ Some path
   pub number : ℕ
   pub leads : number_from d d.root path ≡ Some number
   pub model : Model
   pub body : model_at d path ≡ Some model
-  pub stands : StandsAt (columns d) part.start (columns_in (length d.models) d path number)
-  pub long : length (columns_in (length d.models) d path number) ≡ part.nets
-  pub more : List Column
-  pub begins : columns_in (length d.models) d path number ≡ map (column path) (data_inputs d model) ++ (map (column path) model.outputs ++ more)
-  pub inputs : part.inputs ≡ length (data_inputs d model)
-  pub outputs : part.outputs ≡ length model.outputs
-  pub inner : IsPart drivers part
 
--- a part for each pearl, in order
+-- a part has, in order, the columns of a pearl and of all instances in it, of which those of the pearl's
+-- data inputs come first and those of its outputs next
+pub record IsPearlPart (d : Design) (pearl : ℕ) (part : Part) : Type 0 where
+  pub of : IsPearl d pearl
+  pub stands : StandsAt (columns d) part.start (columns_in (length d.models) d of.path of.number)
+  pub long : length (columns_in (length d.models) d of.path of.number) ≡ part.nets
+  pub more : List Column
+  pub begins : columns_in (length d.models) d of.path of.number ≡ map (column of.path) (data_inputs d of.model) ++ (map (column of.path) of.model.outputs ++ more)
+  pub inputs : part.inputs ≡ length (data_inputs d of.model)
+  pub outputs : part.outputs ≡ length of.model.outputs
+
+-- a part for each pearl, in order, of the network with these drivers
 pub record ArePearlParts (d : Design) (drivers : List ColumnDriver) (parts : List Part) : Type 0 where
   pub count : length parts ≡ length (pearls d)
-  pub each : (p : ℕ) (part : Part) → slice_get parts p ≡ Some part → IsPearlPart d drivers p part
+  pub each : (p : ℕ) (part : Part) → slice_get parts p ≡ Some part → IsPearlPart d p part × IsPart drivers part

@@ -3,6 +3,7 @@
 ghost use Rattle.std.specs.Prelude.{◌≡◌, ◌+◌, ◌-◌, ◌<◌, ◌≤◌, Some, length, slice_get, slice_index, slice_index_or, IfOk};
 ghost use Rattle.lid_design.specs.Loops.{pearls};
 ghost use Rattle.lid_design.specs.Models.{IsReached, insts_of, instance_number, data_inputs_of};
+ghost use Rattle.lid_flatten.specs.Parts.{IsPart};
 ghost use Rattle.lid_parts.specs.PearlParts.{outputs_of, ArePortsApart, IsPearlPart, ArePearlParts};
 
 use lid_base::Items;
@@ -33,7 +34,7 @@ fn part_of(judged: &Judged<'_>, model: u32, start: u32, nets: u32) -> Part
 fn whole_part(columns: &Elaboration<'_>) -> Part
     requires apart { ArePortsApart columns.now.design }
     requires none { length columns.now.starts ≡ 0 }
-    ensures { IsPearlPart columns.now.design columns.now.drivers 0 result }
+    ensures { IsPearlPart columns.now.design 0 result × IsPart columns.now.drivers result }
 {
     let judged = columns.judged();
     let root = judged.design().root;
@@ -56,7 +57,7 @@ fn end_of(columns: &Elaboration<'_>, i: usize) -> u32
 fn inst_part(columns: &Elaboration<'_>, i: usize) -> Part
     requires apart { ArePortsApart columns.now.design }
     requires there { i < length columns.now.starts }
-    ensures { IsPearlPart columns.now.design columns.now.drivers i result }
+    ensures { IsPearlPart columns.now.design i result × IsPart columns.now.drivers result }
 {
     let judged = columns.judged();
     let start = columns.starts()[i];

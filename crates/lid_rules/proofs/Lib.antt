@@ -3,3 +3,4 @@ pub mod Telling
 pub mod Roots
 pub mod Faults
 pub mod Passing
+pub mod Buffers

@@ -5,3 +5,4 @@ pub mod Rules
 pub mod Names
 pub mod Early
 pub mod Edges
+pub mod Buffers

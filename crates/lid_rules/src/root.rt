@@ -1,17 +1,17 @@
-ghost use Rattle.std.specs.Prelude.{◌≡◌, ◌==◌, ◌&&◌, ◌||◌, not, true, false, [], ◌∷◌, Some, Option, filter, find, length, option_map, slice_get, IfOk};
+ghost use Rattle.std.specs.Prelude.{◌≡◌, ◌||◌, not, Some, Option, filter, find, length, option_map, slice_get, IfOk};
 ghost use Rattle.std.specs.List.{AllByRecursion};
 ghost use denote.Ref.{Bor};
-ghost use Rattle.lid_cover.specs.Cover.{IsCover, cover_value};
+ghost use Rattle.lid_cover.specs.Cover.{IsCover};
 ghost use Rattle.lid_names.specs.Names.{texts};
 ghost use Rattle.lid_design.specs.declared.Cell.{Cell};
 ghost use Rattle.lid_design.specs.WellFormed.{IsWellFormedCell};
 ghost use Rattle.lid_design.specs.Columns.{is_clock};
 ghost use Rattle.lid_design.specs.Models.{IsReached, is_clock_of, port_drivers, is_buffer, is_constant};
+ghost use Rattle.lid_rules.specs.Buffers.{passes_on};
 ghost use Rattle.lid_rules.specs.Conditions.{first_two, two_clocks, root_logic, logic_in};
 ghost use Rattle.lid_rules.specs.Told.{shown_of};
 
 use crate::told::Told;
-use lid_base::Name;
 use lid_cover::{Cover, eval};
 use lid_design::{Cell, Model};
 use lid_names::out_of;
@@ -123,31 +123,18 @@ fn is_wire(cell: &Cell) -> bool
     ensures { result ≡ (is_buffer cell.now || is_constant cell.now) }
 {
     match cell {
-        Cell::Names { inputs, cover, .. } => {
-            is_buffer(inputs.as_slice(), cover) || inputs.len() == 0
-        }
+        Cell::Names { inputs, cover, .. } => passes_on(cover) || inputs.len() == 0,
         Cell::Latch { .. } => false,
     }
 }
 
 /// Whether a cover has one input, whose value it takes.
-fn is_buffer(inputs: &[Name], cover: &Cover) -> bool
-    requires cover { IsCover cover.now }
-    requires width { cover.now.inputs ≡ length inputs.now }
-    ensures { result ≡ ((length inputs.now == 1) && (not (cover_value cover.now (false ∷ [])) && cover_value cover.now (true ∷ []))) }
+pub fn passes_on(cover: &Cover) -> bool
+    requires { IsCover cover.now }
+    ensures { result ≡ passes_on cover.now }
 {
-    if inputs.len() == 1 {
-        passes(cover)
-    } else {
-        false
+    if cover.inputs != 1 {
+        return false;
     }
-}
-
-/// Whether a cover of one input takes its value.
-fn passes(cover: &Cover) -> bool
-    requires cover { IsCover cover.now }
-    requires width { cover.now.inputs ≡ 1 }
-    ensures { result ≡ (not (cover_value cover.now (false ∷ [])) && cover_value cover.now (true ∷ [])) }
-{
     !eval(cover, 0) && eval(cover, 1)
 }

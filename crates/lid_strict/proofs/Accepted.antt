@@ -6,7 +6,6 @@ use Rattle.lid_base.specs.Lists.{Among}
 use Rattle.lid_base.proofs.Lists.{map_among, get_among, among_get, all_among, then_some}
 use Rattle.lid_design.specs.declared.Design.{Design}
 use Rattle.lid_design.specs.declared.Model.{Model}
-use Rattle.lid_design.specs.WellFormed.{IsWellFormed}
 use Rattle.lid_design.specs.Network.{Driver, from_input, from_latch, from_cover, from_connection, from_each}
 use Rattle.lid_design.specs.Columns.{Column, column, drivers}
 use Rattle.lid_design.specs.Walks.{read_now, read_before, IsDriven, IsDrivenOnce, AreReadsDriven, WalksEnd, HasTable, HasOneTable}
@@ -14,36 +13,21 @@ use Rattle.lid_design.specs.Models.{nets, insts_of, number_named, instance_numbe
 use Rattle.lid_design.specs.Elaboration.{columns, model_nets}
 use Rattle.lid_design.specs.Loops.{HasNoLoop}
 use Rattle.lid_design.proofs.Tables.{has_table, has_one_table}
-use Rattle.lid_hierarchy.specs.Surveys.{AreKnown}
-use Rattle.lid_rules.specs.Conditions.{duplicate_name, unknown_model}
-use Rattle.lid_rules.specs.Acceptance.{ModelsPass, fault_before_recursion}
-use Rattle.lid_rules.proofs.Passing.{known_by}
 use Rattle.lid_elab.specs.Elaborations.{map_driver, column_at}
 use Rattle.lid_elab.specs.Numbers.{offset_of, start_of}
 use Rattle.lid_wiring.specs.Locals.{actual_for}
 use Rattle.lid_elab.specs.Templates.{place_in, numbered, placed}
 use Rattle.lid_wiring.specs.Judged.{IsJudged}
 use Rattle.lid_elab.specs.Scopes.{IsOnlyDriver, IsOuter}
-use Rattle.lid_wiring.proofs.Passing.{or_none}
 use Rattle.lid_elab.proofs.Located.{Located, located}
 use Rattle.lid_elab.proofs.Outer.{fits}
 use Rattle.lid_wiring.proofs.Single.{exactly_one}
 use Rattle.lid_elab.proofs.Placed.{net_right}
 use Rattle.lid_elab.proofs.Every.{driven_column}
-use Rattle.lid_strict.proofs.Descent.{walks_end}
-use Rattle.lid_strict.proofs.Levels.{model_order}
+use Rattle.lid_check.proofs.Descent.{walks_end}
 use Rattle.lid_wiring.proofs.Told.{told_by_model}
 use Rattle.lid_strict.proofs.Outputs.{from_each_long}
 use Rattle.lid_strict.proofs.Tables.{once_by}
-
-known_of : (d : Design) → ModelsPass d → AreKnown d
-unfolding fault_before_recursion
-known_of d pass = known_by d pass.ks pass.reached (or_none (duplicate_name d pass.ks) (unknown_model d pass.ks) pass.before).1
-
-pub judged_of : (d : Design) → IsWellFormed d → ModelsPass d → IsJudged d
-judged_of d formed pass =
-    let order = model_order d formed pass.flat pass.ks pass.reached in
-    record { formed = formed; order = order.0; ordered = order.1; known = known_of d pass; pass = pass }
 
 from_each_at : (f : ℕ → ℕ) (k n i o : ℕ) → slice_get (from_each f k n) i ≡ Some o → o ≡ f (k + i)
 from_each_at f k zero i o here = absurd (let e : None ≡ Some o = here in cc)

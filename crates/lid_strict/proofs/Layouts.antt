@@ -1,12 +1,10 @@
 -- What is laid out runs in its order, and the rows of strict tables are those of its runs.
-use Rattle.std.proofs.Common.{◌≡◌, ◌<◌, ◌+◌, ℕ, zero, suc, Bool, true, false, List, [], ◌∷◌, ◌++◌, length, map, take, drop, Option, Some, None, slice_get, slice_index_or, option_to_list, option_map, inl, inr, refl, sym, ◌∙◌, ap, subst, arith}
+use Rattle.std.proofs.Common.{◌≡◌, ◌<◌, ◌+◌, ℕ, zero, suc, Bool, List, [], ◌∷◌, ◌++◌, length, map, take, drop, Option, Some, slice_get, slice_index_or, option_to_list, option_map, inl, inr, refl, sym, ◌∙◌, ap, subst, arith}
 use Rattle.std.specs.List.{AllByRecursion, flat_map}
-use Rattle.std.proofs.lemmas.List.{length-map, length-append, take_more, take-append-drop}
-use Rattle.std.proofs.Math.Seq.{take-append_seam, get_or-append_seam}
-use Rattle.std.proofs.lemmas.Grind.{flat_map-append}
+use Rattle.std.proofs.lemmas.List.{length-map, take-append-drop}
 use Rattle.std.proofs.lemmas.Option.{slice_get-get_or, slice_get-map, get_or_from_slice_get}
 use Rattle.lid_base.specs.Lists.{Among}
-use Rattle.lid_base.proofs.Lists.{among_left, among_right, among_flat, among_map, among_push, among_at, all_append, all_at}
+use Rattle.lid_base.proofs.Lists.{among_left, among_right, among_flat, among_map, among_at, all_at}
 use Rattle.lid_cover.specs.Cover.{cover_value}
 use Rattle.lid_design.specs.declared.Design.{Design}
 use Rattle.lid_design.specs.declared.FlatLatch.{FlatLatch}
@@ -17,54 +15,35 @@ use Rattle.lid_design.specs.Flat.{latch_out, latch_input, latch_init, ReadEarlie
 use Rattle.lid_digraph.specs.Graphs.{reads_at, IsOrder}
 use Rattle.lid_elab.specs.declared.driver.ColumnDriver.{ColumnDriver}
 use Rattle.lid_elab.specs.Elaborations.{shown_driver}
+use Rattle.lid_flatten.specs.Inner.{buffer, latches_of, cells_of}
+use Rattle.lid_flatten.proofs.Lists.{all_of_each, all_flat, pushed_more}
+use Rattle.lid_flatten.proofs.Earlier.{Gives, read_earlier}
+use Rattle.lid_flatten.proofs.Looping.{buffered}
 use Rattle.lid_settle.specs.Rows.{bit_at, after}
 use Rattle.lid_settle.proofs.Settling.{after_keeps, after_has}
 use Rattle.lid_strict.specs.Networks.{driver_of, reads_of, AreHeldBelow}
-use Rattle.lid_strict.specs.Layouts.{buffer, driver_at, input_nets, input_places, latches_of, cells_of, nets_in, places_in, latches_in, cells_in, IsLaidOut, known_first, IsRunnable, held_bits, FitsTable}
+use Rattle.lid_strict.specs.Layouts.{driver_at, input_nets, input_places, nets_in, places_in, latches_in, cells_in, IsLaidOut, known_first, IsRunnable, held_bits, FitsTable}
 use Rattle.lid_strict.specs.declared.layout.Layout.{Layout}
-
-all_flat : {A B : Type 0} (P : B → Type 0) (f : A → List B) (xs : List A) → ((x : A) → Among x xs → AllByRecursion P (f x)) → AllByRecursion P (flat_map f xs)
-all_flat P f [] each = tt
-all_flat P f (x ∷ xs) each = all_append P (f x) (flat_map f xs) (each x (inl refl)) (all_flat P f xs (λ y among. each y (inr among)))
 
 all_map : {A B : Type 0} (P : B → Type 0) (f : A → B) (xs : List A) → AllByRecursion (λ x. P (f x)) xs → AllByRecursion P (map f xs)
 all_map P f [] all = tt
 all_map P f (x ∷ xs) all = (all.0, all_map P f xs all.1)
 
-all_of_each : {A : Type 0} (P : A → Type 0) (xs : List A) → ((x : A) → Among x xs → P x) → AllByRecursion P xs
-all_of_each P [] each = tt
-all_of_each P (x ∷ xs) each = (each x (inl refl), all_of_each P xs (λ y among. each y (inr among)))
-
-append_nothing : {A : Type 0} (xs : List A) → xs ++ [] ≡ xs
-append_nothing [] = refl
-append_nothing (x ∷ xs) = ap (λ ys. x ∷ ys) (append_nothing xs)
-
 -- what is laid out so far, with what of one number more
 pub laid_next : {B : Type 0} (g : ℕ → Driver ℕ → List B) (network : List (Driver ℕ)) (order : List ℕ) (i : ℕ) → i < length order → (s : Driver ℕ) → s ≡ driver_at network (slice_index_or order i 0) → (old new : List B) → old ≡ flat_map (λ k. g k (driver_at network k)) (take i order) → new ≡ old ++ g (slice_index_or order i 0) s → new ≡ flat_map (λ k. g k (driver_at network k)) (take (i + 1) order)
-laid_next {B} g network order i h s same old new so_far pushed =
+laid_next g network order i h s same old new so_far pushed =
     let k = slice_index_or order i 0 in
-    let f : ℕ → List B = λ k. g k (driver_at network k) in
-    pushed
-    ∙ ap (λ (xs : List B). xs ++ g k s) so_far
-    ∙ ap (λ (r : Driver ℕ). flat_map f (take i order) ++ g k r) same
-    ∙ ap (λ (xs : List B). flat_map f (take i order) ++ xs) (sym (append_nothing (f k)))
-    ∙ sym (flat_map-append f (take i order) (k ∷ []))
-    ∙ ap (flat_map f) (sym (take_more order i 0 h))
+    pushed_more (λ k. g k (driver_at network k)) order i h [] old new (g k s) (ap (g k) same) so_far pushed
 
-pub driver_here : (drivers : List ColumnDriver) (k : ℕ) (driver : ColumnDriver) → k < length drivers → driver ≡ slice_index_or drivers k driver → slice_get drivers k ≡ Some driver
+driver_here : (drivers : List ColumnDriver) (k : ℕ) (driver : ColumnDriver) → k < length drivers → driver ≡ slice_index_or drivers k driver → slice_get drivers k ≡ Some driver
 driver_here drivers k driver h is = slice_get-get_or drivers k driver h ∙ ap Some (sym is)
 
 -- a driver as one of a network
-pub driver_is : (d : Design) (drivers : List ColumnDriver) (k : ℕ) (driver : ColumnDriver) → slice_get drivers k ≡ Some driver → shown_driver d driver ≡ driver_at (map (shown_driver d) drivers) k
+driver_is : (d : Design) (drivers : List ColumnDriver) (k : ℕ) (driver : ColumnDriver) → slice_get drivers k ≡ Some driver → shown_driver d driver ≡ driver_at (map (shown_driver d) drivers) k
 driver_is d drivers k driver here =
     let show : ColumnDriver → Driver ℕ = shown_driver d in
     let shown : slice_get (map show drivers) k ≡ Some (show driver) = slice_get-map show drivers k ∙ ap (option_map show) here in
     sym (get_or_from_slice_get (map show drivers) k (show driver) (from_input 0) shown)
-
-buffered : (v : Bool) → cover_value buffer (v ∷ []) ≡ v
-unfolding cover_value
-buffered true = refl
-buffered false = refl
 
 -- the drivers of some numbers in a row of a table
 module _ (rows : List (List Bool)) (b : Table ℕ) (t : ℕ) where
@@ -107,14 +86,10 @@ held_all b (suc t) (l ∷ latches) all =
     let tail : map (b (suc t)) (map latch_out latches) ≡ map (b t) (map latch_input latches) = held_all b (suc t) latches all.1 in
     cc
 
-reads_of_driver : (network : List (Driver ℕ)) (k : ℕ) (s : Driver ℕ) → slice_get network k ≡ Some s → reads_at (reads_of network) k ≡ read_now s
-reads_of_driver [] k s h = absurd (let e : None ≡ Some s = h in cc)
-reads_of_driver (r ∷ network) zero s h = let e : Some r ≡ Some s = h in let f : r ≡ s = cc in ap read_now f
-reads_of_driver (r ∷ network) (suc k) s h = reads_of_driver network k s h
-
-push_append : (done rest : List ℕ) (k : ℕ) → (done ++ k ∷ []) ++ rest ≡ done ++ k ∷ rest
-push_append [] rest k = refl
-push_append (x ∷ done) rest k = ap (λ (xs : List ℕ). x ∷ xs) (push_append done rest k)
+reads_here : (network : List (Driver ℕ)) (k : ℕ) → reads_at (reads_of network) k ≡ read_now (driver_at network k)
+reads_here [] k = refl
+reads_here (s ∷ network) zero = refl
+reads_here (s ∷ network) (suc k) = reads_here network k
 
 -- of one number
 inputs_below : (n k : ℕ) (s : Driver ℕ) → k < n → AllByRecursion (λ a. a < n) (input_nets k s)
@@ -146,92 +121,44 @@ same_places network [] = refl
 same_places network (k ∷ order) = one_place k (driver_at network k) (nets_in network order) (places_in network order) (same_places network order)
 
 module _ (network : List (Driver ℕ)) (order : List ℕ) (ordered : IsOrder (reads_of network) order) where
-  pub order_below : (k : ℕ) → Among k order → k < length network
+  order_below : (k : ℕ) → Among k order → k < length network
   order_below k among =
       let within = ordered.within k among in
       let long = length-map network read_now in
       omega arith
 
   -- what a number of the order reads has a number
-  pub reads_below : (i : ℕ) → i < length order → AllByRecursion (λ a. a < length network) (read_now (driver_at network (slice_index_or order i 0)))
+  reads_below : (i : ℕ) → i < length order → AllByRecursion (λ a. a < length network) (read_now (driver_at network (slice_index_or order i 0)))
   reads_below i h =
       let k = slice_index_or order i 0 in
-      let here = slice_get-get_or network k (from_input 0) (order_below k (among_at order i 0 h)) in
-      let reads = reads_of_driver network k (driver_at network k) here in
-      all_of_each (λ a. a < length network) (read_now (driver_at network k)) (λ a among. order_below a (subst (Among a) (take-append-drop i order) (among_left a (take i order) (drop i order) (ordered.earlier i a h (subst (Among a) (sym reads) among)))))
+      all_of_each (λ a. a < length network) (read_now (driver_at network k)) (λ a among. order_below a (subst (Among a) (take-append-drop i order) (among_left a (take i order) (drop i order) (ordered.earlier i a h (subst (Among a) (sym (reads_here network k)) among)))))
 
   abbrev base : List ℕ
   base = nets_in network order ++ (map latch_out (latches_in network order) ++ [])
 
-  abbrev in_base : ℕ → Driver ℕ → Type 0
-  in_base k s = length (cells_of k s) ≡ 0 → Among k base
-
-  -- what is no cover is known before any is run
-  source_known : (k : ℕ) → Among k order → (s : Driver ℕ) → driver_at network k ≡ s → in_base k s
-  source_known k among (from_input j) is none =
+  -- what gives a number its bit: it is known before any cover is run, or a cover gives it by what stands earlier
+  gives : (k : ℕ) → Among k order → (s : Driver ℕ) → driver_at network k ≡ s → Gives (reads_of network) base k (cells_of k s)
+  gives k among (from_input j) is =
       among_left k (nets_in network order) (map latch_out (latches_in network order) ++ [])
       (among_flat (λ k. input_nets k (driver_at network k)) k k order among (subst (λ (s : Driver ℕ). Among k (input_nets k s)) (sym is) (inl refl)))
-  source_known k among (from_latch first input) is none =
+  gives k among (from_latch first input) is =
       let latch : FlatLatch = record { input = input; out = k; init = first } in
       among_right k (nets_in network order) (map latch_out (latches_in network order) ++ [])
       (among_left k (map latch_out (latches_in network order)) []
       (among_map latch_out latch (latches_in network order)
       (among_flat (λ k. latches_of k (driver_at network k)) k latch order among (subst (λ (s : Driver ℕ). Among latch (latches_of k s)) (sym is) (inl refl)))))
-  source_known k among (from_cover cover inputs) is none = absurd (omega arith)
-  source_known k among (from_connection other) is none = absurd (omega arith)
-
-  -- a number reads what stands before it
-  before : (done rest : List ℕ) (k : ℕ) → done ++ k ∷ rest ≡ order → (a : ℕ) → Among a (read_now (driver_at network k)) → Among a done
-  before done rest k e a among =
-      let long : length order ≡ length done + length (k ∷ rest) = ap length (sym e) ∙ length-append done (k ∷ rest) in
-      let h : length done < length order = omega arith in
-      let at : slice_index_or order (length done) 0 ≡ k = ap (λ (xs : List ℕ). slice_index_or xs (length done) 0) (sym e) ∙ get_or-append_seam done k rest 0 in
-      let here = slice_get-get_or network k (from_input 0) (order_below k (subst (Among k) e (among_right k done (k ∷ rest) (inl refl)))) in
-      let reads = subst (Among a) (sym (reads_of_driver network k (driver_at network k) here)) among in
-      let took = ordered.earlier (length done) a h (subst (λ (x : ℕ). Among a (reads_at (reads_of network) x)) (sym at) reads) in
-      subst (Among a) (ap (take (length done)) (sym e) ∙ take-append_seam done (k ∷ rest)) took
-
-  abbrev Rest : List ℕ → Type 0
-  Rest rest = (done : List ℕ) → done ++ rest ≡ order → (known : List ℕ) → ((a : ℕ) → Among a done → Among a known) → ((a : ℕ) → Among a base → Among a known) → ReadEarlier known (cells_in network rest)
-
-  pushed : (done known : List ℕ) (k : ℕ) → ((a : ℕ) → Among a done → Among a known) → Among k known → (a : ℕ) → Among a (done ++ k ∷ []) → Among a known
-  pushed done known k all here a among = elim (among_push a k done among) [
-    | inl earlier ↦ all a earlier
-    | inr same ↦ subst (λ (x : ℕ). Among x known) (sym same) here
-  ]
-
-  module _ (done rest : List ℕ) (k : ℕ) (e : done ++ k ∷ rest ≡ order) (known : List ℕ) (run : (a : ℕ) → Among a done → Among a known) (first : (a : ℕ) → Among a base → Among a known) where
-    there : Among k order
-    there = subst (Among k) e (among_right k done (k ∷ rest) (inl refl))
-
-    cell_reads : (s : Driver ℕ) → driver_at network k ≡ s → AllByRecursion (λ a. Among a known) (read_now s)
-    cell_reads s is = all_of_each (λ a. Among a known) (read_now s) (λ a among. run a (before done rest k e a (subst (λ (s : Driver ℕ). Among a (read_now s)) (sym is) among)))
-
-    cell_next : Rest rest → ReadEarlier (k ∷ known) (cells_in network rest)
-    cell_next next = next (done ++ k ∷ []) (push_append done rest k ∙ e) (k ∷ known) (pushed done (k ∷ known) k (λ a among. inr (run a among)) (inl refl)) (λ a among. inr (first a among))
-
-    source_next : Among k known → Rest rest → ReadEarlier known (cells_in network rest)
-    source_next here next = next (done ++ k ∷ []) (push_append done rest k ∙ e) known (pushed done known k run here) first
-
-    one_earlier : (s : Driver ℕ) → driver_at network k ≡ s → Rest rest → ReadEarlier known (cells_of k s ++ cells_in network rest)
-    one_earlier (from_input j) is next = source_next (first k (source_known k there (from_input j) is refl)) next
-    one_earlier (from_latch b input) is next = source_next (first k (source_known k there (from_latch b input) is refl)) next
-    one_earlier (from_cover cover inputs) is next = (cell_reads (from_cover cover inputs) is, cell_next next)
-    one_earlier (from_connection other) is next = (cell_reads (from_connection other) is, cell_next next)
-
-  all_earlier : (rest : List ℕ) → Rest rest
-  all_earlier [] done e known run first = tt
-  all_earlier (k ∷ rest) done e known run first = one_earlier done rest k e known run first (driver_at network k) refl (all_earlier rest)
+  gives k among (from_cover cover inputs) is = (refl, λ a read. subst (Among a) (sym (reads_here network k ∙ ap read_now is)) read)
+  gives k among (from_connection other) is = (refl, λ a read. subst (Among a) (sym (reads_here network k ∙ ap read_now is)) read)
 
   pub earlier : ReadEarlier base (cells_in network order)
-  earlier = all_earlier order [] refl base (λ a none. absurd none) (λ a among. among)
+  earlier = read_earlier (reads_of network) order ordered (λ k. cells_of k (driver_at network k)) base (λ k among. gives k among (driver_at network k) refl)
 
   cell_known : (k : ℕ) → Among k order → (s : Driver ℕ) → driver_at network k ≡ s → (c : FlatCover) → Among c (cells_of k s) → Among c.out (after base (cells_in network order))
   cell_known k among s is c cell = after_has base (cells_in network order) c (among_flat (λ k. cells_of k (driver_at network k)) k c order among (subst (λ (s : Driver ℕ). Among c (cells_of k s)) (sym is) cell))
 
   known_by : (k : ℕ) → Among k order → (s : Driver ℕ) → driver_at network k ≡ s → Among k (after base (cells_in network order))
-  known_by k among (from_input j) is = after_keeps base (cells_in network order) k (source_known k among (from_input j) is refl)
-  known_by k among (from_latch first input) is = after_keeps base (cells_in network order) k (source_known k among (from_latch first input) is refl)
+  known_by k among (from_input j) is = after_keeps base (cells_in network order) k (gives k among (from_input j) is)
+  known_by k among (from_latch first input) is = after_keeps base (cells_in network order) k (gives k among (from_latch first input) is)
   known_by k among (from_cover cover inputs) is = cell_known k among (from_cover cover inputs) is (record { ins = inputs; out = k; cover = cover }) (inl refl)
   known_by k among (from_connection other) is = cell_known k among (from_connection other) is (record { ins = other ∷ []; out = k; cover = buffer }) (inl refl)
 
@@ -278,3 +205,25 @@ module _ (network : List (Driver ℕ)) (order : List ℕ) (ordered : IsOrder (re
         value k among =
             let here = slice_get-get_or network k (from_input 0) (order_below k among) in
             (subst (λ (o : Option (Driver ℕ)). AllByRecursion (λ r. b t k ≡ bit_of rows b t r) (option_to_list o)) here (strict t k h)).0
+
+-- a driver that is read along an order
+module _ (d : Design) (drivers : List ColumnDriver) (order : List ℕ) (ordered : IsOrder (reads_of (map (shown_driver d) drivers)) order) (i : ℕ) (h : i < length order) where
+  abbrev number : ℕ
+  number = slice_index_or order i 0
+
+  pub number_below : number < length drivers
+  number_below = subst (λ (n : ℕ). number < n) (length-map drivers (shown_driver d)) (order_below (map (shown_driver d) drivers) order ordered number (among_at order i 0 h))
+
+  module _ (driver : ColumnDriver) (read : driver ≡ slice_index_or drivers number driver) where
+    pub driver_there : slice_get drivers number ≡ Some driver
+    driver_there = driver_here drivers number driver number_below read
+
+    pub driver_same : shown_driver d driver ≡ driver_at (map (shown_driver d) drivers) number
+    driver_same = driver_is d drivers number driver driver_there
+
+    -- what it reads has a number
+    pub reads_within : AllByRecursion (λ a. a < length drivers) (read_now (shown_driver d driver))
+    reads_within =
+        let network = map (shown_driver d) drivers in
+        subst (λ (n : ℕ). AllByRecursion (λ a. a < n) (read_now (shown_driver d driver))) (length-map drivers (shown_driver d))
+        (subst (λ (s : Driver ℕ). AllByRecursion (λ a. a < length network) (read_now s)) (sym driver_same) (reads_below network order ordered i h))

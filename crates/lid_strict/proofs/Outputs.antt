@@ -1,26 +1,21 @@
 -- The outputs of a run are those of every strict table of the design.
-use Rattle.std.proofs.Common.{◌≡◌, ℕ, zero, suc, ◌+◌, ◌<◌, Bool, List, [], ◌∷◌, ◌++◌, length, map, Some, slice_get, option_map, refl, sym, ◌∙◌, ap, subst, arith}
+use Rattle.std.proofs.Common.{◌≡◌, ℕ, zero, suc, ◌+◌, ◌<◌, Bool, List, [], ◌∷◌, ◌++◌, length, map, Some, slice_get, refl, sym, ◌∙◌, ap, subst, arith}
 use Rattle.std.specs.List.{AllByRecursion}
 use Rattle.std.proofs.lemmas.List.{length-map}
-use Rattle.std.proofs.lemmas.Option.{slice_get_within, slice_get-map}
+use Rattle.std.proofs.lemmas.Option.{slice_get_within}
+use Rattle.lid_base.proofs.Lists.{among_get}
 use Rattle.lid_design.specs.declared.Design.{Design}
-use Rattle.lid_design.specs.Network.{Driver, from_input, from_latch, from_cover, from_connection, Table, IsStrict, from_each}
+use Rattle.lid_design.specs.Network.{Driver, Table, IsStrict, from_each}
 use Rattle.lid_design.specs.Columns.{Column, column, root_outputs, output_row, IsStrictOutput}
-use Rattle.lid_design.specs.WellFormed.{IsWellFormed}
 use Rattle.lid_design.specs.Walks.{read_now, read_before}
 use Rattle.lid_digraph.specs.Graphs.{IsOrder}
 use Rattle.lid_elab.specs.declared.driver.ColumnDriver.{ColumnDriver}
-use Rattle.lid_elab.specs.Elaborations.{shown_driver, map_driver, column_at, IsElaborated}
+use Rattle.lid_elab.specs.Elaborations.{shown_driver, column_at, IsElaborated}
+use Rattle.lid_flatten.proofs.Lists.{all_of_each}
 use Rattle.lid_flaws.proofs.Numbered.{column_here}
 use Rattle.lid_check.specs.Networks.{AreNumbersOf}
-use Rattle.lid_strict.specs.Networks.{driver_of, reads_of, HasCover, AreHeldBelow, rows_at}
-use Rattle.lid_check.proofs.Covered.{IsCovered, all_covered}
+use Rattle.lid_strict.specs.Networks.{driver_of, reads_of, AreHeldBelow, rows_at}
 use Rattle.lid_strict.proofs.Tables.{map_map, numbered, table}
-
--- what holds of the item at each place holds of all
-all_from_at : {A : Type 0} (P : A → Type 0) (xs : List A) → ((k : ℕ) (x : A) → slice_get xs k ≡ Some x → P x) → AllByRecursion P xs
-all_from_at P [] each = tt
-all_from_at P (x ∷ xs) each = (each zero x refl, all_from_at P xs (λ k y here. each (suc k) y here))
 
 all_right : {A : Type 0} (P : A → Type 0) (xs ys : List A) → AllByRecursion P (xs ++ ys) → AllByRecursion P ys
 all_right P [] ys all = all
@@ -46,26 +41,8 @@ map_names f [] = refl
 map_names f (n ∷ names) = ap (λ (bs : List Bool). f (column [] n) ∷ bs) (map_names f names)
 
 module _ (d : Design) (list : List ColumnDriver) (starts : List ℕ) (is : IsElaborated d (map (shown_driver d) list) starts) where
-  uncovered : (s : Driver ℕ) → IsCovered (map_driver (column_at d) s) → HasCover s
-  uncovered (from_input j) h = tt
-  uncovered (from_latch first input) h = tt
-  uncovered (from_cover cover inputs) h = (h.0, h.1 ∙ length-map inputs (column_at d))
-  uncovered (from_connection other) h = tt
-
-  pub covers : IsWellFormed d → AllByRecursion (λ driver. HasCover (shown_driver d driver)) list
-  covers formed = all_from_at (λ (driver : ColumnDriver). HasCover (shown_driver d driver)) list each
-    where
-      each : (k : ℕ) (driver : ColumnDriver) → slice_get list k ≡ Some driver → HasCover (shown_driver d driver)
-      each k driver here =
-          let shown : slice_get (map (shown_driver d) list) k ≡ Some (shown_driver d driver) = slice_get-map (shown_driver d) list k ∙ ap (option_map (shown_driver d)) here in
-          let driven = is.each k (column_at d k) (column_here d (map (shown_driver d) list) starts is k (slice_get_within (map (shown_driver d) list) k (shown_driver d driver) shown)) in
-          let e : Some (shown_driver d driver) ≡ Some driven.driver = sym shown ∙ driven.here in
-          let same_driver : driven.driver ≡ shown_driver d driver = cc in
-          let all = subst (λ (ss : List (Driver Column)). AllByRecursion IsCovered ss) driven.only (all_covered d formed (column_at d k)) in
-          subst HasCover same_driver (uncovered driven.driver all.0)
-
   pub held_below : AreHeldBelow (map (shown_driver d) list)
-  held_below = all_from_at (λ (s : Driver ℕ). AllByRecursion (λ a. a < length (map (shown_driver d) list)) (read_before s)) (map (shown_driver d) list) each
+  held_below = all_of_each (λ (s : Driver ℕ). AllByRecursion (λ a. a < length (map (shown_driver d) list)) (read_before s)) (map (shown_driver d) list) (λ s among. let at = among_get (map (shown_driver d) list) s among in each at.0 s at.1)
     where
       each : (k : ℕ) (s : Driver ℕ) → slice_get (map (shown_driver d) list) k ≡ Some s → AllByRecursion (λ a. a < length (map (shown_driver d) list)) (read_before s)
       each k s here =

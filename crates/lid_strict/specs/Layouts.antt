@@ -1,21 +1,18 @@
 -- Networks laid out for running, in an order of their numbers.
-use Rattle.std.specs.Prelude.{◌≡◌, ◌++◌, ◌<◌, ℕ, Bool, true, zero, suc, List, [], ◌∷◌, length, map, slice_index_or}
+use Rattle.std.specs.Prelude.{◌≡◌, ◌++◌, ◌<◌, ℕ, Bool, zero, suc, List, [], ◌∷◌, length, map, slice_index_or}
 use Rattle.std.specs.List.{AllByRecursion, flat_map}
 use Rattle.lid_base.specs.Lists.{Among}
-use Rattle.lid_cover.specs.declared.Cover.{Cover}
 use Rattle.lid_design.specs.declared.FlatLatch.{FlatLatch}
 use Rattle.lid_design.specs.declared.FlatCover.{FlatCover}
 use Rattle.lid_design.specs.Network.{Driver, from_input, from_latch, from_cover, from_connection, Table}
 use Rattle.lid_design.specs.Flat.{latch_out, latch_input, latch_init, ReadEarlier, IsRow}
+use Rattle.lid_flatten.specs.Inner.{latches_of, cells_of}
 use Rattle.lid_settle.specs.Programs.{shown, IsReady}
 use Rattle.lid_settle.specs.Rows.{bit_at, after}
 use Rattle.lid_strict.specs.Networks.{rows_at}
 use Rattle.lid_strict.specs.declared.layout.Layout.{Layout}
 
--- the cover that gives its one input
-abbrev pub buffer : Cover
-buffer = record { inputs = 1; on = true; cubes = record { care = 1; value = 1 } ∷ [] }
-
+-- the driver of a number
 abbrev pub driver_at : List (Driver ℕ) → ℕ → Driver ℕ
 driver_at network k = slice_index_or network k (from_input 0)
 
@@ -31,20 +28,6 @@ input_places (from_input j) = j ∷ []
 input_places (from_latch first input) = []
 input_places (from_cover cover inputs) = []
 input_places (from_connection other) = []
-
--- the latch that gives number k its bit
-abbrev pub latches_of : ℕ → Driver ℕ → List FlatLatch
-latches_of k (from_input j) = []
-latches_of k (from_latch first input) = record { input = input; out = k; init = first } ∷ []
-latches_of k (from_cover cover inputs) = []
-latches_of k (from_connection other) = []
-
--- the cover that gives number k its bit, which is a buffer where a connection does
-abbrev pub cells_of : ℕ → Driver ℕ → List FlatCover
-cells_of k (from_input j) = []
-cells_of k (from_latch first input) = []
-cells_of k (from_cover cover inputs) = record { ins = inputs; out = k; cover = cover } ∷ []
-cells_of k (from_connection other) = record { ins = other ∷ []; out = k; cover = buffer } ∷ []
 
 -- what of each number of an order, one after the other
 abbrev pub nets_in : List (Driver ℕ) → List ℕ → List ℕ

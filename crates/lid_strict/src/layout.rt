@@ -8,13 +8,16 @@ ghost use Rattle.lid_digraph.specs.Graphs.{IsOrder};
 ghost use Rattle.lid_elab.specs.Covers.{no_cover};
 ghost use Rattle.lid_elab.specs.Elaborations.{shown_driver};
 ghost use Rattle.lid_settle.specs.Programs.{shown, IsProgram};
-ghost use Rattle.lid_strict.specs.Networks.{reads_of, HasCover};
-ghost use Rattle.lid_strict.specs.Layouts.{buffer, input_nets, input_places, latches_of, cells_of, IsLaidOut};
+ghost use Rattle.lid_strict.specs.Networks.{reads_of};
+ghost use Rattle.lid_flatten.specs.Parts.{HasCover};
+ghost use Rattle.lid_flatten.specs.Inner.{buffer, latches_of, cells_of};
+ghost use Rattle.lid_strict.specs.Layouts.{input_nets, input_places, IsLaidOut};
 
 use lid_base::Items;
-use lid_cover::{Cover, Cube};
+use lid_cover::Cover;
 use lid_design::{Design, FlatLatch};
 use lid_elab::{ColumnDriver, cover_at};
+use lid_flatten::buffer;
 use lid_settle::Program;
 use std::alloc::{AllocError, Global};
 
@@ -47,7 +50,7 @@ pub fn lay_out(
     order: &[u32],
 ) -> Result<Layout, AllocError>
     requires ordered { IsOrder (reads_of (map (shown_driver design.now) drivers.now)) order.now }
-    requires covers { AllByRecursion (λ driver. HasCover (shown_driver design.now driver)) drivers.now }
+    requires covers { AllByRecursion (HasCover design.now) drivers.now }
     ensures { IfOk result (IsLaidOut (map (shown_driver design.now) drivers.now) order.now) }
 {
     let plain = plain_covers(alloc)?;
@@ -85,14 +88,9 @@ fn plain_covers(alloc: Global) -> Result<PlainCovers, AllocError>
     ensures buffer { IfOk result (λ plain. plain.buffer ≡ buffer) }
     ensures none { IfOk result (λ plain. plain.none ≡ no_cover) }
 {
-    let mut cubes = Vec::new(alloc);
-    cubes.push(Cube { care: 1, value: 1 })?;
+    let buffer = buffer(alloc)?;
     Ok(PlainCovers {
-        buffer: Cover {
-            inputs: 1,
-            on: true,
-            cubes: Items::from_vec(cubes),
-        },
+        buffer,
         none: Cover {
             inputs: 0,
             on: false,
@@ -114,7 +112,7 @@ fn push_driver(
     requires program { IsProgram 0 layout.old.program }
     requires number { number < layout.old.program.nets }
     requires reads { AllByRecursion (λ k. k < layout.old.program.nets) (read_now (shown_driver design.now driver.now)) }
-    requires cover { HasCover (shown_driver design.now driver.now) }
+    requires cover { HasCover design.now driver.now }
     ensures program { OnOk result (IsProgram 0 layout.new.program) }
     ensures nets { OnOk result (layout.new.program.nets ≡ layout.old.program.nets) }
     ensures covers { OnOk result (shown layout.new.program ≡ shown layout.old.program ++ cells_of number (shown_driver design.now driver.now)) }

@@ -7,7 +7,8 @@ ghost use Rattle.lid_design.specs.Flat.{latch_init, latch_input};
 ghost use Rattle.lid_digraph.specs.Graphs.{IsOrder};
 ghost use Rattle.lid_elab.specs.Elaborations.{shown_driver};
 ghost use Rattle.lid_settle.specs.Rows.{bit_at};
-ghost use Rattle.lid_strict.specs.Networks.{driver_of, reads_of, AreHeldBelow, HasCover, rows_at};
+ghost use Rattle.lid_flatten.specs.Parts.{HasCover};
+ghost use Rattle.lid_strict.specs.Networks.{driver_of, reads_of, AreHeldBelow, rows_at};
 ghost use Rattle.lid_strict.specs.Layouts.{IsRunnable, FitsRow, FitsTable};
 
 use crate::layout::{Layout, lay_out};
@@ -84,7 +85,7 @@ pub fn simulate(
     rows: &[Items<bool>],
 ) -> Result<Items<Items<bool>>, AllocError>
     requires ordered { IsOrder (reads_of (map (shown_driver design.now) drivers.now)) order.now }
-    requires covers { AllByRecursion (λ driver. HasCover (shown_driver design.now driver)) drivers.now }
+    requires covers { AllByRecursion (HasCover design.now) drivers.now }
     requires held { AreHeldBelow (map (shown_driver design.now) drivers.now) }
     requires outs { AllByRecursion (λ k. k < length drivers.now) outs.now }
     ensures { IfOk result (λ out. (b : Table ℕ) → IsStrict (driver_of (map (shown_driver design.now) drivers.now)) rows.now b → out ≡ rows_at outs.now b (length rows.now)) }

@@ -1,9 +1,10 @@
-use Rattle.std.proofs.Common.{◌≡◌, ◌<◌, ◌+◌, ◌++◌, ℕ, List, length, map, take, slice_index_or, ap, arith}
+use Rattle.std.proofs.Common.{slice_index_or, ap, arith}
 use Rattle.std.proofs.lemmas.List.{length-map}
 use Rattle.lid_base.proofs.Lists.{among_at}
-use Rattle.lid_elab.specs.declared.driver.ColumnDriver.TheVariants.{Input}
-use Rattle.lid_elab.specs.Elaborations.{driver_reads}
-use Rattle.lid_flatten.specs.Inner.{latches_of, covers_of}
+use Rattle.lid_elab.specs.declared.driver.ColumnDriver.{ColumnDriver}
+use Rattle.lid_elab.specs.Elaborations.{driver_reads, shown_driver}
+use Rattle.lid_flatten.specs.Parts.{driver_at}
+use Rattle.lid_flatten.specs.Inner.{latches_of, cells_of}
 use Rattle.lid_flatten.proofs.Lists.{pushed_more}
 use Rattle.lid_flatten.proofs.Nets.{read_at}
 use Rattle.lid_flatten.proofs.cells.push_cells.Goals as goal
@@ -27,6 +28,6 @@ loop-net-preserved c =
     let same = read_at inner net c.index-inner-net.result (omega arith) c.index-inner-net.is in
     let new = c.in_ok-push_cell.ensures in
     record {
-      latches = pushed_more (λ k. latches_of k (slice_index_or inner k (Input 0))) order i h _ _ _ _ (ap (latches_of net) same) c.loop-net.invariant.latches new.latches;
-      covers = pushed_more (λ k. covers_of d k (slice_index_or inner k (Input 0))) order i h _ _ _ _ (ap (covers_of d net) same) c.loop-net.invariant.covers new.covers;
+      latches = pushed_more (λ k. latches_of k (shown_driver d (driver_at inner k))) order i h _ _ _ _ (ap (λ (s : ColumnDriver). latches_of net (shown_driver d s)) same) c.loop-net.invariant.latches new.latches;
+      covers = pushed_more (λ k. cells_of k (shown_driver d (driver_at inner k))) order i h _ _ _ _ (ap (λ (s : ColumnDriver). cells_of net (shown_driver d s)) same) c.loop-net.invariant.covers new.covers;
     }

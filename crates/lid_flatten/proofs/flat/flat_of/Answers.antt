@@ -1,5 +1,5 @@
-use Rattle.std.proofs.Common.{ℕ, List, map, refl, sym, ◌∙◌, ap}
-use Rattle.lid_flatten.specs.Inner.{latches_in, covers_in}
+use Rattle.std.proofs.Common.{ℕ, List, refl, ◌∙◌, ap}
+use Rattle.lid_flatten.specs.Inner.{latches_in, cells_in}
 use Rattle.lid_flatten.proofs.Looping.{graph_by, loops_by, flattened_by}
 use Rattle.lid_flatten.proofs.flat.flat_of.Goals as goal
 
@@ -15,5 +15,5 @@ returns c =
     let inner = c.args.inner.now in
     let order = c.in_ok-order.order in
     flattened_by c.args.drivers.now c.args.part c.requires.part inner c.requires.inner d _ order c.requires.few c.in_ok-order.ensures c.requires.covers refl c.in_ok-ports.ensures.ins c.in_ok-ports.ensures.outs
-    (c.from_vec.ensures ∙ c.in_ok-cells.ensures.latches ∙ ap (λ (ks : List ℕ). latches_in inner ks) c.as_slice.ensures)
-    (c.from_vec-2.ensures ∙ c.in_ok-cells.ensures.covers ∙ ap (λ (ks : List ℕ). covers_in d inner ks) c.as_slice.ensures)
+    (c.from_vec.ensures ∙ c.in_ok-cells.ensures.latches ∙ ap (λ (ks : List ℕ). latches_in d inner ks) c.as_slice.ensures)
+    (c.from_vec-2.ensures ∙ c.in_ok-cells.ensures.covers ∙ ap (λ (ks : List ℕ). cells_in d inner ks) c.as_slice.ensures)

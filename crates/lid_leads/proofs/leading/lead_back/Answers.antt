@@ -1,4 +1,4 @@
-use Rattle.std.proofs.Common.{ℕ, Option, length, set, get_or, refl, ap}
+use Rattle.std.proofs.Common.{Option, length, set, get_or, refl, ap}
 use Rattle.lid_leads.specs.declared.origin.Origin.{Origin}
 use Rattle.std.proofs.lemmas.List.{take_all}
 use Rattle.lid_leads.proofs.Stepping.{item_within, item_there, covered_at, driver_there, led_more, led_first, led_all}

@@ -1,9 +1,7 @@
 use Rattle.std.proofs.Common.{◌≡◌, ◌≤◌, List, length, sym, subst, inl, inr}
-use Rattle.lid_system.specs.declared.Channel.{Channel}
 use Rattle.lid_channels.specs.declared.reads.Read.{Read}
 use Rattle.lid_channels.specs.Pieces.{AreChannelsOf}
-use Rattle.lid_net.specs.Systems.{AreNodesOf}
-use Rattle.lid_net.proofs.Joining.{graph_of, system_is, formed}
+use Rattle.lid_net.proofs.Joining.{graph_of, joined}
 use Rattle.lid_net.proofs.assembly.join.Goals as goal
 
 pub returns-in-Err-cut_channels-clause-err : goal.returns-in-Err-cut_channels-clause-err
@@ -20,20 +18,10 @@ returns-in-Ok-nodes_of-clause-graph c =
 
 pub returns-in-Ok-nodes_of-clause-system : goal.returns-in-Ok-nodes_of-clause-system
 returns-in-Ok-nodes_of-clause-system c =
-    let d = c.args.checked.now in
-    let origins = c.in-Ok.leads.origins.items in
-    let channels = c.in-Ok-cut_channels.channels in
-    system_is d c.args.parts.items origins channels c.in-Ok-nodes_of.nodes c.in-Ok.leads.reads.items c.requires c.in-Ok.ensures
-    (subst (λ (rs : List Read). AreChannelsOf rs channels) c.as_slice-2.ensures.value c.in-Ok-cut_channels.ensures.ok.0)
-    (subst (λ (cs : List Channel). AreNodesOf d c.args.parts.items origins cs c.in-Ok-nodes_of.nodes) c.as_slice-3.ensures c.in-Ok-nodes_of.ensures)
-    c.in-Ok-cut_channels.ensures.ok.1 c.requires.few
+    (joined c.args.checked.now c.args.parts.items c.in-Ok.leads.origins.items c.in-Ok-cut_channels.channels _ c.in-Ok-nodes_of.nodes c.in-Ok.leads.reads.items _
+    c.requires c.in-Ok.ensures c.as_slice-2.ensures.value c.in-Ok-cut_channels.ensures.ok.0 c.as_slice-3.ensures c.in-Ok-nodes_of.ensures c.in-Ok-cut_channels.ensures.ok.1).0
 
 pub returns-in-Ok-nodes_of-clause-formed : goal.returns-in-Ok-nodes_of-clause-formed
 returns-in-Ok-nodes_of-clause-formed c =
-    let d = c.args.checked.now in
-    let origins = c.in-Ok.leads.origins.items in
-    let channels = c.in-Ok-cut_channels.channels in
-    formed d c.args.parts.items origins channels c.in-Ok-nodes_of.nodes c.in-Ok.leads.reads.items c.requires c.in-Ok.ensures
-    (subst (λ (rs : List Read). AreChannelsOf rs channels) c.as_slice-2.ensures.value c.in-Ok-cut_channels.ensures.ok.0)
-    (subst (λ (cs : List Channel). AreNodesOf d c.args.parts.items origins cs c.in-Ok-nodes_of.nodes) c.as_slice-3.ensures c.in-Ok-nodes_of.ensures)
-    c.in-Ok-cut_channels.ensures.ok.1 c.requires.few
+    (joined c.args.checked.now c.args.parts.items c.in-Ok.leads.origins.items c.in-Ok-cut_channels.channels _ c.in-Ok-nodes_of.nodes c.in-Ok.leads.reads.items _
+    c.requires c.in-Ok.ensures c.as_slice-2.ensures.value c.in-Ok-cut_channels.ensures.ok.0 c.as_slice-3.ensures c.in-Ok-nodes_of.ensures c.in-Ok-cut_channels.ensures.ok.1).1

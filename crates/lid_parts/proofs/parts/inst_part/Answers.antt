@@ -1,7 +1,7 @@
 use Rattle.std.proofs.Common.{◌≡◌, ◌+◌, ◌-◌, ◌≤◌, ℕ, List, length, Some, None, slice_index_or, sym, ◌∙◌, ap, subst, arith}
 use Rattle.lid_design.proofs.Reached.{root_reached}
 use Rattle.lid_design.specs.declared.Design.{Design}
-use Rattle.lid_design.specs.Models.{IsReached, data_inputs_of, instance_number, insts_of}
+use Rattle.lid_design.specs.Models.{data_inputs_of, instance_number}
 use Rattle.lid_wiring.specs.Judged.{IsJudged}
 use Rattle.lid_wiring.proofs.Wired.{some_of_is}
 use Rattle.lid_parts.specs.PearlParts.{outputs_of}

@@ -1,8 +1,16 @@
-use Rattle.std.proofs.Common.{List, length, sym, ap, subst, arith}
+use Rattle.std.proofs.Common.{ℕ, ◌+◌, List, [], ◌∷◌, length, sym, ◌∙◌, ap, subst, arith, length-append}
 use Rattle.lid_flatten.specs.declared.part.Part.{Part}
-use Rattle.lid_parts.specs.PearlParts.{ArePearlParts}
-use Rattle.lid_parts.proofs.Finding.{inst_count}
+use Rattle.lid_flatten.specs.Parts.{IsPart}
+use Rattle.lid_parts.specs.PearlParts.{IsPearlPart, ArePearlParts}
+use Rattle.lid_parts.proofs.Finding.{inst_count, each_more}
 use Rattle.lid_parts.proofs.parts.inst_parts.Goals as goal
+
+pub loop-i-preserved : goal.loop-i-preserved
+loop-i-preserved c = record {
+  count = ap length c.in_ok-push.ensures.items ∙ length-append c.loop-i.parts.items (c.inst_part.result ∷ []) ∙ ap (λ (n : ℕ). n + 1) c.loop-i.invariant.count;
+  each = each_more (λ (p : ℕ) (part : Part). IsPearlPart c.args.columns.now.design p part × IsPart c.args.columns.now.drivers part) c.loop-i.parts.items c.push.new.self.items c.loop-i.i c.inst_part.result
+      c.loop-i.invariant.count c.loop-i.invariant.each c.inst_part.ensures c.in_ok-push.ensures.items;
+}
 
 pub returns : goal.returns
 returns c =

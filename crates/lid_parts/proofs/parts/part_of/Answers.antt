@@ -1,8 +1,7 @@
-use Rattle.std.proofs.Common.{◌≡◌, ◌<◌, ℕ, List, length, sym, ◌∙◌, ap, subst, arith}
+use Rattle.std.proofs.Common.{◌≡◌, ◌<◌, List, length, sym, ◌∙◌, ap, subst, arith}
 use Rattle.lid_design.specs.declared.Design.{Design}
 use Rattle.lid_design.specs.declared.Model.{Model}
 use Rattle.lid_hierarchy.proofs.Walks.{reached_below}
-use Rattle.lid_parts.specs.PearlParts.{outputs_of}
 use Rattle.lid_parts.proofs.Finding.{outputs_read}
 use Rattle.lid_parts.proofs.parts.part_of.Goals as goal
 

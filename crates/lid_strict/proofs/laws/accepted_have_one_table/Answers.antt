@@ -1,4 +1,5 @@
-use Rattle.lid_strict.proofs.Accepted.{judged_of, driven_of, table_of, one_table_of}
+use Rattle.lid_check.proofs.Sound.{judged_of}
+use Rattle.lid_strict.proofs.Accepted.{driven_of, table_of, one_table_of}
 use Rattle.lid_strict.proofs.laws.accepted_have_one_table.Goals as goal
 
 pub returns : goal.returns

@@ -5,8 +5,10 @@ use Rattle.lid_design.specs.Columns.{IsStrictOutput}
 use Rattle.lid_digraph.specs.Graphs.{IsOrder}
 use Rattle.lid_elab.specs.declared.driver.ColumnDriver.{ColumnDriver}
 use Rattle.lid_elab.specs.Elaborations.{shown_driver}
-use Rattle.lid_strict.specs.Networks.{HasCover, AreHeldBelow, driver_of, reads_of, rows_at}
-use Rattle.lid_strict.proofs.Outputs.{covers, held_below, strict_output}
+use Rattle.lid_strict.specs.Networks.{AreHeldBelow, driver_of, reads_of, rows_at}
+use Rattle.lid_flatten.specs.Parts.{HasCover}
+use Rattle.lid_check.proofs.Flats.{covers}
+use Rattle.lid_strict.proofs.Outputs.{held_below, strict_output}
 use Rattle.lid_strict.proofs.Running.{if_ok}
 use Rattle.lid_strict.proofs.whole.run.Goals as goal
 
@@ -19,7 +21,7 @@ simulate-requires-clause-ordered c =
 pub simulate-requires-clause-covers : goal.simulate-requires-clause-covers
 simulate-requires-clause-covers c =
     let d = c.args.design.now in
-    subst (AllByRecursion (λ (driver : ColumnDriver). HasCover (shown_driver d driver))) (sym c.as_slice-drivers.ensures)
+    subst (AllByRecursion (HasCover d)) (sym c.as_slice-drivers.ensures)
     (covers d c.args.network.now.columns.drivers c.args.network.now.columns.starts c.requires.network.elaborated c.requires.formed)
 
 pub simulate-requires-clause-held : goal.simulate-requires-clause-held

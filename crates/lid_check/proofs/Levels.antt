@@ -10,7 +10,7 @@ use Rattle.lid_design.specs.WellFormed.{IsWellFormed}
 use Rattle.lid_design.specs.Models.{Ascend, AreReached, HasNoRecursion, IsReached, insts_of, number_named, instance_number, number_from}
 use Rattle.lid_hierarchy.specs.Surveys.{StandsAfterItsModels, IsModelOrder}
 use Rattle.lid_wiring.proofs.Shallow.{IsShallow}
-use Rattle.lid_strict.proofs.Descent.{without}
+use Rattle.lid_check.proofs.Descent.{without}
 use Rattle.lid_hierarchy.proofs.Walks.{reached_below}
 
 module _ (d : Design) where
