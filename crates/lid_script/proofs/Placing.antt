@@ -1,7 +1,7 @@
 -- What the answers of the readers of placements and certificates say, and how the steps that read them
 -- make a script.
-use Rattle.std.proofs.Common.{◌≡◌, ℕ, ◌≤◌, List, Option, Some, None, Result, Ok, Err, ◌⊎◌, inl, inr, refl, sym, ◌∙◌, ap, subst, arith}
-use Rattle.lid_base.specs.Outside.{Rose}
+use Rattle.std.proofs.Common.{◌≡◌, ℕ, ◌≤◌, List, Option, Some, None, Result, Ok, Err, IfOk, IfErr, ◌⊎◌, inl, inr, refl, sym, ◌∙◌, ap, subst, arith}
+use Rattle.lid_base.proofs.Results.{if_ok, if_err}
 use Rattle.lid_design.specs.declared.Design.{Design}
 use Rattle.lid_system.specs.declared.Channel.{Channel}
 use Rattle.lid_cert.specs.declared.cert.Cert.{Cert}
@@ -98,6 +98,13 @@ module _ (held : List ℕ → Option (List ℕ)) (net : List ℕ) (root : Option
       (cause_checked held root g.design built b.checked mid after stop b.is_checked
       (cause_decided held (HasChannels b.checked) (IsOverfull b.checked) (λ channels. next (links b.checked channels)) b.channels mid after stop b.has
       (subst (λ x. IsCause held (next x) mid after stop) b.links_are c)))
+
+  -- the same of a call that ends as `next` does, over a shelf that holds the same
+  pub text_ok : {A E : Type 0} (items : A → List ℕ) (result : Result A E) (l : Links) (now : List ℕ → Option (List ℕ)) → GotSystem held net root l → now ≡ held → IfOk result (λ t. HasText now (next l) (items t)) → IfOk result (λ t. HasText held (system_step net root next) (items t))
+  text_ok items result l now g same h = if_ok result (λ t x. text_built l (items t) g (subst (λ (w : List ℕ → Option (List ℕ)). HasText w (next l) (items t)) same x)) h
+
+  pub cause_err : {A : Type 0} (result : Result A Stop) (l : Links) (now : List ℕ → Option (List ℕ)) (before mid after : List ℕ → ℕ) → GotSystem held net root l → now ≡ held → ((q : List ℕ) → before q ≤ mid q) → IfErr result (λ stop. IsCause now (next l) mid after stop) → IfErr result (λ stop. IsCause held (system_step net root next) before after stop)
+  cause_err result l now before mid after g same grows h = if_err result (λ stop x. cause_built l before mid after stop g grows (subst (λ (w : List ℕ → Option (List ℕ)). IsCause w (next l) mid after stop) same x)) h
 
   pub cause_unbuilt : (before after : List ℕ → ℕ) (stop : Stop) → MissesSystem held net root before after stop → IsCause held (system_step net root next) before after stop
   cause_unbuilt before after (Refused refusal) (inl m) = cause_here held net net_limit net_reading read before after (Refused refusal) m
