@@ -1,0 +1,129 @@
+-- Markings are paired graphs, and each closed walk has a token: edges without one rise, from mover to mover,
+-- and to nodes.
+use Rattle.std.proofs.Common.{◌≡◌, ℕ, zero, suc, ◌+◌, ◌<◌, ◌≤◌, ◌==◌, nat_lt, Bool, true, false, cond, length, get_or, refl, sym, ◌∙◌, ap, lt-ltb, le-ltb, arith}
+use Rattle.lid_graph.specs.declared.graph.Edge.{Edge}
+use Rattle.lid_graph.specs.declared.graph.Graph.{Graph}
+use Rattle.lid_graph.specs.Walks.{edge_at, AreEndsPaired, HasSelfEdge, WalksHaveTokens}
+use Rattle.lid_graph.specs.Rateable.{IsRateable}
+use Rattle.lid_firings.specs.Laws.{RiseWithoutTokens}
+use Rattle.lid_firings.proofs.Alive.{numbers_show_tokens}
+use Rattle.lid_system.specs.declared.System.{System}
+use Rattle.lid_system.specs.Systems.{IsWellFormed}
+use Rattle.lid_stations.specs.declared.placement.Placement.{Placement}
+use Rattle.lid_stations.specs.Placements.{station_count, Fits}
+use Rattle.lid_stations.specs.Stations.{Spot, actor_count, mover, channel_at, fills, drains, starts, start_count}
+use Rattle.lid_stations.specs.Markings.{marking}
+use Rattle.lid_stations.proofs.Spots.{Stands, stands, starts_small, few_actors, cap_range, channel_there, mover_below, stands_between}
+use Rattle.lid_stations.proofs.Edges.{node_count, edges_long, forth_at, back_at, self_at, by_edge}
+
+module _ (s : System) (p : Placement) (well : IsWellFormed s) (fits : Fits s p) where
+  abbrev g : Graph
+  g = marking s p
+
+  abbrev count : ℕ
+  count = station_count p.relays
+
+  abbrev from_of : Edge → ℕ
+  from_of e = e.from
+
+  abbrev to_of : Edge → ℕ
+  to_of e = e.to
+
+  abbrev tokens_of : Edge → ℕ
+  tokens_of e = e.tokens
+
+  -- the two edges of a station lead back from each other
+  forth_paired : (station : ℕ) → station < count → AreEndsPaired g (station + station)
+  forth_paired station h =
+      let between = stands_between s p well fits station h in
+      let filled = between.filled in
+      let drained = between.drained in
+      record {
+        from = omega (arith, ap from_of (forth_at s p station h), node_count s p);
+        to = omega (arith, ap to_of (forth_at s p station h), node_count s p);
+        back = (suc (station + station), omega (arith, edges_long s p), ap from_of (back_at s p station h) ∙ sym (ap to_of (forth_at s p station h)), ap to_of (back_at s p station h) ∙ sym (ap from_of (forth_at s p station h)));
+      }
+
+  back_paired : (station : ℕ) → station < count → AreEndsPaired g (suc (station + station))
+  back_paired station h =
+      let between = stands_between s p well fits station h in
+      let filled = between.filled in
+      let drained = between.drained in
+      record {
+        from = omega (arith, ap from_of (back_at s p station h), node_count s p);
+        to = omega (arith, ap to_of (back_at s p station h), node_count s p);
+        back = (station + station, omega (arith, edges_long s p), ap from_of (forth_at s p station h) ∙ sym (ap to_of (back_at s p station h)), ap to_of (forth_at s p station h) ∙ sym (ap from_of (back_at s p station h)));
+      }
+
+  self_there : (v : ℕ) → v < actor_count s p → HasSelfEdge g v
+  self_there v h = ((count + count) + v, omega (arith, edges_long s p), ap from_of (self_at s p v h), ap to_of (self_at s p v h), ap tokens_of (self_at s p v h))
+
+  self_paired : (v : ℕ) → v < actor_count s p → AreEndsPaired g ((count + count) + v)
+  self_paired v h = record {
+    from = omega (arith, ap from_of (self_at s p v h), node_count s p);
+    to = omega (arith, ap to_of (self_at s p v h), node_count s p);
+    back = ((count + count) + v, omega (arith, edges_long s p), ap from_of (self_at s p v h) ∙ sym (ap to_of (self_at s p v h)), ap to_of (self_at s p v h) ∙ sym (ap from_of (self_at s p v h)));
+  }
+
+  small : (station : ℕ) → start_count p station ≤ 1
+  small station = starts_small _
+
+  few_tokens : (k : ℕ) → k < length g.edges → (edge_at g k).tokens ≤ 16
+  few_tokens = by_edge s p (λ k. (edge_at g k).tokens ≤ 16) along backward (λ v h. omega (arith, ap tokens_of (self_at s p v h)))
+    where
+      along : (station : ℕ) → station < count → (edge_at g (station + station)).tokens ≤ 16
+      along station h = omega (arith, ap tokens_of (forth_at s p station h), small station)
+
+      backward : (station : ℕ) → station < count → (edge_at g (suc (station + station))).tokens ≤ 16
+      backward station h = let range = cap_range s p well fits station h in let most = range.1 in omega (arith, ap tokens_of (back_at s p station h))
+
+  pub rateable : IsRateable g
+  rateable = record {
+    paired = record { ends = by_edge s p (AreEndsPaired g) forth_paired back_paired self_paired; self = λ v h. self_there v (omega (arith, node_count s p)) };
+    some = omega (arith, node_count s p, well.least);
+    nodes = omega (arith, node_count s p, few_actors s p well fits);
+    edges = omega (arith, edges_long s p, few_actors s p well fits, fits.rules.most);
+    tokens = few_tokens;
+  }
+
+  -- a mover has its own number, and a node one above those of all movers
+  number : ℕ → ℕ
+  number v = cond (nat_lt v (length s.nodes)) (actor_count s p) v
+
+  of_node : (v : ℕ) → v < length s.nodes → number v ≡ actor_count s p
+  unfolding number
+  of_node v h = ap (λ (b : Bool). cond b (actor_count s p) v) (lt-ltb v (length s.nodes) h)
+
+  of_mover : (v : ℕ) → length s.nodes ≤ v → number v ≡ v
+  unfolding number
+  of_mover v h = ap (λ (b : Bool). cond b (actor_count s p) v) (le-ltb v (length s.nodes) h)
+
+  -- past a relay station the number is higher
+  rises_there : (c i : ℕ) → c < length p.relays → i ≤ get_or p.relays c 0 → starts i ≡ 0 → number (fills s p c i) < number (drains s p c i)
+  rises_there c zero below within none = absurd (omega arith)
+  rises_there c (suc i) below within none = by_last (suc i == get_or p.relays c 0) refl
+    where
+      by_last : (b : Bool) → suc i == get_or p.relays c 0 ≡ b → number (mover s p c i) < number (cond b (channel_at s c).to (mover s p c (suc i)))
+      by_last true e = let ends = (channel_there s p well fits c below).ends in omega (arith, of_mover (mover s p c i) (omega arith), of_node (channel_at s c).to ends, mover_below s p c i below (omega arith))
+      by_last false e = omega (arith, of_mover (mover s p c i) (omega arith), of_mover (mover s p c (suc i)) (omega arith))
+
+  rise : RiseWithoutTokens g number
+  rise = by_edge s p (λ k. (edge_at g k).tokens ≡ 0 → number (edge_at g k).from < number (edge_at g k).to) along backward (λ v h none. absurd (omega (arith, ap tokens_of (self_at s p v h))))
+    where
+      by_spot : (station : ℕ) → station < count → Stands p.relays station → (edge_at g (station + station)).tokens ≡ 0 → number (edge_at g (station + station)).from < number (edge_at g (station + station)).to
+      by_spot station h at none =
+          let c = at.channel in
+          let i = at.place in
+          let from : number (edge_at g (station + station)).from ≡ number (fills s p c i) = ap number (ap from_of (forth_at s p station h) ∙ ap (λ (spot : Spot). fills s p spot.channel spot.place) at.is.spot) in
+          let to : number (edge_at g (station + station)).to ≡ number (drains s p c i) = ap number (ap to_of (forth_at s p station h) ∙ ap (λ (spot : Spot). drains s p spot.channel spot.place) at.is.spot) in
+          let tokens : (edge_at g (station + station)).tokens ≡ starts i = ap tokens_of (forth_at s p station h) ∙ ap (λ (spot : Spot). starts spot.place) at.is.spot in
+          omega (arith, rises_there c i at.is.below at.is.within (sym tokens ∙ none))
+
+      along : (station : ℕ) → station < count → (edge_at g (station + station)).tokens ≡ 0 → number (edge_at g (station + station)).from < number (edge_at g (station + station)).to
+      along station h none = by_spot station h (stands p.relays station h) none
+
+      backward : (station : ℕ) → station < count → (edge_at g (suc (station + station))).tokens ≡ 0 → number (edge_at g (suc (station + station))).from < number (edge_at g (suc (station + station))).to
+      backward station h none = let range = cap_range s p well fits station h in let least = range.0 in absurd (omega (arith, ap tokens_of (back_at s p station h), small station))
+
+  pub have_tokens : WalksHaveTokens g
+  have_tokens = numbers_show_tokens g number rise

@@ -1,0 +1,4 @@
+pub mod Placements
+pub mod Stations
+pub mod Markings
+pub mod Laws

@@ -1,0 +1,170 @@
+//! The marked graph of a placement.
+
+ghost use Rattle.std.specs.Prelude.{◌≡◌, ◌<◌, ◌≤◌, ◌+◌, ◌-◌, ◌++◌, [], ◌∷◌, length, take, slice_index_or, IfOk, OnOk};
+ghost use Rattle.std.specs.List.{flat_map};
+ghost use Rattle.lid_design.specs.Network.{from_each};
+ghost use Rattle.lid_graph.specs.declared.graph.Edge.{Edge};
+ghost use Rattle.lid_graph.specs.Rateable.{IsRateable};
+ghost use Rattle.lid_graph.specs.Walks.{WalksHaveTokens};
+ghost use Rattle.lid_system.specs.Systems.{IsWellFormed};
+ghost use Rattle.lid_stations.specs.Placements.{Fits, station_count};
+ghost use Rattle.lid_stations.specs.Stations.{actor_count, fills, drains, starts, mover};
+ghost use Rattle.lid_stations.specs.Markings.{marking, station_edges, self_edge};
+
+use crate::placement::Placement;
+use lid_base::Items;
+use lid_graph::{Edge, Graph};
+use lid_system::System;
+use std::alloc::{AllocError, Global};
+
+/// The marked graph of a system whose channels have such stations. Its transitions are the actors: the
+/// nodes, and the movers that fill relay stations. Station s has edge 2s, from the actor that fills it to
+/// the one that drains it, with its start tokens, and edge 2s + 1 back, with as many tokens as it has
+/// room for more. Then each transition has an edge to itself with one token.
+///
+/// # Errors
+/// Where there is no memory.
+pub fn marking(alloc: Global, system: &System, placement: &Placement) -> Result<Graph, AllocError>
+    requires system { IsWellFormed system.now }
+    requires fits { Fits system.now placement.now }
+    ensures is { IfOk result (λ g. g ≡ marking system.now placement.now) }
+    ensures rateable { IfOk result IsRateable }
+    ensures tokens { IfOk result WalksHaveTokens }
+{
+    let nodes = actors(system, placement);
+    let mut edges = Vec::new(alloc);
+    push_stations(system, placement, &mut edges)?;
+    push_self_edges(nodes, &mut edges)?;
+    Ok(Graph {
+        nodes,
+        edges: Items::from_vec(edges),
+    })
+}
+
+/// How many actors there are: all nodes, and a mover for each station but the last of each channel.
+fn actors(system: &System, placement: &Placement) -> u32
+    requires system { IsWellFormed system.now }
+    requires fits { Fits system.now placement.now }
+    ensures { result ≡ actor_count system.now placement.now }
+{
+    (system.nodes.len() + (placement.caps.len() - placement.relays.len())) as u32
+}
+
+/// Appends the edges of all stations.
+fn push_stations(
+    system: &System,
+    placement: &Placement,
+    edges: &mut Vec<Edge>,
+) -> Result<(), AllocError>
+    requires system { IsWellFormed system.now }
+    requires fits { Fits system.now placement.now }
+    ensures { OnOk result (edges.new.items ≡ edges.old.items ++ flat_map (station_edges system.now placement.now) (from_each (λ station. station) 0 (station_count placement.now.relays))) }
+{
+    let mut station = 0usize;
+    for c in 0..placement.relays.len() {
+        push_channel(system, placement, c, station, edges)?;
+        station += placement.relays.as_slice()[c] as usize + 1;
+    }
+    Ok(())
+}
+
+/// Appends the edges of the stations of channel c, of which the first has this number.
+fn push_channel(
+    system: &System,
+    placement: &Placement,
+    c: usize,
+    station: usize,
+    edges: &mut Vec<Edge>,
+) -> Result<(), AllocError>
+    requires system { IsWellFormed system.now }
+    requires fits { Fits system.now placement.now }
+    requires there { c < length placement.now.relays }
+    requires first { station ≡ station_count (take c placement.now.relays) }
+    ensures { OnOk result (edges.new.items ≡ edges.old.items ++ flat_map (station_edges system.now placement.now) (from_each (λ station. station) station (slice_index_or placement.now.relays c 0 + 1))) }
+{
+    let first = (system.nodes.len() + (station - c)) as u32;
+    for place in 0..placement.relays.as_slice()[c] + 1 {
+        push_station(
+            edges,
+            filler(system, placement, c, place, first),
+            drainer(system, placement, c, place, first),
+            start_count(place),
+            placement.caps.as_slice()[station + place as usize],
+        )?;
+    }
+    Ok(())
+}
+
+/// The actor that fills the station at a place of channel c, whose first mover is this.
+fn filler(system: &System, placement: &Placement, c: usize, place: u32, first: u32) -> u32
+    requires system { IsWellFormed system.now }
+    requires fits { Fits system.now placement.now }
+    requires there { c < length placement.now.relays }
+    requires within { place ≤ slice_index_or placement.now.relays c 0 }
+    requires first { first ≡ mover system.now placement.now c 0 }
+    ensures { result ≡ fills system.now placement.now c place }
+{
+    if place == 0 {
+        system.channels.as_slice()[c].from
+    } else {
+        first + (place - 1)
+    }
+}
+
+/// The actor that drains the station at a place of channel c, whose first mover is this.
+fn drainer(system: &System, placement: &Placement, c: usize, place: u32, first: u32) -> u32
+    requires system { IsWellFormed system.now }
+    requires fits { Fits system.now placement.now }
+    requires there { c < length placement.now.relays }
+    requires within { place ≤ slice_index_or placement.now.relays c 0 }
+    requires first { first ≡ mover system.now placement.now c 0 }
+    ensures { result ≡ drains system.now placement.now c place }
+{
+    if place == placement.relays.as_slice()[c] {
+        system.channels.as_slice()[c].to
+    } else {
+        first + place
+    }
+}
+
+/// The tokens that the station at a place of a channel starts with.
+fn start_count(place: u32) -> u32
+    ensures { result ≡ starts place }
+{
+    if place == 0 { 1 } else { 0 }
+}
+
+/// Appends the edge along a station and the one back.
+fn push_station(
+    edges: &mut Vec<Edge>,
+    from: u32,
+    to: u32,
+    tokens: u32,
+    capacity: u32,
+) -> Result<(), AllocError>
+    requires { tokens ≤ capacity }
+    ensures { OnOk result (edges.new.items ≡ edges.old.items ++ record { from = from; to = to; tokens = tokens } ∷ record { from = to; to = from; tokens = capacity - tokens } ∷ []) }
+{
+    let back = Edge {
+        from: to,
+        to: from,
+        tokens: capacity - tokens,
+    };
+    edges.push(Edge { from, to, tokens })?;
+    edges.push(back)?;
+    Ok(())
+}
+
+/// Appends an edge from each of so many transitions to itself.
+fn push_self_edges(nodes: u32, edges: &mut Vec<Edge>) -> Result<(), AllocError>
+    ensures { OnOk result (edges.new.items ≡ edges.old.items ++ from_each self_edge 0 nodes) }
+{
+    for v in 0..nodes {
+        edges.push(Edge {
+            from: v,
+            to: v,
+            tokens: 1,
+        })?;
+    }
+    Ok(())
+}
