@@ -4,7 +4,7 @@ ghost use Rattle.std.specs.Prelude.{◌≤◌, IfSome};
 ghost use Rattle.lid_system.specs.Systems.{IsWellFormed};
 
 use lid_base::{Which, append_number};
-use lid_check::check;
+use lid_check::{Checked, check};
 use lid_net::build;
 use lid_placetext::{PlaceFault, place, print_stations, read_stations};
 use lid_stations::Placement;
@@ -16,6 +16,16 @@ const RING: &[u8] = b".model ring\n.outputs y\n.subckt reg0 d=y q=w\n.subckt reg
 .model reg0\n.inputs d\n.outputs q\n.latch d q 0\n.end\n\
 .model reg1\n.inputs d\n.outputs q\n.latch d q 1\n.end\n";
 
+/// The system of an accepted design.
+fn built(alloc: Global, checked: &Checked) -> Option<System>
+    ensures { IfSome result IsWellFormed }
+{
+    match build(alloc, checked) {
+        Ok(system) => Some(system),
+        Err(_) => None,
+    }
+}
+
 /// The system of a netlist.
 fn system_of(alloc: Global, netlist: &[u8]) -> Option<System>
     ensures { IfSome result IsWellFormed }
@@ -23,11 +33,8 @@ fn system_of(alloc: Global, netlist: &[u8]) -> Option<System>
     let Ok(design) = lid_blif::read(alloc, netlist) else {
         return None;
     };
-    let Ok(checked) = check(alloc, design, None) else {
-        return None;
-    };
-    match build(alloc, &checked) {
-        Ok(system) => Some(system),
+    match check(alloc, design, None) {
+        Ok(checked) => built(alloc, &checked),
         Err(_) => None,
     }
 }
