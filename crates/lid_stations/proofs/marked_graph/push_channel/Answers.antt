@@ -15,11 +15,29 @@ within xs relays c place is less = let e : get_or xs c 0 ≡ get_or relays c 0 =
 pub overflow_sub-first : goal.overflow_sub-first
 overflow_sub-first c = let there = c.requires.there in let first = c.requires.first in omega (arith, first_station c.args.placement.now.relays c.args.c (omega arith))
 
-pub filler-requires-clause-first : goal.filler-requires-clause-first
-filler-requires-clause-first c = let there = c.requires.there in let first = c.requires.first in omega (arith, first_station c.args.placement.now.relays c.args.c (omega arith))
+pub filler-requires : goal.filler-requires
+filler-requires c =
+    let there = c.requires.there in
+    let first = c.requires.first in
+    record {
+      system = c.requires.system;
+      fits = c.requires.fits;
+      there = there;
+      within = within c.as_slice.result.now c.args.placement.now.relays c.args.c c.loop-place.place c.as_slice.ensures c.loop-place-test.true;
+      first = omega (arith, first_station c.args.placement.now.relays c.args.c (omega arith));
+    }
 
-pub drainer-requires-clause-first : goal.drainer-requires-clause-first
-drainer-requires-clause-first c = let there = c.requires.there in let first = c.requires.first in omega (arith, first_station c.args.placement.now.relays c.args.c (omega arith))
+pub drainer-requires : goal.drainer-requires
+drainer-requires c =
+    let there = c.requires.there in
+    let first = c.requires.first in
+    record {
+      system = c.requires.system;
+      fits = c.requires.fits;
+      there = there;
+      within = within c.as_slice.result.now c.args.placement.now.relays c.args.c c.loop-place.place c.as_slice.ensures c.loop-place-test.true;
+      first = omega (arith, first_station c.args.placement.now.relays c.args.c (omega arith));
+    }
 
 pub bounds-as_slice-station : goal.bounds-as_slice-station
 bounds-as_slice-station c =
