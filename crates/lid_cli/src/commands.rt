@@ -4,9 +4,9 @@ ghost use Rattle.std.specs.Prelude.{◌≡◌, IfOk};
 ghost use Rattle.lid_cli.specs.Reading.{matches_in};
 ghost use Rattle.lid_cli.specs.Jobs.{file_at, root_in, reach_in, check_job, place_job, rate_job, strict_job, verify_job};
 
-use crate::given::{file_text, name_of, text_if_given, text_of, value_of};
+use crate::given::{file_text, root_of, text_if_given, text_of, value_of};
 use crate::job::Job;
-use crate::table::{REACH, ROOT, STATIONS, WIRES};
+use crate::table::{REACH, STATIONS, WIRES};
 use clap::ArgMatches;
 use lid_base::{Name, Text, number};
 use std::alloc::{AllocError, Global};
@@ -17,7 +17,7 @@ fn netlist_of(alloc: Global, given: &ArgMatches<'_>) -> Result<(Text, Option<Nam
     ensures root { IfOk result (λ netlist. netlist.1 ≡ root_in (matches_in given.now)) }
 {
     let net = file_text(alloc, given, 0)?;
-    let root = name_of(alloc, given, ROOT)?;
+    let root = root_of(alloc, given)?;
     Ok((net, root))
 }
 
