@@ -9,7 +9,6 @@ ghost use Rattle.lid_board.specs.Parting.{side_number};
 ghost use Rattle.lid_board.specs.Relation.{stream_of};
 ghost use Rattle.lid_board.specs.Standing.{StandsFor};
 ghost use Rattle.lid_board.specs.Views.{at};
-ghost use Rattle.lid_board.specs.declared.view.Held.{Held};
 
 use lid_board::{Attended, Board, Course, Hand};
 use lid_station::{End, InLook, OutLook, PlainBoard, Side, Stations};
@@ -76,7 +75,7 @@ fn token_of(stream: &[u32], number: u64) -> Option<u32>
 
 /// How many tokens passed an end; none where another hand has it.
 fn count_at(hand: &Hand, station: u32, side: Side) -> Option<u64>
-    ensures { result ≡ option_map (λ (h : Held). h.passed) (at (ends_of hand.now) (side_number side station)) }
+    ensures { result ≡ option_map (λ h. h.passed) (at (ends_of hand.now) (side_number side station)) }
 {
     hand.passed(End { station, side })
 }
