@@ -1,13 +1,17 @@
 //! lid: latency-insensitive design from BLIF netlists (Berkeley Logic Interchange Format).
 //!
-//! `lid check NET [--root NAME]` prints the nodes and channels of a netlist that is accepted, and
-//! `lid strict NET VEC [--root NAME]` prints the strict outputs of a netlist for rows of input bits.
+//! `lid check NET` prints the nodes and channels of a netlist that is accepted, `lid strict NET VEC` its
+//! strict outputs for rows of input bits, `lid place NET --wires FILE --reach L` the relay stations that
+//! long wires need, `lid rate NET` a certificate of the throughput, and `lid verify NET CERT` what a
+//! certificate shows.
 #![tactic(auto)]
 
 #[cfg(test)]
 mod check_tests;
 #[cfg(test)]
 mod net_tests;
+#[cfg(test)]
+mod rate_tests;
 #[cfg(test)]
 mod report_tests;
 #[cfg(test)]

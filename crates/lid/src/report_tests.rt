@@ -10,7 +10,7 @@ use std::test::Fail;
 use std::thread::Threads;
 
 /// Two ways lead from a register to an exclusive or.
-const DIAMOND: &str =
+pub const DIAMOND: &str =
     ".model dia\n.inputs x\n.outputs y\n.subckt reg d=x q=a\n.subckt xr a=a b=b q=y\n\
 .subckt reg d=a q=b\n.end\n.model reg\n.inputs d\n.outputs q\n.latch d q 0\n.end\n\
 .model xr\n.inputs a b\n.outputs q\n.names a b n\n10 1\n01 1\n.latch n q 0\n.end\n";

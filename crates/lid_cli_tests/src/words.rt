@@ -6,49 +6,65 @@ use lid_cli::{Job, read_words};
 use std::alloc::{AllocError, Global};
 use std::convert::AsStr;
 
-/// The two files and the root of a job `strict`.
-type Strict = (&'static str, &'static str, Option<&'static str>);
+use Asked::{Check, Nothing, Place, Rate, Strict, Verify};
+
+/// What words ask for: the names of files, numbers, and last the root.
+#[derive(Clone, Copy)]
+enum Asked {
+    /// No job.
+    Nothing,
+    Check(&'static str, Option<&'static str>),
+    Strict(&'static str, &'static str, Option<&'static str>),
+    Place(&'static str, &'static str, u64, Option<&'static str>),
+    Rate(&'static str, Option<&'static str>, Option<&'static str>),
+    Verify(
+        &'static str,
+        &'static str,
+        Option<&'static str>,
+        Option<&'static str>,
+    ),
+}
 
 /// The job of `strict a b`.
-const PLAIN: Option<Strict> = Some(("a", "b", None));
+const PLAIN: Asked = Strict("a", "b", None);
 /// The job of `strict a b` with the root `m`.
-const ROOTED: Option<Strict> = Some(("a", "b", Some("m")));
+const ROOTED: Asked = Strict("a", "b", Some("m"));
 
-/// Words and their job, where they are one.
-static CASES: [(&[&str], Option<Strict>); 77] = [
+/// Words and what they ask for.
+static CASES: [(&[&str], Asked); 77] = [
     // the number of files, and their order
     (&["strict", "a", "b"], PLAIN),
-    (&["strict", "b", "a"], Some(("b", "a", None))),
-    (&["strict", "a", "a"], Some(("a", "a", None))),
+    (&["strict", "b", "a"], Strict("b", "a", None)),
+    (&["strict", "a", "a"], Strict("a", "a", None)),
     (
         &["strict", "strict", "strict"],
-        Some(("strict", "strict", None)),
+        Strict("strict", "strict", None),
     ),
-    (&["strict"], None),
-    (&["strict", "a"], None),
-    (&["strict", "a", "b", "c"], None),
-    (&["strict", "a", "b", "a", "b"], None),
+    (&["strict"], Nothing),
+    (&["strict", "a"], Nothing),
+    (&["strict", "a", "b", "c"], Nothing),
+    (&["strict", "a", "b", "a", "b"], Nothing),
     // the command
-    (&[], None),
-    (&[""], None),
-    (&["", "a", "b"], None),
-    (&["a", "b"], None),
-    (&["a", "strict", "b"], None),
-    (&["Strict", "a", "b"], None),
-    (&["strictly", "a", "b"], None),
-    (&["stric", "a", "b"], None),
-    (&["unknown", "a", "b"], None),
-    (&["str\u{131}ct", "a", "b"], None),
+    (&[], Nothing),
+    (&[""], Nothing),
+    (&["", "a", "b"], Nothing),
+    (&["a", "b"], Nothing),
+    (&["a", "strict", "b"], Nothing),
+    (&["Strict", "a", "b"], Nothing),
+    (&["strictly", "a", "b"], Nothing),
+    (&["stric", "a", "b"], Nothing),
+    (&["unknown", "a", "b"], Nothing),
+    (&["str\u{131}ct", "a", "b"], Nothing),
     // names of files
-    (&["strict", "", ""], Some(("", "", None))),
-    (&["strict", "-", "-"], Some(("-", "-", None))),
-    (&["strict", "a b", "c=d"], Some(("a b", "c=d", None))),
+    (&["strict", "", ""], Strict("", "", None)),
+    (&["strict", "-", "-"], Strict("-", "-", None)),
+    (&["strict", "a b", "c=d"], Strict("a b", "c=d", None)),
     (
         &["strict", "n\u{e9}t", "\u{3c9}\u{1f600}"],
-        Some(("n\u{e9}t", "\u{3c9}\u{1f600}", None)),
+        Strict("n\u{e9}t", "\u{3c9}\u{1f600}", None),
     ),
-    (&["strict", "-a", "b"], None),
-    (&["strict", "a", "-1"], None),
+    (&["strict", "-a", "b"], Nothing),
+    (&["strict", "a", "-1"], Nothing),
     // the root, with its value in the next word or after `=`
     (&["--root", "m", "strict", "a", "b"], ROOTED),
     (&["strict", "--root", "m", "a", "b"], ROOTED),
@@ -59,41 +75,41 @@ static CASES: [(&[&str], Option<Strict>); 77] = [
     (&["strict", "a", "b", "--root=m"], ROOTED),
     (
         &["strict", "a", "b", "--root=\u{3c9}"],
-        Some(("a", "b", Some("\u{3c9}"))),
+        Strict("a", "b", Some("\u{3c9}")),
     ),
     (
         &["strict", "a", "b", "--root==m=n"],
-        Some(("a", "b", Some("=m=n"))),
+        Strict("a", "b", Some("=m=n")),
     ),
-    (&["strict", "a", "b", "--root="], Some(("a", "b", Some("")))),
+    (&["strict", "a", "b", "--root="], Strict("a", "b", Some(""))),
     (
         &["strict", "a", "b", "--root", ""],
-        Some(("a", "b", Some(""))),
+        Strict("a", "b", Some("")),
     ),
     (
         &["strict", "a", "b", "--root", "-"],
-        Some(("a", "b", Some("-"))),
+        Strict("a", "b", Some("-")),
     ),
     (
         &["strict", "a", "b", "--root=-m"],
-        Some(("a", "b", Some("-m"))),
+        Strict("a", "b", Some("-m")),
     ),
     (
         &["strict", "a", "b", "--root=--"],
-        Some(("a", "b", Some("--"))),
+        Strict("a", "b", Some("--")),
     ),
-    (&["strict", "a", "b", "--root", "-m"], None),
-    (&["strict", "a", "b", "--root", "--", "m"], None),
-    (&["strict", "a", "b", "--root"], None),
-    (&["--root", "strict", "a", "b"], None),
-    (&["strict", "a", "b", "--root", "m", "n"], None),
-    (&["strict", "a", "b", "--root", "m", "--root", "m"], None),
-    (&["strict", "a", "b", "--root=m", "--root=n"], None),
-    (&["strict", "a", "b", "--roo", "m"], None),
-    (&["strict", "a", "b", "--roots", "m"], None),
-    (&["strict", "a", "b", "--Root", "m"], None),
-    (&["strict", "a", "b", "-root", "m"], None),
-    (&["strict", "a", "b", "-r", "m"], None),
+    (&["strict", "a", "b", "--root", "-m"], Nothing),
+    (&["strict", "a", "b", "--root", "--", "m"], Nothing),
+    (&["strict", "a", "b", "--root"], Nothing),
+    (&["--root", "strict", "a", "b"], Nothing),
+    (&["strict", "a", "b", "--root", "m", "n"], Nothing),
+    (&["strict", "a", "b", "--root", "m", "--root", "m"], Nothing),
+    (&["strict", "a", "b", "--root=m", "--root=n"], Nothing),
+    (&["strict", "a", "b", "--roo", "m"], Nothing),
+    (&["strict", "a", "b", "--roots", "m"], Nothing),
+    (&["strict", "a", "b", "--Root", "m"], Nothing),
+    (&["strict", "a", "b", "-root", "m"], Nothing),
+    (&["strict", "a", "b", "-r", "m"], Nothing),
     // after `--` all words are places
     (&["--", "strict", "a", "b"], PLAIN),
     (&["strict", "--", "a", "b"], PLAIN),
@@ -102,50 +118,80 @@ static CASES: [(&[&str], Option<Strict>); 77] = [
     (&["strict", "--root=m", "--", "a", "b"], ROOTED),
     (
         &["strict", "--", "-a", "--root"],
-        Some(("-a", "--root", None)),
+        Strict("-a", "--root", None),
     ),
     (
         &["strict", "--", "--", "--tally"],
-        Some(("--", "--tally", None)),
+        Strict("--", "--tally", None),
     ),
-    (&["strict", "--", "a", "b", "--root=m"], None),
+    (&["strict", "--", "a", "b", "--root=m"], Nothing),
     // there is no help and no version
-    (&["--help"], None),
-    (&["-h"], None),
-    (&["help"], None),
-    (&["--version"], None),
-    (&["-V"], None),
-    (&["strict", "a", "b", "--help"], None),
-    (&["strict", "a", "b", "-h"], None),
-    (&["strict", "a", "b", "--version"], None),
-    (&["strict", "a", "b", "-V"], None),
-    (&["strict", "--help", "a"], None),
+    (&["--help"], Nothing),
+    (&["-h"], Nothing),
+    (&["help"], Nothing),
+    (&["--version"], Nothing),
+    (&["-V"], Nothing),
+    (&["strict", "a", "b", "--help"], Nothing),
+    (&["strict", "a", "b", "-h"], Nothing),
+    (&["strict", "a", "b", "--version"], Nothing),
+    (&["strict", "a", "b", "-V"], Nothing),
+    (&["strict", "--help", "a"], Nothing),
     // options of no command, and of another one
-    (&["strict", "a", "b", "--unknown"], None),
-    (&["strict", "a", "b", "--unknown=c"], None),
-    (&["strict", "a", "b", "--=c"], None),
-    (&["strict", "a", "b", "--workers", "2"], None),
-    (&["clock", "a"], None),
-    (&["strict", "a", "b", "--tally"], None),
-    (&["--tally", "strict", "a", "b"], None),
-    (&["strict", "a", "b", "--tally=true"], None),
-    (&["strict", "a", "b", "--tally", "--tally"], None),
+    (&["strict", "a", "b", "--unknown"], Nothing),
+    (&["strict", "a", "b", "--unknown=c"], Nothing),
+    (&["strict", "a", "b", "--=c"], Nothing),
+    (&["strict", "a", "b", "--workers", "2"], Nothing),
+    (&["clock", "a"], Nothing),
+    (&["strict", "a", "b", "--tally"], Nothing),
+    (&["--tally", "strict", "a", "b"], Nothing),
+    (&["strict", "a", "b", "--tally=true"], Nothing),
+    (&["strict", "a", "b", "--tally", "--tally"], Nothing),
 ];
 
-/// The file and the root of a job `check`.
-type Check = (&'static str, Option<&'static str>);
-
-/// Words and their job `check`, where they are one.
-static CHECKS: [(&[&str], Option<Check>); 9] = [
-    (&["check", "a"], Some(("a", None))),
-    (&["check", "strict"], Some(("strict", None))),
-    (&["--root=m", "check", "a"], Some(("a", Some("m")))),
-    (&["check", "a", "--root", "m"], Some(("a", Some("m")))),
-    (&["check", "--", "--root"], Some(("--root", None))),
-    (&["check"], None),
-    (&["check", "a", "b"], None),
-    (&["check", "a", "--tally"], None),
-    (&["check", "a", "--stations=c"], None),
+/// Words of the commands that read no rows.
+static ONE_FILE: [(&[&str], Asked); 24] = [
+    (&["check", "a"], Check("a", None)),
+    (&["check", "strict"], Check("strict", None)),
+    (&["--root=m", "check", "a"], Check("a", Some("m"))),
+    (&["check", "a", "--root", "m"], Check("a", Some("m"))),
+    (&["check", "--", "--root"], Check("--root", None)),
+    (&["check"], Nothing),
+    (&["check", "a", "b"], Nothing),
+    (&["check", "a", "--tally"], Nothing),
+    (&["check", "a", "--stations=c"], Nothing),
+    (
+        &["place", "a", "--wires", "w", "--reach", "10"],
+        Place("a", "w", 10, None),
+    ),
+    (
+        &["--reach=1", "place", "--wires=w", "a", "--root=m"],
+        Place("a", "w", 1, Some("m")),
+    ),
+    (
+        &["place", "a", "--wires=w", "--reach=9223372036854775807"],
+        Place("a", "w", 9_223_372_036_854_775_807, None),
+    ),
+    (
+        &["place", "a", "--wires=w", "--reach=9223372036854775808"],
+        Nothing,
+    ),
+    (&["place", "a", "--wires=w", "--reach=0"], Nothing),
+    (&["place", "a", "--wires=w", "--reach=01"], Nothing),
+    (&["place", "a", "--wires=w"], Nothing),
+    (&["place", "a", "--reach=1"], Nothing),
+    (&["rate", "a"], Rate("a", None, None)),
+    (
+        &["rate", "a", "--root=m", "--stations=s"],
+        Rate("a", Some("s"), Some("m")),
+    ),
+    (&["rate", "a", "b"], Nothing),
+    (&["rate", "a", "--wires=w"], Nothing),
+    (&["verify", "a", "c"], Verify("a", "c", None, None)),
+    (
+        &["verify", "--stations=s", "c", "a"],
+        Verify("c", "a", Some("s"), None),
+    ),
+    (&["verify", "a"], Nothing),
 ];
 
 /// Options with a value that other commands have.
@@ -178,23 +224,68 @@ fn is_root(root: Option<&Name>, expected: Option<&str>) -> bool {
     }
 }
 
-fn is_expected(job: Option<&Job>, expected: Option<Strict>) -> bool {
-    match (job, expected) {
-        (Some(Job::Strict { net, vec, root }), Some((a, b, m))) => {
-            net.as_str() == a && vec.as_str() == b && is_root(root.as_ref(), m)
-        }
+fn is_file(file: Option<&Text>, expected: Option<&str>) -> bool {
+    match (file, expected) {
+        (Some(name), Some(text)) => name.as_str() == text,
         (None, None) => true,
         _ => false,
     }
 }
 
-fn is_check(job: Option<&Job>, expected: Option<Check>) -> bool {
-    match (job, expected) {
-        (Some(Job::Check { net, root }), Some((a, m))) => {
-            net.as_str() == a && is_root(root.as_ref(), m)
+/// Whether a job of one file, or of rows, is this one.
+fn is_plain(job: &Job, asked: Asked) -> bool {
+    match (job, asked) {
+        (Job::Check { net, root }, Check(a, m)) => net.as_str() == a && is_root(root.as_ref(), m),
+        (Job::Strict { net, vec, root }, Strict(a, b, m)) => {
+            net.as_str() == a && vec.as_str() == b && is_root(root.as_ref(), m)
         }
-        (None, None) => true,
         _ => false,
+    }
+}
+
+/// Whether a job on stations is this one.
+fn is_placed(job: &Job, asked: Asked) -> bool {
+    match (job, asked) {
+        (
+            Job::Place {
+                net,
+                wires,
+                reach,
+                root,
+            },
+            Place(a, w, r, m),
+        ) => net.as_str() == a && wires.as_str() == w && *reach == r && is_root(root.as_ref(), m),
+        (
+            Job::Rate {
+                net,
+                stations,
+                root,
+            },
+            Rate(a, s, m),
+        ) => net.as_str() == a && is_file(stations.as_ref(), s) && is_root(root.as_ref(), m),
+        (
+            Job::Verify {
+                net,
+                cert,
+                stations,
+                root,
+            },
+            Verify(a, c, s, m),
+        ) => {
+            net.as_str() == a
+                && cert.as_str() == c
+                && is_file(stations.as_ref(), s)
+                && is_root(root.as_ref(), m)
+        }
+        _ => false,
+    }
+}
+
+fn is_asked(job: Option<&Job>, asked: Asked) -> bool {
+    match (job, asked) {
+        (Some(job), asked) => is_plain(job, asked) || is_placed(job, asked),
+        (None, Nothing) => true,
+        (None, _) => false,
     }
 }
 
@@ -203,37 +294,26 @@ fn job_of(alloc: Global, words: &[&str]) -> Result<Option<Job>, AllocError> {
     read_words(alloc, &texts)
 }
 
-/// Whether words are this job, or none.
-fn are_words_of(alloc: Global, words: &[&str], expected: Option<Strict>) -> bool {
+/// Whether words ask for this.
+fn are_words_of(alloc: Global, words: &[&str], asked: Asked) -> bool {
     match job_of(alloc, words) {
-        Ok(job) => is_expected(job.as_ref(), expected),
-        Err(_) => false,
-    }
-}
-
-/// Whether words are this job `check`, or none.
-fn are_words_of_check(alloc: Global, words: &[&str], expected: Option<Check>) -> bool {
-    match job_of(alloc, words) {
-        Ok(job) => is_check(job.as_ref(), expected),
+        Ok(job) => is_asked(job.as_ref(), asked),
         Err(_) => false,
     }
 }
 
 /// Whether `strict a b` with one more option is no job.
 fn is_refused(alloc: Global, option: &str) -> bool {
-    are_words_of(alloc, &["strict", "a", "b", option], None)
+    are_words_of(alloc, &["strict", "a", "b", option], Nothing)
 }
 
 #[test]
 fn words_are_the_jobs_of_the_table(rt: HostRuntime) {
-    for (words, expected) in &CASES {
-        assert!(rt; are_words_of(rt.alloc(), words, *expected), "{words:?}");
+    for (words, asked) in &CASES {
+        assert!(rt; are_words_of(rt.alloc(), words, *asked), "{words:?}");
     }
-    for (words, expected) in &CHECKS {
-        assert!(rt;
-            are_words_of_check(rt.alloc(), words, *expected),
-            "{words:?}"
-        );
+    for (words, asked) in &ONE_FILE {
+        assert!(rt; are_words_of(rt.alloc(), words, *asked), "{words:?}");
     }
     for option in &OTHERS {
         assert!(rt; is_refused(rt.alloc(), option), "{option}");

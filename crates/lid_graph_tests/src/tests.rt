@@ -6,4 +6,5 @@ mod graph;
 mod large;
 mod order;
 mod rate;
+mod throughput;
 mod walks;

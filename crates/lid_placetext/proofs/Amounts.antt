@@ -1,6 +1,6 @@
 -- What lines without fault say of their channels.
-use Rattle.std.proofs.Common.{◌≡◌, ℕ, zero, suc, ◌+◌, ◌-◌, ◌^◌, ◌<◌, ◌≤◌, Bool, true, false, not, List, [], ◌∷◌, ◌++◌, length, get_or, drop, map, replicate, Option, Some, None, refl, sym, ap, ◌∙◌, arith, length-drop}
-use Rattle.std.specs.Prelude.{◌&&◌, nat_lt, nat_le, is_some}
+use Rattle.std.proofs.Common.{◌≡◌, ℕ, zero, suc, ◌+◌, ◌-◌, ◌^◌, ◌<◌, ◌≤◌, Bool, true, false, not, List, [], ◌∷◌, ◌++◌, length, get_or, drop, map, Option, Some, None, refl, ◌∙◌, arith, length-drop}
+use Rattle.std.specs.Prelude.{nat_lt, nat_le, is_some}
 use Rattle.std.specs.List.{All, list_all}
 use Rattle.std.proofs.lemmas.Bool.{and_parts, leb-true, ltb-false, eqb-true}
 use Rattle.std.proofs.lemmas.List.{length-map, length-replicate}
@@ -12,7 +12,7 @@ use Rattle.lid_placetext.specs.declared.form.Form.{Form}
 use Rattle.lid_placetext.specs.declared.form.Form.TheVariants.{Relays, Capacities, Wires}
 use Rattle.lid_placetext.specs.declared.fault.PlaceFault.{PlaceFault}
 use Rattle.lid_placetext.specs.declared.fault.PlaceFault.TheVariants.{NoChannel, Twice}
-use Rattle.lid_placetext.specs.Forms.{has_form, has_length, begins_well, relays_of, caps_of, named_caps, amount, is_number_word, is_empty_wire, is_capacity_word, has_capacities}
+use Rattle.lid_placetext.specs.Forms.{has_form, has_length, begins_well, relays_of, caps_of, amount, is_number_word, is_empty_wire, is_capacity_word, has_capacities}
 use Rattle.lid_placetext.specs.Faults.{first_fault, or_else, channel_of, stands_on, channel_fault, amount_fault, line_fault}
 use Rattle.lid_placetext.specs.Readings.{lines_fault}
 use Rattle.lid_placetext.specs.Places.{IsAmountSound}

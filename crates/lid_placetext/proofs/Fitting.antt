@@ -1,9 +1,9 @@
 -- From where lines stand to a placement that fits.
-use Rattle.std.proofs.Common.{◌≡◌, ℕ, zero, suc, ◌+◌, ◌<◌, ◌≤◌, Bool, true, false, List, [], ◌∷◌, ◌++◌, length, get_or, map, Option, Some, None, Result, Ok, Err, IfOk, IfErr, refl, sym, ap, subst, ◌∙◌, inl, inr, ◌⊎◌, arith, length-append}
+use Rattle.std.proofs.Common.{◌≡◌, ℕ, zero, suc, ◌+◌, ◌<◌, ◌≤◌, true, false, List, [], ◌∷◌, ◌++◌, length, get_or, map, Option, Some, None, Result, Ok, Err, IfOk, IfErr, refl, sym, ap, subst, ◌∙◌, inr, ◌⊎◌, arith, length-append}
 use Rattle.std.specs.Prelude.{flat_map, nat_lt, if◌then◌else◌}
-use Rattle.std.specs.List.{All, sum_by}
+use Rattle.std.specs.List.{All}
 use Rattle.std.specs.Option.{option_map_or}
-use Rattle.std.proofs.lemmas.Bool.{cases_Bool, ltb-false, cond-true, cond-false}
+use Rattle.std.proofs.lemmas.Bool.{ltb-false}
 use Rattle.std.proofs.lemmas.List.{same_lists, get_or_default, get_or-map, length-map}
 use Rattle.std.proofs.lemmas.List.Elements.{All-nil, All-cons, All-head, All-tail, All-append, All-from_get_or}
 use Rattle.std.proofs.lemmas.List.Sums.{sum_by-cons}
@@ -11,14 +11,14 @@ use Rattle.lid_base.specs.declared.line.Line.{Line}
 use Rattle.lid_design.specs.Network.{from_each}
 use Rattle.lid_system.specs.declared.System.{System}
 use Rattle.lid_stations.specs.declared.placement.Placement.{Placement}
-use Rattle.lid_stations.specs.Placements.{Links, links_of, station_count, IsCapacity, IsPlacement, Fits}
+use Rattle.lid_stations.specs.Placements.{Links, links_of, station_count, IsCapacity, Fits}
 use Rattle.lid_placetext.specs.declared.form.Form.{Form}
 use Rattle.lid_placetext.specs.declared.fault.PlaceFault.{PlaceFault}
 use Rattle.lid_placetext.specs.declared.fault.PlaceFault.TheVariants.{TotalLimit, Memory}
 use Rattle.lid_placetext.specs.Forms.{relays_of, caps_of}
 use Rattle.lid_placetext.specs.Faults.{place_where, is_of}
 use Rattle.lid_placetext.specs.Places.{IsPlaced, IsSound, IsMade, words_at, relays_at, caps_at}
-use Rattle.lid_placetext.specs.Readings.{lines_fault, first_line, relays_on, caps_on, placement_of, whole, rows_reading, unless}
+use Rattle.lid_placetext.specs.Readings.{lines_fault, relays_on, caps_on, placement_of, whole, rows_reading, unless}
 use Rattle.lid_placetext.proofs.FirstPlaces.{place_in, no_line, line_at}
 use Rattle.lid_placetext.proofs.Amounts.{sound_lines, caps_in_range}
 

@@ -1,5 +1,5 @@
 -- What is at fault in a line, and in lines one after the other.
-use Rattle.std.proofs.Common.{◌≡◌, ℕ, suc, ◌+◌, ◌<◌, ◌==◌, Bool, true, false, not, List, [], ◌∷◌, ◌++◌, length, get_or, take, drop, set, Option, Some, None, refl, sym, ap, subst, ◌∙◌, inl, inr, ◌≢◌, length-append, length-set, length-take, arith}
+use Rattle.std.proofs.Common.{◌≡◌, ℕ, ◌+◌, ◌<◌, Bool, true, false, not, List, [], ◌∷◌, ◌++◌, length, get_or, take, drop, set, Option, Some, None, refl, sym, ap, subst, ◌∙◌, inl, inr, length-set, arith}
 use Rattle.std.specs.Prelude.{is_some}
 use Rattle.std.proofs.lemmas.Bool.{cases_eq, eq-eqb, ne_eqb}
 use Rattle.std.proofs.lemmas.List.{take_more, drop_more, get_or-set_same, get_or-set_other, length-take-le}
@@ -9,7 +9,7 @@ use Rattle.lid_placetext.specs.declared.form.Form.{Form}
 use Rattle.lid_placetext.specs.declared.fault.PlaceFault.{PlaceFault}
 use Rattle.lid_placetext.specs.declared.fault.PlaceFault.TheVariants.{Twice}
 use Rattle.lid_placetext.specs.Forms.{has_form}
-use Rattle.lid_placetext.specs.Faults.{first_fault, or_else, channel_of, is_number, is_of, stands_on, place_where, channel_fault, amount_fault, line_fault}
+use Rattle.lid_placetext.specs.Faults.{first_fault, or_else, channel_of, is_number, is_of, stands_on, place_where, amount_fault, line_fault}
 use Rattle.lid_placetext.specs.Readings.{lines_fault}
 use Rattle.lid_placetext.specs.Places.{IsPlaced}
 use Rattle.lid_placetext.proofs.FirstPlaces.{place_in, any_from_place, more_failed, more_passed}

@@ -1,6 +1,6 @@
 -- What is at fault in a line of stations or wires.
-use Rattle.std.specs.Prelude.{ℕ, ◌+◌, ◌-◌, ◌==◌, nat_lt, Bool, true, false, not, ◌&&◌, if◌then◌else◌, List, [], ◌∷◌, length, codes, bytes_eq, Option, Some, None, is_some}
-use Rattle.std.specs.List.{list_all, list_any}
+use Rattle.std.specs.Prelude.{ℕ, ◌+◌, ◌-◌, ◌==◌, nat_lt, Bool, false, not, ◌&&◌, if◌then◌else◌, List, [], ◌∷◌, codes, bytes_eq, Option, Some, None, is_some}
+use Rattle.std.specs.List.{list_any}
 use Rattle.std.specs.Option.{option_map_or}
 use Rattle.lid_base.specs.Numbers.{number}
 use Rattle.lid_base.specs.Words.{word_at}
@@ -10,7 +10,7 @@ use Rattle.lid_system.specs.declared.Channel.{Channel}
 use Rattle.lid_placetext.specs.declared.form.Form.{Form}
 use Rattle.lid_placetext.specs.declared.fault.PlaceFault.{PlaceFault}
 use Rattle.lid_placetext.specs.declared.fault.PlaceFault.TheVariants.{Word, NoChannel, Twice, ZeroLength, TooMany, Capacity}
-use Rattle.lid_placetext.specs.Forms.{amount, has_form, relays_of, is_empty_wire, has_capacities}
+use Rattle.lid_placetext.specs.Forms.{has_form, relays_of, is_empty_wire, has_capacities}
 
 -- the node of a shell by its number, where there are so many nodes: the shells stand between the first and the last
 abbrev pub shell_node : ℕ → Option ℕ → Option ℕ

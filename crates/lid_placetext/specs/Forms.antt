@@ -1,7 +1,7 @@
 -- The lines of stations and wires: which form each has, which channel it names, and what it says of it.
-use Rattle.std.specs.Prelude.{ℕ, ⊤, ◌≤◌, ◌+◌, ◌-◌, ◌/◌, ◌%◌, ◌^◌, ◌==◌, min, nat_lt, nat_le, Bool, true, false, ◌&&◌, ◌||◌, if◌then◌else◌, List, [], ◌∷◌, length, drop, map, replicate, codes, bytes_eq, Option, Some, None, is_some}
+use Rattle.std.specs.Prelude.{ℕ, ⊤, ◌≤◌, ◌+◌, ◌-◌, ◌/◌, ◌%◌, ◌^◌, ◌==◌, min, nat_le, Bool, false, ◌&&◌, ◌||◌, if◌then◌else◌, List, [], ◌∷◌, length, drop, map, replicate, codes, bytes_eq, Option, Some, None, is_some}
 use Rattle.std.specs.List.{list_all}
-use Rattle.lid_base.specs.Numbers.{number, is_below, value_below}
+use Rattle.lid_base.specs.Numbers.{number, value_below}
 use Rattle.lid_base.specs.Words.{word_at}
 use Rattle.lid_placetext.specs.declared.form.Kind.{Kind}
 use Rattle.lid_placetext.specs.declared.form.Kind.TheVariants as kind

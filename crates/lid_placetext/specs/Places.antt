@@ -1,5 +1,5 @@
 -- For the reader: which line names each channel, and what that line says of it.
-use Rattle.std.specs.Prelude.{◌≡◌, ℕ, ◌+◌, ◌<◌, ◌≤◌, Bool, true, List, [], ◌∷◌, length, map, flat_map, Option, Some, None, slice_index_or}
+use Rattle.std.specs.Prelude.{◌≡◌, ℕ, ◌+◌, ◌<◌, ◌≤◌, true, List, [], ◌∷◌, length, map, flat_map, Option, Some, None, slice_index_or}
 use Rattle.std.specs.List.{All}
 use Rattle.lid_base.specs.declared.line.Line.{Line}
 use Rattle.lid_stations.specs.declared.placement.Placement.{Placement}

@@ -1,5 +1,5 @@
 -- The line on `err` for each cause of a status that is not 0.
-use Rattle.std.specs.Prelude.{ℕ, List, [], ◌∷◌, codes}
+use Rattle.std.specs.Prelude.{ℕ, Bool, true, false, List, [], ◌∷◌, codes}
 use Rattle.std.specs.Fmt.{decimal}
 use Rattle.lid_base.specs.declared.which.Which.{Which}
 use Rattle.lid_base.specs.declared.which.Which.TheVariants.{FileBytes, Models, CoverRows, RootInsts, Depth, Cells, Nets, Rows, OutBits, Words, TraceCells}
@@ -13,6 +13,10 @@ use Rattle.lid_rules.specs.declared.fault.CheckFault.{CheckFault}
 use Rattle.lid_rules.specs.declared.fault.CheckFault.TheVariants as check
 use Rattle.lid_channels.specs.declared.fault.NetFault.{NetFault}
 use Rattle.lid_channels.specs.declared.fault.NetFault.TheVariants as net
+use Rattle.lid_placetext.specs.declared.fault.PlaceFault.{PlaceFault}
+use Rattle.lid_placetext.specs.declared.fault.PlaceFault.TheVariants as place
+use Rattle.lid_certtext.specs.declared.fault.CertFault.{CertFault}
+use Rattle.lid_certtext.specs.declared.fault.CertFault.TheVariants as cert
 use Rattle.lid_io.specs.Telling.{fault_line, path_text}
 
 abbrev pub which_word : Which → List ℕ
@@ -75,6 +79,14 @@ at_inst name model inst other = name ∷ model ∷ decimal inst ∷ other ∷ []
 abbrev pub with_names : List ℕ → List ℕ → List ℕ → List (List ℕ)
 with_names name first second = name ∷ first ∷ second ∷ []
 
+-- whether a refusal of acceptance is one at an instance
+abbrev pub is_at_inst : CheckFault → Bool
+is_at_inst (check.UnknownModel model inst name) = true
+is_at_inst (check.UnknownFormal model inst formal) = true
+is_at_inst (check.FormalTwice model inst formal) = true
+is_at_inst (check.Unbound model inst formal) = true
+is_at_inst _ = false
+
 abbrev pub check_words : CheckFault → List (List ℕ)
 check_words check.NoRoot = codes "NoRoot" ∷ []
 check_words (check.DuplicateName model name) = with_names (codes "DuplicateName") model name
@@ -98,6 +110,22 @@ abbrev pub net_words : NetFault → List (List ℕ)
 net_words (net.TooManyChannels count) = codes "TooManyChannels" ∷ decimal count ∷ []
 net_words net.Memory = []
 
+abbrev pub place_words : PlaceFault → List (List ℕ)
+place_words (place.Word line) = at_line (codes "Word") line
+place_words (place.NoChannel line) = at_line (codes "NoChannel") line
+place_words (place.Twice line) = at_line (codes "Twice") line
+place_words (place.TooMany line) = at_line (codes "TooMany") line
+place_words (place.TotalLimit count) = codes "TotalLimit" ∷ decimal count ∷ []
+place_words (place.ZeroLength line) = at_line (codes "ZeroLength") line
+place_words (place.Limit which count) = over_limit which count
+place_words (place.Capacity line) = at_line (codes "Capacity") line
+place_words place.Memory = []
+
+abbrev pub cert_words : CertFault → List (List ℕ)
+cert_words (cert.Word line) = at_line (codes "Word") line
+cert_words (cert.Limit which count) = over_limit which count
+cert_words cert.Memory = []
+
 -- status 1: the stage, the variant and its fields
 abbrev pub blif_line : BlifFault → List ℕ
 blif_line fault = fault_line (codes "blif" ∷ blif_words fault)
@@ -110,6 +138,13 @@ check_line fault = fault_line (codes "check" ∷ check_words fault)
 
 abbrev pub net_line : NetFault → List ℕ
 net_line fault = fault_line (codes "net" ∷ net_words fault)
+
+-- a text of stations or of wires
+abbrev pub stations_line : PlaceFault → List ℕ
+stations_line fault = fault_line (codes "stations" ∷ place_words fault)
+
+abbrev pub cert_line : CertFault → List ℕ
+cert_line fault = fault_line (codes "cert" ∷ cert_words fault)
 
 -- status 2
 abbrev pub usage_line : List ℕ

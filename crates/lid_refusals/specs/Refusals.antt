@@ -1,11 +1,13 @@
 -- The line of each refusal.
 use Rattle.std.specs.Prelude.{ℕ, List}
 use Rattle.lid_refusals.specs.declared.refusal.Refusal.{Refusal}
-use Rattle.lid_refusals.specs.declared.refusal.Refusal.TheVariants.{Blif, Check, Net, Rows}
-use Rattle.lid_refusals.specs.Faults.{blif_line, rows_line, check_line, net_line}
+use Rattle.lid_refusals.specs.declared.refusal.Refusal.TheVariants.{Blif, Check, Net, Rows, Stations, Cert}
+use Rattle.lid_refusals.specs.Faults.{blif_line, rows_line, check_line, net_line, stations_line, cert_line}
 
 abbrev pub refusal_line : Refusal → List ℕ
 refusal_line (Blif fault) = blif_line fault
 refusal_line (Check fault) = check_line fault
 refusal_line (Net fault) = net_line fault
 refusal_line (Rows fault) = rows_line fault
+refusal_line (Stations fault) = stations_line fault
+refusal_line (Cert fault) = cert_line fault

@@ -6,11 +6,15 @@ ghost use Rattle.lid_refusals.specs.Refusals.{refusal_line};
 ghost use Rattle.lid_refusals.specs.Saying.{Says};
 
 use crate::saying::{say, say_told};
-use crate::told::{told_of_blif, told_of_check, told_of_net, told_of_rows};
+use crate::told::{
+    told_of_blif, told_of_cert, told_of_check, told_of_net, told_of_place, told_of_rows,
+};
 use lid_base::Sink;
 use lid_blif::BlifFault;
+use lid_certtext::CertFault;
 use lid_channels::NetFault;
 use lid_io::Word;
+use lid_placetext::PlaceFault;
 use lid_rules::CheckFault;
 use lid_texts::VecFault;
 
@@ -21,6 +25,8 @@ pub enum Refusal {
     Check(CheckFault),
     Net(NetFault),
     Rows(VecFault),
+    Stations(PlaceFault),
+    Cert(CertFault),
 }
 
 /// Says the line of a refusal.
@@ -32,6 +38,8 @@ pub fn say_refusal<E: Sink>(err: &mut E, refusal: &Refusal)
         Refusal::Check(fault) => say_told(err, "check", told_of_check(fault)),
         Refusal::Net(fault) => say_told(err, "net", told_of_net(*fault)),
         Refusal::Rows(fault) => say_told(err, "rows", told_of_rows(*fault)),
+        Refusal::Stations(fault) => say_told(err, "stations", told_of_place(*fault)),
+        Refusal::Cert(fault) => say_told(err, "cert", told_of_cert(*fault)),
     }
 }
 

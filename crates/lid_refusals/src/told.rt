@@ -1,12 +1,14 @@
 //! What a refusal tells: its name and its fields, as the words of one line.
 
-ghost use Rattle.std.specs.Prelude.{◌≡◌};
-ghost use Rattle.lid_refusals.specs.Faults.{text_words, blif_words, rows_words, net_words, check_words};
+ghost use Rattle.std.specs.Prelude.{◌≡◌, true};
+ghost use Rattle.lid_refusals.specs.Faults.{text_words, blif_words, rows_words, net_words, place_words, cert_words, is_at_inst, check_words};
 ghost use Rattle.lid_refusals.specs.Told.{told_words};
 
 use lid_base::{Items, Name, TextFault, Which};
 use lid_blif::BlifFault;
+use lid_certtext::CertFault;
 use lid_channels::NetFault;
+use lid_placetext::PlaceFault;
 use lid_rules::CheckFault;
 use lid_texts::VecFault;
 
@@ -94,17 +96,43 @@ pub fn told_of_net(fault: NetFault) -> Told<'static>
     }
 }
 
-/// What a refusal of acceptance tells.
-pub fn told_of_check(fault: &CheckFault) -> Told<'_>
+/// What a refusal of stations or wires tells.
+pub fn told_of_place(fault: PlaceFault) -> Told<'static>
+    ensures { told_words result ≡ place_words fault }
+{
+    match fault {
+        PlaceFault::Word { line } => Told::At("Word", line),
+        PlaceFault::NoChannel { line } => Told::At("NoChannel", line),
+        PlaceFault::Twice { line } => Told::At("Twice", line),
+        PlaceFault::TooMany { line } => Told::At("TooMany", line),
+        PlaceFault::TotalLimit { count } => Told::Many("TotalLimit", count),
+        PlaceFault::ZeroLength { line } => Told::At("ZeroLength", line),
+        PlaceFault::Limit { which, count } => Told::Over(which, count),
+        PlaceFault::Capacity { line } => Told::At("Capacity", line),
+        PlaceFault::Memory => Told::Nothing,
+    }
+}
+
+/// What a refusal of a certificate's text tells.
+pub fn told_of_cert(fault: CertFault) -> Told<'static>
+    ensures { told_words result ≡ cert_words fault }
+{
+    match fault {
+        CertFault::Word { line } => Told::At("Word", line),
+        CertFault::Limit { which, count } => Told::Over(which, count),
+        CertFault::Memory => Told::Nothing,
+    }
+}
+
+/// What a refusal at an instance of a model tells.
+fn told_of_inst(fault: &CheckFault) -> Told<'_>
+    requires { is_at_inst fault.now ≡ true }
     ensures { told_words result ≡ check_words fault.now }
 {
     match fault {
-        CheckFault::NoRoot => Told::Bare("NoRoot"),
-        CheckFault::DuplicateName { model, name } => { Told::Two("DuplicateName", model, name) }
         CheckFault::UnknownModel { model, inst, name } => {
             Told::Inst("UnknownModel", model, *inst, name)
         }
-        CheckFault::Recursive { model } => Told::One("Recursive", model),
         CheckFault::UnknownFormal {
             model,
             inst,
@@ -120,6 +148,22 @@ pub fn told_of_check(fault: &CheckFault) -> Told<'_>
             inst,
             formal,
         } => Told::Inst("Unbound", model, *inst, formal),
+        _ => Told::Nothing,
+    }
+}
+
+/// What a refusal of acceptance tells.
+pub fn told_of_check(fault: &CheckFault) -> Told<'_>
+    ensures { told_words result ≡ check_words fault.now }
+{
+    match fault {
+        CheckFault::NoRoot => Told::Bare("NoRoot"),
+        CheckFault::DuplicateName { model, name } => { Told::Two("DuplicateName", model, name) }
+        CheckFault::UnknownModel { .. }
+        | CheckFault::UnknownFormal { .. }
+        | CheckFault::FormalTwice { .. }
+        | CheckFault::Unbound { .. } => told_of_inst(fault),
+        CheckFault::Recursive { model } => Told::One("Recursive", model),
         CheckFault::TwoDrivers { model, name } => { Told::Two("TwoDrivers", model, name) }
         CheckFault::Undriven { model, name } => { Told::Two("Undriven", model, name) }
         CheckFault::ClockUse { model, name } => { Told::Two("ClockUse", model, name) }

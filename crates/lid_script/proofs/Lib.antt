@@ -1,3 +1,3 @@
 pub mod Composition
 pub mod Readings
-pub mod Placing
+pub mod Placements

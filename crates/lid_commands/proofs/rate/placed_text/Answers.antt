@@ -5,7 +5,7 @@ use Rattle.lid_stations.specs.Placements.{links_of}
 use Rattle.lid_script.specs.Outputs.{throughput}
 use Rattle.lid_script.specs.Scripts.{Script, placement_step, rated_script}
 use Rattle.lid_script.proofs.Composition.{want_anywhere}
-use Rattle.lid_script.proofs.Placing.{text_placed, cause_unplaced}
+use Rattle.lid_script.proofs.Placements.{text_placed, cause_unplaced}
 use Rattle.lid_commands.proofs.rate.placed_text.Goals as goal
 
 pub returns-in-Ok-clause-ok : goal.returns-in-Ok-clause-ok

@@ -1,39 +1,23 @@
-use Rattle.std.proofs.Common.{List, ℕ, Option, subst}
-use Rattle.lid_base.proofs.Results.{if_ok, if_err}
+use Rattle.std.proofs.Common.{List}
 use Rattle.lid_stations.specs.Placements.{Links, links_of}
-use Rattle.lid_script.specs.Causes.{IsCause}
 use Rattle.lid_script.specs.Scripts.{Script, placement_step, rated_script, rate_script}
-use Rattle.lid_script.specs.Statuses.{HasText}
-use Rattle.lid_script.proofs.Placing.{text_built, cause_built, cause_unbuilt}
+use Rattle.lid_script.proofs.Placements.{text_ok, cause_err, cause_unbuilt}
 use Rattle.lid_commands.proofs.rate.rate_text.Goals as goal
 
 pub returns-in-Ok-clause-ok : goal.returns-in-Ok-clause-ok
 unfolding rate_script
 returns-in-Ok-clause-ok g c =
-    let held = g.S.Shelf.held c.args.shelf.now in
-    let next : Links → Script = λ l. placement_step l c.args.stations.now (rated_script l) in
-    let l = links_of c.in-Ok.system in
-    if_ok c.placed_text.result
-    (λ text h. text_built held c.args.net.now c.args.root.now next l text.items c.in-Ok.ensures.ok
-    (subst (λ (w : List ℕ → Option (List ℕ)). HasText w (next l) text.items) c.in-Ok.ensures.kept h))
-    c.placed_text.ensures.ok
+    text_ok (g.S.Shelf.held c.args.shelf.now) c.args.net.now c.args.root.now (λ l. placement_step l c.args.stations.now (rated_script l)) (λ text. text.items) c.placed_text.result (links_of c.in-Ok.system)
+    (g.S.Shelf.held c.read_system.new.shelf) c.in-Ok.ensures.ok c.in-Ok.ensures.kept c.placed_text.ensures.ok
 
 pub returns-in-Ok-clause-err : goal.returns-in-Ok-clause-err
 unfolding rate_script
 returns-in-Ok-clause-err g c =
-    let held = g.S.Shelf.held c.args.shelf.now in
-    let next : Links → Script = λ l. placement_step l c.args.stations.now (rated_script l) in
-    let l = links_of c.in-Ok.system in
-    let before = g.S.Shelf.faults c.args.shelf.now in
-    let mid = g.S.Shelf.faults c.read_system.new.shelf in
-    let after = g.S.Shelf.faults c.placed_text.new.shelf in
-    if_err c.placed_text.result
-    (λ stop h. cause_built held c.args.net.now c.args.root.now next l before mid after stop c.in-Ok.ensures.ok c.in-Ok.ensures.grows
-    (subst (λ (w : List ℕ → Option (List ℕ)). IsCause w (next l) mid after stop) c.in-Ok.ensures.kept h))
-    c.placed_text.ensures.err
+    cause_err (g.S.Shelf.held c.args.shelf.now) c.args.net.now c.args.root.now (λ l. placement_step l c.args.stations.now (rated_script l)) c.placed_text.result (links_of c.in-Ok.system) (g.S.Shelf.held c.read_system.new.shelf)
+    (g.S.Shelf.faults c.args.shelf.now) (g.S.Shelf.faults c.read_system.new.shelf) (g.S.Shelf.faults c.placed_text.new.shelf) c.in-Ok.ensures.ok c.in-Ok.ensures.kept c.in-Ok.ensures.grows c.placed_text.ensures.err
 
 pub returns-in-Err-clause-err : goal.returns-in-Err-clause-err
 unfolding rate_script
 returns-in-Err-clause-err g c =
-    let next : Links → Script = λ l. placement_step l c.args.stations.now (rated_script l) in
-    cause_unbuilt (g.S.Shelf.held c.args.shelf.now) c.args.net.now c.args.root.now next (g.S.Shelf.faults c.args.shelf.now) (g.S.Shelf.faults c.read_system.new.shelf) c.in-Err.stop c.in-Err.ensures.err
+    cause_unbuilt (g.S.Shelf.held c.args.shelf.now) c.args.net.now c.args.root.now (λ l. placement_step l c.args.stations.now (rated_script l)) (g.S.Shelf.faults c.args.shelf.now) (g.S.Shelf.faults c.read_system.new.shelf)
+    c.in-Err.stop c.in-Err.ensures.err

@@ -5,7 +5,7 @@ use Rattle.lid_stations.specs.Placements.{links_of}
 use Rattle.lid_script.specs.Causes.{IsCause}
 use Rattle.lid_script.specs.Scripts.{Script, placement_step, cert_script}
 use Rattle.lid_script.specs.Statuses.{HasText}
-use Rattle.lid_script.proofs.Placing.{text_placed, cause_placed, cause_unplaced}
+use Rattle.lid_script.proofs.Placements.{text_placed, cause_placed, cause_unplaced}
 use Rattle.lid_commands.proofs.verify.placed_text.Goals as goal
 
 pub returns-in-Ok-clause-ok : goal.returns-in-Ok-clause-ok

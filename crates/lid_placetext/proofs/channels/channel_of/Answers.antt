@@ -1,4 +1,4 @@
-use Rattle.std.proofs.Common.{◌≡◌, ◌∙◌, sym, ap, length, None, Some, List, ℕ}
+use Rattle.std.proofs.Common.{◌∙◌, sym, ap, length, List, ℕ}
 use Rattle.lid_base.specs.Numbers.{number}
 use Rattle.lid_base.specs.Words.{word_at}
 use Rattle.lid_stations.specs.Placements.{links_of}

@@ -1,7 +1,6 @@
 use Rattle.std.proofs.Common.{rules, sym, ap, ◌∙◌, ◌≡◌, true, arith}
 use Rattle.std.proofs.lemmas.List.Sorted.{IsPartitionPoint-from_clause}
 use Rattle.std.proofs.lemmas.List.{get_or_read}
-use Rattle.lid_system.specs.declared.Channel.{Channel}
 use Rattle.lid_placetext.specs.Channels.{comes_before, is_between}
 use Rattle.lid_placetext.proofs.ChannelOrder.{partitioned, found, not_found}
 use Rattle.lid_placetext.proofs.channels.find_channel.Goals.{else-place-channels-via-then-place-channels+else-is_between, else-place-channels-via-else-place-channels}

@@ -1,4 +1,4 @@
-use Rattle.std.proofs.Common.{◌≡◌, ◌++◌, ◌+◌, length, drop, take}
+use Rattle.std.proofs.Common.{◌≡◌, ◌++◌, length, drop}
 use Rattle.lid_base.specs.Lists.{Keeps}
 use Rattle.lid_lines.specs.Texts.{lines_text}
 use Rattle.lid_stations.specs.Placements.{station_count}

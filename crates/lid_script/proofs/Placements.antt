@@ -1,7 +1,7 @@
 -- What the answers of the readers of placements and certificates say, and how the steps that read them
 -- make a script.
-use Rattle.std.proofs.Common.{◌≡◌, ℕ, ◌≤◌, List, Option, Some, None, Result, Ok, Err, ◌⊎◌, inl, inr, refl, sym, ◌∙◌, ap, subst, arith}
-use Rattle.lid_base.specs.Outside.{Rose}
+use Rattle.std.proofs.Common.{◌≡◌, ℕ, ◌≤◌, List, Option, Some, None, Result, Ok, Err, IfOk, IfErr, ◌⊎◌, inl, inr, refl, sym, ◌∙◌, ap, subst, arith}
+use Rattle.lid_base.proofs.Results.{if_ok, if_err}
 use Rattle.lid_design.specs.declared.Design.{Design}
 use Rattle.lid_system.specs.declared.Channel.{Channel}
 use Rattle.lid_cert.specs.declared.cert.Cert.{Cert}
@@ -14,10 +14,11 @@ use Rattle.lid_placetext.specs.declared.fault.PlaceFault.{PlaceFault}
 use Rattle.lid_placetext.specs.declared.fault.PlaceFault.TheVariants as place
 use Rattle.lid_placetext.specs.Readings.{stations_reading, wires_reading}
 use Rattle.lid_refusals.specs.Faults.{stations_line, cert_line}
+use Rattle.lid_refusals.specs.Refusals.{refusal_line}
 use Rattle.lid_script.specs.declared.fault.Stop.{Stop}
 use Rattle.lid_script.specs.declared.fault.Stop.TheVariants.{Refused, Read, Memory, Denied}
-use Rattle.lid_script.specs.Scripts.{Script, Reading, good, bad, net_limit, net_reading, text_limit, links, placement_read, stations_read, wires_read, cert_unless, cert_read, check_step, net_step, system_step, placement_step, HasChannels, IsOverfull}
-use Rattle.lid_script.specs.Causes.{Declines, Got, IsWant, stop_of_place, stop_of_cert, GotSystem, MissesSystem, GotPlacement, MissesPlacement, IsCause}
+use Rattle.lid_script.specs.Scripts.{Script, Reading, good, bad, net_limit, net_reading, text_limit, links, placement_read, stations_read, wires_read, cert_unless, cert_read, check_step, net_step, system_step, placement_step, IsUnchecked, HasChannels, IsOverfull}
+use Rattle.lid_script.specs.Causes.{Declines, Got, IsWant, HasTooMany, stop_of_place, stop_of_cert, GotSystem, MissesSystem, GotPlacement, MissesPlacement, IsCause}
 use Rattle.lid_script.specs.Statuses.{HasText}
 use Rattle.lid_script.proofs.Composition.{rose_later, text_after, cause_after, cause_here, text_checked, cause_checked, cause_unchecked, text_decided, cause_decided, cause_undecided, want_anywhere}
 
@@ -77,16 +78,16 @@ cause_later held script before mid after Denied grows c = c
 
 -- a netlist is fetched, read and checked, and its system built
 module _ (held : List ℕ → Option (List ℕ)) (net : List ℕ) (root : Option (List ℕ)) (next : Links → Script) where
-  built : Design → Script
+  abbrev built : Design → Script
   built checked = net_step checked (λ channels. next (links checked channels))
 
-  read : Design → Script
-  read d = check_step root d built
+  abbrev checked_on : Design → Script
+  checked_on d = check_step root d built
 
   pub text_built : (l : Links) (text : List ℕ) → GotSystem held net root l → HasText held (next l) text → HasText held (system_step net root next) text
   text_built l text g h =
       let b = g.builds in
-      text_after held net net_limit net_reading read g.design text g.got
+      text_after held net net_limit net_reading checked_on g.design text g.got
       (text_checked held root g.design built b.checked text b.is_checked
       (text_decided held (HasChannels b.checked) (IsOverfull b.checked) (λ channels. next (links b.checked channels)) b.channels text b.has
       (subst (λ x. HasText held (next x) text) b.links_are h)))
@@ -94,22 +95,29 @@ module _ (held : List ℕ → Option (List ℕ)) (net : List ℕ) (root : Option
   pub cause_built : (l : Links) (before mid after : List ℕ → ℕ) (stop : Stop) → GotSystem held net root l → ((q : List ℕ) → before q ≤ mid q) → IsCause held (next l) mid after stop → IsCause held (system_step net root next) before after stop
   cause_built l before mid after stop g grows c =
       let b = g.builds in
-      cause_after held net net_limit net_reading read g.design before mid after stop g.got grows
+      cause_after held net net_limit net_reading checked_on g.design before mid after stop g.got grows
       (cause_checked held root g.design built b.checked mid after stop b.is_checked
       (cause_decided held (HasChannels b.checked) (IsOverfull b.checked) (λ channels. next (links b.checked channels)) b.channels mid after stop b.has
       (subst (λ x. IsCause held (next x) mid after stop) b.links_are c)))
 
+  -- the same of a call that ends as `next` does, over a shelf that holds the same
+  pub text_ok : {A E : Type 0} (items : A → List ℕ) (result : Result A E) (l : Links) (now : List ℕ → Option (List ℕ)) → GotSystem held net root l → now ≡ held → IfOk result (λ t. HasText now (next l) (items t)) → IfOk result (λ t. HasText held (system_step net root next) (items t))
+  text_ok items result l now g same h = if_ok result (λ t x. text_built l (items t) g (subst (λ (w : List ℕ → Option (List ℕ)). HasText w (next l) (items t)) same x)) h
+
+  pub cause_err : {A : Type 0} (result : Result A Stop) (l : Links) (now : List ℕ → Option (List ℕ)) (before mid after : List ℕ → ℕ) → GotSystem held net root l → now ≡ held → ((q : List ℕ) → before q ≤ mid q) → IfErr result (λ stop. IsCause now (next l) mid after stop) → IfErr result (λ stop. IsCause held (system_step net root next) before after stop)
+  cause_err result l now before mid after g same grows h = if_err result (λ stop x. cause_built l before mid after stop g grows (subst (λ (w : List ℕ → Option (List ℕ)). IsCause w (next l) mid after stop) same x)) h
+
   pub cause_unbuilt : (before after : List ℕ → ℕ) (stop : Stop) → MissesSystem held net root before after stop → IsCause held (system_step net root next) before after stop
-  cause_unbuilt before after (Refused refusal) (inl m) = cause_here held net net_limit net_reading read before after (Refused refusal) m
+  cause_unbuilt before after (Refused refusal) (inl m) = cause_here held net net_limit net_reading checked_on before after (Refused refusal) m
   cause_unbuilt before after (Refused refusal) (inr r) =
-      cause_after held net net_limit net_reading read r.design before before after (Refused refusal) r.got (λ q. omega arith) (by_reason r.refused)
+      cause_after held net net_limit net_reading checked_on r.design before before after (Refused refusal) r.got (λ q. omega arith) (by_reason r.refused)
     where
-      by_reason : _ → IsCause held (read r.design) before after (Refused refusal)
+      by_reason : IsUnchecked root r.design (refusal_line refusal) ⊎ HasTooMany root r.design (refusal_line refusal) → IsCause held (checked_on r.design) before after (Refused refusal)
       by_reason (inl u) = cause_unchecked held root r.design built before after (Refused refusal) u
       by_reason (inr t) =
           cause_checked held root r.design built t.checked before after (Refused refusal) t.is_checked
           (cause_undecided held (HasChannels t.checked) (IsOverfull t.checked) (λ channels. next (links t.checked channels)) before after (Refused refusal) t.refused)
-  cause_unbuilt before after (Read file) m = cause_here held net net_limit net_reading read before after (Read file) m
+  cause_unbuilt before after (Read file) m = cause_here held net net_limit net_reading checked_on before after (Read file) m
   cause_unbuilt before after Memory m = tt
   cause_unbuilt before after Denied m = absurd m
 
