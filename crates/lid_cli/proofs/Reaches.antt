@@ -1,5 +1,5 @@
 -- A reach that may stand where it is given is positive.
-use Rattle.std.proofs.Common.{◌≡◌, ◌≤◌, ◌<◌, ◌&&◌, ◌||◌, not, ◌==◌, ℕ, Bool, true, false, true≢false, List, length, get_or, Option, Some, None, unwrap_or, codes, refl, sym, ◌∙◌, ap, arith}
+use Rattle.std.proofs.Common.{◌≡◌, ◌≤◌, ◌<◌, ◌&&◌, ◌||◌, not, ◌==◌, ℕ, Bool, true, false, true≢false, List, length, get_or, Option, Some, None, unwrap_or, codes, refl, sym, ◌∙◌, arith}
 use Rattle.std.specs.Option.{option_map_or}
 use Rattle.std.specs.List.{list_all}
 use Rattle.std.specs.Prelude.{nat_le}
