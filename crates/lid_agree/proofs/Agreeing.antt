@@ -1,5 +1,5 @@
 -- A strict table of a design, seen at the points of its system, is a table of the system.
-use Rattle.std.proofs.Common.{◌≡◌, ◌⊎◌, ℕ, zero, suc, ◌+◌, ◌-◌, ◌<◌, ◌≤◌, Bool, false, List, [], ◌∷◌, length, get_or, map, option_map, Option, Some, None, slice_get, inl, inr, refl, sym, ◌∙◌, ap, subst, arith}
+use Rattle.std.proofs.Common.{◌≡◌, ◌⊎◌, ℕ, zero, suc, ◌+◌, ◌-◌, ◌<◌, Bool, false, List, [], ◌∷◌, length, get_or, map, option_map, Option, Some, None, slice_get, inl, inr, refl, sym, ◌∙◌, ap, subst, arith}
 use Rattle.std.specs.Option.{option_map_or}
 use Rattle.std.proofs.lemmas.List.{length-map}
 use Rattle.std.proofs.lemmas.Option.{slice_get-get_or, slice_get-map, slice_get_within}
@@ -14,7 +14,7 @@ use Rattle.lid_design.specs.Network.{Driver, from_input, from_latch, from_cover,
 use Rattle.lid_design.specs.Walks.{IsDriven}
 use Rattle.lid_design.specs.Flat.{flat_drivers, IsFlat}
 use Rattle.lid_design.specs.Columns.{Column, column, drivers, root_inputs, root_outputs, output_row, output_rows, IsStrictOutput}
-use Rattle.lid_design.proofs.Parts.{input_drives}
+use Rattle.lid_design.proofs.Parts.{input_drives, same_of_one}
 use Rattle.lid_design.proofs.Tables.{has_one_table}
 use Rattle.lid_pearl.specs.Pearls.{View}
 use Rattle.lid_pearl.proofs.Reordering.{all_from_each}
@@ -36,19 +36,12 @@ use Rattle.lid_agree.specs.Agreement.{column_of, seen, IsShellOf, IsSystemOf}
 use Rattle.lid_agree.proofs.Inputs.{root_input_drives}
 use Rattle.lid_agree.proofs.Leading.{passed_value, given_bit, led_bit, led_bits}
 
-one_of_few : {A : Type 0} (xs : List A) (x y : A) → length xs ≤ 1 → Among x xs → Among y xs → x ≡ y
-one_of_few [] x y few i j = absurd i
-one_of_few (z ∷ []) x y few (inl e) (inl e') = e ∙ sym e'
-one_of_few (z ∷ []) x y few (inl e) (inr j) = absurd j
-one_of_few (z ∷ []) x y few (inr i) j = absurd i
-one_of_few (z ∷ w ∷ xs) x y few i j = absurd (omega arith)
-
 -- the place of an input of a flat part
 input_place : (f : Flat) (k j : ℕ) → IsFlat f → Among {A = Driver ℕ} (from_input j) (flat_drivers f k) → slice_get f.ins j ≡ Some k
 input_place f k j flat among =
     let found = among_get f.ins k (input_among f k j among) in
     let other : Among {A = Driver ℕ} (from_input found.0) (flat_drivers f k) = input_drives f k found.0 found.1 in
-    let same : from_input found.0 ≡ from_input j = one_of_few {A = Driver ℕ} (flat_drivers f k) (from_input found.0) (from_input j) (flat.once k) other among in
+    let same : from_input found.0 ≡ from_input j = same_of_one {A = Driver ℕ} (flat_drivers f k) (from_input found.0) (from_input j) (flat.once k) other among in
     let place : found.0 ≡ j = ap place_of same in
     subst (λ (i : ℕ). slice_get f.ins i ≡ Some k) place found.1
   where

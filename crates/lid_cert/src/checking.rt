@@ -80,12 +80,7 @@ fn are_parts_inside(graph: &Graph, parts: &[Part]) -> bool
     requires { All IsPartInRange parts.now }
     ensures { IsTrue result ↔ All (IsPartInside graph.now) parts.now }
 {
-    for part in parts {
-        if !is_part_inside(graph, part) {
-            return false;
-        }
-    }
-    true
+    parts.iter().all(|part| is_part_inside(graph, part))
 }
 
 /// Whether the rules hold for a part.
@@ -101,12 +96,7 @@ fn are_parts(graph: &Graph, parts: &[Part]) -> bool
     requires { All IsPartInRange parts.now }
     ensures { IsTrue result ↔ All (IsPart graph.now) parts.now }
 {
-    for part in parts {
-        if !is_part(graph, part) {
-            return false;
-        }
-    }
-    true
+    parts.iter().all(|part| is_part(graph, part))
 }
 
 /// Whether the parts stand in the order of their least transition.

@@ -1,5 +1,5 @@
 -- A reach that may stand where it is given is positive.
-use Rattle.std.proofs.Common.{◌≡◌, ◌≤◌, ◌<◌, ◌&&◌, ◌||◌, not, ◌==◌, ℕ, Bool, true, false, true≢false, List, length, get_or, Option, Some, None, unwrap_or, codes, refl, sym, ◌∙◌, ap, arith}
+use Rattle.std.proofs.Common.{◌≡◌, ◌≤◌, ◌<◌, ◌&&◌, ◌||◌, not, ◌==◌, ℕ, Bool, true, false, true≢false, List, length, get_or, Option, Some, None, unwrap_or, codes, refl, sym, ◌∙◌, arith}
 use Rattle.std.specs.Option.{option_map_or}
 use Rattle.std.specs.List.{list_all}
 use Rattle.std.specs.Prelude.{nat_le}
@@ -43,6 +43,6 @@ pub reach_fits : (form : Form) (found : List Row) → has_form form found ≡ tr
 unfolding has_form
 reach_fits form found h =
     let all =
-        fifth (length (files_in found) == length form.places) (files_fit (files_in found) form.places) (has_each form.needed found) (has_only form.needed form.further found)
-        (list_all (option_fits found) option_names) (not (has_both found) && (form.has_tally || not (is_tallied found))) h in
+    fifth (length (files_in found) == length form.places) (files_fit (files_in found) form.places) (has_each form.needed found) (has_only form.needed form.further found)
+    (list_all (option_fits found) option_names) (not (has_both found) && (form.has_tally || not (is_tallied found))) h in
     at_true (option_fits found) option_names 8 (option_fits found (codes "reach")) (omega arith) refl all

@@ -97,29 +97,33 @@ has_form form found =
     && (not (has_both found)
     && (form.has_tally || not (is_tallied found)))))))
 
+-- the name of the root, where it is given
+abbrev pub root_in : List Row → Option (List ℕ)
+root_in found = first_of ROOT.now found
+
 -- the job of `check`
-unfoldable pub check_job : List Row → Option Job
-check_job found = Some (Check (file_at 0 found) (first_of ROOT.now found))
+abbrev pub check_job : List Row → Option Job
+check_job found = Some (Check (file_at 0 found) (root_in found))
 
 -- the reach that is given
 unfoldable pub reach_in : List Row → ℕ
 reach_in found = option_map_or (λ text. unwrap_or (number text) 1) (first_of REACH.now found) 1
 
 -- the job of `place`
-unfoldable pub place_job : List Row → Option Job
-place_job found = Some (Place (file_at 0 found) (name_in WIRES.now found) (reach_in found) (first_of ROOT.now found))
+abbrev pub place_job : List Row → Option Job
+place_job found = Some (Place (file_at 0 found) (name_in WIRES.now found) (reach_in found) (root_in found))
 
 -- the job of `rate`
-unfoldable pub rate_job : List Row → Option Job
-rate_job found = Some (Rate (file_at 0 found) (first_of STATIONS.now found) (first_of ROOT.now found))
+abbrev pub rate_job : List Row → Option Job
+rate_job found = Some (Rate (file_at 0 found) (first_of STATIONS.now found) (root_in found))
 
 -- the job of `strict`
-unfoldable pub strict_job : List Row → Option Job
-strict_job found = Some (Strict (file_at 0 found) (file_at 1 found) (first_of ROOT.now found))
+abbrev pub strict_job : List Row → Option Job
+strict_job found = Some (Strict (file_at 0 found) (file_at 1 found) (root_in found))
 
 -- the job of `verify`
-unfoldable pub verify_job : List Row → Option Job
-verify_job found = Some (Verify (file_at 0 found) (file_at 1 found) (first_of STATIONS.now found) (first_of ROOT.now found))
+abbrev pub verify_job : List Row → Option Job
+verify_job found = Some (Verify (file_at 0 found) (file_at 1 found) (first_of STATIONS.now found) (root_in found))
 
 -- the job of a command whose form the words have; a command that is not built yet has none
 unfoldable pub job_made : Command → List Row → Option Job

@@ -4,9 +4,9 @@ ghost use Rattle.std.specs.Prelude.{◌≡◌, IfOk, map, option_map, slice_inde
 ghost use Rattle.std.specs.List.{list_all};
 ghost use Rattle.clap.specs.Words.{all_of, first_of};
 ghost use Rattle.lid_cli.specs.Reading.{matches_in};
-ghost use Rattle.lid_cli.specs.Jobs.{is_given, is_tallied, is_one_of, is_allowed, files_in, file_at, name_in, has_only, has_each};
+ghost use Rattle.lid_cli.specs.Jobs.{is_given, is_tallied, is_one_of, is_allowed, files_in, file_at, name_in, root_in, has_only, has_each};
 
-use crate::table::{FILES, OPTIONS, TALLY};
+use crate::table::{FILES, OPTIONS, ROOT, TALLY};
 use clap::ArgMatches;
 use lid_base::{Name, Text, copy_name};
 use std::alloc::{AllocError, Global};
@@ -98,15 +98,11 @@ pub fn text_if_given(
     }
 }
 
-/// The value of an option, where it stands in the words.
-pub fn name_of(
-    alloc: Global,
-    given: &ArgMatches<'_>,
-    option: &str,
-) -> Result<Option<Name>, AllocError>
-    ensures { IfOk result (λ name. name ≡ first_of option.now (matches_in given.now)) }
+/// The name of the root, where it is given.
+pub fn root_of(alloc: Global, given: &ArgMatches<'_>) -> Result<Option<Name>, AllocError>
+    ensures { IfOk result (λ name. name ≡ root_in (matches_in given.now)) }
 {
-    match value_of(given, option) {
+    match value_of(given, ROOT) {
         Some(value) => Ok(Some(copy_name(alloc, value.as_bytes())?)),
         None => Ok(None),
     }

@@ -4,14 +4,10 @@ ghost use Rattle.std.specs.Prelude.{◌≡◌, true, codes, IfOk, IfSome};
 ghost use Rattle.lid_cli.specs.Reading.{matches_in};
 ghost use Rattle.lid_cli.specs.Jobs.{IsSound, option_fits, form_shown, job_made, job_formed, job_given, job_of};
 
-use crate::check::check_job;
+use crate::commands::{check_job, place_job, rate_job, strict_job, verify_job};
 use crate::form::{form_of, has_form};
-use crate::place::place_job;
-use crate::rate::rate_job;
 use crate::reader::parse;
-use crate::strict::strict_job;
 use crate::table::{Command, Form};
-use crate::verify::verify_job;
 use clap::ArgMatches;
 use lid_base::{Name, Text};
 use std::alloc::{AllocError, Global};

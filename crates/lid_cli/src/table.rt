@@ -23,8 +23,7 @@ pub const TALLY: &str = "tally";
 
 /// The options of all commands; each has one value.
 pub static OPTIONS: [&str; 11] = [
-    ROOT, STATIONS, STALLS, WORKERS, "trace", "schedule", "rounds", WIRES, REACH, "shells",
-    "run",
+    ROOT, STATIONS, STALLS, WORKERS, "trace", "schedule", "rounds", WIRES, REACH, "shells", "run",
 ];
 
 /// A command of the table.

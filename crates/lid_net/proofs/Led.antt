@@ -28,12 +28,10 @@ use Rattle.lid_check.specs.Acceptance.{IsAccepted}
 use Rattle.lid_check.specs.Networks.{IsNetwork}
 use Rattle.lid_check.specs.declared.network.Network.{Network}
 use Rattle.lid_flaws.proofs.Numbered.{walk_up}
-use Rattle.lid_rules.specs.Conditions.{unknown_formal, formal_twice, unbound, two_drivers, undriven, clock_use, two_clocks, mixed_edges, root_logic, limits}
-use Rattle.lid_rules.specs.Acceptance.{fault_after_recursion}
 use Rattle.lid_elab.proofs.Every.{driven_column}
 use Rattle.lid_check.proofs.Descent.{walks_end}
 use Rattle.lid_wiring.proofs.Names.{to_among, from_among}
-use Rattle.lid_wiring.proofs.Passing.{or_none, sound_model}
+use Rattle.lid_wiring.proofs.Passing.{no_root_logic, sound_model}
 use Rattle.lid_parts.proofs.Finding.{whole_pearls, inst_count, inst_pearl}
 use Rattle.lid_leads.specs.declared.origin.Origin.{Origin}
 use Rattle.lid_leads.specs.declared.origin.Origin.TheVariants.{Const, Port}
@@ -43,19 +41,6 @@ use Rattle.lid_net.proofs.Leading.{only, one_of, source_driven}
 use Rattle.lid_net.proofs.Rooted.{RootShape, given, constant, buffer, output, root_shape, root_plain}
 use Rattle.lid_check.proofs.Flats.{ports_apart}
 use Rattle.lid_net.proofs.Facts.{judged, inputs_ports, source_name, shell_name}
-
-logic_passes : (d : Design) (ks : List ℕ) → fault_after_recursion d ks ≡ None → root_logic d ≡ None
-unfolding fault_after_recursion
-logic_passes d ks none =
-    let a = or_none (unknown_formal d ks) _ none in
-    let b = or_none (formal_twice d ks) _ a.1 in
-    let e = or_none (unbound d ks) _ b.1 in
-    let f = or_none (two_drivers d ks) _ e.1 in
-    let g = or_none (undriven d ks) _ f.1 in
-    let h = or_none (clock_use d ks) _ g.1 in
-    let i = or_none (two_clocks d) _ h.1 in
-    let j = or_none (mixed_edges d ks) _ i.1 in
-    (or_none (root_logic d) (limits d) j.1).0
 
 at_root : (d : Design) (m : Model) → slice_get d.models d.root ≡ Some m → model_at d [] ≡ Some m
 unfolding model_at
@@ -92,7 +77,7 @@ module _ (d : Design) (n : Network) (formed : IsWellFormed d) (accepted : IsAcce
     shape k net less e =
         root_shape d root.0 (at_root d root.0 root.1) root.1 (let l = root_insts in omega arith)
         (all_among (λ m. AllByRecursion IsWellFormedCell m.cells) d.models root.0 formed.cells (get_among d.models d.root root.0 root.1))
-        (root_plain d root.0 root.1 (let l = root_insts in omega arith) (logic_passes d accepted.models.ks accepted.models.after))
+        (root_plain d root.0 root.1 (let l = root_insts in omega arith) (no_root_logic d accepted.models.ks accepted.models.after))
         net (driver_of k) (subst (λ (c : Column). Among (driver_of k) (drivers d c)) e (driver_in k less))
 
     pearl_path : (p : ℕ) (path : List ℕ) → slice_get (pearls d) p ≡ Some path → path ≡ p ∷ []

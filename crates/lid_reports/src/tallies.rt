@@ -3,6 +3,7 @@
 ghost use Rattle.std.specs.Prelude.{◌≡◌, ◌++◌, OnOk, OnErr};
 ghost use Rattle.lid_base.specs.Lists.{Keeps};
 ghost use Rattle.lid_reports.specs.Runs.{tally_words, workers_text, tallies_text};
+ghost use Rattle.lid_reports.specs.Pieces.{pieces_text};
 ghost use Rattle.lid_lines.specs.Texts.{line_text};
 
 use crate::pieces::{Piece, append_pieces};
@@ -47,31 +48,24 @@ fn append_workers(tallies: &[Tally], into: &mut Vec<u8>) -> Result<(), AllocErro
     Ok(())
 }
 
-/// Appends the lines.
-#[tactic(auto, unfolding(crate::specs::Runs::tallies_text))]
+/// Appends a line for each worker, and a last one.
 fn append_tallies(
     tallies: &[Tally],
-    finish: u64,
-    finish_fired: u64,
+    last: &[Piece<'_>],
     into: &mut Vec<u8>,
 ) -> Result<(), AllocError>
-    ensures ok { OnOk result (into.new.items ≡ into.old.items ++ tallies_text tallies.now finish finish_fired) }
+    ensures ok { OnOk result (into.new.items ≡ into.old.items ++ workers_text 0 tallies.now ++ pieces_text last.now) }
     ensures kept { Keeps into.old.items into.new.items }
 {
     append_workers(tallies, into)?;
-    let line = [
-        Piece::Text(b"finish"),
-        Piece::Number(finish),
-        Piece::Text(b"fired"),
-        Piece::Number(finish_fired),
-    ];
-    append_pieces(&line, into)
+    append_pieces(last, into)
 }
 
 /// Appends what each worker counted, in order, and the sweeps that ended the run with their firings.
 ///
 /// # Errors
 /// Want of memory. Then nothing was appended.
+#[tactic(auto, unfolding(crate::specs::Runs::tallies_text))]
 pub fn print_tallies(
     tallies: &[Tally],
     finish: u64,
@@ -81,9 +75,11 @@ pub fn print_tallies(
     ensures ok { OnOk result (into.new.items ≡ into.old.items ++ tallies_text tallies.now finish finish_fired) }
     ensures err { OnErr result (into.new.items ≡ into.old.items) }
 {
-    cut_back(
-        into.len(),
-        append_tallies(tallies, finish, finish_fired, into),
-        into,
-    )
+    let last = [
+        Piece::Text(b"finish"),
+        Piece::Number(finish),
+        Piece::Text(b"fired"),
+        Piece::Number(finish_fired),
+    ];
+    cut_back(into.len(), append_tallies(tallies, &last, into), into)
 }

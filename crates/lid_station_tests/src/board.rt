@@ -1,12 +1,14 @@
 //! Boards, on one thread and shared by threads: what the looks answer, and what is carried.
 
-ghost use Rattle.std.specs.Prelude.{◌≡◌, ℕ, ◌^◌, ◌<◌, ◌≤◌, List, [], ◌∷◌, replicate, IfSome, IsTrue, length, Some, slice_get};
+ghost use Rattle.std.specs.Prelude.{◌≡◌, ℕ, ◌^◌, ◌<◌, ◌≤◌, List, [], ◌∷◌, replicate, option_map, IfSome, IsTrue, length, Some, slice_get};
 ghost use Rattle.std.specs.List.{All};
 ghost use Rattle.std.specs.Thread.{IsSync};
 ghost use Rattle.lid_station.specs.Boards.{fill};
 ghost use Rattle.lid_board.specs.Owners.{IsOf, IsOwned, ends_of, plan_of};
+ghost use Rattle.lid_board.specs.Parting.{side_number};
 ghost use Rattle.lid_board.specs.Relation.{stream_of};
 ghost use Rattle.lid_board.specs.Standing.{StandsFor};
+ghost use Rattle.lid_board.specs.Views.{at};
 
 use lid_board::{Attended, Board, Course, Hand};
 use lid_station::{End, InLook, OutLook, PlainBoard, Side, Stations};
@@ -71,6 +73,13 @@ fn token_of(stream: &[u32], number: u64) -> Option<u32>
     Some(token)
 }
 
+/// How many tokens passed an end; none where another hand has it.
+fn count_at(hand: &Hand, station: u32, side: Side) -> Option<u64>
+    ensures { result ≡ option_map (λ h. h.passed) (at (ends_of hand.now) (side_number side station)) }
+{
+    hand.passed(End { station, side })
+}
+
 /// Looks for room at a station, and puts the stream's next token where there are both.
 fn offer(board: &Board, hand: &mut Hand, station: u32, stream: &[u32]) -> Option<OutLook>
     requires of { IsOf hand.old board.now }
@@ -78,11 +87,7 @@ fn offer(board: &Board, hand: &mut Hand, station: u32, stream: &[u32]) -> Option
     ensures of { IsOf hand.new board.now }
     ensures owned { (end : ℕ) → IsOwned (ends_of hand.old) end → IsOwned (ends_of hand.new) end }
 {
-    let end = End {
-        station,
-        side: Side::Fill,
-    };
-    let Some(passed) = hand.passed(end) else {
+    let Some(passed) = count_at(hand, station, Side::Fill) else {
         return None;
     };
     let next = token_of(stream, passed);
@@ -108,11 +113,7 @@ fn receive(board: &Board, hand: &mut Hand, station: u32) -> Option<(InLook, Opti
     ensures of { IsOf hand.new board.now }
     ensures owned { (end : ℕ) → IsOwned (ends_of hand.old) end → IsOwned (ends_of hand.new) end }
 {
-    let end = End {
-        station,
-        side: Side::Drain,
-    };
-    let Some(_passed) = hand.passed(end) else {
+    let Some(_passed) = count_at(hand, station, Side::Drain) else {
         return None;
     };
     let mut stations = Attended {
@@ -334,11 +335,7 @@ fn has_room(board: &Board, hand: &mut Hand, station: u32, stream: &[u32]) -> boo
     requires { IsOf hand.old board.now }
     ensures { IsOf hand.new board.now }
 {
-    let end = End {
-        station,
-        side: Side::Fill,
-    };
-    let Some(passed) = hand.passed(end) else {
+    let Some(passed) = count_at(hand, station, Side::Fill) else {
         return false;
     };
     if passed >= stream.len() as u64 {
@@ -477,7 +474,7 @@ fn found_after(
 
 /// How many tokens passed an end; 0 where another hand has it.
 fn passed_at(hand: &Hand, station: u32, side: Side) -> u64 {
-    hand.passed(End { station, side }).unwrap_or(0)
+    count_at(hand, station, side).unwrap_or(0)
 }
 
 /// How many tokens of ten came wrong through a station between two threads, whether each thread

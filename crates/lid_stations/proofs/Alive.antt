@@ -32,38 +32,34 @@ module _ (s : System) (p : Placement) (well : IsWellFormed s) (fits : Fits s p) 
   abbrev tokens_of : Edge → ℕ
   tokens_of e = e.tokens
 
-  -- the two edges of a station lead back from each other
+  -- edge k leads from a to b, and edge j back
+  ends_paired : (k j a b : ℕ) → j < length g.edges → a < actor_count (links_of s) p → b < actor_count (links_of s) p
+      → (edge_at g k).from ≡ a → (edge_at g k).to ≡ b → (edge_at g j).from ≡ b → (edge_at g j).to ≡ a → AreEndsPaired g k
+  ends_paired k j a b there a_less b_less from to back_from back_to = record {
+    from = omega (arith, from, node_count s p);
+    to = omega (arith, to, node_count s p);
+    back = (j, there, back_from ∙ sym to, back_to ∙ sym from);
+  }
+
   forth_paired : (station : ℕ) → station < count → AreEndsPaired g (station + station)
   forth_paired station h =
       let between = stands_between s p well fits station h in
-      let filled = between.filled in
-      let drained = between.drained in
-      record {
-        from = omega (arith, ap from_of (forth_at s p station h), node_count s p);
-        to = omega (arith, ap to_of (forth_at s p station h), node_count s p);
-        back = (suc (station + station), omega (arith, edges_long s p), ap from_of (back_at s p station h) ∙ sym (ap to_of (forth_at s p station h)), ap to_of (back_at s p station h) ∙ sym (ap from_of (forth_at s p station h)));
-      }
+      ends_paired (station + station) (suc (station + station)) _ _ (omega (arith, edges_long s p)) between.filled between.drained
+      (ap from_of (forth_at s p station h)) (ap to_of (forth_at s p station h)) (ap from_of (back_at s p station h)) (ap to_of (back_at s p station h))
 
   back_paired : (station : ℕ) → station < count → AreEndsPaired g (suc (station + station))
   back_paired station h =
       let between = stands_between s p well fits station h in
-      let filled = between.filled in
-      let drained = between.drained in
-      record {
-        from = omega (arith, ap from_of (back_at s p station h), node_count s p);
-        to = omega (arith, ap to_of (back_at s p station h), node_count s p);
-        back = (station + station, omega (arith, edges_long s p), ap from_of (forth_at s p station h) ∙ sym (ap to_of (back_at s p station h)), ap to_of (forth_at s p station h) ∙ sym (ap from_of (back_at s p station h)));
-      }
+      ends_paired (suc (station + station)) (station + station) _ _ (omega (arith, edges_long s p)) between.drained between.filled
+      (ap from_of (back_at s p station h)) (ap to_of (back_at s p station h)) (ap from_of (forth_at s p station h)) (ap to_of (forth_at s p station h))
 
   self_there : (v : ℕ) → v < actor_count (links_of s) p → HasSelfEdge g v
   self_there v h = ((count + count) + v, omega (arith, edges_long s p), ap from_of (self_at s p v h), ap to_of (self_at s p v h), ap tokens_of (self_at s p v h))
 
   self_paired : (v : ℕ) → v < actor_count (links_of s) p → AreEndsPaired g ((count + count) + v)
-  self_paired v h = record {
-    from = omega (arith, ap from_of (self_at s p v h), node_count s p);
-    to = omega (arith, ap to_of (self_at s p v h), node_count s p);
-    back = ((count + count) + v, omega (arith, edges_long s p), ap from_of (self_at s p v h) ∙ sym (ap to_of (self_at s p v h)), ap to_of (self_at s p v h) ∙ sym (ap from_of (self_at s p v h)));
-  }
+  self_paired v h =
+      let at = self_at s p v h in
+      ends_paired ((count + count) + v) ((count + count) + v) v v (omega (arith, edges_long s p)) h h (ap from_of at) (ap to_of at) (ap from_of at) (ap to_of at)
 
   small : (station : ℕ) → start_count p station ≤ 1
   small station = starts_small _

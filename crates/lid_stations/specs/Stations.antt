@@ -1,12 +1,14 @@
 -- Where stations stand, which actors fill and drain them, and with how many tokens they start. Stations are
 -- numbered by channel, then by place. Actors are the nodes, and then the movers in the order of the
 -- stations that they drain.
-use Rattle.std.specs.Prelude.{ℕ, zero, suc, ◌+◌, ◌==◌, if◌then◌else◌, List, [], ◌∷◌, ◌++◌, length, take, slice_index_or}
+use Rattle.std.specs.Prelude.{◌≡◌, ℕ, zero, suc, ◌+◌, ◌<◌, ◌≤◌, ◌==◌, if◌then◌else◌, List, [], ◌∷◌, ◌++◌, length, take, slice_index_or}
 use Rattle.std.specs.List.{sum_by}
 use Rattle.lid_design.specs.Network.{from_each}
+use Rattle.lid_system.specs.declared.System.{System}
 use Rattle.lid_system.specs.declared.Channel.{Channel}
+use Rattle.lid_system.specs.Systems.{IsWellFormed}
 use Rattle.lid_stations.specs.declared.placement.Placement.{Placement}
-use Rattle.lid_stations.specs.Placements.{Links}
+use Rattle.lid_stations.specs.Placements.{Links, links_of, Fits}
 
 -- where a station stands: its channel, and its place among the stations there, of which the first stands at
 -- the producer
@@ -56,6 +58,14 @@ fills l p c (suc place) = mover l p c place
 -- other
 abbrev pub drains : Links → Placement → ℕ → ℕ → ℕ
 drains l p c place = if place == slice_index_or p.relays c 0 then (channel_at l c).to else mover l p c place
+
+-- serves the body: channel c has a station at this place, and `start` is the first mover there
+pub record IsPlace (s : System) (p : Placement) (c place start : ℕ) : Type 0 where
+  pub system : IsWellFormed s
+  pub fits : Fits s p
+  pub there : c < length p.relays
+  pub within : place ≤ slice_index_or p.relays c 0
+  pub first : start ≡ mover (links_of s) p c 0
 
 -- the first station of a channel starts with the token of row 0
 abbrev pub starts : ℕ → ℕ

@@ -8,7 +8,7 @@ ghost use Rattle.lid_graph.specs.Rateable.{IsRateable};
 ghost use Rattle.lid_graph.specs.Walks.{WalksHaveTokens};
 ghost use Rattle.lid_system.specs.Systems.{IsWellFormed};
 ghost use Rattle.lid_stations.specs.Placements.{links_of, Fits, station_count};
-ghost use Rattle.lid_stations.specs.Stations.{actor_count, fills, drains, starts, mover};
+ghost use Rattle.lid_stations.specs.Stations.{actor_count, fills, drains, starts, IsPlace};
 ghost use Rattle.lid_stations.specs.Markings.{marking, station_edges, self_edge};
 
 use crate::placement::Placement;
@@ -98,11 +98,7 @@ fn push_channel(
 
 /// The actor that fills the station at a place of channel c, whose first mover is this.
 fn filler(system: &System, placement: &Placement, c: usize, place: u32, first: u32) -> u32
-    requires system { IsWellFormed system.now }
-    requires fits { Fits system.now placement.now }
-    requires there { c < length placement.now.relays }
-    requires within { place ≤ slice_index_or placement.now.relays c 0 }
-    requires first { first ≡ mover (links_of system.now) placement.now c 0 }
+    requires { IsPlace system.now placement.now c place first }
     ensures { result ≡ fills (links_of system.now) placement.now c place }
 {
     if place == 0 {
@@ -114,11 +110,7 @@ fn filler(system: &System, placement: &Placement, c: usize, place: u32, first: u
 
 /// The actor that drains the station at a place of channel c, whose first mover is this.
 fn drainer(system: &System, placement: &Placement, c: usize, place: u32, first: u32) -> u32
-    requires system { IsWellFormed system.now }
-    requires fits { Fits system.now placement.now }
-    requires there { c < length placement.now.relays }
-    requires within { place ≤ slice_index_or placement.now.relays c 0 }
-    requires first { first ≡ mover (links_of system.now) placement.now c 0 }
+    requires { IsPlace system.now placement.now c place first }
     ensures { result ≡ drains (links_of system.now) placement.now c place }
 {
     if place == placement.relays.as_slice()[c] {

@@ -7,7 +7,7 @@ ghost use Rattle.lid_stations.specs.Placements.{IsCapacity, Fits};
 
 use lid_base::Items;
 use lid_check::check;
-use lid_graph::Graph;
+use lid_graph::{Edge, Graph};
 use lid_stations::{Placement, marking, none};
 use lid_system::System;
 use std::alloc::Global;
@@ -16,56 +16,22 @@ const RING: &[u8] = b".model ring\n.outputs y\n.subckt reg0 d=y q=w\n.subckt reg
 .model reg0\n.inputs d\n.outputs q\n.latch d q 0\n.end\n\
 .model reg1\n.inputs d\n.outputs q\n.latch d q 1\n.end\n";
 
-/// From where an edge leads, to where, and its tokens.
-type Along = (u32, u32, u32);
+/// From where an edge leads, and to where.
+type Ends = (u32, u32);
 
-/// The edges without relay stations.
-static PLAIN: [Along; 10] = [
-    (1, 2, 1),
-    (2, 1, 1),
-    (2, 1, 1),
-    (1, 2, 1),
-    (2, 3, 1),
-    (3, 2, 1),
-    (0, 0, 1),
-    (1, 1, 1),
-    (2, 2, 1),
-    (3, 3, 1),
-];
+/// The edges of the stations where there are no relay stations.
+static PLAIN: [Ends; 6] = [(1, 2), (2, 1), (2, 1), (1, 2), (2, 3), (3, 2)];
 
-/// The edges with a relay station from node 1 to node 2, where each station holds two tokens; actor 4 is
-/// the mover.
-static RELAYED: [Along; 13] = [
-    (1, 4, 1),
-    (4, 1, 1),
-    (4, 2, 0),
-    (2, 4, 2),
-    (2, 1, 1),
-    (1, 2, 1),
-    (2, 3, 1),
-    (3, 2, 1),
-    (0, 0, 1),
-    (1, 1, 1),
-    (2, 2, 1),
-    (3, 3, 1),
-    (4, 4, 1),
-];
-
-/// The same edges where the stations hold 5, 16, 3 and 2 tokens.
-static ROOMY: [Along; 13] = [
-    (1, 4, 1),
-    (4, 1, 4),
-    (4, 2, 0),
-    (2, 4, 16),
-    (2, 1, 1),
-    (1, 2, 2),
-    (2, 3, 1),
-    (3, 2, 1),
-    (0, 0, 1),
-    (1, 1, 1),
-    (2, 2, 1),
-    (3, 3, 1),
-    (4, 4, 1),
+/// Those with a relay station from node 1 to node 2; actor 4 is the mover.
+static RELAYED: [Ends; 8] = [
+    (1, 4),
+    (4, 1),
+    (4, 2),
+    (2, 4),
+    (2, 1),
+    (1, 2),
+    (2, 3),
+    (3, 2),
 ];
 
 /// The system of the ring.
@@ -84,34 +50,50 @@ fn ring(alloc: Global) -> Option<System>
     }
 }
 
-/// Whether a graph has so many transitions, and these edges in order.
-fn is_graph(graph: &Graph, nodes: u32, along: &[Along]) -> bool {
+/// Whether an edge has these ends and tokens.
+fn is_edge(edge: &Edge, ends: Ends, tokens: u32) -> bool {
+    let (from, to) = ends;
+    edge.from == from && edge.to == to && edge.tokens == tokens
+}
+
+/// Whether a graph has so many transitions, edges with these ends and tokens in order, and then an edge
+/// from each transition to itself with one token.
+fn is_graph(graph: &Graph, nodes: u32, ends: &[Ends], tokens: &[u32]) -> bool {
     let edges = graph.edges.as_slice();
-    if graph.nodes != nodes || edges.len() != along.len() {
+    let stations = ends.len();
+    if graph.nodes != nodes
+        || tokens.len() != stations
+        || edges.len() != stations + nodes as usize
+    {
         return false;
     }
-    for k in 0..along.len() {
-        let (from, to, tokens) = along[k];
-        if edges[k].from != from || edges[k].to != to || edges[k].tokens != tokens {
+    for k in 0..stations {
+        if !is_edge(&edges[k], ends[k], tokens[k]) {
+            return false;
+        }
+    }
+    for v in 0..nodes {
+        if !is_edge(&edges[stations + v as usize], (v, v), 1) {
             return false;
         }
     }
     true
 }
 
-/// Whether the marking of a placement has so many transitions, and these edges.
+/// Whether the marking of a placement has so many transitions, and such edges.
 fn is_marked(
     alloc: Global,
     system: &System,
     placement: &Placement,
     nodes: u32,
-    along: &[Along],
+    ends: &[Ends],
+    tokens: &[u32],
 ) -> bool
     requires system { IsWellFormed system.now }
     requires fits { Fits system.now placement.now }
 {
     match marking(alloc, system, placement) {
-        Ok(graph) => is_graph(&graph, nodes, along),
+        Ok(graph) => is_graph(&graph, nodes, ends, tokens),
         Err(_) => false,
     }
 }
@@ -137,8 +119,8 @@ fn relayed(alloc: Global, a: u32, b: u32, c: u32, d: u32) -> Option<Placement>
     })
 }
 
-/// Whether the ring with such a placement has five transitions and these edges.
-fn is_relayed(alloc: Global, a: u32, b: u32, c: u32, d: u32, along: &[Along]) -> bool
+/// Whether the ring with such a placement has five transitions and edges with these tokens.
+fn is_relayed(alloc: Global, a: u32, b: u32, c: u32, d: u32, tokens: &[u32]) -> bool
     requires a { IsCapacity a }
     requires b { IsCapacity b }
     requires c { IsCapacity c }
@@ -151,13 +133,13 @@ fn is_relayed(alloc: Global, a: u32, b: u32, c: u32, d: u32, along: &[Along]) ->
         return false;
     }
     match relayed(alloc, a, b, c, d) {
-        Some(placement) => is_marked(alloc, &system, &placement, 5, along),
+        Some(placement) => is_marked(alloc, &system, &placement, 5, &RELAYED, tokens),
         None => false,
     }
 }
 
-/// Whether the ring has a placement without relay stations, and its marking these edges.
-fn is_plain(alloc: Global, along: &[Along]) -> bool {
+/// Whether the ring has a placement without relay stations, and its marking edges with these tokens.
+fn is_plain(alloc: Global, tokens: &[u32]) -> bool {
     let relays: &[u32] = &[0, 0, 0];
     let caps: &[u32] = &[2, 2, 2];
     let Some(system) = ring(alloc) else {
@@ -168,20 +150,20 @@ fn is_plain(alloc: Global, along: &[Along]) -> bool {
     };
     placement.relays.as_slice() == relays
         && placement.caps.as_slice() == caps
-        && is_marked(alloc, &system, &placement, 4, along)
+        && is_marked(alloc, &system, &placement, 4, &PLAIN, tokens)
 }
 
 #[test]
 fn no_relay_stations_stand_anywhere(rt: HostRuntime) {
-    assert!(rt; is_plain(rt.alloc(), &PLAIN));
+    assert!(rt; is_plain(rt.alloc(), &[1, 1, 1, 1, 1, 1]));
 }
 
 #[test]
 fn a_relay_station_starts_empty(rt: HostRuntime) {
-    assert!(rt; is_relayed(rt.alloc(), 2, 2, 2, 2, &RELAYED));
+    assert!(rt; is_relayed(rt.alloc(), 2, 2, 2, 2, &[1, 1, 0, 2, 1, 1, 1, 1]));
 }
 
 #[test]
 fn edges_back_have_the_room_that_is_left(rt: HostRuntime) {
-    assert!(rt; is_relayed(rt.alloc(), 5, 16, 3, 2, &ROOMY));
+    assert!(rt; is_relayed(rt.alloc(), 5, 16, 3, 2, &[1, 4, 0, 16, 1, 2, 1, 1]));
 }

@@ -2,7 +2,7 @@ use Rattle.std.proofs.Common.{◌≡◌, Option, subst, sym}
 use Rattle.std.specs.Option.{IfSome}
 use Rattle.lid_base.proofs.Results.{if_ok}
 use Rattle.lid_cli.specs.declared.job.Job.{Job}
-use Rattle.lid_cli.specs.Jobs.{IsSound, check_job, place_job, rate_job, strict_job, verify_job}
+use Rattle.lid_cli.specs.Jobs.{IsSound}
 use Rattle.lid_cli.proofs.Reaches.{reach_positive}
 use Rattle.lid_cli.proofs.job.make_job.Goals as goal
 
@@ -10,21 +10,16 @@ same_job : (a b : Option Job) → IfSome b IsSound → a ≡ b → IfSome a IsSo
 same_job a b sound e = subst (λ (j : Option Job). IfSome j IsSound) (sym e) sound
 
 pub returns-in-Check-clause-sound : goal.returns-in-Check-clause-sound
-unfolding check_job
 returns-in-Check-clause-sound c = if_ok c.check_job.result (λ job e. same_job job _ tt e) c.check_job.ensures
 
 pub returns-in-Place-clause-sound : goal.returns-in-Place-clause-sound
-unfolding place_job
 returns-in-Place-clause-sound c = if_ok c.place_job.result (λ job e. same_job job _ (reach_positive _ c.requires) e) c.place_job.ensures
 
 pub returns-in-Rate-clause-sound : goal.returns-in-Rate-clause-sound
-unfolding rate_job
 returns-in-Rate-clause-sound c = if_ok c.rate_job.result (λ job e. same_job job _ tt e) c.rate_job.ensures
 
 pub returns-in-Strict-clause-sound : goal.returns-in-Strict-clause-sound
-unfolding strict_job
 returns-in-Strict-clause-sound c = if_ok c.strict_job.result (λ job e. same_job job _ tt e) c.strict_job.ensures
 
 pub returns-in-Verify-clause-sound : goal.returns-in-Verify-clause-sound
-unfolding verify_job
 returns-in-Verify-clause-sound c = if_ok c.verify_job.result (λ job e. same_job job _ tt e) c.verify_job.ensures

@@ -5,7 +5,7 @@ use Rattle.lid_station_tests.proofs.board.has_room.Goals as goal
 
 pub look_out-requires : goal.look_out-requires
 look_out-requires c =
-    let there = served_here (ends_of c.args.hand.now) (fill c.args.station) c.in-Some.passed c.passed.result c.passed.ensures c.in-Some.is in
+    let there = served_here (ends_of c.args.hand.now) (fill c.args.station) c.in-Some.passed c.count_at.result c.count_at.ensures c.in-Some.is in
     (there.0, there.1)
 
 pub returns-in-Room : goal.returns-in-Room

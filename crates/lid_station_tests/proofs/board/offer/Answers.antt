@@ -9,7 +9,7 @@ use Rattle.lid_station_tests.proofs.board.offer.Goals as goal
 
 pub look_out-look-requires : goal.look_out-look-requires
 look_out-look-requires c =
-    let there = served_here (ends_of c.args.hand.now) (fill c.args.station) c.in-Some.passed c.passed.result c.passed.ensures c.in-Some.is in
+    let there = served_here (ends_of c.args.hand.now) (fill c.args.station) c.in-Some.passed c.count_at.result c.count_at.ensures c.in-Some.is in
     (there.0, there.1)
 
 pub returns-in_default-look-clause-of : goal.returns-in_default-look-clause-of
@@ -30,12 +30,12 @@ returns-in_default-next-clause-owned c end owned =
 
 pub put-requires-clause-room : goal.put-requires-clause-room
 put-requires-clause-room c =
-    let there = served_here (ends_of c.args.hand.now) (fill c.args.station) c.in-Some.passed c.passed.result c.passed.ensures c.in-Some.is in
+    let there = served_here (ends_of c.args.hand.now) (fill c.args.station) c.in-Some.passed c.count_at.result c.count_at.ensures c.in-Some.is in
     (marked there.0, changed_here _ _ (fill c.args.station) marked there.0 c.in-Room.ensures.changed there.1, refl)
 
 pub put-requires-clause-admitted : goal.put-requires-clause-admitted
 put-requires-clause-admitted c =
-    let there = served_here (ends_of c.args.hand.now) (fill c.args.station) c.in-Some.passed c.passed.result c.passed.ensures c.in-Some.is in
+    let there = served_here (ends_of c.args.hand.now) (fill c.args.station) c.in-Some.passed c.count_at.result c.count_at.ensures c.in-Some.is in
     let within = served_within c.args.board.now c.args.hand.now (fill c.args.station) there.0 c.requires.of there.1 in
     attended_next c.look_out-look.new.self.board.now c.look_out-look.new.self.hand.now c.look_out-look.new.self.of_board (stream_of (plan_of c.args.board.now)) c.args.station _ (marked there.0)
     (c.in-Room.ensures.kept (stream_of (plan_of c.args.board.now)) (λ station inside. refl))

@@ -6,7 +6,7 @@ use Rattle.lid_station_tests.proofs.board.receive.Goals as goal
 
 pub look_in-look-requires : goal.look_in-look-requires
 look_in-look-requires c =
-    let there = served_here (ends_of c.args.hand.now) (drain c.args.station) c.in-Some._passed c.passed.result c.passed.ensures c.in-Some.is in
+    let there = served_here (ends_of c.args.hand.now) (drain c.args.station) c.in-Some._passed c.count_at.result c.count_at.ensures c.in-Some.is in
     (there.0, there.1)
 
 pub returns-in_default-look-clause-of : goal.returns-in_default-look-clause-of

@@ -1,8 +1,11 @@
-use Rattle.std.proofs.Common.{◌≡◌, ◌<◌, ◌≤◌, ◌+◌, ℕ, List, ◌++◌, length, get_or, ap, ◌∙◌, arith}
+use Rattle.std.proofs.Common.{◌≡◌, ◌<◌, ◌≤◌, ◌+◌, ◌-◌, ℕ, List, ◌++◌, length, take, get_or, ap, ◌∙◌, arith}
 use Rattle.std.proofs.lemmas.List.{get_or_default}
 use Rattle.lid_graph.specs.declared.graph.Edge.{Edge}
-use Rattle.lid_stations.specs.Placements.{links_of}
-use Rattle.lid_stations.specs.Stations.{capacity}
+use Rattle.lid_system.specs.declared.System.{System}
+use Rattle.lid_system.specs.Systems.{IsWellFormed}
+use Rattle.lid_stations.specs.declared.placement.Placement.{Placement}
+use Rattle.lid_stations.specs.Placements.{links_of, station_count, Fits}
+use Rattle.lid_stations.specs.Stations.{capacity, IsPlace}
 use Rattle.lid_stations.specs.Markings.{station_edges}
 use Rattle.lid_stations.proofs.Parts.{grown_one}
 use Rattle.lid_stations.proofs.Spots.{first_station, starts_small, few_stations, cap_range}
@@ -15,11 +18,23 @@ within xs relays c place is less = let e : get_or xs c 0 ≡ get_or relays c 0 =
 pub overflow_sub-first : goal.overflow_sub-first
 overflow_sub-first c = let there = c.requires.there in let first = c.requires.first in omega (arith, first_station c.args.placement.now.relays c.args.c (omega arith))
 
-pub filler-requires-clause-first : goal.filler-requires-clause-first
-filler-requires-clause-first c = let there = c.requires.there in let first = c.requires.first in omega (arith, first_station c.args.placement.now.relays c.args.c (omega arith))
+is_place : (s : System) (p : Placement) (c place station first : ℕ) (xs : List ℕ) → IsWellFormed s → Fits s p → c < length p.relays → station ≡ station_count (take c p.relays) → first ≡ length s.nodes + (station - c)
+    → xs ≡ p.relays → place < get_or xs c 0 + 1 → IsPlace s p c place first
+is_place s p c place station first xs well fits there counted is_first is less = record {
+  system = well;
+  fits = fits;
+  there = there;
+  within = within xs p.relays c place is less;
+  first = omega (arith, first_station p.relays c (omega arith));
+}
 
-pub drainer-requires-clause-first : goal.drainer-requires-clause-first
-drainer-requires-clause-first c = let there = c.requires.there in let first = c.requires.first in omega (arith, first_station c.args.placement.now.relays c.args.c (omega arith))
+pub filler-requires : goal.filler-requires
+filler-requires c =
+    is_place c.args.system.now c.args.placement.now c.args.c c.loop-place.place c.args.station _ c.as_slice.result.now c.requires.system c.requires.fits c.requires.there c.requires.first (omega arith) c.as_slice.ensures c.loop-place-test.true
+
+pub drainer-requires : goal.drainer-requires
+drainer-requires c =
+    is_place c.args.system.now c.args.placement.now c.args.c c.loop-place.place c.args.station _ c.as_slice.result.now c.requires.system c.requires.fits c.requires.there c.requires.first (omega arith) c.as_slice.ensures c.loop-place-test.true
 
 pub bounds-as_slice-station : goal.bounds-as_slice-station
 bounds-as_slice-station c =
