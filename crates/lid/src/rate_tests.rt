@@ -20,9 +20,7 @@ static WIRES: &[(&str, &str, Left<'static>)] = &[
     (
         PIPE,
         "lid-wires 1\nu0 u1 0 2500\nu3 u0 0 1800\n",
-        done(
-            "lid-stations 1\nin u0 0 0\nu0 u1 0 2\nu1 u2 0 0\nu2 u3 0 0\nu3 u0 0 1\nu3 out 0 0\n",
-        ),
+        done("lid-stations 1\nin u0 0 0\nu0 u1 0 2\nu1 u2 0 0\nu2 u3 0 0\nu3 u0 0 1\nu3 out 0 0\n"),
     ),
     // a wire as long as the reach needs none, one of the double length needs one
     (
@@ -79,7 +77,8 @@ fn stations_are_refused_at_their_lines(rt: HostRuntime) -> Result<(), Fail> {
 }
 
 /// A certificate of the ring with one relay station.
-const RING_CERT: &str = "lid-cert 1\npart 1\nratio 1 1\ncycle 8\nnode 0 0 0 0 -\npart 4\nratio 2 3\n\
+const RING_CERT: &str =
+    "lid-cert 1\npart 1\nratio 1 1\ncycle 8\nnode 0 0 0 0 -\npart 4\nratio 2 3\n\
 cycle 0 2 4\nnode 1 1 2 0 -\nnode 2 2 5 1 5\nnode 3 1 8 2 6\nnode 4 0 5 1 0\n";
 
 /// What `verify` tells of it.
@@ -203,7 +202,12 @@ fn expect_rate<R: Threads + AllocGlobal + Sync + Abort>(
     starts: &[&str],
 ) -> Result<(), Fail> {
     let files = [("n.blif", net), ("s", stations)];
-    let ran = run_failing(rt, &["rate", "n.blif", "--stations", "s"], &files, NONE_FAILS)?;
+    let ran = run_failing(
+        rt,
+        &["rate", "n.blif", "--stations", "s"],
+        &files,
+        NONE_FAILS,
+    )?;
     let cert = match from_utf8(ran.out.written()) {
         Ok(cert) => cert,
         Err(_) => "",

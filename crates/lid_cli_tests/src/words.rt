@@ -1,12 +1,11 @@
 //! Words and the jobs that they are: the expected values are those of the table of commands and of
 //! what `clap` says of options, their values and `--`.
 
+use Asked::{Check, Nothing, Place, Rate, Strict, Verify};
 use lid_base::{Name, Text};
 use lid_cli::{Job, read_words};
 use std::alloc::{AllocError, Global};
 use std::convert::AsStr;
-
-use Asked::{Check, Nothing, Place, Rate, Strict, Verify};
 
 /// What words ask for: the names of files, numbers, and last the root.
 #[derive(Clone, Copy)]
@@ -17,12 +16,7 @@ enum Asked {
     Strict(&'static str, &'static str, Option<&'static str>),
     Place(&'static str, &'static str, u64, Option<&'static str>),
     Rate(&'static str, Option<&'static str>, Option<&'static str>),
-    Verify(
-        &'static str,
-        &'static str,
-        Option<&'static str>,
-        Option<&'static str>,
-    ),
+    Verify(&'static str, &'static str, Option<&'static str>, Option<&'static str>),
 }
 
 /// The job of `strict a b`.

@@ -15,8 +15,8 @@ ghost use Rattle.lid_script.specs.Statuses.{HasText};
 use lid_base::{Items, Name, Shelf, copy_name};
 use lid_check::Checked;
 use lid_design::Design;
-use lid_script::{Stop, accept, build_system, read_net};
 use lid_reports::{ChannelLine, Report, print_report};
+use lid_script::{Stop, accept, build_system, read_net};
 use lid_system::{Channel, System};
 use std::alloc::{AllocError, Global};
 

@@ -59,11 +59,7 @@ pub fn read_system<'a, S: Shelf>(
 }
 
 /// The placement of a text of stations.
-fn stations_of<'a>(
-    alloc: Global,
-    system: &System,
-    bytes: &[u8],
-) -> Result<Placement, Stop<'a>>
+fn stations_of<'a>(alloc: Global, system: &System, bytes: &[u8]) -> Result<Placement, Stop<'a>>
     requires { IsSystem system.now }
     ensures ok { IfOk result (λ p. stations_read (links_of system.now) bytes.now ≡ good p) }
     ensures fits { IfOk result (Fits system.now) }

@@ -1,19 +1,26 @@
-use Rattle.std.proofs.Common.{rules, ◌≡◌, ℕ, ◌≤◌, true, List, Option, IfOk, IfErr, ◌+◌, ◌-◌, ◌*◌, ◌<◌, length, ◌/◌, ◌%◌, Bool, false, nat_eq, nat_lt, [], ◌∷◌, ◌++◌, slice_index_or, slice_set, bit_and, bit_or, w8, w32, w64, Bor, MutBor}
-use Rattle.std.specs.List.{All}
-use Rattle.lid_cert.specs.Certificates.{ascends, IsInRange}
-use Rattle.lid_script.specs.Causes.{IsCause, IsWant}
-use Rattle.lid_script.specs.Scripts.{IsJudged, placement_step, judging_script, cert_script, verify_script}
-use Rattle.lid_script.specs.Statuses.{HasText}
+use Rattle.std.proofs.Common.{◌≡◌, ◌-◌, Bool, true, false, List, length, inl, refl, ◌∙◌, ap, subst}
+use Rattle.lid_base.proofs.Results.{if_ok}
 use Rattle.lid_stations.specs.Markings.{marking}
-use Rattle.lid_stations.specs.Placements.{links_of, Fits}
-use Rattle.lid_system.specs.Systems.{IsWellFormed as IsSystem}
+use Rattle.lid_stations.specs.Placements.{links_of}
 use Rattle.lid_throughput.specs.Throughput.{verdict_text}
+use Rattle.lid_script.specs.Outputs.{verdict}
+use Rattle.lid_script.specs.Scripts.{IsJudged, NoLine, judged_script, judging_script}
+use Rattle.lid_script.proofs.Composition.{text_decided}
 use Rattle.lid_commands.proofs.verify.judged_text.Goals as goal
 
--- src/verify.rt:53:1
 pub returns-in-Ok-true-clause-ok : goal.returns-in-Ok-true-clause-ok
-returns-in-Ok-true-clause-ok c = ?
+unfolding judging_script
+returns-in-Ok-true-clause-ok c =
+    let l = links_of c.args.system.now in
+    let g = marking l c.args.placement.now in
+    let cert = c.args.cert.now in
+    let holds : IsJudged g cert true = subst (IsJudged g cert) c.in-Ok-true.field-0-test (c.in-Ok-true.ensures.ok) in
+    if_ok c.shown_text.result
+    (λ text h held. text_decided held (IsJudged g cert) NoLine (judged_script l cert) true text.items holds
+    (record { output = verdict l cert; ends = refl; text_of = h ∙ ap (λ n. verdict_text cert (n - 1)) c.len.ensures }))
+    c.shown_text.ensures.ok
 
--- src/verify.rt:53:1
 pub returns-in-Ok-false-clause-err : goal.returns-in-Ok-false-clause-err
-returns-in-Ok-false-clause-err c = ?
+unfolding judging_script
+returns-in-Ok-false-clause-err c = λ held before after.
+    inl (false, subst (IsJudged (marking (links_of c.args.system.now) c.args.placement.now) c.args.cert.now) c.in-Ok-false.field-0-test (c.in-Ok-false.ensures.ok), refl)
