@@ -15,38 +15,51 @@ const ONE: &str = ".model one\n.inputs d\n.outputs q\n.latch d q 0\n.end\n";
 /// One relay station between the two registers of a ring.
 const ONE_RELAY: &str = "lid-stations 1\nu0 u1 0 1\n";
 
-/// Wires, and how they end `place` with a reach of 1,000.
-static WIRES: &[(&str, &str, Left<'static>)] = &[
+/// What is left: what is told stands on the output at status 0, and else on the error.
+fn left_by(status: u8, told: &str) -> Left<'_> {
+    if status == 0 {
+        done(told)
+    } else {
+        ended(status, told)
+    }
+}
+
+/// Wires, and how they end `place` with a reach of 1,000: its status, and what it prints or says.
+static WIRES: &[(&str, &str, u8, &str)] = &[
     (
         PIPE,
         "lid-wires 1\nu0 u1 0 2500\nu3 u0 0 1800\n",
-        done("lid-stations 1\nin u0 0 0\nu0 u1 0 2\nu1 u2 0 0\nu2 u3 0 0\nu3 u0 0 1\nu3 out 0 0\n"),
+        0,
+        "lid-stations 1\nin u0 0 0\nu0 u1 0 2\nu1 u2 0 0\nu2 u3 0 0\nu3 u0 0 1\nu3 out 0 0\n",
     ),
     // a wire as long as the reach needs none, one of the double length needs one
     (
         RING,
         "lid-wires 1\nu0 u1 0 1000\nu1 u0 0 2000\n",
-        done("lid-stations 1\nu0 u1 0 0\nu1 u0 0 1\nu1 out 0 0\n"),
+        0,
+        "lid-stations 1\nu0 u1 0 0\nu1 u0 0 1\nu1 out 0 0\n",
     ),
     (
         PIPE,
         "lid-wires 1\nu0 u1 0 0\n",
-        ended(1, "lid: stations ZeroLength 2\n"),
+        1,
+        "lid: stations ZeroLength 2\n",
     ),
     (
         RING,
         "lid-wires 1\nu0 u1 0 65001\n",
-        ended(1, "lid: stations TooMany 2\n"),
+        1,
+        "lid: stations TooMany 2\n",
     ),
-    (RING, "", ended(1, "lid: stations Word 0\n")),
+    (RING, "", 1, "lid: stations Word 0\n"),
 ];
 
 #[test]
 fn long_wires_get_relay_stations(rt: HostRuntime) -> Result<(), Fail> {
-    for (net, wires, left) in WIRES {
+    for (net, wires, status, told) in WIRES {
         let files = [("n.blif", *net), ("w", *wires)];
         let words = ["place", "n.blif", "--wires", "w", "--reach", "1000"];
-        expect_run(&rt, &words, &files, NONE_FAILS, *left)?;
+        expect_run(&rt, &words, &files, NONE_FAILS, left_by(*status, told))?;
     }
     Ok(())
 }
@@ -84,53 +97,60 @@ cycle 0 2 4\nnode 1 1 2 0 -\nnode 2 2 5 1 5\nnode 3 1 8 2 6\nnode 4 0 5 1 0\n";
 /// What `verify` tells of it.
 const RING_VERDICT: &str = "certificate ok\npart 0 ratio 1/1\npart 1 ratio 2/3\nsink lag 1\n";
 
-/// Texts of certificates for the ring with one relay station, and how they end `verify`.
-static CERTS: &[(&str, Left<'static>)] = &[
-    (RING_CERT, done(RING_VERDICT)),
+/// Texts of certificates for the ring with one relay station, and how they end `verify`: its status, and
+/// what it prints or says.
+static CERTS: &[(&str, u8, &str)] = &[
+    (RING_CERT, 0, RING_VERDICT),
     // the lag of node 2 is too low for edge 2
     (
         "lid-cert 1\npart 1\nratio 1 1\ncycle 8\nnode 0 0 0 0 -\npart 4\nratio 2 3\ncycle 0 2 4\n\
 node 1 1 2 0 -\nnode 2 1 5 1 5\nnode 3 1 8 2 6\nnode 4 0 5 1 0\n",
-        ended(6, "lid: not a certificate\n"),
+        6,
+        "lid: not a certificate\n",
     ),
     // the lag of node 1 is too high for edge 0
     (
         "lid-cert 1\npart 1\nratio 1 1\ncycle 8\nnode 0 0 0 0 -\npart 4\nratio 2 3\ncycle 0 2 4\n\
 node 1 2 2 0 -\nnode 2 2 5 1 5\nnode 3 1 8 2 6\nnode 4 0 5 1 0\n",
-        ended(6, "lid: not a certificate\n"),
+        6,
+        "lid: not a certificate\n",
     ),
     // there is no edge 99
     (
         "lid-cert 1\npart 1\nratio 1 1\ncycle 99\nnode 0 0 0 0 -\npart 4\nratio 2 3\ncycle 0 2 4\n\
 node 1 1 2 0 -\nnode 2 2 5 1 5\nnode 3 1 8 2 6\nnode 4 0 5 1 0\n",
-        ended(6, "lid: not a certificate\n"),
+        6,
+        "lid: not a certificate\n",
     ),
     // the depth of node 2 is that of the start
     (
         "lid-cert 1\npart 1\nratio 1 1\ncycle 8\nnode 0 0 0 0 -\npart 4\nratio 2 3\ncycle 0 2 4\n\
 node 1 1 2 0 -\nnode 2 2 5 0 5\nnode 3 1 8 2 6\nnode 4 0 5 1 0\n",
-        ended(6, "lid: not a certificate\n"),
+        6,
+        "lid: not a certificate\n",
     ),
     // a lag may be greater than it needs to be
     (
         "lid-cert 1\npart 1\nratio 1 1\ncycle 8\nnode 0 4611686018427387903 0 0 -\npart 4\n\
 ratio 2 3\ncycle 0 2 4\nnode 1 1 2 0 -\nnode 2 2 5 1 5\nnode 3 1 8 2 6\nnode 4 0 5 1 0\n",
-        done(RING_VERDICT),
+        0,
+        RING_VERDICT,
     ),
     // the text ends inside a part
     (
         "lid-cert 1\npart 1\nratio 1 1\ncycle 8\nnode 0 0 0 0 -\npart 4\nratio 2 3\ncycle 0 2 4\n",
-        ended(1, "lid: cert Word 8\n"),
+        1,
+        "lid: cert Word 8\n",
     ),
-    ("lid-cert 1\n", ended(6, "lid: not a certificate\n")),
+    ("lid-cert 1\n", 6, "lid: not a certificate\n"),
 ];
 
 #[test]
 fn certificates_are_judged(rt: HostRuntime) -> Result<(), Fail> {
-    for (cert, left) in CERTS {
+    for (cert, status, told) in CERTS {
         let files = [("n.blif", RING), ("s", ONE_RELAY), ("c", *cert)];
         let words = ["verify", "n.blif", "c", "--stations", "s"];
-        expect_run(&rt, &words, &files, NONE_FAILS, *left)?;
+        expect_run(&rt, &words, &files, NONE_FAILS, left_by(*status, told))?;
     }
     Ok(())
 }

@@ -43,7 +43,7 @@ pub struct Left<'a> {
 }
 
 /// What is left of a run that wrote its output.
-pub const fn done(out: &str) -> Left<'_> {
+pub fn done(out: &str) -> Left<'_> {
     Left {
         status: 0,
         out,
@@ -52,7 +52,7 @@ pub const fn done(out: &str) -> Left<'_> {
 }
 
 /// What is left of a run that wrote nothing but its line on the standard error.
-pub const fn ended(status: u8, err: &str) -> Left<'_> {
+pub fn ended(status: u8, err: &str) -> Left<'_> {
     Left {
         status,
         out: "",
