@@ -191,6 +191,8 @@ class Session:
         self.want(status, 0, "rate")
         parts = read_cert(cert)
         ratios = []
+        self.want(len(parts), len(components(count, edges)), "parts")
+        self.want(is_certified(count, edges, parts), True, "certificate")
         for part, inside in zip(parts, components(count, edges)):
             own = [edge for edge in edges if edge[0] in inside]
             ratio = least_ratio(inside, own)

@@ -3,7 +3,7 @@
 
 use crate::net_tests::{PIPE, RING};
 use crate::report_tests::DIAMOND;
-use crate::tests::{Left, NONE_FAILS, done, ended, expect_run, run_failing};
+use crate::tests::{Failing, Left, NONE_FAILS, done, ended, expect_run, run_failing};
 use std::process::Abort;
 use std::str::from_utf8;
 use std::test::Fail;
@@ -188,6 +188,13 @@ static RATES: &[(&str, &str, &str, &[&str])] = &[
         "certificate ok\npart 0 ratio 2/3\nsink lag 5\n",
         &["ratio 2 3"],
     ),
+    // places enough wherever tokens wait
+    (
+        DIAMOND,
+        "lid-stations 2\nu0 u1 0 3 2 16 2 2\nu0 u2 0 0 16\nin u0 0 0 16\n",
+        "certificate ok\npart 0 ratio 1/1\nsink lag 3\n",
+        &["ratio 1 1", "node 3 3 ", "node 7 2 "],
+    ),
     // three more behind it
     (
         DIAMOND,
@@ -246,5 +253,84 @@ fn rates_are_those_of_the_slowest_walks(rt: HostRuntime) -> Result<(), Fail> {
     for (net, stations, verdict, starts) in RATES {
         expect_rate(&rt, net, stations, verdict, starts)?;
     }
+    Ok(())
+}
+
+#[test]
+fn words_of_stations_have_at_most_1024_bytes(rt: HostRuntime) -> Result<(), Fail> {
+    let mut stations = String::from_str(rt.alloc(), "lid-stations 1\n# a comment of any length\n")?;
+    for _ in 0..1_025u32 {
+        stations.push('u')?;
+    }
+    let files = [("n.blif", RING), ("s", stations.as_str())];
+    let words = ["rate", "n.blif", "--stations", "s"];
+    let left = ended(1, "lid: stations Word 3\n");
+    expect_run(&rt, &words, &files, NONE_FAILS, left)?;
+    Ok(())
+}
+
+#[test]
+fn without_stations_no_channel_has_a_relay_station(rt: HostRuntime) -> Result<(), Fail> {
+    let files = [("n.blif", RING)];
+    let words = ["rate", "n.blif", "--root", "ring"];
+    let ran = run_failing(&rt, &words, &files, NONE_FAILS)?;
+    let cert = match from_utf8(ran.out.written()) {
+        Ok(cert) => cert,
+        Err(_) => "",
+    };
+    let files = [("n.blif", RING), ("c", cert)];
+    let verdict = "certificate ok\npart 0 ratio 1/1\npart 1 ratio 1/1\nsink lag 0\n";
+    let words = ["verify", "--root=ring", "n.blif", "c"];
+    expect_run(&rt, &words, &files, NONE_FAILS, done(verdict))?;
+    let words = ["verify", "n.blif", "c", "--root", "none"];
+    let left = ended(1, "lid: check NoRoot\n");
+    expect_run(&rt, &words, &files, NONE_FAILS, left)?;
+    Ok(())
+}
+
+/// Which fetch of `verify` with stations fails, and how that ends: each file is fetched to a fetch of no
+/// bytes.
+static FETCHES: &[(&[u64], u8, &str)] = &[
+    (&[1], 3, "lid: read n.blif\n"),
+    (&[2], 3, "lid: read n.blif\n"),
+    (&[3], 3, "lid: read s\n"),
+    (&[4], 3, "lid: read s\n"),
+    (&[5], 3, "lid: read c\n"),
+    (&[6], 3, "lid: read c\n"),
+    (&[7], 0, RING_VERDICT),
+];
+
+#[test]
+fn files_are_fetched_in_their_order(rt: HostRuntime) -> Result<(), Fail> {
+    let files = [("n.blif", RING), ("s", ONE_RELAY), ("c", RING_CERT)];
+    let words = ["verify", "n.blif", "c", "--stations", "s"];
+    for (fetches, status, told) in FETCHES {
+        let failing = Failing {
+            fetches,
+            writes: &[],
+            says: &[],
+        };
+        expect_run(&rt, &words, &files, failing, left_by(*status, told))?;
+    }
+    Ok(())
+}
+
+#[test]
+fn wires_are_fetched_once(rt: HostRuntime) -> Result<(), Fail> {
+    let files = [("n.blif", RING), ("w", "lid-wires 1\n")];
+    let words = ["place", "n.blif", "--wires", "w", "--reach", "1"];
+    let failing = Failing {
+        fetches: &[3],
+        writes: &[],
+        says: &[],
+    };
+    expect_run(&rt, &words, &files, failing, ended(3, "lid: read w\n"))?;
+    let failing = Failing {
+        fetches: &[5],
+        writes: &[],
+        says: &[],
+    };
+    let text = "lid-stations 1\nu0 u1 0 0\nu1 u0 0 0\nu1 out 0 0\n";
+    expect_run(&rt, &words, &files, failing, done(text))?;
     Ok(())
 }

@@ -104,6 +104,15 @@ static STATION_FAULTS: [(&[u8], Told); 31] = [
     (b"lid-stations 1\nu0 u1 0 1\n\x01\n", ("Word", 3)),
     (b"lid-stations 1\nu0 u1 1 0\n", ("NoChannel", 2)),
     (b"lid-stations 1\nu0 u2 0 0\n", ("NoChannel", 2)),
+    // u2 would be the sink, which has another name
+    (b"lid-stations 1\nu1 u2 0 0\n", ("NoChannel", 2)),
+    (b"lid-stations 1\nu0 u1 4294967296 0\n", ("NoChannel", 2)),
+    (
+        b"lid-stations 1\nu0 u18446744073709551615 0 0\n",
+        ("NoChannel", 2),
+    ),
+    (b"lid-stations 1\nu0 u1 00 0\n", ("Word", 2)),
+    (b"lid-stations 1\nu0 u1 0 01\n", ("Word", 2)),
     (b"lid-stations 1\nin u0 0 0\n", ("NoChannel", 2)),
     (b"lid-stations 1\nu0 out 0 0\n", ("NoChannel", 2)),
     (b"lid-stations 1\nu0 u1 0 1\n\nu0 u1 0 1\n", ("Twice", 4)),
