@@ -83,7 +83,7 @@ fn told_of_wires(alloc: Global, text: &[u8]) -> Told {
 }
 
 /// Texts of stations, and what is told of them.
-static STATION_FAULTS: [(&[u8], Told); 31] = [
+static STATION_FAULTS: [(&[u8], Told); 36] = [
     (b"# nothing\n", ("Word", 0)),
     (b"lid-stations 3\n", ("Word", 1)),
     (b"\nlid-wires 1\n", ("Word", 2)),
