@@ -220,21 +220,31 @@ fn has_line(text: &str, start: &str) -> bool {
     false
 }
 
-/// Finds a certificate of a netlist with stations, looks at its lines, and verifies it.
-fn expect_rate<R: Threads + AllocGlobal + Sync + Abort>(
+/// Verifies a certificate of a netlist with stations.
+fn expect_verdict<'a, R: Threads + AllocGlobal + Sync + Abort>(
     rt: &R,
-    net: &str,
-    stations: &str,
+    net: &'a str,
+    stations: &'a str,
+    cert: &'a str,
+    verdict: &str,
+) -> Result<(), Fail> {
+    let files = [("n.blif", net), ("s", stations), ("c", cert)];
+    let words = ["verify", "n.blif", "c", "--stations", "s"];
+    expect_run(rt, &words, &files, NONE_FAILS, done(verdict))?;
+    Ok(())
+}
+
+/// Finds a certificate of a netlist with stations, looks at its lines, and verifies it.
+fn expect_rate<'a, R: Threads + AllocGlobal + Sync + Abort>(
+    rt: &R,
+    net: &'a str,
+    stations: &'a str,
     verdict: &str,
     starts: &[&str],
 ) -> Result<(), Fail> {
     let files = [("n.blif", net), ("s", stations)];
-    let ran = run_failing(
-        rt,
-        &["rate", "n.blif", "--stations", "s"],
-        &files,
-        NONE_FAILS,
-    )?;
+    let words = ["rate", "n.blif", "--stations", "s"];
+    let ran = run_failing(rt, &words, &files, NONE_FAILS)?;
     let cert = match from_utf8(ran.out.written()) {
         Ok(cert) => cert,
         Err(_) => "",
@@ -242,10 +252,7 @@ fn expect_rate<R: Threads + AllocGlobal + Sync + Abort>(
     for start in starts {
         assert!(rt; has_line(cert, start), "no such line: {start}");
     }
-    let files = [("n.blif", net), ("s", stations), ("c", cert)];
-    let words = ["verify", "n.blif", "c", "--stations", "s"];
-    expect_run(rt, &words, &files, NONE_FAILS, done(verdict))?;
-    Ok(())
+    expect_verdict(rt, net, stations, cert, verdict)
 }
 
 #[test]
