@@ -4,10 +4,8 @@
 use crate::net_tests::{PIPE, RING};
 use crate::report_tests::DIAMOND;
 use crate::tests::{Failing, Left, NONE_FAILS, done, ended, expect_run, run_failing};
-use std::process::Abort;
 use std::str::from_utf8;
 use std::test::Fail;
-use std::thread::Threads;
 
 /// One register.
 const ONE: &str = ".model one\n.inputs d\n.outputs q\n.latch d q 0\n.end\n";
@@ -220,45 +218,23 @@ fn has_line(text: &str, start: &str) -> bool {
     false
 }
 
-/// Verifies a certificate of a netlist with stations.
-fn expect_verdict<'a, R: Threads + AllocGlobal + Sync + Abort>(
-    rt: &R,
-    net: &'a str,
-    stations: &'a str,
-    cert: &'a str,
-    verdict: &str,
-) -> Result<(), Fail> {
-    let files = [("n.blif", net), ("s", stations), ("c", cert)];
-    let words = ["verify", "n.blif", "c", "--stations", "s"];
-    expect_run(rt, &words, &files, NONE_FAILS, done(verdict))?;
-    Ok(())
-}
-
-/// Finds a certificate of a netlist with stations, looks at its lines, and verifies it.
-fn expect_rate<'a, R: Threads + AllocGlobal + Sync + Abort>(
-    rt: &R,
-    net: &'a str,
-    stations: &'a str,
-    verdict: &str,
-    starts: &[&str],
-) -> Result<(), Fail> {
-    let files = [("n.blif", net), ("s", stations)];
-    let words = ["rate", "n.blif", "--stations", "s"];
-    let ran = run_failing(rt, &words, &files, NONE_FAILS)?;
-    let cert = match from_utf8(ran.out.written()) {
-        Ok(cert) => cert,
-        Err(_) => "",
-    };
-    for start in starts {
-        assert!(rt; has_line(cert, start), "no such line: {start}");
-    }
-    expect_verdict(rt, net, stations, cert, verdict)
-}
-
+/// Finds a certificate of each netlist with its stations, looks at its lines, and verifies it.
 #[test]
 fn rates_are_those_of_the_slowest_walks(rt: HostRuntime) -> Result<(), Fail> {
     for (net, stations, verdict, starts) in RATES {
-        expect_rate(&rt, net, stations, verdict, starts)?;
+        let files = [("n.blif", *net), ("s", *stations)];
+        let words = ["rate", "n.blif", "--stations", "s"];
+        let ran = run_failing(&rt, &words, &files, NONE_FAILS)?;
+        let cert = match from_utf8(ran.out.written()) {
+            Ok(cert) => cert,
+            Err(_) => "",
+        };
+        for start in *starts {
+            assert!(rt; has_line(cert, start), "no such line: {start}");
+        }
+        let files = [("n.blif", *net), ("s", *stations), ("c", cert)];
+        let words = ["verify", "n.blif", "c", "--stations", "s"];
+        expect_run(&rt, &words, &files, NONE_FAILS, done(verdict))?;
     }
     Ok(())
 }
