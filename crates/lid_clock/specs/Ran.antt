@@ -1,5 +1,6 @@
 -- Stub: what a stream is after k cycles and g given rows of a life.
-use Rattle.std.specs.Prelude.{◌≡◌, ℕ, ◌<◌, ◌≤◌, ◌+◌, ◌⊎◌, Bool, List, length, Option, None, Some}
+use Rattle.std.specs.Prelude.{◌≡◌, ℕ, ◌<◌, ◌≤◌, ◌+◌, ◌⊎◌, Bool, List, length, Option, None, Some, option_map}
+use Rattle.std.specs.Borrow.{Bor}
 use Rattle.lid_system.specs.declared.System.{System}
 use Rattle.lid_clock.specs.declared.stream.ClockStream.{ClockStream}
 use Rattle.lid_clock.specs.Lives.{Life, IsLife, IsWide, NeedsRow}
@@ -7,6 +8,10 @@ use Rattle.lid_clock.specs.Lives.{Life, IsLife, IsWide, NeedsRow}
 pub record Ran (l : Life) (k g : ℕ) (s : ClockStream) : Type 0 where
   pub rules : IsLife l
   pub few : g ≤ length l.input
+
+-- a row that is lent
+abbrev pub lent : Option (Bor (List Bool)) → Option (List Bool)
+lent = option_map (λ row. row.now)
 
 -- the first row is there exactly where there are rows
 abbrev pub IsFirst : System → ℕ → Option (List Bool) → Type 0

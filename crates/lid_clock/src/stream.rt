@@ -1,11 +1,11 @@
 //! A clocked run over rows that are given one by one.
 
-ghost use Rattle.std.specs.Prelude.{◌≡◌, ◌↔◌, ◌<◌, ◌≤◌, ◌+◌, ℕ, suc, min, true, false, length, option_map, Some, slice_get, IfOk};
+ghost use Rattle.std.specs.Prelude.{◌≡◌, ◌↔◌, ◌<◌, ◌≤◌, ◌+◌, ℕ, suc, min, true, false, length, Some, slice_get, IfOk};
 ghost use Rattle.lid_system.specs.Systems.{IsWellFormed};
 ghost use Rattle.lid_stations.specs.Placements.{links_of, station_count, Fits};
 ghost use Rattle.lid_stations.specs.Stations.{actor_count};
 ghost use Rattle.lid_clock.specs.Lives.{Life, NeedsRow, IsBelow, Holds, HoldsNobody, IsLast, StartsSo, fired_after, shown_after};
-ghost use Rattle.lid_clock.specs.Ran.{Ran, IsFirst, CanGive, CanCycle};
+ghost use Rattle.lid_clock.specs.Ran.{Ran, lent, IsFirst, CanGive, CanCycle};
 
 use lid_base::Shown;
 use lid_stations::Placement;
@@ -34,11 +34,12 @@ impl ClockStream {
         requires system { IsWellFormed system.now }
         requires fits { Fits system.now placement.now }
         requires few { rows ≤ 1000000 }
-        requires first { IsFirst system.now rows (option_map (λ row. row.now) first.entry) }
-        ensures { IfOk result (λ stream. (l : Life) → StartsSo l system.now placement.now rows (option_map (λ row. row.now) first.entry) → Ran l 0 (min 1 rows) stream) }
+        requires first { IsFirst system.now rows (lent first) }
+        ensures { IfOk result (λ stream. (l : Life) → StartsSo l system.now placement.now rows (lent first.entry) → Ran l 0 (min 1 rows) stream) }
     {
         let _ = (alloc, rows);
-        let _ = (system, placement);
+        let _ = system;
+        let _ = placement;
         let _ = first;
         Err(AllocError)
     }
@@ -87,7 +88,7 @@ impl ClockStream {
 
     /// The output row of the last cycle, where the sink fired in it.
     pub fn last(&self) -> Option<&[bool]>
-        ensures { (l : Life) (k g : ℕ) → Ran l k g self.now → IsLast l k (option_map (λ row. row.now) result) }
+        ensures { (l : Life) (k g : ℕ) → Ran l k g self.now → IsLast l k (lent result) }
     {
         match self.never {}
     }
