@@ -5,9 +5,13 @@ use Rattle.lid_system.specs.declared.System.{System}
 use Rattle.lid_clock.specs.declared.stream.ClockStream.{ClockStream}
 use Rattle.lid_clock.specs.Lives.{Life, IsLife, IsWide, NeedsRow}
 
+unfoldable pub Stub : ClockStream → Type 0
+Stub s = ⊥
+
 pub record Ran (l : Life) (k g : ℕ) (s : ClockStream) : Type 0 where
   pub rules : IsLife l
   pub few : g ≤ length l.input
+  pub stub : Stub s
 
 -- a row that is lent
 abbrev pub lent : Option (Bor (List Bool)) → Option (List Bool)

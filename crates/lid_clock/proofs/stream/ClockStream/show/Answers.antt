@@ -1,0 +1,6 @@
+use Rattle.lid_clock.specs.Ran.{Stub}
+use Rattle.lid_clock.proofs.stream.ClockStream.show.Goals as goal
+
+pub returns : goal.returns
+unfolding Stub
+returns c = λ l k g ran. absurd ran.stub

@@ -1,0 +1,5 @@
+pub mod Owed
+pub mod Pushes
+pub mod Outputs
+pub mod Ends
+pub mod Living
