@@ -27,20 +27,22 @@ pub record IsFirstAt (f : ℕ → ℕ) (n k : ℕ) : Type 0 where
 abbrev Found : (ℕ → ℕ) → ℕ → Type 0
 Found f n = (k : ℕ) × IsFirstAt f n k
 
+-- a number that is at least k, and not k
+beyond : (f : ℕ → ℕ) (n k j : ℕ) → (f k ≡ n → ⊥) → f j ≡ n → k ≤ j → k + 1 ≤ j
+beyond f n k j not at least = by (eqb_tells j k)
+  where
+    by : ((j == k ≡ true) × (j ≡ k)) ⊎ ((j == k ≡ false) × (j ≡ k → ⊥)) → k + 1 ≤ j
+    by (inl same) = absurd (not (subst (λ (i : ℕ). f i ≡ n) same.1 at))
+    by (inr other) = let differs = other.1 in omega (arith, differs)
+
 search_on : (f : ℕ → ℕ) (n top d k : ℕ) → k + d ≡ top → f top ≡ n → ((j : ℕ) → f j ≡ n → k ≤ j) → Found f n
 search_on f n top zero k sum is none = (k, record { at = subst (λ (j : ℕ). f j ≡ n) (let e : top ≡ k = omega arith in e) is; first = none })
-search_on f n top (suc d) k sum is none = by (eqb_tells (f k) n)
+search_on f n top (suc d) k sum is none =
+    by (eqb_tells (f k) n) (λ not. search_on f n top d (k + 1) (omega arith) is (λ j at. beyond f n k j not at (none j at)))
   where
-    by : ((f k == n ≡ true) × (f k ≡ n)) ⊎ ((f k == n ≡ false) × (f k ≡ n → ⊥)) → Found f n
-    by (inl here) = (k, record { at = here.1; first = none })
-    by (inr not_here) = search_on f n top d (k + 1) (omega arith) is (λ j at. later j at (none j at))
-      where
-        later : (j : ℕ) → f j ≡ n → k ≤ j → k + 1 ≤ j
-        later j at least = by_place (eqb_tells j k)
-          where
-            by_place : ((j == k ≡ true) × (j ≡ k)) ⊎ ((j == k ≡ false) × (j ≡ k → ⊥)) → k + 1 ≤ j
-            by_place (inl same) = absurd (not_here.1 (subst (λ (i : ℕ). f i ≡ n) same.1 at))
-            by_place (inr other) = let differs = other.1 in omega arith
+    by : ((f k == n ≡ true) × (f k ≡ n)) ⊎ ((f k == n ≡ false) × (f k ≡ n → ⊥)) → ((f k ≡ n → ⊥) → Found f n) → Found f n
+    by (inl here) on = (k, record { at = here.1; first = none })
+    by (inr not_here) on = on not_here.1
 
 first_at : (f : ℕ → ℕ) (n top : ℕ) → f top ≡ n → (k : ℕ) × IsFirstAt f n k
 first_at f n top is = search_on f n top top 0 (omega arith) is (λ j at. omega arith)

@@ -3,3 +3,4 @@ pub mod Pushes
 pub mod Outputs
 pub mod Ends
 pub mod Living
+pub mod Goings

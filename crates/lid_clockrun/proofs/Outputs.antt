@@ -17,6 +17,11 @@ use Rattle.lid_clockrun.specs.RunTexts.{cells_of, cells_after, first_outputs, cy
 pub each_one_more : {A : Type 0} (f : ℕ → A) (n : ℕ) → from_each f 0 (n + 1) ≡ from_each f 0 n ++ f n ∷ []
 each_one_more {A} f n = each_more f 0 n 1 ∙ (let e : 0 + n ≡ n = zero-add n in ap (λ (j : ℕ). from_each f 0 n ++ f j ∷ []) e)
 
+-- a list that was appended to, with one more
+pub pushed_one : {A : Type 0} (f : ℕ → A) (old now new : List A) (n : ℕ) → now ≡ old ++ from_each f 0 n → new ≡ now ++ f n ∷ [] → new ≡ old ++ from_each f 0 (n + 1)
+pushed_one {A} f old now new n was is =
+    is ∙ ap (λ (xs : List A). xs ++ f n ∷ []) was ∙ append_assoc old (from_each f 0 n) (f n ∷ []) ∙ ap (λ (xs : List A). old ++ xs) (sym (each_one_more f n))
+
 -- all of them, and the first ones
 each_split : {A : Type 0} (f : ℕ → A) (n all : ℕ) → n ≤ all → from_each f 0 all ≡ from_each f 0 n ++ from_each f (0 + n) (all - n)
 each_split f n all h = (let e : all ≡ n + (all - n) = omega arith in ap (from_each f 0) e) ∙ each_more f 0 n (all - n)
@@ -64,3 +69,28 @@ cells_long l (suc k) =
   where
     mul_suc : (a b : ℕ) → a * suc b ≡ a * b + a
     mul_suc a b = grind (arith)
+
+-- the cells of a trace after a further cycle, where this cycle is in it and where it is not
+pub shown_in : (l : Life) (trace : Option ℕ) (most made : ℕ) (old new : List Shown) → trace ≡ Some most → made < most → old ≡ cells_after l (cycles_traced trace made) → new ≡ old ++ cells_of l made → new ≡ cells_after l (cycles_traced trace (made + 1))
+shown_in l None most made old new is h was now = absurd (let e : None ≡ Some most = is in cc)
+shown_in l (Some n) most made old new is h was now =
+    let same : n ≡ most = some_is is in
+    let before : min n made ≡ made = omega arith in
+    let after : min n (made + 1) ≡ made + 1 = omega arith in
+    now ∙ ap (λ (xs : List Shown). xs ++ cells_of l made) (was ∙ ap (cells_after l) before) ∙ sym (cells_one_more l made) ∙ ap (cells_after l) (sym after)
+  where
+    some_is : Some n ≡ Some most → n ≡ most
+    some_is e = cc
+
+pub shown_past : (l : Life) (trace : Option ℕ) (most made : ℕ) (cells : List Shown) → trace ≡ Some most → most ≤ made → cells ≡ cells_after l (cycles_traced trace made) → cells ≡ cells_after l (cycles_traced trace (made + 1))
+shown_past l None most made cells is h was = absurd (let e : None ≡ Some most = is in cc)
+shown_past l (Some n) most made cells is h was =
+    let same : n ≡ most = some_is is in
+    was ∙ ap (cells_after l) (let e : min n made ≡ min n (made + 1) = omega arith in e)
+  where
+    some_is : Some n ≡ Some most → n ≡ most
+    some_is e = cc
+
+pub shown_not : (l : Life) (trace : Option ℕ) (made : ℕ) (cells : List Shown) → trace ≡ None → cells ≡ cells_after l (cycles_traced trace made) → cells ≡ cells_after l (cycles_traced trace (made + 1))
+shown_not l None made cells is was = was
+shown_not l (Some n) made cells is was = absurd (let e : Some n ≡ None = is in cc)
