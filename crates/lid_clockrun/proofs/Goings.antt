@@ -1,5 +1,5 @@
 -- A run from cycle to cycle.
-use Rattle.std.proofs.Common.{◌≡◌, ℕ, suc, ◌+◌, ◌*◌, ◌<◌, ◌≤◌, ◌==◌, ◌⊎◌, inl, inr, Bool, true, false, List, [], ◌∷◌, ◌++◌, length, length-append, Option, Some, slice_get, refl, sym, ◌∙◌, ap, subst, add-one, arith}
+use Rattle.std.proofs.Common.{◌≡◌, ℕ, suc, ◌+◌, ◌*◌, ◌<◌, ◌≤◌, ◌==◌, ◌⊎◌, inl, inr, Bool, true, false, min, List, [], ◌∷◌, ◌++◌, length, length-append, Option, None, Some, Result, Ok, Err, OnOk, slice_get, refl, sym, ◌∙◌, ap, subst, add-one, arith}
 use Rattle.std.proofs.lemmas.Bool.Decides.{eqb_tells}
 use Rattle.std.proofs.Math.Nat.{mul-le-mul_left, mul-le-mul_right}
 use Rattle.lid_graph.specs.Firings.{no_hold}
@@ -8,14 +8,16 @@ use Rattle.lid_stations.specs.Stations.{actor_count, relay_count}
 use Rattle.lid_stations.proofs.Spots.{fewer_relays}
 use Rattle.lid_clock.specs.Lives.{Life, IsLife, NeedsRow, IsBelow, HoldsNobody}
 use Rattle.lid_clock.specs.Ran.{Ran}
+use Rattle.lid_reports.specs.Runs.{trace_text}
 use Rattle.lid_feed.specs.declared.feed.RowFeed.{RowFeed}
 use Rattle.lid_feed.specs.Fetching.{GivesRow}
 use Rattle.lid_clockrun.specs.declared.steps.Running.{Running}
-use Rattle.lid_clockrun.specs.RunTexts.{IsLifeOf, cells_after, cycles_traced}
+use Rattle.lid_clockrun.specs.RunTexts.{IsLifeOf, cells_after, cycles_traced, traced}
 use Rattle.lid_clockrun.specs.Runnings.{Run, source_columns, AreGiven, Begins}
-use Rattle.lid_clockrun.specs.Stepping.{IsSound, Feeds, IsAt, IsRunning, IsReady, GoesOn, IsFedOn}
+use Rattle.lid_clockrun.specs.Stepping.{IsSound, HasBegun, Feeds, IsAt, IsRunning, IsReady, GoesOn, IsFedOn}
 use Rattle.lid_clockrun.proofs.Living.{some_life, begins_before, next_row_is, more_given}
 use Rattle.lid_clockrun.proofs.Ends.{below_bounds}
+use Rattle.lid_clockrun.proofs.Outputs.{cells_long, cells_traced, cells_none, text_traced, text_untraced}
 
 -- a fact along a number of cycles and one of rows
 pub along : (P : ℕ → ℕ → Type 0) (k k' g g' : ℕ) → k ≡ k' → g ≡ g' → P k g → P k' g'
@@ -103,7 +105,7 @@ module _ (r : Run) (run : Running) (given : List (List Bool)) (at : IsRunning r 
     trace = trace ∙ at.trace;
     stations = stations ∙ at.stations;
     lives = λ l b. record {
-      ran = subst (λ (k : ℕ). Ran l k (length given) new.stream) (add-one run.made ∙ sym made) (ran l run.made (length given) (at.lives l b).ran (free l b) (goes l b));
+      ran = subst (λ (k : ℕ). Ran l k (length given) new.stream) (sym (add-one run.made) ∙ sym made) (ran l run.made (length given) (at.lives l b).ran (free l b) (goes l b));
       cells = shown l b ∙ ap (λ (k : ℕ). cells_after l (cycles_traced r.trace k)) (sym made);
       busy = λ k h. busy_on l b k (let e = made in omega arith);
     };
@@ -143,3 +145,48 @@ module _ (r : Run) (run : Running) (given : List (List Bool)) (at : IsRunning r 
       let first = mul-le-mul_right r.rows actors_few in
       let second = mul-le-mul_left 70000 rows in
       omega (arith, few, first, second)
+
+  -- the trace of a run
+  module _ (most : ℕ) (is : run.trace ≡ Some most) where
+    trace_is : r.trace ≡ Some most
+    trace_is = sym at.trace ∙ is
+
+    stations_are : (l : Life) → Begins r given l → run.stations ≡ station_count l.placement.relays
+    stations_are l b = at.stations ∙ ap (λ p. station_count p.relays) (sym b.of.stations)
+
+    cells_are : (l : Life) → Begins r given l → run.cells.items ≡ cells_after l (min run.made most)
+    cells_are l b = cells_traced l r.trace most run.made run.cells.items trace_is (at.lives l b).cells
+
+    pub trace_long : length run.cells.items ≡ run.stations * min run.made most
+    trace_long =
+        let l = the_life.0 in
+        let b = the_life.1 in
+        ap length (cells_are l b) ∙ cells_long l (min run.made most) ∙ ap (λ (n : ℕ). n * min run.made most) (sym (stations_are l b))
+
+    pub trace_is_text : (l : Life) → Begins r given l → trace_text (record { stations = run.stations; cycles = min run.made most; cells = run.cells.items }) ≡ traced l r.trace run.made
+    trace_is_text l b = text_traced l r.trace most run.made run.stations run.cells.items trace_is (stations_are l b) (cells_are l b)
+
+  pub trace_is_none : run.trace ≡ None → (l : Life) → traced l r.trace run.made ≡ []
+  trace_is_none is l = text_untraced l r.trace run.made (sym at.trace ∙ is)
+
+-- a run that has begun
+pub begun : (r : Run) → IsSound r → (given : List (List Bool)) → AreGiven r given → (run : Running) (first : Option (List Bool)) → HasBegun r.system r.placement r.rows first r.trace run
+    → length given ≡ min 1 r.rows → ((l : Life) → Begins r given l → slice_get l.input 0 ≡ first) → IsRunning r run given
+begun r sound given rows run first h long begins = record {
+  rules = sound;
+  rows = rows;
+  count = h.given ∙ sym long;
+  trace = h.trace;
+  stations = h.stations;
+  lives = λ l b. record {
+    ran = along (λ k g. Ran l k g run.stream) 0 run.made (min 1 r.rows) (length given) (sym h.made) (sym long)
+        (h.ran l (record { rules = b.of.rules; of = b.of.of; stations = b.of.stations; many = b.many; begins = begins l b }));
+    cells = h.cells ∙ sym (cells_none l r.trace) ∙ ap (λ (k : ℕ). cells_after l (cycles_traced r.trace k)) (sym h.made);
+    busy = λ k below. absurd (let none = h.made in omega arith);
+  };
+}
+
+-- what holds of a result for each value
+pub on_ok_each : {A E X : Type 0} → (P : X → Type 0) (result : Result A E) → ((x : X) → OnOk result (P x)) → OnOk result ((x : X) → P x)
+on_ok_each P (Ok a) each = each
+on_ok_each P (Err e) each = tt

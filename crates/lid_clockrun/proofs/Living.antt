@@ -2,7 +2,7 @@
 use Rattle.std.proofs.Common.{◌≡◌, ℕ, zero, suc, ◌+◌, ◌-◌, ◌*◌, ◌<◌, ◌≤◌, ◌==◌, Bool, true, false, List, [], ◌∷◌, ◌++◌, length, length-append, take, drop, replicate, slice_get, get_or, Option, None, Some, refl, sym, ◌∙◌, ap, subst, append_assoc, append-nil, add-one, arith}
 use Rattle.std.specs.List.{AllByRecursion}
 use Rattle.std.specs.Option.{option_map_or}
-use Rattle.std.proofs.lemmas.List.{length-replicate, take-append-drop, take_all}
+use Rattle.std.proofs.lemmas.List.{length-replicate, take-append-drop}
 use Rattle.std.proofs.Math.Seq.{take-append_seam}
 use Rattle.lid_base.proofs.Lists.{all_append}
 use Rattle.lid_design.proofs.Tables.{has_table}
@@ -125,11 +125,3 @@ none_given r = record { few = omega arith; wide = tt; first = first_none r.held 
 
 pub begins_none : (r : Run) (l : Life) → IsLifeOf l r.system r.placement → length l.input ≡ r.rows → Begins r [] l
 begins_none r l of many = record { of = of; many = many; first = refl }
-
--- a life of rows that were all given
-pub begins_all : (r : Run) (given : List (List Bool)) (l : Life) → IsLifeOf l r.system r.placement → length given ≡ r.rows → l.input ≡ given → Begins r given l
-begins_all r given l of all is = record {
-  of = of;
-  many = ap length is ∙ all;
-  first = ap (take (length given)) is ∙ take_all (length given) given (omega arith);
-}

@@ -10,8 +10,9 @@ use Rattle.lid_system.proofs.Shelling.{each_length}
 use Rattle.lid_lines.specs.Texts.{line_text}
 use Rattle.lid_texts.specs.Rows.{header_words}
 use Rattle.lid_texts.specs.RowsText.{row_text, rows_text}
+use Rattle.lid_reports.specs.Runs.{trace_text}
 use Rattle.lid_clock.specs.Lives.{Life}
-use Rattle.lid_clockrun.specs.RunTexts.{cells_of, cells_after, first_outputs, cycles_traced}
+use Rattle.lid_clockrun.specs.RunTexts.{cells_of, cells_after, cycles_traced, traced}
 
 -- one more
 pub each_one_more : {A : Type 0} (f : ℕ → A) (n : ℕ) → from_each f 0 (n + 1) ≡ from_each f 0 n ++ f n ∷ []
@@ -94,3 +95,35 @@ shown_past l (Some n) most made cells is h was =
 pub shown_not : (l : Life) (trace : Option ℕ) (made : ℕ) (cells : List Shown) → trace ≡ None → cells ≡ cells_after l (cycles_traced trace made) → cells ≡ cells_after l (cycles_traced trace (made + 1))
 shown_not l None made cells is was = was
 shown_not l (Some n) made cells is was = absurd (let e : Some n ≡ None = is in cc)
+
+-- the cells of a trace, and its text
+pub cells_traced : (l : Life) (trace : Option ℕ) (most made : ℕ) (cells : List Shown) → trace ≡ Some most → cells ≡ cells_after l (cycles_traced trace made) → cells ≡ cells_after l (min made most)
+cells_traced l None most made cells is was = absurd (let e : None ≡ Some most = is in cc)
+cells_traced l (Some n) most made cells is was =
+    let same : n ≡ most = some_is is in
+    was ∙ ap (cells_after l) (let e : min n made ≡ min made most = omega arith in e)
+  where
+    some_is : Some n ≡ Some most → n ≡ most
+    some_is e = cc
+
+pub text_traced : (l : Life) (trace : Option ℕ) (most made stations : ℕ) (cells : List Shown) → trace ≡ Some most → stations ≡ station_count l.placement.relays → cells ≡ cells_after l (min made most)
+    → trace_text (record { stations = stations; cycles = min made most; cells = cells }) ≡ traced l trace made
+text_traced l None most made stations cells is many was = absurd (let e : None ≡ Some most = is in cc)
+text_traced l (Some n) most made stations cells is many was =
+    let same : n ≡ most = some_is is in
+    let turn : min made most ≡ min n made = omega arith in
+    ap (λ (m : ℕ). trace_text (record { stations = m; cycles = min made most; cells = cells })) many
+    ∙ ap (λ (xs : List Shown). trace_text (record { stations = station_count l.placement.relays; cycles = min made most; cells = xs })) was
+    ∙ ap (λ (k : ℕ). trace_text (record { stations = station_count l.placement.relays; cycles = k; cells = cells_after l k })) turn
+  where
+    some_is : Some n ≡ Some most → n ≡ most
+    some_is e = cc
+
+pub text_untraced : (l : Life) (trace : Option ℕ) (made : ℕ) → trace ≡ None → traced l trace made ≡ []
+text_untraced l None made is = refl
+text_untraced l (Some n) made is = absurd (let e : Some n ≡ None = is in cc)
+
+-- before the first cycle there are no cells
+pub cells_none : (l : Life) (trace : Option ℕ) → cells_after l (cycles_traced trace 0) ≡ []
+cells_none l None = refl
+cells_none l (Some most) = ap (cells_after l) (let e : min most 0 ≡ 0 = omega arith in e)

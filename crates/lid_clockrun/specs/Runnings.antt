@@ -1,15 +1,13 @@
 -- What a run does that is fed its rows by a file: it writes the text of each life that begins with the rows that
 -- it was given, whole or in part.
-use Rattle.std.specs.Prelude.{◌≡◌, ℕ, ◌*◌, ◌<◌, ◌≤◌, Bool, List, [], length, take, Option, None, Some, IfSome, slice_get, ⊤}
+use Rattle.std.specs.Prelude.{◌≡◌, ℕ, ◌<◌, ◌≤◌, Bool, List, [], length, take, Option, slice_get, ⊤}
 use Rattle.std.specs.List.{AllByRecursion}
 use Rattle.std.specs.Option.{option_map_or}
 use Rattle.lid_base.specs.Outside.{Appended, AppendedPrefix}
 use Rattle.lid_system.specs.declared.System.{System}
 use Rattle.lid_system.specs.declared.Node.{Node}
 use Rattle.lid_system.specs.declared.Node.TheVariants.{Source, Shell, Sink}
-use Rattle.lid_system.specs.Systems.{IsWellFormed}
 use Rattle.lid_stations.specs.declared.placement.Placement.{Placement}
-use Rattle.lid_stations.specs.Placements.{station_count, Fits}
 use Rattle.lid_clock.specs.Lives.{Life, IsWide}
 use Rattle.lid_feed.specs.Feeds.{AreFirst, AreAll, IsRefused, IfRead, IfRefused}
 use Rattle.lid_clockrun.specs.declared.fault.RunFault.{RunFault}
@@ -36,10 +34,6 @@ columns_of (Sink columns ins) = []
 abbrev pub source_columns : System → List (List ℕ)
 source_columns s = option_map_or columns_of (slice_get s.nodes 0) []
 
--- the cells of a trace are within the limit
-abbrev pub IsShort : Placement → Option ℕ → Type 0
-IsShort p trace = IfSome trace (λ most. station_count p.relays * most ≤ 1048576)
-
 -- rows that the file gave: the first of its rows
 pub record AreGiven (r : Run) (rows : List (List Bool)) : Type 0 where
   pub few : length rows ≤ r.rows
@@ -64,12 +58,12 @@ pub record WritesPart (r : Run) (l : Life) (before now : Option (List ℕ)) : Ty
   pub is : IsRunText l r.columns r.trace text
   pub written : AppendedPrefix before now text
 
--- the file gave all rows, and the text of the life of these was written
+-- the file gave some rows, and the text of each life that begins with them was written. These are all rows but
+-- where the sink does not wait for the source
 pub record HasRun (r : Run) (before now : Option (List ℕ)) : Type 0 where
   pub rows : List (List Bool)
-  pub all : length rows ≡ r.rows
   pub given : AreGiven r rows
-  pub told : (l : Life) → IsLifeOf l r.system r.placement → l.input ≡ rows → Writes r l before now
+  pub told : (l : Life) → Begins r rows l → Writes r l before now
 
 -- why a run stopped that was given these rows: a fetch failed, the file's text is refused, it has fewer rows,
 -- there was no memory, or a write failed

@@ -1,24 +1,33 @@
 -- What a run is between its cycles. This serves the code of this crate.
-use Rattle.std.specs.Prelude.{◌≡◌, ℕ, ◌+◌, ◌<◌, Bool, List, length, Option}
-use Rattle.lid_base.specs.Outside.{Appended}
+use Rattle.std.specs.Prelude.{◌≡◌, ℕ, ◌+◌, ◌<◌, ◌≤◌, min, Bool, List, [], length, Option}
 use Rattle.lid_stations.specs.Placements.{station_count, Fits}
+use Rattle.lid_system.specs.declared.System.{System}
 use Rattle.lid_system.specs.Systems.{IsWellFormed}
-use Rattle.lid_clock.specs.Lives.{Life, NeedsRow, IsBelow, fired_after, sink}
+use Rattle.lid_stations.specs.declared.placement.Placement.{Placement}
+use Rattle.lid_clock.specs.Lives.{Life, NeedsRow, IsBelow, StartsSo, fired_after, sink}
 use Rattle.lid_clock.specs.Ran.{Ran}
 use Rattle.lid_texts.specs.RowsText.{rows_text}
 use Rattle.lid_feed.specs.declared.feed.RowFeed.{RowFeed}
 use Rattle.lid_feed.specs.Fetching.{HasGiven}
 use Rattle.lid_clockrun.specs.declared.steps.Running.{Running}
 use Rattle.lid_clockrun.specs.RunTexts.{cells_after, first_outputs, cycles_traced}
-use Rattle.lid_clockrun.specs.Runnings.{Run, source_columns, IsShort, AreGiven, Begins}
+use Rattle.lid_clockrun.specs.Runnings.{Run, source_columns, AreGiven, Begins}
 use Rattle.lid_clockrun.specs.Pushing.{HasPushed}
 
 -- the rules of runs
 pub record IsSound (r : Run) : Type 0 where
   pub system : IsWellFormed r.system
   pub fits : Fits r.system r.placement
-  pub few : r.rows < 1000001
-  pub short : IsShort r.placement r.trace
+  pub few : r.rows ≤ 1000000
+
+-- a run that made no cycle, of a system with its stations over so many rows, of which the first is this
+pub record HasBegun (s : System) (p : Placement) (rows : ℕ) (first : Option (List Bool)) (most : Option ℕ) (run : Running) : Type 0 where
+  pub ran : (l : Life) → StartsSo l s p rows first → Ran l 0 (min 1 rows) run.stream
+  pub given : run.given ≡ min 1 rows
+  pub made : run.made ≡ 0
+  pub stations : run.stations ≡ station_count p.relays
+  pub trace : run.trace ≡ most
+  pub cells : run.cells.items ≡ []
 
 -- the feed has given these rows
 abbrev pub Feeds : Run → RowFeed → List (List Bool) → Type 0

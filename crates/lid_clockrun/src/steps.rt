@@ -5,12 +5,12 @@ ghost use Rattle.lid_base.specs.Outside.{Rose};
 ghost use Rattle.lid_design.specs.Network.{from_each};
 ghost use Rattle.lid_system.specs.Systems.{IsWellFormed};
 ghost use Rattle.lid_stations.specs.Placements.{links_of, station_count, Fits};
-ghost use Rattle.lid_clock.specs.Lives.{Life, NeedsRow, StartsSo, fired_after, shown_after};
+ghost use Rattle.lid_clock.specs.Lives.{Life, fired_after, shown_after};
 ghost use Rattle.lid_clock.specs.Ran.{Ran, lent, IsFirst};
 ghost use Rattle.lid_feed.specs.Fetching.{HasGiven, GivesRow};
 ghost use Rattle.lid_clockrun.specs.RunTexts.{cells_after, cycles_traced, traced, end_text};
-ghost use Rattle.lid_clockrun.specs.Runnings.{Run, Begins, IsCause, IsShort, source_columns};
-ghost use Rattle.lid_clockrun.specs.Stepping.{IsSound, Feeds, IsRunning, IsReady, GoesOn, IsFed, IsFedOn, HasGone};
+ghost use Rattle.lid_clockrun.specs.Runnings.{Run, Begins, IsCause, source_columns};
+ghost use Rattle.lid_clockrun.specs.Stepping.{HasBegun, Feeds, IsRunning, IsReady, GoesOn, IsFed, IsFedOn, HasGone};
 
 use crate::fault::RunFault;
 use lid_base::{Items, Shelf, Shown};
@@ -101,12 +101,7 @@ impl Running {
         requires fits { Fits system.now placement.now }
         requires few { rows ≤ 1000000 }
         requires first { IsFirst system.now rows (lent first) }
-        ensures ran { IfOk result (λ run. (l : Life) → StartsSo l system.now placement.now rows (lent first.entry) → Ran l 0 (min 1 rows) run.stream) }
-        ensures given { IfOk result (λ run. run.given ≡ min 1 rows) }
-        ensures made { IfOk result (λ run. run.made ≡ 0) }
-        ensures stations { IfOk result (λ run. run.stations ≡ station_count placement.now.relays) }
-        ensures trace { IfOk result (λ run. run.trace ≡ trace) }
-        ensures cells { IfOk result (λ run. run.cells.items ≡ []) }
+        ensures begun { IfOk result (HasBegun system.now placement.now rows (lent first.entry) trace) }
         ensures cause { IfErr result (λ fault. fault ≡ RunFault.Memory) }
     {
         let Ok(stream) = ClockStream::start(alloc, system, placement, rows, first) else {
@@ -136,8 +131,7 @@ impl Running {
         requires system { IsWellFormed system.now }
         requires fits { Fits system.now placement.now }
         requires few { rows ≤ 1000000 }
-        requires short { IsShort placement.now trace }
-        requires feeds { (outs : ℕ) × HasGiven (S.held shelf.old feed.old.name) (source_columns system.now) outs feed.old [] }
+        requires feeds { (columns : List (List ℕ)) × HasGiven (S.held shelf.old feed.old.name) (source_columns system.now) (length columns) feed.old [] }
         ensures ok { (r : Run) → r.system ≡ system.now → r.placement ≡ placement.now → r.rows ≡ rows → r.trace ≡ trace → r.held ≡ S.held shelf.old feed.old.name → Feeds r feed.old []
             → IfOk result (λ run. (given : List (List Bool)) × IsRunning r run given × Feeds r feed.new given) }
         ensures made { IfOk result (λ run. run.made ≡ 0) }

@@ -5,7 +5,7 @@ ghost use Rattle.lid_base.specs.Outside.{Rose};
 ghost use Rattle.lid_system.specs.Systems.{IsWellFormed};
 ghost use Rattle.lid_stations.specs.Placements.{Fits};
 ghost use Rattle.lid_feed.specs.Fetching.{HasGiven};
-ghost use Rattle.lid_clockrun.specs.Runnings.{source_columns, IsShort, HasRun, HasStopped};
+ghost use Rattle.lid_clockrun.specs.Runnings.{source_columns, HasRun, HasStopped};
 ghost use Rattle.lid_clockrun.specs.Stepping.{IsFed};
 
 use crate::fault::RunFault;
@@ -86,7 +86,6 @@ pub fn run<S: Shelf, O: Sink>(
     requires system { IsWellFormed system.now }
     requires fits { Fits system.now placement.now }
     requires few { rows ≤ 1000000 }
-    requires short { IsShort placement.now trace }
     requires feeds { HasGiven (S.held shelf.old feed.old.name) (source_columns system.now) (length columns.now) feed.old [] }
     ensures ok { OnOk result (HasRun (record { system = system.now; placement = placement.now; columns = columns.now; rows = rows; trace = trace; held = S.held shelf.old feed.old.name }) (O.written out.old) (O.written out.new)) }
     ensures err { IfErr result (HasStopped (record { system = system.now; placement = placement.now; columns = columns.now; rows = rows; trace = trace; held = S.held shelf.old feed.old.name }) (O.written out.old) (O.written out.new)
