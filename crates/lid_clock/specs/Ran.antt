@@ -5,8 +5,12 @@ use Rattle.lid_system.specs.declared.System.{System}
 use Rattle.lid_clock.specs.declared.stream.ClockStream.{ClockStream}
 use Rattle.lid_clock.specs.Lives.{Life, IsLife, IsWide, NeedsRow}
 
-unfoldable pub Stub : ClockStream → Type 0
+pub Stub : ClockStream → Type 0
 Stub s = ⊥
+
+pub never : (s : ClockStream) → Stub s → ⊥
+unfolding Stub
+never s x = x
 
 pub record Ran (l : Life) (k g : ℕ) (s : ClockStream) : Type 0 where
   pub rules : IsLife l

@@ -1,12 +1,13 @@
 -- A run from cycle to cycle.
-use Rattle.std.proofs.Common.{◌≡◌, ℕ, suc, ◌+◌, ◌*◌, ◌<◌, ◌≤◌, ◌==◌, ◌⊎◌, inl, inr, Bool, true, false, min, List, [], ◌∷◌, ◌++◌, length, length-append, Option, None, Some, Result, Ok, Err, OnOk, slice_get, refl, sym, ◌∙◌, ap, subst, add-one, arith}
-use Rattle.std.proofs.lemmas.Bool.Decides.{eqb_tells}
+use Rattle.std.proofs.Common.{◌≡◌, ℕ, ◌+◌, ◌*◌, ◌<◌, ◌≤◌, Bool, min, List, [], ◌∷◌, ◌++◌, length, length-append, Option, None, Some, Result, Ok, Err, OnOk, slice_get, refl, sym, ◌∙◌, ap, subst, arith}
 use Rattle.std.proofs.Math.Nat.{mul-le-mul_left, mul-le-mul_right}
-use Rattle.lid_graph.specs.Firings.{no_hold}
+use Rattle.lid_system.specs.declared.System.{System}
+use Rattle.lid_system.specs.Systems.{IsWellFormed}
+use Rattle.lid_stations.specs.declared.placement.Placement.{Placement}
 use Rattle.lid_stations.specs.Placements.{links_of, station_count, Fits}
 use Rattle.lid_stations.specs.Stations.{actor_count, relay_count}
 use Rattle.lid_stations.proofs.Spots.{fewer_relays}
-use Rattle.lid_clock.specs.Lives.{Life, IsLife, NeedsRow, IsBelow, HoldsNobody}
+use Rattle.lid_clock.specs.Lives.{Life, IsLife, NeedsRow, IsBelow}
 use Rattle.lid_clock.specs.Ran.{Ran}
 use Rattle.lid_reports.specs.Runs.{trace_text}
 use Rattle.lid_feed.specs.declared.feed.RowFeed.{RowFeed}
@@ -93,34 +94,6 @@ module _ (r : Run) (run : Running) (given : List (List Bool)) (at : IsRunning r 
     ready = λ l b. none l run.made (length given) (at.lives l b).ran;
   }
 
-  -- a cycle was made
-  pub stepped : (new : Running) → GoesOn r run given
-      → ((l : Life) → Begins r given l → new.cells.items ≡ cells_after l (cycles_traced r.trace (run.made + 1)))
-      → ((l : Life) (k g : ℕ) → Ran l k g run.stream → HoldsNobody l k → IsBelow l k → Ran l (suc k) g new.stream)
-      → new.made ≡ run.made + 1 → new.given ≡ run.given → new.trace ≡ run.trace → new.stations ≡ run.stations → IsRunning r new given
-  stepped new goes shown ran made count trace stations = record {
-    rules = at.rules;
-    rows = at.rows;
-    count = count ∙ at.count;
-    trace = trace ∙ at.trace;
-    stations = stations ∙ at.stations;
-    lives = λ l b. record {
-      ran = subst (λ (k : ℕ). Ran l k (length given) new.stream) (sym (add-one run.made) ∙ sym made) (ran l run.made (length given) (at.lives l b).ran (free l b) (goes l b));
-      cells = shown l b ∙ ap (λ (k : ℕ). cells_after l (cycles_traced r.trace k)) (sym made);
-      busy = λ k h. busy_on l b k (let e = made in omega arith);
-    };
-  }
-    where
-      free : (l : Life) → Begins r given l → HoldsNobody l run.made
-      free l b v = ap (λ hold. hold run.made v) b.of.free
-
-      busy_on : (l : Life) → Begins r given l → (k : ℕ) → k < run.made + 1 → IsBelow l k
-      busy_on l b k h = by (eqb_tells k run.made)
-        where
-          by : ((k == run.made ≡ true) × (k ≡ run.made)) ⊎ ((k == run.made ≡ false) × (k ≡ run.made → ⊥)) → IsBelow l k
-          by (inl same) = subst (λ (j : ℕ). IsBelow l j) (sym same.1) (goes l b)
-          by (inr other) = (at.lives l b).busy k (let differs = other.1 in omega (arith, differs))
-
   -- a run that goes on has made few cycles
   pub few_cycles : GoesOn r run given → run.made < actor_count (links_of r.system) r.placement * r.rows
   few_cycles goes =
@@ -170,20 +143,29 @@ module _ (r : Run) (run : Running) (given : List (List Bool)) (at : IsRunning r 
   trace_is_none is l = text_untraced l r.trace run.made (sym at.trace ∙ is)
 
 -- a run that has begun
-pub begun : (r : Run) → IsSound r → (given : List (List Bool)) → AreGiven r given → (run : Running) (first : Option (List Bool)) → HasBegun r.system r.placement r.rows first r.trace run
-    → length given ≡ min 1 r.rows → ((l : Life) → Begins r given l → slice_get l.input 0 ≡ first) → IsRunning r run given
-begun r sound given rows run first h long begins = record {
+pub begun : (r : Run) (s : System) (p : Placement) (rows : ℕ) (trace : Option ℕ) → r.system ≡ s → r.placement ≡ p → r.rows ≡ rows → r.trace ≡ trace
+    → IsSound r → (given : List (List Bool)) → AreGiven r given → (run : Running) (first : Option (List Bool)) → HasBegun s p rows first trace run
+    → length given ≡ min 1 rows → ((l : Life) → Begins r given l → slice_get l.input 0 ≡ first) → IsRunning r run given
+begun r s p rows trace system stations many most sound given are run first h long begins = record {
   rules = sound;
-  rows = rows;
+  rows = are;
   count = h.given ∙ sym long;
-  trace = h.trace;
-  stations = h.stations;
+  trace = h.trace ∙ sym most;
+  stations = h.stations ∙ ap (λ p. station_count p.relays) (sym stations);
   lives = λ l b. record {
-    ran = along (λ k g. Ran l k g run.stream) 0 run.made (min 1 r.rows) (length given) (sym h.made) (sym long)
-        (h.ran l (record { rules = b.of.rules; of = b.of.of; stations = b.of.stations; many = b.many; begins = begins l b }));
+    ran = along (λ k g. Ran l k g run.stream) 0 run.made (min 1 rows) (length given) (sym h.made) (sym long)
+        (h.ran l (record { rules = b.of.rules; of = b.of.of ∙ system; stations = b.of.stations ∙ stations; many = b.many ∙ many; begins = begins l b }));
     cells = h.cells ∙ sym (cells_none l r.trace) ∙ ap (λ (k : ℕ). cells_after l (cycles_traced r.trace k)) (sym h.made);
     busy = λ k below. absurd (let none = h.made in omega arith);
   };
+}
+
+-- the rules of a run
+pub sound_of : (r : Run) (s : System) (p : Placement) (rows : ℕ) → r.system ≡ s → r.placement ≡ p → r.rows ≡ rows → IsWellFormed s → Fits s p → rows ≤ 1000000 → IsSound r
+sound_of r s p rows system stations many well fits few = record {
+  system = subst IsWellFormed (sym system) well;
+  fits = subst (λ q. Fits r.system q) (sym stations) (subst (λ t. Fits t p) (sym system) fits);
+  few = subst (λ (n : ℕ). n ≤ 1000000) (sym many) few;
 }
 
 -- what holds of a result for each value

@@ -4,3 +4,4 @@ pub mod Outputs
 pub mod Ends
 pub mod Living
 pub mod Goings
+pub mod Tellings

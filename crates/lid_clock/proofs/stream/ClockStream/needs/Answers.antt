@@ -1,6 +1,5 @@
-use Rattle.lid_clock.specs.Ran.{Stub}
+use Rattle.lid_clock.specs.Ran.{never}
 use Rattle.lid_clock.proofs.stream.ClockStream.needs.Goals as goal
 
 pub returns : goal.returns
-unfolding Stub
-returns c = λ l k g ran. absurd ran.stub
+returns c = λ l k g ran. absurd (never _ ran.stub)

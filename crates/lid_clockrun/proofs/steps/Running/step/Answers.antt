@@ -19,3 +19,4 @@ overflow_add-self c =
     let few = made_fits r c.args.self.now given c.requires.2 c.requires.4 in
     let same = ap (λ run. run.made) c.show.ensures.rest in
     omega (arith, few, same)
+
