@@ -1,5 +1,5 @@
 -- What a run has told between its cycles, and in the end.
-use Rattle.std.proofs.Common.{◌≡◌, ℕ, suc, ◌+◌, ◌-◌, ◌<◌, ◌≤◌, ◌==◌, ◌⊎◌, inl, inr, Bool, true, false, List, [], ◌++◌, length, Option, None, Some, refl, sym, ◌∙◌, ap, subst, append_assoc, append-nil, add-one, arith}
+use Rattle.std.proofs.Common.{◌≡◌, ℕ, ◌+◌, ◌-◌, ◌<◌, ◌≤◌, ◌==◌, ◌⊎◌, inl, inr, Bool, true, false, List, [], ◌++◌, length, Option, Some, Result, Ok, Err, OnErr, IfErr, refl, sym, ◌∙◌, ap, subst, append_assoc, append-nil, add-one, arith}
 use Rattle.std.specs.List.{flat_map}
 use Rattle.std.proofs.lemmas.Bool.Decides.{eqb_tells}
 use Rattle.lid_base.specs.Outside.{Rose, Appended, AppendedPrefix}
@@ -174,3 +174,8 @@ module _ (r : Run) (given : List (List Bool)) (l : Life) (b : Begins r given l) 
         is = text_at l b.of.rules b.of.free r.columns r.trace k first_end;
         written = subst (λ (xs : List ℕ). AppendedPrefix before new xs) end_is (break before _ pushed);
       }
+
+-- what holds of a fault, from two facts
+pub err_both : {A E P : Type 0} (Q R : E → Type 0) (result : Result A E) → ((e : E) → P → Q e → R e) → OnErr result P → IfErr result Q → IfErr result R
+err_both Q R (Ok a) f h k = tt
+err_both Q R (Err e) f h k = f e h k
