@@ -65,8 +65,9 @@ returns-in-Err-go-clause-err g c =
           part_of_fired run t.given l b (g.O.Sink.written c.args.out.now) (g.O.Sink.written c.loop-run.out) c.loop-run.run.made
           (pushed_part (g.O.Sink.written c.args.out.now) (g.O.Sink.written c.loop-run.out) c.loop-run.telling.writer _ (t.told l b));
       cause =
-          cause_later run t.given (Rose (first c.args.feed.now.name) (new c.args.feed.now.name)) (Rose (old c.loop-run.feed.name) (new c.loop-run.feed.name)) (Rose (g.O.Sink.faults c.args.out.now) (g.O.Sink.faults c.loop-run.out)) c.in-Err-go.fault
+          cause_later run t.given (Rose (first c.args.feed.now.name) (new c.args.feed.now.name)) (Rose (old c.loop-run.feed.name) (new c.loop-run.feed.name)) (Rose (g.O.Sink.faults c.args.out.now) (g.O.Sink.faults c.loop-run.out)) ⊥ c.in-Err-go.fault
           (λ rose. rose_later (first c.args.feed.now.name) (old c.args.feed.now.name) (new c.args.feed.now.name) (c.loop-run.invariant.grows c.args.feed.now.name) (subst (λ n. Rose (old n) (new n)) name rose))
+          (λ none. absurd none)
           (c.in-Err-go.ensures.err run t.given t.fed (λ l b. (c.below.ensures l c.loop-run.run.made (length t.given) (t.fed.running.lives l b).ran).0 c.loop-run-test.true));
     }
 
@@ -153,7 +154,7 @@ returns-clause-ok g c =
           end_told run t.given l b made (t.fed.running.lives l b).busy
           (λ below. let is = (c.below.ensures l made (length t.given) (t.fed.running.lives l b).ran).1 below in let not = c.loop-run-test.false in cc)
           (g.O.Sink.written c.args.out.now) (g.O.Sink.written c.loop-run.out) (g.O.Sink.written c.finish.new.out) c.loop-run.telling.writer c.append_end.new.into.items (t.told l b)
-          (c.in-Ok.ensures run t.given l t.fed.running b ? ∙ ap (λ (xs : List ℕ). xs ++ end_text l c.args.trace made) t.line) close;
+          (c.in-Ok.ensures run t.given l t.fed.running b c.len.ensures ∙ ap (λ (xs : List ℕ). xs ++ end_text l c.args.trace made) t.line) close;
     })
     c.finish.ensures.ok
 
@@ -170,7 +171,7 @@ returns-clause-err g c =
           end_breaks run t.given l b made (t.fed.running.lives l b).busy
           (λ below. let is = (c.below.ensures l made (length t.given) (t.fed.running.lives l b).ran).1 below in let not = c.loop-run-test.false in cc)
           (g.O.Sink.written c.args.out.now) (g.O.Sink.written c.loop-run.out) (g.O.Sink.written c.finish.new.out) c.loop-run.telling.writer c.append_end.new.into.items (t.told l b)
-          (c.in-Ok.ensures run t.given l t.fed.running b ? ∙ ap (λ (xs : List ℕ). xs ++ end_text l c.args.trace made) t.line) break;
+          (c.in-Ok.ensures run t.given l t.fed.running b c.len.ensures ∙ ap (λ (xs : List ℕ). xs ++ end_text l c.args.trace made) t.line) break;
       cause =
           cause_of_telling run t.given (Rose (g.S.Shelf.faults c.args.shelf.now c.args.feed.now.name) (g.S.Shelf.faults c.loop-run.shelf c.args.feed.now.name)) (Rose (g.O.Sink.faults c.loop-run.out) (g.O.Sink.faults c.finish.new.out)) (Rose (g.O.Sink.faults c.args.out.now) (g.O.Sink.faults c.finish.new.out)) fault
           (λ rose. rose_later (g.O.Sink.faults c.args.out.now) (g.O.Sink.faults c.loop-run.out) (g.O.Sink.faults c.finish.new.out) c.loop-run.invariant.rises rose) cause;
