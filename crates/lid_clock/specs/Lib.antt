@@ -1,3 +1,3 @@
 pub mod Views
 pub mod Lives
-pub mod States
+pub mod Rings
