@@ -1,3 +1,4 @@
 pub mod Views
 pub mod Lives
 pub mod Rings
+pub mod Parts
