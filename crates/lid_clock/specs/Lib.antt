@@ -2,3 +2,4 @@ pub mod Views
 pub mod Lives
 pub mod Rings
 pub mod Parts
+pub mod Actors

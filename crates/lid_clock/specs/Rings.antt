@@ -16,7 +16,7 @@ IsAt reads stations i x = slice_get stations (get_or reads i 0) ≡ Some x
 
 -- each station that is read holds a token
 abbrev pub AllHold : List ℕ → List ClockStation → Type 0
-AllHold reads stations = (i : ℕ) (x : ClockStation) → i < length reads → IsAt reads stations i x → x.taken < x.put
+AllHold reads stations = (i : ℕ) → i < length reads → (x : ClockStation) → IsAt reads stations i x → x.taken < x.put
 
 -- one of them is empty
 pub record OneIsEmpty (reads : List ℕ) (stations : List ClockStation) : Type 0 where
@@ -28,7 +28,7 @@ pub record OneIsEmpty (reads : List ℕ) (stations : List ClockStation) : Type 0
 
 -- each station has room
 abbrev pub AllHaveRoom : List ℕ → List ClockStation → Type 0
-AllHaveRoom reads stations = (i : ℕ) (x : ClockStation) → i < length reads → IsAt reads stations i x → x.put < x.taken + length x.places.items
+AllHaveRoom reads stations = (i : ℕ) → i < length reads → (x : ClockStation) → IsAt reads stations i x → x.put < x.taken + length x.places.items
 
 -- one of them is full
 pub record OneIsFull (reads : List ℕ) (stations : List ClockStation) : Type 0 where
@@ -41,4 +41,4 @@ pub record OneIsFull (reads : List ℕ) (stations : List ClockStation) : Type 0 
 -- these are the oldest tokens of stations
 pub record AreOldest (reads : List ℕ) (stations : List ClockStation) (tokens : List ℕ) : Type 0 where
   pub many : length tokens ≡ length reads
-  pub each : (i : ℕ) (x : ClockStation) → i < length reads → IsAt reads stations i x → get_or tokens i 0 ≡ token_in x.places.items x.taken
+  pub each : (i : ℕ) → i < length reads → (x : ClockStation) → IsAt reads stations i x → get_or tokens i 0 ≡ token_in x.places.items x.taken
