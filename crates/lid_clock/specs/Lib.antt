@@ -3,3 +3,4 @@ pub mod Lives
 pub mod Rings
 pub mod Parts
 pub mod Actors
+pub mod States

@@ -2,10 +2,12 @@
 #![tactic(auto)]
 
 mod actor;
+mod deciding;
 mod firing;
 mod part;
 mod passing;
 mod ring;
+mod settling;
 mod station;
 mod stream;
 

@@ -50,7 +50,7 @@ impl ClockStation {
     }
 
     /// Takes in a token.
-    fn accept(&mut self, token: u32)
+    pub(crate) fn accept(&mut self, token: u32)
         requires room { self.old.put < self.old.taken + length self.old.places.items }
         requires few { self.old.put + 1 < 2 ^ 64 }
         ensures ends { (self.new.filler ≡ self.old.filler) × (self.new.slot ≡ self.old.slot) × (self.new.drainer ≡ self.old.drainer) }
@@ -64,7 +64,7 @@ impl ClockStation {
     }
 
     /// Lets its oldest token go.
-    fn release(&mut self)
+    pub(crate) fn release(&mut self)
         requires { self.old.taken < self.old.put }
         ensures ends { (self.new.filler ≡ self.old.filler) × (self.new.slot ≡ self.old.slot) × (self.new.drainer ≡ self.old.drainer) }
         ensures put { self.new.put ≡ self.old.put }

@@ -1,0 +1,24 @@
+//! How stations settle.
+
+ghost use Rattle.lid_clock.specs.States.{CanSettle, Settles};
+
+use crate::actor::ClockActor;
+use crate::station::ClockStation;
+
+impl ClockStation {
+    /// Settles, after all actors have decided: it gains its filler's token where that fired, and loses
+    /// its oldest token where its drainer fired. The station is as the cycle began, and the actors are
+    /// all those of the same run, each after its decision.
+    pub fn settle(&mut self, actors: &[ClockActor])
+        requires { CanSettle self.old actors.now }
+        ensures { Settles self.old actors.now self.new }
+    {
+        let filler = &actors[self.filler as usize];
+        if filler.went {
+            self.accept(filler.tokens[self.slot as usize]);
+        }
+        if actors[self.drainer as usize].went {
+            self.release();
+        }
+    }
+}
