@@ -1,2 +1,4 @@
 pub mod Caps
 pub mod Turns
+pub mod Ending
+pub mod Passing
