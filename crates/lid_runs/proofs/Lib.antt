@@ -2,3 +2,4 @@ pub mod Caps
 pub mod Turns
 pub mod Ending
 pub mod Passing
+pub mod Channels

@@ -1,6 +1,7 @@
--- A mover drains one station and fills the next.
-use Rattle.std.proofs.Common.{◌≡◌, ℕ, zero, suc, ◌+◌, ◌<◌, ◌≤◌, ◌⊎◌, inl, inr, ◌==◌, Bool, true, false, cond, List, [], ◌∷◌, length, filter, true≢false, refl, sym, ◌∙◌, ap, arith}
+-- Lists of stations by who drains or fills them: a mover drains one station and fills the next.
+use Rattle.std.proofs.Common.{◌≡◌, ℕ, zero, suc, ◌+◌, ◌<◌, ◌≤◌, ◌⊎◌, inl, inr, ◌==◌, Bool, true, false, cond, List, [], ◌∷◌, ◌++◌, length, filter, true≢false, refl, sym, ◌∙◌, ap, arith}
 use Rattle.std.proofs.lemmas.Bool.{cases_eq, eqb-true, eq-eqb}
+use Rattle.std.proofs.lemmas.List.Elements.{filter-append}
 use Rattle.lid_design.specs.Network.{Table, from_each}
 use Rattle.lid_system.specs.declared.System.{System}
 use Rattle.lid_system.specs.Systems.{Point, IsWellFormed}
@@ -9,6 +10,7 @@ use Rattle.lid_stations.specs.declared.placement.Placement.{Placement}
 use Rattle.lid_stations.specs.Placements.{links_of, station_count, Fits}
 use Rattle.lid_stations.specs.Stations.{channel_at, actor_count, filler, drainer}
 use Rattle.lid_stations.specs.Laws.{CarriesOn}
+use Rattle.lid_stations.proofs.Parts.{each_more}
 use Rattle.lid_stations.proofs.Movers.{carries}
 use Rattle.lid_runs.specs.Laws.{MovesOn}
 
@@ -36,6 +38,19 @@ one_passes f first (suc n) i least most pass one = by_head (f first) refl (cases
     by_head true is (inr other) later = absurd (other (one first (omega arith) (omega arith) is))
     by_head false is (inl same) later = absurd (true≢false (sym pass ∙ ap f (sym same) ∙ is))
     by_head false is (inr other) later = later (omega (arith, other)) (omega arith)
+
+-- of so many numbers and one more, at most the last passes
+pub last_alone : (f : ℕ → Bool) (first n : ℕ) → ((j : ℕ) → first ≤ j → j < first + n → f j ≡ false) → filter f (from_each (λ j. j) first (n + 1)) ≡ cond (f (first + n)) ((first + n) ∷ []) []
+last_alone f first n fail =
+    ap (filter f) (each_more (λ j. j) first n 1)
+    ∙ filter-append f (from_each (λ j. j) first n) ((first + n) ∷ [])
+    ∙ ap (λ (xs : List ℕ). xs ++ filter f ((first + n) ∷ [])) (none_pass f first n fail)
+
+-- or at most the first
+pub first_alone : (f : ℕ → Bool) (first n : ℕ) → ((j : ℕ) → first + 1 ≤ j → j < (first + 1) + n → f j ≡ false) → filter f (from_each (λ j. j) first (n + 1)) ≡ cond (f first) (first ∷ []) []
+first_alone f first n fail =
+    (let e : n + 1 ≡ suc n = omega arith in ap (λ (m : ℕ). filter f (from_each (λ j. j) first m)) e)
+    ∙ ap (λ (xs : List ℕ). cond (f first) (first ∷ xs) xs) (none_pass f (first + 1) n fail)
 
 pub moves_on : (s : System) (p : Placement) (mover station : ℕ) → CarriesOn s p mover station → MovesOn s p mover station
 moves_on s p mover station on = record {
