@@ -1,5 +1,5 @@
 -- Start tokens and caps: what a station starts with and the cap of who fills it make the rows, so caps fit the marking.
-use Rattle.std.proofs.Common.{◌≡◌, ℕ, zero, suc, ◌+◌, ◌-◌, ◌<◌, ◌≤◌, ◌⊎◌, inl, inr, nat_lt, Bool, true, false, cond, length, get_or, refl, sym, ap, subst, lt-ltb, le-ltb, arith}
+use Rattle.std.proofs.Common.{◌≡◌, ℕ, zero, suc, ◌+◌, ◌-◌, ◌<◌, ◌≤◌, ◌⊎◌, inl, inr, nat_lt, Bool, true, false, cond, length, refl, sym, ap, subst, lt-ltb, le-ltb, arith}
 use Rattle.lid_graph.specs.declared.graph.Edge.{Edge}
 use Rattle.lid_graph.specs.Walks.{edge_at}
 use Rattle.lid_graph.specs.Firings.{AreFitCaps}

@@ -13,7 +13,7 @@ use Rattle.lid_system.specs.Streams.{token_at}
 use Rattle.lid_nodes.specs.Nodes.{tokens_to, tokens_from}
 use Rattle.lid_stations.specs.declared.placement.Placement.{Placement}
 use Rattle.lid_stations.specs.Placements.{links_of, station_count, Fits}
-use Rattle.lid_stations.specs.Stations.{Spot, mover, no_channel, channel_at, fills, drains, spot_at, filler, drainer}
+use Rattle.lid_stations.specs.Stations.{Spot, mover, no_channel, channel_at, fills, drains, filler, drainer}
 use Rattle.lid_stations.proofs.Parts.{each_more}
 use Rattle.lid_stations.proofs.Spots.{spot_is}
 use Rattle.lid_runs.specs.Runs.{drained_by, filled_by, token_of}

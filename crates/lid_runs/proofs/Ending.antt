@@ -1,8 +1,8 @@
 -- When a run ends in which nobody is held.
-use Rattle.std.proofs.Common.{◌≡◌, ℕ, ◌+◌, ◌*◌, ◌<◌, ◌≤◌, length, sym, ◌∙◌, subst, arith}
+use Rattle.std.proofs.Common.{◌≡◌, ℕ, ◌+◌, ◌*◌, ◌<◌, ◌≤◌, sym, ◌∙◌, subst, arith}
 use Rattle.std.specs.Int.{div_ceil}
 use Rattle.lid_graph.specs.declared.graph.Graph.{Graph}
-use Rattle.lid_graph.specs.Firings.{Counts, no_hold, firings, IsFirstAtCap}
+use Rattle.lid_graph.specs.Firings.{Counts, no_hold, IsFirstAtCap}
 use Rattle.lid_firings.proofs.Alive.{tokens_make_ratios, tokens_reach_caps}
 use Rattle.lid_firings.proofs.Walking.{lag_bounds_cycles}
 use Rattle.lid_system.specs.declared.System.{System}

@@ -2,9 +2,9 @@
 use Rattle.std.proofs.Common.{◌≡◌, ℕ, zero, suc, ◌+◌, ◌<◌, ◌≤◌, ◌⊎◌, inl, inr, ◌==◌, Bool, true, false, cond, List, [], ◌∷◌, ◌++◌, length, filter, true≢false, refl, sym, ◌∙◌, ap, arith}
 use Rattle.std.proofs.lemmas.Bool.{cases_eq, eqb-true, eq-eqb}
 use Rattle.std.proofs.lemmas.List.Elements.{filter-append}
-use Rattle.lid_design.specs.Network.{Table, from_each}
+use Rattle.lid_design.specs.Network.{from_each}
 use Rattle.lid_system.specs.declared.System.{System}
-use Rattle.lid_system.specs.Systems.{Point, IsWellFormed}
+use Rattle.lid_system.specs.Systems.{IsWellFormed}
 use Rattle.lid_system.specs.Streams.{token_at}
 use Rattle.lid_stations.specs.declared.placement.Placement.{Placement}
 use Rattle.lid_stations.specs.Placements.{links_of, station_count, Fits}
@@ -55,9 +55,9 @@ first_alone f first n fail =
 pub moves_on : (s : System) (p : Placement) (mover station : ℕ) → CarriesOn s p mover station → MovesOn s p mover station
 moves_on s p mover station on = record {
   drained = one_passes (λ n. drainer (links_of s) p n == mover) 0 (station_count p.relays) station (omega arith) (omega (arith, on.next)) (eq-eqb _ _ on.drained)
-  (λ j above below passes. on.drains_one j (omega arith) (eqb-true _ _ passes));
+      (λ j above below passes. on.drains_one j (omega arith) (eqb-true _ _ passes));
   filled = one_passes (λ n. filler (links_of s) p n == mover) 0 (station_count p.relays) (station + 1) (omega arith) (omega (arith, on.next)) (eq-eqb _ _ on.filled)
-  (λ j above below passes. on.fills_one j (omega arith) (eqb-true _ _ passes));
+      (λ j above below passes. on.fills_one j (omega arith) (eqb-true _ _ passes));
   tokens = λ b i. ap (λ (c : ℕ). token_at s b (channel_at (links_of s) c) i) on.channel;
 }
 

@@ -1,8 +1,7 @@
 -- The rule of firing: an actor that is not held fires where no edge into it keeps it back, and stations hold few tokens.
-use Rattle.std.proofs.Common.{◌≡◌, ℕ, zero, suc, ◌+◌, ◌-◌, ◌<◌, ◌≤◌, ◌⊎◌, inl, inr, Bool, true, false, cond, length, get_or, refl, sym, ap, subst, arith}
+use Rattle.std.proofs.Common.{◌≡◌, ℕ, suc, ◌+◌, ◌-◌, ◌<◌, ◌≤◌, ◌⊎◌, inl, inr, Bool, true, false, cond, refl, ap, subst, arith}
 use Rattle.lid_graph.specs.declared.graph.Edge.{Edge}
 use Rattle.lid_graph.specs.declared.graph.Graph.{Graph}
-use Rattle.lid_graph.specs.Walks.{edge_at}
 use Rattle.lid_graph.specs.Firings.{Counts, Hold, least_into, firings}
 use Rattle.lid_graph.proofs.Counting.{Allowing, least_into_most, least_into_edge, least_into_cases, firings_cap}
 use Rattle.lid_firings.proofs.Rising.{allows, rises, rises_by_one}
@@ -15,8 +14,8 @@ use Rattle.lid_stations.specs.Markings.{marking}
 use Rattle.lid_stations.proofs.Spots.{cap_range}
 use Rattle.lid_stations.proofs.Edges.{node_count, edges_long, forth_at, back_at}
 use Rattle.lid_stations.proofs.Alive.{rateable}
-use Rattle.lid_runs.specs.Runs.{cap_of, starts_with, fired_in, in_count, out_count}
-use Rattle.lid_runs.specs.Rules.{MayFire, FindsVoid, FindsStop, MayNotFire, HoldsFew}
+use Rattle.lid_runs.specs.Runs.{cap_of, fired_in}
+use Rattle.lid_runs.specs.Rules.{MayFire, MayNotFire, HoldsFew}
 use Rattle.lid_runs.proofs.Caps.{each_edge, cap_about, start_small, start_and_cap}
 
 module _ (s : System) (p : Placement) (well : IsWellFormed s) (fits : Fits s p) (rows : ℕ) where
