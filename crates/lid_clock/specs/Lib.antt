@@ -4,3 +4,4 @@ pub mod Rings
 pub mod Parts
 pub mod Actors
 pub mod States
+pub mod Rules

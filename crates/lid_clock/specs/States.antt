@@ -129,6 +129,13 @@ pub record CanSettle (x : ClockStation) (actors : List ClockActor) : Type 0 wher
   pub is : IsStation life station (put_after life k station) (taken_after life k station) x
   pub decided : AreDecided life k g actors
 
+-- a station has gained its filler's token, where that fired, in each life to which it may belong
+abbrev pub Gains : ClockStation → List ClockActor → ClockStation → Type 0
+Gains old actors new =
+    (l : Life) (k g station : ℕ)
+    → IsLife l → station < stations_of l → IsStation l station (put_after l k station) (taken_after l k station) old → AreDecided l k g actors
+    → IsStation l station (put_after l (suc k) station) (taken_after l k station) new
+
 -- a station has settled in each life to which it may belong
 abbrev pub Settles : ClockStation → List ClockActor → ClockStation → Type 0
 Settles old actors new =

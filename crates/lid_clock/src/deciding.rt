@@ -3,6 +3,7 @@
 ghost use Rattle.lid_clock.specs.States.{CanDecide, Decides};
 
 use crate::actor::ClockActor;
+use crate::rules::runs_go_by_rules;
 use crate::station::ClockStation;
 
 impl ClockActor {
@@ -13,6 +14,7 @@ impl ClockActor {
         requires { CanDecide self.old stations.now }
         ensures { Decides self.old stations.now held self.new }
     {
+        runs_go_by_rules();
         if !held && self.may_fire(stations) {
             self.fire(stations);
         } else {

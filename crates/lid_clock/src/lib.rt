@@ -7,6 +7,7 @@ mod firing;
 mod part;
 mod passing;
 mod ring;
+mod rules;
 mod settling;
 mod station;
 mod stream;
