@@ -1,1 +1,4 @@
 pub mod Elements
+pub mod Filters
+pub mod Ends
+pub mod Bars
