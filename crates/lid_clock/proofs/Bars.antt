@@ -47,7 +47,7 @@ sees l k g v fired a stations actor beside =
     }
 
 -- the station of a number
-at_station : (l : Life) (k station : ℕ) (stations : List ClockStation) → AreStations l k stations → station < stations_of l → (x : ClockStation) × (slice_get stations station ≡ Some x)
+pub at_station : (l : Life) (k station : ℕ) (stations : List ClockStation) → AreStations l k stations → station < stations_of l → (x : ClockStation) × (slice_get stations station ≡ Some x)
 at_station l k station stations beside there =
     let many : length stations ≡ stations_of l = beside.many in
     element stations station (omega arith)

@@ -2,3 +2,6 @@ pub mod Elements
 pub mod Filters
 pub mod Ends
 pub mod Bars
+pub mod Tokens
+pub mod Made
+pub mod Decisions
