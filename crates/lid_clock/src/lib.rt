@@ -2,11 +2,13 @@
 #![tactic(auto)]
 
 mod actor;
+mod cycle;
 mod deciding;
 mod firing;
 mod part;
 mod passing;
 mod ring;
+mod rows;
 mod rules;
 mod settling;
 mod station;
