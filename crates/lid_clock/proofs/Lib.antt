@@ -6,3 +6,5 @@ pub mod Tokens
 pub mod Made
 pub mod Decisions
 pub mod Settled
+pub mod Pointwise
+pub mod Told

@@ -21,6 +21,14 @@ pub struct ClockStream {
     pub(crate) sink: u32,
 }
 
+/// Whether a row is wanting where the source has fired so often, and so many of so many rows were given.
+fn is_wanting(fired: u64, given: u64, rows: u64) -> bool
+    ensures yes { result ≡ true → (given ≡ fired + 1) × (given < rows) }
+    ensures no { given ≡ fired + 1 → given < rows → result ≡ true }
+{
+    given < rows && fired < given && given - fired == 1
+}
+
 impl ClockStream {
     /// Whether a row is wanting: the source has fired for all rows but the last of those that were given,
     /// and is not at its last firing.
@@ -28,11 +36,7 @@ impl ClockStream {
         ensures { (l : Life) (k g : ℕ) → Ran l k g self.now → (result ≡ true) ↔ NeedsRow l k g }
     {
         match self.actors.first() {
-            Some(source) => {
-                self.given < self.rows
-                    && source.fired < self.given
-                    && self.given - source.fired == 1
-            }
+            Some(source) => is_wanting(source.fired, self.given, self.rows),
             None => false,
         }
     }
