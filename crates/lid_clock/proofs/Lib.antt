@@ -8,3 +8,5 @@ pub mod Decisions
 pub mod Settled
 pub mod Pointwise
 pub mod Told
+pub mod Held
+pub mod Cycling
