@@ -1,5 +1,5 @@
 -- Runs of a life through a cycle.
-use Rattle.std.proofs.Common.{◌≡◌, ℕ, zero, suc, ◌+◌, ◌-◌, ◌<◌, ◌≤◌, Bool, true, false, List, length, refl, sym, ◌∙◌, ap, subst, arith, add-one}
+use Rattle.std.proofs.Common.{◌≡◌, ℕ, zero, suc, ◌+◌, ◌-◌, ◌<◌, ◌≤◌, Bool, true, false, cond, ◌==◌, List, length, refl, sym, ◌∙◌, ap, subst, arith, add-one}
 use Rattle.std.specs.Prelude.{Option, Some, slice_get}
 use Rattle.lid_system.specs.Streams.{output_row}
 use Rattle.lid_clock.specs.declared.actor.ClockActor.{ClockActor}
@@ -94,3 +94,12 @@ can_settle l k g x source last actors ran fed decides =
       all = beside;
       decided = decides (held_so l hold) k g begins (actors_alike l hold k g x.actors.items agree ran.all_actors) beside ran.sink_is (replaced_holds l k source last);
     }
+
+-- nobody is held where neither the source nor the sink is
+none_held : (first last : Bool) → false ≡ cond first false (cond last false false)
+none_held true last = refl
+none_held false true = refl
+none_held false false = refl
+
+pub nobody_held : (l : Life) (k : ℕ) → ((v : ℕ) → l.hold k v ≡ false) → Holds l k false false
+nobody_held l k nobody v = nobody v ∙ none_held (v == 0) (v == sink l)

@@ -10,3 +10,4 @@ pub mod Pointwise
 pub mod Told
 pub mod Held
 pub mod Cycling
+pub mod Giving

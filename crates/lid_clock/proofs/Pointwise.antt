@@ -22,13 +22,13 @@ none_yet R xs =
     }
 
 -- the element that was written
-set_here : {X : Type 0} (xs : List X) (i : ℕ) (x y : X) → slice_get (set xs i x) i ≡ Some y → x ≡ y
+pub set_here : {X : Type 0} (xs : List X) (i : ℕ) (x y : X) → slice_get (set xs i x) i ≡ Some y → x ≡ y
 set_here [] i x y e = absurd (cc)
 set_here (z ∷ xs) zero x y e = same_Some x y e
 set_here (z ∷ xs) (suc i) x y e = set_here xs i x y e
 
 -- the elements that were not written
-set_there : {X : Type 0} (xs : List X) (i j : ℕ) (x : X) → (j ≡ i → ⊥) → slice_get (set xs i x) j ≡ slice_get xs j
+pub set_there : {X : Type 0} (xs : List X) (i j : ℕ) (x : X) → (j ≡ i → ⊥) → slice_get (set xs i x) j ≡ slice_get xs j
 set_there [] i j x other = refl
 set_there (z ∷ xs) zero zero x other = absurd (other refl)
 set_there (z ∷ xs) zero (suc j) x other = refl
