@@ -5,5 +5,5 @@
 mod laws;
 
 pub use laws::{
-    actors_fire_by_the_rule, nodes_pass_the_tokens_of_channels, movers_move_tokens_on, runs_end,
+    actors_fire_by_the_rule, movers_move_tokens_on, nodes_pass_the_tokens_of_channels, runs_end,
 };
