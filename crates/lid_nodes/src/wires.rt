@@ -115,8 +115,9 @@ pub fn inputs_of(
     ensures taken { IfOk result (λ x. x.taken ≡ length (channels_to channels.now node)) }
     ensures reads { IfOk result (λ x. x.reads.items ≡ map (read_of channels.now node) ins.now) }
 {
-    let places = places_to(alloc, channels, node)?;
-    let reads = reads_of(alloc, ins, places.as_slice())?;
+    let counts = places_to(alloc, channels, node)?;
+    let places = counts.as_slice();
+    let reads = reads_of(alloc, ins, places)?;
     let taken = places[channels.len()];
     Ok(Inputs { taken, reads })
 }
