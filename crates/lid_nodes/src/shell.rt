@@ -14,9 +14,7 @@ ghost use Rattle.lid_nodes.specs.Inside.{IsPlaced};
 use crate::wires::{Inputs, inputs_of, pack_all, ports_of, read_all};
 use lid_base::Items;
 use lid_pearl::Pearl;
-use lid_system::{
-    Channel, InBit, Node, System, shells_follow_tables, shells_stand_between_source_and_sink,
-};
+use lid_system::{Channel, InBit, Node, System, shells_stand_between_source_and_sink};
 use std::alloc::{AllocError, Global};
 use std::marker::Model;
 
@@ -83,7 +81,6 @@ impl ShellNode {
         requires shell { slice_get system.now.nodes node ≡ Some (Shell pearl.now ins.now) }
         ensures { IfOk result (λ x. (b : Table Point) → IsShellOf system.now b node 0 x) }
     {
-        shells_follow_tables();
         let copy = pearl.copy()?;
         let wires = wires_of(alloc, system.channels.as_slice(), node, ins)?;
         let room = room_of(alloc, ins.len(), copy.outs())?;
@@ -107,7 +104,6 @@ impl ShellNode {
             self.wires.ports.as_slice(),
             into,
         );
-        shells_follow_tables();
     }
 
     /// Fires: takes the tokens of a row, moves the pearl by that row, and writes the tokens of the next row.
@@ -131,7 +127,6 @@ impl ShellNode {
             self.wires.ports.as_slice(),
             into,
         );
-        shells_follow_tables();
     }
 }
 
