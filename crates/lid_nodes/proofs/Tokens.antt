@@ -6,7 +6,7 @@ use Rattle.std.specs.List.{AllByRecursion}
 use Rattle.std.specs.Option.{option_map_or}
 use Rattle.std.proofs.lemmas.Bool.{eqb-true}
 use Rattle.std.proofs.lemmas.List.{length-map}
-use Rattle.std.proofs.lemmas.Option.{get_or_from_slice_get, slice_get_within}
+use Rattle.std.proofs.lemmas.Option.{slice_get-get_or, get_or_from_slice_get, slice_get_within}
 use Rattle.lid_base.proofs.Lists.{all_at}
 use Rattle.lid_design.specs.Network.{Table}
 use Rattle.lid_pearl.specs.Pearls.{View}
@@ -122,3 +122,15 @@ shell_ports s v pearl ins here = ap (λ o. length (option_map_or (ports_of v) o 
 -- the bits of a node's inputs, by what it is
 pub inputs_at : (s : System) (b : Table Point) (v t : ℕ) (node : Node) → slice_get s.nodes v ≡ Some node → input_bits s b v t ≡ map (in_bit s b t) (ins_of node)
 inputs_at s b v t node here = ap (λ o. map (in_bit s b t) (option_map_or ins_of o [])) here
+
+-- what was read at a place of the nodes
+pub node_here : (nodes seen : List Node) (i : ℕ) (node x : Node) → seen ≡ nodes → i < length nodes → node ≡ get_or seen i node → node ≡ x → slice_get nodes i ≡ Some x
+node_here nodes seen i node x same below read is =
+    slice_get-get_or nodes i node below ∙ ap Some (ap (λ (ns : List Node). get_or ns i node) (sym same) ∙ sym read ∙ is)
+
+-- the inputs of a sink read tokens that are taken
+pub sink_within : (s : System) (well : IsWellFormed s) (v : ℕ) (columns : List (List ℕ)) (ins : List InBit) → slice_get s.nodes v ≡ Some (Sink columns ins) → (taken : ℕ) (reads : List Read) → taken ≡ length (channels_to s.channels v) → reads ≡ map (read_of s.channels v) ins → AllByRecursion (IsReadOf taken) reads
+sink_within s well v columns ins here taken reads many reading =
+    subst (λ (n : ℕ). AllByRecursion (IsReadOf n) reads) (sym many)
+    (subst (λ (rs : List Read). AllByRecursion (IsReadOf (length (channels_to s.channels v))) rs) (sym reading)
+    (reads_within s well v ins (well.each_node v (Sink columns ins) here).reads))
