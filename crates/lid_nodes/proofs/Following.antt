@@ -33,7 +33,7 @@ module _ (s : System) (well : IsWellFormed s) where
 
   module _ (rows : List (List Bool)) (b : Table Point) (table : IsTable s rows b) (v t : ℕ) (x : ShellView) (is : IsShellOf s b v t x) where
     -- what the pearl's inputs read is the row of the table
-    pub row_is : (taken : List ℕ) → taken ≡ tokens_to s b v t → map (bit_read taken) x.reads ≡ input_bits s b v t
+    row_is : (taken : List ℕ) → taken ≡ tokens_to s b v t → map (bit_read taken) x.reads ≡ input_bits s b v t
     row_is taken same =
         ap (λ (ts : List ℕ). map (bit_read ts) x.reads) same
         ∙ ap (map (bit_read (tokens_to s b v t))) is.reading
@@ -45,14 +45,18 @@ module _ (s : System) (well : IsWellFormed s) where
         ap (map (token_of outs)) is.from
         ∙ tokens_are s well v b t outs (shell_shows s rows b v is.pearl is.ins is.node table t x.pearl is.flat is.state outs below shows)
 
-    module _ (q : View) (outs : List Bool) (steps : Steps x.pearl (input_bits s b v t) q outs) where
+    -- a step with what the inputs read goes to the next row
+    module _ (taken : List ℕ) (same : taken ≡ tokens_to s b v t) (q : View) (outs : List Bool) (steps : Steps x.pearl (map (bit_read taken) x.reads) q outs) where
+      steps_by_row : Steps x.pearl (input_bits s b v t) q outs
+      steps_by_row = subst (λ (row : List Bool). Steps x.pearl row q outs) (row_is taken same) steps
+
       pub shell_follows : t < length rows → IsShellOf s b v (t + 1) (record x { pearl = q })
       shell_follows below =
-          let next = shell_goes s rows b v is.pearl is.ins is.node table t x.pearl is.flat is.state well q outs below steps in
+          let next = shell_goes s rows b v is.pearl is.ins is.node table t x.pearl is.flat is.state well q outs below steps_by_row in
           record { pearl = is.pearl; ins = is.ins; node = is.node; flat = next.0; state = next.1; many = is.many; reading = is.reading; from = is.from }
 
       pub next_tokens : t + 1 < length rows → map (token_of outs) x.ports ≡ tokens_from s b v (t + 1)
       next_tokens next =
           let below : t < length rows = omega arith in
           ap (map (token_of outs)) is.from
-          ∙ tokens_are s well v b (t + 1) outs (shell_gives s rows b v is.pearl is.ins is.node table t x.pearl is.flat is.state well q outs below steps next)
+          ∙ tokens_are s well v b (t + 1) outs (shell_gives s rows b v is.pearl is.ins is.node table t x.pearl is.flat is.state well q outs below steps_by_row next)
