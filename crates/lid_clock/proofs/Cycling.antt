@@ -7,7 +7,8 @@ use Rattle.lid_clock.specs.declared.station.ClockStation.{ClockStation}
 use Rattle.lid_clock.specs.declared.stream.ClockStream.{ClockStream}
 use Rattle.lid_clock.specs.Parts.{row_of}
 use Rattle.lid_clock.specs.Lives.{Life, IsLife, NeedsRow, HasSunk, Holds, fired_after, sink}
-use Rattle.lid_clock.specs.States.{MayBegin, Decided, AreDecided, AreActors, AreStations, IsLatest, Ran, actors_of}
+use Rattle.lid_clock.specs.States.{MayBegin, Decided, AreDecided, AreActors, AreStations, IsLatest, actors_of}
+use Rattle.lid_clock.specs.Ran.{Ran}
 use Rattle.lid_clock.specs.Cycles.{CanDecideAll, AllDecide, CanSettleAll, AllSettle}
 use Rattle.lid_graph.specs.Firings.{Hold}
 use Rattle.lid_clock.proofs.Held.{held_so, replaced, replaced_agrees, replaced_holds, begins_alike, actors_alike, stations_alike}

@@ -11,7 +11,8 @@ use Rattle.lid_clock.specs.declared.actor.ClockActor.{ClockActor}
 use Rattle.lid_clock.specs.declared.stream.ClockStream.{ClockStream}
 use Rattle.lid_clock.specs.Parts.{IsOfSize}
 use Rattle.lid_clock.specs.Lives.{Life, IsLife, IsWide, NeedsRow, fired_after, sink}
-use Rattle.lid_clock.specs.States.{HoldsLast, IsPart, IsActor, AreActors, AreStations, Ran}
+use Rattle.lid_clock.specs.States.{HoldsLast, IsPart, IsActor, AreActors, AreStations}
+use Rattle.lid_clock.specs.Ran.{Ran}
 use Rattle.lid_clock.specs.Cycles.{CanTake, Takes}
 use Rattle.lid_clock.proofs.Pointwise.{set_here, set_there}
 use mathlib.Core.Logic.{dite}

@@ -8,10 +8,18 @@ use Rattle.lid_clock.specs.declared.actor.ClockActor.{ClockActor}
 use Rattle.lid_clock.specs.declared.station.ClockStation.{ClockStation}
 use Rattle.lid_clock.specs.declared.stream.ClockStream.{ClockStream}
 use Rattle.lid_clock.specs.Rings.{token_in}
-use Rattle.lid_clock.specs.Views.{shown_as}
+use Rattle.lid_runs.specs.Views.{shown_as}
 use Rattle.lid_clock.specs.Parts.{row_of}
 use Rattle.lid_clock.specs.Lives.{Life, NeedsRow, IsBelow, IsLast, fired_after, shown_after, sink}
-use Rattle.lid_clock.specs.States.{token_of_life, IsStation, IsActor, IsLatest, Ran}
+use Rattle.lid_clock.specs.States.{token_of_life, actors_of, stations_of, IsStation, IsActor, IsLatest}
+use Rattle.lid_clock.specs.Ran.{Ran}
+
+-- the actors of a life are those of its run, and so are the stations
+pub actor_there : (l : Life) (k g : ℕ) (x : ClockStream) (v : ℕ) → Ran l k g x → v < actors_of l → v < length x.actors.items
+actor_there l k g x v ran there = subst (λ (n : ℕ). v < n) (sym ran.all_actors.many) there
+
+pub station_there : (l : Life) (k g : ℕ) (x : ClockStream) (station : ℕ) → Ran l k g x → station < stations_of l → station < length x.stations.items
+station_there l k g x station ran there = subst (λ (n : ℕ). station < n) (sym ran.all_stations.many) there
 
 -- how often an actor of a run has fired
 pub fired_is : (l : Life) (k g v : ℕ) (x : ClockStream) (a : ClockActor) → Ran l k g x → slice_get x.actors.items v ≡ Some a → a.fired ≡ fired_after l k v

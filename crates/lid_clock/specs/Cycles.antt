@@ -4,9 +4,8 @@ use Rattle.lid_clock.specs.declared.part.Part.{Part}
 use Rattle.lid_clock.specs.declared.part.Part.TheVariants.{Source, Shell, Mover, Sink}
 use Rattle.lid_clock.specs.declared.actor.ClockActor.{ClockActor}
 use Rattle.lid_clock.specs.declared.station.ClockStation.{ClockStation}
-use Rattle.lid_clock.specs.declared.stream.ClockStream.{ClockStream}
-use Rattle.lid_clock.specs.Lives.{Life, IsLife, IsWide, NeedsRow, Holds, sink}
-use Rattle.lid_clock.specs.States.{AreActors, AreStations, AreDecided, MayBegin, Decides, Settles, Ran}
+use Rattle.lid_clock.specs.Lives.{Life, IsLife, Holds, sink}
+use Rattle.lid_clock.specs.States.{AreActors, AreStations, AreDecided, MayBegin, Decides, Settles}
 
 -- whether an actor is held where the source or the sink may be
 abbrev pub held_at : ℕ → Bool → Bool → ℕ → Bool
@@ -41,23 +40,6 @@ abbrev pub AllSettle : List ClockStation → List ClockActor → List ClockStati
 AllSettle old actors new =
     (l : Life) (k g : ℕ)
     → IsLife l → AreStations l k old → AreDecided l k g actors → AreStations l (suc k) new
-
--- a run that can make a cycle: no row is wanting
-pub record CanCycle (x : ClockStream) : Type 0 where
-  pub life : Life
-  pub k : ℕ
-  pub g : ℕ
-  pub ran : Ran life k g x
-  pub fed : ¬ (NeedsRow life k g)
-
--- a run that can be given a row
-pub record CanGive (x : ClockStream) (row : List Bool) : Type 0 where
-  pub life : Life
-  pub k : ℕ
-  pub g : ℕ
-  pub ran : Ran life k g x
-  pub lacks : NeedsRow life k g
-  pub wide : IsWide life.system row
 
 -- a source can take a row of this width
 abbrev pub CanTake : Part → ℕ → Type 0

@@ -1,8 +1,8 @@
-pub mod Views
 pub mod Lives
 pub mod Rings
 pub mod Parts
 pub mod Actors
 pub mod States
+pub mod Ran
 pub mod Rules
 pub mod Cycles

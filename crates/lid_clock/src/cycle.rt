@@ -2,8 +2,8 @@
 
 ghost use Rattle.std.specs.Prelude.{◌≡◌, ◌↔◌, ℕ, suc, Bool, true, false};
 ghost use Rattle.lid_clock.specs.Lives.{Life, IsBelow, Holds, HoldsNobody};
-ghost use Rattle.lid_clock.specs.States.{Ran};
-ghost use Rattle.lid_clock.specs.Cycles.{held_at, CanDecideAll, AllDecide, CanSettleAll, AllSettle, CanCycle};
+ghost use Rattle.lid_clock.specs.Ran.{Ran, CanCycle};
+ghost use Rattle.lid_clock.specs.Cycles.{held_at, CanDecideAll, AllDecide, CanSettleAll, AllSettle};
 
 use crate::actor::ClockActor;
 use crate::station::ClockStation;

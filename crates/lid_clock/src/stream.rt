@@ -1,9 +1,10 @@
 //! The clocked run over rows that are given one by one.
 
-ghost use Rattle.std.specs.Prelude.{◌≡◌, ◌↔◌, ℕ, ◌+◌, ◌<◌, Bool, true, List, length, Option, Some, option_map, slice_get};
+ghost use Rattle.std.specs.Prelude.{◌≡◌, ◌↔◌, ℕ, ◌+◌, ◌<◌, true, Some, slice_get};
+ghost use Rattle.lid_stations.specs.Placements.{links_of, station_count};
+ghost use Rattle.lid_stations.specs.Stations.{actor_count};
 ghost use Rattle.lid_clock.specs.Lives.{Life, NeedsRow, IsBelow, IsLast, fired_after, shown_after};
-ghost use Rattle.lid_clock.specs.States.{Ran};
-ghost use Rattle.lid_clock.specs.Cycles.{CanGive};
+ghost use Rattle.lid_clock.specs.Ran.{Ran, lent, CanGive};
 
 use crate::actor::ClockActor;
 use crate::station::ClockStation;
@@ -63,7 +64,7 @@ impl ClockStream {
 
     /// The output row of the last cycle made, where the sink fired in it.
     pub fn last(&self) -> Option<&[bool]>
-        ensures { (l : Life) (k g : ℕ) → Ran l k g self.now → IsLast l k (option_map (λ row. row.now) result) }
+        ensures { (l : Life) (k g : ℕ) → Ran l k g self.now → IsLast l k (lent result) }
     {
         match self.actors.get(self.sink as usize) {
             Some(sink) => sink.last(),
@@ -73,7 +74,7 @@ impl ClockStream {
 
     /// What a station shows as the next cycle begins. The station exists.
     pub fn show(&self, station: u32) -> Shown
-        requires { station < length self.now.stations.items }
+        requires { (l : Life) × (k : ℕ) × (g : ℕ) × Ran l k g self.now × (station < station_count l.placement.relays) }
         ensures { (l : Life) (k g : ℕ) → Ran l k g self.now → result ≡ shown_after l k station }
     {
         self.stations[station as usize].shown()
@@ -81,7 +82,7 @@ impl ClockStream {
 
     /// How often an actor has fired. The actor exists.
     pub fn fired(&self, actor: u32) -> u64
-        requires { actor < length self.now.actors.items }
+        requires { (l : Life) × (k : ℕ) × (g : ℕ) × Ran l k g self.now × (actor < actor_count (links_of l.system) l.placement) }
         ensures { (l : Life) (k g : ℕ) → Ran l k g self.now → result ≡ fired_after l k actor }
     {
         self.actors[actor as usize].fired

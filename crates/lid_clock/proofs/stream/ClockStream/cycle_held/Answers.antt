@@ -13,7 +13,7 @@ decide_all-requires c =
     let q = c.requires in
     subst (λ (xs : List ClockActor). CanDecideAll xs c.as_slice.result.now) (sym c.as_mut_slice.ensures.value)
     (subst (λ (ys : List ClockStation). CanDecideAll c.args.self.now.actors.items ys) (sym c.as_slice.ensures.value)
-    (can_decide q.life q.k q.g c.args.self.now q.ran q.fed))
+    (can_decide q.0 q.1 q.2 c.args.self.now q.3 q.4))
 
 pub settle_all-requires : goal.settle_all-requires
 settle_all-requires c =
@@ -26,7 +26,7 @@ settle_all-requires c =
     let items = with_items_is x.actors c.decide_all.new.actors many in
     subst (λ (ys : List ClockStation). CanSettleAll ys c.as_slice-2.result.now) (sym c.as_mut_slice-2.ensures.value)
     (subst (λ (xs : List ClockActor). CanSettleAll x.stations.items xs) (sym (c.as_slice-2.ensures.value ∙ items))
-    (can_settle q.life q.k q.g x c.args.source c.args.sink c.decide_all.new.actors q.ran q.fed decides))
+    (can_settle q.0 q.1 q.2 x c.args.source c.args.sink c.decide_all.new.actors q.3 q.4 decides))
 
 pub returns-clause-ran : goal.returns-clause-ran
 returns-clause-ran c = λ l k g ran holds _.
@@ -41,7 +41,7 @@ returns-clause-ran c = λ l k g ran holds _.
     subst (λ (xs : List ClockActor). AllSettle x.stations.items xs c.settle_all.new.stations) (c.as_slice-2.ensures.value ∙ items)
     (subst (λ (ys : List ClockStation). AllSettle ys c.as_slice-2.result.now c.settle_all.new.stations) c.as_mut_slice-2.ensures.value c.settle_all.ensures) in
     let as_many : length c.settle_all.new.stations ≡ x.stations.len = c.settle_all.auto.stations ∙ c.as_mut_slice-2.ensures.len in
-    ran_on l k g x _ c.args.source c.args.sink c.decide_all.new.actors c.settle_all.new.stations ran (λ needs. q.fed (needs_too l q.life k g q.k q.g x ran q.ran needs)) holds decides settles
+    ran_on l k g x _ c.args.source c.args.sink c.decide_all.new.actors c.settle_all.new.stations ran (λ needs. q.4 (needs_too l q.0 k g q.1 q.2 x ran q.3 needs)) holds decides settles
     items (with_items_is x.stations c.settle_all.new.stations as_many) refl refl refl
 
 pub returns-clause-made : goal.returns-clause-made

@@ -14,11 +14,11 @@ pub receive-requires : goal.receive-requires
 receive-requires c =
     let q = c.requires in
     let a = c.index-actors-0.result in
-    let source = source_of q.life q.k q.g c.args.self.now q.ran in
+    let source = source_of q.0 q.1 q.2 c.args.self.now q.3 in
     let some : 0 < length c.as_mut_slice-actors.result.now = subst (λ (xs : List ClockActor). 0 < length xs) (sym c.as_mut_slice-actors.ensures.value) (slice_get_within c.args.self.now.actors.items 0 source.0 source.1) in
     let there = subst (λ (xs : List ClockActor). slice_get xs 0 ≡ Some a) c.as_mut_slice-actors.ensures.value (is_there c.as_mut_slice-actors.result.now 0 a some c.index-actors-0.is) in
     subst (λ (x : ClockActor). CanTake x.part (length c.args.row.now)) c.index-actors-0.is
-    (can_take q.life q.g _ a c.args.row.now (q.ran.all_actors.each 0 a there) q.wide)
+    (can_take q.0 q.2 _ a c.args.row.now (q.3.all_actors.each 0 a there) q.5)
 
 pub returns : goal.returns
 returns c = λ l k g ran next.
@@ -28,9 +28,9 @@ returns c = λ l k g ran next.
     let source = source_of l k g x ran in
     let some : 0 < length c.as_mut_slice-actors.result.now = subst (λ (xs : List ClockActor). 0 < length xs) (sym c.as_mut_slice-actors.ensures.value) (slice_get_within x.actors.items 0 source.0 source.1) in
     let there = subst (λ (xs : List ClockActor). slice_get xs 0 ≡ Some a) c.as_mut_slice-actors.ensures.value (is_there c.as_mut_slice-actors.result.now 0 a some c.index-actors-0.is) in
-    let can = can_take q.life q.g _ a c.args.row.now (q.ran.all_actors.each 0 a there) q.wide in
+    let can = can_take q.0 q.2 _ a c.args.row.now (q.3.all_actors.each 0 a there) q.5 in
     let takes = subst (λ (y : ClockActor). Takes y.part c.args.row.now c.receive.new.self.part) (sym c.index-actors-0.is) c.receive.ensures.part in
     let rest = subst (λ (y : ClockActor). c.receive.new.self ≡ record y { part = c.receive.new.self.part }) (sym c.index-actors-0.is) c.receive.ensures.rest in
     let many : length (set c.as_mut_slice-actors.result.now 0 c.receive.new.self) ≡ x.actors.len = length-set c.as_mut_slice-actors.result.now 0 c.receive.new.self ∙ c.as_mut_slice-actors.ensures.len in
     let items = with_items_is x.actors (set c.as_mut_slice-actors.result.now 0 c.receive.new.self) many ∙ ap (λ (xs : List ClockActor). set xs 0 c.receive.new.self) c.as_mut_slice-actors.ensures.value in
-    gave l k g x _ a c.receive.new.self c.args.row.now ran (needs_too q.life l q.k q.g k g x q.ran ran q.lacks) next there can takes rest items refl refl refl refl
+    gave l k g x _ a c.receive.new.self c.args.row.now ran (needs_too q.0 l q.1 q.2 k g x q.3 ran q.4) next there can takes rest items refl refl refl refl
