@@ -1,12 +1,11 @@
 -- Runs of a life through a cycle.
-use Rattle.std.proofs.Common.{◌≡◌, ℕ, zero, suc, ◌+◌, ◌-◌, ◌<◌, ◌≤◌, Bool, true, false, cond, ◌==◌, List, length, refl, sym, ◌∙◌, ap, subst, arith, add-one}
-use Rattle.std.specs.Prelude.{Option, Some, slice_get}
+use Rattle.std.proofs.Common.{◌≡◌, ℕ, suc, ◌+◌, ◌<◌, ◌≤◌, Bool, true, false, cond, ◌==◌, List, length, refl, sym, ◌∙◌, ap, subst, arith, add-one}
+use Rattle.std.specs.Prelude.{Some, slice_get}
 use Rattle.lid_system.specs.Streams.{output_row}
 use Rattle.lid_clock.specs.declared.actor.ClockActor.{ClockActor}
 use Rattle.lid_clock.specs.declared.station.ClockStation.{ClockStation}
 use Rattle.lid_clock.specs.declared.stream.ClockStream.{ClockStream}
-use Rattle.lid_clock.specs.Parts.{row_of}
-use Rattle.lid_clock.specs.Lives.{Life, IsLife, NeedsRow, HasSunk, Holds, fired_after, sink}
+use Rattle.lid_clock.specs.Lives.{Life, NeedsRow, Holds, fired_after, sink}
 use Rattle.lid_clock.specs.States.{MayBegin, Decided, AreDecided, AreActors, AreStations, IsLatest, actors_of}
 use Rattle.lid_clock.specs.Ran.{Ran}
 use Rattle.lid_clock.specs.Cycles.{CanDecideAll, AllDecide, CanSettleAll, AllSettle}
@@ -41,9 +40,10 @@ pub latest : (l : Life) (k g : ℕ) (a : ClockActor) → Decided l k g (sink l) 
 latest l k g a decided =
     record {
       fired = λ went.
-          let goes : fired_after l (suc k) (sink l) ≡ fired_after l k (sink l) + 1 = decided.goes went in
-          ((k, sym (add-one k), goes),
-          decided.row went refl ∙ ap (λ (n : ℕ). Some (output_row l.system l.table n)) (omega arith));
+          let goes : fired_after l (suc k) (sink l) ≡ fired_after l k (sink l) + 1 = decided.goes went in (
+            (k, sym (add-one k), goes),
+            decided.row went refl ∙ ap (λ (n : ℕ). Some (output_row l.system l.table n)) (omega arith),
+          );
       rested = λ went sunk.
           let rests : fired_after l (suc k) (sink l) ≡ fired_after l k (sink l) = decided.rests went in
           let last : suc k ≡ sunk.0 + 1 = sunk.1 in

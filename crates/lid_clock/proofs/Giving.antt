@@ -1,9 +1,7 @@
 -- A run that is given its next row.
-use Rattle.std.proofs.Common.{◌≡◌, ℕ, zero, suc, ◌+◌, ◌-◌, ◌<◌, ◌≤◌, Bool, List, length, set, refl, sym, ◌∙◌, ap, subst, arith, length-set}
-use Rattle.std.specs.Prelude.{Option, Some, slice_get}
-use Rattle.std.specs.Global.{Vec}
+use Rattle.std.proofs.Common.{◌≡◌, ℕ, ◌+◌, ◌-◌, ◌<◌, ◌≤◌, Bool, List, length, set, refl, sym, ◌∙◌, ap, subst, arith, length-set}
+use Rattle.std.specs.Prelude.{Some, slice_get}
 use Rattle.std.proofs.lemmas.Option.{slice_get_within}
-use Rattle.lid_system.specs.Systems.{IsWellFormed}
 use Rattle.lid_nodes.specs.Wiring.{IsSourceOf}
 use Rattle.lid_clock.specs.declared.part.Part.{Part}
 use Rattle.lid_clock.specs.declared.part.Part.TheVariants.{Source, Shell, Mover, Sink}
@@ -11,7 +9,7 @@ use Rattle.lid_clock.specs.declared.actor.ClockActor.{ClockActor}
 use Rattle.lid_clock.specs.declared.stream.ClockStream.{ClockStream}
 use Rattle.lid_clock.specs.Parts.{IsOfSize}
 use Rattle.lid_clock.specs.Lives.{Life, IsLife, IsWide, NeedsRow, fired_after, sink}
-use Rattle.lid_clock.specs.States.{HoldsLast, IsPart, IsActor, AreActors, AreStations}
+use Rattle.lid_clock.specs.States.{IsPart, IsActor, AreActors, AreStations}
 use Rattle.lid_clock.specs.Ran.{Ran}
 use Rattle.lid_clock.specs.Cycles.{CanTake, Takes}
 use Rattle.lid_clock.proofs.Pointwise.{set_here, set_there}
@@ -28,13 +26,15 @@ can_take l g fired a row actor wide = part_can_take l g fired _ _ a.part row act
 
 -- the source of a life takes the next row
 part_given : (l : Life) (g fired : ℕ) (old new : Part) (row : List Bool) → IsLife l → IsPart l g 0 fired old → g ≡ fired + 1 → slice_get l.input g ≡ Some row → Takes old row new → IsPart l (g + 1) 0 fired new
-part_given l g fired (Source node line) (Source now given) row life is lacks at takes =
-    (refl, subst (IsSourceOf l.system) (sym takes.0) is.1,
-    λ some. record {
-      next = omega arith;
-      near = omega arith;
-      is = ap (slice_get l.input) (omega arith) ∙ at ∙ ap (λ (xs : List Bool). Some xs) (sym takes.1);
-    })
+part_given l g fired (Source node line) (Source now given) row life is lacks at takes = (
+  refl,
+  subst (IsSourceOf l.system) (sym takes.0) is.1,
+  λ some. record {
+    next = omega arith;
+    near = omega arith;
+    is = ap (slice_get l.input) (omega arith) ∙ at ∙ ap (λ (xs : List Bool). Some xs) (sym takes.1);
+  },
+)
 part_given l g fired (Source node line) _ row life is lacks at takes = absurd takes
 part_given l g fired (Shell node) new row life is lacks at takes = absurd (omega (arith, is.0))
 part_given l g fired Mover new row life is lacks at takes = let least : 2 ≤ length l.system.nodes = life.system.least in let past : length l.system.nodes ≤ 0 = is in absurd (omega arith)
@@ -61,13 +61,13 @@ source_given l g fired old new row life actor lacks at can takes rest =
       capped = ap (λ (a : ClockActor). a.cap) rest ∙ actor.capped;
       fired_is = ap (λ (a : ClockActor). a.fired) rest ∙ actor.fired_is;
       places = record {
-            taken = taken ∙ actor.places.taken ∙ sym (ap (λ (a : ClockActor). length a.ins.items) rest);
-            tokens = tokens ∙ actor.places.tokens ∙ sym (ap (λ (a : ClockActor). length a.outs.items) rest);
-            size =
-                subst (λ (n : ℕ). IsOfSize new.part n (length new.tokens.items)) (sym taken)
-                (subst (λ (n : ℕ). IsOfSize new.part (length old.taken.items) n) (sym tokens)
-                (size_given old.part new.part row (length old.taken.items) (length old.tokens.items) actor.places.size can takes));
-          };
+        taken = taken ∙ actor.places.taken ∙ sym (ap (λ (a : ClockActor). length a.ins.items) rest);
+        tokens = tokens ∙ actor.places.tokens ∙ sym (ap (λ (a : ClockActor). length a.outs.items) rest);
+        size =
+            subst (λ (n : ℕ). IsOfSize new.part n (length new.tokens.items)) (sym taken)
+            (subst (λ (n : ℕ). IsOfSize new.part (length old.taken.items) n) (sym tokens)
+            (size_given old.part new.part row (length old.taken.items) (length old.tokens.items) actor.places.size can takes));
+      };
       is = part_given l g fired old.part new.part row life actor.is lacks at takes;
     }
 

@@ -1,18 +1,16 @@
 -- A life with another hold is as that life was, before the holds differ.
-use Rattle.std.proofs.Common.{◌≡◌, ℕ, zero, suc, ◌+◌, ◌<◌, ◌≤◌, ◌==◌, Bool, true, false, cond, List, length, refl, sym, ◌∙◌, ap, subst, arith, eq-eqb, ne_eqb}
+use Rattle.std.proofs.Common.{◌≡◌, ℕ, zero, suc, ◌+◌, ◌<◌, ◌==◌, Bool, cond, List, length, refl, sym, ◌∙◌, ap, subst, arith, eq-eqb, ne_eqb}
 use Rattle.std.proofs.Math.Path.{fun_ext}
-use Rattle.std.specs.Prelude.{Option, Some, slice_get}
 use Rattle.lid_graph.specs.Firings.{Hold, Counts, firings, least_into}
 use Rattle.lid_graph.specs.declared.graph.Edge.{Edge}
 use Rattle.lid_stations.specs.Markings.{marking}
 use Rattle.lid_runs.specs.Runs.{cap_of, in_count, out_count}
 use Rattle.lid_stations.specs.Placements.{links_of}
-use Rattle.lid_stations.specs.Stations.{filler, drainer}
 use Rattle.lid_clock.specs.declared.part.Part.{Part}
 use Rattle.lid_clock.specs.declared.part.Part.TheVariants.{Source, Shell, Mover, Sink}
 use Rattle.lid_clock.specs.declared.actor.ClockActor.{ClockActor}
 use Rattle.lid_clock.specs.declared.station.ClockStation.{ClockStation}
-use Rattle.lid_clock.specs.Lives.{Life, IsLife, NeedsRow, Holds, fired_after, sink}
+use Rattle.lid_clock.specs.Lives.{Life, IsLife, Holds, fired_after, sink}
 use Rattle.lid_clock.specs.States.{HoldsLast, IsPart, IsActor, AreActors, IsStation, AreStations, MayBegin, put_after, taken_after}
 use Rattle.lid_clock.specs.Cycles.{held_at}
 

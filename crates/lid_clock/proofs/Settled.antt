@@ -1,7 +1,6 @@
 -- Stations of a life that settle.
-use Rattle.std.proofs.Common.{◌≡◌, ℕ, suc, ◌+◌, ◌-◌, ◌<◌, ◌≤◌, ◌%◌, ◌^◌, ◌⊎◌, inl, inr, Bool, true, false, List, length, get_or, set, refl, sym, ◌∙◌, ap, subst, arith, length-set, get_or-set_same, get_or-set_other, lt_of_not-le}
-use Rattle.std.specs.Prelude.{Option, Some, slice_get}
-use Rattle.std.proofs.lemmas.Option.{slice_get_within, get_or_from_slice_get}
+use Rattle.std.proofs.Common.{◌≡◌, ℕ, suc, ◌+◌, ◌<◌, ◌≤◌, ◌%◌, ◌^◌, inl, inr, Bool, true, false, List, length, get_or, set, refl, sym, ◌∙◌, ap, subst, arith, length-set, get_or-set_same, get_or-set_other, lt_of_not-le}
+use Rattle.std.specs.Prelude.{Some, slice_get}
 use Rattle.lid_stations.specs.Placements.{links_of}
 use Rattle.lid_stations.specs.Stations.{filler, drainer, capacity}
 use Rattle.lid_stations.specs.Laws.{StandsBetween}
@@ -195,12 +194,12 @@ token_of_drainer r l k g station x a life there is grows decided went =
 -- the count of a filler never falls
 pub grows : (l : Life) (k g station put taken : ℕ) (x : ClockStation) (a : ClockActor) → IsStation l station put taken x → Decided l k g x.filler a → put_after l k station ≤ put_after l (suc k) station
 grows l k g station put taken x a is decided = more a.went refl where
-    more : (b : Bool) → a.went ≡ b → put_after l k station ≤ put_after l (suc k) station
-    more true went = let fired = filler_fired l k g station put taken x a is decided went in omega arith
-    more false went =
-        let same : fired_after l (suc k) (filler (links_of l.system) l.placement station) ≡ fired_after l k (filler (links_of l.system) l.placement station) =
-        subst (λ (v : ℕ). fired_after l (suc k) v ≡ fired_after l k v) is.filled (decided.rests went) in
-        omega arith
+  more : (b : Bool) → a.went ≡ b → put_after l k station ≤ put_after l (suc k) station
+  more true went = let fired = filler_fired l k g station put taken x a is decided went in omega arith
+  more false went =
+      let same : fired_after l (suc k) (filler (links_of l.system) l.placement station) ≡ fired_after l k (filler (links_of l.system) l.placement station) =
+      subst (λ (v : ℕ). fired_after l (suc k) v ≡ fired_after l k v) is.filled (decided.rests went) in
+      omega arith
 
 -- a station has settled that loses its oldest token
 pub settles : (l : Life) (k g station : ℕ) (old new : ClockStation) (a : ClockActor) → IsStation l station (put_after l (suc k) station) (taken_after l k station) old → Decided l k g old.drainer a → a.went ≡ true → KeepsEnds old new

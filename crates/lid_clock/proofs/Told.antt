@@ -1,6 +1,6 @@
 -- What the calls on a run answer.
-use Rattle.std.proofs.Common.{◌≡◌, ◌↔◌, ℕ, ◌+◌, ◌-◌, ◌<◌, ◌≤◌, ◌==◌, Bool, true, false, cond, ltb, nat_lt, List, length, refl, sym, ◌∙◌, ap, subst, arith, lt-ltb}
-use Rattle.std.specs.Prelude.{Option, Some, None, slice_get}
+use Rattle.std.proofs.Common.{◌≡◌, ◌↔◌, ℕ, ◌+◌, ◌-◌, ◌<◌, ◌==◌, Bool, true, false, cond, ltb, nat_lt, length, refl, sym, ◌∙◌, ap, subst, arith, lt-ltb}
+use Rattle.std.specs.Prelude.{Some, None, slice_get}
 use Rattle.std.proofs.lemmas.Bool.{ltb-true}
 use Rattle.lid_base.specs.declared.runs.Shown.{Shown}
 use Rattle.lid_stations.specs.Stations.{capacity}
@@ -10,8 +10,8 @@ use Rattle.lid_clock.specs.declared.stream.ClockStream.{ClockStream}
 use Rattle.lid_clock.specs.Rings.{token_in}
 use Rattle.lid_runs.specs.Views.{shown_as}
 use Rattle.lid_clock.specs.Parts.{row_of}
-use Rattle.lid_clock.specs.Lives.{Life, NeedsRow, IsBelow, IsLast, fired_after, shown_after, sink}
-use Rattle.lid_clock.specs.States.{token_of_life, actors_of, stations_of, IsStation, IsActor, IsLatest}
+use Rattle.lid_clock.specs.Lives.{Life, NeedsRow, IsBelow, IsLast, fired_after, sink}
+use Rattle.lid_clock.specs.States.{token_of_life, actors_of, stations_of, IsStation, IsLatest}
 use Rattle.lid_clock.specs.Ran.{Ran}
 
 -- the actors of a life are those of its run, and so are the stations
@@ -38,9 +38,10 @@ pub needs_is : (l : Life) (k g : ℕ) (x : ClockStream) (a : ClockActor) (b : Bo
 needs_is l k g x a b ran there is_so so =
     let is : a.fired ≡ fired_after l k 0 = fired_is l k g 0 x a ran there in
     let rows : x.rows ≡ length l.input = ran.rows_are in
-    let given : x.given ≡ g = ran.given_is in
-    ((λ e. let lacks = (is_so e).0 in let more = (is_so e).1 in record { goes_on = omega arith; lacks = omega arith }),
-    λ needs. let more : fired_after l k 0 + 1 < length l.input = needs.goes_on in let lacks : g ≡ fired_after l k 0 + 1 = needs.lacks in so (omega arith) (omega arith))
+    let given : x.given ≡ g = ran.given_is in (
+      (λ e. let lacks = (is_so e).0 in let more = (is_so e).1 in record { goes_on = omega arith; lacks = omega arith }),
+      λ needs. let more : fired_after l k 0 + 1 < length l.input = needs.goes_on in let lacks : g ≡ fired_after l k 0 + 1 = needs.lacks in so (omega arith) (omega arith),
+    )
 
 -- the row of the last cycle
 last_by : (l : Life) (k : ℕ) (a : ClockActor) (b : Bool) → a.went ≡ b → IsLatest l k a → IsLast l k (cond b (row_of a.part) None)

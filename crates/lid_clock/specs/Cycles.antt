@@ -1,11 +1,11 @@
 -- What the calls on a run ask, and what a cycle does to all actors and stations.
-use Rattle.std.specs.Prelude.{◌≡◌, ℕ, suc, ◌+◌, ◌<◌, ◌==◌, Bool, false, if◌then◌else◌, List, length}
+use Rattle.std.specs.Prelude.{◌≡◌, ℕ, suc, ◌==◌, Bool, false, if◌then◌else◌, List, length}
 use Rattle.lid_clock.specs.declared.part.Part.{Part}
-use Rattle.lid_clock.specs.declared.part.Part.TheVariants.{Source, Shell, Mover, Sink}
+use Rattle.lid_clock.specs.declared.part.Part.TheVariants.{Source}
 use Rattle.lid_clock.specs.declared.actor.ClockActor.{ClockActor}
 use Rattle.lid_clock.specs.declared.station.ClockStation.{ClockStation}
 use Rattle.lid_clock.specs.Lives.{Life, IsLife, Holds, sink}
-use Rattle.lid_clock.specs.States.{AreActors, AreStations, AreDecided, MayBegin, Decides, Settles}
+use Rattle.lid_clock.specs.States.{AreActors, AreStations, AreDecided, MayBegin}
 
 -- whether an actor is held where the source or the sink may be
 abbrev pub held_at : ℕ → Bool → Bool → ℕ → Bool

@@ -1,5 +1,5 @@
 -- What stands in a clocked run after so many cycles and given rows of a life.
-use Rattle.std.specs.Prelude.{◌≡◌, ℕ, suc, ◌+◌, ◌-◌, ◌<◌, ◌≤◌, Bool, true, false, List, length, get_or, Option, Some, None, slice_get, ⊤}
+use Rattle.std.specs.Prelude.{◌≡◌, ℕ, suc, ◌+◌, ◌-◌, ◌<◌, ◌≤◌, Bool, true, false, List, length, get_or, Some, slice_get}
 use Rattle.lid_system.specs.Streams.{output_row}
 use Rattle.lid_nodes.specs.Wiring.{IsSourceOf, IsShellOf, IsSinkOf}
 use Rattle.lid_stations.specs.Placements.{links_of, station_count}
@@ -12,7 +12,7 @@ use Rattle.lid_clock.specs.declared.station.ClockStation.{ClockStation}
 use Rattle.lid_clock.specs.Rings.{token_in}
 use Rattle.lid_clock.specs.Parts.{row_of}
 use Rattle.lid_clock.specs.Actors.{HasPlaces}
-use Rattle.lid_clock.specs.Lives.{Life, IsLife, fired_after, sink, NeedsRow, HasSunk, Holds}
+use Rattle.lid_clock.specs.Lives.{Life, IsLife, fired_after, sink, NeedsRow, HasSunk}
 
 -- the stations that an actor of a life drains, and those that it fills
 abbrev pub ins_of : Life → ℕ → List ℕ

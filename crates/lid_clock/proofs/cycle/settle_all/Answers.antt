@@ -1,5 +1,5 @@
 -- Each station settles once, beside the actors after their decisions.
-use Rattle.std.proofs.Common.{◌≡◌, ◌<◌, ◌≤◌, length, refl, sym, ◌∙◌, ap, subst, arith}
+use Rattle.std.proofs.Common.{◌≡◌, ◌<◌, length, sym, ◌∙◌, subst, arith}
 use Rattle.std.proofs.lemmas.Option.{slice_get_within}
 use Rattle.lid_clock.specs.declared.station.ClockStation.{ClockStation}
 use Rattle.lid_clock.specs.States.{CanSettle, Settles, stations_of}

@@ -1,5 +1,5 @@
 -- A station gains the token that stands in its slot of its filler's tokens, where that fired.
-use Rattle.std.proofs.Common.{◌≡◌, ◌<◌, length, refl, sym, ◌∙◌, arith}
+use Rattle.std.proofs.Common.{sym, arith}
 use Rattle.std.proofs.lemmas.Option.{get_or_from_slice_get}
 use Rattle.lid_clock.proofs.Elements.{is_there}
 use Rattle.lid_clock.proofs.Settled.{filler_there, slot_there, room_of, few_put, gains, gains_none}

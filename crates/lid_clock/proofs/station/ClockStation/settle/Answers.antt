@@ -1,8 +1,6 @@
 -- A station that has gained its filler's token loses its oldest one where its drainer fired.
-use Rattle.std.proofs.Common.{◌≡◌, Bool, refl, sym, ◌∙◌, ap}
-use Rattle.lid_clock.specs.declared.actor.ClockActor.{ClockActor}
 use Rattle.lid_clock.proofs.Elements.{is_there}
-use Rattle.lid_clock.proofs.Settled.{filler_there, drainer_there, token_of_drainer, grows, settles, settles_as_is, some_filler}
+use Rattle.lid_clock.proofs.Settled.{drainer_there, token_of_drainer, grows, settles, settles_as_is, some_filler}
 use Rattle.lid_clock.proofs.station.ClockStation.settle.Goals as goal
 
 pub bounds-actors-self : goal.bounds-actors-self

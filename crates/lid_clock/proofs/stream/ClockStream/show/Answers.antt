@@ -1,5 +1,5 @@
 -- A station shows what stands in it.
-use Rattle.std.proofs.Common.{◌≡◌, ◌<◌, length, ◌∙◌, sym, subst, arith}
+use Rattle.std.proofs.Common.{◌∙◌, arith}
 use Rattle.lid_clock.proofs.Elements.{is_there}
 use Rattle.lid_clock.proofs.Told.{shown_is, station_there}
 use Rattle.lid_clock.proofs.stream.ClockStream.show.Goals as goal
