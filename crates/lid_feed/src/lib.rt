@@ -1,0 +1,11 @@
+//! Rows texts that are fetched piece by piece: how many rows one has, and its rows one by one.
+#![tactic(auto)]
+
+mod counting;
+mod fault;
+mod feed;
+mod text;
+
+pub use counting::count_rows;
+pub use fault::FeedFault;
+pub use feed::RowFeed;
