@@ -1,0 +1,1 @@
+-- Rows that are given one by one.
