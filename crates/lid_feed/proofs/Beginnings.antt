@@ -17,7 +17,7 @@ use Rattle.lid_texts.specs.RowsWalk.{joined, alone, if_logical, begun_of, with_l
 use Rattle.lid_texts.proofs.Splits.{ended_are, last_part, some_parts, ended_more, logical_more, whole_last}
 use Rattle.lid_texts.proofs.Faulted.{fine_of_none, rows_fine, rows_more}
 
-bits_of : Result Rows VecFault → List (List Bool)
+abbrev bits_of : Result Rows VecFault → List (List Bool)
 bits_of (Ok rows) = rows.bits
 bits_of (Err fault) = []
 
