@@ -1,5 +1,6 @@
 -- Rows that become known of a text, and are given one by one.
 use Rattle.std.proofs.Common.{◌≡◌, ℕ, zero, suc, ◌+◌, ◌<◌, ◌≤◌, Bool, List, [], ◌∷◌, ◌++◌, length, take, drop, reverse, Option, Some, None, Result, Ok, Err, refl, sym, ap, ◌∙◌, append_assoc, subst, arith}
+use Rattle.std.specs.Prelude.{◌↔◌, ◌==◌, true, false, is_some, IsSome}
 use Rattle.std.specs.Option.{option_to_list}
 use Rattle.std.specs.List.{AllByRecursion}
 use Rattle.std.proofs.Math.Seq.{take-append_seam}
@@ -14,6 +15,24 @@ use Rattle.lid_feed.specs.declared.feed.RowFeed.{RowFeed}
 use Rattle.lid_feed.specs.Feeds.{most_bytes, IsText, AreAll, HasRows, AreFirst}
 use Rattle.lid_feed.specs.Fetching.{HasFetched, Knows, HasGiven, GivesRow, GivesNext}
 use Rattle.lid_feed.proofs.Beginnings.{same_bits, rows_go_on, reading_begins, AreWide, ended_wide, reading_wide}
+
+pub none_of : {A : Type 0} (o : Option A) → is_some o ≡ false → o ≡ None
+none_of None e = refl
+none_of (Some a) e = absurd (let f : true ≡ false = e in cc)
+
+pub some_of : {A : Type 0} (o : Option A) → is_some o ≡ true → (a : A) × (o ≡ Some a)
+some_of None e = absurd (let f : false ≡ true = e in cc)
+some_of (Some a) e = (a, refl)
+
+pub nothing_held : {A : Type 0} (xs : List A) → true ≡ (length xs == 0) → xs ≡ []
+nothing_held [] e = refl
+nothing_held (x ∷ xs) e = absurd (let h : (length (x ∷ xs) == 0) ≡ false = grind (arith) in let g : true ≡ false = e ∙ h in cc)
+
+-- nothing was taken, so nothing was there
+pub nothing_taken : {A : Type 0} (o : Option A) (n : ℕ) → IsSome o ↔ (0 < n) → o ≡ None → true ≡ (n == 0)
+nothing_taken None zero e none = refl
+nothing_taken None (suc n) e none = absurd (let f : false ≡ true = e.1 (omega arith) in cc)
+nothing_taken (Some a) n e none = absurd (let f : Some a ≡ None = none in cc)
 
 -- what holds of all items holds of one in the middle
 all_middle : {A : Type 0} (P : A → Type 0) (xs : List A) (x : A) (ys : List A) → AllByRecursion P (xs ++ x ∷ ys) → P x
