@@ -1,6 +1,6 @@
 -- The rows of the lines that have ended: they come first in what a longer text stands for, and each is
 -- as wide as the columns.
-use Rattle.std.proofs.Common.{◌≡◌, ℕ, zero, suc, ◌+◌, ◌≤◌, ◌*◌, ◌==◌, nat_lt, Bool, true, false, not, ◌||◌, cond, if◌then◌else◌, List, [], ◌∷◌, ◌++◌, length, map, take, drop, filter, Option, Some, None, Result, Ok, Err, refl, sym, ap, ◌∙◌, append_assoc, subst, arith}
+use Rattle.std.proofs.Common.{◌≡◌, ℕ, suc, ◌+◌, ◌*◌, ◌==◌, nat_lt, Bool, true, false, not, ◌||◌, cond, if◌then◌else◌, List, [], ◌∷◌, ◌++◌, length, map, take, drop, filter, Option, Some, None, Result, Ok, Err, refl, sym, ap, ◌∙◌, subst, arith}
 use borrow.Author.Tests.{eqb-true}
 use Rattle.std.specs.Prelude.{is_none}
 use Rattle.std.specs.List.{AllByRecursion, concat, enumerate_from, prefix_len, slice_split}
@@ -11,9 +11,9 @@ use Rattle.lid_base.specs.Lines.{is_newline, joins_of, physical_lines}
 use Rattle.lid_texts.specs.declared.rows.Rows.{Rows}
 use Rattle.lid_texts.specs.declared.rows.VecFault.{VecFault}
 use Rattle.lid_texts.specs.declared.rows.VecFault.TheVariants.{Limit}
-use Rattle.lid_texts.specs.Rows.{RowsLine, rows_line, has_words, has_long_word, row_width, header_fault, row_fault, row_bits, line_faults, lines_fault, first_some, ok_unless, bits_reading, under_columns, rows_lines, rows_reading}
+use Rattle.lid_texts.specs.Rows.{RowsLine, rows_line, has_words, has_long_word, row_width, header_fault, row_fault, row_bits, line_faults, lines_fault, ok_unless, bits_reading, under_columns, rows_lines, rows_reading}
 use Rattle.lid_texts.specs.Scans.{ended_lines, logical_of, sound_rows, ended_rows}
-use Rattle.lid_texts.specs.RowsWalk.{joined, alone, if_logical, begun_of, with_last}
+use Rattle.lid_texts.specs.RowsWalk.{joined, alone, if_logical, begun_of}
 use Rattle.lid_texts.proofs.Splits.{ended_are, last_part, some_parts, ended_more, logical_more, whole_last}
 use Rattle.lid_texts.proofs.Faulted.{fine_of_none, rows_fine, rows_more}
 
@@ -58,8 +58,7 @@ module _ (columns : List (List ℕ)) (outs : ℕ) where
   unfolding rows_lines physical_lines
   whole_lines bytes =
       let own = last_part (slice_split is_newline bytes) (some_parts bytes) in
-      let ended = ended_are bytes own.front own.last own.is in
-      (
+      let ended = ended_are bytes own.front own.last own.is in (
         if_logical (joined (begun_of own.front) (alone (length own.front + 1) own.last)),
         ap (λ (ps : List (List ℕ)). filter has_words (map rows_line (joins_of (enumerate_from 1 ps)))) own.is
             ∙ whole_last own.front own.last

@@ -1,5 +1,5 @@
 -- Rows that become known of a text, and are given one by one.
-use Rattle.std.proofs.Common.{◌≡◌, ℕ, zero, suc, ◌+◌, ◌<◌, ◌≤◌, Bool, List, [], ◌∷◌, ◌++◌, length, take, drop, reverse, Option, Some, None, Result, Ok, Err, refl, sym, ap, ◌∙◌, append_assoc, subst, arith}
+use Rattle.std.proofs.Common.{◌≡◌, ℕ, zero, suc, ◌+◌, ◌<◌, ◌≤◌, Bool, List, [], ◌∷◌, ◌++◌, length, take, drop, reverse, Option, Some, None, Result, Ok, refl, sym, ap, ◌∙◌, append_assoc, subst, arith}
 use Rattle.std.specs.Prelude.{◌↔◌, ◌==◌, true, false, is_some, IsSome}
 use Rattle.std.specs.Option.{option_to_list}
 use Rattle.std.specs.List.{AllByRecursion}
@@ -12,7 +12,7 @@ use Rattle.lid_texts.specs.Scans.{ended_rows}
 use Rattle.lid_texts.proofs.Limits.{reading_within}
 use Rattle.lid_feed.specs.declared.text.TextScan.{TextScan}
 use Rattle.lid_feed.specs.declared.feed.RowFeed.{RowFeed}
-use Rattle.lid_feed.specs.Feeds.{most_bytes, IsText, AreAll, HasRows, AreFirst}
+use Rattle.lid_feed.specs.Feeds.{most_bytes, AreAll, HasRows, AreFirst}
 use Rattle.lid_feed.specs.Fetching.{HasFetched, Knows, HasGiven, GivesRow, GivesNext}
 use Rattle.lid_feed.proofs.Beginnings.{same_bits, rows_go_on, reading_begins, AreWide, ended_wide, reading_wide}
 

@@ -1,10 +1,9 @@
 -- A text that is taken piece by piece.
-use Rattle.std.proofs.Common.{◌≡◌, ◌⊎◌, ℕ, zero, suc, ◌+◌, ◌<◌, ◌≤◌, nat_lt, Bool, true, false, List, [], ◌∷◌, ◌++◌, length, take, Option, Some, None, Result, Ok, Err, OnOk, IfErr, inl, inr, refl, sym, ap, ◌∙◌, append_assoc, length-append, subst, arith}
+use Rattle.std.proofs.Common.{◌≡◌, ◌⊎◌, ℕ, zero, suc, ◌+◌, ◌<◌, ◌≤◌, nat_lt, Bool, true, false, List, [], ◌++◌, length, take, Option, Some, None, Result, Err, OnOk, inl, inr, refl, sym, ap, ◌∙◌, append_assoc, length-append, subst, arith}
 use Rattle.std.specs.Option.{IfSome}
 use Rattle.std.proofs.lemmas.List.{append-nil}
 use Rattle.lid_base.proofs.Results.{on_ok}
-use Rattle.lid_io.specs.Transfer.{FetchedNext}
-use Rattle.lid_io.proofs.Fetches.{IsFront, IsStart, start_more, start_ended}
+use Rattle.lid_io.proofs.Fetches.{IsStart, start_more, start_ended}
 use Rattle.lid_io.specs.declared.fetching.FetchFault.{FetchFault}
 use Rattle.lid_io.specs.declared.fetching.FetchFault.TheVariants as fetching
 use Rattle.lid_texts.specs.declared.rows.VecFault.{VecFault}
@@ -13,7 +12,6 @@ use Rattle.lid_texts.specs.Rows.{rows_reading}
 use Rattle.lid_texts.specs.Scans.{ended_rows, logical_of, sound_rows}
 use Rattle.lid_texts.specs.Scanned.{HasRead, Gives}
 use Rattle.lid_texts.proofs.Splits.{ended_are}
-use Rattle.lid_feed.specs.declared.fault.FeedFault.{FeedFault}
 use Rattle.lid_feed.specs.declared.text.TextScan.{TextScan}
 use Rattle.lid_feed.specs.Feeds.{most_bytes, IsText, IsRefused, IfRefused}
 use Rattle.lid_feed.specs.Fetching.{BeginsFile, ScansPiece, HasFetched, TakesPiece, Knows, KnowsMore, fetch_fault, text_fault}

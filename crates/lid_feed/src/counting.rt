@@ -11,11 +11,7 @@ use lid_base::{Name, Shelf};
 use std::alloc::Global;
 
 /// Takes a text to its end, and answers how many rows it has.
-fn count_all<S: Shelf>(
-    text: &mut TextScan,
-    shelf: &mut S,
-    name: &str,
-) -> Result<u64, FeedFault>
+fn count_all<S: Shelf>(text: &mut TextScan, shelf: &mut S, name: &str) -> Result<u64, FeedFault>
     ensures counted { (columns : List (List ℕ)) (outs : ℕ) (known : List (List Bool)) → Knows (S.held shelf.old name.now) columns outs text.old text.old.count known
         → IfOk result (HasRows (S.held shelf.old name.now) columns outs) }
     ensures refused { (columns : List (List ℕ)) (outs : ℕ) (known : List (List Bool)) → Knows (S.held shelf.old name.now) columns outs text.old text.old.count known

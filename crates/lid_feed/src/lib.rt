@@ -4,8 +4,10 @@
 mod counting;
 mod fault;
 mod feed;
+mod laws;
 mod text;
 
 pub use counting::count_rows;
 pub use fault::FeedFault;
 pub use feed::RowFeed;
+pub use laws::told_rows_are_read_again;

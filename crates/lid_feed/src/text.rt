@@ -62,11 +62,7 @@ impl TextScan {
     ///
     /// # Errors
     /// Want of memory.
-    pub(crate) fn start(
-        alloc: Global,
-        columns: &[Name],
-        outs: u32,
-    ) -> Result<TextScan, AllocError>
+    pub(crate) fn start(alloc: Global, columns: &[Name], outs: u32) -> Result<TextScan, AllocError>
         ensures knows { (held : Option (List ℕ)) → IfOk result (λ text. Knows held columns.now outs text text.count []) }
         ensures goes { IfOk result (λ text. text.count ≡ None) }
     {

@@ -19,15 +19,15 @@ pub returns-clause-given : goal.returns-clause-given
 returns-clause-given g c = λ columns outs given has.
     gives_next (g.S.Shelf.held c.args.shelf.now c.args.self.now.name) columns outs c.loop-self.self _ given c.pop.result refl c.pop.ensures.items
     (λ none.
-        let len : length c.as_slice.result.now ≡ vec_len c.loop-self.self.rows = c.as_slice.ensures.len in
-        elim c.loop-self-test.branch [
-        | then-loop-self-test+else-is_none w ↦ (
-            let some = some_of c.loop-self.self.text.count w.if-is_none.ensures in
-            (some.0, some.1, sym c.as_slice.ensures.value ∙ nothing_held c.as_slice.result.now w.loop-self-test.ensures))
-        | else-loop-self-test w ↦ absurd (
-            let empty : true ≡ (length c.as_slice.result.now == 0) = subst (λ (n : ℕ). true ≡ (n == 0)) (sym len) (nothing_taken c.pop.result (vec_len c.loop-self.self.rows) c.pop.ensures.variant none) in
-            let other : false ≡ (length c.as_slice.result.now == 0) = w.loop-self-test.ensures in
-            let clash : true ≡ false = empty ∙ sym other in
-            cc)
-        ])
+    let len : length c.as_slice.result.now ≡ vec_len c.loop-self.self.rows = c.as_slice.ensures.len in
+    elim c.loop-self-test.branch [
+      | then-loop-self-test+else-is_none w ↦ (
+          let some = some_of c.loop-self.self.text.count w.if-is_none.ensures in
+          (some.0, some.1, sym c.as_slice.ensures.value ∙ nothing_held c.as_slice.result.now w.loop-self-test.ensures))
+      | else-loop-self-test w ↦ absurd (
+          let empty : true ≡ (length c.as_slice.result.now == 0) = subst (λ (n : ℕ). true ≡ (n == 0)) (sym len) (nothing_taken c.pop.result (vec_len c.loop-self.self.rows) c.pop.ensures.variant none) in
+          let other : false ≡ (length c.as_slice.result.now == 0) = w.loop-self-test.ensures in
+          let clash : true ≡ false = empty ∙ sym other in
+          cc)
+    ])
     (c.loop-self.invariant.given columns outs given has)
