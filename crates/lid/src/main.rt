@@ -1,13 +1,15 @@
 //! lid: latency-insensitive design from BLIF netlists (Berkeley Logic Interchange Format).
 //!
 //! `lid check NET` prints the nodes and channels of a netlist that is accepted, `lid strict NET VEC` its
-//! strict outputs for rows of input bits, `lid place NET --wires FILE --reach L` the relay stations that
-//! long wires need, `lid rate NET` a certificate of the throughput, and `lid verify NET CERT` what a
-//! certificate shows.
+//! strict outputs for rows of input bits, `lid clock NET VEC` those of the wrapped design with its cycles,
+//! `lid place NET --wires FILE --reach L` the relay stations that long wires need, `lid rate NET` a
+//! certificate of the throughput, and `lid verify NET CERT` what a certificate shows.
 #![tactic(auto)]
 
 #[cfg(test)]
 mod check_tests;
+#[cfg(test)]
+mod clock_tests;
 #[cfg(test)]
 mod net_tests;
 #[cfg(test)]

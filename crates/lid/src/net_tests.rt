@@ -129,7 +129,7 @@ fn each_model_can_be_the_root(rt: HostRuntime) -> Result<(), Fail> {
 }
 
 /// The rows 0 to 99, as eight bits each.
-fn counted_rows(alloc: Global) -> Result<String, Fail> {
+pub fn counted_rows(alloc: Global) -> Result<String, Fail> {
     let mut rows = String::from_str(alloc, "x0 x1 x2 x3 x4 x5 x6 x7\n")?;
     for t in 0..100_u32 {
         for j in 0..8_u32 {
@@ -141,7 +141,7 @@ fn counted_rows(alloc: Global) -> Result<String, Fail> {
 }
 
 /// The outputs of the pipeline for them: four rows late, and the first bit fed back.
-fn late_rows(alloc: Global) -> Result<String, Fail> {
+pub fn late_rows(alloc: Global) -> Result<String, Fail> {
     let mut outs = String::from_str(alloc, "y0 y1 y2 y3 y4 y5 y6 y7\n")?;
     for t in 0..100_u32 {
         let fed_back = u32::from(t % 2 == 1 && (t / 4) % 2 == 1);

@@ -10,7 +10,7 @@ use std::test::Fail;
 use std::thread::Threads;
 
 /// The register of the first example.
-const REGISTER: &str = ".model one\n.inputs d\n.outputs q\n.latch d q 0\n.end\n";
+pub const REGISTER: &str = ".model one\n.inputs d\n.outputs q\n.latch d q 0\n.end\n";
 
 /// What a run left: its status, and what it wrote.
 #[derive(Drop)]
@@ -97,7 +97,7 @@ fn sink_of(alloc: Global, writes: &[u64]) -> Result<MemSink, AllocError> {
 }
 
 /// Runs the words over a shelf in memory.
-fn run_over<R: Threads + AllocGlobal + Sync, S: Shelf>(
+pub fn run_over<R: Threads + AllocGlobal + Sync, S: Shelf>(
     rt: &R,
     words: &[&str],
     shelf: &mut S,
@@ -140,7 +140,7 @@ fn is_left(ran: &Ran, left: Left<'_>) -> bool {
 }
 
 /// A run left this.
-fn expect_left(rt: &impl Abort, ran: &Ran, left: Left<'_>, case: &str) {
+pub fn expect_left(rt: &impl Abort, ran: &Ran, left: Left<'_>, case: &str) {
     assert!(rt; is_left(ran, left), "another status or other texts: {case}");
 }
 
@@ -420,7 +420,7 @@ fn a_failing_err_changes_no_status(rt: HostRuntime) -> Result<(), Fail> {
 }
 
 /// A rows text of so many rows of one 0.
-fn zeros(alloc: Global, rows: u32) -> Result<String, AllocError> {
+pub fn zeros(alloc: Global, rows: u32) -> Result<String, AllocError> {
     let mut text = String::from_str(alloc, "d\n")?;
     for _ in 0..rows {
         text.push_str("0\n")?;

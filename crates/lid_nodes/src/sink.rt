@@ -1,31 +1,34 @@
 //! The sink.
 
-ghost use Rattle.std.specs.Prelude.{◌≡◌, ◌<◌, ◌+◌, ◌-◌, ℕ, Bool, List, length, map, IfOk, Some, slice_get};
+ghost use Rattle.std.specs.Prelude.{◌≡◌, ◌<◌, ◌-◌, ℕ, Bool, List, length, map, Some, slice_get, IfOk};
 ghost use Rattle.lid_design.specs.Network.{Table};
 ghost use Rattle.lid_system.specs.declared.System.{System};
 ghost use Rattle.lid_system.specs.Systems.{Point, IsWellFormed};
 ghost use Rattle.lid_system.specs.Tables.{IsTable};
 ghost use Rattle.lid_system.specs.Streams.{output_row};
-ghost use Rattle.lid_nodes.specs.Nodes.{tokens_to, tokens_from};
+ghost use Rattle.lid_nodes.specs.Nodes.{tokens_to};
 ghost use Rattle.lid_nodes.specs.Wiring.{IsSinkOf};
 
-use crate::wires::Never;
-use lid_system::System;
+use crate::wires::{Inputs, inputs_of, read_all};
+use lid_system::{Node, System, shells_stand_between_source_and_sink};
 use std::alloc::{AllocError, Global};
 use std::marker::Model;
 
 /// The sink of a system: it makes rows of tokens.
 #[derive(Drop)]
 pub struct SinkNode {
-    never: Never,
+    inputs: Inputs,
 }
 
 impl Model for SinkNode {
-    ghost use Rattle.lid_nodes.specs.Wiring.{SinkView};
+    ghost use Rattle.std.specs.List.{AllByRecursion};
+    ghost use Rattle.lid_nodes.specs.Wiring.{SinkView, IsReadOf};
 
     ghost Value = { SinkView };
 
-    ghost view = { λ a. elim a.never [ ] };
+    ghost view = { λ p. record { taken = p.inputs.taken; reads = p.inputs.reads.items } };
+
+    ghost invariant = { λ p. AllByRecursion (IsReadOf p.inputs.taken) p.inputs.reads.items };
 }
 
 impl SinkNode {
@@ -34,14 +37,23 @@ impl SinkNode {
         requires { IsWellFormed system.now }
         ensures { IfOk result (λ x. IsSinkOf system.now (length system.now.nodes - 1) x) }
     {
-        Err(AllocError)
+        shells_stand_between_source_and_sink();
+        let last = system.nodes.len() - 1;
+        match &system.nodes.as_slice()[last] {
+            Node::Sink { ins, .. } => {
+                let channels = system.channels.as_slice();
+                let inputs = inputs_of(alloc, channels, last as u32, ins.as_slice())?;
+                Ok(SinkNode { inputs })
+            }
+            _ => unreachable!(),
+        }
     }
 
     /// How many columns its rows have.
     pub fn width(&self) -> usize
         ensures { result ≡ length self.now.reads }
     {
-        match self.never {}
+        self.inputs.reads.len()
     }
 
     /// Writes the output row of the tokens that are taken.
@@ -51,6 +63,6 @@ impl SinkNode {
         ensures wide { length into.new ≡ length into.old }
         ensures row { (s : System) (rows : List (List Bool)) (b : Table Point) (v t : ℕ) → IsWellFormed s → IsTable s rows b → t < length rows → IsSinkOf s v self.now → taken.now ≡ tokens_to s b v t → into.new ≡ output_row s b t }
     {
-        match self.never {}
+        read_all(self.inputs.reads.as_slice(), taken, into);
     }
 }

@@ -1,3 +1,4 @@
 pub mod Runs
 pub mod Rules
+pub mod Views
 pub mod Laws

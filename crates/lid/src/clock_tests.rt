@@ -1,0 +1,338 @@
+//! Clocked runs, through the top call. What is expected is worked out by hand from the firing counts and the
+//! strict tables.
+
+ghost use Rattle.std.specs.Prelude.{None};
+
+use crate::net_tests::{PIPE, RING, counted_rows, late_rows};
+use crate::report_tests::DIAMOND;
+use crate::tests::{
+    Failing, Left, NONE_FAILS, REGISTER, done, ended, expect_left, expect_run, run_failing,
+    run_over, zeros,
+};
+use lid_base::{Shelf, ShelfFailed};
+use std::alloc::AllocError;
+use std::process::Abort;
+use std::test::Fail;
+use std::thread::Threads;
+
+/// Clocked runs: netlist, rows, stations, cycles of the trace, and what is printed.
+type Case = (
+    &'static str,
+    &'static str,
+    &'static str,
+    &'static str,
+    &'static str,
+);
+
+static RUNS: &[Case] = &[
+    // without rows there is no cycle
+    (
+        REGISTER,
+        "d\n",
+        "lid-stations 1\n",
+        "1",
+        "q\ncycles 0\nfired in 0\nfired u0 0\nfired out 0\ntrace 2 0\n",
+    ),
+    (
+        REGISTER,
+        "d\n1\n0\n1\n",
+        "lid-stations 1\n",
+        "2",
+        "q\n0\n1\n0\ncycles 3\nfired in 2\nfired u0 2\nfired out 3\ntrace 2 2\n1 0\n0 1\n",
+    ),
+    // a ring with a relay station: a token needs a cycle for each of three stations, and there are two
+    (
+        RING,
+        "-\n-\n-\n-\n-\n",
+        "lid-stations 1\nu0 u1 0 1\n",
+        "6",
+        "y\n1\n0\n1\n0\ncycles 6\nfired in 3\nfired u0 3\nfired u1 3\nfired out 4\ntrace 4 6\n\
+0 . 1 1\n1 0 . .\n. 1 0 0\n0 . 1 1\n1 0 . .\n. 1 0 0\n",
+    ),
+    // two ways, one with three relay stations: the other one stops
+    (
+        DIAMOND,
+        "x\n1\n1\n0\n1\n",
+        "lid-stations 1\nu0 u1 0 3\n",
+        "3",
+        "y\n0\n0\n1\n0\ncycles 7\nfired in 3\nfired u0 3\nfired u1 3\nfired u2 3\nfired out 4\n\
+trace 8 3\n1 0 . . . 0 0 0\n1 1 0 . . 1 . 0!\n0 1 1 0 . 1! . 0!\n",
+    ),
+    // more room on the other way
+    (
+        DIAMOND,
+        "x\n1\n1\n0\n1\n",
+        "lid-stations 2\nu0 u1 0 3 2 2 2 2\nu0 u2 0 0 3\n",
+        "4",
+        "y\n0\n0\n1\n0\ncycles 7\nfired in 3\nfired u0 3\nfired u1 3\nfired u2 3\nfired out 4\n\
+trace 8 4\n1 0 . . . 0 0 0\n1 1 0 . . 1 . 0!\n0 1 1 0 . 1 . 0!\n1 0 1 1 0 1! . 0!\n",
+    ),
+    // the output is an input of the root: source and sink are joined by a channel; the shell has none
+    (
+        ".model top\n.inputs x\n.outputs y\n.names x y\n1 1\n.subckt idle\n.end\n.model idle\n.end\n",
+        "x\n1\n0\n",
+        "lid-stations 1\n",
+        "1",
+        "y\n1\n0\ncycles 2\nfired in 1\nfired u0 1\nfired out 2\ntrace 1 1\n1\n",
+    ),
+];
+
+#[test]
+fn stations_show_the_strict_streams(rt: HostRuntime) -> Result<(), Fail> {
+    for (net, rows, stations, trace, told) in RUNS {
+        let files = [("n.blif", *net), ("r.vec", *rows), ("s", *stations)];
+        let words = [
+            "clock",
+            "n.blif",
+            "r.vec",
+            "--stations",
+            "s",
+            "--trace",
+            trace,
+        ];
+        expect_run(&rt, &words, &files, NONE_FAILS, done(told))?;
+    }
+    Ok(())
+}
+
+/// The files of a register with a long wire at its output.
+static LONG: &[(&str, &str)] = &[
+    ("one.blif", REGISTER),
+    ("two.sta", "lid-stations 1\nu0 out 0 2\n"),
+    ("one.vec", "d\n1\n0\n1\n"),
+];
+
+/// The words of its clocked run.
+static LONG_WORDS: &[&str] = &["clock", "one.blif", "one.vec", "--stations", "two.sta"];
+
+/// What it prints.
+const LONG_OUT: &str = "q\n0\n1\n0\ncycles 5\nfired in 2\nfired u0 2\nfired out 3\n";
+
+/// The calls that fail in this run (fetches, writes of the output, writes of the line), and what is left: the
+/// status, the output and the line. The rows are fetched twice, the second time only as far as they are needed.
+type Call = (
+    &'static [u64],
+    &'static [u64],
+    &'static [u64],
+    u8,
+    &'static str,
+    &'static str,
+);
+
+static CALLS: &[Call] = &[
+    (&[1], &[], &[], 3, "", "lid: read one.blif\n"),
+    (&[2], &[], &[], 3, "", "lid: read one.blif\n"),
+    (&[3], &[], &[], 3, "", "lid: read two.sta\n"),
+    (&[4], &[], &[], 3, "", "lid: read two.sta\n"),
+    (&[5], &[], &[], 3, "", "lid: read one.vec\n"),
+    (&[6], &[], &[], 3, "", "lid: read one.vec\n"),
+    (&[7], &[], &[], 3, "", "lid: read one.vec\n"),
+    (&[8], &[], &[], 0, LONG_OUT, ""),
+    (&[], &[1], &[], 4, "", "lid: write\n"),
+    (&[], &[2], &[], 0, LONG_OUT, ""),
+    (&[], &[1], &[1], 4, "", ""),
+];
+
+/// Runs it with calls that fail.
+fn expect_call<R: Threads + AllocGlobal + Sync + Abort>(
+    rt: &R,
+    call: Call,
+) -> Result<(), AllocError> {
+    let (fetches, writes, says, status, out, err) = call;
+    let failing = Failing {
+        fetches,
+        writes,
+        says,
+    };
+    expect_run(rt, LONG_WORDS, LONG, failing, Left { status, out, err })
+}
+
+#[test]
+fn each_failing_call_of_a_clocked_run_is_told(rt: HostRuntime) -> Result<(), Fail> {
+    for call in CALLS {
+        expect_call(&rt, *call)?;
+    }
+    Ok(())
+}
+
+/// Stations on the register's output, and how they end its clocked run: the status, and what is printed or said.
+static STATIONS: &[(&str, u8, &str)] = &[
+    (
+        "lid-stations 1\nu0 out 0 64\n",
+        0,
+        "q\n0\n1\n0\ncycles 67\nfired in 2\nfired u0 2\nfired out 3\n",
+    ),
+    (
+        "lid-stations 1\nu0 out 0 65\n",
+        1,
+        "lid: stations TooMany 2\n",
+    ),
+    (
+        "lid-stations 1\nu0 u1 0 0\n",
+        1,
+        "lid: stations NoChannel 2\n",
+    ),
+];
+
+#[test]
+fn stations_are_read_before_the_run(rt: HostRuntime) -> Result<(), Fail> {
+    for (stations, status, told) in STATIONS {
+        let files = [
+            ("one.blif", REGISTER),
+            ("two.sta", *stations),
+            ("one.vec", "d\n1\n0\n1\n"),
+        ];
+        let left = if *status == 0 {
+            done(told)
+        } else {
+            ended(*status, told)
+        };
+        expect_run(&rt, LONG_WORDS, &files, NONE_FAILS, left)?;
+    }
+    Ok(())
+}
+
+/// Traces of the ring with four stations: the greatest, and one cycle more.
+static TRACES: &[(&str, &str, u8, &str)] = &[
+    (
+        "262145",
+        "-\n-\n",
+        1,
+        "lid: trace Limit TraceCells 1048580\n",
+    ),
+    // rows are judged first
+    ("262145", "-\n0\n", 1, "lid: rows Char 2\n"),
+    // without rows a trace has no line
+    (
+        "262144",
+        "-\n",
+        0,
+        "y\ncycles 0\nfired in 0\nfired u0 0\nfired u1 0\nfired out 0\ntrace 4 0\n",
+    ),
+];
+
+#[test]
+fn the_size_of_a_trace_is_judged_before_the_run(rt: HostRuntime) -> Result<(), Fail> {
+    for (trace, rows, status, told) in TRACES {
+        let files = [
+            ("n.blif", RING),
+            ("r.vec", *rows),
+            ("s", "lid-stations 1\nu0 u1 0 1\n"),
+        ];
+        let words = [
+            "clock",
+            "n.blif",
+            "r.vec",
+            "--stations",
+            "s",
+            "--trace",
+            trace,
+        ];
+        let left = if *status == 0 {
+            done(told)
+        } else {
+            ended(*status, told)
+        };
+        expect_run(&rt, &words, &files, NONE_FAILS, left)?;
+    }
+    Ok(())
+}
+
+/// Words of runs that are not built.
+static UNBUILT: &[&[&str]] = &[
+    &["clock", "n.blif", "r.vec", "--stalls", "f"],
+    &["clock", "n.blif", "r.vec", "--workers", "1"],
+    &["clock", "n.blif"],
+    &["clock", "n.blif", "r.vec", "--trace", "0"],
+    &["clock", "n.blif", "r.vec", "--trace", "1048577"],
+];
+
+#[test]
+fn other_words_of_clock_are_no_job(rt: HostRuntime) -> Result<(), Fail> {
+    for words in UNBUILT {
+        expect_run(&rt, words, &[], NONE_FAILS, ended(2, "lid: usage\n"))?;
+    }
+    Ok(())
+}
+
+#[test]
+fn rows_are_streamed(rt: HostRuntime) -> Result<(), Fail> {
+    let rows = zeros(rt.alloc(), 200_000)?;
+    let files = [("one.blif", REGISTER), ("one.vec", rows.as_str())];
+    // two fetches of the netlist, eight of the rows to their end, and four of the rows again
+    let failing = Failing {
+        fetches: &[15],
+        writes: &[],
+        says: &[],
+    };
+    let ran = run_failing(&rt, &["clock", "one.blif", "one.vec"], &files, failing)?;
+    assert!(rt; ran.status == 3, "the status");
+    assert!(rt; ran.err.written() == b"lid: read one.vec\n", "the line");
+    assert!(rt;
+        ran.out.written().len() == 196_608,
+        "three pieces were written"
+    );
+    Ok(())
+}
+
+/// A netlist, and a file of rows that has fewer of them once it was read to its end. They come byte by byte,
+/// from a shelf that tells nothing.
+#[derive(Drop)]
+struct Shrinking {
+    was_read: bool,
+}
+
+impl Shelf for Shrinking {
+    ghost held = { λ _ _. None };
+
+    ghost faults = { λ _ _. 0 };
+
+    fn fetch(&mut self, name: &str, at: u64, into: &mut [u8]) -> Result<usize, ShelfFailed> {
+        let file: &[u8] = if name == "one.blif" {
+            REGISTER.as_bytes()
+        } else if self.was_read {
+            b"d\n1\n0\n"
+        } else {
+            b"d\n1\n0\n1\n"
+        };
+        let Some(byte) = file.get(at as usize) else {
+            self.was_read = name != "one.blif";
+            return Ok(0);
+        };
+        if into.is_empty() {
+            return Ok(0);
+        }
+        into[0] = *byte;
+        Ok(1)
+    }
+}
+
+#[test]
+fn rows_that_changed_are_told(rt: HostRuntime) -> Result<(), Fail> {
+    let mut shelf = Shrinking { was_read: false };
+    let words = ["clock", "one.blif", "one.vec"];
+    let ran = run_over(&rt, &words, &mut shelf, NONE_FAILS)?;
+    expect_left(
+        &rt,
+        &ran,
+        ended(1, "lid: rows Changed 3 2\n"),
+        "rows changed",
+    );
+    Ok(())
+}
+
+#[test]
+fn a_pipeline_is_clocked(rt: HostRuntime) -> Result<(), Fail> {
+    let rows = counted_rows(rt.alloc())?;
+    let mut outs = late_rows(rt.alloc())?;
+    outs.push_str("cycles 174\nfired in 99\nfired u0 99\nfired u1 99\nfired u2 99\nfired u3 99\n")?;
+    outs.push_str("fired out 100\n")?;
+    let files = [
+        ("n.blif", PIPE),
+        ("r.vec", rows.as_str()),
+        ("s", "lid-stations 1\nu0 u1 0 2\nu3 u0 0 1\n"),
+    ];
+    let words = ["clock", "n.blif", "r.vec", "--stations", "s"];
+    expect_run(&rt, &words, &files, NONE_FAILS, done(outs.as_str()))?;
+    Ok(())
+}
