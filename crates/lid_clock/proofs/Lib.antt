@@ -5,3 +5,4 @@ pub mod Bars
 pub mod Tokens
 pub mod Made
 pub mod Decisions
+pub mod Pushing

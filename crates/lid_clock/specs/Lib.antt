@@ -5,3 +5,4 @@ pub mod Parts
 pub mod Actors
 pub mod States
 pub mod Rules
+pub mod Starts

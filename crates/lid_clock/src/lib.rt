@@ -2,8 +2,10 @@
 #![tactic(auto)]
 
 mod actor;
+mod building;
 mod deciding;
 mod firing;
+mod joining;
 mod part;
 mod passing;
 mod ring;

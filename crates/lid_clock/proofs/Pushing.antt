@@ -1,0 +1,32 @@
+-- What stands in a list to which an element was pushed, or in which one was set.
+use Rattle.std.proofs.Common.{◌≡◌, ◌≢◌, ℕ, zero, suc, ◌+◌, ◌<◌, ◌≤◌, ◌⊎◌, inl, inr, List, [], ◌∷◌, ◌++◌, length, set, refl, sym, ◌∙◌, ap, subst, arith}
+use Rattle.std.specs.Prelude.{Option, Some, slice_get}
+use Rattle.std.proofs.lemmas.Option.{same_Some}
+
+-- what stands in a list to which an element was pushed
+pub at_push : {X : Type 0} (xs : List X) (x y : X) (i : ℕ) → slice_get (xs ++ x ∷ []) i ≡ Some y → (slice_get xs i ≡ Some y) ⊎ ((i ≡ length xs) × (x ≡ y))
+at_push [] x y zero h = inr (refl, same_Some x y h)
+at_push [] x y (suc i) h = absurd (cc)
+at_push (z ∷ xs) x y zero h = inl h
+at_push (z ∷ xs) x y (suc i) h = elim (at_push xs x y i h) [
+    inl there ↦ inl there
+  | inr last ↦ inr (ap suc last.0 ∙ sym (refl), last.1)
+  ]
+
+-- what stands in a list in which an element was set
+pub at_set : {X : Type 0} (xs : List X) (i j : ℕ) (x y : X) → slice_get (set xs i x) j ≡ Some y → ((j ≡ i) × (x ≡ y)) ⊎ ((j ≢ i) × (slice_get xs j ≡ Some y))
+at_set [] i j x y h = absurd (cc)
+at_set (z ∷ xs) zero zero x y h = inl (refl, same_Some x y h)
+at_set (z ∷ xs) zero (suc j) x y h = inr (λ is. omega arith, h)
+at_set (z ∷ xs) (suc i) zero x y h = inr (λ is. omega arith, h)
+at_set (z ∷ xs) (suc i) (suc j) x y h = elim (at_set xs i j x y h) [
+    inl here ↦ inl (ap suc here.0, here.1)
+  | inr there ↦ inr (λ is. there.0 (omega arith), there.1)
+  ]
+
+-- what holds of each element holds of each where one more was pushed
+pub each_pushed : {X : Type 0} (P : ℕ → X → Type 0) (xs : List X) (x : X) → ((i : ℕ) (y : X) → slice_get xs i ≡ Some y → P i y) → P (length xs) x → (i : ℕ) (y : X) → slice_get (xs ++ x ∷ []) i ≡ Some y → P i y
+each_pushed P xs x each last i y h = elim (at_push xs x y i h) [
+    inl there ↦ each i y there
+  | inr here ↦ subst (λ z. P i z) here.1 (subst (λ j. P j x) (sym here.0) last)
+  ]

@@ -1,0 +1,5 @@
+use Rattle.lid_clock.specs.Starts.{lent, AreAlone}
+use Rattle.lid_clock.proofs.building.new_actors.Given as goal
+
+abbrev pub invariant-loop-v : goal.invariant-loop-v
+invariant-loop-v l = AreAlone l.system l.rows (lent l.first) l.v l.actors.items
