@@ -6,3 +6,5 @@ pub mod Tokens
 pub mod Made
 pub mod Decisions
 pub mod Pushing
+pub mod Joined
+pub mod Alone

@@ -30,3 +30,12 @@ each_pushed P xs x each last i y h = elim (at_push xs x y i h) [
     inl there ↦ each i y there
   | inr here ↦ subst (λ z. P i z) here.1 (subst (λ j. P j x) (sym here.0) last)
   ]
+
+-- what each element has become, where one was set
+pub each_set : {X : Type 0} (R : ℕ → X → X → Type 0) (xs : List X) (i : ℕ) (x y : X) → slice_get xs i ≡ Some x → R i x y
+    → ((j : ℕ) (z : X) → j ≢ i → slice_get xs j ≡ Some z → R j z z)
+    → (j : ℕ) (z : X) → slice_get (set xs i y) j ≡ Some z → (w : X) × (slice_get xs j ≡ Some w) × R j w z
+each_set {X} R xs i x y there changed others j z h = elim (at_set xs i j y z h) [
+    inl here ↦ (x, subst (λ (k : ℕ). slice_get xs k ≡ Some x) (sym here.0) there, subst (λ (k : ℕ). R k x z) (sym here.0) (subst (λ (e : X). R i x e) here.1 changed))
+  | inr other ↦ (z, other.1, others j z other.0 other.1)
+  ]

@@ -78,3 +78,82 @@ fn lay(
         places,
     })
 }
+
+/// The actor that fills the station at a place of channel c, whose first mover is this.
+fn filler(system: &System, placement: &Placement, c: usize, place: u32, first: u32) -> u32
+    requires { IsPlace system.now placement.now c place first }
+    ensures { result ≡ fills (links_of system.now) placement.now c place }
+{
+    if place == 0 {
+        system.channels.as_slice()[c].from
+    } else {
+        first + (place - 1)
+    }
+}
+
+/// The actor that drains the station at a place of channel c, whose first mover is this.
+fn drainer(system: &System, placement: &Placement, c: usize, place: u32, first: u32) -> u32
+    requires { IsPlace system.now placement.now c place first }
+    ensures { result ≡ drains (links_of system.now) placement.now c place }
+{
+    if place == placement.relays.as_slice()[c] {
+        system.channels.as_slice()[c].to
+    } else {
+        first + place
+    }
+}
+
+/// Lays the stations of channel c, of which the first has this number.
+fn lay_channel(
+    alloc: Global,
+    system: &System,
+    placement: &Placement,
+    c: usize,
+    station: usize,
+    actors: &mut [ClockActor],
+    stations: &mut Vec<ClockStation>,
+) -> Result<(), AllocError>
+    requires system { IsWellFormed system.now }
+    requires fits { Fits system.now placement.now }
+    requires there { c < length placement.now.relays }
+    requires first { station ≡ station_count (take c placement.now.relays) }
+    requires laid { HasLaid (links_of system.now) placement.now station actors.old stations.old.items }
+    ensures laid { OnOk result (HasLaid (links_of system.now) placement.now (station + (slice_index_or placement.now.relays c 0 + 1)) actors.new stations.new.items) }
+    ensures new { OnOk result (KeepsNew system.now actors.old actors.new) }
+{
+    let first = (system.nodes.len() + (station - c)) as u32;
+    for place in 0..placement.relays.as_slice()[c] + 1 {
+        let number = station + place as usize;
+        stations.push(lay(
+            alloc,
+            actors,
+            number as u32,
+            filler(system, placement, c, place, first),
+            drainer(system, placement, c, place, first),
+            placement.caps.as_slice()[number],
+        )?)?;
+    }
+    Ok(())
+}
+
+/// Lays all stations.
+pub(crate) fn lay_stations(
+    alloc: Global,
+    system: &System,
+    placement: &Placement,
+    actors: &mut [ClockActor],
+    stations: &mut Vec<ClockStation>,
+) -> Result<(), AllocError>
+    requires system { IsWellFormed system.now }
+    requires fits { Fits system.now placement.now }
+    requires none { HasLaid (links_of system.now) placement.now 0 actors.old stations.old.items }
+    ensures laid { OnOk result (HasLaid (links_of system.now) placement.now (station_count placement.now.relays) actors.new stations.new.items) }
+    ensures new { OnOk result (KeepsNew system.now actors.old actors.new) }
+{
+    let mut station = 0usize;
+    for c in 0..placement.relays.len() {
+        lay_channel(alloc, system, placement, c, station, actors, stations)?;
+        station += placement.relays.as_slice()[c] as usize + 1;
+    }
+    Ok(())
+}
