@@ -8,3 +8,4 @@ pub mod Decisions
 pub mod Pushing
 pub mod Joined
 pub mod Alone
+pub mod Laid
