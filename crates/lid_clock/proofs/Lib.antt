@@ -9,3 +9,4 @@ pub mod Pushing
 pub mod Joined
 pub mod Alone
 pub mod Laid
+pub mod Begun

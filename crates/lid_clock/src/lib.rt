@@ -8,12 +8,16 @@ mod firing;
 mod joining;
 mod part;
 mod passing;
+mod readying;
 mod ring;
 mod rules;
 mod settling;
+mod starting;
 mod station;
 mod stream;
 
 pub use actor::ClockActor;
+
+pub use starting::start;
 pub use station::ClockStation;
 pub use stream::ClockStream;
