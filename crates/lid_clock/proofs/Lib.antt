@@ -10,3 +10,4 @@ pub mod Joined
 pub mod Alone
 pub mod Laid
 pub mod Begun
+pub mod Built
