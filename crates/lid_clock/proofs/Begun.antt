@@ -277,9 +277,9 @@ module _ (r : RunsGoByRules) (l : Life) (life : IsLife l) where
         }
 
     -- so it is a run that has not yet made a cycle
-    pub starts : (x : ClockStream) → x.actors.items ≡ actors → x.stations.items ≡ stations → x.rows ≡ length l.input → x.given ≡ min 1 (length l.input) → x.sink ≡ sink l → Ran l 0 (min 1 (length l.input)) x
-    starts x own_actors own_stations rows given last =
-        record {
+    pub starts : (x : ClockStream) (g : ℕ) → x.actors.items ≡ actors → x.stations.items ≡ stations → x.rows ≡ length l.input → x.given ≡ min 1 (length l.input) → x.sink ≡ sink l → g ≡ min 1 (length l.input) → Ran l 0 g x
+    starts x g own_actors own_stations rows given last as_given =
+        let run : Ran l 0 (min 1 (length l.input)) x = record {
           rules = life;
           rows_are = rows;
           given_is = given;
@@ -288,4 +288,5 @@ module _ (r : RunsGoByRules) (l : Life) (life : IsLife l) where
           all_actors = subst (λ (xs : List ClockActor). AreActors l 0 (min 1 (length l.input)) xs) (sym own_actors) (record { many = is.joined.many; each = new_actor });
           all_stations = subst (λ (xs : List ClockStation). AreStations l 0 xs) (sym own_stations) (record { many = is.many; each = new_station });
           latest = subst (λ (xs : List ClockActor). (a : ClockActor) → slice_get xs (sink l) ≡ Some a → IsLatest l 0 a) (sym own_actors) latest;
-        }
+        } in
+        subst (λ (n : ℕ). Ran l 0 n x) (sym as_given) run
