@@ -1,14 +1,14 @@
 -- What an actor of a life sees of its stations is what the rule of firing asks.
-use Rattle.std.proofs.Common.{◌≡◌, ℕ, ◌+◌, ◌<◌, ◌≤◌, ◌⊎◌, inl, inr, zero, suc, List, [], ◌∷◌, length, get_or, refl, sym, ◌∙◌, ap, subst, arith}
-use Rattle.std.specs.Prelude.{Option, Some, slice_get}
+use Rattle.std.proofs.Common.{◌≡◌, ℕ, ◌+◌, ◌<◌, ◌≤◌, inl, inr, zero, suc, List, [], ◌∷◌, length, get_or, refl, sym, ◌∙◌, ap, subst, arith}
+use Rattle.std.specs.Prelude.{Some, slice_get}
 use Rattle.std.proofs.lemmas.Option.{slice_get_within, slice_get-get_or, get_or_from_slice_get}
-use Rattle.lid_stations.specs.Placements.{links_of, station_count}
-use Rattle.lid_stations.specs.Stations.{filler, drainer, capacity}
+use Rattle.lid_stations.specs.Placements.{links_of}
+use Rattle.lid_stations.specs.Stations.{capacity}
 use Rattle.lid_runs.specs.Runs.{cap_of}
 use Rattle.lid_runs.specs.Rules.{MayFire, MayNotFire, FindsVoid, FindsStop}
 use Rattle.lid_clock.specs.declared.actor.ClockActor.{ClockActor}
 use Rattle.lid_clock.specs.declared.station.ClockStation.{ClockStation}
-use Rattle.lid_clock.specs.Rings.{AreThere, IsAt, OneIsEmpty, OneIsFull}
+use Rattle.lid_clock.specs.Rings.{IsAt, OneIsEmpty, OneIsFull}
 use Rattle.lid_clock.specs.Actors.{SeesStations, SeesNoBar, SeesBar}
 use Rattle.lid_clock.specs.Lives.{Life, fired_after}
 use Rattle.lid_clock.specs.States.{ins_of, outs_of, put_after, taken_after, stations_of, IsStation, AreStations, IsActor}

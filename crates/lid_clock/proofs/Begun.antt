@@ -27,7 +27,8 @@ use Rattle.lid_clock.specs.Rules.{RunsGoByRules}
 use Rattle.lid_clock.specs.Parts.{IsOfSize}
 use Rattle.lid_clock.specs.Actors.{HasPlaces}
 use Rattle.lid_clock.specs.Lives.{Life, IsLife, StartsSo, fired_after, sink, HasSunk}
-use Rattle.lid_clock.specs.States.{outs_of, token_of_life, put_after, taken_after, actors_of, stations_of, IsStation, IsPart, HoldsLast, IsActor, AreActors, AreStations, IsLatest, Ran}
+use Rattle.lid_clock.specs.States.{outs_of, token_of_life, put_after, taken_after, actors_of, stations_of, IsStation, IsPart, HoldsLast, IsActor, AreActors, AreStations, IsLatest}
+use Rattle.lid_clock.specs.Ran.{Ran}
 use Rattle.lid_clock.specs.Starts.{IsNewPart, IsNew, AreNew, drained_of, filled_of, IsJoined, AreJoined, IsLaid, HasLaid, Shows, IsSized, IsReadied, AreReadied, CanGain, HasGained, Begins, AllBegin}
 use Rattle.lid_clock.proofs.Bars.{element}
 use Rattle.lid_clock.proofs.Built.{HasBegun, IsBuilt}

@@ -1,13 +1,13 @@
 -- Actors of a life after their decisions.
-use Rattle.std.proofs.Common.{◌≡◌, ℕ, suc, ◌+◌, ◌<◌, ◌≤◌, ◌⊎◌, inl, inr, Bool, true, false, List, length, get_or, refl, sym, ◌∙◌, ap, subst, arith}
+use Rattle.std.proofs.Common.{◌≡◌, ℕ, suc, ◌+◌, ◌⊎◌, Bool, true, false, List, length, refl, sym, ◌∙◌, ap, subst}
 use Rattle.std.proofs.lemmas.Bool.{false≢true}
 use Rattle.lid_stations.specs.Placements.{links_of}
 use Rattle.lid_runs.specs.Rules.{MayFire, MayNotFire}
 use Rattle.lid_clock.specs.declared.actor.ClockActor.{ClockActor}
 use Rattle.lid_clock.specs.declared.station.ClockStation.{ClockStation}
-use Rattle.lid_clock.specs.Actors.{HasPlaces, SeesNoBar, Fires}
+use Rattle.lid_clock.specs.Actors.{SeesNoBar, Fires}
 use Rattle.lid_clock.specs.Rules.{RunsGoByRules}
-use Rattle.lid_clock.specs.Lives.{Life, IsLife, fired_after}
+use Rattle.lid_clock.specs.Lives.{Life, fired_after}
 use Rattle.lid_clock.specs.States.{MayBegin, IsActor, AreStations, Decided}
 use Rattle.lid_clock.proofs.Bars.{may_fire}
 use Rattle.lid_clock.proofs.Tokens.{took}

@@ -1,6 +1,6 @@
 -- Elements that were read by an index.
 use Rattle.std.proofs.Common.{◌≡◌, ℕ, ◌<◌, List, length, get_or, refl, sym, ◌∙◌}
-use Rattle.std.specs.Prelude.{Option, Some, slice_get}
+use Rattle.std.specs.Prelude.{Some, slice_get}
 use Rattle.std.proofs.lemmas.Option.{same_Some, slice_get_read}
 
 -- an element that was read stands there

@@ -6,7 +6,6 @@ use Rattle.std.proofs.lemmas.Bool.{eq-eqb, ne_eqb}
 use Rattle.std.proofs.lemmas.List.{append-nil, length-set}
 use Rattle.std.proofs.lemmas.List.Elements.{filter-append}
 use Rattle.std.proofs.lemmas.List.Sums.{length-filter, count_by-le-length}
-use Rattle.std.proofs.lemmas.Grind.{common_steps}
 use Rattle.lid_design.specs.Network.{from_each}
 use Rattle.lid_system.specs.declared.System.{System}
 use Rattle.lid_system.specs.Systems.{IsWellFormed}
@@ -20,7 +19,7 @@ use Rattle.lid_clock.specs.declared.actor.ClockActor.{ClockActor}
 use Rattle.lid_clock.specs.declared.station.ClockStation.{ClockStation}
 use Rattle.lid_clock.specs.Starts.{IsNew, AreNew, drained_of, filled_of, IsJoined, AreJoined, IsEmptyBetween, IsLaid, HasLaid, KeepsNew, IsJoinedBy, Joins, IsNextSlot, CanJoin}
 use Rattle.lid_clock.proofs.Bars.{element}
-use Rattle.lid_clock.proofs.Pushing.{each_pushed, each_set}
+use Rattle.lid_clock.proofs.Pushing.{each_pushed, length_pushed, each_set}
 
 -- an actor that neither drains nor fills a station
 none_joined : (station : ℕ) (drains fills : Bool) (a : ClockActor) → drains ≡ false → fills ≡ false → IsJoinedBy drains fills station a a
@@ -127,12 +126,9 @@ module _ (l : Links) (p : Placement) where
       } in
       record {
         joined = all_joined n from to old new fills drains was.joined by;
-        many = length_push stations x ∙ ap (λ (m : ℕ). m + 1) was.many;
+        many = length_pushed stations x ∙ ap (λ (m : ℕ). m + 1) was.many;
         each = each_pushed (λ i y. IsLaid l p i y) stations x was.each (subst (λ (m : ℕ). IsLaid l p m x) (sym was.many) next);
       }
-    where
-      length_push : (xs : List ClockStation) (y : ClockStation) → length (xs ++ y ∷ []) ≡ length xs + 1
-      length_push xs y = grind (arith, common_steps)
 
 -- actors that were new still are
 pub keeps_new : (s : System) (station from to : ℕ) (old new : List ClockActor) → Joins station from to old new → KeepsNew s old new

@@ -5,9 +5,15 @@ pub mod Bars
 pub mod Tokens
 pub mod Made
 pub mod Decisions
+pub mod Settled
+pub mod Pointwise
+pub mod Told
+pub mod Held
+pub mod Cycling
+pub mod Giving
 pub mod Pushing
 pub mod Joined
 pub mod Alone
 pub mod Laid
-pub mod Begun
 pub mod Built
+pub mod Begun

@@ -1,20 +1,20 @@
 -- What a firing makes of the part of an actor of a life, and of its tokens.
-use Rattle.std.proofs.Common.{◌≡◌, ℕ, zero, suc, ◌+◌, ◌-◌, ◌<◌, ◌≤◌, Bool, true, false, cond, List, [], ◌∷◌, length, map, get_or, refl, sym, ◌∙◌, ap, subst, arith, nat_lt, lt-ltb, le-ltb}
-use Rattle.std.specs.Prelude.{Option, Some, slice_get}
+use Rattle.std.proofs.Common.{◌≡◌, ℕ, ◌+◌, ◌-◌, ◌<◌, ◌≤◌, Bool, cond, List, length, get_or, sym, ◌∙◌, ap, subst, arith, lt-ltb, le-ltb}
+use Rattle.std.specs.Prelude.{Some, slice_get}
 use Rattle.std.specs.Global.{Vec}
 use Rattle.lid_system.specs.Streams.{output_row}
 use Rattle.lid_nodes.specs.Nodes.{tokens_to, tokens_from}
-use Rattle.lid_nodes.specs.Wiring.{SourceView, ShellView, SinkView, IsSourceOf, IsShellOf, IsSinkOf}
+use Rattle.lid_nodes.specs.Wiring.{SourceView, ShellView, SinkView, IsSourceOf, IsSinkOf}
 use Rattle.lid_stations.specs.Placements.{links_of}
 use Rattle.lid_runs.specs.Runs.{cap_of}
 use Rattle.lid_clock.specs.declared.part.Part.{Part}
 use Rattle.lid_clock.specs.declared.part.Part.TheVariants.{Source, Shell, Mover, Sink}
 use Rattle.lid_clock.specs.Rules.{RunsGoByRules}
-use Rattle.lid_clock.specs.Lives.{Life, IsLife, fired_after, sink, NeedsRow}
-use Rattle.lid_clock.specs.Parts.{GoesOn, Passes, row_of}
+use Rattle.lid_clock.specs.Lives.{Life, fired_after, sink, NeedsRow}
+use Rattle.lid_clock.specs.Parts.{Passes, row_of}
 use Rattle.lid_clock.specs.States.{outs_of, token_of_life, put_after, actors_of, HoldsLast, IsPart, MayBegin}
 use Rattle.lid_clock.proofs.Ends.{filled_is}
-use Rattle.lid_clock.proofs.Tokens.{tokens_in, tokens_out, offers, node_next, mover_next, sink_fills_none, node_takes, node_puts, mover_puts}
+use Rattle.lid_clock.proofs.Tokens.{tokens_in, offers, node_next, mover_next, sink_fills_none, node_takes, node_puts, mover_puts}
 use mathlib.Core.Logic.{dite}
 use native.Mathlib.Decide.{ℕ_discrete}
 

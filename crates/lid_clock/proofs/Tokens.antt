@@ -1,15 +1,12 @@
 -- The tokens that an actor takes and puts in a firing.
-use Rattle.std.proofs.Common.{◌≡◌, ℕ, ◌+◌, ◌-◌, ◌<◌, ◌≤◌, ◌⊎◌, inl, inr, min, List, [], ◌∷◌, length, map, get_or, refl, sym, ◌∙◌, ap, subst, arith}
-use Rattle.std.specs.Prelude.{Option, Some, slice_get}
+use Rattle.std.proofs.Common.{◌≡◌, ℕ, ◌+◌, ◌<◌, ◌≤◌, inl, inr, List, [], ◌∷◌, length, map, get_or, sym, ◌∙◌, ap, arith}
+use Rattle.std.specs.Prelude.{Some, slice_get}
 use Rattle.std.proofs.lemmas.Option.{slice_get_within, slice_get-get_or, get_or_from_slice_get}
 use Rattle.std.proofs.lemmas.List.{get_or-map, length-map}
 use Rattle.std.proofs.lemmas.Grind.{same_number_lists}
-use Rattle.lid_system.specs.Systems.{IsWellFormed}
 use Rattle.lid_nodes.specs.Nodes.{tokens_to, tokens_from}
-use Rattle.lid_stations.specs.Placements.{links_of, Fits}
-use Rattle.lid_stations.specs.Stations.{filler, drainer, start_count}
-use Rattle.lid_stations.specs.Laws.{StandsBetween}
-use Rattle.lid_runs.specs.Runs.{token_of}
+use Rattle.lid_stations.specs.Placements.{links_of}
+use Rattle.lid_stations.specs.Stations.{filler, start_count}
 use Rattle.lid_clock.specs.declared.actor.ClockActor.{ClockActor}
 use Rattle.lid_clock.specs.declared.station.ClockStation.{ClockStation}
 use Rattle.lid_clock.specs.Rings.{token_in, IsAt, AllHold, AreOldest}
@@ -74,8 +71,8 @@ pub node_next : (r : RunsGoByRules) (l : Life) (k v station : ℕ) → IsLife l 
 node_next r l k v station life node some there fills =
     let same : fired_after l k (filler (links_of l.system) l.placement station) ≡ fired_after l k v = ap (fired_after l k) fills in
     elim (r.starts l.system l.placement station life.system life.fits there) [
-      inl h ↦ (let one : start_count l.placement station ≡ 1 = h.1 in omega arith)
-    | inr h ↦ (let past : length l.system.nodes ≤ filler (links_of l.system) l.placement station = h.0 in absurd (omega arith))
+      | inl h ↦ (let one : start_count l.placement station ≡ 1 = h.1 in omega arith)
+      | inr h ↦ (let past : length l.system.nodes ≤ filler (links_of l.system) l.placement station = h.0 in absurd (omega arith))
     ]
 
 -- one that a mover fills wants that of the same number
@@ -84,8 +81,8 @@ pub mover_next : (r : RunsGoByRules) (l : Life) (k v station : ℕ) → IsLife l
 mover_next r l k v station life mover there fills =
     let same : fired_after l k (filler (links_of l.system) l.placement station) ≡ fired_after l k v = ap (fired_after l k) fills in
     elim (r.starts l.system l.placement station life.system life.fits there) [
-      inl h ↦ (let before : filler (links_of l.system) l.placement station < length l.system.nodes = h.0 in absurd (omega arith))
-    | inr h ↦ (let none : start_count l.placement station ≡ 0 = h.1 in omega arith)
+      | inl h ↦ (let before : filler (links_of l.system) l.placement station < length l.system.nodes = h.0 in absurd (omega arith))
+      | inr h ↦ (let none : start_count l.placement station ≡ 0 = h.1 in omega arith)
     ]
 
 -- the sink fills no station

@@ -1,6 +1,5 @@
 -- How a run is built: its actors, which have not fired, and its stations, which are joined to them one by one.
-use Rattle.std.specs.Prelude.{◌≡◌, ℕ, ◌+◌, ◌-◌, ◌<◌, ◌≤◌, ◌⊎◌, ◌==◌, min, Bool, true, false, if◌then◌else◌, List, [], ◌∷◌, ◌++◌, length, get_or, filter, Option, Some, None, IfSome, option_map, slice_get, ⊤}
-use Rattle.std.specs.Borrow.{Bor}
+use Rattle.std.specs.Prelude.{◌≡◌, ℕ, ◌+◌, ◌-◌, ◌<◌, ◌≤◌, ◌⊎◌, ◌==◌, min, Bool, true, false, if◌then◌else◌, List, [], ◌∷◌, ◌++◌, length, get_or, filter, Option, Some, None, IfSome, slice_get, ⊤}
 use Rattle.lid_design.specs.Network.{Table, from_each}
 use Rattle.lid_system.specs.declared.System.{System}
 use Rattle.lid_system.specs.Systems.{Point, IsWellFormed}
@@ -18,16 +17,6 @@ use Rattle.lid_clock.specs.declared.station.ClockStation.{ClockStation}
 use Rattle.lid_clock.specs.Rings.{token_in}
 use Rattle.lid_clock.specs.Parts.{IsOfSize, MakesTokens}
 use Rattle.lid_clock.specs.Actors.{HasPlaces, IsSameActor}
-use Rattle.lid_clock.specs.Lives.{IsWide}
-
--- the row behind a reference
-abbrev pub lent : Option (Bor (List Bool)) → Option (List Bool)
-lent = option_map (λ row. row.now)
-
--- the first of so many rows: there is none where there are no rows, and else it has the width of the source
-abbrev pub IsFirst : System → ℕ → Option (List Bool) → Type 0
-IsFirst s rows None = rows ≡ 0
-IsFirst s rows (Some row) = (0 < rows) × IsWide s row
 
 -- the part of an actor that has not fired: the source holds the first row, where there is one
 abbrev pub IsNewPart : System → Option (List Bool) → ℕ → Part → Type 0

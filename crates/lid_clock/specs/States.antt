@@ -1,5 +1,5 @@
 -- What stands in a clocked run after so many cycles and given rows of a life.
-use Rattle.std.specs.Prelude.{◌≡◌, ℕ, suc, ◌+◌, ◌-◌, ◌<◌, ◌≤◌, Bool, true, false, List, length, get_or, Option, Some, None, slice_get, ⊤}
+use Rattle.std.specs.Prelude.{◌≡◌, ℕ, suc, ◌+◌, ◌-◌, ◌<◌, ◌≤◌, Bool, true, false, List, length, get_or, Some, slice_get}
 use Rattle.lid_system.specs.Streams.{output_row}
 use Rattle.lid_nodes.specs.Wiring.{IsSourceOf, IsShellOf, IsSinkOf}
 use Rattle.lid_stations.specs.Placements.{links_of, station_count}
@@ -9,11 +9,10 @@ use Rattle.lid_clock.specs.declared.part.Part.{Part}
 use Rattle.lid_clock.specs.declared.part.Part.TheVariants.{Source, Shell, Mover, Sink}
 use Rattle.lid_clock.specs.declared.actor.ClockActor.{ClockActor}
 use Rattle.lid_clock.specs.declared.station.ClockStation.{ClockStation}
-use Rattle.lid_clock.specs.declared.stream.ClockStream.{ClockStream}
 use Rattle.lid_clock.specs.Rings.{token_in}
 use Rattle.lid_clock.specs.Parts.{row_of}
 use Rattle.lid_clock.specs.Actors.{HasPlaces}
-use Rattle.lid_clock.specs.Lives.{Life, IsLife, fired_after, sink, NeedsRow, HasSunk, Holds}
+use Rattle.lid_clock.specs.Lives.{Life, IsLife, fired_after, sink, NeedsRow, HasSunk}
 
 -- the stations that an actor of a life drains, and those that it fills
 abbrev pub ins_of : Life → ℕ → List ℕ
@@ -147,14 +146,3 @@ Settles old actors new =
 pub record IsLatest (l : Life) (k : ℕ) (a : ClockActor) : Type 0 where
   pub fired : a.went ≡ true → HasSunk l k × (row_of a.part ≡ Some (output_row l.system l.table (fired_after l k (sink l) - 1)))
   pub rested : a.went ≡ false → ¬ (HasSunk l k)
-
--- a run after k cycles and g given rows of a life
-pub record Ran (l : Life) (k g : ℕ) (x : ClockStream) : Type 0 where
-  pub rules : IsLife l
-  pub rows_are : x.rows ≡ length l.input
-  pub given_is : x.given ≡ g
-  pub few : g ≤ length l.input
-  pub sink_is : x.sink ≡ sink l
-  pub all_actors : AreActors l k g x.actors.items
-  pub all_stations : AreStations l k x.stations.items
-  pub latest : (a : ClockActor) → slice_get x.actors.items (sink l) ≡ Some a → IsLatest l k a

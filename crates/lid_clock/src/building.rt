@@ -6,7 +6,8 @@ ghost use Rattle.lid_stations.specs.Placements.{links_of, Fits};
 ghost use Rattle.lid_stations.specs.Stations.{actor_count};
 ghost use Rattle.lid_runs.specs.Runs.{cap_of};
 ghost use Rattle.lid_clock.specs.Lives.{IsWide};
-ghost use Rattle.lid_clock.specs.Starts.{lent, IsNewPart, IsNew, IsAlone, AreAlone};
+ghost use Rattle.lid_clock.specs.Ran.{lent};
+ghost use Rattle.lid_clock.specs.Starts.{IsNewPart, IsNew, IsAlone, AreAlone};
 
 use crate::actor::ClockActor;
 use crate::part::Part;

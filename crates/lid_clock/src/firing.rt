@@ -66,7 +66,8 @@ impl ClockActor {
         ensures { Fires self.old stations.now self.new }
     {
         take_tokens(self.ins.as_slice(), stations, self.taken.as_mut_slice());
-        self.part.pass(self.taken.as_slice(), self.tokens.as_mut_slice());
+        self.part
+            .pass(self.taken.as_slice(), self.tokens.as_mut_slice());
         self.fired += 1;
         self.went = true;
     }

@@ -3,6 +3,7 @@
 
 mod actor;
 mod building;
+mod cycle;
 mod deciding;
 mod firing;
 mod joining;
@@ -10,6 +11,7 @@ mod part;
 mod passing;
 mod readying;
 mod ring;
+mod rows;
 mod rules;
 mod settling;
 mod starting;
@@ -17,7 +19,6 @@ mod station;
 mod stream;
 
 pub use actor::ClockActor;
-
 pub use starting::start;
 pub use station::ClockStation;
 pub use stream::ClockStream;

@@ -28,7 +28,8 @@ impl ClockStation {
     {
         runs_go_by_rules();
         self.gain(actors);
-        if actors[self.drainer as usize].went {
+        let drainer = &actors[self.drainer as usize];
+        if drainer.went {
             self.release();
         }
     }

@@ -5,8 +5,8 @@ ghost use Rattle.lid_system.specs.Systems.{IsWellFormed};
 ghost use Rattle.lid_stations.specs.Placements.{Fits};
 ghost use Rattle.lid_clock.specs.declared.station.ClockStation.{ClockStation};
 ghost use Rattle.lid_clock.specs.Lives.{Life, StartsSo};
-ghost use Rattle.lid_clock.specs.States.{Ran};
-ghost use Rattle.lid_clock.specs.Starts.{lent, IsFirst, CanGain, Begins, AllBegin};
+ghost use Rattle.lid_clock.specs.Ran.{Ran, lent, IsFirst};
+ghost use Rattle.lid_clock.specs.Starts.{CanGain, Begins, AllBegin};
 
 use crate::actor::ClockActor;
 use crate::building::new_actors;

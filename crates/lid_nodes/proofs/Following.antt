@@ -1,5 +1,5 @@
 -- A shell of a system is made of what stands at its node, and follows each table.
-use Rattle.std.proofs.Common.{◌≡◌, ℕ, ◌+◌, ◌<◌, Bool, List, length, map, Some, slice_get, refl, sym, ◌∙◌, ap, subst, arith}
+use Rattle.std.proofs.Common.{◌≡◌, ℕ, ◌+◌, ◌<◌, Bool, List, length, map, Some, slice_get, sym, ◌∙◌, ap, subst, arith}
 use Rattle.std.specs.List.{AllByRecursion}
 use Rattle.std.proofs.lemmas.List.{length-map}
 use Rattle.lid_design.specs.declared.Flat.{Flat}
@@ -8,8 +8,8 @@ use Rattle.lid_pearl.specs.Pearls.{View, Shows, Steps}
 use Rattle.lid_system.specs.declared.System.{System}
 use Rattle.lid_system.specs.declared.Node.TheVariants.{Shell}
 use Rattle.lid_system.specs.declared.InBit.{InBit}
-use Rattle.lid_system.specs.Systems.{Point, IsShell, IsWellFormed}
-use Rattle.lid_system.specs.Tables.{input_bits, port_bits, IsTable}
+use Rattle.lid_system.specs.Systems.{Point, IsWellFormed}
+use Rattle.lid_system.specs.Tables.{input_bits, IsTable}
 use Rattle.lid_system.proofs.Points.{shell_is}
 use Rattle.lid_system.proofs.Shelling.{shell_shows, shell_goes, shell_gives}
 use Rattle.lid_nodes.specs.declared.wires.Read.{Read}

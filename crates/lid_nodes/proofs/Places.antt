@@ -1,13 +1,11 @@
 -- Where the tokens of channels stand among those that a node takes.
-use Rattle.std.proofs.Common.{◌≡◌, ℕ, zero, suc, ◌+◌, ◌<◌, ◌≤◌, ◌==◌, Bool, true, false, cond, List, [], ◌∷◌, length, take, get_or, map, filter, Some, slice_get, refl, sym, ◌∙◌, ap, subst, arith}
-use Rattle.std.specs.Bool.{⊤}
+use Rattle.std.proofs.Common.{◌≡◌, ℕ, zero, suc, ◌+◌, ◌<◌, ◌==◌, Bool, true, false, cond, List, [], ◌∷◌, length, take, get_or, map, refl, ◌∙◌, ap, arith}
 use Rattle.std.specs.List.{AllByRecursion}
 use Rattle.std.proofs.lemmas.List.{take_all}
 use Rattle.lid_system.specs.declared.Channel.{Channel}
 use Rattle.lid_system.specs.declared.InBit.{InBit}
 use Rattle.lid_system.specs.declared.InBit.TheVariants as bit
-use Rattle.lid_nodes.specs.declared.wires.Read.{Read}
-use Rattle.lid_nodes.specs.declared.wires.Read.TheVariants.{Const, Bit}
+use Rattle.lid_nodes.specs.declared.wires.Read.TheVariants.{Bit}
 use Rattle.lid_nodes.specs.Nodes.{channels_to}
 use Rattle.lid_nodes.specs.Wiring.{place_to, read_of}
 use Rattle.lid_nodes.specs.Inside.{places_after, read_in, IsPlaced}

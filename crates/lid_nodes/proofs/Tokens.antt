@@ -1,7 +1,6 @@
 -- Nodes read the bits of their inputs from the tokens that they take, and the bits of their ports, packed, are
 -- the tokens that they put.
-use Rattle.std.proofs.Common.{◌≡◌, ℕ, zero, suc, ◌+◌, ◌<◌, ◌≤◌, ◌==◌, Bool, true, false, cond, List, [], ◌∷◌, length, take, get_or, map, filter, Some, None, slice_get, refl, sym, ◌∙◌, ap, subst, eq-eqb, arith}
-use Rattle.std.specs.Bool.{⊤}
+use Rattle.std.proofs.Common.{◌≡◌, ℕ, zero, suc, ◌<◌, ◌==◌, Bool, true, false, cond, List, [], ◌∷◌, length, take, get_or, map, Some, None, slice_get, refl, sym, ◌∙◌, ap, subst, eq-eqb, arith}
 use Rattle.std.specs.List.{AllByRecursion}
 use Rattle.std.specs.Option.{option_map_or}
 use Rattle.std.proofs.lemmas.Bool.{eqb-true}
@@ -23,7 +22,6 @@ use Rattle.lid_system.specs.Streams.{token_at}
 use Rattle.lid_system.proofs.Streaming.{unpacked_bit, packed_token}
 use Rattle.lid_system.proofs.Shelling.{each_length}
 use Rattle.lid_nodes.specs.declared.wires.Read.{Read}
-use Rattle.lid_nodes.specs.declared.wires.Read.TheVariants.{Const, Bit}
 use Rattle.lid_nodes.specs.Nodes.{channels_to, channels_from, tokens_to, tokens_from}
 use Rattle.lid_nodes.specs.Wiring.{place_to, read_of, IsReadOf, IsPackOf, ports_from}
 use Rattle.lid_nodes.specs.Inside.{bit_read, token_of, IsPlaced}

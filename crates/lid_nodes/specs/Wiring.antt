@@ -1,9 +1,9 @@
 -- How the inputs of a node read the tokens that it takes, and how its outputs become the tokens that it
 -- puts; and what stands at a node after so many rows of a table.
-use Rattle.std.specs.Prelude.{◌≡◌, ℕ, ◌+◌, ◌<◌, ◌≤◌, Bool, List, length, map, take, Some, slice_get, ⊤}
+use Rattle.std.specs.Prelude.{◌≡◌, ℕ, ◌+◌, ◌<◌, ◌≤◌, List, length, map, take, Some, slice_get, ⊤}
 use Rattle.std.specs.List.{AllByRecursion}
 use Rattle.lid_design.specs.Network.{Table}
-use Rattle.lid_design.specs.Flat.{IsFlat, state_at}
+use Rattle.lid_design.specs.Flat.{state_at}
 use Rattle.lid_pearl.specs.Pearls.{View}
 use Rattle.lid_system.specs.declared.System.{System}
 use Rattle.lid_system.specs.declared.Channel.{Channel}

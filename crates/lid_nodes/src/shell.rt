@@ -99,11 +99,7 @@ impl ShellNode {
         ensures tokens { (s : System) (rows : List (List Bool)) (b : Table Point) (v t : ℕ) → IsWellFormed s → IsTable s rows b → t < length rows → IsShellOf s b v t self.old → into.new ≡ tokens_from s b v t }
     {
         self.pearl.outputs(self.room.outs.as_mut_slice());
-        pack_all(
-            self.room.outs.as_slice(),
-            self.wires.ports.as_slice(),
-            into,
-        );
+        pack_all(self.room.outs.as_slice(), self.wires.ports.as_slice(), into);
     }
 
     /// Fires: takes the tokens of a row, moves the pearl by that row, and writes the tokens of the next row.
@@ -122,11 +118,7 @@ impl ShellNode {
         );
         self.pearl
             .step(self.room.ins.as_slice(), self.room.outs.as_mut_slice());
-        pack_all(
-            self.room.outs.as_slice(),
-            self.wires.ports.as_slice(),
-            into,
-        );
+        pack_all(self.room.outs.as_slice(), self.wires.ports.as_slice(), into);
     }
 }
 

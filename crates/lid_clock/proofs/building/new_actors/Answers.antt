@@ -1,5 +1,5 @@
 -- One more actor is new, and alone.
-use Rattle.lid_clock.specs.Starts.{lent}
+use Rattle.lid_clock.specs.Ran.{lent}
 use Rattle.lid_clock.proofs.Alone.{one_more}
 use Rattle.lid_clock.proofs.building.new_actors.Goals as goal
 

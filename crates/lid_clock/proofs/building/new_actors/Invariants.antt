@@ -1,4 +1,5 @@
-use Rattle.lid_clock.specs.Starts.{lent, AreAlone}
+use Rattle.lid_clock.specs.Ran.{lent}
+use Rattle.lid_clock.specs.Starts.{AreAlone}
 use Rattle.lid_clock.proofs.building.new_actors.Given as goal
 
 abbrev pub invariant-loop-v : goal.invariant-loop-v

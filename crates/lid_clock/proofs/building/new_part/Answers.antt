@@ -1,7 +1,8 @@
 -- The last node is the sink.
 use Rattle.std.proofs.Common.{◌≡◌, ℕ, ◌+◌, ◌-◌, length, subst, arith}
 use Rattle.lid_base.proofs.Results.{if_ok}
-use Rattle.lid_clock.specs.Starts.{lent, IsNewPart}
+use Rattle.lid_clock.specs.Ran.{lent}
+use Rattle.lid_clock.specs.Starts.{IsNewPart}
 use Rattle.lid_clock.proofs.building.new_part.Goals as goal
 
 pub returns-then-v-nodes-2 : goal.returns-then-v-nodes-2

@@ -1,5 +1,5 @@
 -- A station that was read and is full bars; one with room is one more that has room.
-use Rattle.std.proofs.Common.{◌<◌, ◌≤◌, ◌+◌, length, get_or, arith, subst, below_more}
+use Rattle.std.proofs.Common.{◌<◌, ◌+◌, length, arith, subst, below_more}
 use Rattle.lid_clock.specs.declared.station.ClockStation.{ClockStation}
 use Rattle.lid_clock.proofs.Elements.{is_there, is_read}
 use Rattle.lid_clock.proofs.firing.all_have_room.Goals as goal

@@ -1,5 +1,5 @@
 -- A station that was read and is empty bars; one that holds a token is one more that does.
-use Rattle.std.proofs.Common.{◌<◌, ◌≤◌, get_or, arith, subst, below_more}
+use Rattle.std.proofs.Common.{◌<◌, arith, subst, below_more}
 use Rattle.std.proofs.lemmas.Bool.{ltb-true, ltb-false}
 use Rattle.lid_clock.specs.declared.station.ClockStation.{ClockStation}
 use Rattle.lid_clock.proofs.Elements.{is_there, is_read}

@@ -8,10 +8,11 @@ use Rattle.lid_system.specs.declared.System.{System}
 use Rattle.lid_stations.specs.declared.placement.Placement.{Placement}
 use Rattle.lid_stations.specs.Placements.{links_of, station_count}
 use Rattle.lid_stations.specs.Stations.{actor_count}
+use Rattle.lid_clock.specs.Ran.{lent}
 use Rattle.lid_clock.specs.declared.actor.ClockActor.{ClockActor}
 use Rattle.lid_clock.specs.declared.station.ClockStation.{ClockStation}
 use Rattle.lid_clock.specs.Lives.{sink}
-use Rattle.lid_clock.specs.Starts.{lent, AreNew, AreAlone, HasLaid, KeepsNew, IsSized, CanGain, AreReadied, AllBegin}
+use Rattle.lid_clock.specs.Starts.{AreNew, AreAlone, HasLaid, KeepsNew, IsSized, CanGain, AreReadied, AllBegin}
 use Rattle.lid_clock.proofs.Begun.{all_sized, can_gain, built_of_life, starts}
 use Rattle.lid_clock.proofs.Built.{IsBuilt, built}
 use Rattle.lid_clock.proofs.starting.start.Goals as goal

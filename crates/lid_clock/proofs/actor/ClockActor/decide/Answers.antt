@@ -1,5 +1,5 @@
 -- An actor that sees no bar and is not held fires; else it rests.
-use Rattle.std.proofs.Common.{◌≡◌, inl, inr, sym, ◌∙◌}
+use Rattle.std.proofs.Common.{inl, inr, ◌∙◌}
 use Rattle.lid_clock.proofs.Bars.{sees, may_not_fire}
 use Rattle.lid_clock.proofs.Decisions.{rested, fired}
 use Rattle.lid_clock.proofs.actor.ClockActor.decide.Goals as goal
@@ -19,6 +19,6 @@ pub returns-else-not-held : goal.returns-else-not-held
 returns-else-not-held c = λ l k g v begins actor beside held.
     rested c.runs_go_by_rules.ensures l k g v c.args.self.now begins actor
     (elim c.else-not-held.branch [
-      else-not-held-via-then-not-held+else-may_fire w ↦ inr (may_not_fire l k g v c.args.self.now c.args.stations.now actor beside (w.may_fire.ensures.no w.if-may_fire.false))
-    | else-not-held-via-else-not-held w ↦ inl (held ∙ w.if-not-held.false)
+      | else-not-held-via-then-not-held+else-may_fire w ↦ inr (may_not_fire l k g v c.args.self.now c.args.stations.now actor beside (w.may_fire.ensures.no w.if-may_fire.false))
+      | else-not-held-via-else-not-held w ↦ inl (held ∙ w.if-not-held.false)
     ])

@@ -1,5 +1,5 @@
 -- A sink's row is that which its node gave.
-use Rattle.std.proofs.Common.{◌≡◌, length, refl, sym, ◌∙◌, ap, subst, List, Bool}
+use Rattle.std.proofs.Common.{length, refl, sym, ◌∙◌, ap, subst}
 use Rattle.std.specs.Vec.{with_items}
 use Rattle.std.proofs.lemmas.List.{with_items_is}
 use Rattle.lid_clock.specs.declared.part.Part.{Part}

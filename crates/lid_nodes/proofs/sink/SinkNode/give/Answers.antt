@@ -1,7 +1,6 @@
 use Rattle.std.proofs.Common.{◌≡◌, ℕ, ◌-◌, List, length, map, sym, ◌∙◌, ap, arith}
 use Rattle.lid_system.specs.declared.Node.TheVariants.{Sink}
 use Rattle.lid_system.specs.Tables.{input_bits}
-use Rattle.lid_nodes.specs.Nodes.{tokens_to}
 use Rattle.lid_nodes.specs.Wiring.{SinkView, read_of}
 use Rattle.lid_nodes.specs.Inside.{bit_read}
 use Rattle.lid_nodes.proofs.Tokens.{bits_are, inputs_at}
