@@ -11,3 +11,9 @@ pub mod Told
 pub mod Held
 pub mod Cycling
 pub mod Giving
+pub mod Pushing
+pub mod Joined
+pub mod Alone
+pub mod Laid
+pub mod Built
+pub mod Begun

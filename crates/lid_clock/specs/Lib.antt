@@ -6,3 +6,4 @@ pub mod States
 pub mod Ran
 pub mod Rules
 pub mod Cycles
+pub mod Starts

@@ -2,18 +2,23 @@
 #![tactic(auto)]
 
 mod actor;
+mod building;
 mod cycle;
 mod deciding;
 mod firing;
+mod joining;
 mod part;
 mod passing;
+mod readying;
 mod ring;
 mod rows;
 mod rules;
 mod settling;
+mod starting;
 mod station;
 mod stream;
 
 pub use actor::ClockActor;
+pub use starting::start;
 pub use station::ClockStation;
 pub use stream::ClockStream;
