@@ -2,8 +2,3 @@
 //! all systems and placements.
 #![tactic(auto)]
 
-mod laws;
-
-pub use laws::{
-    actors_fire_by_the_rule, nodes_pass_the_tokens_of_channels, movers_move_tokens_on, runs_end,
-};
