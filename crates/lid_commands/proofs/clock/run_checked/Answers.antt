@@ -1,6 +1,6 @@
 use Rattle.std.proofs.Common.{List, refl, subst, arith}
 use Rattle.lid_system.specs.declared.Channel.{Channel}
-use Rattle.lid_stations.specs.Placements.{Links, links_of}
+use Rattle.lid_stations.specs.Placements.{Links}
 use Rattle.lid_script.specs.Scripts.{Script, HasChannels, IsOverfull, links, placed_script, built_script}
 use Rattle.lid_script.specs.Early.{RunsEarly}
 use Rattle.lid_script.proofs.Composition.{cause_undecided}

@@ -1,4 +1,3 @@
-use Rattle.std.proofs.Common.{List}
 use Rattle.lid_design.specs.declared.Design.{Design}
 use Rattle.lid_script.specs.Scripts.{Script, net_limit, net_reading, check_step, built_script, clock_script}
 use Rattle.lid_script.proofs.Composition.{cause_here}

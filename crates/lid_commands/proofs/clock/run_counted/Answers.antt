@@ -1,4 +1,4 @@
-use Rattle.std.proofs.Common.{List, refl, arith}
+use Rattle.std.proofs.Common.{refl, arith}
 use Rattle.lid_stations.specs.Placements.{links_of}
 use Rattle.lid_script.specs.Scripts.{Script, trace_read, rerun_script, traced_script}
 use Rattle.lid_script.proofs.Composition.{cause_declined}

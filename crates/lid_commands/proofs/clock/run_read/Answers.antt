@@ -1,4 +1,4 @@
-use Rattle.std.proofs.Common.{List, refl, arith}
+use Rattle.std.proofs.Common.{refl, arith}
 use Rattle.lid_design.specs.declared.Design.{Design}
 use Rattle.lid_script.specs.Scripts.{Script, IsChecked, IsUnchecked, check_step, built_script}
 use Rattle.lid_script.proofs.Composition.{cause_unchecked}

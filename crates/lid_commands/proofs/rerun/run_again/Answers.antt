@@ -1,4 +1,3 @@
-use Rattle.std.proofs.Common.{List}
 use Rattle.lid_stations.specs.Placements.{links_of}
 use Rattle.lid_script.specs.declared.fault.Stop.TheVariants.{Memory}
 use Rattle.lid_script.specs.Scripts.{rerun_script}
