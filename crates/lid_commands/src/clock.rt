@@ -90,9 +90,7 @@ fn run_built<'a, S: Shelf, O: Sink>(
     ensures kept { S.held shelf.new ≡ S.held shelf.old }
 {
     match read_placement(alloc, shelf, system, stations) {
-        Ok(placement) => run_placed(
-            alloc, shelf, out, checked, system, &placement, vec, trace,
-        ),
+        Ok(placement) => run_placed(alloc, shelf, out, checked, system, &placement, vec, trace),
         Err(stop) => Err(End::Stopped(stop)),
     }
 }

@@ -11,12 +11,10 @@ use Rattle.lid_cli.specs.declared.job.Job.{Job}
 use Rattle.lid_cli.specs.declared.job.Job.TheVariants.{Check, Clock, Place, Rate, Strict, Verify}
 use Rattle.lid_refusals.specs.Faults.{check_line, net_line}
 use Rattle.lid_script.specs.Outputs.{strict_output, report, placed}
-use Rattle.lid_graph.specs.declared.graph.Graph.{Graph}
 use Rattle.lid_cert.specs.declared.cert.Cert.{Cert}
 use Rattle.lid_stations.specs.declared.placement.Placement.{Placement}
 use Rattle.lid_stations.specs.Placements.{Links, no_relays}
-use Rattle.lid_stations.specs.Markings.{marking}
-use Rattle.lid_script.specs.Scripts.{Ending, refuses, gives, Script, fetch, again, decide, end, Reading, good, bad, step, net_reading, vec_reading, check_step, net_step, report_script, check_script, rows_script, checked_script, strict_script, links, system_step, placement_step, stations_read, wires_read, cert_read, wires_script, rated_script, IsJudged, NoLine, judged_script, judging_script, cert_script, place_script, rate_script, verify_script, trace_read, rerun_script, traced_script, vec_script, placed_script, built_script, clock_script, script_of, IsFetched, IsReread, IsChecked, IsUnchecked, EndsIn}
+use Rattle.lid_script.specs.Scripts.{Ending, refuses, gives, Script, fetch, again, decide, end, Reading, good, bad, step, net_reading, vec_reading, check_step, net_step, report_script, check_script, rows_script, checked_script, strict_script, links, system_step, placement_step, stations_read, wires_read, cert_read, wires_script, rated_script, judged_script, judging_script, cert_script, place_script, rate_script, verify_script, trace_read, rerun_script, traced_script, vec_script, placed_script, built_script, clock_script, script_of, IsFetched, IsReread, IsChecked, IsUnchecked, EndsIn}
 use Rattle.lid_script.specs.Statuses.{TellsAll}
 
 -- each step of the script without a fetch has one outcome
