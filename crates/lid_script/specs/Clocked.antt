@@ -50,7 +50,7 @@ traced d b l p rows cycles None = []
 traced d b l p rows cycles (Some most) = trace_text (trace_of d b l p rows (min most cycles))
 
 -- `clock` writes the strict output rows, in how many cycles the sink has fired once for each row, how often
--- the nodes have fired then, and the trace. There is a strict table, and every one gives these bits
+-- the nodes have fired then, and the trace. The tokens are those of a strict table; every one gives the rows
 pub record IsClockText (d : Design) (l : Links) (p : Placement) (rows : List (List Bool)) (trace : Option ℕ) (text : List ℕ) : Type 0 where
   pub table : Table Column
   pub strict : IsStrict (drivers d) rows table
