@@ -16,4 +16,4 @@ pub use lid_reports::{
 pub use reader::read_rows;
 pub use rows::{Rows, VecFault};
 pub use scan::RowScan;
-pub use writer::print_rows;
+pub use writer::{append_header, append_row, print_rows};

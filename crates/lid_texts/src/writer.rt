@@ -13,9 +13,12 @@ use lid_base::{Items, Name};
 use lid_lines::{append_line, cut_back};
 use std::alloc::AllocError;
 
-/// Appends the header line.
+/// Appends the header line: the column names, or `-` where there are no columns.
+///
+/// # Errors
+/// Where there is no memory; what was there before is still there.
 #[tactic(auto, unfolding(lid_lines::specs::Texts::line_text))]
-fn append_header(columns: &[Name], into: &mut Vec<u8>) -> Result<(), AllocError>
+pub fn append_header(columns: &[Name], into: &mut Vec<u8>) -> Result<(), AllocError>
     ensures ok { OnOk result (into.new.items ≡ into.old.items ++ line_text (header_words columns.now)) }
     ensures kept { Keeps into.old.items into.new.items }
 {
@@ -37,8 +40,11 @@ fn append_bits(row: &[bool], into: &mut Vec<u8>) -> Result<(), AllocError>
     Ok(())
 }
 
-/// Appends the line of a row.
-fn append_row(columns: &[Name], row: &[bool], into: &mut Vec<u8>) -> Result<(), AllocError>
+/// Appends the line of a row: its bits as one word, or `-` where there are no columns.
+///
+/// # Errors
+/// Where there is no memory; what was there before is still there.
+pub fn append_row(columns: &[Name], row: &[bool], into: &mut Vec<u8>) -> Result<(), AllocError>
     ensures ok { OnOk result (into.new.items ≡ into.old.items ++ row_text columns.now row.now) }
     ensures kept { Keeps into.old.items into.new.items }
 {
