@@ -1,0 +1,174 @@
+-- A run from cycle to cycle.
+use Rattle.std.proofs.Common.{◌≡◌, ℕ, ◌+◌, ◌*◌, ◌<◌, ◌≤◌, Bool, min, List, [], ◌∷◌, ◌++◌, length, length-append, Option, None, Some, Result, Ok, Err, OnOk, slice_get, refl, sym, ◌∙◌, ap, subst, arith}
+use Rattle.std.proofs.Math.Nat.{mul-le-mul_left, mul-le-mul_right}
+use Rattle.lid_system.specs.declared.System.{System}
+use Rattle.lid_system.specs.Systems.{IsWellFormed}
+use Rattle.lid_stations.specs.declared.placement.Placement.{Placement}
+use Rattle.lid_stations.specs.Placements.{links_of, station_count, Fits}
+use Rattle.lid_stations.specs.Stations.{actor_count, relay_count}
+use Rattle.lid_stations.proofs.Spots.{fewer_relays}
+use Rattle.lid_clock.specs.Lives.{Life, IsLife, NeedsRow, IsBelow}
+use Rattle.lid_clock.specs.Ran.{Ran}
+use Rattle.lid_reports.specs.Runs.{trace_text}
+use Rattle.lid_feed.specs.declared.feed.RowFeed.{RowFeed}
+use Rattle.lid_feed.specs.Fetching.{GivesRow}
+use Rattle.lid_clockrun.specs.declared.steps.Running.{Running}
+use Rattle.lid_clockrun.specs.RunTexts.{IsLifeOf, cells_after, cycles_traced, traced}
+use Rattle.lid_clockrun.specs.Runnings.{Run, source_columns, AreGiven, Begins}
+use Rattle.lid_clockrun.specs.Stepping.{IsSound, HasBegun, Feeds, IsAt, IsRunning, IsReady, GoesOn, IsFedOn}
+use Rattle.lid_clockrun.proofs.Living.{some_life, begins_before, next_row_is, more_given}
+use Rattle.lid_clockrun.proofs.Ends.{below_bounds}
+use Rattle.lid_clockrun.proofs.Outputs.{cells_long, cells_traced, cells_none, text_traced, text_untraced}
+
+-- a fact along a number of cycles and one of rows
+pub along : (P : ℕ → ℕ → Type 0) (k k' g g' : ℕ) → k ≡ k' → g ≡ g' → P k g → P k' g'
+along P k k' g g' ks gs fact = subst (λ (n : ℕ). P n g') ks (subst (λ (n : ℕ). P k n) gs fact)
+
+-- a further row
+one_longer : (given : List (List Bool)) (row : List Bool) → length (given ++ row ∷ []) ≡ length given + 1
+one_longer given row = length-append given (row ∷ [])
+
+module _ (r : Run) (run : Running) (given : List (List Bool)) (at : IsRunning r run given) where
+  pub the_life : (l : Life) × Begins r given l
+  the_life = some_life r at.rules given at.rows
+
+  -- a run of the stream of this life
+  pub the_ran : (l : Life) × (k : ℕ) × (g : ℕ) × Ran l k g run.stream × Begins r given l
+  the_ran = (the_life.0, run.made, length given, (at.lives the_life.0 the_life.1).ran, the_life.1)
+
+  -- where a row is needed, not all were given
+  pub below_all : ((l : Life) (k g : ℕ) → Ran l k g run.stream → NeedsRow l k g) → length given < r.rows
+  below_all needs =
+      let b = the_life.1 in
+      let n = needs the_life.0 run.made (length given) (at.lives the_life.0 b).ran in
+      let on = n.goes_on in
+      let is = n.lacks in
+      let many = b.many in
+      omega arith
+
+  -- a further row was given
+  module _ (new : Running) (feed : RowFeed) (row : List Bool)
+      (needs : (l : Life) (k g : ℕ) → Ran l k g run.stream → NeedsRow l k g)
+      (gave : GivesRow r.held (source_columns r.system) (length r.columns) feed given row)
+      (gives : (l : Life) (k g : ℕ) → Ran l k g run.stream → slice_get l.input g ≡ Some row → Ran l k (g + 1) new.stream)
+      (made : new.made ≡ run.made) (count : new.given ≡ run.given + 1) (trace : new.trace ≡ run.trace) (stations : new.stations ≡ run.stations) (cells : new.cells ≡ run.cells) where
+    is_at : (l : Life) → Begins r (given ++ row ∷ []) l → IsAt r (length (given ++ row ∷ [])) new l
+    is_at l b =
+        let before = at.lives l (begins_before r given row l b) in
+        record {
+          ran = along (λ k g. Ran l k g new.stream) run.made new.made (length given + 1) (length (given ++ row ∷ [])) (sym made) (sym (one_longer given row))
+              (gives l run.made (length given) before.ran (next_row_is r given row l b));
+          cells = ap (λ cs. cs.items) cells ∙ before.cells ∙ ap (λ (k : ℕ). cells_after l (cycles_traced r.trace k)) (sym made);
+          busy = λ k h. before.busy k (let e = made in omega arith);
+        }
+
+    pub fed_on : IsFedOn r given new feed
+    fed_on = record {
+      given = given ++ row ∷ [];
+      running = record {
+        rules = at.rules;
+        rows = more_given r given row at.rows (below_all needs) gave.wide gave.first;
+        count = count ∙ ap (λ (n : ℕ). n + 1) at.count ∙ sym (one_longer given row);
+        trace = trace ∙ at.trace;
+        stations = stations ∙ at.stations;
+        lives = is_at;
+      };
+      feeds = gave.gives;
+      further = λ l b. begins_before r given row l b;
+      ready = λ l b n.
+          let needed = needs l run.made (length given) (at.lives l (begins_before r given row l b)).ran in
+          let again = subst (λ (k : ℕ). NeedsRow l k (length (given ++ row ∷ []))) made n in
+          let was = needed.lacks in
+          let is = again.lacks in
+          let more = one_longer given row in
+          omega arith;
+    }
+
+  -- no row is needed
+  pub fed_already : (feed : RowFeed) → Feeds r feed given → ((l : Life) (k g : ℕ) → Ran l k g run.stream → NeedsRow l k g → ⊥) → IsFedOn r given run feed
+  fed_already feed feeds none = record {
+    given = given;
+    running = at;
+    feeds = feeds;
+    further = λ l b. b;
+    ready = λ l b. none l run.made (length given) (at.lives l b).ran;
+  }
+
+  -- a run that goes on has made few cycles
+  pub few_cycles : GoesOn r run given → run.made < actor_count (links_of r.system) r.placement * r.rows
+  few_cycles goes =
+      let l = the_life.0 in
+      let b = the_life.1 in
+      subst (λ (n : ℕ). run.made < n) (bound l b) (below_bounds l b.of.rules b.of.free run.made (goes l b))
+    where
+      bound : (l : Life) → Begins r given l → actor_count (links_of l.system) l.placement * length l.input ≡ actor_count (links_of r.system) r.placement * r.rows
+      bound l b = ap (λ s. actor_count (links_of s) l.placement * length l.input) b.of.of ∙ ap (λ p. actor_count (links_of r.system) p * length l.input) b.of.stations ∙ ap (λ (n : ℕ). actor_count (links_of r.system) r.placement * n) b.many
+
+  actors_few : actor_count (links_of r.system) r.placement ≤ 70000
+  actors_few =
+      let sum = fewer_relays r.placement.relays in
+      let most = at.rules.fits.rules.most in
+      let nodes = at.rules.system.most in
+      omega arith
+
+  pub made_fits : GoesOn r run given → run.made < 70000 * 1000000
+  made_fits goes =
+      let few = few_cycles goes in
+      let rows : r.rows ≤ 1000000 = (let f = at.rules.few in omega arith) in
+      let first = mul-le-mul_right r.rows actors_few in
+      let second = mul-le-mul_left 70000 rows in
+      omega (arith, few, first, second)
+
+  -- the trace of a run
+  module _ (most : ℕ) (is : run.trace ≡ Some most) where
+    trace_is : r.trace ≡ Some most
+    trace_is = sym at.trace ∙ is
+
+    stations_are : (l : Life) → Begins r given l → run.stations ≡ station_count l.placement.relays
+    stations_are l b = at.stations ∙ ap (λ p. station_count p.relays) (sym b.of.stations)
+
+    cells_are : (l : Life) → Begins r given l → run.cells.items ≡ cells_after l (min run.made most)
+    cells_are l b = cells_traced l r.trace most run.made run.cells.items trace_is (at.lives l b).cells
+
+    pub trace_long : length run.cells.items ≡ run.stations * min run.made most
+    trace_long =
+        let l = the_life.0 in
+        let b = the_life.1 in
+        ap length (cells_are l b) ∙ cells_long l (min run.made most) ∙ ap (λ (n : ℕ). n * min run.made most) (sym (stations_are l b))
+
+    pub trace_is_text : (l : Life) → Begins r given l → trace_text (record { stations = run.stations; cycles = min run.made most; cells = run.cells.items }) ≡ traced l r.trace run.made
+    trace_is_text l b = text_traced l r.trace most run.made run.stations run.cells.items trace_is (stations_are l b) (cells_are l b)
+
+  pub trace_is_none : run.trace ≡ None → (l : Life) → traced l r.trace run.made ≡ []
+  trace_is_none is l = text_untraced l r.trace run.made (sym at.trace ∙ is)
+
+-- a run that has begun
+pub begun : (r : Run) (s : System) (p : Placement) (rows : ℕ) (trace : Option ℕ) → r.system ≡ s → r.placement ≡ p → r.rows ≡ rows → r.trace ≡ trace
+    → IsSound r → (given : List (List Bool)) → AreGiven r given → (run : Running) (first : Option (List Bool)) → HasBegun s p rows first trace run
+    → length given ≡ min 1 rows → ((l : Life) → Begins r given l → slice_get l.input 0 ≡ first) → IsRunning r run given
+begun r s p rows trace system stations many most sound given are run first h long begins = record {
+  rules = sound;
+  rows = are;
+  count = h.given ∙ sym long;
+  trace = h.trace ∙ sym most;
+  stations = h.stations ∙ ap (λ p. station_count p.relays) (sym stations);
+  lives = λ l b. record {
+    ran = along (λ k g. Ran l k g run.stream) 0 run.made (min 1 rows) (length given) (sym h.made) (sym long)
+        (h.ran l (record { rules = b.of.rules; of = b.of.of ∙ system; stations = b.of.stations ∙ stations; many = b.many ∙ many; begins = begins l b }));
+    cells = h.cells ∙ sym (cells_none l r.trace) ∙ ap (λ (k : ℕ). cells_after l (cycles_traced r.trace k)) (sym h.made);
+    busy = λ k below. absurd (let none = h.made in omega arith);
+  };
+}
+
+-- the rules of a run
+pub sound_of : (r : Run) (s : System) (p : Placement) (rows : ℕ) → r.system ≡ s → r.placement ≡ p → r.rows ≡ rows → IsWellFormed s → Fits s p → rows ≤ 1000000 → IsSound r
+sound_of r s p rows system stations many well fits few = record {
+  system = subst IsWellFormed (sym system) well;
+  fits = subst (λ q. Fits r.system q) (sym stations) (subst (λ t. Fits t p) (sym system) fits);
+  few = subst (λ (n : ℕ). n ≤ 1000000) (sym many) few;
+}
+
+-- what holds of a result for each value
+pub on_ok_each : {A E X : Type 0} → (P : X → Type 0) (result : Result A E) → ((x : X) → OnOk result (P x)) → OnOk result ((x : X) → P x)
+on_ok_each P (Ok a) each = each
+on_ok_each P (Err e) each = tt

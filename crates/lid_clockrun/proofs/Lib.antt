@@ -1,0 +1,7 @@
+pub mod Owed
+pub mod Pushes
+pub mod Outputs
+pub mod Ends
+pub mod Living
+pub mod Goings
+pub mod Tellings

@@ -1,0 +1,39 @@
+use Rattle.std.proofs.Common.{◌≡◌, ◌≤◌, ◌++◌, ℕ, List, length, sym, ◌∙◌, ap, subst, append_assoc, arith}
+use Rattle.lid_base.proofs.Results.{on_ok}
+use Rattle.lid_design.specs.Network.{from_each}
+use Rattle.lid_system.proofs.Shelling.{each_length}
+use Rattle.lid_clock.specs.Lives.{fired_after}
+use Rattle.lid_reports.specs.Runs.{cycles_text}
+use Rattle.lid_clockrun.specs.RunTexts.{nodes_fired, traced}
+use Rattle.lid_clockrun.proofs.Goings.{the_life}
+use Rattle.lid_clockrun.proofs.steps.Running.append_end.Goals as goal
+
+pub firings-requires : goal.firings-requires
+firings-requires c =
+    let r = c.requires.0 in
+    let given = c.requires.1 in
+    let at = c.requires.2 in
+    let life = the_life r c.args.self.now given at in
+    (life.0, c.args.self.now.made, length given, (at.lives life.0 life.1).ran, c.requires.3 ∙ ap (λ s. length s.nodes) (sym life.1.of.of))
+
+pub print_cycles-requires : goal.print_cycles-requires
+print_cycles-requires c =
+    let r = c.requires.0 in
+    let given = c.requires.1 in
+    let at = c.requires.2 in
+    let life = the_life r c.args.self.now given at in
+    let l = life.0 in
+    let fired = c.in_ok-fired.ensures l c.args.self.now.made (length given) (at.lives l life.1).ran in
+    let long : length c.deref.result.now ≡ c.args.nodes = ap length (c.deref.ensures.value ∙ fired) ∙ each_length (fired_after l c.args.self.now.made) 0 c.args.nodes in
+    omega (arith, long, c.requires.3, at.rules.system.least)
+
+pub returns : goal.returns
+returns c = λ r given l at b nodes.
+    let made = c.args.self.now.made in
+    let fired = c.in_ok-fired.ensures l made (length given) (at.lives l b).ran in
+    let all : c.deref.result.now ≡ nodes_fired l made =
+        c.deref.ensures.value ∙ fired ∙ ap (from_each (fired_after l made) 0) (nodes ∙ ap (λ s. length s.nodes) (sym b.of.of)) in
+    on_ok c.append_trace.result
+    (λ is. is ∙ ap (λ (xs : List ℕ). xs ++ traced l r.trace made) (c.in_ok-print_cycles.ensures.ok ∙ ap (λ (ns : List ℕ). c.args.into.now.items ++ cycles_text made ns) all)
+        ∙ append_assoc c.args.into.now.items (cycles_text made (nodes_fired l made)) (traced l r.trace made))
+    (c.append_trace.ensures r given l at b)

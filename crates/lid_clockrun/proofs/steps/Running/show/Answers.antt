@@ -1,0 +1,28 @@
+use Rattle.std.proofs.Common.{◌≡◌, ◌+◌, ◌++◌, length, sym, ◌∙◌, ap}
+use Rattle.lid_stations.specs.Placements.{station_count}
+use Rattle.lid_base.proofs.Results.{on_ok}
+use Rattle.lid_design.specs.Network.{from_each}
+use Rattle.lid_clock.specs.Lives.{Life, shown_after}
+use Rattle.lid_clockrun.specs.RunTexts.{cells_after, cycles_traced}
+use Rattle.lid_clockrun.specs.Runnings.{Begins}
+use Rattle.lid_clockrun.proofs.Outputs.{shown_in}
+use Rattle.lid_clockrun.proofs.Goings.{the_life, on_ok_each}
+use Rattle.lid_clockrun.proofs.steps.Running.show.Goals as goal
+
+pub push_cells-requires : goal.push_cells-requires
+push_cells-requires c =
+    let r = c.requires.0 in
+    let given = c.requires.1 in
+    let at = c.requires.2 in
+    let life = the_life r c.args.self.now given at in
+    (life.0, c.args.self.now.made, length given, (at.lives life.0 life.1).ran, at.stations ∙ ap (λ p. station_count p.relays) (sym life.1.of.stations))
+
+pub returns-then-self-most-clause-shown : goal.returns-then-self-most-clause-shown
+returns-then-self-most-clause-shown c = λ r given at.
+    let made = c.args.self.now.made in
+    on_ok c.push_cells.result (λ each l b. each (l, b))
+    (on_ok_each {X = (l : Life) × Begins r given l} (λ x. c.push_cells.new.cells.items ≡ cells_after x.0 (cycles_traced r.trace (made + 1))) c.push_cells.result
+    (λ x. on_ok c.push_cells.result
+        (λ is. shown_in x.0 r.trace c.in-Some.most made c.args.self.now.cells.items c.push_cells.new.cells.items (sym at.trace ∙ c.in-Some.is) c.if-self-most.true (at.lives x.0 x.1).cells
+            (is ∙ ap (λ n. c.args.self.now.cells.items ++ from_each (shown_after x.0 made) 0 n) (at.stations ∙ ap (λ p. station_count p.relays) (sym x.1.of.stations))))
+        (c.push_cells.ensures x.0 made (length given) (at.lives x.0 x.1).ran)))

@@ -1,0 +1,4 @@
+pub mod RunTexts
+pub mod Runnings
+pub mod Pushing
+pub mod Stepping

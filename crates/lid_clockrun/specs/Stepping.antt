@@ -1,0 +1,83 @@
+-- What a run is between its cycles. This serves the code of this crate.
+use Rattle.std.specs.Prelude.{◌≡◌, ℕ, ◌+◌, ◌<◌, ◌≤◌, min, Bool, List, [], length, Option}
+use Rattle.lid_stations.specs.Placements.{station_count, Fits}
+use Rattle.lid_system.specs.declared.System.{System}
+use Rattle.lid_system.specs.Systems.{IsWellFormed}
+use Rattle.lid_stations.specs.declared.placement.Placement.{Placement}
+use Rattle.lid_clock.specs.Lives.{Life, NeedsRow, IsBelow, StartsSo, fired_after, sink}
+use Rattle.lid_clock.specs.Ran.{Ran}
+use Rattle.lid_texts.specs.RowsText.{rows_text}
+use Rattle.lid_feed.specs.declared.feed.RowFeed.{RowFeed}
+use Rattle.lid_feed.specs.Fetching.{HasGiven}
+use Rattle.lid_clockrun.specs.declared.steps.Running.{Running}
+use Rattle.lid_clockrun.specs.RunTexts.{cells_after, first_outputs, cycles_traced}
+use Rattle.lid_clockrun.specs.Runnings.{Run, source_columns, AreGiven, Begins}
+use Rattle.lid_clockrun.specs.Pushing.{HasPushed}
+
+-- the rules of runs
+pub record IsSound (r : Run) : Type 0 where
+  pub system : IsWellFormed r.system
+  pub fits : Fits r.system r.placement
+  pub few : r.rows ≤ 1000000
+
+-- a run that made no cycle, of a system with its stations over so many rows, of which the first is this
+pub record HasBegun (s : System) (p : Placement) (rows : ℕ) (first : Option (List Bool)) (most : Option ℕ) (run : Running) : Type 0 where
+  pub ran : (l : Life) → StartsSo l s p rows first → Ran l 0 (min 1 rows) run.stream
+  pub given : run.given ≡ min 1 rows
+  pub made : run.made ≡ 0
+  pub stations : run.stations ≡ station_count p.relays
+  pub trace : run.trace ≡ most
+  pub cells : run.cells.items ≡ []
+
+-- the feed has given these rows
+abbrev pub Feeds : Run → RowFeed → List (List Bool) → Type 0
+Feeds r feed given = HasGiven r.held (source_columns r.system) (length r.columns) feed given
+
+-- a run is where a life is that was given so many rows, and the sink had a firing left before each cycle
+pub record IsAt (r : Run) (given : ℕ) (run : Running) (l : Life) : Type 0 where
+  pub ran : Ran l run.made given run.stream
+  pub cells : run.cells.items ≡ cells_after l (cycles_traced r.trace run.made)
+  pub busy : (k : ℕ) → k < run.made → IsBelow l k
+
+-- a run that was given these rows
+pub record IsRunning (r : Run) (run : Running) (given : List (List Bool)) : Type 0 where
+  pub rules : IsSound r
+  pub rows : AreGiven r given
+  pub count : run.given ≡ length given
+  pub trace : run.trace ≡ r.trace
+  pub stations : run.stations ≡ station_count r.placement.relays
+  pub lives : (l : Life) → Begins r given l → IsAt r (length given) run l
+
+-- no life needs a further row
+abbrev pub IsReady : Run → Running → List (List Bool) → Type 0
+IsReady r run given = (l : Life) → Begins r given l → NeedsRow l run.made (length given) → ⊥
+
+-- the run has not ended
+abbrev pub GoesOn : Run → Running → List (List Bool) → Type 0
+GoesOn r run given = (l : Life) → Begins r given l → IsBelow l run.made
+
+-- a run with its feed, that was given these rows
+pub record IsFed (r : Run) (held : Option (List ℕ)) (run : Running) (feed : RowFeed) (given : List (List Bool)) : Type 0 where
+  pub told : r.held ≡ held
+  pub running : IsRunning r run given
+  pub feeds : Feeds r feed given
+
+-- a run that was given rows so that it is ready
+pub record IsFedOn (r : Run) (before : List (List Bool)) (run : Running) (feed : RowFeed) : Type 0 where
+  pub given : List (List Bool)
+  pub running : IsRunning r run given
+  pub feeds : Feeds r feed given
+  pub further : (l : Life) → Begins r given l → Begins r before l
+  pub ready : IsReady r run given
+
+-- a run that made a further cycle
+pub record HasGone (r : Run) (before : List (List Bool)) (made : ℕ) (run : Running) (feed : RowFeed) : Type 0 where
+  pub given : List (List Bool)
+  pub running : IsRunning r run given
+  pub feeds : Feeds r feed given
+  pub further : (l : Life) → Begins r given l → Begins r before l
+  pub one : run.made ≡ made + 1
+
+-- the rows for which the sink has fired were pushed
+abbrev pub HasTold : Run → List (List Bool) → ℕ → Option (List ℕ) → Option (List ℕ) → List ℕ → Type 0
+HasTold r given made before now held = (l : Life) → Begins r given l → HasPushed before now held (rows_text r.columns (first_outputs l (fired_after l made (sink l))))

@@ -1,0 +1,10 @@
+//! The clocked run whose rows are fetched from a file as they are needed, told as it goes.
+#![tactic(auto)]
+
+mod fault;
+mod lines;
+mod steps;
+mod whole;
+
+pub use fault::RunFault;
+pub use whole::run;

@@ -1,0 +1,256 @@
+//! A run between its cycles.
+
+ghost use Rattle.std.specs.Prelude.{◌≡◌, ◌≤◌, ◌<◌, ◌+◌, ◌++◌, ℕ, min, Bool, List, [], length, Option, None, Some, IfOk, IfErr, OnOk};
+ghost use Rattle.lid_base.specs.Outside.{Rose};
+ghost use Rattle.lid_design.specs.Network.{from_each};
+ghost use Rattle.lid_system.specs.Systems.{IsWellFormed};
+ghost use Rattle.lid_stations.specs.Placements.{links_of, station_count, Fits};
+ghost use Rattle.lid_clock.specs.Lives.{Life, fired_after, shown_after};
+ghost use Rattle.lid_clock.specs.Ran.{Ran, lent, IsFirst};
+ghost use Rattle.lid_feed.specs.Fetching.{HasGiven, GivesRow};
+ghost use Rattle.lid_clockrun.specs.RunTexts.{cells_after, cycles_traced, traced, end_text};
+ghost use Rattle.lid_clockrun.specs.Runnings.{Run, Begins, IsCause, source_columns};
+ghost use Rattle.lid_clockrun.specs.Stepping.{HasBegun, Feeds, IsRunning, IsReady, GoesOn, IsFed, IsFedOn, HasGone};
+
+use crate::fault::RunFault;
+use lid_base::{Items, Shelf, Shown};
+use lid_clock::ClockStream;
+use lid_feed::RowFeed;
+use lid_stations::Placement;
+use lid_system::System;
+use lid_texts::{Trace, print_cycles, print_trace};
+use std::alloc::{AllocError, Global};
+use std::mem;
+
+/// A run between its cycles.
+#[derive(Drop)]
+pub(crate) struct Running {
+    alloc: Global,
+    pub(crate) stream: ClockStream,
+    /// How many cycles were made.
+    made: u64,
+    /// How many rows were given.
+    given: u64,
+    /// How many stations there are.
+    stations: u32,
+    /// For how many cycles at most a trace is wanted.
+    trace: Option<u64>,
+    /// What the stations showed in these.
+    cells: Vec<Shown>,
+}
+
+/// The next row of a feed that has given so many, where there must be one.
+fn next_row<S: Shelf>(
+    shelf: &mut S,
+    feed: &mut RowFeed,
+    given: u64,
+) -> Result<Items<bool>, RunFault>
+    ensures ok { (r : Run) (rows : List (List Bool)) → r.held ≡ S.held shelf.old feed.old.name → Feeds r feed.old rows
+        → IfOk result (GivesRow r.held (source_columns r.system) (length r.columns) feed.new rows) }
+    ensures err { (r : Run) (rows : List (List Bool)) → r.held ≡ S.held shelf.old feed.old.name → Feeds r feed.old rows → given ≡ length rows → given < r.rows
+        → IfErr result (IsCause r rows (Rose (S.faults shelf.old feed.old.name) (S.faults shelf.new feed.old.name)) ⊥) }
+    ensures name { feed.new.name ≡ feed.old.name }
+    ensures kept { S.held shelf.new ≡ S.held shelf.old }
+    ensures grows { (q : List ℕ) → S.faults shelf.old q ≤ S.faults shelf.new q }
+{
+    match feed.next(shelf) {
+        Ok(Some(row)) => Ok(row),
+        Ok(None) => Err(RunFault::Few { found: given }),
+        Err(fault) => Err(RunFault::Feed(fault)),
+    }
+}
+
+/// Appends what each station shows.
+fn push_cells(
+    stream: &ClockStream,
+    stations: u32,
+    cells: &mut Vec<Shown>,
+) -> Result<(), AllocError>
+    requires { (l : Life) × (k : ℕ) × (g : ℕ) × Ran l k g stream.now × (stations ≡ station_count l.placement.relays) }
+    ensures { (l : Life) (k g : ℕ) → Ran l k g stream.now → OnOk result (cells.new.items ≡ cells.old.items ++ from_each (shown_after l k) 0 stations) }
+{
+    for station in 0..stations {
+        cells.push(stream.show(station))?;
+    }
+    Ok(())
+}
+
+/// How often each of so many nodes has fired.
+fn firings(alloc: Global, stream: &ClockStream, nodes: u32) -> Result<Vec<u64>, AllocError>
+    requires { (l : Life) × (k : ℕ) × (g : ℕ) × Ran l k g stream.now × (nodes ≡ length l.system.nodes) }
+    ensures { (l : Life) (k g : ℕ) → Ran l k g stream.now → IfOk result (λ fired. fired.items ≡ from_each (fired_after l k) 0 nodes) }
+{
+    let mut fired = Vec::new(alloc);
+    for node in 0..nodes {
+        fired.push(stream.fired(node))?;
+    }
+    Ok(fired)
+}
+
+impl Running {
+    /// A run of a system with its stations over so many rows, of which the first is this.
+    fn begin(
+        alloc: Global,
+        system: &System,
+        placement: &Placement,
+        rows: u64,
+        first: Option<&[bool]>,
+        trace: Option<u64>,
+    ) -> Result<Running, RunFault>
+        requires system { IsWellFormed system.now }
+        requires fits { Fits system.now placement.now }
+        requires few { rows ≤ 1000000 }
+        requires first { IsFirst system.now rows (lent first) }
+        ensures begun { IfOk result (HasBegun system.now placement.now rows (lent first.entry) trace) }
+        ensures cause { IfErr result (λ fault. fault ≡ RunFault.Memory) }
+    {
+        let Ok(stream) = ClockStream::start(alloc, system, placement, rows, first) else {
+            return Err(RunFault::Memory);
+        };
+        Ok(Running {
+            alloc,
+            stream,
+            made: 0,
+            given: rows.min(1),
+            stations: placement.caps.len() as u32,
+            trace,
+            cells: Vec::new(alloc),
+        })
+    }
+
+    /// Starts a run over the rows of a feed that has given none, for which it fetches the first.
+    pub(crate) fn start<S: Shelf>(
+        alloc: Global,
+        shelf: &mut S,
+        system: &System,
+        placement: &Placement,
+        rows: u64,
+        feed: &mut RowFeed,
+        trace: Option<u64>,
+    ) -> Result<Running, RunFault>
+        requires system { IsWellFormed system.now }
+        requires fits { Fits system.now placement.now }
+        requires few { rows ≤ 1000000 }
+        requires feeds { (columns : List (List ℕ)) × HasGiven (S.held shelf.old feed.old.name) (source_columns system.now) (length columns) feed.old [] }
+        ensures ok { (r : Run) → r.system ≡ system.now → r.placement ≡ placement.now → r.rows ≡ rows → r.trace ≡ trace → r.held ≡ S.held shelf.old feed.old.name → Feeds r feed.old []
+            → IfOk result (λ run. (given : List (List Bool)) × IsRunning r run given × Feeds r feed.new given) }
+        ensures made { IfOk result (λ run. run.made ≡ 0) }
+        ensures err { (r : Run) → r.system ≡ system.now → r.rows ≡ rows → r.held ≡ S.held shelf.old feed.old.name → Feeds r feed.old []
+            → IfErr result (IsCause r [] (Rose (S.faults shelf.old feed.old.name) (S.faults shelf.new feed.old.name)) ⊥) }
+        ensures name { feed.new.name ≡ feed.old.name }
+        ensures kept { S.held shelf.new ≡ S.held shelf.old }
+        ensures grows { (q : List ℕ) → S.faults shelf.old q ≤ S.faults shelf.new q }
+    {
+        if rows == 0 {
+            return Running::begin(alloc, system, placement, rows, None, trace);
+        }
+        let row = match next_row(shelf, feed, 0) {
+            Ok(row) => row,
+            Err(fault) => return Err(fault),
+        };
+        Running::begin(alloc, system, placement, rows, Some(row.as_slice()), trace)
+    }
+
+    /// Fetches and gives the next row, where it is needed.
+    fn feed_on<S: Shelf>(&mut self, shelf: &mut S, feed: &mut RowFeed) -> Result<(), RunFault>
+        requires { (r : Run) × (given : List (List Bool)) × IsFed r (S.held shelf.old feed.old.name) self.old feed.old given }
+        ensures ok { (r : Run) (given : List (List Bool)) → IsFed r (S.held shelf.old feed.old.name) self.old feed.old given
+            → OnOk result (IsFedOn r given self.new feed.new) }
+        ensures made { OnOk result (self.new.made ≡ self.old.made) }
+        ensures err { (r : Run) (given : List (List Bool)) → IsFed r (S.held shelf.old feed.old.name) self.old feed.old given
+            → IfErr result (IsCause r given (Rose (S.faults shelf.old feed.old.name) (S.faults shelf.new feed.old.name)) ⊥) }
+        ensures name { feed.new.name ≡ feed.old.name }
+        ensures kept { S.held shelf.new ≡ S.held shelf.old }
+        ensures grows { (q : List ℕ) → S.faults shelf.old q ≤ S.faults shelf.new q }
+    {
+        if !self.stream.needs() {
+            return Ok(());
+        }
+        let row = match next_row(shelf, feed, self.given) {
+            Ok(row) => row,
+            Err(fault) => return Err(fault),
+        };
+        self.stream.give(row.as_slice());
+        self.given += 1;
+        Ok(())
+    }
+
+    /// Keeps what the stations show, where that is wanted of this cycle.
+    fn show(&mut self) -> Result<(), AllocError>
+        requires { (r : Run) × (given : List (List Bool)) × IsRunning r self.old given }
+        ensures shown { (r : Run) (given : List (List Bool)) → IsRunning r self.old given
+            → OnOk result ((l : Life) → Begins r given l → self.new.cells.items ≡ cells_after l (cycles_traced r.trace (self.old.made + 1))) }
+        ensures rest { self.new ≡ record self.old { cells = self.new.cells } }
+    {
+        if let Some(most) = self.trace {
+            if self.made < most {
+                return push_cells(&self.stream, self.stations, &mut self.cells);
+            }
+        }
+        Ok(())
+    }
+
+    /// Makes a cycle of a run that is ready and has not ended.
+    fn step(&mut self) -> Result<(), AllocError>
+        requires { (r : Run) × (given : List (List Bool)) × IsRunning r self.old given × IsReady r self.old given × GoesOn r self.old given }
+        ensures ok { (r : Run) (given : List (List Bool)) → IsRunning r self.old given → IsReady r self.old given → GoesOn r self.old given
+            → OnOk result (IsRunning r self.new given) }
+        ensures one { OnOk result (self.new.made ≡ self.old.made + 1) }
+    {
+        self.show()?;
+        self.stream.cycle();
+        self.made += 1;
+        Ok(())
+    }
+
+    /// Makes a cycle of a run that has not ended, before which it fetches and gives the next row, where
+    /// it is needed.
+    pub(crate) fn go<S: Shelf>(&mut self, shelf: &mut S, feed: &mut RowFeed) -> Result<(), RunFault>
+        requires { (r : Run) × (given : List (List Bool)) × IsFed r (S.held shelf.old feed.old.name) self.old feed.old given × GoesOn r self.old given }
+        ensures ok { (r : Run) (given : List (List Bool)) → IsFed r (S.held shelf.old feed.old.name) self.old feed.old given → GoesOn r self.old given
+            → OnOk result (HasGone r given self.old.made self.new feed.new) }
+        ensures err { (r : Run) (given : List (List Bool)) → IsFed r (S.held shelf.old feed.old.name) self.old feed.old given → GoesOn r self.old given
+            → IfErr result (IsCause r given (Rose (S.faults shelf.old feed.old.name) (S.faults shelf.new feed.old.name)) ⊥) }
+        ensures name { feed.new.name ≡ feed.old.name }
+        ensures kept { S.held shelf.new ≡ S.held shelf.old }
+        ensures grows { (q : List ℕ) → S.faults shelf.old q ≤ S.faults shelf.new q }
+    {
+        if let Err(fault) = self.feed_on(shelf, feed) {
+            return Err(fault);
+        }
+        let Ok(()) = self.step() else {
+            return Err(RunFault::Memory);
+        };
+        Ok(())
+    }
+
+    /// Appends the trace, where one is wanted.
+    fn append_trace(&mut self, into: &mut Vec<u8>) -> Result<(), AllocError>
+        requires { (r : Run) × (given : List (List Bool)) × IsRunning r self.old given }
+        ensures { (r : Run) (given : List (List Bool)) (l : Life) → IsRunning r self.old given → Begins r given l
+            → OnOk result (into.new.items ≡ into.old.items ++ traced l r.trace self.old.made) }
+    {
+        let Some(most) = self.trace else {
+            return Ok(());
+        };
+        let cells = mem::replace(&mut self.cells, Vec::new(self.alloc));
+        let trace = Trace {
+            stations: self.stations,
+            cycles: self.made.min(most),
+            cells: Items::from_vec(cells),
+        };
+        print_trace(&trace, into)
+    }
+
+    /// Appends how many cycles were made, how often each of so many nodes has fired, and the trace,
+    /// where one is wanted.
+    pub(crate) fn append_end(&mut self, nodes: u32, into: &mut Vec<u8>) -> Result<(), AllocError>
+        requires { (r : Run) × (given : List (List Bool)) × IsRunning r self.old given × (nodes ≡ length r.system.nodes) }
+        ensures { (r : Run) (given : List (List Bool)) (l : Life) → IsRunning r self.old given → Begins r given l → nodes ≡ length r.system.nodes
+            → OnOk result (into.new.items ≡ into.old.items ++ end_text l r.trace self.old.made) }
+    {
+        let fired = firings(self.alloc, &self.stream, nodes)?;
+        print_cycles(self.made, &fired, into)?;
+        self.append_trace(into)
+    }
+}
