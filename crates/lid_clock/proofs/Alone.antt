@@ -1,5 +1,5 @@
 -- New actors, to which no station is joined.
-use Rattle.std.proofs.Common.{◌≡◌, ℕ, ◌+◌, Bool, List, [], ◌∷◌, ◌++◌, length, refl, sym, ◌∙◌, ap, subst, arith}
+use Rattle.std.proofs.Common.{◌≡◌, ℕ, ◌+◌, Bool, List, [], ◌∷◌, ◌++◌, sym, ◌∙◌, ap, subst}
 use Rattle.std.specs.Prelude.{Option}
 use Rattle.lid_system.specs.declared.System.{System}
 use Rattle.lid_clock.specs.declared.actor.ClockActor.{ClockActor}

@@ -1,5 +1,5 @@
 -- A run that was built is one that has not yet made a cycle.
-use Rattle.std.proofs.Common.{◌≡◌, ◌≢◌, ℕ, zero, suc, ◌+◌, ◌-◌, ◌<◌, ◌≤◌, ◌⊎◌, inl, inr, ◌==◌, min, nat_lt, Bool, true, false, cond, List, [], ◌∷◌, ◌++◌, length, get_or, map, filter, refl, sym, ◌∙◌, ap, subst, zero-add, arith}
+use Rattle.std.proofs.Common.{◌≡◌, ◌≢◌, ℕ, suc, ◌+◌, ◌-◌, ◌<◌, ◌≤◌, ◌⊎◌, inl, inr, ◌==◌, min, nat_lt, Bool, true, false, cond, List, [], ◌∷◌, ◌++◌, length, get_or, map, filter, refl, sym, ◌∙◌, ap, subst, zero-add, arith}
 use Rattle.std.specs.Prelude.{Option, Some, IfSome, slice_get, ⊤}
 use Rattle.std.proofs.lemmas.Bool.{eq-eqb, ltb-true, ltb-false, false≢true}
 use Rattle.std.proofs.lemmas.List.{length-map, get_or-map}
@@ -11,10 +11,10 @@ use Rattle.lid_system.specs.declared.System.{System}
 use Rattle.lid_system.specs.Systems.{Point, IsWellFormed}
 use Rattle.lid_system.specs.Streams.{token_at}
 use Rattle.lid_nodes.specs.Nodes.{channels_to, channels_from, tokens_from}
-use Rattle.lid_nodes.specs.Wiring.{IsSourceOf, IsShellOf, IsSinkOf, ports_from}
+use Rattle.lid_nodes.specs.Wiring.{IsShellOf, ports_from}
 use Rattle.lid_stations.specs.declared.placement.Placement.{Placement}
 use Rattle.lid_stations.specs.Placements.{Links, links_of, station_count, Fits}
-use Rattle.lid_stations.specs.Stations.{actor_count, filler, drainer, start_count, capacity}
+use Rattle.lid_stations.specs.Stations.{actor_count, filler, drainer, start_count}
 use Rattle.lid_stations.proofs.Parts.{each_more}
 use Rattle.lid_runs.specs.Runs.{drained_by, filled_by, starts_with, token_of}
 use Rattle.lid_clock.specs.declared.part.Part.{Part}
@@ -25,11 +25,10 @@ use Rattle.lid_clock.specs.declared.stream.ClockStream.{ClockStream}
 use Rattle.lid_clock.specs.Rings.{token_in}
 use Rattle.lid_clock.specs.Rules.{RunsGoByRules}
 use Rattle.lid_clock.specs.Parts.{IsOfSize}
-use Rattle.lid_clock.specs.Actors.{HasPlaces}
-use Rattle.lid_clock.specs.Lives.{Life, IsLife, StartsSo, fired_after, sink, HasSunk}
-use Rattle.lid_clock.specs.States.{outs_of, token_of_life, put_after, taken_after, actors_of, stations_of, IsStation, IsPart, HoldsLast, IsActor, AreActors, AreStations, IsLatest}
+use Rattle.lid_clock.specs.Lives.{Life, IsLife, StartsSo, fired_after, sink}
+use Rattle.lid_clock.specs.States.{outs_of, token_of_life, put_after, taken_after, actors_of, stations_of, IsStation, IsPart, IsActor, AreActors, AreStations, IsLatest}
 use Rattle.lid_clock.specs.Ran.{Ran}
-use Rattle.lid_clock.specs.Starts.{IsNewPart, IsNew, AreNew, drained_of, filled_of, IsJoined, AreJoined, IsLaid, HasLaid, Shows, IsSized, IsReadied, AreReadied, CanGain, HasGained, Begins, AllBegin}
+use Rattle.lid_clock.specs.Starts.{IsNewPart, IsNew, AreNew, filled_of, IsJoined, AreJoined, IsLaid, HasLaid, Shows, IsSized, AreReadied, CanGain, HasGained}
 use Rattle.lid_clock.proofs.Bars.{element}
 use Rattle.lid_clock.proofs.Built.{HasBegun, IsBuilt}
 
@@ -150,14 +149,17 @@ module _ (r : RunsGoByRules) (l : Life) (life : IsLife l) where
       given.1 ∙ ap (λ (x : List Bool). Some x) (sym same)
 
   new_part : (v : ℕ) (part : Part) → IsNewPart l.system (slice_get l.input 0) v part → IsPart l (min 1 (length l.input)) v 0 part
-  new_part v (Source node row) new =
-      (new.0, new.1, λ some.
-      let none : min 1 (length l.input) - 1 ≡ 0 = omega arith in
-      record {
-        next = omega arith;
-        near = omega arith;
-        is = ap (slice_get l.input) none ∙ first_held row.items new.3 some;
-      })
+  new_part v (Source node row) new = (
+    new.0,
+    new.1,
+    λ some.
+        let none : min 1 (length l.input) - 1 ≡ 0 = omega arith in
+        record {
+          next = omega arith;
+          near = omega arith;
+          is = ap (slice_get l.input) none ∙ first_held row.items new.3 some;
+        },
+  )
   new_part v (Shell node) new = (new.0, new.1, new.2 l.table)
   new_part v Mover new = new
   new_part v (Sink node row) new = new.0
@@ -208,9 +210,9 @@ module _ (r : RunsGoByRules) (l : Life) (life : IsLife l) where
         let some : 0 < length l.input = ltb-true 0 (length l.input) rows in
         let fills : y.filler ≡ filler links l.placement i = laid.empty.filled in
         let one : start_count l.placement i ≡ 1 = elim (r.starts l.system l.placement i life.system life.fits there) [
-            inl h ↦ h.1
+          | inl h ↦ h.1
           | inr h ↦ (let past : length l.system.nodes ≤ filler links l.placement i = h.0 in absurd (omega arith))
-          ] in
+        ] in
         let none_put : fired_after l 0 (filler links l.placement i) ≡ 0 = none_fired (filler links l.placement i) in
         let none_taken : fired_after l 0 (drainer links l.placement i) ≡ 0 = none_fired (drainer links l.placement i) in
         let below : filler links l.placement i < actors_of l = (r.between l.system l.placement i life.system life.fits there).filled in
@@ -242,12 +244,12 @@ module _ (r : RunsGoByRules) (l : Life) (life : IsLife l) where
         let none_taken : fired_after l 0 (drainer links l.placement i) ≡ 0 = none_fired (drainer links l.placement i) in
         let put : x.put ≡ 0 = laid.empty.put_is in
         let none : starts_with l.placement (length l.input) i ≡ 0 = elim why [
-            inl no_rows ↦ (let rows : length l.input ≤ 0 = ltb-false 0 (length l.input) no_rows in omega arith)
+          | inl no_rows ↦ (let rows : length l.input ≤ 0 = ltb-false 0 (length l.input) no_rows in omega arith)
           | inr past ↦ elim (r.starts l.system l.placement i life.system life.fits there) [
-                inl h ↦ (let node : filler links l.placement i < length l.system.nodes = h.0 in absurd (omega arith))
-              | inr h ↦ (let zero_start : start_count l.placement i ≡ 0 = h.1 in omega arith)
-              ]
-          ] in
+            | inl h ↦ (let node : filler links l.placement i < length l.system.nodes = h.0 in absurd (omega arith))
+            | inr h ↦ (let zero_start : start_count l.placement i ≡ 0 = h.1 in omega arith)
+          ]
+        ] in
         record {
           filled = fills;
           slot = subst (λ (v : ℕ). slice_get (outs_of l v) x.slot ≡ Some i) (sym fills)
@@ -265,8 +267,8 @@ module _ (r : RunsGoByRules) (l : Life) (life : IsLife l) where
         let many : length stations ≡ stations_of l = is.many in
         let begun : HasBegun l.system l.placement (length l.input) actors i x = is.each i x at in
         elim begun.begins [
-          inl h ↦ gained i x begun.was (omega arith) begun.laid h.0 h.1 h.2
-        | inr h ↦ subst (λ (y : ClockStation). IsStation l i (put_after l 0 i) (taken_after l 0 i) y) (sym h.1) (empty i begun.was (omega arith) begun.laid h.0)
+          | inl h ↦ gained i x begun.was (omega arith) begun.laid h.0 h.1 h.2
+          | inr h ↦ subst (λ (y : ClockStation). IsStation l i (put_after l 0 i) (taken_after l 0 i) y) (sym h.1) (empty i begun.was (omega arith) begun.laid h.0)
         ]
 
     latest : (a : ClockActor) → slice_get actors (sink l) ≡ Some a → IsLatest l 0 a

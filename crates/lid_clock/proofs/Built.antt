@@ -1,15 +1,14 @@
 -- What stands in a run that was built.
-use Rattle.std.proofs.Common.{◌≡◌, ℕ, ◌+◌, ◌-◌, ◌<◌, ◌≤◌, ◌⊎◌, inl, inr, nat_lt, Bool, true, false, List, length, refl, sym, ◌∙◌, ap, subst, lt-ltb, arith}
+use Rattle.std.proofs.Common.{◌≡◌, ℕ, ◌<◌, nat_lt, Bool, List, length, sym, ◌∙◌, subst, lt-ltb}
 use Rattle.std.specs.Prelude.{Option, Some, slice_get}
 use Rattle.lid_system.specs.declared.System.{System}
 use Rattle.lid_stations.specs.declared.placement.Placement.{Placement}
 use Rattle.lid_stations.specs.Placements.{links_of, station_count}
-use Rattle.lid_stations.specs.Stations.{actor_count}
 use Rattle.lid_clock.specs.declared.part.Part.{Part}
 use Rattle.lid_clock.specs.declared.actor.ClockActor.{ClockActor}
 use Rattle.lid_clock.specs.declared.station.ClockStation.{ClockStation}
 use Rattle.lid_clock.specs.Actors.{HasPlaces}
-use Rattle.lid_clock.specs.Starts.{IsNewPart, IsNew, AreNew, AreAlone, IsJoined, AreJoined, IsLaid, HasLaid, KeepsNew, Shows, IsReadied, AreReadied, Begins, AllBegin}
+use Rattle.lid_clock.specs.Starts.{IsNewPart, IsNew, AreNew, IsJoined, AreJoined, IsLaid, HasLaid, Shows, IsReadied, AreReadied, Begins, AllBegin}
 
 -- a station that has begun, as it was laid
 pub record HasBegun (s : System) (p : Placement) (rows : ℕ) (actors : List ClockActor) (i : ℕ) (x : ClockStation) : Type 0 where

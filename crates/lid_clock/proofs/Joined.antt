@@ -1,6 +1,5 @@
 -- Actors to which stations were joined, and the stations as they were laid.
-use Rattle.std.proofs.Common.{◌≡◌, ◌≢◌, ℕ, zero, suc, ◌+◌, ◌<◌, ◌≤◌, ◌==◌, Bool, true, false, cond, List, [], ◌∷◌, ◌++◌, length, get_or, set, filter, take, count_by, refl, sym, ◌∙◌, ap, subst, zero-add, arith}
-use Rattle.std.specs.Prelude.{Option, Some, slice_get}
+use Rattle.std.proofs.Common.{◌≡◌, ℕ, ◌+◌, ◌<◌, ◌≤◌, ◌==◌, Bool, true, false, cond, List, [], ◌∷◌, ◌++◌, length, get_or, set, filter, refl, sym, ◌∙◌, ap, subst, zero-add, arith}
 use Rattle.std.proofs.lemmas.Option.{slice_get-get_or, get_or_from_slice_get}
 use Rattle.std.proofs.lemmas.Bool.{eq-eqb, ne_eqb}
 use Rattle.std.proofs.lemmas.List.{append-nil, length-set}
@@ -17,7 +16,7 @@ use Rattle.lid_stations.proofs.Parts.{each_more}
 use Rattle.lid_stations.proofs.Spots.{stands_between}
 use Rattle.lid_clock.specs.declared.actor.ClockActor.{ClockActor}
 use Rattle.lid_clock.specs.declared.station.ClockStation.{ClockStation}
-use Rattle.lid_clock.specs.Starts.{IsNew, AreNew, drained_of, filled_of, IsJoined, AreJoined, IsEmptyBetween, IsLaid, HasLaid, KeepsNew, IsJoinedBy, Joins, IsNextSlot, CanJoin}
+use Rattle.lid_clock.specs.Starts.{IsNew, drained_of, filled_of, IsJoined, AreJoined, IsEmptyBetween, IsLaid, HasLaid, KeepsNew, IsJoinedBy, Joins, IsNextSlot, CanJoin}
 use Rattle.lid_clock.proofs.Bars.{element}
 use Rattle.lid_clock.proofs.Pushing.{each_pushed, length_pushed, each_set}
 
@@ -66,13 +65,13 @@ pub joins : (actors : List ClockActor) (station filler drainer : ℕ) (d e x y :
 joins actors station filler drainer d e x y filled drained outs out_rest ins in_rest =
     let long : length (set actors filler x) ≡ length actors = length-set actors filler x in
     let fill = each_set (λ v old new. IsJoinedBy false (filler == v) station old new) actors filler (get_or actors filler d) x
-        (slice_get-get_or actors filler d filled)
-        (fills_joined station (filler == filler) (get_or actors filler d) x (eq-eqb filler filler refl) outs out_rest)
-        (λ v z other there. none_joined station false (filler == v) z refl (ne_eqb filler v (λ is. other (sym is)))) in
+    (slice_get-get_or actors filler d filled)
+    (fills_joined station (filler == filler) (get_or actors filler d) x (eq-eqb filler filler refl) outs out_rest)
+    (λ v z other there. none_joined station false (filler == v) z refl (ne_eqb filler v (λ is. other (sym is)))) in
     let drain = each_set (λ v old new. IsJoinedBy (drainer == v) false station old new) (set actors filler x) drainer (get_or (set actors filler x) drainer e) y
-        (slice_get-get_or (set actors filler x) drainer e (omega arith))
-        (drains_joined station (drainer == drainer) (get_or (set actors filler x) drainer e) y (eq-eqb drainer drainer refl) ins in_rest)
-        (λ v z other there. none_joined station (drainer == v) false z (ne_eqb drainer v (λ is. other (sym is))) refl) in
+    (slice_get-get_or (set actors filler x) drainer e (omega arith))
+    (drains_joined station (drainer == drainer) (get_or (set actors filler x) drainer e) y (eq-eqb drainer drainer refl) ins in_rest)
+    (λ v z other there. none_joined station (drainer == v) false z (ne_eqb drainer v (λ is. other (sym is))) refl) in
     record {
       many = length-set (set actors filler x) drainer y ∙ long;
       each = λ v z there.

@@ -1,5 +1,5 @@
 -- A station at a place of a channel, as it is laid.
-use Rattle.std.proofs.Common.{◌≡◌, ℕ, ◌+◌, ◌-◌, ◌<◌, ◌≤◌, List, [], ◌∷◌, ◌++◌, length, take, get_or, refl, sym, ◌∙◌, ap, subst, arith}
+use Rattle.std.proofs.Common.{◌≡◌, ℕ, ◌+◌, ◌-◌, ◌<◌, ◌≤◌, List, [], ◌∷◌, ◌++◌, length, take, get_or, sym, ◌∙◌, ap, subst, arith}
 use Rattle.std.proofs.lemmas.List.{get_or_default}
 use Rattle.lid_system.specs.declared.System.{System}
 use Rattle.lid_system.specs.Systems.{IsWellFormed}
@@ -9,8 +9,8 @@ use Rattle.lid_stations.specs.Stations.{Spot, fills, drains, filler, drainer, ca
 use Rattle.lid_stations.proofs.Spots.{spot_is, first_station, station_at_spot, few_stations, cap_range}
 use Rattle.lid_clock.specs.declared.actor.ClockActor.{ClockActor}
 use Rattle.lid_clock.specs.declared.station.ClockStation.{ClockStation}
-use Rattle.lid_clock.specs.Starts.{HasLaid, KeepsNew, IsEmptyBetween, Joins, IsNextSlot, CanJoin}
-use Rattle.lid_clock.proofs.Joined.{laid_next, keeps_new, can_join}
+use Rattle.lid_clock.specs.Starts.{HasLaid, IsEmptyBetween, Joins, IsNextSlot, CanJoin}
+use Rattle.lid_clock.proofs.Joined.{laid_next, can_join}
 
 -- a station at a place of a channel, of which the first has a number
 pub record IsOn (s : System) (p : Placement) (c start place : ℕ) : Type 0 where

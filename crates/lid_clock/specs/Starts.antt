@@ -1,15 +1,15 @@
 -- How a run is built: its actors, which have not fired, and its stations, which are joined to them one by one.
-use Rattle.std.specs.Prelude.{◌≡◌, ℕ, ◌+◌, ◌-◌, ◌<◌, ◌≤◌, ◌⊎◌, ◌==◌, min, Bool, true, false, if◌then◌else◌, List, [], ◌∷◌, ◌++◌, length, get_or, filter, Option, Some, None, IfSome, slice_get, ⊤}
+use Rattle.std.specs.Prelude.{◌≡◌, ℕ, ◌+◌, ◌<◌, ◌≤◌, ◌⊎◌, ◌==◌, Bool, true, false, if◌then◌else◌, List, [], ◌∷◌, ◌++◌, length, get_or, filter, Option, Some, IfSome, slice_get, ⊤}
 use Rattle.lid_design.specs.Network.{Table, from_each}
 use Rattle.lid_system.specs.declared.System.{System}
 use Rattle.lid_system.specs.Systems.{Point, IsWellFormed}
 use Rattle.lid_system.specs.Tables.{IsTable}
 use Rattle.lid_nodes.specs.Nodes.{tokens_from}
-use Rattle.lid_nodes.specs.Wiring.{ShellView, IsSourceOf, IsShellOf, IsSinkOf}
+use Rattle.lid_nodes.specs.Wiring.{IsSourceOf, IsShellOf, IsSinkOf}
 use Rattle.lid_stations.specs.declared.placement.Placement.{Placement}
-use Rattle.lid_stations.specs.Placements.{Links, links_of, station_count}
+use Rattle.lid_stations.specs.Placements.{Links, links_of}
 use Rattle.lid_stations.specs.Stations.{actor_count, filler, drainer, capacity}
-use Rattle.lid_runs.specs.Runs.{cap_of, starts_with, token_of}
+use Rattle.lid_runs.specs.Runs.{cap_of}
 use Rattle.lid_clock.specs.declared.part.Part.{Part}
 use Rattle.lid_clock.specs.declared.part.Part.TheVariants.{Source, Shell, Mover, Sink}
 use Rattle.lid_clock.specs.declared.actor.ClockActor.{ClockActor}

@@ -17,11 +17,7 @@ use lid_system::System;
 use std::alloc::{AllocError, Global};
 
 /// The row that the source holds: the first one, or one of zeros where there is none.
-fn held_row(
-    alloc: Global,
-    first: Option<&[bool]>,
-    width: usize,
-) -> Result<Vec<bool>, AllocError>
+fn held_row(alloc: Global, first: Option<&[bool]>, width: usize) -> Result<Vec<bool>, AllocError>
     requires { IfSome (lent first) (λ given. length given ≡ width) }
     ensures wide { IfOk result (λ row. length row.items ≡ width) }
     ensures is { IfOk result (λ row. IfSome (lent first.entry) (λ given. row.items ≡ given)) }
@@ -33,11 +29,7 @@ fn held_row(
 }
 
 /// The source, which holds the first row.
-fn source_part(
-    alloc: Global,
-    system: &System,
-    first: Option<&[bool]>,
-) -> Result<Part, AllocError>
+fn source_part(alloc: Global, system: &System, first: Option<&[bool]>) -> Result<Part, AllocError>
     requires system { IsWellFormed system.now }
     requires first { IfSome (lent first) (IsWide system.now) }
     ensures { IfOk result (IsNewPart system.now (lent first.entry) 0) }

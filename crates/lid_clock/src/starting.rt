@@ -73,12 +73,7 @@ pub fn start(
         &mut stations,
     )?;
     make_all_ready(alloc, actors.as_mut_slice(), some)?;
-    begin_all(
-        stations.as_mut_slice(),
-        actors.as_slice(),
-        nodes,
-        some,
-    );
+    begin_all(stations.as_mut_slice(), actors.as_slice(), nodes, some);
     Ok(ClockStream {
         actors,
         stations,

@@ -1,5 +1,5 @@
 -- The last node is the sink.
-use Rattle.std.proofs.Common.{◌≡◌, ℕ, ◌+◌, ◌-◌, length, subst, arith}
+use Rattle.std.proofs.Common.{◌≡◌, ℕ, ◌-◌, length, subst, arith}
 use Rattle.lid_base.proofs.Results.{if_ok}
 use Rattle.lid_clock.specs.Ran.{lent}
 use Rattle.lid_clock.specs.Starts.{IsNewPart}

@@ -1,9 +1,9 @@
 -- The stations of a channel are laid at its places, one by one.
-use Rattle.std.proofs.Common.{◌≡◌, ◌<◌, ◌≤◌, ◌+◌, ◌-◌, ℕ, List, length, take, get_or, ap, ◌∙◌, subst, sym, arith}
+use Rattle.std.proofs.Common.{◌≡◌, ◌<◌, ◌+◌, ◌-◌, ℕ, List, length, take, get_or, ap, subst, sym, arith}
 use Rattle.lid_system.specs.declared.System.{System}
 use Rattle.lid_system.specs.Systems.{IsWellFormed}
 use Rattle.lid_stations.specs.declared.placement.Placement.{Placement}
-use Rattle.lid_stations.specs.Placements.{links_of, station_count, Fits}
+use Rattle.lid_stations.specs.Placements.{station_count, Fits}
 use Rattle.lid_stations.specs.Stations.{IsPlace}
 use Rattle.lid_stations.proofs.Spots.{first_station}
 use Rattle.lid_clock.proofs.Joined.{keeps_new}

@@ -12,7 +12,7 @@ use Rattle.lid_clock.specs.Ran.{lent}
 use Rattle.lid_clock.specs.declared.actor.ClockActor.{ClockActor}
 use Rattle.lid_clock.specs.declared.station.ClockStation.{ClockStation}
 use Rattle.lid_clock.specs.Lives.{sink}
-use Rattle.lid_clock.specs.Starts.{AreNew, AreAlone, HasLaid, KeepsNew, IsSized, CanGain, AreReadied, AllBegin}
+use Rattle.lid_clock.specs.Starts.{AreNew, AreAlone, HasLaid, IsSized, CanGain, AreReadied, AllBegin}
 use Rattle.lid_clock.proofs.Begun.{all_sized, can_gain, built_of_life, starts}
 use Rattle.lid_clock.proofs.Built.{IsBuilt, built}
 use Rattle.lid_clock.proofs.starting.start.Goals as goal
