@@ -11,3 +11,4 @@ pub mod Told
 pub mod Held
 pub mod Cycling
 pub mod Giving
+pub mod Together
