@@ -1,13 +1,13 @@
 -- Some words, and the jobs that they are by the definitions alone.
 use Rattle.std.proofs.Common.{◌≡◌, refl, [], ◌∷◌, Some, None, codes}
 use Rattle.clap.proofs.OnLiterals.{clap_on_literals}
-use Rattle.lid_cli.specs.declared.job.Job.TheVariants.{Check, Place, Rate, Strict, Verify}
+use Rattle.lid_cli.specs.declared.job.Job.TheVariants.{Check, Clock, Place, Rate, Strict, Verify}
 use Rattle.lid_base.specs.Numbers.{number_below}
 use Rattle.lid_cli.specs.Reading.{lid_app, given_in}
-use Rattle.lid_cli.specs.Jobs.{is_given, is_tallied, files_in, file_at, name_in, reach_in, is_allowed, has_only, has_each, is_within, fits, option_fits, has_both, has_form, job_made, job_formed, form_in, job_given, job_of}
+use Rattle.lid_cli.specs.Jobs.{is_given, is_tallied, files_in, file_at, name_in, reach_in, trace_in, clock_job, is_allowed, has_only, has_each, is_within, fits, option_fits, has_both, has_form, job_made, job_formed, form_in, job_given, job_of}
 
 unfoldable words_on_literals : Unit {0}
-unfolding clap_on_literals lid_app given_in is_given is_tallied number_below files_in file_at name_in reach_in is_allowed has_only has_each is_within fits option_fits has_both has_form job_made job_formed form_in job_given job_of
+unfolding clap_on_literals lid_app given_in is_given is_tallied number_below files_in file_at name_in reach_in trace_in clock_job is_allowed has_only has_each is_within fits option_fits has_both has_form job_made job_formed form_in job_given job_of
 words_on_literals = tt
 
 -- `check --root m a`
@@ -19,6 +19,16 @@ check_with_root = refl
 strict_with_root : job_of (codes "strict" ∷ codes "a" ∷ codes "b" ∷ codes "--root=m" ∷ []) ≡ Some (Strict (codes "a") (codes "b") (Some (codes "m")))
 unfolding words_on_literals
 strict_with_root = refl
+
+-- `clock a b --trace 7 --stations s`
+clock_with_trace : job_of (codes "clock" ∷ codes "a" ∷ codes "b" ∷ codes "--trace" ∷ codes "7" ∷ codes "--stations" ∷ codes "s" ∷ []) ≡ Some (Clock (codes "a") (codes "b") (Some (codes "s")) (Some 7) None)
+unfolding words_on_literals
+clock_with_trace = refl
+
+-- `clock a b --workers 2`, which is not built yet
+clock_on_workers : job_of (codes "clock" ∷ codes "a" ∷ codes "b" ∷ codes "--workers" ∷ codes "2" ∷ []) ≡ None
+unfolding words_on_literals
+clock_on_workers = refl
 
 -- `place a --wires w --reach 10`
 place_with_reach : job_of (codes "place" ∷ codes "a" ∷ codes "--wires" ∷ codes "w" ∷ codes "--reach" ∷ codes "10" ∷ []) ≡ Some (Place (codes "a") (codes "w") 10 None)

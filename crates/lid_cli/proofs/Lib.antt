@@ -2,3 +2,4 @@ pub mod Readings
 pub mod SameTable
 mod Examples
 pub mod Reaches
+pub mod Clocks

@@ -1,16 +1,16 @@
 -- The job that the words ask for.
-use Rattle.std.specs.Prelude.{ℕ, ⊤, ◌≤◌, ◌==◌, nat_le, Bool, true, false, not, ◌&&◌, ◌||◌, if◌then◌else◌, List, [], ◌∷◌, length, map, slice_index_or, find, Option, Some, None, is_some, unwrap_or, option_and_then, codes}
+use Rattle.std.specs.Prelude.{ℕ, ⊤, ◌≤◌, ◌==◌, nat_le, Bool, true, false, not, ◌&&◌, ◌||◌, if◌then◌else◌, List, [], ◌∷◌, length, map, slice_index_or, find, Option, Some, None, IfSome, is_some, unwrap_or, option_and_then, codes}
 use Rattle.std.specs.Option.{option_map_or}
 use Rattle.std.specs.Borrow.{Bor}
 use Rattle.std.specs.List.{list_all, list_any}
 use Rattle.std.specs.Str.{bytes_eq}
 use Rattle.clap.specs.Walk.{Row, first_of, all_of}
 use Rattle.lid_base.specs.Numbers.{number}
-use Rattle.lid_cli.specs.declared.table.TheConstants.{COMMAND, FILES, TALLY, ROOT, STATIONS, WIRES, REACH}
+use Rattle.lid_cli.specs.declared.table.TheConstants.{COMMAND, FILES, TALLY, ROOT, STATIONS, STALLS, WIRES, WORKERS, REACH, TRACE}
 use Rattle.lid_cli.specs.declared.table.Command.{Command}
 use Rattle.lid_cli.specs.declared.table.Command.TheVariants as command
 use Rattle.lid_cli.specs.declared.job.Job.{Job}
-use Rattle.lid_cli.specs.declared.job.Job.TheVariants.{Check, Place, Rate, Strict, Verify}
+use Rattle.lid_cli.specs.declared.job.Job.TheVariants.{Check, Clock, Place, Rate, Strict, Verify}
 use Rattle.lid_cli.specs.Table.{Form, form, table, Range, range, ranges}
 use Rattle.lid_cli.specs.Reading.{option_names, given_in}
 
@@ -105,6 +105,18 @@ root_in found = first_of ROOT.now found
 abbrev pub check_job : List Row → Option Job
 check_job found = Some (Check (file_at 0 found) (root_in found))
 
+-- of how many cycles a trace is asked for, where one is
+unfoldable pub trace_in : List Row → Option ℕ
+trace_in found = option_and_then number (first_of TRACE.now found)
+
+-- the job of `clock` without stalls and on no workers
+abbrev pub plain_clock_job : List Row → Option Job
+plain_clock_job found = Some (Clock (file_at 0 found) (file_at 1 found) (first_of STATIONS.now found) (trace_in found) (root_in found))
+
+-- the job of `clock`; one with stalls or on workers is not built yet
+unfoldable pub clock_job : List Row → Option Job
+clock_job found = if is_given found STALLS.now || is_given found WORKERS.now then None else plain_clock_job found
+
 -- the reach that is given
 unfoldable pub reach_in : List Row → ℕ
 reach_in found = option_map_or (λ text. unwrap_or (number text) 1) (first_of REACH.now found) 1
@@ -129,6 +141,7 @@ verify_job found = Some (Verify (file_at 0 found) (file_at 1 found) (first_of ST
 unfoldable pub job_made : Command → List Row → Option Job
 job_made command.Check found = check_job found
 job_made command.Strict found = strict_job found
+job_made command.Clock found = clock_job found
 job_made command.Rate found = rate_job found
 job_made command.Verify found = verify_job found
 job_made command.Place found = place_job found
@@ -154,7 +167,8 @@ job_given found = option_and_then (job_formed found) (form_in found)
 unfoldable pub job_of : List (List ℕ) → Option Job
 job_of words = option_and_then job_given (given_in words)
 
--- a reach is positive
+-- a reach is positive, and a trace has some cycles and not too many
 abbrev pub IsSound : Job → Type 0
+IsSound (Clock net vec stations trace root) = IfSome trace (λ cycles. (1 ≤ cycles) × (cycles ≤ 1048576))
 IsSound (Place net wires reach root) = 1 ≤ reach
 IsSound job = ⊤

@@ -2,11 +2,11 @@
 
 ghost use Rattle.std.specs.Prelude.{◌≡◌, IfOk};
 ghost use Rattle.lid_cli.specs.Reading.{matches_in};
-ghost use Rattle.lid_cli.specs.Jobs.{file_at, root_in, reach_in, check_job, place_job, rate_job, strict_job, verify_job};
+ghost use Rattle.lid_cli.specs.Jobs.{file_at, root_in, reach_in, trace_in, check_job, place_job, rate_job, strict_job, verify_job, plain_clock_job, clock_job};
 
-use crate::given::{file_text, root_of, text_if_given, text_of, value_of};
+use crate::given::{file_text, is_given, root_of, text_if_given, text_of, value_of};
 use crate::job::Job;
-use crate::table::{REACH, STATIONS, WIRES};
+use crate::table::{REACH, STALLS, STATIONS, TRACE, WIRES, WORKERS};
 use clap::ArgMatches;
 use lid_base::{Name, Text, number};
 use std::alloc::{AllocError, Global};
@@ -27,6 +27,45 @@ pub fn check_job(alloc: Global, given: &ArgMatches<'_>) -> Result<Option<Job>, A
 {
     let (net, root) = netlist_of(alloc, given)?;
     Ok(Some(Job::Check { net, root }))
+}
+
+/// Of how many cycles a trace is asked for, where one is.
+#[tactic(auto, unfolding(crate::specs::Jobs::trace_in))]
+fn trace_of(given: &ArgMatches<'_>) -> Option<u64>
+    ensures { result ≡ trace_in (matches_in given.now) }
+{
+    match value_of(given, TRACE) {
+        Some(text) => number(text.as_bytes()),
+        None => None,
+    }
+}
+
+/// The job of `clock` without stalls and on no workers.
+fn plain_clock_job(alloc: Global, given: &ArgMatches<'_>) -> Result<Option<Job>, AllocError>
+    ensures { IfOk result (λ job. job ≡ plain_clock_job (matches_in given.now)) }
+{
+    let (net, root) = netlist_of(alloc, given)?;
+    let vec = file_text(alloc, given, 1)?;
+    let stations = text_if_given(alloc, given, STATIONS)?;
+    Ok(Some(Job::Clock {
+        net,
+        vec,
+        stations,
+        trace: trace_of(given),
+        root,
+    }))
+}
+
+/// The job of `clock`; one with stalls or on workers is not built yet.
+#[tactic(auto, unfolding(crate::specs::Jobs::clock_job))]
+pub fn clock_job(alloc: Global, given: &ArgMatches<'_>) -> Result<Option<Job>, AllocError>
+    ensures { IfOk result (λ job. job ≡ clock_job (matches_in given.now)) }
+{
+    if is_given(given, STALLS) || is_given(given, WORKERS) {
+        Ok(None)
+    } else {
+        plain_clock_job(alloc, given)
+    }
 }
 
 /// How far a signal comes in one clock cycle.

@@ -4,7 +4,7 @@ ghost use Rattle.std.specs.Prelude.{◌≡◌, true, codes, IfOk, IfSome};
 ghost use Rattle.lid_cli.specs.Reading.{matches_in};
 ghost use Rattle.lid_cli.specs.Jobs.{IsSound, option_fits, form_shown, job_made, job_formed, job_given, job_of};
 
-use crate::commands::{check_job, place_job, rate_job, strict_job, verify_job};
+use crate::commands::{check_job, clock_job, place_job, rate_job, strict_job, verify_job};
 use crate::form::{form_of, has_form};
 use crate::reader::parse;
 use crate::table::{Command, Form};
@@ -19,6 +19,19 @@ pub enum Job {
     Check {
         /// The name of the file with the netlist.
         net: Text,
+        /// The name of the model that is to be the root, as for `strict`.
+        root: Option<Name>,
+    },
+    /// `clock NET VEC`: the clocked run of the system of a netlist for rows of input bits.
+    Clock {
+        /// The name of the file with the netlist.
+        net: Text,
+        /// The name of the file with the rows.
+        vec: Text,
+        /// The name of the file with the stations, as for `rate`.
+        stations: Option<Text>,
+        /// The number of cycles of the trace, 1 to 1,048,576, where one is asked for.
+        trace: Option<u64>,
         /// The name of the model that is to be the root, as for `strict`.
         root: Option<Name>,
     },
@@ -72,19 +85,20 @@ fn make_job(
     command: Command,
     given: &ArgMatches<'_>,
 ) -> Result<Option<Job>, AllocError>
-    requires { option_fits (matches_in given.now) (codes "reach") ≡ true }
+    requires reach { option_fits (matches_in given.now) (codes "reach") ≡ true }
+    requires trace { option_fits (matches_in given.now) (codes "trace") ≡ true }
     ensures made { IfOk result (λ job. job ≡ job_made command (matches_in given.now)) }
     ensures sound { IfOk result (λ job. IfSome job IsSound) }
 {
     match command {
         Command::Check => check_job(alloc, given),
+        Command::Clock => clock_job(alloc, given),
         Command::Place => place_job(alloc, given),
         Command::Rate => rate_job(alloc, given),
         Command::Strict => strict_job(alloc, given),
         Command::Verify => verify_job(alloc, given),
         // not built yet
-        Command::Clock
-        | Command::Walk
+        Command::Walk
         | Command::Free
         | Command::Gen
         | Command::Wave
@@ -122,7 +136,7 @@ fn given_job(alloc: Global, given: &ArgMatches<'_>) -> Result<Option<Job>, Alloc
 }
 
 /// The job that the words after the program's name ask for; `None` where they are no job. The reach of
-/// a job is at least 1.
+/// a job is at least 1, and its trace has 1 to 1,048,576 cycles.
 ///
 /// # Errors
 ///

@@ -18,12 +18,14 @@ pub const WIRES: &str = "wires";
 pub const REACH: &str = "reach";
 /// The option with the number of workers.
 pub const WORKERS: &str = "workers";
+/// The option with the number of cycles of the trace.
+pub const TRACE: &str = "trace";
 /// The flag that asks for the tallies.
 pub const TALLY: &str = "tally";
 
 /// The options of all commands; each has one value.
 pub static OPTIONS: [&str; 11] = [
-    ROOT, STATIONS, STALLS, WORKERS, "trace", "schedule", "rounds", WIRES, REACH, "shells", "run",
+    ROOT, STATIONS, STALLS, WORKERS, TRACE, "schedule", "rounds", WIRES, REACH, "shells", "run",
 ];
 
 /// A command of the table.
@@ -73,7 +75,7 @@ pub static FORMS: [Form; 14] = [
         "clock",
         &["NET", "VEC"],
         &[],
-        &[ROOT, STATIONS, STALLS, WORKERS, "trace"],
+        &[ROOT, STATIONS, STALLS, WORKERS, TRACE],
         false,
     ),
     (
@@ -121,7 +123,7 @@ pub static FORMS: [Form; 14] = [
         Command::Wave,
         "wave",
         &["NET", "VEC"],
-        &["trace"],
+        &[TRACE],
         &[ROOT, STATIONS],
         false,
     ),
@@ -160,7 +162,7 @@ pub type Range = (&'static str, u64, u64);
 pub static RANGES: [Range; 7] = [
     (WORKERS, 1, 64),
     ("rounds", 0, 1_000_000),
-    ("trace", 1, 1_048_576),
+    (TRACE, 1, 1_048_576),
     (REACH, 1, 9_223_372_036_854_775_807),
     ("shells", 0, 4_294_967_295),
     ("run", 1, 1_000_000),

@@ -1,2 +1,9 @@
 pub mod Lives
+pub mod Rings
+pub mod Parts
+pub mod Actors
+pub mod States
 pub mod Ran
+pub mod Rules
+pub mod Cycles
+pub mod Starts

@@ -11,7 +11,7 @@ use Rattle.lid_system.specs.Systems.{Point, IsWellFormed}
 use Rattle.lid_system.specs.Tables.{IsTable}
 use Rattle.lid_system.specs.Streams.{output_row}
 use Rattle.lid_stations.specs.declared.placement.Placement.{Placement}
-use Rattle.lid_stations.specs.Placements.{Links, links_of, Fits}
+use Rattle.lid_stations.specs.Placements.{links_of, Fits}
 use Rattle.lid_runs.specs.Runs.{sink_of, token_of, fired_in}
 use Rattle.lid_runs.specs.Views.{shown_at}
 

@@ -1,6 +1,24 @@
-//! Stub of the clocked run: its contract, without a body.
+//! The clocked run: all stations and actors in step, a cycle at a time.
 #![tactic(auto)]
 
+mod actor;
+mod building;
+mod cycle;
+mod deciding;
+mod firing;
+mod joining;
+mod part;
+mod passing;
+mod readying;
+mod ring;
+mod rows;
+mod rules;
+mod settling;
+mod starting;
+mod station;
 mod stream;
 
+pub use actor::ClockActor;
+pub use starting::start;
+pub use station::ClockStation;
 pub use stream::ClockStream;

@@ -1,0 +1,4 @@
+pub mod Beginnings
+pub mod Taking
+pub mod Giving
+pub mod Rereading

@@ -1,6 +1,6 @@
 -- What is kept between the pieces of a rows text. This serves the code of this crate, and its callers'
 -- invariants.
-use Rattle.std.specs.Prelude.{◌≡◌, ℕ, ◌+◌, ◌-◌, ◌≤◌, Bool, true, false, List, ◌∷◌, [], ◌++◌, length, take, reverse, Option, Some, None, IfSome}
+use Rattle.std.specs.Prelude.{◌≡◌, ℕ, ◌+◌, ◌-◌, ◌≤◌, Bool, false, List, ◌∷◌, [], ◌++◌, length, take, reverse, Option, Some, None, IfSome}
 use Rattle.lid_io.specs.Transfer.{FetchedNext}
 use Rattle.lid_io.specs.declared.fetching.FetchFault.{FetchFault}
 use Rattle.lid_io.specs.declared.fetching.FetchFault.TheVariants as fetching

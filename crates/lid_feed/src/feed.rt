@@ -36,10 +36,35 @@ impl RowFeed {
         ensures given { (held : Option (List ℕ)) → IfOk result (λ feed. HasGiven held columns.now outs feed []) }
         ensures name { IfOk result (λ feed. feed.name ≡ name.now) }
     {
-        let _ = (alloc, outs);
-        let _ = name;
-        let _ = columns;
-        Err(AllocError)
+        Ok(RowFeed {
+            name: Text::new(String::from_str(alloc, name)?),
+            text: TextScan::start(alloc, columns, outs)?,
+            rows: Vec::new(alloc),
+        })
+    }
+
+    /// Takes the next piece of the text and holds its rows, and at the end of the text the last row.
+    fn fill<S: Shelf>(&mut self, shelf: &mut S) -> Result<(), FeedFault>
+        ensures given { (columns : List (List ℕ)) (outs : ℕ) (given : List (List Bool)) → self.old.text.count ≡ None → self.old.rows.items ≡ []
+            → HasGiven (S.held shelf.old self.old.name) columns outs self.old given
+            → OnOk result (HasGiven (S.held shelf.old self.old.name) columns outs self.new given) }
+        ensures refused { (columns : List (List ℕ)) (outs : ℕ) (given : List (List Bool)) → self.old.text.count ≡ None
+            → HasGiven (S.held shelf.old self.old.name) columns outs self.old given
+            → IfErr result (IfRefused (IsRefused (S.held shelf.old self.old.name) columns outs)) }
+        ensures less { self.old.text.count ≡ None → OnOk result (left_of self.new.text self.new.text.count < left_of self.old.text self.old.text.count) }
+        ensures name { self.new.name ≡ self.old.name }
+        ensures failed { IfErr result (IfRead (Rose (S.faults shelf.old self.old.name) (S.faults shelf.new self.old.name))) }
+        ensures kept { S.held shelf.new ≡ S.held shelf.old }
+        ensures grows { (q : List ℕ) → S.faults shelf.old q ≤ S.faults shelf.new q }
+    {
+        let mut rows = Vec::new(self.text.alloc);
+        let name = self.name.as_str();
+        if let Err(fault) = self.text.take_rows(shelf, name, &mut rows) {
+            return Err(fault);
+        }
+        rows.as_mut_slice().reverse();
+        self.rows = rows;
+        Ok(())
     }
 
     /// The next row of the file, or `None` where the text ended without a fault after the rows that
@@ -61,7 +86,11 @@ impl RowFeed {
         ensures kept { S.held shelf.new ≡ S.held shelf.old }
         ensures grows { (q : List ℕ) → S.faults shelf.old q ≤ S.faults shelf.new q }
     {
-        let _ = shelf;
-        Err(FeedFault::Memory)
+        while self.rows.as_slice().is_empty() && self.text.count.is_none() {
+            if let Err(fault) = self.fill(shelf) {
+                return Err(fault);
+            }
+        }
+        Ok(self.rows.pop())
     }
 }

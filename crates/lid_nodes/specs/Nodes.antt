@@ -1,5 +1,5 @@
 -- The channels of a node, and the tokens that it takes from them and puts into them.
-use Rattle.std.specs.Prelude.{ℕ, ◌==◌, Bool, List, length, map, filter}
+use Rattle.std.specs.Prelude.{ℕ, ◌==◌, List, map, filter}
 use Rattle.lid_design.specs.Network.{Table}
 use Rattle.lid_system.specs.declared.System.{System}
 use Rattle.lid_system.specs.declared.Channel.{Channel}

@@ -17,6 +17,8 @@ use Rattle.lid_placetext.specs.declared.fault.PlaceFault.{PlaceFault}
 use Rattle.lid_placetext.specs.declared.fault.PlaceFault.TheVariants as place
 use Rattle.lid_certtext.specs.declared.fault.CertFault.{CertFault}
 use Rattle.lid_certtext.specs.declared.fault.CertFault.TheVariants as cert
+use Rattle.lid_reports.specs.declared.trace.TraceFault.{TraceFault}
+use Rattle.lid_reports.specs.declared.trace.TraceFault.TheVariants as trace
 use Rattle.lid_io.specs.Telling.{fault_line, path_text}
 
 abbrev pub which_word : Which → List ℕ
@@ -126,6 +128,9 @@ cert_words (cert.Word line) = at_line (codes "Word") line
 cert_words (cert.Limit which count) = over_limit which count
 cert_words cert.Memory = []
 
+abbrev pub trace_words : TraceFault → List (List ℕ)
+trace_words (trace.Limit which count) = over_limit which count
+
 -- status 1: the stage, the variant and its fields
 abbrev pub blif_line : BlifFault → List ℕ
 blif_line fault = fault_line (codes "blif" ∷ blif_words fault)
@@ -145,6 +150,9 @@ stations_line fault = fault_line (codes "stations" ∷ place_words fault)
 
 abbrev pub cert_line : CertFault → List ℕ
 cert_line fault = fault_line (codes "cert" ∷ cert_words fault)
+
+abbrev pub trace_line : TraceFault → List ℕ
+trace_line fault = fault_line (codes "trace" ∷ trace_words fault)
 
 -- status 2
 abbrev pub usage_line : List ℕ

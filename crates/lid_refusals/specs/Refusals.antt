@@ -1,8 +1,8 @@
 -- The line of each refusal.
 use Rattle.std.specs.Prelude.{ℕ, List}
 use Rattle.lid_refusals.specs.declared.refusal.Refusal.{Refusal}
-use Rattle.lid_refusals.specs.declared.refusal.Refusal.TheVariants.{Blif, Check, Net, Rows, Stations, Cert}
-use Rattle.lid_refusals.specs.Faults.{blif_line, rows_line, check_line, net_line, stations_line, cert_line}
+use Rattle.lid_refusals.specs.declared.refusal.Refusal.TheVariants.{Blif, Check, Net, Rows, Stations, Cert, Trace}
+use Rattle.lid_refusals.specs.Faults.{blif_line, rows_line, check_line, net_line, stations_line, cert_line, trace_line}
 
 abbrev pub refusal_line : Refusal → List ℕ
 refusal_line (Blif fault) = blif_line fault
@@ -11,3 +11,4 @@ refusal_line (Net fault) = net_line fault
 refusal_line (Rows fault) = rows_line fault
 refusal_line (Stations fault) = stations_line fault
 refusal_line (Cert fault) = cert_line fault
+refusal_line (Trace fault) = trace_line fault

@@ -8,6 +8,7 @@ ghost use Rattle.lid_refusals.specs.Saying.{Says};
 use crate::saying::{say, say_told};
 use crate::told::{
     told_of_blif, told_of_cert, told_of_check, told_of_net, told_of_place, told_of_rows,
+    told_of_trace,
 };
 use lid_base::Sink;
 use lid_blif::BlifFault;
@@ -15,10 +16,11 @@ use lid_certtext::CertFault;
 use lid_channels::NetFault;
 use lid_io::Word;
 use lid_placetext::PlaceFault;
+use lid_reports::TraceFault;
 use lid_rules::CheckFault;
 use lid_texts::VecFault;
 
-/// Why a reading or a check refuses.
+/// Why a reading, a check or a limit refuses.
 #[derive(Drop)]
 pub enum Refusal {
     Blif(BlifFault),
@@ -27,6 +29,7 @@ pub enum Refusal {
     Rows(VecFault),
     Stations(PlaceFault),
     Cert(CertFault),
+    Trace(TraceFault),
 }
 
 /// Says the line of a refusal.
@@ -40,6 +43,7 @@ pub fn say_refusal<E: Sink>(err: &mut E, refusal: &Refusal)
         Refusal::Rows(fault) => say_told(err, "rows", told_of_rows(*fault)),
         Refusal::Stations(fault) => say_told(err, "stations", told_of_place(*fault)),
         Refusal::Cert(fault) => say_told(err, "cert", told_of_cert(*fault)),
+        Refusal::Trace(fault) => say_told(err, "trace", told_of_trace(*fault)),
     }
 }
 

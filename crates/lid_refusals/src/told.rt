@@ -1,7 +1,7 @@
 //! What a refusal tells: its name and its fields, as the words of one line.
 
 ghost use Rattle.std.specs.Prelude.{◌≡◌, true};
-ghost use Rattle.lid_refusals.specs.Faults.{text_words, blif_words, rows_words, net_words, place_words, cert_words, is_at_inst, check_words};
+ghost use Rattle.lid_refusals.specs.Faults.{text_words, blif_words, rows_words, net_words, place_words, cert_words, trace_words, is_at_inst, check_words};
 ghost use Rattle.lid_refusals.specs.Told.{told_words};
 
 use lid_base::{Items, Name, TextFault, Which};
@@ -9,6 +9,7 @@ use lid_blif::BlifFault;
 use lid_certtext::CertFault;
 use lid_channels::NetFault;
 use lid_placetext::PlaceFault;
+use lid_reports::TraceFault;
 use lid_rules::CheckFault;
 use lid_texts::VecFault;
 
@@ -121,6 +122,15 @@ pub fn told_of_cert(fault: CertFault) -> Told<'static>
         CertFault::Word { line } => Told::At("Word", line),
         CertFault::Limit { which, count } => Told::Over(which, count),
         CertFault::Memory => Told::Nothing,
+    }
+}
+
+/// What a refusal of a trace tells.
+pub fn told_of_trace(fault: TraceFault) -> Told<'static>
+    ensures { told_words result ≡ trace_words fault }
+{
+    match fault {
+        TraceFault::Limit { which, count } => Told::Over(which, count),
     }
 }
 

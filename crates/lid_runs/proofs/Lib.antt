@@ -1,0 +1,5 @@
+pub mod Caps
+pub mod Turns
+pub mod Ending
+pub mod Passing
+pub mod Channels

@@ -1,5 +1,5 @@
 -- Laws of runs: the rule by which counts rise, the stations of each actor, and when a run ends.
-use Rattle.std.specs.Prelude.{◌≡◌, ℕ, suc, ◌+◌, ◌*◌, ◌<◌, ◌≤◌, ◌⊎◌, Bool, true, false, List, [], ◌∷◌, length, map}
+use Rattle.std.specs.Prelude.{◌≡◌, ℕ, suc, ◌+◌, ◌*◌, ◌<◌, ◌≤◌, ◌⊎◌, true, false, [], ◌∷◌, length, map}
 use Rattle.lid_design.specs.Network.{Table}
 use Rattle.lid_graph.specs.Firings.{Hold, no_hold, AreFitCaps, IsFirstAtCap}
 use Rattle.lid_system.specs.declared.System.{System}
@@ -7,7 +7,7 @@ use Rattle.lid_system.specs.Systems.{Point, IsWellFormed}
 use Rattle.lid_nodes.specs.Nodes.{tokens_to, tokens_from}
 use Rattle.lid_stations.specs.declared.placement.Placement.{Placement}
 use Rattle.lid_stations.specs.Placements.{links_of, station_count, Fits}
-use Rattle.lid_stations.specs.Stations.{filler, drainer, start_count, actor_count}
+use Rattle.lid_stations.specs.Stations.{filler, start_count, actor_count}
 use Rattle.lid_stations.specs.Markings.{marking}
 use Rattle.lid_runs.specs.Runs.{cap_of, sink_of, drained_by, filled_by, token_of, fired_in, IsWithinLag}
 use Rattle.lid_runs.specs.Rules.{MayFire, MayNotFire, HoldsFew}

@@ -1,6 +1,6 @@
 -- What all runs of a system with its stations share: how often an actor fires at most, the stations of each
 -- actor, and which token a station is passed as which.
-use Rattle.std.specs.Prelude.{◌≡◌, ℕ, ◌+◌, ◌-◌, ◌*◌, ◌≤◌, ◌==◌, min, nat_lt, if◌then◌else◌, List, length, filter}
+use Rattle.std.specs.Prelude.{ℕ, ◌+◌, ◌-◌, ◌*◌, ◌≤◌, ◌==◌, min, nat_lt, if◌then◌else◌, List, filter}
 use Rattle.std.specs.Int.{div_ceil}
 use Rattle.lid_design.specs.Network.{Table, from_each}
 use Rattle.lid_graph.specs.Firings.{Counts, Hold, firings}
@@ -10,7 +10,7 @@ use Rattle.lid_system.specs.Systems.{Point}
 use Rattle.lid_system.specs.Streams.{token_at}
 use Rattle.lid_stations.specs.declared.placement.Placement.{Placement}
 use Rattle.lid_stations.specs.Placements.{Links, links_of, station_count}
-use Rattle.lid_stations.specs.Stations.{spot_at, channel_at, filler, drainer, start_count, capacity}
+use Rattle.lid_stations.specs.Stations.{spot_at, channel_at, filler, drainer, start_count}
 use Rattle.lid_stations.specs.Markings.{marking}
 
 -- how often an actor fires in a run of so many rows: the sink and the movers once for each row, the source

@@ -2,3 +2,8 @@
 //! all systems and placements.
 #![tactic(auto)]
 
+mod laws;
+
+pub use laws::{
+    actors_fire_by_the_rule, movers_move_tokens_on, nodes_pass_the_tokens_of_channels, runs_end,
+};

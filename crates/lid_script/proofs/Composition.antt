@@ -70,6 +70,13 @@ module _ {A : Type 0} (held : List ℕ → Option (List ℕ)) (Good : A → Type
   pub text_decided : (a : A) (text : List ℕ) → Good a → HasText held (next a) text → HasText held (decide Good Bad next) text
   text_decided a text g t = record { output = t.output; ends = inl (a, g, t.ends); text_of = t.text_of }
 
+-- a reading decides the step
+pub cause_declined : {A : Type 0} (held : List ℕ → Option (List ℕ)) (reading : Reading A) (next : A → Script) (before after : List ℕ → ℕ) (stop : Stop) → Declines reading stop → IsCause held (step reading next) before after stop
+cause_declined held reading next before after (Refused refusal) d = subst (λ r. EndsIn held (step r next) (refuses (refusal_line refusal))) (sym d) refl
+cause_declined held reading next before after (Read file) d = absurd d
+cause_declined held reading next before after Memory d = tt
+cause_declined held reading next before after Denied d = absurd d
+
 -- a design is checked
 module _ (held : List ℕ → Option (List ℕ)) (root : Option (List ℕ)) (d : Design) (next : Design → Script) where
   pub cause_unchecked : (before after : List ℕ → ℕ) (stop : Stop) → FailsCheck root d stop → IsCause held (check_step root d next) before after stop

@@ -1,3 +1,5 @@
 pub mod Composition
 pub mod Readings
 pub mod Placements
+pub mod Traces
+pub mod Within

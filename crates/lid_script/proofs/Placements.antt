@@ -1,9 +1,8 @@
 -- What the answers of the readers of placements and certificates say, and how the steps that read them
 -- make a script.
-use Rattle.std.proofs.Common.{◌≡◌, ℕ, ◌≤◌, List, Option, Some, None, Result, Ok, Err, IfOk, IfErr, ◌⊎◌, inl, inr, refl, sym, ◌∙◌, ap, subst, arith}
+use Rattle.std.proofs.Common.{◌≡◌, ℕ, ◌≤◌, List, Option, Some, None, Result, Ok, Err, IfOk, IfErr, ◌⊎◌, inl, inr, sym, ◌∙◌, ap, subst, arith}
 use Rattle.lid_base.proofs.Results.{if_ok, if_err}
 use Rattle.lid_design.specs.declared.Design.{Design}
-use Rattle.lid_system.specs.declared.Channel.{Channel}
 use Rattle.lid_cert.specs.declared.cert.Cert.{Cert}
 use Rattle.lid_certtext.specs.Texts.{cert_of, cert_fault}
 use Rattle.lid_certtext.specs.declared.fault.CertFault.{CertFault}
@@ -18,7 +17,7 @@ use Rattle.lid_refusals.specs.Refusals.{refusal_line}
 use Rattle.lid_script.specs.declared.fault.Stop.{Stop}
 use Rattle.lid_script.specs.declared.fault.Stop.TheVariants.{Refused, Read, Memory, Denied}
 use Rattle.lid_script.specs.Scripts.{Script, Reading, good, bad, net_limit, net_reading, text_limit, links, placement_read, stations_read, wires_read, cert_unless, cert_read, check_step, net_step, system_step, placement_step, IsUnchecked, HasChannels, IsOverfull}
-use Rattle.lid_script.specs.Causes.{Declines, Got, IsWant, HasTooMany, stop_of_place, stop_of_cert, GotSystem, MissesSystem, GotPlacement, MissesPlacement, IsCause}
+use Rattle.lid_script.specs.Causes.{Declines, HasTooMany, stop_of_place, stop_of_cert, GotSystem, MissesSystem, GotPlacement, MissesPlacement, IsCause}
 use Rattle.lid_script.specs.Statuses.{HasText}
 use Rattle.lid_script.proofs.Composition.{rose_later, text_after, cause_after, cause_here, text_checked, cause_checked, cause_unchecked, text_decided, cause_decided, cause_undecided, want_anywhere}
 

@@ -1,5 +1,5 @@
 -- The text that a command writes, as a relation of the values that it reads.
-use Rattle.std.specs.Prelude.{◌≡◌, ℕ, ◌-◌, Bool, List, [], length, map, slice_get}
+use Rattle.std.specs.Prelude.{◌≡◌, ℕ, ◌-◌, Bool, List, [], length, map, slice_get, Option}
 use Rattle.std.specs.Option.{option_map_or}
 use Rattle.lid_design.specs.declared.Design.{Design}
 use Rattle.lid_design.specs.Columns.{root_inputs, root_outputs, IsStrictOutput}
@@ -16,6 +16,7 @@ use Rattle.lid_stations.specs.Markings.{marking}
 use Rattle.lid_placetext.specs.Written.{stations_text}
 use Rattle.lid_reports.specs.declared.report.ChannelLine.{ChannelLine}
 use Rattle.lid_reports.specs.Runs.{report_text}
+use Rattle.lid_script.specs.Clocked.{IsClockText}
 
 -- what a command tells
 pub data Output : Type 0 where
@@ -24,6 +25,7 @@ pub data Output : Type 0 where
   placed : Links → Placement → Output  -- the relay stations of a placement
   throughput : Links → Placement → Output  -- the throughput of a placement
   verdict : Links → Cert → Output  -- what a certificate shows
+  clocked : Design → Links → Placement → List (List Bool) → Option ℕ → Output  -- the clocked run for rows, with its trace where one is asked for
 
 -- `strict` writes the strict output rows. There is a strict table, and every one gives these bits
 pub record IsStrictText (d : Design) (rows : List (List Bool)) (text : List ℕ) : Type 0 where
@@ -58,3 +60,4 @@ IsTextOf (strict_output d rows) text = IsStrictText d rows text
 IsTextOf (placed l p) text = text ≡ stations_text l p
 IsTextOf (throughput l p) text = IsRateText (marking l p) text
 IsTextOf (verdict l cert) text = text ≡ verdict_text cert (l.nodes - 1)
+IsTextOf (clocked d l p rows trace) text = IsClockText d l p rows trace text

@@ -1,7 +1,8 @@
 -- The steps of a job, and how they end.
-use Rattle.std.specs.Prelude.{◌≡◌, ◌↔◌, ℕ, true, false, ◌+◌, ◌<◌, ◌≤◌, Bool, List, length, take, Option, Some, None, IfSome, Result, Ok, Err, ◌⊎◌}
+use Rattle.std.specs.Prelude.{◌≡◌, ◌↔◌, ℕ, true, false, ◌+◌, ◌*◌, ◌<◌, ◌≤◌, min, nat_lt, if◌then◌else◌, Bool, List, length, take, Option, Some, None, IfSome, Result, Ok, Err, ◌⊎◌}
 use Rattle.std.specs.List.{AllByRecursion}
 use Rattle.lid_base.specs.Lines.{logical_lines}
+use Rattle.lid_base.specs.declared.which.Which.TheVariants.{TraceCells}
 use Rattle.lid_design.specs.declared.Design.{Design}
 use Rattle.lid_design.specs.Columns.{root_inputs, root_outputs}
 use Rattle.lid_blif.specs.declared.fault.BlifFault.{BlifFault}
@@ -19,18 +20,19 @@ use Rattle.lid_cert.specs.Certificates.{Certifies}
 use Rattle.lid_certtext.specs.Texts.{cert_of, cert_fault}
 use Rattle.lid_certtext.specs.declared.fault.CertFault.{CertFault}
 use Rattle.lid_stations.specs.declared.placement.Placement.{Placement}
-use Rattle.lid_stations.specs.Placements.{Links, no_relays}
+use Rattle.lid_stations.specs.Placements.{Links, no_relays, station_count}
 use Rattle.lid_stations.specs.Markings.{marking}
 use Rattle.lid_placetext.specs.declared.fault.PlaceFault.{PlaceFault}
 use Rattle.lid_placetext.specs.Readings.{stations_reading, wires_reading}
+use Rattle.lid_reports.specs.declared.trace.TraceFault.TheVariants as trace
 use Rattle.lid_texts.specs.declared.rows.Rows.{Rows}
 use Rattle.lid_texts.specs.declared.rows.VecFault.{VecFault}
 use Rattle.lid_texts.specs.declared.rows.VecFault.TheVariants.{Changed}
 use Rattle.lid_texts.specs.Rows.{rows_reading}
 use Rattle.lid_cli.specs.declared.job.Job.{Job}
-use Rattle.lid_cli.specs.declared.job.Job.TheVariants.{Check, Place, Rate, Strict, Verify}
-use Rattle.lid_refusals.specs.Faults.{blif_line, rows_line, check_line, net_line, stations_line, cert_line}
-use Rattle.lid_script.specs.Outputs.{Output, report, strict_output, placed, throughput, verdict}
+use Rattle.lid_cli.specs.declared.job.Job.TheVariants.{Check, Clock, Place, Rate, Strict, Verify}
+use Rattle.lid_refusals.specs.Faults.{blif_line, rows_line, check_line, net_line, stations_line, cert_line, trace_line}
+use Rattle.lid_script.specs.Outputs.{Output, report, strict_output, placed, throughput, verdict, clocked}
 
 -- what a reading makes of a value
 pub data Reading (A : Type 0) : Type 0 where
@@ -248,9 +250,48 @@ rate_script net stations root = system_step net root (λ l. placement_step l sta
 unfoldable pub verify_script : List ℕ → List ℕ → Option (List ℕ) → Option (List ℕ) → Script
 verify_script net cert stations root = system_step net root (λ l. placement_step l stations (λ p. cert_script l p cert))
 
+-- whether a trace of so many cells is refused: a limit is told as at most 2^64 - 1
+abbrev pub cells_read : ℕ → Reading (Unit {0})
+cells_read cells = if nat_lt 1048576 cells then bad (trace_line (trace.Limit TraceCells (min cells 18446744073709551615))) else good tt
+
+-- the cells of a trace are judged by the cycles that it is asked for, where it is, whatever the run has
+unfoldable pub trace_read : Placement → Option ℕ → Reading (Unit {0})
+trace_read p None = good tt
+trace_read p (Some cycles) = cells_read (station_count p.relays * cycles)
+
+-- the rows of a design, which were read, are to be read a second time
+abbrev pub reread_rows : Design → List ℕ → List (List Bool) → Rereading
+reread_rows d vec rows = record { name = vec; limit = rows_limit; width = length (root_inputs d); read = vec_reading d; rows = rows }
+
+-- `clock` of a system with such a placement whose rows were read: they are read a second time as it runs
+unfoldable pub rerun_script : Design → Links → Placement → List ℕ → Option ℕ → List (List Bool) → Script
+rerun_script d l p vec trace rows = again (reread_rows d vec rows) (λ reread. end (gives (clocked d l p reread trace)))
+
+-- the trace is judged, and then it runs
+unfoldable pub traced_script : Design → Links → Placement → List ℕ → Option ℕ → List (List Bool) → Script
+traced_script d l p vec trace rows = step (trace_read p trace) (λ _. rerun_script d l p vec trace rows)
+
+-- `clock` of a system with such a placement: the rows are fetched and read
+unfoldable pub vec_script : Design → Links → Placement → List ℕ → Option ℕ → Script
+vec_script d l p vec trace = read_step vec rows_limit (vec_reading d) (traced_script d l p vec trace)
+
+-- `clock` of a design with these channels: the stations are read
+unfoldable pub placed_script : Design → Links → List ℕ → Option (List ℕ) → Option ℕ → Script
+placed_script d l vec stations trace = placement_step l stations (λ p. vec_script d l p vec trace)
+
+-- `clock` of an accepted design: its system is built
+unfoldable pub built_script : Design → List ℕ → Option (List ℕ) → Option ℕ → Script
+built_script d vec stations trace = net_step d (λ channels. placed_script d (links d channels) vec stations trace)
+
+-- `clock`: the netlist is read and checked, and its system built, then the stations are read, then the rows,
+-- and the trace is judged
+unfoldable pub clock_script : List ℕ → List ℕ → Option (List ℕ) → Option ℕ → Option (List ℕ) → Script
+clock_script net vec stations trace root = read_step net net_limit net_reading (λ d. check_step root d (λ checked. built_script checked vec stations trace))
+
 -- the steps of a job
 abbrev pub script_of : Job → Script
 script_of (Check net root) = check_script net root
+script_of (Clock net vec stations trace root) = clock_script net vec stations trace root
 script_of (Place net wires reach root) = place_script net wires reach root
 script_of (Rate net stations root) = rate_script net stations root
 script_of (Strict net vec root) = strict_script net vec root

@@ -2,7 +2,7 @@
 use Rattle.std.specs.Prelude.{◌≡◌, ◌≢◌, ℕ, ◌≤◌, Bool, true, false, List, Option, None, IsSome, IfSome, ◌⊎◌}
 use Rattle.lid_base.specs.Outside.{Rose, Appended, AppendedPrefix}
 use Rattle.lid_cli.specs.declared.job.Job.{Job}
-use Rattle.lid_cli.specs.declared.job.Job.TheVariants.{Check, Place, Rate, Strict, Verify}
+use Rattle.lid_cli.specs.declared.job.Job.TheVariants.{Check, Clock, Place, Rate, Strict, Verify}
 use Rattle.lid_refusals.specs.Saying.{Says}
 use Rattle.lid_refusals.specs.Faults.{usage_line, read_line, write_line, memory_line, denied_line}
 use Rattle.lid_script.specs.Outputs.{Output, IsTextOf}
@@ -59,9 +59,10 @@ pub record IsStatusOf (held : List ℕ → Option (List ℕ)) (script : Script) 
   pub ends : EndsIn held script ending
   pub same : status ≡ status_of ending
 
--- whether a job writes while it runs, before its output is whole: of all commands `clock` alone will
+-- whether a job writes while it runs, before its output is whole: of all commands `clock` alone does
 abbrev pub writes_early : Job → Bool
 writes_early (Check net root) = false
+writes_early (Clock net vec stations trace root) = true
 writes_early (Place net wires reach root) = false
 writes_early (Rate net stations root) = false
 writes_early (Strict net vec root) = false

@@ -5,7 +5,9 @@
 mod fault;
 mod placing;
 mod steps;
+mod tracing;
 
 pub use fault::{End, Stop};
 pub use placing::{read_cert, read_placement, read_system, read_wires};
 pub use steps::{accept, build_system, read_net, read_vec};
+pub use tracing::judge_trace;

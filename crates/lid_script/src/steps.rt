@@ -2,6 +2,7 @@
 
 ghost use Rattle.std.specs.Prelude.{◌≡◌, ℕ, ◌^◌, ◌<◌, ◌≤◌, List, length, IfOk, IfErr};
 ghost use Rattle.std.specs.List.{AllByRecursion};
+ghost use Rattle.lid_agree.specs.Agreement.{IsSystemOf};
 ghost use Rattle.lid_design.specs.Columns.{root_inputs};
 ghost use Rattle.lid_design.specs.WellFormed.{IsWellFormed};
 ghost use Rattle.lid_system.specs.Systems.{IsWellFormed as IsSystem};
@@ -125,6 +126,7 @@ pub fn accept<'a>(alloc: Global, design: Design, root: &Option<Name>) -> Result<
 pub fn build_system<'a>(alloc: Global, checked: &Checked) -> Result<System, Stop<'a>>
     ensures formed { IfOk result IsSystem }
     ensures ok { IfOk result (λ system. HasChannels checked.now system.channels) }
+    ensures system { IfOk result (IsSystemOf checked.now) }
     ensures links { IfOk result (λ system. links_of system ≡ links checked.now system.channels) }
     ensures err { IfErr result (FailsNet checked.now) }
 {

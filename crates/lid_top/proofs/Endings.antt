@@ -8,15 +8,13 @@ use Rattle.lid_system.specs.declared.Channel.{Channel}
 use Rattle.lid_channels.specs.declared.fault.NetFault.TheVariants.{TooManyChannels}
 use Rattle.lid_net.specs.Graphs.{IsGraphOf}
 use Rattle.lid_cli.specs.declared.job.Job.{Job}
-use Rattle.lid_cli.specs.declared.job.Job.TheVariants.{Check, Place, Rate, Strict, Verify}
+use Rattle.lid_cli.specs.declared.job.Job.TheVariants.{Check, Clock, Place, Rate, Strict, Verify}
 use Rattle.lid_refusals.specs.Faults.{check_line, net_line}
 use Rattle.lid_script.specs.Outputs.{strict_output, report, placed}
-use Rattle.lid_graph.specs.declared.graph.Graph.{Graph}
 use Rattle.lid_cert.specs.declared.cert.Cert.{Cert}
 use Rattle.lid_stations.specs.declared.placement.Placement.{Placement}
 use Rattle.lid_stations.specs.Placements.{Links, no_relays}
-use Rattle.lid_stations.specs.Markings.{marking}
-use Rattle.lid_script.specs.Scripts.{Ending, refuses, gives, Script, fetch, again, decide, end, Reading, good, bad, step, net_reading, vec_reading, check_step, net_step, report_script, check_script, rows_script, checked_script, strict_script, links, system_step, placement_step, stations_read, wires_read, cert_read, wires_script, rated_script, IsJudged, NoLine, judged_script, judging_script, cert_script, place_script, rate_script, verify_script, script_of, IsFetched, IsReread, IsChecked, IsUnchecked, EndsIn}
+use Rattle.lid_script.specs.Scripts.{Ending, refuses, gives, Script, fetch, again, decide, end, Reading, good, bad, step, net_reading, vec_reading, check_step, net_step, report_script, check_script, rows_script, checked_script, strict_script, links, system_step, placement_step, stations_read, wires_read, cert_read, wires_script, rated_script, judged_script, judging_script, cert_script, place_script, rate_script, verify_script, trace_read, rerun_script, traced_script, vec_script, placed_script, built_script, clock_script, script_of, IsFetched, IsReread, IsChecked, IsUnchecked, EndsIn}
 use Rattle.lid_script.specs.Statuses.{TellsAll}
 
 -- each step of the script without a fetch has one outcome
@@ -121,11 +119,23 @@ module _ (apart : (d : Design) (fault : CheckFault) → IsAccepted d → IsRefus
       settled_step held (net_reading bytes) (λ d. check_step root d built)
       (λ d. checked_once held root d built (λ checked. built_once held checked (λ channels. next (links checked channels)) (λ channels. s (links checked channels))))
 
+  -- `clock` of an accepted design has one outcome
+  clocked_once : (held : List ℕ → Option (List ℕ)) (d : Design) (vec : List ℕ) (stations : Option (List ℕ)) (trace : Option ℕ) → IsSettled held (built_script d vec stations trace)
+  unfolding built_script placed_script vec_script traced_script rerun_script
+  clocked_once held d vec stations trace = built_once held d (λ channels. placed_script d (links d channels) vec stations trace) (λ channels.
+      let l = links d channels in
+      placed_once held l stations (λ p. vec_script d l p vec trace) (λ p text _.
+      settled_step held (vec_reading d text) (traced_script d l p vec trace) (λ rows.
+      settled_step held (trace_read p trace) (λ _. rerun_script d l p vec trace rows) (λ _ reread _. tt))))
+
   settled_job : (held : List ℕ → Option (List ℕ)) (job : Job) → IsSettled held (script_of job)
-  unfolding check_script report_script strict_script checked_script rows_script place_script wires_script rate_script rated_script verify_script cert_script
+  unfolding clock_script check_script report_script strict_script checked_script rows_script place_script wires_script rate_script rated_script verify_script cert_script
   settled_job held (Check net root) = λ bytes _.
       let reported : (d : Design) → IsSettled held (report_script d) = λ d. built_once held d (λ channels. end (gives (report d channels))) (λ _. tt) in
       settled_step held (net_reading bytes) (λ d. check_step root d report_script) (λ d. checked_once held root d report_script reported)
+  settled_job held (Clock net vec stations trace root) = λ bytes _.
+      let built : Design → Script = λ checked. built_script checked vec stations trace in
+      settled_step held (net_reading bytes) (λ d. check_step root d built) (λ d. checked_once held root d built (λ checked. clocked_once held checked vec stations trace))
   settled_job held (Place net wires reach root) =
       system_once held net root (λ l. wires_script l wires reach) (λ l bytes _. settled_step held (wires_read reach l bytes) (λ p. end (gives (placed l p))) (λ _. tt))
   settled_job held (Rate net stations root) =

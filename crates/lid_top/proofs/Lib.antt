@@ -1,3 +1,4 @@
 pub mod Endings
 pub mod Pieces
 pub mod Runs
+pub mod Clocked

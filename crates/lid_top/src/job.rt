@@ -9,7 +9,7 @@ ghost use Rattle.lid_script.specs.Statuses.{HasText, Writes, WritesPrefix, Tells
 
 use lid_base::{Gate, Shelf, Sink, SinkFailed};
 use lid_cli::Job;
-use lid_commands::{check_text, place_text, rate_text, strict_text, verify_text};
+use lid_commands::{check_text, place_text, rate_text, run_clock, strict_text, verify_text};
 use lid_io::PieceWriter;
 use lid_script::{End, Stop};
 use std::alloc::Global;
@@ -27,6 +27,7 @@ fn text_of<'a, S: Shelf>(alloc: Global, shelf: &mut S, job: &'a Job) -> Result<V
 {
     match job {
         Job::Check { net, root } => check_text(alloc, shelf, net.as_str(), root),
+        Job::Clock { .. } => unreachable!(),
         Job::Place {
             net,
             wires,
@@ -126,6 +127,22 @@ where
 {
     let _ = gate;
     match job {
+        Job::Clock {
+            net,
+            vec,
+            stations,
+            trace,
+            root,
+        } => run_clock(
+            rt.alloc(),
+            shelf,
+            out,
+            net.as_str(),
+            vec.as_str(),
+            stations,
+            trace,
+            root,
+        ),
         Job::Check { .. }
         | Job::Place { .. }
         | Job::Rate { .. }

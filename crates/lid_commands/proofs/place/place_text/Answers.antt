@@ -1,6 +1,5 @@
-use Rattle.std.proofs.Common.{List}
-use Rattle.lid_stations.specs.Placements.{Links, links_of}
-use Rattle.lid_script.specs.Scripts.{Script, wires_script, place_script}
+use Rattle.lid_stations.specs.Placements.{links_of}
+use Rattle.lid_script.specs.Scripts.{wires_script, place_script}
 use Rattle.lid_script.proofs.Placements.{text_ok, cause_err, cause_unbuilt}
 use Rattle.lid_commands.proofs.place.place_text.Goals as goal
 

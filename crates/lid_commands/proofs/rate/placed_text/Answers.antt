@@ -1,9 +1,8 @@
-use Rattle.std.proofs.Common.{List, ℕ, Option, refl, subst}
+use Rattle.std.proofs.Common.{refl}
 use Rattle.lid_base.proofs.Results.{if_ok, if_err}
-use Rattle.lid_stations.specs.declared.placement.Placement.{Placement}
 use Rattle.lid_stations.specs.Placements.{links_of}
 use Rattle.lid_script.specs.Outputs.{throughput}
-use Rattle.lid_script.specs.Scripts.{Script, placement_step, rated_script}
+use Rattle.lid_script.specs.Scripts.{placement_step, rated_script}
 use Rattle.lid_script.proofs.Composition.{want_anywhere}
 use Rattle.lid_script.proofs.Placements.{text_placed, cause_unplaced}
 use Rattle.lid_commands.proofs.rate.placed_text.Goals as goal

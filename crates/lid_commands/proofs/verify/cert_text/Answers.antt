@@ -1,4 +1,3 @@
-use Rattle.std.proofs.Common.{List, ℕ, Option, subst}
 use Rattle.lid_base.proofs.Results.{if_ok, if_err}
 use Rattle.lid_cert.specs.declared.cert.Cert.{Cert}
 use Rattle.lid_stations.specs.Placements.{links_of}

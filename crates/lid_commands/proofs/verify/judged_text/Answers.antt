@@ -1,4 +1,4 @@
-use Rattle.std.proofs.Common.{◌≡◌, ◌-◌, Bool, true, false, List, length, inl, refl, ◌∙◌, ap, subst}
+use Rattle.std.proofs.Common.{◌-◌, true, false, inl, refl, ◌∙◌, ap, subst}
 use Rattle.lid_base.proofs.Results.{if_ok}
 use Rattle.lid_stations.specs.Markings.{marking}
 use Rattle.lid_stations.specs.Placements.{links_of}

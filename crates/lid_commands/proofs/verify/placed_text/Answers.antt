@@ -3,7 +3,7 @@ use Rattle.lid_base.proofs.Results.{if_ok, if_err}
 use Rattle.lid_stations.specs.declared.placement.Placement.{Placement}
 use Rattle.lid_stations.specs.Placements.{links_of}
 use Rattle.lid_script.specs.Causes.{IsCause}
-use Rattle.lid_script.specs.Scripts.{Script, placement_step, cert_script}
+use Rattle.lid_script.specs.Scripts.{Script, cert_script}
 use Rattle.lid_script.specs.Statuses.{HasText}
 use Rattle.lid_script.proofs.Placements.{text_placed, cause_placed, cause_unplaced}
 use Rattle.lid_commands.proofs.verify.placed_text.Goals as goal

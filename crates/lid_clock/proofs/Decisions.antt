@@ -1,0 +1,70 @@
+-- Actors of a life after their decisions.
+use Rattle.std.proofs.Common.{◌≡◌, ℕ, suc, ◌+◌, ◌⊎◌, Bool, true, false, List, length, refl, sym, ◌∙◌, ap, subst}
+use Rattle.std.proofs.lemmas.Bool.{false≢true}
+use Rattle.lid_stations.specs.Placements.{links_of}
+use Rattle.lid_runs.specs.Rules.{MayFire, MayNotFire}
+use Rattle.lid_clock.specs.declared.actor.ClockActor.{ClockActor}
+use Rattle.lid_clock.specs.declared.station.ClockStation.{ClockStation}
+use Rattle.lid_clock.specs.Actors.{SeesNoBar, Fires}
+use Rattle.lid_clock.specs.Rules.{RunsGoByRules}
+use Rattle.lid_clock.specs.Lives.{Life, fired_after}
+use Rattle.lid_clock.specs.States.{MayBegin, IsActor, AreStations, Decided}
+use Rattle.lid_clock.proofs.Bars.{may_fire}
+use Rattle.lid_clock.proofs.Tokens.{took}
+use Rattle.lid_clock.proofs.Made.{IsFiring, IsMade, made}
+
+-- an actor that did not go is still what it is
+still : (l : Life) (g v fired : ℕ) (a : ClockActor) → IsActor l g v fired a → IsActor l g v fired (record a { went = false })
+still l g v fired a actor =
+    record {
+      there = actor.there;
+      drains = actor.drains;
+      fills = actor.fills;
+      capped = actor.capped;
+      fired_is = actor.fired_is;
+      places = record { taken = actor.places.taken; tokens = actor.places.tokens; size = actor.places.size };
+      is = actor.is;
+    }
+
+-- true is not false
+not_both : {A : Type 0} (b : Bool) → b ≡ true → b ≡ false → A
+not_both b is_true is_false = absurd (false≢true (sym is_false ∙ is_true))
+
+-- an actor that is held, or may not fire, has decided
+pub rested : (r : RunsGoByRules) (l : Life) (k g v : ℕ) (a : ClockActor) → MayBegin l k g → IsActor l g v (fired_after l k v) a
+    → (l.hold k v ≡ true) ⊎ MayNotFire (links_of l.system) l.placement (length l.input) (fired_after l k) v → Decided l k g v (record a { went = false })
+rested r l k g v a begins actor why =
+    let same : fired_after l (suc k) v ≡ fired_after l k v = r.rests l.system l.placement (length l.input) l.hold k v begins.rules.system begins.rules.fits actor.there why in
+    record {
+      actor = subst (λ (n : ℕ). IsActor l g v n (record a { went = false })) (sym same) (still l g v (fired_after l k v) a actor);
+      goes = λ h. not_both false h refl;
+      rests = λ _. same;
+      offers = λ h. not_both false h refl;
+      row = λ h. not_both false h refl;
+    }
+
+-- an actor that fires has decided
+pub fired : (r : RunsGoByRules) (l : Life) (k g v : ℕ) (a : ClockActor) (stations : List ClockStation) (new : ClockActor) → MayBegin l k g → IsActor l g v (fired_after l k v) a → AreStations l k stations
+    → l.hold k v ≡ false → SeesNoBar a stations → Fires a stations new → Decided l k g v new
+fired r l k g v a stations new begins actor beside free clear fires =
+    let may : MayFire (links_of l.system) l.placement (length l.input) (fired_after l k) v = may_fire l k g v a stations actor beside clear in
+    let goes : fired_after l (suc k) v ≡ fired_after l k v + 1 = r.fires l.system l.placement (length l.input) l.hold k v begins.rules.system begins.rules.fits actor.there free may in
+    let firing : IsFiring l k g v new.taken.items = record { begins = begins; there = actor.there; below = may.below; takes = took l k g v a stations new.taken.items actor beside clear.hold fires.taken } in
+    let done : IsMade l k g v new.tokens.items new.part = made r l k g v new.taken.items new.tokens.items a.part new.part firing actor.is fires.passes in
+    let now : IsActor l g v (fired_after l k v + 1) new =
+    record {
+      there = actor.there;
+      drains = fires.same.ins ∙ actor.drains;
+      fills = fires.same.outs ∙ actor.fills;
+      capped = fires.same.cap ∙ actor.capped;
+      fired_is = fires.fired ∙ ap (λ (n : ℕ). n + 1) actor.fired_is;
+      places = fires.places;
+      is = done.is;
+    } in
+    record {
+      actor = subst (λ (n : ℕ). IsActor l g v n new) (sym goes) now;
+      goes = λ _. goes;
+      rests = λ h. not_both new.went fires.went h;
+      offers = λ _. done.puts;
+      row = λ _. done.row;
+    }

@@ -1,0 +1,53 @@
+-- What the calls on a run ask, and what a cycle does to all actors and stations.
+use Rattle.std.specs.Prelude.{◌≡◌, ℕ, suc, ◌==◌, Bool, false, if◌then◌else◌, List, length}
+use Rattle.lid_clock.specs.declared.part.Part.{Part}
+use Rattle.lid_clock.specs.declared.part.Part.TheVariants.{Source}
+use Rattle.lid_clock.specs.declared.actor.ClockActor.{ClockActor}
+use Rattle.lid_clock.specs.declared.station.ClockStation.{ClockStation}
+use Rattle.lid_clock.specs.Lives.{Life, IsLife, Holds, sink}
+use Rattle.lid_clock.specs.States.{AreActors, AreStations, AreDecided, MayBegin}
+
+-- whether an actor is held where the source or the sink may be
+abbrev pub held_at : ℕ → Bool → Bool → ℕ → Bool
+held_at sunk source last v = if v == 0 then source else if v == sunk then last else false
+
+-- all actors can decide
+pub record CanDecideAll (actors : List ClockActor) (stations : List ClockStation) : Type 0 where
+  pub life : Life
+  pub k : ℕ
+  pub g : ℕ
+  pub begins : MayBegin life k g
+  pub all : AreActors life k g actors
+  pub beside : AreStations life k stations
+
+-- all actors have decided
+abbrev pub AllDecide : List ClockActor → List ClockStation → ℕ → Bool → Bool → List ClockActor → Type 0
+AllDecide old stations sunk source last new =
+    (l : Life) (k g : ℕ)
+    → MayBegin l k g → AreActors l k g old → AreStations l k stations → sunk ≡ sink l → Holds l k source last → AreDecided l k g new
+
+-- all stations can settle
+pub record CanSettleAll (stations : List ClockStation) (actors : List ClockActor) : Type 0 where
+  pub life : Life
+  pub k : ℕ
+  pub g : ℕ
+  pub rules : IsLife life
+  pub all : AreStations life k stations
+  pub decided : AreDecided life k g actors
+
+-- all stations have settled
+abbrev pub AllSettle : List ClockStation → List ClockActor → List ClockStation → Type 0
+AllSettle old actors new =
+    (l : Life) (k g : ℕ)
+    → IsLife l → AreStations l k old → AreDecided l k g actors → AreStations l (suc k) new
+
+-- a source can take a row of this width
+abbrev pub CanTake : Part → ℕ → Type 0
+CanTake (Source node row) width = length row.items ≡ width
+CanTake _ width = Unit {0}
+
+-- a source takes a row
+abbrev pub Takes : Part → List Bool → Part → Type 0
+Takes (Source node row) given (Source now line) = (now ≡ node) × (line.items ≡ given)
+Takes (Source node row) given _ = ⊥
+Takes old given new = new ≡ old

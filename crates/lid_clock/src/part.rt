@@ -1,0 +1,17 @@
+//! The part of an actor.
+
+use lid_nodes::{ShellNode, SinkNode, SourceNode};
+
+/// What an actor is: a node, or a mover. The source keeps the row that it was given last, and the sink the
+/// row that it made last.
+#[derive(Drop)]
+pub enum Part {
+    /// The source.
+    Source(SourceNode, Vec<bool>),
+    /// A shell.
+    Shell(ShellNode),
+    /// A mover, which moves a token from one station to the next.
+    Mover,
+    /// The sink.
+    Sink(SinkNode, Vec<bool>),
+}

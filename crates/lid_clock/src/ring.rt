@@ -1,0 +1,77 @@
+//! What is done at the ends of a station.
+
+ghost use Rattle.std.specs.Prelude.{◌≡◌, ℕ, ◌+◌, ◌-◌, ◌%◌, ◌^◌, ◌<◌, ◌≤◌, true, false, nat_lt, length, set};
+ghost use Rattle.lid_clock.specs.Rings.{token_in};
+ghost use Rattle.lid_runs.specs.Views.{shown_as};
+
+use crate::station::ClockStation;
+use lid_base::Shown;
+
+impl ClockStation {
+    /// Whether it holds a token.
+    pub(crate) fn is_valid(&self) -> bool
+        ensures { result ≡ nat_lt self.now.taken self.now.put }
+    {
+        self.taken < self.put
+    }
+
+    /// Whether it holds as many tokens as it has places.
+    pub(crate) fn is_full(&self) -> bool
+        ensures yes { result ≡ true → self.now.taken + length self.now.places.items ≤ self.now.put }
+        ensures no { result ≡ false → self.now.put < self.now.taken + length self.now.places.items }
+    {
+        self.put - self.taken == self.places.len() as u64
+    }
+
+    /// The place of a token's number.
+    fn place_of(&self, number: u64) -> usize
+        ensures { result ≡ number % length self.now.places.items }
+    {
+        (number % self.places.len() as u64) as usize
+    }
+
+    /// Its oldest token.
+    pub(crate) fn oldest(&self) -> u32
+        ensures { result ≡ token_in self.now.places.items self.now.taken }
+    {
+        self.places[self.place_of(self.taken)]
+    }
+
+    /// What it shows.
+    pub(crate) fn shown(&self) -> Shown
+        ensures { result ≡ shown_as (length self.now.places.items) self.now.put self.now.taken (token_in self.now.places.items) }
+    {
+        let valid = self.is_valid();
+        Shown {
+            valid,
+            stop: self.put - self.taken == self.places.len() as u64,
+            token: if valid { self.oldest() } else { 0 },
+        }
+    }
+
+    /// Takes in a token.
+    pub(crate) fn accept(&mut self, token: u32)
+        requires room { self.old.put < self.old.taken + length self.old.places.items }
+        requires few { self.old.put + 1 < 2 ^ 64 }
+        ensures ends { (self.new.filler ≡ self.old.filler) × (self.new.slot ≡ self.old.slot) × (self.new.drainer ≡ self.old.drainer) }
+        ensures put { self.new.put ≡ self.old.put + 1 }
+        ensures taken { self.new.taken ≡ self.old.taken }
+        ensures places { self.new.places.items ≡ set self.old.places.items (self.old.put % length self.old.places.items) token }
+    {
+        let place = self.place_of(self.put);
+        self.places[place] = token;
+        self.put += 1;
+    }
+
+    /// Lets its oldest token go.
+    pub(crate) fn release(&mut self)
+        requires { self.old.taken < self.old.put }
+        ensures ends { (self.new.filler ≡ self.old.filler) × (self.new.slot ≡ self.old.slot) × (self.new.drainer ≡ self.old.drainer) }
+        ensures put { self.new.put ≡ self.old.put }
+        ensures taken { self.new.taken ≡ self.old.taken + 1 }
+        ensures places { self.new.places.items ≡ self.old.places.items }
+    {
+        let _put = self.put;
+        self.taken += 1;
+    }
+}

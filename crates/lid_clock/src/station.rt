@@ -1,0 +1,18 @@
+//! The station of a clocked run.
+
+ghost use Rattle.std.specs.Prelude.{◌+◌, ◌<◌, ◌≤◌, length};
+
+/// A station of a clocked run: a ring of places, one for each token that it holds at most.
+#[derive(Drop)]
+pub struct ClockStation {
+    pub(crate) filler: u32,
+    pub(crate) slot: u32,
+    pub(crate) drainer: u32,
+    pub(crate) put: u64,
+    pub(crate) taken: u64,
+    pub(crate) places: Vec<u32>,
+    ghost some: { 0 < length places.items },
+    ghost few: { length places.items ≤ 16 },
+    ghost ordered: { taken ≤ put },
+    ghost within: { put ≤ taken + length places.items },
+}

@@ -1,0 +1,3 @@
+pub mod FreeLives
+pub mod Kept
+pub mod Steps
