@@ -7,7 +7,7 @@ mod placing;
 mod steps;
 mod tracing;
 
-pub use fault::{End, Stop};
+pub use fault::{End, Stop, rows_stop};
 pub use placing::{read_cert, read_placement, read_system, read_wires};
 pub use steps::{accept, build_system, read_net, read_vec};
 pub use tracing::judge_trace;

@@ -1,10 +1,11 @@
 //! The first of two readings of rows, which judges and counts them and does not hold them.
 
 ghost use Rattle.std.specs.Prelude.{◌≡◌, ℕ, ◌≤◌, List, IfOk, IfErr};
-ghost use Rattle.lid_commands.specs.Clocking.{HasRows};
+ghost use Rattle.lid_clocking.specs.Clocking.{HasRows};
 ghost use Rattle.lid_script.specs.Causes.{Misses};
 ghost use Rattle.lid_script.specs.Scripts.{rows_limit, vec_reading};
 
+use crate::stops::feed_stop;
 use lid_base::Shelf;
 use lid_check::Checked;
 use lid_script::Stop;
@@ -22,9 +23,9 @@ pub fn count_rows<'a, S: Shelf>(
     ensures kept { S.held shelf.new ≡ S.held shelf.old }
     ensures grows { (q : List ℕ) → S.faults shelf.old q ≤ S.faults shelf.new q }
 {
-    let _ = alloc;
-    let _ = shelf;
-    let _ = checked;
-    let _ = vec;
-    Err(Stop::Memory)
+    let outs = checked.outputs().len() as u32;
+    match lid_feed::count_rows(alloc, shelf, vec, checked.inputs(), outs) {
+        Ok(count) => Ok(count),
+        Err(fault) => Err(feed_stop(vec, fault)),
+    }
 }

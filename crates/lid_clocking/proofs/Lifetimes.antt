@@ -1,0 +1,98 @@
+-- The life of the system of a design for rows, in which nobody is held: its text is that of the design.
+use Rattle.std.proofs.Common.{◌≡◌, ℕ, ◌-◌, ◌≤◌, ◌==◌, nat_lt, min, Bool, if◌then◌else◌, List, [], ◌∷◌, ◌++◌, length, Option, None, Some, slice_get, refl, sym, ◌∙◌, ap, arith}
+use Rattle.std.specs.List.{AllByRecursion, flat_map}
+use Rattle.lid_base.specs.declared.runs.Shown.{Shown}
+use Rattle.lid_design.specs.declared.Design.{Design}
+use Rattle.lid_design.specs.Network.{Table, IsStrict, from_each}
+use Rattle.lid_design.specs.Columns.{Column, drivers, root_inputs, root_outputs, output_rows, IsStrictOutput}
+use Rattle.lid_graph.specs.Firings.{no_hold}
+use Rattle.lid_system.specs.declared.System.{System}
+use Rattle.lid_system.specs.Systems.{IsWellFormed}
+use Rattle.lid_system.specs.Streams.{output_row, IsOutput}
+use Rattle.lid_system.proofs.Streaming.{each_same, inputs_agree}
+use Rattle.lid_agree.specs.Agreement.{seen, IsSystemOf}
+use Rattle.lid_agree.proofs.Agreeing.{table_is, rows_are, output_back}
+use Rattle.lid_stations.specs.declared.placement.Placement.{Placement}
+use Rattle.lid_stations.specs.Placements.{links_of, station_count, Fits}
+use Rattle.lid_runs.specs.Runs.{token_of, fired_in, in_count, out_count}
+use Rattle.lid_stations.specs.Stations.{capacity}
+use Rattle.lid_runs.specs.Views.{shown_as, shown_at}
+use Rattle.lid_clock.specs.Lives.{Life, IsWide, shown_after}
+use Rattle.lid_texts.specs.RowsText.{rows_text}
+use Rattle.lid_reports.specs.Runs.{cycles_text, trace_text}
+use Rattle.lid_clockrun.specs.RunTexts.{IsLifeOf, IsRunText, cells_after, end_text}
+use Rattle.lid_clockrun.specs.RunTexts as run
+use Rattle.lid_script.specs.Clocked.{station_token, cells_of, nodes_fired, traced, IsClockText}
+use Rattle.lid_clocking.proofs.Tokens.{all_so, token_same}
+
+flat_same : {A B : Type 0} (f g : A → List B) (xs : List A) → ((x : A) → f x ≡ g x) → flat_map f xs ≡ flat_map g xs
+flat_same f g [] same = refl
+flat_same f g (x ∷ xs) same = ap (λ ys. ys ++ flat_map f xs) (same x) ∙ ap (λ ys. g x ++ ys) (flat_same f g xs same)
+
+shown_same : (cap put taken : ℕ) (f g : ℕ → ℕ) → f taken ≡ g taken → shown_as cap put taken f ≡ shown_as cap put taken g
+shown_same cap put taken f g same =
+    let with_token : ℕ → Shown = λ token. record { valid = nat_lt taken put; stop = put - taken == cap; token = if nat_lt taken put then token else 0 } in
+    ap with_token same
+
+module _ (d : Design) (s : System) (p : Placement) (of : IsSystemOf d s) (well : IsWellFormed s) (rows : List (List Bool)) (b : Table Column) (strict : IsStrict (drivers d) rows b) where
+  abbrev pub life : Life
+  life = record { system = s; placement = p; input = rows; table = seen d of.columns b; hold = no_hold }
+
+  pub lives : Fits s p → length rows ≤ 1000000 → AllByRecursion (λ row. length row ≡ length (root_inputs d)) rows → IsLifeOf life s p
+  lives fits few wide = record {
+    rules = record {
+      system = well;
+      fits = fits;
+      few = few;
+      wide = all_so (λ row. length row ≡ length (root_inputs d)) (IsWide s) rows (λ row is columns here. is ∙ ap length (sym (of.source 0 columns here))) wide;
+      table = table_is d s of well rows b strict;
+    };
+    of = refl;
+    stations = refl;
+    free = refl;
+  }
+
+  abbrev count : ℕ
+  count = length rows
+
+  cells_same : (k : ℕ) → run.cells_of life k ≡ cells_of d b (links_of s) p count k
+  cells_same k =
+      let l = links_of s in
+      let fired = fired_in l p count no_hold k in
+      each_same (shown_after life k) (λ station. shown_at l p count fired station (station_token d b l p station)) 0 (station_count p.relays)
+      (λ station h. shown_same (capacity p station) (in_count l p count fired station) (out_count l p fired station)
+      (token_of s p (seen d of.columns b) station) (station_token d b l p station) (token_same d s of well b p station (out_count l p fired station)))
+
+  cells_after_same : (k : ℕ) → cells_after life k ≡ flat_map (cells_of d b (links_of s) p count) (from_each (λ j. j) 0 k)
+  cells_after_same k = flat_same (run.cells_of life) (cells_of d b (links_of s) p count) (from_each (λ j. j) 0 k) cells_same
+
+  traced_same : (trace : Option ℕ) (k : ℕ) → run.traced life trace k ≡ traced d b (links_of s) p count k trace
+  traced_same None k = refl
+  traced_same (Some most) k =
+      let told : List Shown → List ℕ = λ cells. trace_text (record { stations = station_count p.relays; cycles = min most k; cells = cells }) in
+      ap told (cells_after_same (min most k))
+
+  are_outputs : IsStrictOutput d rows (output_rows d b count)
+  are_outputs =
+      let at = seen d of.columns b in
+      let table = table_is d s of well rows b strict in
+      let is : IsOutput s rows (output_rows d b count) = record {
+        some = (at, table);
+        each = λ a other. sym (rows_are d s of well rows b strict) ∙ each_same (output_row s at) (output_row s a) 0 count (λ t h. inputs_agree s well rows at a table other (length s.nodes - 1) t (omega (arith, h)));
+      } in
+      output_back d s rows (output_rows d b count) b of well strict is
+
+  pub clock_text : (trace : Option ℕ) (text : List ℕ) → IsRunText life (root_outputs d) trace text → IsClockText d (links_of s) p rows trace text
+  clock_text trace text is = record {
+    table = b;
+    strict = strict;
+    outs = output_rows d b count;
+    are_outs = are_outputs;
+    cycles = is.cycles;
+    ends = is.ends;
+    within = is.within;
+    written =
+        is.written
+        ∙ ap (λ outs. rows_text (root_outputs d) outs ++ end_text life trace is.cycles) (rows_are d s of well rows b strict)
+        ∙ ap (λ told. rows_text (root_outputs d) (output_rows d b count) ++ (cycles_text is.cycles (nodes_fired (links_of s) p count is.cycles) ++ told)) (traced_same trace is.cycles);
+  }

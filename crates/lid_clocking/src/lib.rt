@@ -1,0 +1,9 @@
+//! The command `clock`: the clocked run of a netlist for rows that are read twice, told as it goes.
+#![tactic(auto)]
+
+mod clock;
+mod counting;
+mod rerun;
+mod stops;
+
+pub use clock::run_clock;
