@@ -1,2 +1,1 @@
-pub mod Clocking
 pub mod Reported

@@ -9,7 +9,8 @@ ghost use Rattle.lid_script.specs.Statuses.{HasText, Writes, WritesPrefix, Tells
 
 use lid_base::{Gate, Shelf, Sink, SinkFailed};
 use lid_cli::Job;
-use lid_commands::{check_text, place_text, rate_text, run_clock, strict_text, verify_text};
+use lid_clocking::run_clock;
+use lid_commands::{check_text, place_text, rate_text, strict_text, verify_text};
 use lid_io::PieceWriter;
 use lid_script::{End, Stop};
 use std::alloc::Global;

@@ -5,7 +5,7 @@ use Rattle.lid_script.specs.Scripts.{Script, HasChannels, IsOverfull, links, pla
 use Rattle.lid_script.specs.Early.{RunsEarly}
 use Rattle.lid_script.proofs.Composition.{cause_undecided}
 use Rattle.lid_script.proofs.Within.{within_decided, runs_within, runs_stopped}
-use Rattle.lid_commands.proofs.clock.run_checked.Goals as goal
+use Rattle.lid_clocking.proofs.clock.run_checked.Goals as goal
 
 pub returns-in-Ok-clause-ran : goal.returns-in-Ok-clause-ran
 unfolding built_script

@@ -4,7 +4,7 @@ use Rattle.lid_script.specs.Scripts.{Script, rows_limit, vec_reading, traced_scr
 use Rattle.lid_script.specs.Causes.{Got}
 use Rattle.lid_script.proofs.Composition.{cause_here}
 use Rattle.lid_script.proofs.Within.{within_read, runs_within, runs_stopped}
-use Rattle.lid_commands.proofs.clock.run_placed.Goals as goal
+use Rattle.lid_clocking.proofs.clock.run_placed.Goals as goal
 
 pub returns-in-Ok-clause-ran : goal.returns-in-Ok-clause-ran
 unfolding vec_script

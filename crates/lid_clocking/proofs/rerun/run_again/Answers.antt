@@ -2,7 +2,7 @@ use Rattle.lid_stations.specs.Placements.{links_of}
 use Rattle.lid_script.specs.declared.fault.Stop.TheVariants.{Memory}
 use Rattle.lid_script.specs.Scripts.{rerun_script}
 use Rattle.lid_script.proofs.Within.{runs_stopped}
-use Rattle.lid_commands.proofs.rerun.run_again.Goals as goal
+use Rattle.lid_clocking.proofs.rerun.run_again.Goals as goal
 
 pub returns-clause-ran : goal.returns-clause-ran
 returns-clause-ran g c = λ rows got many.

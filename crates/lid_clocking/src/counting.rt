@@ -1,7 +1,7 @@
 //! The first of two readings of rows, which judges and counts them and does not hold them.
 
 ghost use Rattle.std.specs.Prelude.{◌≡◌, ℕ, ◌≤◌, List, IfOk, IfErr};
-ghost use Rattle.lid_commands.specs.Clocking.{HasRows};
+ghost use Rattle.lid_clocking.specs.Clocking.{HasRows};
 ghost use Rattle.lid_script.specs.Causes.{Misses};
 ghost use Rattle.lid_script.specs.Scripts.{rows_limit, vec_reading};
 

@@ -3,7 +3,7 @@ use Rattle.lid_design.specs.declared.Design.{Design}
 use Rattle.lid_script.specs.Scripts.{Script, IsChecked, IsUnchecked, check_step, built_script}
 use Rattle.lid_script.proofs.Composition.{cause_unchecked}
 use Rattle.lid_script.proofs.Within.{within_decided, runs_within, runs_stopped}
-use Rattle.lid_commands.proofs.clock.run_read.Goals as goal
+use Rattle.lid_clocking.proofs.clock.run_read.Goals as goal
 
 pub returns-in-Ok-clause-ran : goal.returns-in-Ok-clause-ran
 returns-in-Ok-clause-ran g c =

@@ -3,7 +3,7 @@ use Rattle.lid_stations.specs.Placements.{links_of}
 use Rattle.lid_script.specs.Scripts.{Script, trace_read, rerun_script, traced_script}
 use Rattle.lid_script.proofs.Composition.{cause_declined}
 use Rattle.lid_script.proofs.Within.{within_step, runs_within, runs_stopped}
-use Rattle.lid_commands.proofs.clock.run_counted.Goals as goal
+use Rattle.lid_clocking.proofs.clock.run_counted.Goals as goal
 
 pub returns-in-Ok-clause-ran : goal.returns-in-Ok-clause-ran
 unfolding traced_script

@@ -3,7 +3,7 @@ use Rattle.lid_stations.specs.Placements.{links_of}
 use Rattle.lid_script.specs.Scripts.{Script, vec_script, placed_script}
 use Rattle.lid_script.proofs.Placements.{cause_unplaced}
 use Rattle.lid_script.proofs.Within.{within_placed, runs_within, runs_stopped}
-use Rattle.lid_commands.proofs.clock.run_built.Goals as goal
+use Rattle.lid_clocking.proofs.clock.run_built.Goals as goal
 
 pub returns-in-Ok-clause-ran : goal.returns-in-Ok-clause-ran
 unfolding placed_script

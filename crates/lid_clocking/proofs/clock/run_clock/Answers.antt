@@ -2,7 +2,7 @@ use Rattle.lid_design.specs.declared.Design.{Design}
 use Rattle.lid_script.specs.Scripts.{Script, net_limit, net_reading, check_step, built_script, clock_script}
 use Rattle.lid_script.proofs.Composition.{cause_here}
 use Rattle.lid_script.proofs.Within.{within_read, runs_within, runs_stopped}
-use Rattle.lid_commands.proofs.clock.run_clock.Goals as goal
+use Rattle.lid_clocking.proofs.clock.run_clock.Goals as goal
 
 pub returns-in-Ok-clause-ran : goal.returns-in-Ok-clause-ran
 unfolding clock_script
