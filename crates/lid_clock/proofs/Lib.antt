@@ -17,3 +17,4 @@ pub mod Alone
 pub mod Laid
 pub mod Built
 pub mod Begun
+pub mod Together

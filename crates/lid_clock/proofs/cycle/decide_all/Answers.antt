@@ -1,21 +1,19 @@
 -- Each actor decides once, beside the stations as the cycle begins.
-use Rattle.std.proofs.Common.{◌<◌, Bool, length, get_or, sym, ◌∙◌, ap, subst, arith}
-use Rattle.std.proofs.lemmas.Option.{slice_get_within}
+use Rattle.std.proofs.Common.{◌<◌, Bool, length, get_or, sym, ◌∙◌, subst, arith}
 use Rattle.lid_clock.specs.declared.actor.ClockActor.{ClockActor}
 use Rattle.lid_clock.specs.States.{CanDecide, Decides}
 use Rattle.lid_clock.specs.Cycles.{held_at}
 use Rattle.lid_clock.proofs.Elements.{is_there}
-use Rattle.lid_clock.proofs.Bars.{element}
 use Rattle.lid_clock.proofs.Pointwise.{none_yet, one_more, all_changed}
+use Rattle.lid_clock.proofs.Together.{each_can_decide, all_decide}
 use Rattle.lid_clock.proofs.cycle.decide_all.Goals as goal
 
 pub decide-requires : goal.decide-requires
 decide-requires c =
-    let q = c.requires in
     let within : c.loop-v.v < length c.loop-v.actors = omega arith in
     let there = sym (c.loop-v.invariant.left c.loop-v.v (omega arith)) ∙ is_there c.loop-v.actors c.loop-v.v c.index-actors-v.result within c.index-actors-v.is in
     subst (λ (a : ClockActor). CanDecide a c.args.stations.now) c.index-actors-v.is
-    (record { life = q.life; k = q.k; g = q.g; v = c.loop-v.v; begins = q.begins; actor = q.all.each c.loop-v.v c.index-actors-v.result there; beside = q.beside })
+    (each_can_decide c.args.actors.now c.args.stations.now c.loop-v.v c.index-actors-v.result c.requires there)
 
 pub loop-v-init : goal.loop-v-init
 loop-v-init c = none_yet _ _
@@ -28,13 +26,6 @@ loop-v-preserved c =
     (subst (λ (b : Bool). Decides (get_or c.loop-v.actors c.loop-v.v c.index-actors-v.result) c.args.stations.now b c.decide.new.self) c.is_held.ensures c.decide.ensures))
 
 pub returns : goal.returns
-returns c = λ l k g begins all beside sunk holds.
-    record {
-      many = c.loop-v.invariant.many ∙ all.many;
-      each = λ v a there.
-          let low = slice_get_within c.loop-v.actors v a there in
-          let many = c.loop-v.invariant.many in
-          let old = element c.args.actors.now v (omega arith) in
-          all_changed _ c.args.actors.now c.loop-v.actors c.loop-v.v c.loop-v.invariant c.loop-v-test.false v old.0 a old.1 there l k g v begins (all.each v old.0 old.1) beside
-          (holds v ∙ ap (λ n. held_at n c.args.source c.args.sink v) (sym sunk));
-    }
+returns c =
+    all_decide c.args.actors.now c.loop-v.actors c.args.stations.now c.args.sunk c.args.source c.args.sink c.loop-v.invariant.many
+    (all_changed _ c.args.actors.now c.loop-v.actors c.loop-v.v c.loop-v.invariant c.loop-v-test.false)
