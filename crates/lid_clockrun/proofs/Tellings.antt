@@ -1,5 +1,5 @@
 -- What a run has told between its cycles, and in the end.
-use Rattle.std.proofs.Common.{◌≡◌, ℕ, suc, ◌+◌, ◌-◌, ◌<◌, ◌≤◌, ◌==◌, ◌⊎◌, inl, inr, Bool, true, false, List, [], ◌++◌, length, Option, None, Some, refl, sym, ◌∙◌, ap, subst, append_assoc, append-nil, add-one, arith}
+use Rattle.std.proofs.Common.{◌≡◌, ℕ, ◌+◌, ◌-◌, ◌<◌, ◌≤◌, ◌==◌, ◌⊎◌, inl, inr, Bool, true, false, List, [], ◌++◌, length, Option, Some, Result, Ok, Err, OnErr, IfErr, refl, sym, ◌∙◌, ap, subst, append_assoc, append-nil, add-one, arith}
 use Rattle.std.specs.List.{flat_map}
 use Rattle.std.proofs.lemmas.Bool.Decides.{eqb_tells}
 use Rattle.lid_base.specs.Outside.{Rose, Appended, AppendedPrefix}
@@ -10,7 +10,7 @@ use Rattle.lid_system.specs.Streams.{output_row}
 use Rattle.lid_lines.specs.Texts.{line_text}
 use Rattle.lid_texts.specs.Rows.{header_words}
 use Rattle.lid_texts.specs.RowsText.{row_text, rows_text}
-use Rattle.lid_clock.specs.Lives.{Life, IsLife, IsBelow, HasSunk, IsLast, fired_after, sink}
+use Rattle.lid_clock.specs.Lives.{Life, IsBelow, HasSunk, IsLast, fired_after, sink}
 use Rattle.lid_feed.specs.declared.fault.FeedFault.{FeedFault}
 use Rattle.lid_feed.specs.declared.fault.FeedFault.TheVariants as feeds
 use Rattle.lid_feed.specs.Feeds.{IfRead}
@@ -20,9 +20,9 @@ use Rattle.lid_clockrun.specs.declared.fault.RunFault.TheVariants.{Feed, Few, Me
 use Rattle.lid_clockrun.specs.declared.lines.Telling.{Telling}
 use Rattle.lid_clockrun.specs.declared.steps.Running.{Running}
 use Rattle.lid_clockrun.specs.RunTexts.{first_outputs, end_text}
-use Rattle.lid_clockrun.specs.Runnings.{Run, AreGiven, Begins, Writes, WritesPart, HasRun, HasStopped, IsCause}
+use Rattle.lid_clockrun.specs.Runnings.{Run, Begins, Writes, WritesPart, HasStopped, IsCause}
 use Rattle.lid_clockrun.specs.Pushing.{HasPushed, Adds, Breaks, Closes, IsTellCause, last_text}
-use Rattle.lid_clockrun.specs.Stepping.{IsRunning, IsFed, HasTold}
+use Rattle.lid_clockrun.specs.Stepping.{IsFed, HasTold}
 use Rattle.lid_clockrun.proofs.Outputs.{header_alone, rows_one_more, rows_first}
 use Rattle.lid_clockrun.proofs.Ends.{IsFirstAt, sink_within, sink_rests, some_text, text_at}
 use Rattle.lid_clockrun.proofs.Pushes.{pushes_begin, nothing_of}
@@ -46,11 +46,20 @@ read_later reads before on feeds.Read c = on c
 read_later reads before on _ c = tt
 
 -- a cause as seen from earlier on
-pub cause_later : (r : Run) (rows : List (List Bool)) (reads before writes : Type 0) (fault : RunFault) → (before → reads) → IsCause r rows before ⊥ fault → IsCause r rows reads writes fault
-cause_later r rows reads before writes (Feed fault) on c = (read_later reads before on fault c.0, c.1)
-cause_later r rows reads before writes (Few found) on c = c
-cause_later r rows reads before writes Memory on c = tt
-cause_later r rows reads before writes Write on c = absurd c
+pub cause_later : (r : Run) (rows : List (List Bool)) (reads before writes within : Type 0) (fault : RunFault) → (before → reads) → (within → writes) → IsCause r rows before within fault → IsCause r rows reads writes fault
+cause_later r rows reads before writes within (Feed fault) on also c = (read_later reads before on fault c.0, c.1)
+cause_later r rows reads before writes within (Few found) on also c = c
+cause_later r rows reads before writes within Memory on also c = tt
+cause_later r rows reads before writes within Write on also c = also c
+
+-- a run that stopped, as seen from earlier on
+pub stopped_later : (r : Run) (before now : Option (List ℕ)) (reads later writes : Type 0) (fault : RunFault) → (later → reads) → HasStopped r before now later writes fault → HasStopped r before now reads writes fault
+stopped_later r before now reads later writes fault on s = record {
+  rows = s.rows;
+  given = s.given;
+  told = s.told;
+  cause = cause_later r s.rows reads later writes writes fault on (λ w. w) s.cause;
+}
 
 pub cause_of_telling : (r : Run) (rows : List (List Bool)) (reads before writes : Type 0) (fault : RunFault) → (before → writes) → IsTellCause before fault → IsCause r rows reads writes fault
 cause_of_telling r rows reads before writes (Feed fault) on c = absurd c
@@ -82,6 +91,9 @@ module _ (r : Run) (given : List (List Bool)) (l : Life) (b : Begins r given l) 
   pub part_of_fired : (before now : Option (List ℕ)) (k : ℕ) → AppendedPrefix before now (rows_text r.columns (first_outputs l (fired_after l k (sink l)))) → WritesPart r l before now
   part_of_fired before now k a = part_of_rows before now (fired_after l k (sink l)) (sink_within l b.of.rules k) a
 
+  pub part_of_none : (now : Option (List ℕ)) → WritesPart r l now now
+  part_of_none now = part_of_rows now now 0 (omega arith) (nothing_of now (rows_text r.columns (first_outputs l 0)))
+
   -- no actor has fired before the first cycle
   none_fired : fired_after l 0 (sink l) ≡ 0
   unfolding firings
@@ -106,6 +118,7 @@ module _ (r : Run) (given : List (List Bool)) (l : Life) (b : Begins r given l) 
       where
         old : ℕ
         old = fired_after l made (sink l)
+
         new : ℕ
         new = fired_after l (made + 1) (sink l)
 
@@ -174,3 +187,8 @@ module _ (r : Run) (given : List (List Bool)) (l : Life) (b : Begins r given l) 
         is = text_at l b.of.rules b.of.free r.columns r.trace k first_end;
         written = subst (λ (xs : List ℕ). AppendedPrefix before new xs) end_is (break before _ pushed);
       }
+
+-- what holds of a fault, from two facts
+pub err_both : {A E P : Type 0} (Q R : E → Type 0) (result : Result A E) → ((e : E) → P → Q e → R e) → OnErr result P → IfErr result Q → IfErr result R
+err_both Q R (Ok a) f h k = tt
+err_both Q R (Err e) f h k = f e h k

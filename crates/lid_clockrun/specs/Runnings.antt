@@ -24,6 +24,9 @@ pub record Run : Type 0 where
   pub trace : Option ℕ
   pub held : Option (List ℕ)
 
+abbrev pub run_of : System → Placement → List (List ℕ) → ℕ → Option ℕ → Option (List ℕ) → Run
+run_of s p columns rows trace held = record { system = s; placement = p; columns = columns; rows = rows; trace = trace; held = held }
+
 -- the columns of a source
 abbrev pub columns_of : Node → List (List ℕ)
 columns_of (Source columns) = columns

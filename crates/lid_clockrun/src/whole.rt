@@ -5,12 +5,12 @@ ghost use Rattle.lid_base.specs.Outside.{Rose};
 ghost use Rattle.lid_system.specs.Systems.{IsWellFormed};
 ghost use Rattle.lid_stations.specs.Placements.{Fits};
 ghost use Rattle.lid_feed.specs.Fetching.{HasGiven};
-ghost use Rattle.lid_clockrun.specs.Runnings.{source_columns, HasRun, HasStopped};
+ghost use Rattle.lid_clockrun.specs.Runnings.{run_of, source_columns, HasRun, HasStopped};
 ghost use Rattle.lid_clockrun.specs.Stepping.{IsFed};
 
 use crate::fault::RunFault;
-use crate::steps::Running;
 use crate::lines::Telling;
+use crate::steps::Running;
 use lid_base::{Name, Shelf, Sink};
 use lid_feed::RowFeed;
 use lid_stations::Placement;
@@ -31,12 +31,12 @@ fn tell_run<S: Shelf, O: Sink>(
     run: &mut Running,
     telling: &mut Telling,
 ) -> Result<(), RunFault>
-    requires fed { (given : List (List Bool)) × IsFed (record { system = system.now; placement = placement.now; columns = columns.now; rows = rows; trace = trace; held = S.held shelf.old feed.old.name }) (S.held shelf.old feed.old.name) run.old feed.old given }
+    requires fed { (given : List (List Bool)) × IsFed (run_of system.now placement.now columns.now rows trace (S.held shelf.old feed.old.name)) (S.held shelf.old feed.old.name) run.old feed.old given }
     requires none { run.old.made ≡ 0 }
     requires line { telling.old.line.items ≡ [] }
     requires held { telling.old.writer ≡ [] }
-    ensures ok { OnOk result (HasRun (record { system = system.now; placement = placement.now; columns = columns.now; rows = rows; trace = trace; held = S.held shelf.old feed.old.name }) (O.written out.old) (O.written out.new)) }
-    ensures err { IfErr result (HasStopped (record { system = system.now; placement = placement.now; columns = columns.now; rows = rows; trace = trace; held = S.held shelf.old feed.old.name }) (O.written out.old) (O.written out.new)
+    ensures ok { OnOk result (HasRun (run_of system.now placement.now columns.now rows trace (S.held shelf.old feed.old.name)) (O.written out.old) (O.written out.new)) }
+    ensures err { IfErr result (HasStopped (run_of system.now placement.now columns.now rows trace (S.held shelf.old feed.old.name)) (O.written out.old) (O.written out.new)
         (Rose (S.faults shelf.old feed.old.name) (S.faults shelf.new feed.old.name)) (Rose (O.faults out.old) (O.faults out.new))) }
     ensures kept { S.held shelf.new ≡ S.held shelf.old }
     ensures grows { (q : List ℕ) → S.faults shelf.old q ≤ S.faults shelf.new q }
@@ -87,8 +87,8 @@ pub fn run<S: Shelf, O: Sink>(
     requires fits { Fits system.now placement.now }
     requires few { rows ≤ 1000000 }
     requires feeds { HasGiven (S.held shelf.old feed.old.name) (source_columns system.now) (length columns.now) feed.old [] }
-    ensures ok { OnOk result (HasRun (record { system = system.now; placement = placement.now; columns = columns.now; rows = rows; trace = trace; held = S.held shelf.old feed.old.name }) (O.written out.old) (O.written out.new)) }
-    ensures err { IfErr result (HasStopped (record { system = system.now; placement = placement.now; columns = columns.now; rows = rows; trace = trace; held = S.held shelf.old feed.old.name }) (O.written out.old) (O.written out.new)
+    ensures ok { OnOk result (HasRun (run_of system.now placement.now columns.now rows trace (S.held shelf.old feed.old.name)) (O.written out.old) (O.written out.new)) }
+    ensures err { IfErr result (HasStopped (run_of system.now placement.now columns.now rows trace (S.held shelf.old feed.old.name)) (O.written out.old) (O.written out.new)
         (Rose (S.faults shelf.old feed.old.name) (S.faults shelf.new feed.old.name)) (Rose (O.faults out.old) (O.faults out.new))) }
     ensures kept { S.held shelf.new ≡ S.held shelf.old }
     ensures grows { (q : List ℕ) → S.faults shelf.old q ≤ S.faults shelf.new q }

@@ -1,12 +1,13 @@
 use Rattle.std.proofs.Common.{◌≡◌, ◌≤◌, ◌-◌, ◌*◌, ℕ, List}
 use Rattle.lid_stations.specs.Placements.{links_of}
 use Rattle.lid_stations.specs.Stations.{actor_count}
+use Rattle.lid_clockrun.specs.Runnings.{run_of}
 use Rattle.lid_clockrun.proofs.Tellings.{IsTelling}
 use Rattle.lid_clockrun.proofs.whole.tell_run.Given as goal
 
 abbrev pub invariant-loop-run : goal.invariant-loop-run
 invariant-loop-run g l = record {
-  telling : IsTelling (record { system = l.fn.system; placement = l.fn.placement; columns = l.fn.columns; rows = l.fn.rows; trace = l.fn.trace; held = g.S.Shelf.held l.fn.shelf l.fn.feed.name })
+  telling : IsTelling (run_of l.fn.system l.fn.placement l.fn.columns l.fn.rows l.fn.trace (g.S.Shelf.held l.fn.shelf l.fn.feed.name))
       (g.S.Shelf.held l.shelf l.feed.name) l.run l.feed l.telling (g.O.Sink.written l.fn.out) (g.O.Sink.written l.out);
   name : l.feed.name ≡ l.fn.feed.name;
   kept : g.S.Shelf.held l.shelf ≡ g.S.Shelf.held l.fn.shelf;
