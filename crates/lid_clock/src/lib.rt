@@ -19,6 +19,5 @@ mod station;
 mod stream;
 
 pub use actor::ClockActor;
-pub use starting::start;
 pub use station::ClockStation;
 pub use stream::ClockStream;

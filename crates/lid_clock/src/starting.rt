@@ -42,43 +42,45 @@ fn begin_all(stations: &mut [ClockStation], actors: &[ClockActor], nodes: u32, s
     }
 }
 
-/// Starts a run of so many rows, of which the first is given, where there are rows. It has the width of
-/// the source. There are at most a million rows.
-///
-/// # Errors
-/// Where there is no memory.
-pub fn start(
-    alloc: Global,
-    system: &System,
-    placement: &Placement,
-    rows: u64,
-    first: Option<&[bool]>,
-) -> Result<ClockStream, AllocError>
-    requires system { IsWellFormed system.now }
-    requires fits { Fits system.now placement.now }
-    requires few { rows ≤ 1000000 }
-    requires first { IsFirst system.now rows (lent first) }
-    ensures { IfOk result (λ stream. (l : Life) → StartsSo l system.now placement.now rows (lent first.entry) → Ran l 0 (min 1 rows) stream) }
-{
-    runs_go_by_rules();
-    let some = 0 < rows;
-    let nodes = system.nodes.len() as u32;
-    let mut actors = new_actors(alloc, system, placement, rows, first)?;
-    let mut stations = Vec::new(alloc);
-    lay_stations(
-        alloc,
-        system,
-        placement,
-        actors.as_mut_slice(),
-        &mut stations,
-    )?;
-    make_all_ready(alloc, actors.as_mut_slice(), some)?;
-    begin_all(stations.as_mut_slice(), actors.as_slice(), nodes, some);
-    Ok(ClockStream {
-        actors,
-        stations,
-        rows,
-        given: rows.min(1),
-        sink: nodes - 1,
-    })
+impl ClockStream {
+    /// Starts a run of so many rows, of which the first is given, where there are rows. It has the width of
+    /// the source. There are at most a million rows.
+    ///
+    /// # Errors
+    /// Where there is no memory.
+    pub fn start(
+        alloc: Global,
+        system: &System,
+        placement: &Placement,
+        rows: u64,
+        first: Option<&[bool]>,
+    ) -> Result<ClockStream, AllocError>
+        requires system { IsWellFormed system.now }
+        requires fits { Fits system.now placement.now }
+        requires few { rows ≤ 1000000 }
+        requires first { IsFirst system.now rows (lent first) }
+        ensures { IfOk result (λ stream. (l : Life) → StartsSo l system.now placement.now rows (lent first.entry) → Ran l 0 (min 1 rows) stream) }
+    {
+        runs_go_by_rules();
+        let some = 0 < rows;
+        let nodes = system.nodes.len() as u32;
+        let mut actors = new_actors(alloc, system, placement, rows, first)?;
+        let mut stations = Vec::new(alloc);
+        lay_stations(
+            alloc,
+            system,
+            placement,
+            actors.as_mut_slice(),
+            &mut stations,
+        )?;
+        make_all_ready(alloc, actors.as_mut_slice(), some)?;
+        begin_all(stations.as_mut_slice(), actors.as_slice(), nodes, some);
+        Ok(ClockStream {
+            actors,
+            stations,
+            rows,
+            given: rows.min(1),
+            sink: nodes - 1,
+        })
+    }
 }

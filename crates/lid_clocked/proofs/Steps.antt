@@ -5,7 +5,7 @@ use Rattle.std.proofs.lemmas.Option.{slice_get_read}
 use Rattle.lid_base.proofs.Lists.{all_at}
 use Rattle.lid_clock.specs.declared.stream.ClockStream.{ClockStream}
 use Rattle.lid_clock.specs.Lives.{Life, IsWide, NeedsRow, IsBelow}
-use Rattle.lid_clock.specs.States.{Ran}
+use Rattle.lid_clock.specs.Ran.{Ran}
 use Rattle.lid_clocked.specs.declared.clocked.Clocked.{Clocked}
 use Rattle.lid_clocked.specs.Clocks.{IsFreeLife, Goes}
 

@@ -12,7 +12,7 @@ use Rattle.lid_system.specs.Systems.{Point}
 use Rattle.lid_system.specs.Streams.{output_row}
 use Rattle.lid_runs.specs.Runs.{cap_of, IsWithinLag}
 use Rattle.lid_clock.specs.Lives.{Life, IsLife, HoldsNobody, IsBelow, fired_after, sink}
-use Rattle.lid_clock.specs.States.{Ran}
+use Rattle.lid_clock.specs.Ran.{Ran}
 use Rattle.lid_clocked.specs.declared.clocked.Clocked.{Clocked}
 
 -- a life of these rows, in which nobody is held back

@@ -1,5 +1,5 @@
 -- How often the sink has fired, and when a run ends.
-use Rattle.std.proofs.Common.{◌≡◌, ℕ, zero, suc, ◌+◌, ◌-◌, ◌*◌, ◌<◌, ◌≤◌, ◌==◌, Option, ◌++◌, ◌⊎◌, inl, inr, nat_lt, Bool, true, false, cond, List, length, refl, sym, ◌∙◌, ap, subst, le-ltb, add-one, arith}
+use Rattle.std.proofs.Common.{◌≡◌, ℕ, zero, suc, ◌+◌, ◌-◌, ◌*◌, ◌<◌, ◌≤◌, ◌==◌, Option, ◌++◌, ◌⊎◌, inl, inr, nat_lt, Bool, true, false, cond, List, length, refl, sym, ◌∙◌, ap, subst, le-ltb, arith}
 use Rattle.std.proofs.lemmas.Bool.{ltb-true, ltb-false}
 use Rattle.std.proofs.lemmas.Bool.Decides.{eqb_tells}
 use Rattle.lid_graph.specs.declared.graph.Graph.{Graph}
@@ -9,15 +9,15 @@ use Rattle.lid_firings.proofs.Rising.{rises, rises_by_one}
 use Rattle.lid_system.specs.declared.System.{System}
 use Rattle.lid_stations.specs.declared.placement.Placement.{Placement}
 use Rattle.lid_stations.specs.Placements.{links_of}
-use Rattle.lid_stations.specs.Stations.{actor_count, relay_count}
+use Rattle.lid_stations.specs.Stations.{actor_count}
 use Rattle.lid_stations.specs.Markings.{marking}
 use Rattle.lid_stations.proofs.Edges.{node_count}
 use Rattle.lid_stations.proofs.Alive.{rateable}
 use Rattle.lid_runs.specs.Runs.{cap_of, fired_in}
 use Rattle.lid_clock.specs.Lives.{Life, IsLife, fired_after, sink, IsBelow}
-use Rattle.lid_clockrun.specs.RunTexts.{IsLifeOf, IsRunText, end_text, first_outputs}
+use Rattle.lid_clockrun.specs.RunTexts.{IsRunText, end_text, first_outputs}
 use Rattle.lid_texts.specs.RowsText.{rows_text}
-use Rattle.lid_clockrun.proofs.Owed.{runs_end, runs_end_within_lag}
+use Rattle.lid_runs.proofs.Ending.{ends, ends_within_lag}
 
 -- where a count comes to a number, it does so first
 pub record IsFirstAt (f : ℕ → ℕ) (n k : ℕ) : Type 0 where
@@ -88,7 +88,7 @@ module _ (l : Life) (rules : IsLife l) where
 
     -- a run has ended after so many cycles
     pub ends_by : (k : ℕ) → actor_count (links_of s) p * rows ≤ k → fired_after l k (sink l) ≡ rows
-    ends_by k h = sym (unheld k) ∙ runs_end s p rows k rules.system rules.fits h
+    ends_by k h = sym (unheld k) ∙ ends s p rules.system rules.fits rows k h
 
     pub below_bounds : (k : ℕ) → IsBelow l k → k < actor_count (links_of s) p * rows
     below_bounds k below = by (nat_lt k (actor_count (links_of s) p * rows)) refl
@@ -105,7 +105,7 @@ module _ (l : Life) (rules : IsLife l) where
             reached = unheld k ∙ f.at ∙ sym sink_cap;
             first = λ j is. f.first j (sym (unheld j) ∙ is ∙ sink_cap);
           } in
-          record { cycles = k; ends = first; within = runs_end_within_lag s p rows k rules.system rules.fits first; written = refl }
+          record { cycles = k; ends = first; within = ends_within_lag s p rules.system rules.fits rows k first; written = refl }
 
       pub some_text : (k : ℕ) × IsRunText l columns trace (rows_text columns (first_outputs l rows) ++ end_text l trace k)
       some_text =

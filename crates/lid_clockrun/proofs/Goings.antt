@@ -1,21 +1,22 @@
 -- A run from cycle to cycle.
-use Rattle.std.proofs.Common.{◌≡◌, ℕ, ◌+◌, ◌*◌, ◌<◌, ◌≤◌, Bool, min, List, [], ◌∷◌, ◌++◌, length, length-append, Option, None, Some, Result, Ok, Err, OnOk, slice_get, refl, sym, ◌∙◌, ap, subst, arith}
+use Rattle.std.proofs.Common.{◌≡◌, ℕ, suc, ◌+◌, ◌*◌, ◌<◌, ◌≤◌, ◌==◌, ◌⊎◌, inl, inr, Bool, true, false, min, List, [], ◌∷◌, ◌++◌, length, length-append, Option, None, Some, Result, Ok, Err, OnOk, slice_get, sym, ◌∙◌, ap, subst, add-one, arith}
+use Rattle.std.proofs.lemmas.Bool.Decides.{eqb_tells}
 use Rattle.std.proofs.Math.Nat.{mul-le-mul_left, mul-le-mul_right}
 use Rattle.lid_system.specs.declared.System.{System}
 use Rattle.lid_system.specs.Systems.{IsWellFormed}
 use Rattle.lid_stations.specs.declared.placement.Placement.{Placement}
 use Rattle.lid_stations.specs.Placements.{links_of, station_count, Fits}
-use Rattle.lid_stations.specs.Stations.{actor_count, relay_count}
+use Rattle.lid_stations.specs.Stations.{actor_count}
 use Rattle.lid_stations.proofs.Spots.{fewer_relays}
-use Rattle.lid_clock.specs.Lives.{Life, IsLife, NeedsRow, IsBelow}
+use Rattle.lid_clock.specs.Lives.{Life, NeedsRow, IsBelow, HoldsNobody}
 use Rattle.lid_clock.specs.Ran.{Ran}
 use Rattle.lid_reports.specs.Runs.{trace_text}
 use Rattle.lid_feed.specs.declared.feed.RowFeed.{RowFeed}
 use Rattle.lid_feed.specs.Fetching.{GivesRow}
 use Rattle.lid_clockrun.specs.declared.steps.Running.{Running}
-use Rattle.lid_clockrun.specs.RunTexts.{IsLifeOf, cells_after, cycles_traced, traced}
+use Rattle.lid_clockrun.specs.RunTexts.{cells_after, cycles_traced, traced}
 use Rattle.lid_clockrun.specs.Runnings.{Run, source_columns, AreGiven, Begins}
-use Rattle.lid_clockrun.specs.Stepping.{IsSound, HasBegun, Feeds, IsAt, IsRunning, IsReady, GoesOn, IsFedOn}
+use Rattle.lid_clockrun.specs.Stepping.{IsSound, HasBegun, Feeds, IsAt, IsRunning, GoesOn, IsFedOn}
 use Rattle.lid_clockrun.proofs.Living.{some_life, begins_before, next_row_is, more_given}
 use Rattle.lid_clockrun.proofs.Ends.{below_bounds}
 use Rattle.lid_clockrun.proofs.Outputs.{cells_long, cells_traced, cells_none, text_traced, text_untraced}
@@ -93,6 +94,34 @@ module _ (r : Run) (run : Running) (given : List (List Bool)) (at : IsRunning r 
     further = λ l b. b;
     ready = λ l b. none l run.made (length given) (at.lives l b).ran;
   }
+
+  -- a cycle was made
+  pub stepped : (new : Running) → GoesOn r run given
+      → ((l : Life) → Begins r given l → new.cells.items ≡ cells_after l (cycles_traced r.trace (run.made + 1)))
+      → ((l : Life) (k g : ℕ) → Ran l k g run.stream → HoldsNobody l k → IsBelow l k → Ran l (suc k) g new.stream)
+      → new.made ≡ run.made + 1 → new.given ≡ run.given → new.trace ≡ run.trace → new.stations ≡ run.stations → IsRunning r new given
+  stepped new goes shown ran made count trace stations = record {
+    rules = at.rules;
+    rows = at.rows;
+    count = count ∙ at.count;
+    trace = trace ∙ at.trace;
+    stations = stations ∙ at.stations;
+    lives = λ l b. record {
+      ran = subst (λ (k : ℕ). Ran l k (length given) new.stream) (sym (add-one run.made) ∙ sym made) (ran l run.made (length given) (at.lives l b).ran (free l b) (goes l b));
+      cells = shown l b ∙ ap (λ (k : ℕ). cells_after l (cycles_traced r.trace k)) (sym made);
+      busy = λ k h. busy_on l b k (let e = made in omega arith);
+    };
+  }
+    where
+      free : (l : Life) → Begins r given l → HoldsNobody l run.made
+      free l b v = ap (λ hold. hold run.made v) b.of.free
+
+      busy_on : (l : Life) → Begins r given l → (k : ℕ) → k < run.made + 1 → IsBelow l k
+      busy_on l b k h = by (eqb_tells k run.made)
+        where
+          by : ((k == run.made ≡ true) × (k ≡ run.made)) ⊎ ((k == run.made ≡ false) × (k ≡ run.made → ⊥)) → IsBelow l k
+          by (inl same) = subst (λ (j : ℕ). IsBelow l j) (sym same.1) (goes l b)
+          by (inr other) = (at.lives l b).busy k (let differs = other.1 in omega (arith, differs))
 
   -- a run that goes on has made few cycles
   pub few_cycles : GoesOn r run given → run.made < actor_count (links_of r.system) r.placement * r.rows

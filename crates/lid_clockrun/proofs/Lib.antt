@@ -1,4 +1,3 @@
-pub mod Owed
 pub mod Pushes
 pub mod Outputs
 pub mod Ends

@@ -1,5 +1,5 @@
 -- Lives: there is one that begins with the rows that were given, and each goes on with the next row.
-use Rattle.std.proofs.Common.{◌≡◌, ℕ, zero, suc, ◌+◌, ◌-◌, ◌*◌, ◌<◌, ◌≤◌, ◌==◌, Bool, true, false, List, [], ◌∷◌, ◌++◌, length, length-append, take, drop, replicate, slice_get, get_or, Option, None, Some, refl, sym, ◌∙◌, ap, subst, append_assoc, append-nil, add-one, arith}
+use Rattle.std.proofs.Common.{◌≡◌, ℕ, zero, suc, ◌-◌, ◌<◌, Bool, false, List, [], ◌∷◌, ◌++◌, length, length-append, take, drop, replicate, slice_get, Option, None, Some, refl, sym, ◌∙◌, ap, subst, append_assoc, arith}
 use Rattle.std.specs.List.{AllByRecursion}
 use Rattle.std.specs.Option.{option_map_or}
 use Rattle.std.proofs.lemmas.List.{length-replicate, take-append-drop}
@@ -8,12 +8,10 @@ use Rattle.lid_base.proofs.Lists.{all_append}
 use Rattle.lid_design.proofs.Tables.{has_table}
 use Rattle.lid_graph.specs.Firings.{no_hold}
 use Rattle.lid_system.specs.declared.System.{System}
-use Rattle.lid_system.specs.declared.Node.TheVariants.{Source}
-use Rattle.lid_system.specs.Tables.{IsTable, system_drivers}
-use Rattle.lid_system.specs.Systems.{IsWellFormed}
+use Rattle.lid_system.specs.Tables.{system_drivers}
 use Rattle.lid_system.proofs.Points.{points_once}
 use Rattle.lid_system.proofs.Walking.{limit, points_end}
-use Rattle.lid_clock.specs.Lives.{Life, IsLife, IsWide}
+use Rattle.lid_clock.specs.Lives.{Life, IsWide}
 use Rattle.lid_feed.specs.Feeds.{AreFirst}
 use Rattle.lid_clockrun.specs.RunTexts.{IsLifeOf}
 use Rattle.lid_clockrun.specs.Runnings.{Run, AreGiven, Begins, columns_of, source_columns}
@@ -61,22 +59,25 @@ module _ (r : Run) (sound : IsSound r) (given : List (List Bool)) (rows : AreGiv
 
   pub some_life : (l : Life) × Begins r given l
   unfolding input
-  some_life = (life, record {
-    of = record {
-      rules = record {
-        system = sound.system;
-        fits = sound.fits;
-        few = (let e = long in let f = sound.few in omega arith);
-        wide = wide;
-        table = (has_table (system_drivers r.system) (limit r.system sound.system) (points_end r.system sound.system) (points_once r.system sound.system) input).1;
+  some_life = (
+    life,
+    record {
+      of = record {
+        rules = record {
+          system = sound.system;
+          fits = sound.fits;
+          few = (let e = long in let f = sound.few in omega arith);
+          wide = wide;
+          table = (has_table (system_drivers r.system) (limit r.system sound.system) (points_end r.system sound.system) (points_once r.system sound.system) input).1;
+        };
+        of = refl;
+        stations = refl;
+        free = refl;
       };
-      of = refl;
-      stations = refl;
-      free = refl;
-    };
-    many = long;
-    first = take-append_seam given further;
-  })
+      many = long;
+      first = take-append_seam given further;
+    },
+  )
 
 -- these rows, a further one, and others
 split_more : (given xs : List (List Bool)) (row : List Bool) → take (length (given ++ row ∷ [])) xs ≡ given ++ row ∷ [] → xs ≡ given ++ (row ∷ drop (length (given ++ row ∷ [])) xs)

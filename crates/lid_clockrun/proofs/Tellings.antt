@@ -10,7 +10,7 @@ use Rattle.lid_system.specs.Streams.{output_row}
 use Rattle.lid_lines.specs.Texts.{line_text}
 use Rattle.lid_texts.specs.Rows.{header_words}
 use Rattle.lid_texts.specs.RowsText.{row_text, rows_text}
-use Rattle.lid_clock.specs.Lives.{Life, IsLife, IsBelow, HasSunk, IsLast, fired_after, sink}
+use Rattle.lid_clock.specs.Lives.{Life, IsBelow, HasSunk, IsLast, fired_after, sink}
 use Rattle.lid_feed.specs.declared.fault.FeedFault.{FeedFault}
 use Rattle.lid_feed.specs.declared.fault.FeedFault.TheVariants as feeds
 use Rattle.lid_feed.specs.Feeds.{IfRead}
@@ -20,9 +20,9 @@ use Rattle.lid_clockrun.specs.declared.fault.RunFault.TheVariants.{Feed, Few, Me
 use Rattle.lid_clockrun.specs.declared.lines.Telling.{Telling}
 use Rattle.lid_clockrun.specs.declared.steps.Running.{Running}
 use Rattle.lid_clockrun.specs.RunTexts.{first_outputs, end_text}
-use Rattle.lid_clockrun.specs.Runnings.{Run, AreGiven, Begins, Writes, WritesPart, HasRun, HasStopped, IsCause}
+use Rattle.lid_clockrun.specs.Runnings.{Run, Begins, Writes, WritesPart, HasStopped, IsCause}
 use Rattle.lid_clockrun.specs.Pushing.{HasPushed, Adds, Breaks, Closes, IsTellCause, last_text}
-use Rattle.lid_clockrun.specs.Stepping.{IsRunning, IsFed, HasTold}
+use Rattle.lid_clockrun.specs.Stepping.{IsFed, HasTold}
 use Rattle.lid_clockrun.proofs.Outputs.{header_alone, rows_one_more, rows_first}
 use Rattle.lid_clockrun.proofs.Ends.{IsFirstAt, sink_within, sink_rests, some_text, text_at}
 use Rattle.lid_clockrun.proofs.Pushes.{pushes_begin, nothing_of}
@@ -118,6 +118,7 @@ module _ (r : Run) (given : List (List Bool)) (l : Life) (b : Begins r given l) 
       where
         old : ℕ
         old = fired_after l made (sink l)
+
         new : ℕ
         new = fired_after l (made + 1) (sink l)
 

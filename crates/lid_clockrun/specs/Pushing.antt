@@ -1,6 +1,5 @@
 -- A text that is pushed line by line. This serves the code of this crate.
 use Rattle.std.specs.Prelude.{◌≡◌, ℕ, List, [], ◌++◌, Bool, Option, None, Some, ⊤}
-use Rattle.std.specs.Borrow.{Bor}
 use Rattle.lid_base.specs.Outside.{Appended, AppendedPrefix}
 use Rattle.lid_texts.specs.RowsText.{row_text}
 use Rattle.lid_clockrun.specs.declared.fault.RunFault.{RunFault}

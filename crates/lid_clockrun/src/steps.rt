@@ -61,11 +61,7 @@ fn next_row<S: Shelf>(
 }
 
 /// Appends what each station shows.
-fn push_cells(
-    stream: &ClockStream,
-    stations: u32,
-    cells: &mut Vec<Shown>,
-) -> Result<(), AllocError>
+fn push_cells(stream: &ClockStream, stations: u32, cells: &mut Vec<Shown>) -> Result<(), AllocError>
     requires { (l : Life) × (k : ℕ) × (g : ℕ) × Ran l k g stream.now × (stations ≡ station_count l.placement.relays) }
     ensures { (l : Life) (k g : ℕ) → Ran l k g stream.now → OnOk result (cells.new.items ≡ cells.old.items ++ from_each (shown_after l k) 0 stations) }
 {

@@ -9,8 +9,8 @@ ghost use Rattle.lid_clockrun.specs.Runnings.{run_of, source_columns, HasRun, Ha
 ghost use Rattle.lid_clockrun.specs.Stepping.{IsFed};
 
 use crate::fault::RunFault;
-use crate::steps::Running;
 use crate::lines::Telling;
+use crate::steps::Running;
 use lid_base::{Name, Shelf, Sink};
 use lid_feed::RowFeed;
 use lid_stations::Placement;

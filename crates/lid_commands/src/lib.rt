@@ -1,4 +1,4 @@
-//! What the commands write that write nothing before their output is whole.
+//! The outputs of the commands that write nothing before their output is whole.
 #![tactic(auto)]
 
 mod check;

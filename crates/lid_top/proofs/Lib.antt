@@ -2,3 +2,4 @@ pub mod Endings
 pub mod Pieces
 pub mod Runs
 pub mod Clocked
+pub mod Verified

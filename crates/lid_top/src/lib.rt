@@ -7,6 +7,6 @@ mod program;
 mod saying;
 mod top;
 
-pub use laws::a_told_job_ends_in_one_way;
+pub use laws::{a_told_job_ends_in_one_way, rates_are_verified};
 pub use program::run_program;
 pub use top::lid_run;

@@ -23,41 +23,48 @@ overflow_sub-first c = let there = c.requires.there in let first = c.requires.fi
 
 pub filler-requires : goal.filler-requires
 filler-requires c =
-    let is = on c.args.system.now c.args.placement.now c.args.c c.args.station c.loop-place.place c.as_slice.result.now c.requires.system c.requires.fits c.requires.there c.requires.first c.as_slice.ensures c.loop-place-test.true in
+    let q = c.requires in
+    let is = on c.args.system.now c.args.placement.now c.args.c c.args.station c.loop-place.place c.as_slice.result.now q.system q.fits q.there q.first c.as_slice.ensures c.loop-place-test.true in
     place_at c.args.system.now c.args.placement.now c.args.c c.args.station c.loop-place.place c.len.result is c.len.ensures
 
 pub drainer-requires : goal.drainer-requires
 drainer-requires c =
-    let is = on c.args.system.now c.args.placement.now c.args.c c.args.station c.loop-place.place c.as_slice.result.now c.requires.system c.requires.fits c.requires.there c.requires.first c.as_slice.ensures c.loop-place-test.true in
+    let q = c.requires in
+    let is = on c.args.system.now c.args.placement.now c.args.c c.args.station c.loop-place.place c.as_slice.result.now q.system q.fits q.there q.first c.as_slice.ensures c.loop-place-test.true in
     place_at c.args.system.now c.args.placement.now c.args.c c.args.station c.loop-place.place c.len.result is c.len.ensures
 
 pub bounds-as_slice-number : goal.bounds-as_slice-number
 bounds-as_slice-number c =
-    let is = on c.args.system.now c.args.placement.now c.args.c c.args.station c.loop-place.place c.as_slice.result.now c.requires.system c.requires.fits c.requires.there c.requires.first c.as_slice.ensures c.loop-place-test.true in
+    let q = c.requires in
+    let is = on c.args.system.now c.args.placement.now c.args.c c.args.station c.loop-place.place c.as_slice.result.now q.system q.fits q.there q.first c.as_slice.ensures c.loop-place-test.true in
     let below = in_caps c.args.system.now c.args.placement.now c.args.c c.args.station c.loop-place.place is in
     let long : length c.as_slice-in-loop-place.result.now ≡ length c.args.placement.now.caps = ap length c.as_slice-in-loop-place.ensures in
     omega arith
 
 pub lay-requires-clause-joins : goal.lay-requires-clause-joins
 lay-requires-clause-joins c =
-    let is = on c.args.system.now c.args.placement.now c.args.c c.args.station c.loop-place.place c.as_slice.result.now c.requires.system c.requires.fits c.requires.there c.requires.first c.as_slice.ensures c.loop-place-test.true in
+    let q = c.requires in
+    let is = on c.args.system.now c.args.placement.now c.args.c c.args.station c.loop-place.place c.as_slice.result.now q.system q.fits q.there q.first c.as_slice.ensures c.loop-place-test.true in
     joinable c.args.system.now c.args.placement.now c.args.c c.args.station c.loop-place.place is c.filler.result c.drainer.result c.loop-place.actors c.loop-place.stations.items c.filler.ensures c.drainer.ensures c.loop-place.invariant.laid
 
 pub lay-requires-clause-some : goal.lay-requires-clause-some
 lay-requires-clause-some c =
-    let is = on c.args.system.now c.args.placement.now c.args.c c.args.station c.loop-place.place c.as_slice.result.now c.requires.system c.requires.fits c.requires.there c.requires.first c.as_slice.ensures c.loop-place-test.true in
+    let q = c.requires in
+    let is = on c.args.system.now c.args.placement.now c.args.c c.args.station c.loop-place.place c.as_slice.result.now q.system q.fits q.there q.first c.as_slice.ensures c.loop-place-test.true in
     (capacity_range c.args.system.now c.args.placement.now c.args.c c.args.station c.loop-place.place is c.as_slice-in-loop-place.result.now c.as_slice-in-loop-place.ensures).0
 
 pub lay-requires-clause-few : goal.lay-requires-clause-few
 lay-requires-clause-few c =
-    let is = on c.args.system.now c.args.placement.now c.args.c c.args.station c.loop-place.place c.as_slice.result.now c.requires.system c.requires.fits c.requires.there c.requires.first c.as_slice.ensures c.loop-place-test.true in
+    let q = c.requires in
+    let is = on c.args.system.now c.args.placement.now c.args.c c.args.station c.loop-place.place c.as_slice.result.now q.system q.fits q.there q.first c.as_slice.ensures c.loop-place-test.true in
     (capacity_range c.args.system.now c.args.placement.now c.args.c c.args.station c.loop-place.place is c.as_slice-in-loop-place.result.now c.as_slice-in-loop-place.ensures).1
 
 pub loop-place-preserved : goal.loop-place-preserved
 loop-place-preserved c =
     let s = c.args.system.now in
     let p = c.args.placement.now in
-    let is = on s p c.args.c c.args.station c.loop-place.place c.as_slice.result.now c.requires.system c.requires.fits c.requires.there c.requires.first c.as_slice.ensures c.loop-place-test.true in
+    let q = c.requires in
+    let is = on s p c.args.c c.args.station c.loop-place.place c.as_slice.result.now q.system q.fits q.there q.first c.as_slice.ensures c.loop-place-test.true in
     record {
       laid = one_laid s p c.args.c c.args.station c.loop-place.place is c.filler.result c.drainer.result c.as_slice-in-loop-place.result.now c.loop-place.actors c.lay.new.actors c.loop-place.stations.items c.push.new.self.items c.in_ok-lay.field-0
           c.filler.ensures c.drainer.ensures c.as_slice-in-loop-place.ensures c.loop-place.invariant.laid c.in_ok-lay.ensures.joins c.in_ok-lay.ensures.empty c.in_ok-lay.ensures.slot c.in_ok-push.ensures.items;

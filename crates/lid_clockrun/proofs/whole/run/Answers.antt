@@ -1,4 +1,4 @@
-use Rattle.std.proofs.Common.{◌≡◌, ℕ, List, [], Option, refl, sym, ◌∙◌, ap, subst, Bool}
+use Rattle.std.proofs.Common.{◌≡◌, List, [], refl, sym, ◌∙◌, ap, subst, Bool}
 use Rattle.lid_base.specs.Outside.{Rose}
 use Rattle.lid_base.proofs.Results.{if_err}
 use Rattle.lid_clockrun.specs.Runnings.{run_of, HasStopped}
@@ -50,10 +50,10 @@ returns-clause-err g c =
     let name = c.args.feed.now.name in
     if_err c.tell_run.result
     (λ fault stopped.
-        stopped_later (run_of c.args.system.now c.args.placement.now c.args.columns.now c.args.rows c.args.trace (g.S.Shelf.held c.args.shelf.now c.args.feed.now.name))
-        (g.O.Sink.written c.args.out.now) (g.O.Sink.written c.tell_run.new.out) (Rose (first name) (new name)) (Rose (old c.start.new.feed.name) (new c.start.new.feed.name)) (Rose (g.O.Sink.faults c.args.out.now) (g.O.Sink.faults c.tell_run.new.out)) fault
-        (λ rose. rose_later (first name) (old name) (new name) (c.in-Ok.ensures.grows name) (subst (λ n. Rose (old n) (new n)) c.in-Ok.ensures.name rose))
-        (subst (λ held. HasStopped (run_of c.args.system.now c.args.placement.now c.args.columns.now c.args.rows c.args.trace held) (g.O.Sink.written c.args.out.now) (g.O.Sink.written c.tell_run.new.out)
-            (Rose (old c.start.new.feed.name) (new c.start.new.feed.name)) (Rose (g.O.Sink.faults c.args.out.now) (g.O.Sink.faults c.tell_run.new.out)) fault)
-        (sym same) stopped))
+    stopped_later (run_of c.args.system.now c.args.placement.now c.args.columns.now c.args.rows c.args.trace (g.S.Shelf.held c.args.shelf.now c.args.feed.now.name))
+    (g.O.Sink.written c.args.out.now) (g.O.Sink.written c.tell_run.new.out) (Rose (first name) (new name)) (Rose (old c.start.new.feed.name) (new c.start.new.feed.name)) (Rose (g.O.Sink.faults c.args.out.now) (g.O.Sink.faults c.tell_run.new.out)) fault
+    (λ rose. rose_later (first name) (old name) (new name) (c.in-Ok.ensures.grows name) (subst (λ n. Rose (old n) (new n)) c.in-Ok.ensures.name rose))
+    (subst (λ held. HasStopped (run_of c.args.system.now c.args.placement.now c.args.columns.now c.args.rows c.args.trace held) (g.O.Sink.written c.args.out.now) (g.O.Sink.written c.tell_run.new.out)
+    (Rose (old c.start.new.feed.name) (new c.start.new.feed.name)) (Rose (g.O.Sink.faults c.args.out.now) (g.O.Sink.faults c.tell_run.new.out)) fault)
+    (sym same) stopped))
     c.tell_run.ensures.err

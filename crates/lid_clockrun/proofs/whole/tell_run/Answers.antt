@@ -1,15 +1,14 @@
-use Rattle.std.proofs.Common.{◌≡◌, ◌+◌, ◌≤◌, ◌<◌, ◌++◌, ℕ, List, [], Option, length, true, refl, sym, ◌∙◌, ap, subst, arith}
+use Rattle.std.proofs.Common.{◌++◌, ℕ, List, length, refl, sym, ◌∙◌, ap, subst, arith}
 use Rattle.lid_base.specs.Outside.{Rose}
 use Rattle.lid_base.proofs.Results.{on_ok}
 use Rattle.lid_texts.specs.RowsText.{rows_text}
 use Rattle.lid_clock.specs.Lives.{Life, IsBelow, IsLast, fired_after, sink}
 use Rattle.lid_clock.specs.Ran.{lent}
 use Rattle.lid_clockrun.specs.RunTexts.{first_outputs, end_text}
-use Rattle.lid_clockrun.specs.Runnings.{Run, run_of, Begins}
+use Rattle.lid_clockrun.specs.Runnings.{run_of, Begins}
 use Rattle.lid_clockrun.specs.Pushing.{HasPushed, IsTellCause}
-use Rattle.lid_clockrun.specs.Stepping.{GoesOn, HasGone}
 use Rattle.lid_clockrun.proofs.Goings.{few_cycles}
-use Rattle.lid_clockrun.proofs.Tellings.{IsTelling, rose_later, cause_later, cause_of_telling, pushed_part, part_of_fired, header_told, header_breaks, last_told, last_breaks, end_told, end_breaks, err_both}
+use Rattle.lid_clockrun.proofs.Tellings.{rose_later, cause_later, cause_of_telling, pushed_part, part_of_fired, header_told, header_breaks, last_told, last_breaks, end_told, end_breaks, err_both}
 use Rattle.lid_clockrun.proofs.whole.tell_run.Goals as goal
 
 pub returns-in-Err-clause-err : goal.returns-in-Err-clause-err

@@ -21,14 +21,14 @@ give-requires c =
     let needs = (c.needs.ensures l k x.given goes.ran).0 c.if-needs.true in
     let row = c.index-as_slice-self.result in
     let is = c.index-as_slice-self.is ∙ ap (λ (rows : List (List Bool)). get_or rows x.given row) c.as_slice.ensures in
-    record {
-      life = l;
-      k = k;
-      g = x.given;
-      ran = goes.ran;
-      lacks = needs;
-      wide = subst (IsWide l.system) (sym c.as_slice-then-needs.ensures) (row_wide l x.input.now.bits goes.free k x.given needs row is);
-    }
+    (
+      l,
+      k,
+      x.given,
+      goes.ran,
+      needs,
+      subst (IsWide l.system) (sym c.as_slice-then-needs.ensures) (row_wide l x.input.now.bits goes.free k x.given needs row is),
+    )
 
 pub returns-then-needs : goal.returns-then-needs
 returns-then-needs c l k goes =

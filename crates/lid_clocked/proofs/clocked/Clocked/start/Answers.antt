@@ -4,7 +4,7 @@ use Rattle.lid_system.specs.declared.System.{System}
 use Rattle.lid_system.specs.Systems.{Point}
 use Rattle.lid_system.specs.Streams.{output_row}
 use Rattle.lid_clock.specs.Lives.{StartsSo}
-use Rattle.lid_clock.specs.States.{Ran}
+use Rattle.lid_clock.specs.Ran.{Ran}
 use Rattle.lid_clocked.specs.Clocks.{rows_in}
 use Rattle.lid_clocked.proofs.Kept.{kept_none}
 use Rattle.lid_clocked.proofs.clocked.Clocked.start.Goals as goal

@@ -1,4 +1,4 @@
-use Rattle.std.proofs.Common.{◌≡◌, ◌≤◌, ◌++◌, ℕ, List, length, sym, ◌∙◌, ap, subst, append_assoc, arith}
+use Rattle.std.proofs.Common.{◌≡◌, ◌++◌, ℕ, List, length, sym, ◌∙◌, ap, append_assoc, arith}
 use Rattle.lid_base.proofs.Results.{on_ok}
 use Rattle.lid_design.specs.Network.{from_each}
 use Rattle.lid_system.proofs.Shelling.{each_length}
@@ -32,8 +32,8 @@ returns c = λ r given l at b nodes.
     let made = c.args.self.now.made in
     let fired = c.in_ok-fired.ensures l made (length given) (at.lives l b).ran in
     let all : c.deref.result.now ≡ nodes_fired l made =
-        c.deref.ensures.value ∙ fired ∙ ap (from_each (fired_after l made) 0) (nodes ∙ ap (λ s. length s.nodes) (sym b.of.of)) in
+    c.deref.ensures.value ∙ fired ∙ ap (from_each (fired_after l made) 0) (nodes ∙ ap (λ s. length s.nodes) (sym b.of.of)) in
     on_ok c.append_trace.result
     (λ is. is ∙ ap (λ (xs : List ℕ). xs ++ traced l r.trace made) (c.in_ok-print_cycles.ensures.ok ∙ ap (λ (ns : List ℕ). c.args.into.now.items ++ cycles_text made ns) all)
-        ∙ append_assoc c.args.into.now.items (cycles_text made (nodes_fired l made)) (traced l r.trace made))
+    ∙ append_assoc c.args.into.now.items (cycles_text made (nodes_fired l made)) (traced l r.trace made))
     (c.append_trace.ensures r given l at b)

@@ -1,5 +1,4 @@
-use Rattle.std.proofs.Common.{◌≡◌, ◌*◌, ◌++◌, ℕ, List, length, min, sym, ◌∙◌, ap, append-nil}
-use Rattle.lid_base.specs.declared.runs.Shown.{Shown}
+use Rattle.std.proofs.Common.{◌*◌, ℕ, length, sym, ◌∙◌, ap}
 use Rattle.lid_clockrun.proofs.Goings.{trace_long}
 use Rattle.lid_clockrun.proofs.steps.Running.append_trace.Goals as goal
 

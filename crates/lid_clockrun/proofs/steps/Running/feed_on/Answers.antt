@@ -1,6 +1,5 @@
-use Rattle.std.proofs.Common.{◌≡◌, ◌<◌, true, false, ℕ, List, length, Some, refl, sym, ◌∙◌, ap, subst}
+use Rattle.std.proofs.Common.{◌<◌, ℕ, length, Some, refl, sym, ◌∙◌, ap, subst}
 use Rattle.lid_clock.specs.Lives.{IsWide}
-use Rattle.lid_clock.specs.Ran.{Ran}
 use Rattle.lid_clockrun.proofs.Living.{wide_row}
 use Rattle.lid_clockrun.proofs.Goings.{the_life, below_all, fed_on, fed_already}
 use Rattle.lid_clockrun.proofs.steps.Running.feed_on.Goals as goal
@@ -22,9 +21,14 @@ give-requires g c =
     let fed = c.requires.2 in
     let life = the_life r c.args.self.now given fed.running in
     let ran = (fed.running.lives life.0 life.1).ran in
-    let gave = c.in-Ok.ensures.ok r given fed.told fed.feeds in
-    (life.0, c.args.self.now.made, length given, ran, (c.needs.ensures life.0 c.args.self.now.made (length given) ran).0 c.if-not-needs.false,
-    subst (λ s. IsWide s c.as_slice.result.now) (sym life.1.of.of) (wide_row r.system c.as_slice.result.now (ap length c.as_slice.ensures ∙ gave.wide)))
+    let gave = c.in-Ok.ensures.ok r given fed.told fed.feeds in (
+      life.0,
+      c.args.self.now.made,
+      length given,
+      ran,
+      (c.needs.ensures life.0 c.args.self.now.made (length given) ran).0 c.if-not-needs.false,
+      subst (λ s. IsWide s c.as_slice.result.now) (sym life.1.of.of) (wide_row r.system c.as_slice.result.now (ap length c.as_slice.ensures ∙ gave.wide)),
+    )
 
 pub returns-clause-ok : goal.returns-clause-ok
 returns-clause-ok g c = λ r given fed.

@@ -23,6 +23,6 @@ returns-then-self-most-clause-shown c = λ r given at.
     on_ok c.push_cells.result (λ each l b. each (l, b))
     (on_ok_each {X = (l : Life) × Begins r given l} (λ x. c.push_cells.new.cells.items ≡ cells_after x.0 (cycles_traced r.trace (made + 1))) c.push_cells.result
     (λ x. on_ok c.push_cells.result
-        (λ is. shown_in x.0 r.trace c.in-Some.most made c.args.self.now.cells.items c.push_cells.new.cells.items (sym at.trace ∙ c.in-Some.is) c.if-self-most.true (at.lives x.0 x.1).cells
-            (is ∙ ap (λ n. c.args.self.now.cells.items ++ from_each (shown_after x.0 made) 0 n) (at.stations ∙ ap (λ p. station_count p.relays) (sym x.1.of.stations))))
-        (c.push_cells.ensures x.0 made (length given) (at.lives x.0 x.1).ran)))
+    (λ is. shown_in x.0 r.trace c.in-Some.most made c.args.self.now.cells.items c.push_cells.new.cells.items (sym at.trace ∙ c.in-Some.is) c.if-self-most.true (at.lives x.0 x.1).cells
+    (is ∙ ap (λ n. c.args.self.now.cells.items ++ from_each (shown_after x.0 made) 0 n) (at.stations ∙ ap (λ p. station_count p.relays) (sym x.1.of.stations))))
+    (c.push_cells.ensures x.0 made (length given) (at.lives x.0 x.1).ran)))

@@ -1,4 +1,4 @@
-use Rattle.std.proofs.Common.{◌≡◌, ◌<◌, ◌≤◌, min, ℕ, List, [], ◌∷◌, length, Some, refl, sym, ◌∙◌, ap, subst, arith}
+use Rattle.std.proofs.Common.{◌≡◌, ◌<◌, min, ℕ, [], ◌∷◌, length, Some, refl, sym, ◌∙◌, ap, subst, arith}
 use Rattle.lid_base.proofs.Results.{if_ok}
 use Rattle.lid_clockrun.specs.Runnings.{Run}
 use Rattle.lid_clockrun.proofs.Living.{wide_row, next_row_is, more_given, none_given}
@@ -21,8 +21,10 @@ returns-clause-ok g c = λ r system stations many most told feeds.
     let sound = sound_of r c.args.system.now c.args.placement.now c.args.rows system stations many c.requires.system c.requires.fits c.requires.few in
     let are = more_given r [] row (none_given r) (subst (λ (n : ℕ). 0 < n) (sym many) some) gave.wide gave.first in
     if_ok c.begin-2.result
-    (λ run h. (row ∷ [],
-        begun r c.args.system.now c.args.placement.now c.args.rows c.args.trace system stations many most sound (row ∷ []) are run (Some c.as_slice.result.now) h long
-            (λ l b. next_row_is r [] row l b ∙ ap Some (sym c.as_slice.ensures)),
-        gave.gives))
+    (λ run h. (
+      row ∷ [],
+      begun r c.args.system.now c.args.placement.now c.args.rows c.args.trace system stations many most sound (row ∷ []) are run (Some c.as_slice.result.now) h long
+          (λ l b. next_row_is r [] row l b ∙ ap Some (sym c.as_slice.ensures)),
+      gave.gives,
+    ))
     c.begin-2.ensures.begun

@@ -15,7 +15,7 @@ use Rattle.lid_clock.specs.Lives.{sink}
 use Rattle.lid_clock.specs.Starts.{AreNew, AreAlone, HasLaid, IsSized, CanGain, AreReadied, AllBegin}
 use Rattle.lid_clock.proofs.Begun.{all_sized, can_gain, built_of_life, starts}
 use Rattle.lid_clock.proofs.Built.{IsBuilt, built}
-use Rattle.lid_clock.proofs.starting.start.Goals as goal
+use Rattle.lid_clock.proofs.stream.ClockStream.start.Goals as goal
 
 -- the vector of actors holds those to which stations were joined
 joined_are : (s : System) (p : Placement) (rows : ℕ) (first : Option (List Bool)) (alone : Vec ClockActor) (joined : List ClockActor) (stations : List ClockStation)
