@@ -1,5 +1,5 @@
 -- What a second reading of a rows text may give: the rows that were given, and further ones; or another text.
-use Rattle.std.proofs.Common.{◌≡◌, ℕ, zero, suc, ◌+◌, ◌-◌, ◌<◌, ◌≤◌, Bool, false, List, [], ◌∷◌, ◌++◌, length, take, replicate, Option, None, Some, IfSome, IsSome, Result, Ok, Err, inl, inr, refl, sym, ◌∙◌, ap, subst, arith}
+use Rattle.std.proofs.Common.{◌≡◌, ℕ, zero, suc, ◌+◌, ◌-◌, ◌<◌, ◌≤◌, Bool, false, true≢false, List, [], ◌∷◌, ◌++◌, length, take, replicate, Option, None, Some, IfSome, IsSome, Result, Ok, Err, inl, inr, refl, sym, ◌∙◌, ap, subst, arith}
 use Rattle.std.specs.Option.{option_map_or}
 use Rattle.std.specs.List.{AllByRecursion}
 use Rattle.std.proofs.lemmas.List.{length-append, length-replicate, take-append-le, take_all}
@@ -82,7 +82,7 @@ module _ (held : List ℕ → Option (List ℕ)) (d : Design) (vec : List ℕ) (
 
   -- where the file is told, there is no such text
   pub never_told : (line : List ℕ) → Falls held d vec rows line → IsSome (held vec) → ⊥
-  never_told line falls told = subst (λ (o : Option (List ℕ)). IsSome o) (untold line falls) told
+  never_told line falls told = true≢false (sym (subst (λ (o : Option (List ℕ)). IsSome o) (untold line falls) told))
 
   pub falls_refused : (bytes line : List ℕ) → IsText (held vec) bytes → vec_reading d bytes ≡ bad line → Falls held d vec rows line
   falls_refused bytes line text reads = record {

@@ -22,7 +22,7 @@ use Rattle.lid_feed.specs.declared.fault.FeedFault.TheVariants as feed
 use Rattle.lid_feed.specs.Feeds.{IsText}
 use Rattle.lid_clockrun.specs.declared.fault.RunFault.{RunFault}
 use Rattle.lid_clockrun.specs.declared.fault.RunFault.TheVariants as run
-use Rattle.lid_clockrun.specs.Runnings.{Run, columns_of, source_columns, AreGiven, BeginsWith, WritesPart, HasRun, HasStopped, IsCause}
+use Rattle.lid_clockrun.specs.Runnings.{Run, columns_of, source_columns, AreGiven, Begins, WritesPart, HasRun, HasStopped, IsCause}
 use Rattle.lid_clockrun.specs.RunTexts.{IsRunText}
 use Rattle.lid_script.specs.declared.fault.Stop.{Stop}
 use Rattle.lid_script.specs.declared.fault.Stop.TheVariants.{Refused, Read, Memory, Denied}
@@ -74,7 +74,7 @@ module _ (held : List ℕ → Option (List ℕ)) (d : Design) (s : System) (p : 
     abbrev alive : Life
     alive = life d s p of well second.input table.0 table.1
 
-    begins : BeginsWith r given alive
+    begins : Begins r given alive
     begins = record {
       of = lives d s p of well second.input table.0 table.1 fits (let same = second.is.many in omega (arith, same, many, few)) second.is.wide;
       many = second.is.many ∙ sym many;
@@ -89,7 +89,7 @@ module _ (held : List ℕ → Option (List ℕ)) (d : Design) (s : System) (p : 
       text_of = clock_text d s p of well second.input table.0 table.1 trace text is;
     }
 
-    part_written : (old new : Option (List ℕ)) → ((l : Life) → BeginsWith r given l → WritesPart r l old new) → WritesPrefix held script old new
+    part_written : (old new : Option (List ℕ)) → ((l : Life) → Begins r given l → WritesPart r l old new) → WritesPrefix held script old new
     part_written old new told =
         let part = told alive begins in
         record { text = part.text; has = has_text part.text part.is; appended = part.written }

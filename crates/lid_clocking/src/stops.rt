@@ -11,7 +11,7 @@ use lid_texts::VecFault;
 
 /// Why the rows of a file are not had.
 pub(crate) fn feed_stop<'a>(vec: &'a str, fault: FeedFault) -> Stop<'a>
-    ensures { result ≡ stop_of_feed vec fault }
+    ensures { result ≡ stop_of_feed vec.entry fault }
 {
     match fault {
         FeedFault::Read => Stop::Read(vec),
@@ -22,7 +22,7 @@ pub(crate) fn feed_stop<'a>(vec: &'a str, fault: FeedFault) -> Stop<'a>
 
 /// How a run ends that was to have so many rows of a file.
 pub(crate) fn run_end<'a>(vec: &'a str, count: u64, fault: RunFault) -> End<'a>
-    ensures { result ≡ end_of_run vec count fault }
+    ensures { result ≡ end_of_run vec.entry count fault }
 {
     match fault {
         RunFault::Feed(fault) => End::Stopped(feed_stop(vec, fault)),
