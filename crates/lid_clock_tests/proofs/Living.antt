@@ -36,4 +36,4 @@ module _ (s : System) (p : Placement) (rows : List (List Bool)) (held : Bool)
 
   pub free : IsFreeFrom life 1
   free zero late = absurd (omega (arith, late))
-  free (suc k) late v = refl
+  free (suc k) late = λ v. refl

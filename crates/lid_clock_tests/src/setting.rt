@@ -7,6 +7,7 @@ ghost use Rattle.lid_system.specs.Systems.{IsWellFormed};
 ghost use Rattle.lid_clock.specs.Lives.{IsWide};
 
 use lid_base::{Items, Shown};
+use lid_check::check;
 use lid_stations::Placement;
 use lid_system::{Node, System};
 use std::alloc::Global;
@@ -24,9 +25,16 @@ pub(crate) const ONE: &[u8] = b".model one\n.inputs d\n.outputs q\n.latch d q 0\
 pub(crate) fn system_of(alloc: Global, net: &[u8]) -> Option<System>
     ensures { IfSome result IsWellFormed }
 {
-    let _ = alloc;
-    let _ = net;
-    None
+    let Ok(design) = lid_blif::read(alloc, net) else {
+        return None;
+    };
+    let Ok(checked) = check(alloc, design, None) else {
+        return None;
+    };
+    match lid_net::build(alloc, &checked) {
+        Ok(system) => Some(system),
+        Err(_) => None,
+    }
 }
 
 /// A relay station on the first of three channels.

@@ -99,12 +99,7 @@ fn feed(stream: &mut ClockStream, rows: &[Items<bool>], given: usize) -> usize
 
 /// Makes the first cycle, in which the source may be held. Answers how many rows were given where it made
 /// one.
-fn begin(
-    stream: &mut ClockStream,
-    rows: &[Items<bool>],
-    given: usize,
-    held: bool,
-) -> Option<usize>
+fn begin(stream: &mut ClockStream, rows: &[Items<bool>], given: usize, held: bool) -> Option<usize>
     requires { Begins rows.now held given stream.old }
     ensures { IfSome result (λ now. Goes rows.now now stream.new) }
 {

@@ -15,8 +15,7 @@ give-requires c =
     let l = c.requires.0 in
     let k = c.requires.1 in
     let needs = (c.needs.ensures l k c.args.given c.requires.3).0 c.if-not-needs.false in
-    let row = c.index-rows-given.result in
-    (
+    let row = c.index-rows-given.result in (
       l,
       k,
       c.args.given,

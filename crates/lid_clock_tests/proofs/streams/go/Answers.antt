@@ -12,8 +12,7 @@ pub returns-then-cycle : goal.returns-then-cycle
 returns-then-cycle c =
     let l = c.requires.0 in
     let k = c.requires.1 in
-    let fed = c.feed-now.ensures l k c.requires.2 c.requires.4 in
-    (
+    let fed = c.feed-now.ensures l k c.requires.2 c.requires.4 in (
       l,
       suc k,
       c.requires.2,

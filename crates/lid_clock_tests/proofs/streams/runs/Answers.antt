@@ -20,8 +20,7 @@ follows-requires c =
       stations = refl;
       many = refl;
       begins = sym c.first_of.ensures;
-    } in
-    (
+    } in (
       l,
       refl,
       held_once s p rows c.args.held formed fits few wide tables,
