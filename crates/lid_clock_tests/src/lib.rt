@@ -1,0 +1,9 @@
+//! Tests of clocked runs. What is expected was worked out by hand from the rules of firing.
+#![tactic(auto)]
+
+#[cfg(test)]
+mod at_hand;
+#[cfg(test)]
+mod setting;
+#[cfg(test)]
+mod streams;
