@@ -97,7 +97,7 @@ module _ (held : List ℕ → Option (List ℕ)) (d : Design) (vec : List ℕ) (
         let reads : vec_reading d all.bytes ≡ good given = vec_good d all.bytes columns outs (record { columns = columns; bits = given }) named refl all.reads in
         let less : length given < length rows = omega (arith, many, is, few) in
         let line : rows_line (Changed count found) ≡ rows_line (Changed (length rows) (length given)) =
-            ap (λ n. rows_line (Changed n found)) many ∙ ap (λ n. rows_line (Changed (length rows) n)) is in
+        ap (λ n. rows_line (Changed n found)) many ∙ ap (λ n. rows_line (Changed (length rows) n)) is in
         record {
           bytes = all.bytes;
           text = all.fetched;
@@ -109,12 +109,12 @@ module _ (held : List ℕ → Option (List ℕ)) (d : Design) (vec : List ℕ) (
       begin_so : (file : List ℕ) → held vec ≡ Some file → given ≡ take (length given) rows
       begin_so file told =
           let now : (r : Rows) → rows_reading columns outs (take (most_bytes + 1) file) ≡ Ok r → given ≡ take (length given) r.bits =
-              subst (λ (o : Option (List ℕ)). AreFirst o columns outs given) told first in
+          subst (λ (o : Option (List ℕ)). AreFirst o columns outs given) told first in
           let before : got.bytes ≡ take (most_bytes + 1) file = subst (λ (o : Option (List ℕ)). IfSome o (λ file. got.bytes ≡ take (most_bytes + 1) file)) told got.fetched.told in
           let reads : rows_reading columns outs (take (most_bytes + 1) file) ≡ Ok first_text.read =
-              ap (λ (names : List (List ℕ)). rows_reading names outs (take (most_bytes + 1) file)) named
-              ∙ ap (rows_reading (root_inputs d) outs) (sym before)
-              ∙ first_text.reads in
+          ap (λ (names : List (List ℕ)). rows_reading names outs (take (most_bytes + 1) file)) named
+          ∙ ap (rows_reading (root_inputs d) outs) (sym before)
+          ∙ first_text.reads in
           now first_text.read reads ∙ ap (take (length given)) first_text.bits
 
       abbrev blank : List Bool

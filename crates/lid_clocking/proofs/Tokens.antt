@@ -82,12 +82,12 @@ module _ (d : Design) where
           let ports = ports_at s ch.from in
           let port_of : ℕ → Point = λ port. get_or ports port (source_port 0) in
           ap packed (
-            map-map (seen d of.columns b t) port_of ch.ports
-            ∙ map_agree (λ port. seen d of.columns b t (port_of port)) (λ port. b t (get_or (ports_of d ch.from) port (column [] []))) ch.ports
-            (λ port among. ap (b t) (
-              sym (get_or-map col ports port (source_port 0) (column [] []) (all_among (λ (p : ℕ). p < length ports) ch.ports port is.below among))
-              ∙ ap (λ (cs : List Column). get_or cs port (column [] [])) (ports_same ch.from is.comes)
-            ))
+          map-map (seen d of.columns b t) port_of ch.ports
+          ∙ map_agree (λ port. seen d of.columns b t (port_of port)) (λ port. b t (get_or (ports_of d ch.from) port (column [] []))) ch.ports
+          (λ port among. ap (b t) (
+          sym (get_or-map col ports port (source_port 0) (column [] []) (all_among (λ (p : ℕ). p < length ports) ch.ports port is.below among))
+          ∙ ap (λ (cs : List Column). get_or cs port (column [] [])) (ports_same ch.from is.comes)
+          ))
           )
 
       pub token_same : (p : Placement) (station i : ℕ) → token_of s p (seen d of.columns b) station i ≡ station_token d b (links_of s) p station i

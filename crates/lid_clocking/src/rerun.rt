@@ -45,7 +45,17 @@ fn run_fed<'a, S: Shelf, O: Sink>(
     ensures kept { S.held shelf.new ≡ S.held shelf.old }
 {
     let _ = checked.design();
-    match run(alloc, shelf, out, system, placement, checked.outputs(), count, feed, *trace) {
+    match run(
+        alloc,
+        shelf,
+        out,
+        system,
+        placement,
+        checked.outputs(),
+        count,
+        feed,
+        *trace,
+    ) {
         Ok(()) => Ok(()),
         Err(fault) => Err(run_end(vec, count, fault)),
     }

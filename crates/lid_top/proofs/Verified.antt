@@ -56,8 +56,8 @@ module _ (held : List ℕ → Option (List ℕ)) (P : Ending → Type 0) (output
     after_system : (net : List ℕ) (root : Option (List ℕ)) → EndsIn held (system_step net root next) (gives output) → EndsSo (system_step net root other)
     after_system net root (bytes, fetched, e) =
         let r =
-            after_step (net_reading bytes) (λ d. check_step root d (λ checked. net_step checked (λ channels. next (links checked channels))))
-            (λ d. check_step root d (λ checked. net_step checked (λ channels. other (links checked channels)))) (after_check root) e in
+        after_step (net_reading bytes) (λ d. check_step root d (λ checked. net_step checked (λ channels. next (links checked channels))))
+        (λ d. check_step root d (λ checked. net_step checked (λ channels. other (links checked channels)))) (after_check root) e in
         (r.0, r.1, (bytes, fetched, r.2))
 
   after_placement : (l : Links) (stations : Option (List ℕ)) (next other : Placement → Script) → ((p : Placement) → EndsIn held (next p) (gives output) → EndsSo (other p)) → EndsIn held (placement_step l stations next) (gives output) → EndsSo (placement_step l stations other)
@@ -85,8 +85,7 @@ module _ (held : List ℕ → Option (List ℕ)) (cert text : List ℕ) (told : 
       let short : length text ≤ 16777216 = subst (λ (t : List ℕ). length t ≤ 16777216) (sym r.written) (few (cert_text c) r.back.sound) in
       let all : text ≡ take 16777217 text = sym (take_all 16777217 text (omega (arith, short))) in
       let fetched : IsFetched held cert text_limit text = record { short = omega (arith, short); told = subst (λ (h : Option (List ℕ)). IfSome h (λ file. text ≡ take 16777217 file)) (sym told) all } in
-      let reads : cert_read text ≡ good c = ap (λ (t : List ℕ). cert_read t) r.written ∙ ap (λ f. cert_unless f (cert_of (cert_text c))) r.back.sound ∙ ap good r.back.same in
-      (
+      let reads : cert_read text ≡ good c = ap (λ (t : List ℕ). cert_read t) r.written ∙ ap (λ f. cert_unless f (cert_of (cert_text c))) r.back.sound ∙ ap good r.back.same in (
         gives (verdict l c),
         (l, c, r.written, refl),
         (text, fetched, subst (λ read. EndsIn held (step read (judging_script l p)) (gives (verdict l c))) (sym reads) (inl (true, (λ _. r.certifies, λ _. refl), refl))),

@@ -20,8 +20,7 @@ give-requires c =
     let x = c.args.self.now in
     let needs = (c.needs.ensures l k x.given goes.ran).0 c.if-needs.true in
     let row = c.index-as_slice-self.result in
-    let is = c.index-as_slice-self.is ∙ ap (λ (rows : List (List Bool)). get_or rows x.given row) c.as_slice.ensures in
-    (
+    let is = c.index-as_slice-self.is ∙ ap (λ (rows : List (List Bool)). get_or rows x.given row) c.as_slice.ensures in (
       l,
       k,
       x.given,
