@@ -1,0 +1,5 @@
+pub mod Boards
+pub mod Parts
+pub mod Actors
+pub mod Steps
+pub mod Turns

@@ -1,0 +1,76 @@
+-- What a step of an actor does to it and to the board.
+use Rattle.std.specs.Prelude.{◌≡◌, ℕ, ◌+◌, ◌≤◌, ◌⊎◌, ◌==◌, Bool, true, false, if◌then◌else◌, List, Option, Some, None, option_map, slice_get}
+use Rattle.lid_base.specs.declared.runs.Answer.{Answer}
+use Rattle.lid_base.specs.declared.runs.Answer.TheVariants.{Token, Void, Room, Stop, Took, Put, Fired, Done}
+use Rattle.lid_station.specs.Boards.{Facts, Ends, fill, drain}
+use Rattle.lid_machine.specs.Setups.{Setup, stream}
+use Rattle.lid_machine.specs.Machine.{Progress, State, answer_as, after_as, finds}
+use Rattle.lid_shell.specs.declared.actor.Actor.{Actor}
+use Rattle.lid_shell.specs.Boards.{Agrees, ServesAll}
+use Rattle.lid_shell.specs.Actors.{IsActor}
+
+-- actor v, that far, and a board that agrees with it and stands for the streams
+pub record Works (m : Setup) (v : ℕ) (q : Progress) (a : Actor) (ends : Ends) (stands : (ℕ → List ℕ) → Type 0) : Type 0 where
+  pub actor : IsActor m v q a
+  pub agrees : Agrees m v q ends
+  pub streams : stands (stream m)
+
+-- an actor can make a step at a board: it is one of a setup, and the board agrees with it
+abbrev pub CanStep : Actor → Ends → ((ℕ → List ℕ) → Type 0) → Type 0
+CanStep a ends stands = (m : Setup) × (v : ℕ) × (q : Progress) × Works m v q a ends stands
+
+-- and a turn, where it is at rest
+abbrev pub CanTurn : Actor → Ends → ((ℕ → List ℕ) → Type 0) → Type 0
+CanTurn a ends stands = (m : Setup) × (v : ℕ) × (fired : ℕ) × Works m v (record { fired = fired; position = 0 }) a ends stands
+
+-- whether a look, if this is the answer of one, found what it looked for
+abbrev pub found_in : Answer → Bool
+found_in (Void station told) = false
+found_in (Stop station told) = false
+found_in _ = true
+
+-- an actor has made the step of the machine: it answers what the machine answers, and is as far
+pub record Steps (m : Setup) (v : ℕ) (q : Progress) (answer : Answer) (a : Actor) (ends : Ends) (stands : (ℕ → List ℕ) → Type 0) : Type 0 where
+  pub answers : answer ≡ answer_as m v q (found_in answer)
+  pub works : Works m v (after_as m v q (found_in answer)) a ends stands
+
+-- where the board serves both ends of each of its stations by a state of the machine, a look finds what it looks for
+-- exactly where the counts say so
+abbrev pub IsExact : Setup → State → ℕ → Answer → Type 0
+IsExact m st v answer = found_in answer ≡ finds m st v
+
+-- the end at which a look missed
+abbrev pub missed_end : Answer → Option ℕ
+missed_end (Void station told) = Some (drain station)
+missed_end (Stop station told) = Some (fill station)
+missed_end _ = None
+
+-- how many misses are counted at an end that had so many, where a look missed at one end, or none did
+abbrev pub misses_after : Option ℕ → ℕ → Option ℕ → Option ℕ
+misses_after None end misses = misses
+misses_after (Some at) end misses = if end == at then option_map (λ n. n + 1) misses else misses
+
+-- an end is one of these that are drained, or of those that are filled
+abbrev pub IsOwn : List ℕ → List ℕ → ℕ → Type 0
+IsOwn ins outs end =
+    (station : ℕ) × (i : ℕ) × (((slice_get ins i ≡ Some station) × (end ≡ drain station)) ⊎ ((slice_get outs i ≡ Some station) × (end ≡ fill station)))
+
+-- what was known at an end, and what is known now, where a look missed at one end, or none did
+pub record Stays (missed : Option ℕ) (end : ℕ) (old new : Facts) : Type 0 where
+  pub cap : new.cap ≡ old.cap
+  pub start : new.start ≡ old.start
+  pub misses : new.misses ≡ misses_after missed end old.misses
+
+-- only ends of these stations changed, none is served more or less, and one miss was made where a look missed, and
+-- none at another end
+pub record Moves (ins outs : List ℕ) (missed : Option ℕ) (old new : Ends) : Type 0 where
+  pub others : (end : ℕ) → (IsOwn ins outs end → ⊥) → new end ≡ old end
+  pub none : (end : ℕ) → old end ≡ None → new end ≡ None
+  pub some : (end : ℕ) (f : Facts) → old end ≡ Some f → (g : Facts) × (new end ≡ Some g) × Stays missed end f g
+
+-- a look misses at a drained end only once all tokens that the station started with were taken, and at a filled end
+-- only once its capacity was put
+abbrev pub MissesLate : Ends → Answer → Type 0
+MissesLate ends (Void station told) = (f : Facts) → ends (drain station) ≡ Some f → f.start ≤ f.passed
+MissesLate ends (Stop station told) = (f : Facts) → ends (fill station) ≡ Some f → f.cap ≤ f.passed
+MissesLate ends _ = Unit {0}

@@ -1,0 +1,28 @@
+//! The part of an actor.
+
+use lid_base::{Items, Name};
+use lid_nodes::{ShellNode, SinkNode, SourceNode};
+use lid_texts::Rows;
+
+/// The rows that a sink has given, and room for those to come.
+#[derive(Drop)]
+pub(crate) struct Given {
+    pub(crate) columns: Items<Name>,
+    /// The rows given, in order.
+    pub(crate) done: Vec<Items<bool>>,
+    /// A row of the sink's width for each firing to come.
+    pub(crate) spare: Vec<Vec<bool>>,
+}
+
+/// What an actor is: a node, or a mover.
+#[derive(Drop)]
+pub(crate) enum Part<'r> {
+    /// The source, with all input rows.
+    Source(SourceNode, &'r Rows),
+    /// A shell.
+    Shell(ShellNode),
+    /// A mover, which moves a token from one station to the next.
+    Mover,
+    /// The sink, with its output rows.
+    Sink(SinkNode, Given),
+}
