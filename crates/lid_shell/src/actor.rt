@@ -153,9 +153,9 @@ impl<'r> Actor<'r> {
 
     /// Hands out the rows that the sink has given. None for an actor that is no sink.
     pub fn into_given(self) -> Option<Rows>
-        ensures sink { IsSome result ↔ IsSinkPart self.part }
-        ensures which { (m : Setup) (v : ℕ) (q : Progress) → IsActor m v q self → (IsSome result ↔ v ≡ sink m) }
-        ensures rows { (m : Setup) (v : ℕ) (q : Progress) → IsActor m v q self → IfSome result (λ rows. AreColumns m v rows.columns × (rows.bits ≡ output_rows m q.fired)) }
+        ensures sink { IsSome result ↔ IsSinkPart self.entry.part }
+        ensures which { (m : Setup) (v : ℕ) (q : Progress) → IsActor m v q self.entry → (IsSome result ↔ v ≡ sink m) }
+        ensures rows { (m : Setup) (v : ℕ) (q : Progress) → IsActor m v q self.entry → IfSome result (λ rows. AreColumns m v rows.columns × (rows.bits ≡ output_rows m q.fired)) }
     {
         loop {}
     }
