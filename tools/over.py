@@ -6,7 +6,7 @@ that stands below it anew. Run it at the top of a clone.
     tools/over.py build CRATE FROM.. [-- OPTIONS]
 
 FROM are clones in which a gate runs or ran: the library of a crate is the first `crates/X/out/rlib/X.rlib` among
-them. What `build` makes stands in /tmp/over/X and goes before all: so a crate that was changed, and what stands
+them. What `build` makes stands in /tmp/over/X (or in another folder, named by OVER) and goes before all: so a crate that was changed, and what stands
 above it, are built one by one, lowest first. Options go to `rattle`, as `--only lid_x::m::f`, `--test`, or
 `--start lid_x::m::f --allow-holes`. The gate alone says what is proved.
 """
@@ -17,7 +17,7 @@ import sys
 from pathlib import Path
 
 KIT = Path("/opt/rattle")
-OWN = Path("/tmp/over")
+OWN = Path(os.environ.get("OVER", "/tmp/over"))
 
 
 def stands_on() -> dict[str, list[str]]:

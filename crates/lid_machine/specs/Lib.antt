@@ -1,3 +1,4 @@
+pub mod Plans
 pub mod Setups
 pub mod Machine
 pub mod Laws

@@ -3,7 +3,8 @@ use Rattle.std.specs.Prelude.{◌≡◌, ℕ, ◌+◌, ◌≤◌, ◌⊎◌, ◌
 use Rattle.lid_base.specs.declared.runs.Answer.{Answer}
 use Rattle.lid_base.specs.declared.runs.Answer.TheVariants.{Token, Void, Room, Stop, Took, Put, Fired, Done}
 use Rattle.lid_station.specs.Boards.{Facts, Ends, fill, drain}
-use Rattle.lid_machine.specs.Setups.{Setup, stream}
+use Rattle.lid_machine.specs.Plans.{stream}
+use Rattle.lid_machine.specs.Setups.{Setup, plan}
 use Rattle.lid_machine.specs.Machine.{Progress, State, answer_as, after_as, finds}
 use Rattle.lid_shell.specs.declared.actor.Actor.{Actor}
 use Rattle.lid_shell.specs.Boards.{Agrees, ServesAll}
@@ -13,7 +14,7 @@ use Rattle.lid_shell.specs.Actors.{IsActor}
 pub record Works (m : Setup) (v : ℕ) (q : Progress) (a : Actor) (ends : Ends) (stands : (ℕ → List ℕ) → Type 0) : Type 0 where
   pub actor : IsActor m v q a
   pub agrees : Agrees m v q ends
-  pub streams : stands (stream m)
+  pub streams : stands (stream (plan m))
 
 -- an actor can make a step at a board: it is one of a setup, and the board agrees with it
 abbrev pub CanStep : Actor → Ends → ((ℕ → List ℕ) → Type 0) → Type 0
@@ -31,13 +32,13 @@ found_in _ = true
 
 -- an actor has made the step of the machine: it answers what the machine answers, and is as far
 pub record Steps (m : Setup) (v : ℕ) (q : Progress) (answer : Answer) (a : Actor) (ends : Ends) (stands : (ℕ → List ℕ) → Type 0) : Type 0 where
-  pub answers : answer ≡ answer_as m v q (found_in answer)
-  pub works : Works m v (after_as m v q (found_in answer)) a ends stands
+  pub answers : answer ≡ answer_as (plan m) v q (found_in answer)
+  pub works : Works m v (after_as (plan m) v q (found_in answer)) a ends stands
 
 -- where the board serves both ends of each of its stations by a state of the machine, a look finds what it looks for
 -- exactly where the counts say so
 abbrev pub IsExact : Setup → State → ℕ → Answer → Type 0
-IsExact m st v answer = found_in answer ≡ finds m st v
+IsExact m st v answer = found_in answer ≡ finds (plan m) st v
 
 -- the end at which a look missed
 abbrev pub missed_end : Answer → Option ℕ

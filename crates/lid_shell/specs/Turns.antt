@@ -3,7 +3,8 @@ use Rattle.std.specs.Prelude.{◌≡◌, ◌↔◌, ℕ, ◌+◌, List, Some, sl
 use Rattle.lid_base.specs.declared.runs.Answer.{Answer}
 use Rattle.lid_base.specs.declared.runs.Answer.TheVariants as answer
 use Rattle.lid_station.specs.Boards.{Ends}
-use Rattle.lid_machine.specs.Setups.{Setup, ins_of, outs_of, cap, start_of}
+use Rattle.lid_machine.specs.Plans.{ins_of, outs_of, cap, start_of}
+use Rattle.lid_machine.specs.Setups.{Setup, plan}
 use Rattle.lid_machine.specs.Machine.{Progress, void_word, stop_word}
 use Rattle.lid_shell.specs.declared.actor.Actor.{Actor}
 use Rattle.lid_shell.specs.declared.turn.TurnEnd.{TurnEnd}
@@ -33,12 +34,12 @@ fired_at _ fired = fired
 -- next token's place, or at its cap
 abbrev pub EndsSo : Setup → ℕ → ℕ → TurnEnd → Type 0
 EndsSo m v fired Fired = Unit {0}
-EndsSo m v fired (Void station told) = (i : ℕ) × (slice_get (ins_of m v) i ≡ Some station) × (told ≡ void_word m station fired)
-EndsSo m v fired (Stop station told) = (j : ℕ) × (slice_get (outs_of m v) j ≡ Some station) × (told ≡ stop_word m station (start_of m station + fired))
+EndsSo m v fired (Void station told) = (i : ℕ) × (slice_get (ins_of (plan m) v) i ≡ Some station) × (told ≡ void_word (plan m) station fired)
+EndsSo m v fired (Stop station told) = (j : ℕ) × (slice_get (outs_of (plan m) v) j ≡ Some station) × (told ≡ stop_word (plan m) station (start_of (plan m) station + fired))
 EndsSo m v fired Done = Unit {0}
 
 -- what a turn leaves
 pub record Turned (m : Setup) (v fired : ℕ) (end : TurnEnd) (a : Actor) (ends : Ends) (stands : (ℕ → List ℕ) → Type 0) : Type 0 where
   pub ends_so : EndsSo m v fired end
-  pub done : end ≡ Done ↔ fired ≡ cap m v
+  pub done : end ≡ Done ↔ fired ≡ cap (plan m) v
   pub works : Works m v (record { fired = fired_at end fired; position = 0 }) a ends stands

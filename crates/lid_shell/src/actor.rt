@@ -5,7 +5,8 @@ ghost use Rattle.std.specs.List.{AllByRecursion};
 ghost use Rattle.lid_base.specs.declared.runs.Answer.TheVariants as answer;
 ghost use Rattle.lid_system.specs.Systems.{IsWellFormed};
 ghost use Rattle.lid_stations.specs.Placements.{links_of};
-ghost use Rattle.lid_machine.specs.Setups.{Setup, IsSetup, IsInputRow, actors_of, sink, ins_of, outs_of, output_rows};
+ghost use Rattle.lid_machine.specs.Plans.{actors_of, sink, ins_of, outs_of};
+ghost use Rattle.lid_machine.specs.Setups.{Setup, IsSetup, IsInputRow, output_rows, plan};
 ghost use Rattle.lid_machine.specs.Machine.{Progress, State, turn, turn_answer};
 ghost use Rattle.lid_shell.specs.Boards.{ServesAll};
 ghost use Rattle.lid_shell.specs.Parts.{IsSinkPart, AreColumns};
@@ -45,7 +46,7 @@ impl<'r> Actor<'r> {
         outs: &[u32],
     ) -> Result<Actor<'r>, AllocError>
         requires system { IsWellFormed system.now }
-        ensures { IfOk result (λ a. (m : Setup) → IsSetup m → m.system ≡ system.now → m.input ≡ rows.now.bits → outs_of m 0 ≡ outs.now → IsActor m 0 (record { fired = 0; position = 0 }) a) }
+        ensures { IfOk result (λ a. (m : Setup) → IsSetup m → m.system ≡ system.now → m.input ≡ rows.now.bits → outs_of (plan m) 0 ≡ outs.now → IsActor m 0 (record { fired = 0; position = 0 }) a) }
     {
         loop {}
     }
@@ -65,14 +66,14 @@ impl<'r> Actor<'r> {
     ) -> Result<Actor<'r>, AllocError>
         requires system { IsWellFormed system.now }
         requires shell { (0 < node) × (node + 1 < length system.now.nodes) }
-        ensures { IfOk result (λ a. (m : Setup) → IsSetup m → m.system ≡ system.now → length m.input ≡ rows → ins_of m node ≡ ins.now → outs_of m node ≡ outs.now → IsActor m node (record { fired = 0; position = 0 }) a) }
+        ensures { IfOk result (λ a. (m : Setup) → IsSetup m → m.system ≡ system.now → length m.input ≡ rows → ins_of (plan m) node ≡ ins.now → outs_of (plan m) node ≡ outs.now → IsActor m node (record { fired = 0; position = 0 }) a) }
     {
         loop {}
     }
 
     /// A mover from one station to the next, in a run of so many rows. It takes no memory.
     pub fn mover(alloc: Global, from: u32, to: u32, rows: u64) -> Actor<'r>
-        ensures { (m : Setup) (v : ℕ) → IsSetup m → length m.system.nodes ≤ v → v < actors_of m → length m.input ≡ rows → ins_of m v ≡ from ∷ [] → outs_of m v ≡ to ∷ [] → IsActor m v (record { fired = 0; position = 0 }) result }
+        ensures { (m : Setup) (v : ℕ) → IsSetup m → length m.system.nodes ≤ v → v < actors_of (plan m) → length m.input ≡ rows → ins_of (plan m) v ≡ from ∷ [] → outs_of (plan m) v ≡ to ∷ [] → IsActor m v (record { fired = 0; position = 0 }) result }
     {
         loop {}
     }
@@ -84,7 +85,7 @@ impl<'r> Actor<'r> {
     /// Memory is wanting.
     pub fn sink(alloc: Global, system: &System, ins: &[u32], rows: u64) -> Result<Actor<'r>, AllocError>
         requires system { IsWellFormed system.now }
-        ensures { IfOk result (λ a. (m : Setup) → IsSetup m → m.system ≡ system.now → length m.input ≡ rows → ins_of m (sink m) ≡ ins.now → IsActor m (sink m) (record { fired = 0; position = 0 }) a) }
+        ensures { IfOk result (λ a. (m : Setup) → IsSetup m → m.system ≡ system.now → length m.input ≡ rows → ins_of (plan m) (sink (plan m)) ≡ ins.now → IsActor m (sink (plan m)) (record { fired = 0; position = 0 }) a) }
     {
         loop {}
     }
@@ -112,7 +113,7 @@ impl<'r> Actor<'r> {
     pub fn turn<B: Stations>(&mut self, board: &mut B) -> TurnEnd
         requires can { CanTurn self.old (B.ends board.old) (B.stands board.old) }
         ensures turned { (m : Setup) (v fired : ℕ) → Works m v (record { fired = fired; position = 0 }) self.old (B.ends board.old) (B.stands board.old) → Turned m v fired result self.new (B.ends board.new) (B.stands board.new) }
-        ensures exact { (m : Setup) (v : ℕ) (st : State) → (st v).position ≡ 0 → Works m v (st v) self.old (B.ends board.old) (B.stands board.old) → ServesAll m st v (B.ends board.old) → (result ≡ end_at (turn_answer m st v)) × IsActor m v (turn m st v v) self.new }
+        ensures exact { (m : Setup) (v : ℕ) (st : State) → (st v).position ≡ 0 → Works m v (st v) self.old (B.ends board.old) (B.stands board.old) → ServesAll m st v (B.ends board.old) → (result ≡ end_at (turn_answer (plan m) st v)) × IsActor m v (turn (plan m) st v v) self.new }
         ensures moves { Moves self.old.desk.ins.items self.old.desk.outs.items (missed_end (answer_at result)) (B.ends board.old) (B.ends board.new) }
         ensures late { MissesLate (B.ends board.old) (answer_at result) }
         ensures done { result ≡ end.Done → (self.new ≡ self.old) × (board.new ≡ board.old) }
@@ -145,7 +146,7 @@ impl<'r> Actor<'r> {
     /// The rows that the sink has given, in order: a row for each of its firings. None for an actor that is no sink.
     pub fn given(&self) -> Option<&[Items<bool>]>
         ensures sink { IsSome result ↔ IsSinkPart self.now.part }
-        ensures which { (m : Setup) (v : ℕ) (q : Progress) → IsActor m v q self.now → (IsSome result ↔ v ≡ sink m) }
+        ensures which { (m : Setup) (v : ℕ) (q : Progress) → IsActor m v q self.now → (IsSome result ↔ v ≡ sink (plan m)) }
         ensures rows { (m : Setup) (v : ℕ) (q : Progress) → IsActor m v q self.now → IfSome result (λ rows. rows.now ≡ output_rows m q.fired) }
     {
         loop {}
@@ -154,7 +155,7 @@ impl<'r> Actor<'r> {
     /// Hands out the rows that the sink has given. None for an actor that is no sink.
     pub fn into_given(self) -> Option<Rows>
         ensures sink { IsSome result ↔ IsSinkPart self.entry.part }
-        ensures which { (m : Setup) (v : ℕ) (q : Progress) → IsActor m v q self.entry → (IsSome result ↔ v ≡ sink m) }
+        ensures which { (m : Setup) (v : ℕ) (q : Progress) → IsActor m v q self.entry → (IsSome result ↔ v ≡ sink (plan m)) }
         ensures rows { (m : Setup) (v : ℕ) (q : Progress) → IsActor m v q self.entry → IfSome result (λ rows. AreColumns m v rows.columns × (rows.bits ≡ output_rows m q.fired)) }
     {
         loop {}
