@@ -1,0 +1,25 @@
+-- What a walk has at its stations.
+use Rattle.std.specs.Prelude.{◌≡◌, ℕ, ◌+◌, ◌%◌, ◌<◌, ◌≤◌, length, get_or, Some, slice_get}
+use Rattle.lid_station.specs.declared.pair.Pair.{Pair}
+use Rattle.lid_machine.specs.Plans.{stream, room_of}
+use Rattle.lid_machine.specs.Setups.{Setup, plan}
+use Rattle.lid_machine.specs.Machine.{State, in_count, out_count}
+use Rattle.lid_walk.specs.declared.walk.Walk.{Walk}
+use Rattle.lid_walk.specs.Walks.{Walks}
+
+-- the tokens taken from a station are the first of those put in it, these are the first of its stream, and it holds
+-- those between, at most as many as its capacity
+pub record HoldsPrefix (m : Setup) (st : State) (station : ℕ) (p : Pair) : Type 0 where
+  pub put : p.put ≡ in_count (plan m) st station
+  pub taken : p.taken ≡ out_count (plan m) st station
+  pub size : length p.places.items ≡ room_of (plan m) station
+  pub ordered : p.taken ≤ p.put
+  pub within : p.put ≤ length (stream (plan m) station)
+  pub few : p.put ≤ p.taken + room_of (plan m) station
+  pub holds : (i : ℕ) → p.taken ≤ i → i < p.put → get_or p.places.items (i % length p.places.items) 0 ≡ get_or (stream (plan m) station) i 0
+
+-- so it is at each station of a walk, in whatever state
+abbrev pub StationsHoldPrefixes : Type 0
+StationsHoldPrefixes =
+    (m : Setup) (st : State) (w : Walk) (station : ℕ) (p : Pair)
+    → Walks m st w → slice_get w.board.pairs.items station ≡ Some p → HoldsPrefix m st station p

@@ -1,0 +1,8 @@
+//! Interleavings: all actors of a system over one board, one step of one actor after another.
+#![tactic(auto)]
+
+mod laws;
+mod walk;
+
+pub use laws::stations_hold_prefixes;
+pub use walk::Walk;

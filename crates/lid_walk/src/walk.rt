@@ -1,0 +1,111 @@
+//! Walks.
+
+ghost use Rattle.std.specs.Prelude.{◌≡◌, ◌↔◌, ◌≤◌, ℕ, true, length, IfOk};
+ghost use Rattle.std.specs.List.{AllByRecursion};
+ghost use Rattle.lid_system.specs.Systems.{IsWellFormed};
+ghost use Rattle.lid_stations.specs.Placements.{Fits};
+ghost use Rattle.lid_machine.specs.Plans.{actors_of, sink};
+ghost use Rattle.lid_machine.specs.Setups.{Setup, IsSetup, IsInputRow, plan, output_rows};
+ghost use Rattle.lid_machine.specs.Machine.{State, begun, answer_of, next, sweep};
+ghost use Rattle.lid_machine.specs.Laws.{IsSound, AllRest, IsSettled};
+ghost use Rattle.lid_shell.specs.Parts.{AreColumns};
+ghost use Rattle.lid_walk.specs.Walks.{AreActors, IsBoard, Walks, IsWalk, HasActor, IsAtRest, IsSetupOf, firings_between};
+
+use lid_base::{Answer, Items};
+use lid_shell::Actor;
+use lid_station::PlainBoard;
+use lid_stations::Placement;
+use lid_system::System;
+use lid_texts::Rows;
+use std::alloc::{AllocError, Global};
+
+/// All actors of a system over one board. Actors make steps one at a time, in whatever order.
+#[derive(Drop)]
+pub struct Walk<'r> {
+    pub(crate) board: PlainBoard,
+    /// The actors, in the order of their numbers.
+    pub(crate) actors: Vec<Actor<'r>>,
+}
+
+impl<'r> Walk<'r> {
+    /// Starts a walk of a system with its stations over these rows: at most 1,000,000, each as wide as the source. All
+    /// actors are at rest and have not fired.
+    ///
+    /// # Errors
+    /// Memory is wanting.
+    pub fn start(
+        alloc: Global,
+        system: &System,
+        placement: &Placement,
+        rows: &'r Rows,
+    ) -> Result<Walk<'r>, AllocError>
+        requires system { IsWellFormed system.now }
+        requires fits { Fits system.now placement.now }
+        requires few { length rows.now.bits ≤ 1000000 }
+        requires wide { AllByRecursion (IsInputRow system.now) rows.now.bits }
+        ensures { IfOk result (λ w. (m : Setup) → IsSetupOf m system.now placement.now rows.now.bits → Walks m begun w) }
+    {
+        loop {}
+    }
+
+    /// Goes on from a board and the actors of one system over its rows, in the order of their numbers, which agree with
+    /// the board.
+    pub fn adopt(board: PlainBoard, actors: Vec<Actor<'r>>) -> Walk<'r>
+        requires { (m : Setup) × (st : State) × IsSetup m × IsSound (plan m) st × AreActors m st actors.entry.items × IsBoard m st board.pairs.items }
+        ensures { (m : Setup) (st : State) → IsSetup m → IsSound (plan m) st → AreActors m st actors.entry.items → IsBoard m st board.pairs.items → Walks m st result }
+    {
+        Walk { board, actors }
+    }
+
+    /// Makes one step of an actor, which exists. It answers, and the walk goes on, as the interleaving machine says.
+    pub fn step(&mut self, actor: u32) -> Answer
+        requires { HasActor self.old actor }
+        ensures walks { (m : Setup) (st : State) → Walks m st self.old → Walks m (next (plan m) st actor) self.new }
+        ensures answers { (m : Setup) (st : State) → Walks m st self.old → result ≡ answer_of (plan m) st actor }
+    {
+        self.actors[actor as usize].step(&mut self.board)
+    }
+
+    /// Makes one turn of each actor, in the order of their numbers, where all are at rest. Answers how many fired. Where
+    /// some actor is below its cap, at least one did.
+    pub fn sweep(&mut self) -> u64
+        requires { IsAtRest self.old }
+        ensures walks { (m : Setup) (st : State) → Walks m st self.old → AllRest (plan m) st → Walks m (sweep (plan m) st) self.new }
+        ensures fired { (m : Setup) (st : State) → Walks m st self.old → AllRest (plan m) st → result ≡ firings_between (plan m) st (sweep (plan m) st) }
+        ensures rest { (m : Setup) (st : State) → Walks m st self.old → AllRest (plan m) st → AllRest (plan m) (sweep (plan m) st) }
+        ensures idle { (m : Setup) (st : State) → Walks m st self.old → AllRest (plan m) st → result ≡ 0 → IsSettled (plan m) st }
+    {
+        loop {}
+    }
+
+    /// Whether every actor is at its cap.
+    pub fn settled(&self) -> bool
+        ensures { (m : Setup) (st : State) → Walks m st self.now → (result ≡ true) ↔ IsSettled (plan m) st }
+    {
+        loop {}
+    }
+
+    /// How often an actor has fired. It exists.
+    pub fn fired(&self, actor: u32) -> u64
+        requires { HasActor self.now actor }
+        ensures { (m : Setup) (st : State) → Walks m st self.now → result ≡ (st actor).fired }
+    {
+        self.actors[actor as usize].fired()
+    }
+
+    /// The rows that the sink has given, in order: the first strict output rows, as many as it has fired.
+    pub fn rows(&self) -> &[Items<bool>]
+        requires { IsWalk self.now }
+        ensures { (m : Setup) (st : State) → Walks m st self.now → result.now ≡ output_rows m (st (sink (plan m))).fired }
+    {
+        loop {}
+    }
+
+    /// Hands out the rows that the sink has given.
+    pub fn into_rows(self) -> Rows
+        requires { IsWalk self.entry }
+        ensures { (m : Setup) (st : State) → Walks m st self.entry → AreColumns m (sink (plan m)) result.columns × (result.bits ≡ output_rows m (st (sink (plan m))).fired) }
+    {
+        loop {}
+    }
+}
