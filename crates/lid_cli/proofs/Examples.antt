@@ -1,13 +1,13 @@
 -- Some words, and the jobs that they are by the definitions alone.
 use Rattle.std.proofs.Common.{◌≡◌, refl, [], ◌∷◌, Some, None, codes}
 use Rattle.clap.proofs.OnLiterals.{clap_on_literals}
-use Rattle.lid_cli.specs.declared.job.Job.TheVariants.{Check, Clock, Place, Rate, Strict, Verify}
+use Rattle.lid_cli.specs.declared.job.Job.TheVariants.{Check, Clock, Gen, Place, Rate, Strict, Verify, Walk}
 use Rattle.lid_base.specs.Numbers.{number_below}
 use Rattle.lid_cli.specs.Reading.{lid_app, given_in}
-use Rattle.lid_cli.specs.Jobs.{is_given, is_tallied, files_in, file_at, name_in, reach_in, trace_in, clock_job, is_allowed, has_only, has_each, is_within, fits, option_fits, has_both, has_form, job_made, job_formed, form_in, job_given, job_of}
+use Rattle.lid_cli.specs.Jobs.{is_given, is_tallied, files_in, file_at, name_in, seed_in, number_if, number_or, clock_job, is_allowed, has_only, has_each, is_within, fits, option_fits, has_both, has_form, job_made, job_formed, form_in, job_given, job_of}
 
 unfoldable words_on_literals : Unit {0}
-unfolding clap_on_literals lid_app given_in is_given is_tallied number_below files_in file_at name_in reach_in trace_in clock_job is_allowed has_only has_each is_within fits option_fits has_both has_form job_made job_formed form_in job_given job_of
+unfolding clap_on_literals lid_app given_in is_given is_tallied number_below files_in file_at name_in seed_in number_if number_or clock_job is_allowed has_only has_each is_within fits option_fits has_both has_form job_made job_formed form_in job_given job_of
 words_on_literals = tt
 
 -- `check --root m a`
@@ -34,6 +34,16 @@ clock_on_workers = refl
 place_with_reach : job_of (codes "place" ∷ codes "a" ∷ codes "--wires" ∷ codes "w" ∷ codes "--reach" ∷ codes "10" ∷ []) ≡ Some (Place (codes "a") (codes "w") 10 None)
 unfolding words_on_literals
 place_with_reach = refl
+
+-- `walk a b --schedule s`
+walk_with_schedule : job_of (codes "walk" ∷ codes "a" ∷ codes "b" ∷ codes "--schedule" ∷ codes "s" ∷ []) ≡ Some (Walk (codes "a") (codes "b") (codes "s") None None)
+unfolding words_on_literals
+walk_with_schedule = refl
+
+-- `gen 2 --shells 3`
+gen_with_shells : job_of (codes "gen" ∷ codes "2" ∷ codes "--shells" ∷ codes "3" ∷ []) ≡ Some (Gen 2 3 None)
+unfolding words_on_literals
+gen_with_shells = refl
 
 -- `rate a --stations s`
 rate_with_stations : job_of (codes "rate" ∷ codes "a" ∷ codes "--stations" ∷ codes "s" ∷ []) ≡ Some (Rate (codes "a") (Some (codes "s")) None)

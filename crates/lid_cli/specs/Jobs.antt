@@ -6,11 +6,11 @@ use Rattle.std.specs.List.{list_all, list_any}
 use Rattle.std.specs.Str.{bytes_eq}
 use Rattle.clap.specs.Walk.{Row, first_of, all_of}
 use Rattle.lid_base.specs.Numbers.{number}
-use Rattle.lid_cli.specs.declared.table.TheConstants.{COMMAND, FILES, TALLY, ROOT, STATIONS, STALLS, WIRES, WORKERS, REACH, TRACE}
+use Rattle.lid_cli.specs.declared.table.TheConstants.{COMMAND, FILES, TALLY, ROOT, STATIONS, STALLS, SCHEDULE, WIRES, WORKERS, REACH, TRACE, SHELLS, RUN}
 use Rattle.lid_cli.specs.declared.table.Command.{Command}
 use Rattle.lid_cli.specs.declared.table.Command.TheVariants as command
 use Rattle.lid_cli.specs.declared.job.Job.{Job}
-use Rattle.lid_cli.specs.declared.job.Job.TheVariants.{Check, Clock, Place, Rate, Strict, Verify}
+use Rattle.lid_cli.specs.declared.job.Job.TheVariants.{Check, Clock, Gen, Place, Rate, Strict, Unwave, Verify, Walk, Wave}
 use Rattle.lid_cli.specs.Table.{Form, form, table, Range, range, ranges}
 use Rattle.lid_cli.specs.Reading.{option_names, given_in}
 
@@ -105,25 +105,33 @@ root_in found = first_of ROOT.now found
 abbrev pub check_job : List Row → Option Job
 check_job found = Some (Check (file_at 0 found) (root_in found))
 
--- of how many cycles a trace is asked for, where one is
-unfoldable pub trace_in : List Row → Option ℕ
-trace_in found = option_and_then number (first_of TRACE.now found)
+-- the number of an option, where it stands in the words
+unfoldable pub number_if : List ℕ → List Row → Option ℕ
+number_if option found = option_and_then number (first_of option found)
+
+-- the number of an option, and another one where it does not stand in the words
+unfoldable pub number_or : ℕ → List ℕ → List Row → ℕ
+number_or other option found = unwrap_or (number_if option found) other
 
 -- the job of `clock` without stalls and on no workers
 abbrev pub plain_clock_job : List Row → Option Job
-plain_clock_job found = Some (Clock (file_at 0 found) (file_at 1 found) (first_of STATIONS.now found) (trace_in found) (root_in found))
+plain_clock_job found = Some (Clock (file_at 0 found) (file_at 1 found) (first_of STATIONS.now found) (number_if TRACE.now found) (root_in found))
 
 -- the job of `clock`; one with stalls or on workers is not built yet
 unfoldable pub clock_job : List Row → Option Job
 clock_job found = if is_given found STALLS.now || is_given found WORKERS.now then None else plain_clock_job found
 
--- the reach that is given
-unfoldable pub reach_in : List Row → ℕ
-reach_in found = option_map_or (λ text. unwrap_or (number text) 1) (first_of REACH.now found) 1
+-- the seed that stands in the first place
+unfoldable pub seed_in : List Row → ℕ
+seed_in found = unwrap_or (number (file_at 0 found)) 0
+
+-- the job of `gen`
+abbrev pub gen_job : List Row → Option Job
+gen_job found = Some (Gen (seed_in found) (number_or 0 SHELLS.now found) (number_if RUN.now found))
 
 -- the job of `place`
 abbrev pub place_job : List Row → Option Job
-place_job found = Some (Place (file_at 0 found) (name_in WIRES.now found) (reach_in found) (root_in found))
+place_job found = Some (Place (file_at 0 found) (name_in WIRES.now found) (number_or 1 REACH.now found) (root_in found))
 
 -- the job of `rate`
 abbrev pub rate_job : List Row → Option Job
@@ -133,9 +141,21 @@ rate_job found = Some (Rate (file_at 0 found) (first_of STATIONS.now found) (roo
 abbrev pub strict_job : List Row → Option Job
 strict_job found = Some (Strict (file_at 0 found) (file_at 1 found) (root_in found))
 
+-- the job of `unwave`
+abbrev pub unwave_job : List Row → Option Job
+unwave_job found = Some (Unwave (file_at 0 found))
+
 -- the job of `verify`
 abbrev pub verify_job : List Row → Option Job
 verify_job found = Some (Verify (file_at 0 found) (file_at 1 found) (first_of STATIONS.now found) (root_in found))
+
+-- the job of `walk`
+abbrev pub walk_job : List Row → Option Job
+walk_job found = Some (Walk (file_at 0 found) (file_at 1 found) (name_in SCHEDULE.now found) (first_of STATIONS.now found) (root_in found))
+
+-- the job of `wave`
+abbrev pub wave_job : List Row → Option Job
+wave_job found = Some (Wave (file_at 0 found) (file_at 1 found) (first_of STATIONS.now found) (number_or 1 TRACE.now found) (root_in found))
 
 -- the job of a command whose form the words have; a command that is not built yet has none
 unfoldable pub job_made : Command → List Row → Option Job
@@ -145,6 +165,10 @@ job_made command.Clock found = clock_job found
 job_made command.Rate found = rate_job found
 job_made command.Verify found = verify_job found
 job_made command.Place found = place_job found
+job_made command.Walk found = walk_job found
+job_made command.Gen found = gen_job found
+job_made command.Wave found = wave_job found
+job_made command.Unwave found = unwave_job found
 job_made unbuilt found = None
 
 -- the job of a form, where the words have it
@@ -167,8 +191,14 @@ job_given found = option_and_then (job_formed found) (form_in found)
 unfoldable pub job_of : List (List ℕ) → Option Job
 job_of words = option_and_then job_given (given_in words)
 
--- a reach is positive, and a trace has some cycles and not too many
+-- a trace has some cycles and not too many
+abbrev pub IsTraceLong : ℕ → Type 0
+IsTraceLong cycles = (1 ≤ cycles) × (cycles ≤ 1048576)
+
+-- numbers are in their ranges
 abbrev pub IsSound : Job → Type 0
-IsSound (Clock net vec stations trace root) = IfSome trace (λ cycles. (1 ≤ cycles) × (cycles ≤ 1048576))
+IsSound (Clock net vec stations trace root) = IfSome trace IsTraceLong
+IsSound (Gen seed shells run) = (shells ≤ 4294967295) × IfSome run (λ rows. (1 ≤ rows) × (rows ≤ 1000000))
 IsSound (Place net wires reach root) = 1 ≤ reach
+IsSound (Wave net vec stations trace root) = IsTraceLong trace
 IsSound job = ⊤

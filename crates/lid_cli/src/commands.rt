@@ -2,11 +2,11 @@
 
 ghost use Rattle.std.specs.Prelude.{◌≡◌, IfOk};
 ghost use Rattle.lid_cli.specs.Reading.{matches_in};
-ghost use Rattle.lid_cli.specs.Jobs.{file_at, root_in, reach_in, trace_in, check_job, place_job, rate_job, strict_job, verify_job, plain_clock_job, clock_job};
+ghost use Rattle.lid_cli.specs.Jobs.{file_at, root_in, seed_in, number_if, number_or, check_job, gen_job, place_job, rate_job, strict_job, unwave_job, verify_job, walk_job, wave_job, plain_clock_job, clock_job};
 
-use crate::given::{file_text, is_given, root_of, text_if_given, text_of, value_of};
+use crate::given::{file_at, file_text, is_given, root_of, text_if_given, text_of, value_of};
 use crate::job::Job;
-use crate::table::{REACH, STALLS, STATIONS, TRACE, WIRES, WORKERS};
+use crate::table::{REACH, RUN, SCHEDULE, SHELLS, STALLS, STATIONS, TRACE, WIRES, WORKERS};
 use clap::ArgMatches;
 use lid_base::{Name, Text, number};
 use std::alloc::{AllocError, Global};
@@ -29,15 +29,23 @@ pub fn check_job(alloc: Global, given: &ArgMatches<'_>) -> Result<Option<Job>, A
     Ok(Some(Job::Check { net, root }))
 }
 
-/// Of how many cycles a trace is asked for, where one is.
-#[tactic(auto, unfolding(crate::specs::Jobs::trace_in))]
-fn trace_of(given: &ArgMatches<'_>) -> Option<u64>
-    ensures { result ≡ trace_in (matches_in given.now) }
+/// The number of an option, where it stands in the words.
+#[tactic(auto, unfolding(crate::specs::Jobs::number_if))]
+fn number_if(given: &ArgMatches<'_>, option: &str) -> Option<u64>
+    ensures { result ≡ number_if option.now (matches_in given.now) }
 {
-    match value_of(given, TRACE) {
+    match value_of(given, option) {
         Some(text) => number(text.as_bytes()),
         None => None,
     }
+}
+
+/// The number of an option, and another one where it does not stand in the words.
+#[tactic(auto, unfolding(crate::specs::Jobs::number_or))]
+fn number_or(given: &ArgMatches<'_>, option: &str, other: u64) -> u64
+    ensures { result ≡ number_or other option.now (matches_in given.now) }
+{
+    number_if(given, option).unwrap_or(other)
 }
 
 /// The job of `clock` without stalls and on no workers.
@@ -51,7 +59,7 @@ fn plain_clock_job(alloc: Global, given: &ArgMatches<'_>) -> Result<Option<Job>,
         net,
         vec,
         stations,
-        trace: trace_of(given),
+        trace: number_if(given, TRACE),
         root,
     }))
 }
@@ -68,15 +76,23 @@ pub fn clock_job(alloc: Global, given: &ArgMatches<'_>) -> Result<Option<Job>, A
     }
 }
 
-/// How far a signal comes in one clock cycle.
-#[tactic(auto, unfolding(crate::specs::Jobs::reach_in))]
-fn reach_of(given: &ArgMatches<'_>) -> u64
-    ensures { result ≡ reach_in (matches_in given.now) }
+/// The seed that stands in the first place.
+#[tactic(auto, unfolding(crate::specs::Jobs::seed_in))]
+fn seed_of(given: &ArgMatches<'_>) -> u64
+    ensures { result ≡ seed_in (matches_in given.now) }
 {
-    match value_of(given, REACH) {
-        Some(text) => number(text.as_bytes()).unwrap_or(1),
-        None => 1,
-    }
+    number(file_at(given, 0).as_bytes()).unwrap_or(0)
+}
+
+/// The job of `gen`.
+pub fn gen_job(given: &ArgMatches<'_>) -> Option<Job>
+    ensures { result ≡ gen_job (matches_in given.now) }
+{
+    Some(Job::Gen {
+        seed: seed_of(given),
+        shells: number_or(given, SHELLS, 0),
+        run: number_if(given, RUN),
+    })
 }
 
 /// The job of `place`.
@@ -87,7 +103,7 @@ pub fn place_job(alloc: Global, given: &ArgMatches<'_>) -> Result<Option<Job>, A
     Ok(Some(Job::Place {
         net,
         wires: text_of(alloc, given, WIRES)?,
-        reach: reach_of(given),
+        reach: number_or(given, REACH, 1),
         root,
     }))
 }
@@ -125,6 +141,47 @@ pub fn verify_job(alloc: Global, given: &ArgMatches<'_>) -> Result<Option<Job>, 
         net,
         cert,
         stations,
+        root,
+    }))
+}
+
+/// The job of `unwave`.
+pub fn unwave_job(alloc: Global, given: &ArgMatches<'_>) -> Result<Option<Job>, AllocError>
+    ensures { IfOk result (λ job. job ≡ unwave_job (matches_in given.now)) }
+{
+    let file = file_text(alloc, given, 0)?;
+    Ok(Some(Job::Unwave { file }))
+}
+
+/// The job of `walk`.
+pub fn walk_job(alloc: Global, given: &ArgMatches<'_>) -> Result<Option<Job>, AllocError>
+    ensures { IfOk result (λ job. job ≡ walk_job (matches_in given.now)) }
+{
+    let (net, root) = netlist_of(alloc, given)?;
+    let vec = file_text(alloc, given, 1)?;
+    let schedule = text_of(alloc, given, SCHEDULE)?;
+    let stations = text_if_given(alloc, given, STATIONS)?;
+    Ok(Some(Job::Walk {
+        net,
+        vec,
+        schedule,
+        stations,
+        root,
+    }))
+}
+
+/// The job of `wave`.
+pub fn wave_job(alloc: Global, given: &ArgMatches<'_>) -> Result<Option<Job>, AllocError>
+    ensures { IfOk result (λ job. job ≡ wave_job (matches_in given.now)) }
+{
+    let (net, root) = netlist_of(alloc, given)?;
+    let vec = file_text(alloc, given, 1)?;
+    let stations = text_if_given(alloc, given, STATIONS)?;
+    Ok(Some(Job::Wave {
+        net,
+        vec,
+        stations,
+        trace: number_or(given, TRACE, 1),
         root,
     }))
 }

@@ -46,7 +46,7 @@ pub fn files<'m, 'a>(given: &'m ArgMatches<'a>) -> Option<&'m [&'a str]>
 
 /// The name of a file by its place; no text where there is none.
 #[tactic(auto, unfolding(crate::specs::Jobs::files_in, crate::specs::Jobs::file_at))]
-fn file_at<'a>(given: &ArgMatches<'a>, at: usize) -> &'a str
+pub fn file_at<'a>(given: &ArgMatches<'a>, at: usize) -> &'a str
     ensures { result.now ≡ file_at at (matches_in given.now) }
 {
     match files(given) {

@@ -1,10 +1,14 @@
 //! The job that the words of a command line ask for.
 
-ghost use Rattle.std.specs.Prelude.{◌≡◌, true, codes, IfOk, IfSome};
-ghost use Rattle.lid_cli.specs.Reading.{matches_in};
+ghost use Rattle.std.specs.Prelude.{◌≡◌, true, IfOk, IfSome};
+ghost use Rattle.std.specs.List.{list_all};
+ghost use Rattle.lid_cli.specs.Reading.{matches_in, option_names};
 ghost use Rattle.lid_cli.specs.Jobs.{IsSound, option_fits, form_shown, job_made, job_formed, job_given, job_of};
 
-use crate::commands::{check_job, clock_job, place_job, rate_job, strict_job, verify_job};
+use crate::commands::{
+    check_job, clock_job, gen_job, place_job, rate_job, strict_job, unwave_job, verify_job, walk_job,
+    wave_job,
+};
 use crate::form::{form_of, has_form};
 use crate::reader::parse;
 use crate::table::{Command, Form};
@@ -34,6 +38,15 @@ pub enum Job {
         trace: Option<u64>,
         /// The name of the model that is to be the root, as for `strict`.
         root: Option<Name>,
+    },
+    /// `gen SEED --shells M`: a netlist made from a seed, and with `--run N` what its clocked run shows.
+    Gen {
+        /// The seed.
+        seed: u64,
+        /// How many shells the netlist is to have, at most 4,294,967,295.
+        shells: u64,
+        /// The number of rows of the run, 1 to 1,000,000, where one is asked for.
+        run: Option<u64>,
     },
     /// `place NET --wires FILE --reach L`: the relay stations that wires of such lengths need.
     Place {
@@ -65,6 +78,11 @@ pub enum Job {
         /// `--root=` it is the empty name.
         root: Option<Name>,
     },
+    /// `unwave FILE`: the trace that a value change dump shows.
+    Unwave {
+        /// The name of the file with the dump.
+        file: Text,
+    },
     /// `verify NET CERT`: whether a certificate shows the throughput.
     Verify {
         /// The name of the file with the netlist.
@@ -73,6 +91,32 @@ pub enum Job {
         cert: Text,
         /// The name of the file with the stations, as for `rate`.
         stations: Option<Text>,
+        /// The name of the model that is to be the root, as for `strict`.
+        root: Option<Name>,
+    },
+    /// `walk NET VEC --schedule FILE`: what actors answer, one step of one actor after another.
+    Walk {
+        /// The name of the file with the netlist.
+        net: Text,
+        /// The name of the file with the rows.
+        vec: Text,
+        /// The name of the file with the schedule.
+        schedule: Text,
+        /// The name of the file with the stations, as for `rate`.
+        stations: Option<Text>,
+        /// The name of the model that is to be the root, as for `strict`.
+        root: Option<Name>,
+    },
+    /// `wave NET VEC --trace K`: the trace of the clocked run as a value change dump.
+    Wave {
+        /// The name of the file with the netlist.
+        net: Text,
+        /// The name of the file with the rows.
+        vec: Text,
+        /// The name of the file with the stations, as for `rate`.
+        stations: Option<Text>,
+        /// The number of cycles of the trace, 1 to 1,048,576.
+        trace: u64,
         /// The name of the model that is to be the root, as for `strict`.
         root: Option<Name>,
     },
@@ -85,27 +129,23 @@ fn make_job(
     command: Command,
     given: &ArgMatches<'_>,
 ) -> Result<Option<Job>, AllocError>
-    requires reach { option_fits (matches_in given.now) (codes "reach") ≡ true }
-    requires trace { option_fits (matches_in given.now) (codes "trace") ≡ true }
+    requires { list_all (option_fits (matches_in given.now)) option_names ≡ true }
     ensures made { IfOk result (λ job. job ≡ job_made command (matches_in given.now)) }
     ensures sound { IfOk result (λ job. IfSome job IsSound) }
 {
     match command {
         Command::Check => check_job(alloc, given),
         Command::Clock => clock_job(alloc, given),
+        Command::Gen => Ok(gen_job(given)),
         Command::Place => place_job(alloc, given),
         Command::Rate => rate_job(alloc, given),
         Command::Strict => strict_job(alloc, given),
+        Command::Unwave => unwave_job(alloc, given),
         Command::Verify => verify_job(alloc, given),
+        Command::Walk => walk_job(alloc, given),
+        Command::Wave => wave_job(alloc, given),
         // not built yet
-        Command::Walk
-        | Command::Free
-        | Command::Gen
-        | Command::Wave
-        | Command::Unwave
-        | Command::Emit
-        | Command::Slack
-        | Command::Size => Ok(None),
+        Command::Free | Command::Emit | Command::Slack | Command::Size => Ok(None),
     }
 }
 
@@ -135,8 +175,8 @@ fn given_job(alloc: Global, given: &ArgMatches<'_>) -> Result<Option<Job>, Alloc
     }
 }
 
-/// The job that the words after the program's name ask for; `None` where they are no job. The reach of
-/// a job is at least 1, and its trace has 1 to 1,048,576 cycles.
+/// The job that the words after the program's name ask for; `None` where they are no job. The numbers of
+/// a job are in their ranges.
 ///
 /// # Errors
 ///

@@ -12,6 +12,8 @@ pub const ROOT: &str = "root";
 pub const STALLS: &str = "stalls";
 /// The option with the file of the stations.
 pub const STATIONS: &str = "stations";
+/// The option with the file of the schedule.
+pub const SCHEDULE: &str = "schedule";
 /// The option with the file of the wires.
 pub const WIRES: &str = "wires";
 /// The option with the length that a signal comes in one clock cycle.
@@ -20,12 +22,16 @@ pub const REACH: &str = "reach";
 pub const WORKERS: &str = "workers";
 /// The option with the number of cycles of the trace.
 pub const TRACE: &str = "trace";
+/// The option with the number of shells.
+pub const SHELLS: &str = "shells";
+/// The option with the number of rows of a run.
+pub const RUN: &str = "run";
 /// The flag that asks for the tallies.
 pub const TALLY: &str = "tally";
 
 /// The options of all commands; each has one value.
 pub static OPTIONS: [&str; 11] = [
-    ROOT, STATIONS, STALLS, WORKERS, TRACE, "schedule", "rounds", WIRES, REACH, "shells", "run",
+    ROOT, STATIONS, STALLS, WORKERS, TRACE, SCHEDULE, "rounds", WIRES, REACH, SHELLS, RUN,
 ];
 
 /// A command of the table.
@@ -82,7 +88,7 @@ pub static FORMS: [Form; 14] = [
         Command::Walk,
         "walk",
         &["NET", "VEC"],
-        &["schedule"],
+        &[SCHEDULE],
         &[ROOT, STATIONS],
         false,
     ),
@@ -118,7 +124,7 @@ pub static FORMS: [Form; 14] = [
         &[ROOT],
         false,
     ),
-    (Command::Gen, "gen", &["SEED"], &["shells"], &["run"], false),
+    (Command::Gen, "gen", &["SEED"], &[SHELLS], &[RUN], false),
     (
         Command::Wave,
         "wave",
@@ -164,7 +170,7 @@ pub static RANGES: [Range; 7] = [
     ("rounds", 0, 1_000_000),
     (TRACE, 1, 1_048_576),
     (REACH, 1, 9_223_372_036_854_775_807),
-    ("shells", 0, 4_294_967_295),
-    ("run", 1, 1_000_000),
+    (SHELLS, 0, 4_294_967_295),
+    (RUN, 1, 1_000_000),
     ("SEED", 0, 18_446_744_073_709_551_615),
 ];

@@ -3,7 +3,7 @@ use Rattle.std.specs.Option.{IfSome}
 use Rattle.lid_base.proofs.Results.{if_ok}
 use Rattle.lid_cli.specs.declared.job.Job.{Job}
 use Rattle.lid_cli.specs.Jobs.{IsSound}
-use Rattle.lid_cli.proofs.Reaches.{reach_positive}
+use Rattle.lid_cli.proofs.Reaches.{reach_positive, trace_long, shells_few, run_sound}
 use Rattle.lid_cli.proofs.Clocks.{clock_sound}
 use Rattle.lid_cli.proofs.job.make_job.Goals as goal
 
@@ -14,10 +14,13 @@ pub returns-in-Check-clause-sound : goal.returns-in-Check-clause-sound
 returns-in-Check-clause-sound c = if_ok c.check_job.result (λ job e. same_job job _ tt e) c.check_job.ensures
 
 pub returns-in-Clock-clause-sound : goal.returns-in-Clock-clause-sound
-returns-in-Clock-clause-sound c = if_ok c.clock_job.result (λ job e. same_job job _ (clock_sound _ c.requires.trace) e) c.clock_job.ensures
+returns-in-Clock-clause-sound c = if_ok c.clock_job.result (λ job e. same_job job _ (clock_sound _ c.requires) e) c.clock_job.ensures
+
+pub returns-in-Gen-clause-sound : goal.returns-in-Gen-clause-sound
+returns-in-Gen-clause-sound c = same_job c.gen_job.result _ (shells_few _ c.requires, run_sound _ c.requires) c.gen_job.ensures
 
 pub returns-in-Place-clause-sound : goal.returns-in-Place-clause-sound
-returns-in-Place-clause-sound c = if_ok c.place_job.result (λ job e. same_job job _ (reach_positive _ c.requires.reach) e) c.place_job.ensures
+returns-in-Place-clause-sound c = if_ok c.place_job.result (λ job e. same_job job _ (reach_positive _ c.requires) e) c.place_job.ensures
 
 pub returns-in-Rate-clause-sound : goal.returns-in-Rate-clause-sound
 returns-in-Rate-clause-sound c = if_ok c.rate_job.result (λ job e. same_job job _ tt e) c.rate_job.ensures
@@ -27,3 +30,12 @@ returns-in-Strict-clause-sound c = if_ok c.strict_job.result (λ job e. same_job
 
 pub returns-in-Verify-clause-sound : goal.returns-in-Verify-clause-sound
 returns-in-Verify-clause-sound c = if_ok c.verify_job.result (λ job e. same_job job _ tt e) c.verify_job.ensures
+
+pub returns-in-Unwave-clause-sound : goal.returns-in-Unwave-clause-sound
+returns-in-Unwave-clause-sound c = if_ok c.unwave_job.result (λ job e. same_job job _ tt e) c.unwave_job.ensures
+
+pub returns-in-Walk-clause-sound : goal.returns-in-Walk-clause-sound
+returns-in-Walk-clause-sound c = if_ok c.walk_job.result (λ job e. same_job job _ tt e) c.walk_job.ensures
+
+pub returns-in-Wave-clause-sound : goal.returns-in-Wave-clause-sound
+returns-in-Wave-clause-sound c = if_ok c.wave_job.result (λ job e. same_job job _ (trace_long _ c.requires) e) c.wave_job.ensures
