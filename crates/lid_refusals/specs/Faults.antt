@@ -19,6 +19,12 @@ use Rattle.lid_certtext.specs.declared.fault.CertFault.{CertFault}
 use Rattle.lid_certtext.specs.declared.fault.CertFault.TheVariants as cert
 use Rattle.lid_reports.specs.declared.trace.TraceFault.{TraceFault}
 use Rattle.lid_reports.specs.declared.trace.TraceFault.TheVariants as trace
+use Rattle.lid_reports.specs.declared.schedule.SchedFault.{SchedFault}
+use Rattle.lid_reports.specs.declared.schedule.SchedFault.TheVariants as schedule
+use Rattle.lid_vcd.specs.declared.fault.VcdFault.{VcdFault}
+use Rattle.lid_vcd.specs.declared.fault.VcdFault.TheVariants as vcd
+use Rattle.lid_gen.specs.declared.fault.GenFault.{GenFault}
+use Rattle.lid_gen.specs.declared.fault.GenFault.TheVariants as gen
 use Rattle.lid_io.specs.Telling.{fault_line, path_text}
 
 abbrev pub which_word : Which → List ℕ
@@ -128,6 +134,21 @@ cert_words (cert.Word line) = at_line (codes "Word") line
 cert_words (cert.Limit which count) = over_limit which count
 cert_words cert.Memory = []
 
+abbrev pub schedule_words : SchedFault → List (List ℕ)
+schedule_words (schedule.Word line) = at_line (codes "Word") line
+schedule_words (schedule.NoActor line) = at_line (codes "NoActor") line
+schedule_words (schedule.Limit which count) = over_limit which count
+schedule_words schedule.Memory = []
+
+abbrev pub vcd_words : VcdFault → List (List ℕ)
+vcd_words (vcd.Word line) = at_line (codes "Word") line
+vcd_words (vcd.Limit which count) = over_limit which count
+vcd_words vcd.Memory = []
+
+abbrev pub gen_words : GenFault → List (List ℕ)
+gen_words (gen.Size shells) = codes "Size" ∷ decimal shells ∷ []
+gen_words gen.Memory = []
+
 abbrev pub trace_words : TraceFault → List (List ℕ)
 trace_words (trace.Limit which count) = over_limit which count
 
@@ -153,6 +174,15 @@ cert_line fault = fault_line (codes "cert" ∷ cert_words fault)
 
 abbrev pub trace_line : TraceFault → List ℕ
 trace_line fault = fault_line (codes "trace" ∷ trace_words fault)
+
+abbrev pub schedule_line : SchedFault → List ℕ
+schedule_line fault = fault_line (codes "schedule" ∷ schedule_words fault)
+
+abbrev pub vcd_line : VcdFault → List ℕ
+vcd_line fault = fault_line (codes "vcd" ∷ vcd_words fault)
+
+abbrev pub gen_line : GenFault → List ℕ
+gen_line fault = fault_line (codes "gen" ∷ gen_words fault)
 
 -- status 2
 abbrev pub usage_line : List ℕ

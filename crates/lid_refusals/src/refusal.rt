@@ -7,18 +7,20 @@ ghost use Rattle.lid_refusals.specs.Saying.{Says};
 
 use crate::saying::{say, say_told};
 use crate::told::{
-    told_of_blif, told_of_cert, told_of_check, told_of_net, told_of_place, told_of_rows,
-    told_of_trace,
+    told_of_blif, told_of_cert, told_of_check, told_of_dump, told_of_gen, told_of_net,
+    told_of_place, told_of_rows, told_of_schedule, told_of_trace,
 };
 use lid_base::Sink;
 use lid_blif::BlifFault;
 use lid_certtext::CertFault;
 use lid_channels::NetFault;
+use lid_gen::GenFault;
 use lid_io::Word;
 use lid_placetext::PlaceFault;
-use lid_reports::TraceFault;
+use lid_reports::{SchedFault, TraceFault};
 use lid_rules::CheckFault;
 use lid_texts::VecFault;
+use lid_vcd::VcdFault;
 
 /// Why a reading, a check or a limit refuses.
 #[derive(Drop)]
@@ -30,6 +32,9 @@ pub enum Refusal {
     Stations(PlaceFault),
     Cert(CertFault),
     Trace(TraceFault),
+    Schedule(SchedFault),
+    Vcd(VcdFault),
+    Gen(GenFault),
 }
 
 /// Says the line of a refusal.
@@ -44,6 +49,9 @@ pub fn say_refusal<E: Sink>(err: &mut E, refusal: &Refusal)
         Refusal::Stations(fault) => say_told(err, "stations", told_of_place(*fault)),
         Refusal::Cert(fault) => say_told(err, "cert", told_of_cert(*fault)),
         Refusal::Trace(fault) => say_told(err, "trace", told_of_trace(*fault)),
+        Refusal::Schedule(fault) => say_told(err, "schedule", told_of_schedule(*fault)),
+        Refusal::Vcd(fault) => say_told(err, "vcd", told_of_dump(*fault)),
+        Refusal::Gen(fault) => say_told(err, "gen", told_of_gen(*fault)),
     }
 }
 

@@ -1,17 +1,19 @@
 //! What a refusal tells: its name and its fields, as the words of one line.
 
 ghost use Rattle.std.specs.Prelude.{◌≡◌, true};
-ghost use Rattle.lid_refusals.specs.Faults.{text_words, blif_words, rows_words, net_words, place_words, cert_words, trace_words, is_at_inst, check_words};
+ghost use Rattle.lid_refusals.specs.Faults.{text_words, blif_words, rows_words, net_words, place_words, cert_words, trace_words, schedule_words, vcd_words, gen_words, is_at_inst, check_words};
 ghost use Rattle.lid_refusals.specs.Told.{told_words};
 
 use lid_base::{Items, Name, TextFault, Which};
 use lid_blif::BlifFault;
 use lid_certtext::CertFault;
 use lid_channels::NetFault;
+use lid_gen::GenFault;
 use lid_placetext::PlaceFault;
-use lid_reports::TraceFault;
+use lid_reports::{SchedFault, TraceFault};
 use lid_rules::CheckFault;
 use lid_texts::VecFault;
+use lid_vcd::VcdFault;
 
 /// A refusal by its name and its fields.
 #[derive(Clone, Copy)]
@@ -122,6 +124,39 @@ pub fn told_of_cert(fault: CertFault) -> Told<'static>
         CertFault::Word { line } => Told::At("Word", line),
         CertFault::Limit { which, count } => Told::Over(which, count),
         CertFault::Memory => Told::Nothing,
+    }
+}
+
+/// What a refusal of a schedule tells.
+pub fn told_of_schedule(fault: SchedFault) -> Told<'static>
+    ensures { told_words result ≡ schedule_words fault }
+{
+    match fault {
+        SchedFault::Word { line } => Told::At("Word", line),
+        SchedFault::NoActor { line } => Told::At("NoActor", line),
+        SchedFault::Limit { which, count } => Told::Over(which, count),
+        SchedFault::Memory => Told::Nothing,
+    }
+}
+
+/// What a refusal of a value change dump tells.
+pub fn told_of_dump(fault: VcdFault) -> Told<'static>
+    ensures { told_words result ≡ vcd_words fault }
+{
+    match fault {
+        VcdFault::Word { line } => Told::At("Word", line),
+        VcdFault::Limit { which, count } => Told::Over(which, count),
+        VcdFault::Memory => Told::Nothing,
+    }
+}
+
+/// What a refusal of a generated design tells.
+pub fn told_of_gen(fault: GenFault) -> Told<'static>
+    ensures { told_words result ≡ gen_words fault }
+{
+    match fault {
+        GenFault::Size { shells } => Told::Many("Size", u64::from(shells)),
+        GenFault::Memory => Told::Nothing,
     }
 }
 

@@ -1,7 +1,7 @@
 -- Why a run does not end with its whole output: the cause that a value of the program tells.
 use Rattle.std.specs.Prelude.{◌≡◌, ◌⊎◌, ℕ, List, Option, Some, None}
 use Rattle.lid_base.specs.Outside.{Rose}
-use Rattle.lid_refusals.specs.declared.refusal.Refusal.TheVariants.{Blif, Check, Net, Rows, Stations, Cert}
+use Rattle.lid_refusals.specs.declared.refusal.Refusal.TheVariants.{Blif, Check, Net, Rows, Stations, Cert, Schedule, Vcd, Gen}
 use Rattle.lid_script.specs.declared.fault.Stop.{Stop}
 use Rattle.lid_script.specs.declared.fault.Stop.TheVariants.{Refused, Read, Memory, Denied}
 use Rattle.lid_script.specs.declared.fault.End.{End}
@@ -22,6 +22,12 @@ use Rattle.lid_placetext.specs.declared.fault.PlaceFault.{PlaceFault}
 use Rattle.lid_placetext.specs.declared.fault.PlaceFault.TheVariants as place
 use Rattle.lid_certtext.specs.declared.fault.CertFault.{CertFault}
 use Rattle.lid_certtext.specs.declared.fault.CertFault.TheVariants as cert
+use Rattle.lid_reports.specs.declared.schedule.SchedFault.{SchedFault}
+use Rattle.lid_reports.specs.declared.schedule.SchedFault.TheVariants as schedule
+use Rattle.lid_vcd.specs.declared.fault.VcdFault.{VcdFault}
+use Rattle.lid_vcd.specs.declared.fault.VcdFault.TheVariants as vcd
+use Rattle.lid_gen.specs.declared.fault.GenFault.{GenFault}
+use Rattle.lid_gen.specs.declared.fault.GenFault.TheVariants as gen
 use Rattle.lid_refusals.specs.Faults.{read_line, write_line, memory_line, denied_line}
 use Rattle.lid_refusals.specs.Refusals.{refusal_line}
 use Rattle.lid_script.specs.Scripts.{refuses, denies, Script, Reading, good, bad, net_limit, net_reading, text_limit, stations_read, links, IsFetched, IsChecked, IsUnchecked, HasChannels, IsOverfull, EndsIn, Reaches}
@@ -50,6 +56,18 @@ stop_of_place fault = Refused (Stations fault)
 abbrev pub stop_of_cert : CertFault → Stop
 stop_of_cert cert.Memory = Memory
 stop_of_cert fault = Refused (Cert fault)
+
+abbrev pub stop_of_schedule : SchedFault → Stop
+stop_of_schedule schedule.Memory = Memory
+stop_of_schedule fault = Refused (Schedule fault)
+
+abbrev pub stop_of_dump : VcdFault → Stop
+stop_of_dump vcd.Memory = Memory
+stop_of_dump fault = Refused (Vcd fault)
+
+abbrev pub stop_of_gen : GenFault → Stop
+stop_of_gen gen.Memory = Memory
+stop_of_gen fault = Refused (Gen fault)
 
 -- only memory was wanting
 abbrev pub IsWant : Stop → Type 0

@@ -1,5 +1,8 @@
 pub mod Causes
 pub mod Clocked
+pub mod Walked
+pub mod Waved
+pub mod Generated
 pub mod Early
 pub mod Outputs
 pub mod Scripts

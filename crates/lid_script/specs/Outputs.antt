@@ -15,8 +15,14 @@ use Rattle.lid_stations.specs.Placements.{Links}
 use Rattle.lid_stations.specs.Markings.{marking}
 use Rattle.lid_placetext.specs.Written.{stations_text}
 use Rattle.lid_reports.specs.declared.report.ChannelLine.{ChannelLine}
-use Rattle.lid_reports.specs.Runs.{report_text}
+use Rattle.lid_reports.specs.Runs.{report_text, trace_text}
+use Rattle.lid_reports.specs.declared.trace.Trace.{Trace}
+use Rattle.lid_blifout.specs.Canonical.{canonical_text}
+use Rattle.lid_gen.specs.Designs.{generated}
 use Rattle.lid_script.specs.Clocked.{IsClockText}
+use Rattle.lid_script.specs.Walked.{IsWalkText}
+use Rattle.lid_script.specs.Waved.{IsWaveText}
+use Rattle.lid_script.specs.Generated.{IsSummaryText}
 
 -- what a command tells
 pub data Output : Type 0 where
@@ -26,6 +32,11 @@ pub data Output : Type 0 where
   throughput : Links → Placement → Output  -- the throughput of a placement
   verdict : Links → Cert → Output  -- what a certificate shows
   clocked : Design → Links → Placement → List (List Bool) → Option ℕ → Output  -- the clocked run for rows, with its trace where one is asked for
+  walked : Design → Links → Placement → List (List Bool) → List ℕ → Output  -- the walk along a schedule for rows
+  waved : Design → Links → Placement → List (List Bool) → ℕ → Output  -- the trace of the clocked run for rows, of so many cycles, as a dump
+  unwaved : Trace → Output  -- the trace that a dump shows
+  design_of_seed : ℕ → ℕ → Output  -- the design of a seed with so many shells
+  run_of_seed : ℕ → ℕ → ℕ → Output  -- what its clocked run of so many rows shows
 
 -- `strict` writes the strict output rows. There is a strict table, and every one gives these bits
 pub record IsStrictText (d : Design) (rows : List (List Bool)) (text : List ℕ) : Type 0 where
@@ -61,3 +72,8 @@ IsTextOf (placed l p) text = text ≡ stations_text l p
 IsTextOf (throughput l p) text = IsRateText (marking l p) text
 IsTextOf (verdict l cert) text = text ≡ verdict_text cert (l.nodes - 1)
 IsTextOf (clocked d l p rows trace) text = IsClockText d l p rows trace text
+IsTextOf (walked d l p rows schedule) text = IsWalkText d l p rows schedule text
+IsTextOf (waved d l p rows most) text = IsWaveText d l p rows most text
+IsTextOf (unwaved trace) text = text ≡ trace_text trace
+IsTextOf (design_of_seed seed shells) text = text ≡ canonical_text (generated seed shells)
+IsTextOf (run_of_seed seed shells rows) text = IsSummaryText seed shells rows text

@@ -21,18 +21,26 @@ use Rattle.lid_certtext.specs.Texts.{cert_of, cert_fault}
 use Rattle.lid_certtext.specs.declared.fault.CertFault.{CertFault}
 use Rattle.lid_stations.specs.declared.placement.Placement.{Placement}
 use Rattle.lid_stations.specs.Placements.{Links, no_relays, station_count}
+use Rattle.lid_stations.specs.Stations.{actor_count}
 use Rattle.lid_stations.specs.Markings.{marking}
 use Rattle.lid_placetext.specs.declared.fault.PlaceFault.{PlaceFault}
 use Rattle.lid_placetext.specs.Readings.{stations_reading, wires_reading}
 use Rattle.lid_reports.specs.declared.trace.TraceFault.TheVariants as trace
+use Rattle.lid_reports.specs.declared.schedule.SchedFault.{SchedFault}
+use Rattle.lid_reports.specs.Schedules.{schedule_reading}
 use Rattle.lid_texts.specs.declared.rows.Rows.{Rows}
 use Rattle.lid_texts.specs.declared.rows.VecFault.{VecFault}
 use Rattle.lid_texts.specs.declared.rows.VecFault.TheVariants.{Changed}
 use Rattle.lid_texts.specs.Rows.{rows_reading}
+use Rattle.lid_reports.specs.declared.trace.Trace.{Trace}
+use Rattle.lid_vcd.specs.declared.fault.VcdFault.{VcdFault}
+use Rattle.lid_vcd.specs.Reading.{wave_reading}
+use Rattle.lid_gen.specs.declared.fault.GenFault.{GenFault}
+use Rattle.lid_gen.specs.Designs.{size_fault}
 use Rattle.lid_cli.specs.declared.job.Job.{Job}
-use Rattle.lid_cli.specs.declared.job.Job.TheVariants.{Check, Clock, Place, Rate, Strict, Verify}
-use Rattle.lid_refusals.specs.Faults.{blif_line, rows_line, check_line, net_line, stations_line, cert_line, trace_line}
-use Rattle.lid_script.specs.Outputs.{Output, report, strict_output, placed, throughput, verdict, clocked}
+use Rattle.lid_cli.specs.declared.job.Job.TheVariants.{Check, Clock, Gen, Place, Rate, Strict, Unwave, Verify, Walk, Wave}
+use Rattle.lid_refusals.specs.Faults.{blif_line, rows_line, check_line, net_line, stations_line, cert_line, trace_line, schedule_line, vcd_line, gen_line}
+use Rattle.lid_script.specs.Outputs.{Output, report, strict_output, placed, throughput, verdict, clocked, walked, waved, unwaved, design_of_seed, run_of_seed}
 
 -- what a reading makes of a value
 pub data Reading (A : Type 0) : Type 0 where
@@ -288,6 +296,78 @@ built_script d vec stations trace = net_step d (λ channels. placed_script d (li
 unfoldable pub clock_script : List ℕ → List ℕ → Option (List ℕ) → Option ℕ → Option (List ℕ) → Script
 clock_script net vec stations trace root = read_step net net_limit net_reading (λ d. check_step root d (λ checked. built_script checked vec stations trace))
 
+abbrev pub schedule_good : Result (List ℕ) SchedFault → Reading (List ℕ)
+schedule_good (Ok schedule) = good schedule
+schedule_good (Err fault) = bad (schedule_line fault)
+
+-- the schedule that a text stands for, for so many actors
+unfoldable pub schedule_read : ℕ → List ℕ → Reading (List ℕ)
+schedule_read actors bytes = schedule_good (schedule_reading actors bytes)
+
+-- `walk` of a system with such a placement for these rows: the schedule is fetched and read
+unfoldable pub schedule_script : Design → Links → Placement → List ℕ → List (List Bool) → Script
+schedule_script d l p schedule rows = read_step schedule text_limit (schedule_read (actor_count l p)) (λ actors. end (gives (walked d l p rows actors)))
+
+-- `walk` of a system with such a placement: the rows are fetched and read
+unfoldable pub walked_script : Design → Links → Placement → List ℕ → List ℕ → Script
+walked_script d l p vec schedule = read_step vec rows_limit (vec_reading d) (schedule_script d l p schedule)
+
+-- `walk` of an accepted design: its system is built, and the stations are read
+unfoldable pub walking_script : Design → List ℕ → List ℕ → Option (List ℕ) → Script
+walking_script d vec schedule stations =
+    net_step d (λ channels. placement_step (links d channels) stations (λ p. walked_script d (links d channels) p vec schedule))
+
+-- `walk`: the netlist is read and checked, and its system built, then the stations are read, then the rows, and then
+-- the schedule
+unfoldable pub walk_script : List ℕ → List ℕ → List ℕ → Option (List ℕ) → Option (List ℕ) → Script
+walk_script net vec schedule stations root = read_step net net_limit net_reading (λ d. check_step root d (λ checked. walking_script checked vec schedule stations))
+
+-- `wave` of a system with such a placement whose rows were read: the trace is judged
+unfoldable pub waving_script : Design → Links → Placement → ℕ → List (List Bool) → Script
+waving_script d l p cycles rows = step (trace_read p (Some cycles)) (λ _. end (gives (waved d l p rows cycles)))
+
+-- `wave` of an accepted design: its system is built, the stations are read, and then the rows
+unfoldable pub waved_script : Design → List ℕ → Option (List ℕ) → ℕ → Script
+waved_script d vec stations cycles =
+    net_step d (λ channels. placement_step (links d channels) stations (λ p. read_step vec rows_limit (vec_reading d) (waving_script d (links d channels) p cycles)))
+
+-- `wave`: the steps of `clock`, with the rows held
+unfoldable pub wave_script : List ℕ → List ℕ → Option (List ℕ) → ℕ → Option (List ℕ) → Script
+wave_script net vec stations cycles root = read_step net net_limit net_reading (λ d. check_step root d (λ checked. waved_script checked vec stations cycles))
+
+abbrev pub dump_good : Result Trace VcdFault → Reading Trace
+dump_good (Ok trace) = good trace
+dump_good (Err fault) = bad (vcd_line fault)
+
+-- the trace that a dump stands for
+unfoldable pub dump_read : List ℕ → Reading Trace
+dump_read bytes = dump_good (wave_reading bytes)
+
+-- the greatest size of a value change dump
+abbrev pub dump_limit : ℕ
+dump_limit = 67108864
+
+-- `unwave`: the dump is fetched and read
+unfoldable pub unwave_script : List ℕ → Script
+unwave_script file = read_step file dump_limit dump_read (λ trace. end (gives (unwaved trace)))
+
+abbrev pub size_good : Option GenFault → Reading (Unit {0})
+size_good None = good tt
+size_good (Some fault) = bad (gen_line fault)
+
+-- whether so many shells may be generated
+unfoldable pub size_read : ℕ → Reading (Unit {0})
+size_read shells = size_good (size_fault shells)
+
+-- the output of `gen`, by whether a run is asked for
+abbrev pub generating : ℕ → ℕ → Option ℕ → Output
+generating seed shells None = design_of_seed seed shells
+generating seed shells (Some rows) = run_of_seed seed shells rows
+
+-- `gen`: the size is judged, and then it runs
+unfoldable pub gen_script : ℕ → ℕ → Option ℕ → Script
+gen_script seed shells run = step (size_read shells) (λ _. end (gives (generating seed shells run)))
+
 -- the steps of a job
 abbrev pub script_of : Job → Script
 script_of (Check net root) = check_script net root
@@ -296,6 +376,10 @@ script_of (Place net wires reach root) = place_script net wires reach root
 script_of (Rate net stations root) = rate_script net stations root
 script_of (Strict net vec root) = strict_script net vec root
 script_of (Verify net cert stations root) = verify_script net cert stations root
+script_of (Walk net vec schedule stations root) = walk_script net vec schedule stations root
+script_of (Wave net vec stations trace root) = wave_script net vec stations trace root
+script_of (Unwave file) = unwave_script file
+script_of (Gen seed shells run) = gen_script seed shells run
 
 -- the script ends so for some bytes of its files, those told where they are told
 abbrev pub EndsIn : (List ℕ → Option (List ℕ)) → Script → Ending → Type 0

@@ -1,15 +1,17 @@
 //! Why a job does not end with its whole output.
 
 ghost use Rattle.std.specs.Prelude.{◌≡◌};
-ghost use Rattle.lid_script.specs.Causes.{stop_of_blif, stop_of_rows, stop_of_check, stop_of_net, stop_of_place, stop_of_cert};
+ghost use Rattle.lid_script.specs.Causes.{stop_of_blif, stop_of_rows, stop_of_check, stop_of_net, stop_of_place, stop_of_cert, stop_of_schedule, stop_of_dump, stop_of_gen};
 
 use lid_blif::BlifFault;
 use lid_certtext::CertFault;
 use lid_check::CheckFault;
+use lid_gen::GenFault;
 use lid_net::NetFault;
 use lid_placetext::PlaceFault;
 use lid_refusals::Refusal;
-use lid_texts::VecFault;
+use lid_texts::{SchedFault, VecFault};
+use lid_vcd::VcdFault;
 
 /// Why the output of a job is not known.
 #[derive(Drop)]
@@ -88,5 +90,35 @@ pub fn cert_stop<'a>(fault: CertFault) -> Stop<'a>
     match fault {
         CertFault::Memory => Stop::Memory,
         _ => Stop::Refused(Refusal::Cert(fault)),
+    }
+}
+
+/// Why a text gives no schedule.
+pub fn schedule_stop<'a>(fault: SchedFault) -> Stop<'a>
+    ensures { result ≡ stop_of_schedule fault }
+{
+    match fault {
+        SchedFault::Memory => Stop::Memory,
+        _ => Stop::Refused(Refusal::Schedule(fault)),
+    }
+}
+
+/// Why a dump gives no trace.
+pub fn dump_stop<'a>(fault: VcdFault) -> Stop<'a>
+    ensures { result ≡ stop_of_dump fault }
+{
+    match fault {
+        VcdFault::Memory => Stop::Memory,
+        _ => Stop::Refused(Refusal::Vcd(fault)),
+    }
+}
+
+/// Why there is no generated design.
+pub fn gen_stop<'a>(fault: GenFault) -> Stop<'a>
+    ensures { result ≡ stop_of_gen fault }
+{
+    match fault {
+        GenFault::Memory => Stop::Memory,
+        _ => Stop::Refused(Refusal::Gen(fault)),
     }
 }
