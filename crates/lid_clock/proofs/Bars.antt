@@ -12,7 +12,7 @@ use Rattle.lid_clock.specs.Rings.{IsAt, OneIsEmpty, OneIsFull}
 use Rattle.lid_clock.specs.Actors.{SeesStations, SeesNoBar, SeesBar}
 use Rattle.lid_clock.specs.Lives.{Life, fired_after}
 use Rattle.lid_clock.specs.States.{ins_of, outs_of, put_after, taken_after, stations_of, IsStation, AreStations, IsActor}
-use Rattle.lid_clock.proofs.Ends.{drained_is, filled_is, drained_there, filled_there}
+use Rattle.lid_runs.proofs.Ends.{drained_is, filled_is, drained_there, filled_there}
 
 -- an element stands at each place of a list
 pub element : {X : Type 0} (xs : List X) (i : ℕ) → i < length xs → (x : X) × (slice_get xs i ≡ Some x)

@@ -1,6 +1,4 @@
 pub mod Elements
-pub mod Filters
-pub mod Ends
 pub mod Bars
 pub mod Tokens
 pub mod Made

@@ -13,7 +13,7 @@ use Rattle.lid_clock.specs.Rules.{RunsGoByRules}
 use Rattle.lid_clock.specs.Lives.{Life, fired_after, sink, NeedsRow}
 use Rattle.lid_clock.specs.Parts.{Passes, row_of}
 use Rattle.lid_clock.specs.States.{outs_of, token_of_life, put_after, actors_of, HoldsLast, IsPart, MayBegin}
-use Rattle.lid_clock.proofs.Ends.{filled_is}
+use Rattle.lid_runs.proofs.Ends.{filled_is}
 use Rattle.lid_clock.proofs.Tokens.{tokens_in, offers, node_next, mover_next, sink_fills_none, node_takes, node_puts, mover_puts}
 use mathlib.Core.Logic.{dite}
 use native.Mathlib.Decide.{ℕ_discrete}

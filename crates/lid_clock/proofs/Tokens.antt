@@ -13,7 +13,7 @@ use Rattle.lid_clock.specs.Rings.{token_in, IsAt, AllHold, AreOldest}
 use Rattle.lid_clock.specs.Rules.{RunsGoByRules}
 use Rattle.lid_clock.specs.Lives.{Life, IsLife, fired_after}
 use Rattle.lid_clock.specs.States.{ins_of, outs_of, token_of_life, put_after, taken_after, stations_of, actors_of, IsStation, AreStations, IsActor}
-use Rattle.lid_clock.proofs.Ends.{drained_is, filled_is}
+use Rattle.lid_runs.proofs.Ends.{drained_is, filled_is}
 use Rattle.lid_clock.proofs.Bars.{at_station, stands}
 
 -- the tokens of a number of the stations that an actor drains, and of those that it fills

@@ -9,6 +9,7 @@ use Rattle.std.specs.Prelude.{◌≡◌, ℕ, zero, suc, ◌+◌, ◌-◌, ◌<�
 use Rattle.lid_base.specs.declared.runs.Answer.{Answer}
 use Rattle.lid_base.specs.declared.runs.Answer.TheVariants as answer
 use Rattle.lid_station.specs.Words.{word, word_number}
+use Rattle.lid_runs.specs.Runs.{place_in}
 use Rattle.lid_machine.specs.Plans.{Plan, actors_of, ins_of, outs_of, drainer_of, filler_of, cap, start_of, room_of, stream}
 
 -- how far an actor is: how often it has fired, and its position in the firing that it has begun, 0 at rest
@@ -119,11 +120,6 @@ taken_by m v q i =
 abbrev pub put_by : Plan → ℕ → Progress → ℕ → ℕ
 put_by m v q j =
     q.fired + (if nat_lt (puts_from (length (ins_of m v)) (length (outs_of m v)) + j) q.position then 1 else 0)
-
--- the first place of a number in a list
-abbrev pub place_in : List ℕ → ℕ → ℕ
-place_in [] x = 0
-place_in (y ∷ ys) x = if y == x then 0 else suc (place_in ys x)
 
 -- how many tokens were taken from a station, and how many were put in it, those that it started with included
 abbrev pub out_count : Plan → State → ℕ → ℕ

@@ -21,8 +21,8 @@ use Rattle.lid_reports.specs.declared.trace.TraceFault.{TraceFault}
 use Rattle.lid_reports.specs.declared.trace.TraceFault.TheVariants as trace
 use Rattle.lid_reports.specs.declared.schedule.SchedFault.{SchedFault}
 use Rattle.lid_reports.specs.declared.schedule.SchedFault.TheVariants as schedule
-use Rattle.lid_vcd.specs.declared.fault.VcdFault.{VcdFault}
-use Rattle.lid_vcd.specs.declared.fault.VcdFault.TheVariants as vcd
+use Rattle.lid_vcd.specs.declared.reader.VcdFault.{VcdFault}
+use Rattle.lid_vcd.specs.declared.reader.VcdFault.TheVariants as vcd
 use Rattle.lid_gen.specs.declared.fault.GenFault.{GenFault}
 use Rattle.lid_gen.specs.declared.fault.GenFault.TheVariants as gen
 use Rattle.lid_io.specs.Telling.{fault_line, path_text}

@@ -3,3 +3,5 @@ pub mod Turns
 pub mod Ending
 pub mod Passing
 pub mod Channels
+pub mod Filters
+pub mod Ends

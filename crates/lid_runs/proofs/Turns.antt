@@ -58,11 +58,11 @@ module _ (s : System) (p : Placement) (well : IsWellFormed s) (fits : Fits s p) 
         by_least (inr a) = omega (arith, a.is, each_edge s p (Allows counts v (counts v + 1)) along backward self a.edge a.within a.ends)
 
     -- a station that v drains lets it come to no more than was put
-    drains_no_more : (station : ℕ) → station < station_count p.relays → drainer (links_of s) p station ≡ v → now ≤ counts (filler (links_of s) p station) + start_count p station
+    pub drains_no_more : (station : ℕ) → station < station_count p.relays → drainer (links_of s) p station ≡ v → now ≤ counts (filler (links_of s) p station) + start_count p station
     drains_no_more station h is = subst (λ (e : Edge). e.to ≡ v → now ≤ counts e.from + e.tokens) (forth_at s p station h) (least_into_edge g.edges counts v (cap v) (station + station) (omega (arith, edges_long s p))) is
 
     -- one that it fills, to no more than was taken and has room
-    fills_no_more : (station : ℕ) → station < station_count p.relays → filler (links_of s) p station ≡ v → now ≤ counts (drainer (links_of s) p station) + (capacity p station - start_count p station)
+    pub fills_no_more : (station : ℕ) → station < station_count p.relays → filler (links_of s) p station ≡ v → now ≤ counts (drainer (links_of s) p station) + (capacity p station - start_count p station)
     fills_no_more station h is = subst (λ (e : Edge). e.to ≡ v → now ≤ counts e.from + e.tokens) (back_at s p station h) (least_into_edge g.edges counts v (cap v) (suc (station + station)) (omega (arith, edges_long s p))) is
 
     -- an actor that may not fire has no more turns
@@ -82,7 +82,7 @@ module _ (s : System) (p : Placement) (well : IsWellFormed s) (fits : Fits s p) 
     fired = fired_in (links_of s) p rows held k
 
     -- in a cycle in which it is not held, an actor comes to what the edges into it allow
-    comes_to : (v : ℕ) → held k v ≡ false → fired_in (links_of s) p rows held (suc k) v ≡ least_into g.edges fired v (cap v)
+    pub comes_to : (v : ℕ) → held k v ≡ false → fired_in (links_of s) p rows held (suc k) v ≡ least_into g.edges fired v (cap v)
     unfolding firings
     comes_to v free = ap (λ (b : Bool). cond b (fired v) (least_into g.edges fired v (cap v))) free
 

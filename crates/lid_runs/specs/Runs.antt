@@ -1,6 +1,6 @@
 -- What all runs of a system with its stations share: how often an actor fires at most, the stations of each
 -- actor, and which token a station is passed as which.
-use Rattle.std.specs.Prelude.{ℕ, ◌+◌, ◌-◌, ◌*◌, ◌≤◌, ◌==◌, min, nat_lt, if◌then◌else◌, List, filter}
+use Rattle.std.specs.Prelude.{ℕ, suc, ◌+◌, ◌-◌, ◌*◌, ◌≤◌, ◌==◌, min, nat_lt, if◌then◌else◌, List, [], ◌∷◌, filter}
 use Rattle.std.specs.Int.{div_ceil}
 use Rattle.lid_design.specs.Network.{Table, from_each}
 use Rattle.lid_graph.specs.Firings.{Counts, Hold, firings}
@@ -33,6 +33,11 @@ drained_by l p v = filter (λ station. drainer l p station == v) (from_each (λ 
 -- the stations that an actor fills, in order
 abbrev pub filled_by : Links → Placement → ℕ → List ℕ
 filled_by l p v = filter (λ station. filler l p station == v) (from_each (λ station. station) 0 (station_count p.relays))
+
+-- the first place of a number in a list
+abbrev pub place_in : List ℕ → ℕ → ℕ
+place_in [] x = 0
+place_in (y ∷ ys) x = if y == x then 0 else suc (place_in ys x)
 
 -- token number i of a station: the token of row i of its channel
 abbrev pub token_of : System → Placement → Table Point → ℕ → ℕ → ℕ

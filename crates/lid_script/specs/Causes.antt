@@ -24,8 +24,8 @@ use Rattle.lid_certtext.specs.declared.fault.CertFault.{CertFault}
 use Rattle.lid_certtext.specs.declared.fault.CertFault.TheVariants as cert
 use Rattle.lid_reports.specs.declared.schedule.SchedFault.{SchedFault}
 use Rattle.lid_reports.specs.declared.schedule.SchedFault.TheVariants as schedule
-use Rattle.lid_vcd.specs.declared.fault.VcdFault.{VcdFault}
-use Rattle.lid_vcd.specs.declared.fault.VcdFault.TheVariants as vcd
+use Rattle.lid_vcd.specs.declared.reader.VcdFault.{VcdFault}
+use Rattle.lid_vcd.specs.declared.reader.VcdFault.TheVariants as vcd
 use Rattle.lid_gen.specs.declared.fault.GenFault.{GenFault}
 use Rattle.lid_gen.specs.declared.fault.GenFault.TheVariants as gen
 use Rattle.lid_refusals.specs.Faults.{read_line, write_line, memory_line, denied_line}

@@ -33,7 +33,7 @@ use Rattle.lid_texts.specs.declared.rows.VecFault.{VecFault}
 use Rattle.lid_texts.specs.declared.rows.VecFault.TheVariants.{Changed}
 use Rattle.lid_texts.specs.Rows.{rows_reading}
 use Rattle.lid_reports.specs.declared.trace.Trace.{Trace}
-use Rattle.lid_vcd.specs.declared.fault.VcdFault.{VcdFault}
+use Rattle.lid_vcd.specs.declared.reader.VcdFault.{VcdFault}
 use Rattle.lid_vcd.specs.Reading.{wave_reading}
 use Rattle.lid_gen.specs.declared.fault.GenFault.{GenFault}
 use Rattle.lid_gen.specs.Designs.{size_fault}

@@ -6,7 +6,7 @@ use Rattle.lid_stations.specs.declared.placement.Placement.{Placement}
 use Rattle.lid_stations.specs.Placements.{Links, station_count}
 use Rattle.lid_stations.specs.Stations.{filler, drainer}
 use Rattle.lid_runs.specs.Runs.{drained_by, filled_by}
-use Rattle.lid_clock.proofs.Filters.{each_passes, each_has_a_place}
+use Rattle.lid_runs.proofs.Filters.{each_passes, each_has_a_place}
 
 -- a station that an actor drains
 pub drained_is : (l : Links) (p : Placement) (v i station : ℕ) → slice_get (drained_by l p v) i ≡ Some station → (station < station_count p.relays) × (drainer l p station ≡ v)

@@ -1,8 +1,9 @@
 -- The numbers of a range that pass a test.
-use Rattle.std.proofs.Common.{◌≡◌, ℕ, zero, suc, ◌+◌, ◌<◌, ◌≤◌, Bool, true, false, cond, List, ◌∷◌, refl, sym, ap, subst, arith}
+use Rattle.std.proofs.Common.{◌≡◌, ℕ, zero, suc, ◌+◌, ◌<◌, ◌≤◌, Bool, true, false, cond, List, ◌∷◌, refl, sym, ap, subst, arith, eq-eqb, ne_eqb}
 use Rattle.std.specs.Prelude.{Some, slice_get, filter}
 use Rattle.std.proofs.lemmas.Option.{same_Some}
 use Rattle.lid_design.specs.Network.{from_each}
+use Rattle.lid_runs.specs.Runs.{place_in}
 use mathlib.Core.Logic.{dite}
 use native.Mathlib.Decide.{ℕ_discrete}
 
@@ -56,3 +57,19 @@ each_has_a_place f first (suc n) x from to passes =
     let whole : HasPlace (cond true (first ∷ passing f (first + 1) n) (passing f (first + 1) n)) x = (0, ap (λ (y : ℕ). Some y) (sym same)) in
     subst (λ (b : Bool). HasPlace (cond b (first ∷ passing f (first + 1) n) (passing f (first + 1) n)) x) (sym here) whole)
     (λ other. behind (f first) first (passing f (first + 1) n) x (each_has_a_place f (first + 1) n x (omega arith) (omega arith) passes))
+
+-- no number that passes stands twice among them: its first place is its place
+one_place : (f : ℕ → Bool) (first n : ℕ) (b : Bool)
+    → ((i x : ℕ) → slice_get (passing f (first + 1) n) i ≡ Some x → place_in (passing f (first + 1) n) x ≡ i)
+    → (i x : ℕ) → slice_get (cond b (first ∷ passing f (first + 1) n) (passing f (first + 1) n)) i ≡ Some x
+    → place_in (cond b (first ∷ passing f (first + 1) n) (passing f (first + 1) n)) x ≡ i
+one_place f first n true more zero x h =
+    rw (eq-eqb first x (same_Some first x h)) refl
+one_place f first n true more (suc i) x h =
+    let low : first + 1 ≤ x = (each_passes f (first + 1) n i x h).from in
+    rw (ne_eqb first x (λ same. omega (arith, low, same))) (ap suc (more i x h))
+one_place f first n false more i x h = more i x h
+
+pub place_of_passing : (f : ℕ → Bool) (first n i x : ℕ) → slice_get (passing f first n) i ≡ Some x → place_in (passing f first n) x ≡ i
+place_of_passing f first zero i x h = absurd (cc)
+place_of_passing f first (suc n) i x h = one_place f first n (f first) (place_of_passing f (first + 1) n) i x h
