@@ -1,15 +1,11 @@
 -- The hand that comes back from code over any stations.
-use Rattle.std.proofs.Common.{◌≡◌, ℕ, zero, suc, ◌*◌, ◌/◌, List, [], ◌∷◌, length, get_or, map, refl, sym, ◌∙◌, ap, subst, arith}
-use Rattle.std.specs.Prelude.{Option, None}
+use Rattle.std.proofs.Common.{◌≡◌, ℕ, zero, suc, ◌*◌, ◌/◌, List, [], ◌∷◌, length, get_or, refl, sym, ◌∙◌, ap, arith}
 use base.Stored.{Gv, gnum, gcons, coded_ℕ, coded_list}
-use Rattle.atomic_table.specs.Seated.{TableId, table_id_coded}
-use Rattle.lid_board.specs.Lending.{IsBack, LentHandsComeBack}
-use Rattle.lid_board.specs.Owners.{IsOf, identity_of, plan_of, streams_in}
+use Rattle.atomic_table.specs.Seated.{table_id_coded}
+use Rattle.lid_board.specs.Lending.{LentHandsComeBack}
+use Rattle.lid_board.specs.Owners.{plan_of, streams_in}
 use Rattle.lid_board.specs.Relation.{AreWithin, stream_of}
 use Rattle.lid_board.specs.Views.{Ends, at, held_of}
-use Rattle.lid_board.specs.declared.board.Board.{Board}
-use Rattle.lid_board.specs.declared.hand.Hand.{Hand}
-use Rattle.lid_board.specs.declared.view.Held.{Held}
 
 -- the stream at an end, in the list of streams
 stream_in : (plan : Ends) (end : ℕ) → (held_of (at plan end)).stream ≡ get_or (streams_in plan) end []

@@ -1,17 +1,16 @@
 -- What passed the two ends of a station, whoever holds them.
-use Rattle.std.proofs.Common.{◌≡◌, ℕ, zero, suc, ◌+◌, ◌-◌, ◌/◌, ◌<◌, ◌≤◌, List, [], ◌∷◌, ◌++◌, length, take, drop, refl, sym, ◌∙◌, ap, subst, arith}
+use Rattle.std.proofs.Common.{◌≡◌, ℕ, zero, suc, ◌≤◌, List, [], ◌∷◌, length, take, drop, refl, sym, ap, subst, arith}
 use Rattle.std.specs.Prelude.{Option, Some, None}
 use Rattle.std.specs.List.{sum_by}
 use Rattle.std.proofs.lemmas.List.{take-append-drop, length-take-le}
 use Rattle.std.proofs.lemmas.List.Sums.{sum_by-cons}
 use mathlib.Core.Option.{some}
 use lib.ListN.{get_elem?}
-use Rattle.atomic_table.specs.Table.{State}
 use Rattle.lid_base.specs.Lists.{Extends}
 use Rattle.lid_station.specs.Boards.{fill, drain}
-use Rattle.lid_board.specs.Prefixes.{Prefix, IsHeld, KeepsPrefix, StationsKeepPrefixes, passed_list}
-use Rattle.lid_board.specs.Relation.{Kept, Related, cap_of, stream_of}
-use Rattle.lid_board.specs.Views.{Ends, at, has, one_of}
+use Rattle.lid_board.specs.Prefixes.{Prefix, StationsKeepPrefixes, passed_list}
+use Rattle.lid_board.specs.Relation.{Kept, cap_of, stream_of}
+use Rattle.lid_board.specs.Views.{at, has, one_of}
 use Rattle.lid_board.specs.declared.view.Held.{Held}
 use Rattle.lid_board.specs.declared.view.View.{View}
 

@@ -8,12 +8,10 @@ ghost use Rattle.lid_board.specs.Prefixes.{StationsKeepPrefixes};
 /// and at most the capacity more.
 pub fn stations_keep_prefixes()
     ensures { StationsKeepPrefixes }
-{
-}
+{}
 
 /// Stations by a hand at its board that went to code over any stations, by `&mut`, and came back
 /// made of the same, have the hand that was lent. It is one of that board, and has as many ends.
 pub fn lent_hands_come_back()
     ensures { LentHandsComeBack }
-{
-}
+{}

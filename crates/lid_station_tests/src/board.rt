@@ -228,23 +228,8 @@ static FIVE: [Step; 17] = [
     Step::Offer(OutLook::Stop(0x8000_0009)),
 ];
 
-/// A station of 16 places that starts with the token 5 of the stream 5 to 21.
-static SIXTEEN: [Step; 19] = [
-    Step::Offer(OutLook::Room),
-    Step::Offer(OutLook::Room),
-    Step::Offer(OutLook::Room),
-    Step::Offer(OutLook::Room),
-    Step::Offer(OutLook::Room),
-    Step::Offer(OutLook::Room),
-    Step::Offer(OutLook::Room),
-    Step::Offer(OutLook::Room),
-    Step::Offer(OutLook::Room),
-    Step::Offer(OutLook::Room),
-    Step::Offer(OutLook::Room),
-    Step::Offer(OutLook::Room),
-    Step::Offer(OutLook::Room),
-    Step::Offer(OutLook::Room),
-    Step::Offer(OutLook::Room),
+/// A full station of 16 places that started with the token 5 of the stream 5 to 21.
+static SIXTEEN: [Step; 4] = [
     Step::Offer(OutLook::Stop(0x8000_0006_8000_0005)),
     Step::Receive(InLook::Token(5)),
     Step::Offer(OutLook::Room),
@@ -275,12 +260,29 @@ fn stations_tell_what_they_hold(rt: HostRuntime) {
     assert_eq!(rt; four, Some(10));
 }
 
+/// How many tokens passed into a station of 16 places after fifteen were offered, and how many steps
+/// are as they are told then.
+fn told_of_sixteen(alloc: Global) -> Option<(Option<u64>, usize)> {
+    let course = Same {
+        stations: 1,
+        stream: &[
+            5, 6, 7, 8, 9, 10, 11, 12, 13, 14, 15, 16, 17, 18, 19, 20, 21,
+        ],
+    };
+    let Some((board, hand)) = start_same(alloc, 16, &course) else {
+        return None;
+    };
+    let mut hand = fill_some(&board, hand, 15, course.stream);
+    let filled = count_at(&hand, 0, Side::Fill);
+    let told = first_other(&board, &mut hand, 0, course.stream, &SIXTEEN);
+    Some((filled, told))
+}
+
 #[test]
 fn larger_stations_tell_what_they_hold(rt: HostRuntime) {
     let five = told_at(rt.alloc(), 5, &[5, 6, 7, 8, 9, 10, 11, 12, 13], &FIVE);
     assert_eq!(rt; five, Some(17));
-    let stream = &[5, 6, 7, 8, 9, 10, 11, 12, 13, 14, 15, 16, 17, 18, 19, 20, 21];
-    assert_eq!(rt; told_at(rt.alloc(), 16, stream, &SIXTEEN), Some(19));
+    assert_eq!(rt; told_of_sixteen(rt.alloc()), Some((Some(16), 4)));
 }
 
 /// How many steps are as they are told where a hand without ends is split off and joined again: at
@@ -298,9 +300,21 @@ fn told_without_ends(alloc: Global) -> Option<(usize, usize, usize)> {
     };
     let stream = course.stream;
     let there = first_other(&board, &mut none, 0, stream, &[Step::ReceiveElsewhere]);
-    let here = first_other(&board, &mut hand, 0, stream, &[Step::Receive(InLook::Token(5))]);
+    let here = first_other(
+        &board,
+        &mut hand,
+        0,
+        stream,
+        &[Step::Receive(InLook::Token(5))],
+    );
     board.join(&mut hand, none);
-    let after = first_other(&board, &mut hand, 0, stream, &[Step::Receive(InLook::Void(0))]);
+    let after = first_other(
+        &board,
+        &mut hand,
+        0,
+        stream,
+        &[Step::Receive(InLook::Void(0))],
+    );
     Some((there, here, after))
 }
 
@@ -432,12 +446,7 @@ fn drain_some(board: &Board, mut hand: Hand, tries: u32, stream: &[u32]) -> (Han
 }
 
 /// Looks for room at a station for a token that the stream has.
-fn look_for_room(
-    board: &Board,
-    hand: &mut Hand,
-    station: u32,
-    stream: &[u32],
-) -> Option<OutLook>
+fn look_for_room(board: &Board, hand: &mut Hand, station: u32, stream: &[u32]) -> Option<OutLook>
     requires { IsOf hand.old board.now }
     ensures { IsOf hand.new board.now }
 {
@@ -466,13 +475,7 @@ enum Carried {
 }
 
 /// Carries a token from a station to another of the same stream, where it can.
-fn carry(
-    board: &Board,
-    hand: &mut Hand,
-    from: u32,
-    to: u32,
-    stream: &[u32],
-) -> Option<Carried>
+fn carry(board: &Board, hand: &mut Hand, from: u32, to: u32, stream: &[u32]) -> Option<Carried>
     requires of { IsOf hand.old board.now }
     requires stands { StandsFor (plan_of board.now) (λ _. stream.now) }
     ensures { IsOf hand.new board.now }
