@@ -3,7 +3,7 @@
 ghost use Rattle.std.specs.Prelude.{◌≡◌, ℕ, ◌^◌, ◌<◌, ◌≤◌, List, [], ◌∷◌, replicate, option_map, IfSome, IsTrue, length, Some, slice_get};
 ghost use Rattle.std.specs.List.{All};
 ghost use Rattle.std.specs.Thread.{IsSync};
-ghost use Rattle.lid_station.specs.Boards.{fill};
+ghost use Rattle.lid_station.specs.Boards.{fill, IsServed};
 ghost use Rattle.lid_board.specs.Owners.{IsOf, IsOwned, ends_of, plan_of};
 ghost use Rattle.lid_board.specs.Parting.{side_number};
 ghost use Rattle.lid_board.specs.Relation.{stream_of};
@@ -907,4 +907,54 @@ fn left_after_close(alloc: Global) -> Option<(usize, OutLook, bool)> {
 fn a_board_closes_into_plain_stations(rt: HostRuntime) {
     let full = OutLook::Stop(0x8000_0006_8000_0008);
     assert_eq!(rt; left_after_close(rt.alloc()), Some((4, full, true)));
+}
+
+/// Looks for room at a station so many times, over any stations.
+fn look_often<B: Stations>(stations: &mut B, station: u32, times: u32)
+    requires served { IsServed (B.ends stations.old) (fill station) }
+    ensures same { B.identity stations.new ≡ B.identity stations.old }
+{
+    for _time in 0..times {
+        let _look = stations.look_out(station);
+    }
+}
+
+/// Lends a hand to that code, where it has the filled end of the station.
+fn lend(board: &Board, hand: &mut Hand, station: u32, times: u32)
+    requires { IsOf hand.old board.now }
+    ensures { IsOf hand.new board.now }
+{
+    let Some(_passed) = count_at(hand, station, Side::Fill) else {
+        return;
+    };
+    let mut stations = Attended {
+        board,
+        hand: &mut *hand,
+    };
+    look_often(&mut stations, station, times);
+}
+
+/// A station of 2 places that starts with the token 5 of the stream 5, 6.
+static TWO: [Step; 3] = [
+    Step::Offer(OutLook::Room),
+    Step::Offer(OutLook::Stop(0x8000_0006_8000_0005)),
+    Step::Receive(InLook::Token(5)),
+];
+
+/// How many steps are as they are told, by a hand that was lent and came back.
+fn told_after_lending(alloc: Global) -> Option<usize> {
+    let course = Same {
+        stations: 1,
+        stream: &[5, 6],
+    };
+    let Some((board, mut hand)) = start_same(alloc, 2, &course) else {
+        return None;
+    };
+    lend(&board, &mut hand, 0, 3);
+    Some(first_other(&board, &mut hand, 0, course.stream, &TWO))
+}
+
+#[test]
+fn a_hand_that_was_lent_comes_back(rt: HostRuntime) {
+    assert_eq!(rt; told_after_lending(rt.alloc()), Some(3));
 }
