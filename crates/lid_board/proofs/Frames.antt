@@ -7,7 +7,7 @@ use Rattle.std.proofs.lemmas.Option.{same_Some}
 use Rattle.atomic_table.specs.Table.{State}
 use Rattle.atomic_table.proofs.Lists.{at_set}
 use Rattle.lid_station.specs.Boards.{fill, drain}
-use Rattle.lid_board.specs.Relation.{Kept, Related, IsPlanned, words_of, first_word, cap_of}
+use Rattle.lid_board.specs.Relation.{AreWithin, Kept, Related, IsPlanned, words_of, first_word, cap_of, stream_of}
 use Rattle.lid_board.specs.Views.{Ends, at, held, one_of, has, changed, sure, IsEarly}
 use Rattle.lid_board.specs.declared.view.Held.{Held}
 use Rattle.lid_board.specs.declared.view.View.{View}
@@ -206,6 +206,27 @@ module _ {S : Type 0} (plan : Ends) where
       let start = ap (λ (y : Held). y.start) x in
       let passed = ap (λ (y : Held). y.passed) x in
       ap (λ (y : Held). y.misses) x ∙ k.token_early (omega arith))
+
+  -- no end of a hand was passed by more tokens than the stream has
+  pub are_within : (st : State S View) (id : ℕ) (v : View) → Related plan st → get_elem? st.views id ≡ some v → AreWithin plan v.ends
+  are_within st id v r here end h is =
+      let inside = end_within st id v end h r here is in
+      let ends = r.ends in
+      let station = end / 2 in
+      let k = r.kept station (omega arith) in
+      let within = k.within in
+      let ordered = k.ordered in
+      let long : length (r.truth (fill station)).stream ≡ length (stream_of plan station) = ap (λ (s : List ℕ). length s) (r.planned (fill station) (omega arith)).stream in
+      let known : h.passed ≡ (r.truth end).passed = ap (λ (y : Held). y.passed) (r.agree id v end h here is) in
+      dite (ℕ_discrete (end % 2) 0)
+      (λ even.
+      let number : end ≡ fill station = omega arith in
+      let passed : (r.truth end).passed ≡ (r.truth (fill station)).passed = ap (λ (n : ℕ). (r.truth n).passed) number in
+      omega arith)
+      (λ odd.
+      let number : end ≡ drain station = omega arith in
+      let passed : (r.truth end).passed ≡ (r.truth (drain station)).passed = ap (λ (n : ℕ). (r.truth n).passed) number in
+      omega arith)
 
   -- a step at an end that writes a word of its station
   steps_at : (st : State S View) (homes : List (mathlib.Core.Option.Option S)) (id : ℕ) (v : View) (station k n end : ℕ) (h e : Held) → (r : Related plan st)

@@ -2,8 +2,10 @@ pub mod Calling
 pub mod Closed
 pub mod Frames
 pub mod Halving
+pub mod Lent
 pub mod Numbers
 pub mod Parting
+pub mod Prefixing
 pub mod Reading
 pub mod Starting
 pub mod Stations

@@ -1,11 +1,12 @@
 -- The numbers that a hand keeps, where ends go from hand to hand.
-use Rattle.std.proofs.Common.{◌≡◌, ℕ, zero, suc, ◌+◌, ◌<◌, ◌==◌, ◌||◌, cond, nat_lt, Bool, true, false, List, [], ◌∷◌, ◌++◌, length, get_or, take, drop, set, refl, sym, ◌∙◌, ap, subst, arith, eq-eqb, ne_eqb, lt-ltb, le-ltb, lt_of_not-le, get_or-set_same, get_or-set_other}
+use Rattle.std.proofs.Common.{◌≡◌, ℕ, zero, suc, ◌+◌, ◌/◌, ◌<◌, ◌≤◌, ◌==◌, ◌||◌, cond, nat_lt, Bool, true, false, List, [], ◌∷◌, ◌++◌, length, get_or, take, drop, set, refl, sym, ◌∙◌, ap, subst, arith, eq-eqb, ne_eqb, lt-ltb, le-ltb, lt_of_not-le, get_or-set_same, get_or-set_other}
 use Rattle.std.specs.Prelude.{Option, Some, None, option_map}
 use Rattle.std.proofs.lemmas.List.{append-nil, take_all}
 use Rattle.std.proofs.lemmas.Option.{same_Some}
 use Rattle.std.proofs.Math.ListN.{drop_of_length-le}
 use Rattle.lid_station.specs.declared.looks.End.{End}
 use Rattle.lid_board.specs.Parting.{end_number, is_chosen, or_else, unseen, left_from, right_from, merged}
+use Rattle.lid_board.specs.Relation.{AreWithin, stream_of}
 use Rattle.lid_board.specs.Ties.{IsTied}
 use Rattle.lid_board.specs.Views.{Ends, at, sure, IsEarly}
 use Rattle.lid_board.specs.declared.view.Held.{Held}
@@ -90,6 +91,10 @@ written {A = A} xs ys n long same =
     ∙ ap (take n) (append-nil xs)
     ∙ take_all n xs (omega arith)
 
+-- and how long it is
+pub written_long : {A : Type 0} (xs ys : List A) (n : ℕ) → length xs ≡ n → length ys ≡ n → length (take n (xs ++ drop (length xs) ys)) ≡ length ys
+written_long {A = A} xs ys n long same = ap (λ (zs : List A). length zs) (written xs ys n long same) ∙ long ∙ sym same
+
 abbrev passed_of : Option Held → Option ℕ
 passed_of o = option_map (λ (h : Held). h.passed) o
 
@@ -137,26 +142,51 @@ right_early true None h e = absurd (cc)
 right_early true (Some x) h e = (x, refl, same_Some (unseen x) h e)
 right_early false o h e = absurd (cc)
 
--- no look missed early at the ends that stay, nor at those that go
-pub early_left : (ends : Ends) (chosen : ℕ → Bool) → IsEarly ends → IsEarly (left_from chosen 0 ends)
-early_left ends chosen early k h is = early k h (left_early (chosen k) (at ends k) h (sym (at_left chosen ends k) ∙ is))
+-- what holds at each end of a hand, whether or not it was seen there, holds at each end that stays, and
+-- at each that goes
+each_left : (P : ℕ → Held → Type 0) (ends : Ends) (chosen : ℕ → Bool) → ((k : ℕ) (h : Held) → at ends k ≡ Some h → P k h)
+    → (k : ℕ) (h : Held) → at (left_from chosen 0 ends) k ≡ Some h → P k h
+each_left P ends chosen each k h is = each k h (left_early (chosen k) (at ends k) h (sym (at_left chosen ends k) ∙ is))
 
-early_unseen : (ends : Ends) (k : ℕ) (x h : Held) → IsEarly ends → at ends k ≡ Some x → unseen x ≡ h → h.passed < sure k h → h.misses ≡ 0
-early_unseen ends k x h early is same = subst (λ (y : Held). y.passed < sure k y → y.misses ≡ 0) same (early k x is)
-
-pub early_right : (ends : Ends) (chosen : ℕ → Bool) → IsEarly ends → IsEarly (right_from chosen 0 ends)
-early_right ends chosen early k h is =
+each_right : (P : ℕ → Held → Type 0) (ends : Ends) (chosen : ℕ → Bool) → ((k : ℕ) (h : Held) → at ends k ≡ Some h → P k (unseen h))
+    → (k : ℕ) (h : Held) → at (right_from chosen 0 ends) k ≡ Some h → P k h
+each_right P ends chosen each k h is =
     let was = right_early (chosen k) (at ends k) h (sym (at_right chosen ends k) ∙ is) in
-    early_unseen ends k was.0 h early was.1 was.2
+    subst (P k) was.2 (each k was.0 was.1)
 
 merged_early : (o x : Option Held) (h : Held) → or_else o (option_map unseen x) ≡ Some h → (P : Held → Type 0) → ((y : Held) → o ≡ Some y → P y) → ((y : Held) → x ≡ Some y → P (unseen y)) → P h
 merged_early None None h e P one two = absurd (cc)
 merged_early None (Some y) h e P one two = subst P (same_Some (unseen y) h e) (two y refl)
 merged_early (Some z) x h e P one two = subst P (same_Some z h e) (one z refl)
 
+-- and at each end of two hands
+each_merged : (P : ℕ → Held → Type 0) (ends more : Ends) → ((k : ℕ) (h : Held) → at ends k ≡ Some h → P k h) → ((k : ℕ) (h : Held) → at more k ≡ Some h → P k (unseen h))
+    → (k : ℕ) (h : Held) → at (merged ends more) k ≡ Some h → P k h
+each_merged P ends more one two k h is =
+    merged_early (at ends k) (at more k) h (sym (at_merged ends more k) ∙ is) (P k) (one k) (two k)
+
+-- no look missed early at the ends
+abbrev early_at : ℕ → Held → Type 0
+early_at k h = h.passed < sure k h → h.misses ≡ 0
+
+pub early_left : (ends : Ends) (chosen : ℕ → Bool) → IsEarly ends → IsEarly (left_from chosen 0 ends)
+early_left ends chosen early = each_left early_at ends chosen early
+
+pub early_right : (ends : Ends) (chosen : ℕ → Bool) → IsEarly ends → IsEarly (right_from chosen 0 ends)
+early_right ends chosen early = each_right early_at ends chosen early
+
 pub early_merged : (ends more : Ends) → IsEarly ends → IsEarly more → IsEarly (merged ends more)
-early_merged ends more early early_more k h is =
-    merged_early (at ends k) (at more k) h (sym (at_merged ends more k) ∙ is) (λ (y : Held). y.passed < sure k y → y.misses ≡ 0) (λ y e. early k y e) (λ y e. early_more k y e)
+early_merged ends more early early_more = each_merged early_at ends more early early_more
+
+-- no more tokens passed the ends than their streams have
+pub within_left : (plan ends : Ends) (chosen : ℕ → Bool) → AreWithin plan ends → AreWithin plan (left_from chosen 0 ends)
+within_left plan ends chosen within = each_left (λ k h. h.passed ≤ length (stream_of plan (k / 2))) ends chosen within
+
+pub within_right : (plan ends : Ends) (chosen : ℕ → Bool) → AreWithin plan ends → AreWithin plan (right_from chosen 0 ends)
+within_right plan ends chosen within = each_right (λ k h. h.passed ≤ length (stream_of plan (k / 2))) ends chosen within
+
+pub within_merged : (plan ends more : Ends) → AreWithin plan ends → AreWithin plan more → AreWithin plan (merged ends more)
+within_merged plan ends more within within_more = each_merged (λ k h. h.passed ≤ length (stream_of plan (k / 2))) ends more within within_more
 
 -- one number more was taken
 pub merged_more : (into old from : List (Option ℕ)) (i : ℕ) (x y z : Option ℕ) → i < length into → x ≡ get_or into i None → y ≡ get_or from i None → z ≡ or_else x y

@@ -12,7 +12,7 @@ use Rattle.lid_station.specs.Starts.{start_count}
 use Rattle.lid_station.specs.Words.{word}
 use Rattle.lid_station.proofs.Words.{word_nothing}
 use Rattle.lid_board.specs.Halves.{filling}
-use Rattle.lid_board.specs.Relation.{Kept, Related, words_of, first_word, cap_of, stream_of}
+use Rattle.lid_board.specs.Relation.{AreWithin, Kept, Related, words_of, first_word, cap_of, stream_of}
 use Rattle.lid_board.specs.Starts.{starts_from, starts, start_fill, start_drain, start_word, first_of, Begins, AreLaid, AreFirsts, AreNumbers, HasLaid}
 use Rattle.lid_board.specs.Ties.{IsTied, IsLaid}
 use Rattle.lid_board.specs.Views.{Ends, at, has, held, held_of, one_of, IsEarly}
@@ -313,3 +313,24 @@ module _ (firsts : List (Option ℕ)) (caps : List ℕ) (streams : List (List �
         let number : end ≡ 2 * (end / 2) + 1 = omega arith in
         let is : start_drain firsts caps streams (end / 2) ≡ h = same_Some _ h (sym (plan_drain (end / 2) (omega arith)) ∙ ap (at plan) (sym number) ∙ here) in
         sym (ap (λ (y : Held). y.misses) is)))
+
+    -- no more tokens have passed than the streams have
+    pub plan_within : Begins firsts streams → AreWithin plan plan
+    plan_within begins end h here =
+        let long = plan_long in
+        dite (dec_le (2 * length firsts) end)
+        (λ past. let none : None ≡ Some h = sym (get_or_past plan end None (omega arith)) ∙ here in absurd (cc))
+        (λ inside.
+        let stream : length (stream_of plan (end / 2)) ≡ length (get_or streams (end / 2) []) = ap (λ (s : List ℕ). length s) (plan_stream (end / 2) (omega arith)) in
+        dite (ℕ_discrete (end % 2) 0)
+        (λ even.
+        let number : end ≡ 2 * (end / 2) = omega arith in
+        let is : start_fill firsts caps streams (end / 2) ≡ h = same_Some _ h (sym (plan_fill (end / 2) (omega arith)) ∙ ap (at plan) (sym number) ∙ here) in
+        let passed : start_count (get_or firsts (end / 2) None) ≡ h.passed = ap (λ (y : Held). y.passed) is in
+        let le = start-count (get_or firsts (end / 2) None) (get_or streams (end / 2) []) (start_begins begins (end / 2) (omega arith)) in
+        omega arith)
+        (λ odd.
+        let number : end ≡ 2 * (end / 2) + 1 = omega arith in
+        let is : start_drain firsts caps streams (end / 2) ≡ h = same_Some _ h (sym (plan_drain (end / 2) (omega arith)) ∙ ap (at plan) (sym number) ∙ here) in
+        let passed : 0 ≡ h.passed = ap (λ (y : Held). y.passed) is in
+        omega arith))

@@ -6,12 +6,12 @@ use Rattle.atomic_table.proofs.Lists.{set_here}
 use Rattle.std.proofs.lemmas.Option.{slice_get_within}
 use Rattle.lid_station.specs.Boards.{fill, drain}
 use Rattle.lid_board.specs.Halves.{shown, others, filling}
-use Rattle.lid_board.specs.Relation.{Kept, IsPlanned, Related, words_of, first_word, cap_of, stream_of}
+use Rattle.lid_board.specs.Relation.{AreWithin, Kept, IsPlanned, Related, words_of, first_word, cap_of, stream_of}
 use Rattle.lid_board.specs.Told.{LooksIn, LooksOut, Takes, Puts, ShowsNext}
 use Rattle.lid_board.specs.Views.{Ends, at, IsEarly, changed, seen, missing, passing}
 use Rattle.lid_board.specs.declared.view.Held.{Held}
 use Rattle.lid_board.specs.declared.view.View.{View}
-use Rattle.lid_board.proofs.Frames.{end_within, is_early, steps_in, steps_out, view_within, apart}
+use Rattle.lid_board.proofs.Frames.{end_within, is_early, are_within, steps_in, steps_out, view_within, apart}
 use Rattle.lid_board.proofs.Reading.{reads_void, reads_token, reads_room, reads_full, reads_stop, reads_bits, kept_load, kept_taken_at, kept_put_at}
 use Rattle.lid_board.proofs.Stations.{kept_token, kept_void, kept_room, kept_stop, place_within}
 use mathlib.Core.Logic.{dite}
@@ -85,23 +85,28 @@ module _ {S : Type 0} (plan : Ends) (slots id place : ℕ) (me : Me S View) (sta
   abbrev Word : State S View → ℕ
   Word st = get_or st.words (first_word plan station + place / 2) 0
 
-  -- the drained end comes to e, and so its hand is told
+  -- an end comes to e, in a board that is related to its plan then, and so the hand is told
+  step_by : (st : State S View) (n end : ℕ) (e : Held) → get_elem? st.views id ≡ some me.0
+      → Related plan (stepped st (first_word plan station + place / 2) n id me.1 (record { ends = changed me.0.ends end e }) keeps)
+      → (Told : Ends → Type 0) → (IsEarly (changed me.0.ends end e) → AreWithin plan (changed me.0.ends end e) → Told (changed me.0.ends end e))
+      → After st n (λ w. (w.1 ≡ me.1) × Told w.0.ends)
+  step_by st n end e here next Told told =
+      let view = set_here st.views id _ (view_within st.views id me.0 here) in
+      (record { ends = changed me.0.ends end e }, keeps, tt, next, (refl, told (is_early plan _ id _ next view) (are_within plan _ id _ next view)))
+
+  -- the drained end comes to e
   step_in : (st : State S View) (r : Related plan st) (n : ℕ) (d e : Held) → get_elem? st.views id ≡ some me.0 → at me.0.ends (drain station) ≡ Some d → IsPlanned d e → place / 2 < words_of (cap_of plan station)
       → Kept (set st.words (first_word plan station + place / 2) n) (first_word plan station) (r.truth (fill station)) e
-      → (Told : Ends → Type 0) → (IsEarly (changed me.0.ends (drain station) e) → Told (changed me.0.ends (drain station) e))
+      → (Told : Ends → Type 0) → (IsEarly (changed me.0.ends (drain station) e) → AreWithin plan (changed me.0.ends (drain station) e) → Told (changed me.0.ends (drain station) e))
       → After st n (λ w. (w.1 ≡ me.1) × Told w.0.ends)
-  step_in st r n d e here is planned inside kept Told told =
-      let next = steps_in plan st st.homes id me.0 station (place / 2) n d e r here is planned inside kept in
-      (record { ends = changed me.0.ends (drain station) e }, keeps, tt, next, (refl, told (is_early plan _ id _ next (set_here st.views id _ (view_within st.views id me.0 here)))))
+  step_in st r n d e here is planned inside kept = step_by st n (drain station) e here (steps_in plan st st.homes id me.0 station (place / 2) n d e r here is planned inside kept)
 
   -- the filled end comes to e
   step_out : (st : State S View) (r : Related plan st) (n : ℕ) (f e : Held) → get_elem? st.views id ≡ some me.0 → at me.0.ends (fill station) ≡ Some f → IsPlanned f e → place / 2 < words_of (cap_of plan station)
       → Kept (set st.words (first_word plan station + place / 2) n) (first_word plan station) e (r.truth (drain station))
-      → (Told : Ends → Type 0) → (IsEarly (changed me.0.ends (fill station) e) → Told (changed me.0.ends (fill station) e))
+      → (Told : Ends → Type 0) → (IsEarly (changed me.0.ends (fill station) e) → AreWithin plan (changed me.0.ends (fill station) e) → Told (changed me.0.ends (fill station) e))
       → After st n (λ w. (w.1 ≡ me.1) × Told w.0.ends)
-  step_out st r n f e here is planned inside kept Told told =
-      let next = steps_out plan st st.homes id me.0 station (place / 2) n f e r here is planned inside kept in
-      (record { ends = changed me.0.ends (fill station) e }, keeps, tt, next, (refl, told (is_early plan _ id _ next (set_here st.views id _ (view_within st.views id me.0 here)))))
+  step_out st r n f e here is planned inside kept = step_by st n (fill station) e here (steps_out plan st st.homes id me.0 station (place / 2) n f e r here is planned inside kept)
 
   -- what is known at an end is what the board has there
   own_passed : (st : State S View) (r : Related plan st) (end : ℕ) → get_elem? st.views id ≡ some me.0 → (g : Held) → at me.0.ends end ≡ Some g → g.passed ≡ (r.truth end).passed
@@ -120,9 +125,9 @@ module _ {S : Type 0} (plan : Ends) (slots id place : ℕ) (me : Me S View) (sta
       step_in st r (Word st) d (missing d) here is record { stream = refl; start = refl; cap = refl } k.inside
       (kept_load st.words (first_word plan station) f d (first_word plan station + place / 2) f (missing d) (kept_void st.words (first_word plan station) f d kept none))
       (LooksIn plan me.0.ends station place d (Word st))
-      (λ early.
+      (λ early inside.
       record {
-        right = record { stream = kept.fixed.stream ∙ k.stream; cap = kept.fixed.cap ∙ k.cap; early = early };
+        right = record { stream = kept.fixed.stream ∙ k.stream; cap = kept.fixed.cap ∙ k.cap; early = early; within = inside };
         void = λ _. record { now = refl; nothing = nothing; started = (let more = kept.started in let same = kept.fixed.start in omega arith); unseen = λ mark. (let some = kept.token_seen mark in omega arith) };
         token = λ some. absurd (some zero_half);
         exact = λ g at_g. (let e = own_passed st r (fill station) here g at_g in let o = kept.ordered in ((λ _. omega arith), (λ _. zero_half)));
@@ -133,9 +138,9 @@ module _ {S : Type 0} (plan : Ends) (slots id place : ℕ) (me : Me S View) (sta
       step_in st r (Word st) d (seen d) here is record { stream = refl; start = refl; cap = refl } k.inside
       (kept_load st.words (first_word plan station) f d (first_word plan station + place / 2) f (seen d) (kept_token st.words (first_word plan station) f d kept some))
       (LooksIn plan me.0.ends station place d (Word st))
-      (λ early.
+      (λ early inside.
       record {
-        right = record { stream = kept.fixed.stream ∙ k.stream; cap = kept.fixed.cap ∙ k.cap; early = early };
+        right = record { stream = kept.fixed.stream ∙ k.stream; cap = kept.fixed.cap ∙ k.cap; early = early; within = inside };
         void = λ none. (let least = shows.least in absurd (omega arith));
         token = λ _. (refl, shows);
         exact = λ g at_g. (let e = own_passed st r (fill station) here g at_g in let least = shows.least in ((λ none. omega arith), (λ same. absurd (omega arith))));
@@ -153,9 +158,9 @@ module _ {S : Type 0} (plan : Ends) (slots id place : ℕ) (me : Me S View) (sta
       step_out st r (Word st) f (missing f) here is record { stream = refl; start = refl; cap = refl } k.inside
       (kept_load st.words (first_word plan station) f d (first_word plan station + place / 2) (missing f) d (kept_stop st.words (first_word plan station) f d kept full))
       (LooksOut plan me.0.ends station place f (Word st))
-      (λ early.
+      (λ early inside.
       record {
-        right = record { stream = k.stream; cap = k.cap; early = early };
+        right = record { stream = k.stream; cap = k.cap; early = early; within = inside };
         room = λ none. absurd (omega arith);
         stop = λ _. record { now = refl; unseen = λ mark. (let some = kept.room_seen mark in omega arith); filled = omega arith; full = reads_stop st.words (first_word plan station) f d place kept k.place_is full; bits = reads_bits st.words (first_word plan station) f d place kept k.place_is full };
         exact = λ g at_g. (let e = own_passed st r (drain station) here g at_g in let o = kept.room in ((λ _. omega arith), (λ _ none. omega arith)));
@@ -166,9 +171,9 @@ module _ {S : Type 0} (plan : Ends) (slots id place : ℕ) (me : Me S View) (sta
       step_out st r (Word st) f (seen f) here is record { stream = refl; start = refl; cap = refl } k.inside
       (kept_load st.words (first_word plan station) f d (first_word plan station + place / 2) (seen f) d (kept_room st.words (first_word plan station) f d kept some))
       (LooksOut plan me.0.ends station place f (Word st))
-      (λ early.
+      (λ early inside.
       record {
-        right = record { stream = k.stream; cap = k.cap; early = early };
+        right = record { stream = k.stream; cap = k.cap; early = early; within = inside };
         room = λ _. refl;
         stop = λ full. absurd (full zero_half);
         exact = λ g at_g. (let e = own_passed st r (drain station) here g at_g in ((λ full. absurd (full zero_half)), (λ same _. omega arith)));
@@ -186,9 +191,9 @@ module _ {S : Type 0} (plan : Ends) (slots id place : ℕ) (me : Me S View) (sta
       step_in st r (bit_and (Word st) (others place)) d (passing d) here is record { stream = refl; start = refl; cap = refl } k.inside
       (kept_taken_at st.words (first_word plan station) (r.truth (fill station)) d place kept k.place_is some spot)
       (Takes plan me.0.ends station place d (Word st))
-      (λ early.
+      (λ early inside.
       record {
-        right = record { stream = kept.fixed.stream ∙ k.stream; cap = kept.fixed.cap ∙ k.cap; early = early };
+        right = record { stream = kept.fixed.stream ∙ k.stream; cap = kept.fixed.cap ∙ k.cap; early = early; within = inside };
         now = refl;
         token = reads_token st.words (first_word plan station) (r.truth (fill station)) d place kept k.place_is some;
         counted = omega arith;
@@ -205,32 +210,29 @@ module _ {S : Type 0} (plan : Ends) (slots id place : ℕ) (me : Me S View) (sta
       step_out st r (bit_or (Word st) (filling place token)) f (passing f) here is record { stream = refl; start = refl; cap = refl } k.inside
       (kept_put_at st.words (first_word plan station) f (r.truth (drain station)) place token k.kept k.place_is some token_is (word_within plan st r station (place / 2) k.there k.inside))
       (Puts plan me.0.ends station f)
-      (λ early. record { right = record { stream = k.stream; cap = k.cap; early = early }; now = refl; counted = omega arith })
+      (λ early inside. record { right = record { stream = k.stream; cap = k.cap; early = early; within = inside }; now = refl; counted = omega arith })
 
 -- the same steps at a word that is known to be the one of the place
 module _ {S : Type 0} (plan : Ends) (slots id place : ℕ) (me : Me S View) (station word : ℕ) (same : word ≡ first_word plan station + place / 2) where
+  at_word : (step : ℕ → ℕ) (Told : ℕ → Ends → Type 0) → Allows (Related plan) slots id me (first_word plan station + place / 2) step (λ r w. (w.1 ≡ me.1) × Told r w.0.ends) → Allows (Related plan) slots id me word step (λ r w. (w.1 ≡ me.1) × Told r w.0.ends)
+  at_word step Told = subst (λ (i : ℕ). Allows (Related plan) slots id me i step (λ r w. (w.1 ≡ me.1) × Told r w.0.ends)) (sym same)
+
   pub looks_in_at : (d : Held) → at me.0.ends (drain station) ≡ Some d → place ≡ d.passed % cap_of plan station
       → Allows (Related plan) slots id me word (λ n. n) (λ r w. (w.1 ≡ me.1) × LooksIn plan me.0.ends station place d r w.0.ends)
-  looks_in_at d is place_is =
-      subst (λ (i : ℕ). Allows (Related plan) slots id me i (λ n. n) (λ r w. (w.1 ≡ me.1) × LooksIn plan me.0.ends station place d r w.0.ends)) (sym same)
-      (looks_in plan slots id place me station d is place_is)
+  looks_in_at d is place_is = at_word (λ n. n) (LooksIn plan me.0.ends station place d) (looks_in plan slots id place me station d is place_is)
 
   pub looks_out_at : (f : Held) → at me.0.ends (fill station) ≡ Some f → place ≡ f.passed % cap_of plan station
       → Allows (Related plan) slots id me word (λ n. n) (λ r w. (w.1 ≡ me.1) × LooksOut plan me.0.ends station place f r w.0.ends)
-  looks_out_at f is place_is =
-      subst (λ (i : ℕ). Allows (Related plan) slots id me i (λ n. n) (λ r w. (w.1 ≡ me.1) × LooksOut plan me.0.ends station place f r w.0.ends)) (sym same)
-      (looks_out plan slots id place me station f is place_is)
+  looks_out_at f is place_is = at_word (λ n. n) (LooksOut plan me.0.ends station place f) (looks_out plan slots id place me station f is place_is)
 
   pub takes_at : (d : Held) (bits : ℕ) → at me.0.ends (drain station) ≡ Some d → place ≡ d.passed % cap_of plan station → d.mark ≡ true → bits ≡ others place
       → Allows (Related plan) slots id me word (λ n. bit_and n bits) (λ r w. (w.1 ≡ me.1) × Takes plan me.0.ends station place d r w.0.ends)
   takes_at d bits is place_is mark bits_are =
-      subst (λ (i : ℕ). Allows (Related plan) slots id me i (λ n. bit_and n bits) (λ r w. (w.1 ≡ me.1) × Takes plan me.0.ends station place d r w.0.ends)) (sym same)
-      (subst (λ (b : ℕ). Allows (Related plan) slots id me (first_word plan station + place / 2) (λ n. bit_and n b) (λ r w. (w.1 ≡ me.1) × Takes plan me.0.ends station place d r w.0.ends)) (sym bits_are)
-      (takes plan slots id place me station d is place_is mark))
+      subst (λ (b : ℕ). Allows (Related plan) slots id me word (λ n. bit_and n b) (λ r w. (w.1 ≡ me.1) × Takes plan me.0.ends station place d r w.0.ends)) (sym bits_are)
+      (at_word (λ n. bit_and n (others place)) (Takes plan me.0.ends station place d) (takes plan slots id place me station d is place_is mark))
 
   pub puts_at : (f : Held) (token bits : ℕ) → at me.0.ends (fill station) ≡ Some f → place ≡ f.passed % cap_of plan station → f.mark ≡ true → slice_get (stream_of plan station) f.passed ≡ Some token → bits ≡ filling place token
       → Allows (Related plan) slots id me word (λ n. bit_or n bits) (λ r w. (w.1 ≡ me.1) × Puts plan me.0.ends station f w.0.ends)
   puts_at f token bits is place_is mark next_is bits_are =
-      subst (λ (i : ℕ). Allows (Related plan) slots id me i (λ n. bit_or n bits) (λ r w. (w.1 ≡ me.1) × Puts plan me.0.ends station f w.0.ends)) (sym same)
-      (subst (λ (b : ℕ). Allows (Related plan) slots id me (first_word plan station + place / 2) (λ n. bit_or n b) (λ r w. (w.1 ≡ me.1) × Puts plan me.0.ends station f w.0.ends)) (sym bits_are)
-      (puts plan slots id place me station f token is place_is mark next_is))
+      subst (λ (b : ℕ). Allows (Related plan) slots id me word (λ n. bit_or n b) (λ r w. (w.1 ≡ me.1) × Puts plan me.0.ends station f w.0.ends)) (sym bits_are)
+      (at_word (λ n. bit_or n (filling place token)) (λ _. Puts plan me.0.ends station f) (puts plan slots id place me station f token is place_is mark next_is))

@@ -1,7 +1,9 @@
 pub mod Closing
 pub mod Halves
+pub mod Lending
 pub mod Owners
 pub mod Parting
+pub mod Prefixes
 pub mod Relation
 pub mod Standing
 pub mod Starts

@@ -1,9 +1,9 @@
 -- Hands and their boards.
-use Rattle.std.specs.Prelude.{◌≡◌, ℕ, ◌<◌, ◌+◌, ◌*◌, ◌/◌, ◌%◌, length, Some}
-use base.Stored.{Gv, gnum, gcons}
+use Rattle.std.specs.Prelude.{◌≡◌, ℕ, ◌<◌, ◌+◌, ◌*◌, ◌/◌, ◌%◌, List, length, map, Some}
+use base.Stored.{Gv, gnum, gcons, coded_ℕ, coded_list}
 use Rattle.atomic_table.specs.Seated.{TableId, table_id_coded}
-use Rattle.lid_board.specs.Relation.{first_word, cap_of}
-use Rattle.lid_board.specs.Views.{Ends, at, held}
+use Rattle.lid_board.specs.Relation.{AreWithin, first_word, cap_of}
+use Rattle.lid_board.specs.Views.{Ends, at, held, held_of}
 use Rattle.lid_board.specs.declared.board.Board.{Board}
 use Rattle.lid_board.specs.declared.calls.Spot.{Spot}
 use Rattle.lid_board.specs.declared.hand.Hand.{Hand}
@@ -12,11 +12,6 @@ use Rattle.lid_board.specs.declared.view.Held.{Held}
 -- what is known at the ends that a hand owns
 abbrev pub ends_of : Hand → Ends
 ends_of hand = hand.seat.me.0.ends
-
--- what a hand that was lent is made of: its ghost name, how many ends it has room for, and its table
-abbrev pub identity_of : ℕ → Hand → Gv
-identity_of ghost_name hand =
-    gcons (gnum ghost_name) (gcons (gnum (length hand.ends.items)) (table_id_coded.code hand.seat.table_id))
 
 -- a seat of the first table is one of the second, which has this word
 abbrev pub IsAtWord : TableId → TableId → ℕ → Type 0
@@ -27,10 +22,24 @@ IsAtWord mine table word = (mine ≡ table) × (word < table.words)
 abbrev pub plan_of : Board → Ends
 plan_of board = board.table.shared.key.me.0.ends
 
--- whether a hand is one of a board
+-- the streams at the ends of a plan, in order
+abbrev pub streams_in : Ends → List (List ℕ)
+streams_in plan = map (λ o. (held_of o).stream) plan
+
+-- what a hand that was lent, and its board, are made of: the hand's ghost name, how many ends it has
+-- room for, its table, and the streams of the board
+abbrev pub identity_of : ℕ → Hand → Board → Gv
+identity_of ghost_name hand board =
+    gcons (gnum ghost_name)
+    (gcons (gnum (length hand.ends.items))
+    (gcons (table_id_coded.code hand.seat.table_id) ((coded_list (coded_list coded_ℕ)).code (streams_in (plan_of board)))))
+
+-- whether a hand is one of a board: of its table, with room for all its ends, and passed by no more
+-- tokens at an end than the board's stream has
 pub record IsOf (hand : Hand) (board : Board) : Type 0 where
   pub table : hand.seat.table_id ≡ board.table.shared.table_id
   pub room : length hand.ends.items ≡ 2 * length board.caps.items
+  pub within : AreWithin (plan_of board) (ends_of hand)
 
 -- whether an end is among these
 abbrev pub IsOwned : Ends → ℕ → Type 0

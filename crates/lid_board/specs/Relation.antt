@@ -27,6 +27,10 @@ stream_of plan station = (held plan (fill station)).stream
 abbrev pub cap_of : Ends → ℕ → ℕ
 cap_of plan station = (held plan (fill station)).cap
 
+-- whether no end was passed by more tokens than the stream of its station has
+abbrev pub AreWithin : Ends → Ends → Type 0
+AreWithin plan ends = (end : ℕ) → (h : Held) → at ends end ≡ Some h → h.passed ≤ length (stream_of plan (end / 2))
+
 -- what never changes at an end: the stream, how many tokens the station started with, the capacity
 pub record IsPlanned (plan h : Held) : Type 0 where
   pub stream : h.stream ≡ plan.stream

@@ -1,5 +1,5 @@
 -- Which streams a hand at its board stands for, and which tokens it may put.
-use Rattle.std.proofs.Common.{◌≡◌, ℕ, zero, suc, ◌<◌, List, [], ◌∷◌, length, get_or, refl, sym, ◌∙◌, ap, arith}
+use Rattle.std.proofs.Common.{◌≡◌, ℕ, zero, suc, ◌/◌, ◌<◌, ◌≤◌, List, [], ◌∷◌, length, get_or, refl, sym, ◌∙◌, ap, arith}
 use Rattle.std.specs.Prelude.{Option, Some, None, option_map, slice_get}
 use Rattle.std.proofs.lemmas.Option.{same_Some}
 use Rattle.lid_station.specs.Boards.{Facts, fill}
@@ -45,3 +45,21 @@ attended_next board hand of streams station token f stands served next g at_g =
     ap (λ (y : Facts). slice_get (stream_of (plan_of board) station) y.passed) same
     ∙ ap (λ (s : List ℕ). slice_get s f.passed) (stands station (served_within board hand (fill station) f of served))
     ∙ next
+
+-- what is told of an end is told of what is there
+told_there : (o : Option Held) (f : Facts) → option_map facts o ≡ Some f → (h : Held) × (o ≡ Some h) × (h.passed ≡ f.passed)
+told_there None f e = absurd (cc)
+told_there (Some h) f e = (h, refl, ap (λ (g : Facts). g.passed) (same_Some (facts h) f e))
+
+-- no end of a hand was passed by more tokens than its board's stream has
+pub attended_within : (board : Board) (hand : Hand) (of : IsOf hand board) (streams : ℕ → List ℕ) (station end : ℕ) (f : Facts)
+    → end / 2 ≡ station → StandsFor (plan_of board) streams → facts_at (ends_of hand) end ≡ Some f → f.passed ≤ length (streams station)
+attended_within board hand of streams station end f side stands served =
+    let there = told_there (at (ends_of hand) end) f served in
+    let within : there.0.passed ≤ length (stream_of (plan_of board) (end / 2)) = of.within end there.0 there.1 in
+    let here : length (stream_of (plan_of board) (end / 2)) ≡ length (stream_of (plan_of board) station) = ap (λ (i : ℕ). length (stream_of (plan_of board) i)) side in
+    let inside = served_within board hand end f of served in
+    let even = board.laid.ends in
+    let long : length (stream_of (plan_of board) station) ≡ length (streams station) = ap (λ (s : List ℕ). length s) (stands station (omega arith)) in
+    let passed = there.2 in
+    omega arith

@@ -3,15 +3,16 @@ use Rattle.std.specs.Prelude.{◌≡◌, ℕ, ◌+◌, ◌-◌, ◌^◌, ◌<◌
 use Rattle.lid_station.specs.Boards.{fill, drain, HasFullBits}
 use Rattle.lid_station.specs.Words.{word, word_number}
 use Rattle.lid_board.specs.Halves.{shown}
-use Rattle.lid_board.specs.Relation.{stream_of, cap_of}
+use Rattle.lid_board.specs.Relation.{AreWithin, stream_of, cap_of}
 use Rattle.lid_board.specs.Views.{Ends, at, IsEarly, seen, missing, passing, changed}
 use Rattle.lid_board.specs.declared.view.Held.{Held}
 
--- an end is of the station of the plan, and the hand's ends stay early
+-- an end is of the station of the plan, the hand's ends stay early, and within their streams
 pub record IsOfPlan (plan : Ends) (station : ℕ) (h : Held) (new : Ends) : Type 0 where
   pub stream : h.stream ≡ stream_of plan station
   pub cap : h.cap ≡ cap_of plan station
   pub early : IsEarly new
+  pub within : AreWithin plan new
 
 -- a load by the drainer found nothing
 pub record FoundVoid (old : Ends) (station : ℕ) (d : Held) (found : ℕ) (new : Ends) : Type 0 where

@@ -1,7 +1,7 @@
 //! A hand at its board.
 
 ghost use Rattle.lid_board.specs.Owners.{IsOf, ends_of, plan_of, identity_of};
-ghost use Rattle.lid_board.specs.Standing.{StandsFor, Admits, attended_next};
+ghost use Rattle.lid_board.specs.Standing.{StandsFor, Admits, attended_next, attended_within};
 ghost use Rattle.lid_board.specs.Views.{facts_at};
 
 use crate::board::Board;
@@ -28,7 +28,7 @@ impl<'b> Stations for Attended<'b> {
 
     ghost admits = { λ a. Admits (plan_of a.board.now) (ends_of a.hand.now) };
 
-    ghost identity = { λ a. identity_of a.hand.ghost_name a.hand.now };
+    ghost identity = { λ a. identity_of a.hand.ghost_name a.hand.now a.board.now };
 
     fn look_in(&mut self, station: u32) -> InLook {
         self.board.look_in(self.hand, station)
@@ -47,4 +47,6 @@ impl<'b> Stations for Attended<'b> {
     }
 
     ghost next_is_admitted = { λ a. attended_next a.board.now a.hand.now a.of_board };
+
+    ghost passed_within = { λ a. attended_within a.board.now a.hand.now a.of_board };
 }

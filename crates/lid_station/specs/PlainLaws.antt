@@ -1,5 +1,5 @@
 -- What follows from what plain stations show at their ends.
-use Rattle.std.proofs.Common.{◌≡◌, ℕ, ◌+◌, ◌*◌, ◌%◌, ◌/◌, ◌^◌, ◌<◌, ◌==◌, Bool, true, false, List, length, refl, sym, ◌∙◌, ap, subst, arith, eq-eqb, ne_eqb}
+use Rattle.std.proofs.Common.{◌≡◌, ℕ, ◌+◌, ◌*◌, ◌%◌, ◌/◌, ◌^◌, ◌<◌, ◌≤◌, ◌==◌, Bool, true, false, List, length, refl, sym, ◌∙◌, ap, subst, arith, eq-eqb, ne_eqb}
 use Rattle.std.specs.Prelude.{Option, Some, None, option_map, slice_get}
 use Rattle.std.proofs.lemmas.Option.{slice_get_within, same_Some, get_or_from_slice_get}
 use Rattle.std.proofs.lemmas.List.Elements.{All-get_or}
@@ -51,3 +51,18 @@ plain_next pairs streams station token f stands at next =
           let short : length (streams station) < 2 ^ 64 = holds.short in
           omega arith;
     }
+
+-- no more tokens passed an end of a plain station than were put there
+passed_put : (side : Bool) (p : Pair) → (end_facts side p).passed ≤ p.put
+passed_put true p = omega arith
+passed_put false p = p.ordered
+
+-- no more tokens passed an end of a plain station than the stream has for which it stands
+pub plain_within : (pairs : List Pair) (streams : ℕ → List ℕ) (station end : ℕ) (f : Facts) → end / 2 ≡ station → PlainStands pairs streams → plain_ends pairs end ≡ Some f → f.passed ≤ length (streams station)
+plain_within pairs streams station end f side stands at =
+    let there = mapped (end_facts (end % 2 == 0)) (slice_get pairs (end / 2)) f at in
+    let filled : there.0.put ≤ length (streams (end / 2)) = (stands (end / 2) there.0 there.1).filled in
+    let put : (end_facts (end % 2 == 0) there.0).passed ≤ there.0.put = passed_put (end % 2 == 0) there.0 in
+    let is : f.passed ≡ (end_facts (end % 2 == 0) there.0).passed = ap (λ (g : Facts). g.passed) there.2 in
+    let long : length (streams (end / 2)) ≡ length (streams station) = ap (λ (i : ℕ). length (streams i)) side in
+    omega arith

@@ -3,7 +3,7 @@
 ghost use Rattle.std.specs.Prelude.{◌≡◌, ℕ, ◌+◌, ◌*◌, ◌%◌, ◌/◌, ◌^◌, ◌<◌, ◌≤◌, ◌-◌, cond, nat_lt, List, length, get_or, IfSome, IfOk};
 ghost use base.Stored.{gnil};
 ghost use Rattle.lid_station.specs.Plain.{plain_ends, PlainStands, PlainAdmits};
-ghost use Rattle.lid_station.specs.PlainLaws.{plain_next};
+ghost use Rattle.lid_station.specs.PlainLaws.{plain_next, plain_within};
 ghost use Rattle.std.specs.List.{All};
 ghost use Rattle.lid_station.specs.Starts.{IsStart, AreStarts, Begin};
 
@@ -145,4 +145,6 @@ impl Stations for PlainBoard {
     }
 
     ghost next_is_admitted = { λ board. plain_next board.pairs.items };
+
+    ghost passed_within = { λ board. plain_within board.pairs.items };
 }

@@ -1,6 +1,6 @@
 //! What may be done at the ends of stations.
 
-ghost use Rattle.std.specs.Prelude.{◌≡◌, ℕ, ◌+◌, ◌^◌, ◌<◌, ◌≤◌, List, Some, Option, slice_get, ◌↔◌};
+ghost use Rattle.std.specs.Prelude.{◌≡◌, ℕ, ◌+◌, ◌/◌, ◌^◌, ◌<◌, ◌≤◌, List, length, Some, Option, slice_get, ◌↔◌};
 ghost use base.Stored.{Gv};
 ghost use Rattle.lid_station.specs.Boards.{Facts, fill, drain, IsServed, IsMarked, advanced, Changes, looked_in, looked_out, IsToken, IsVoid, IsRoom, IsStop, FindsIn, FindsOut, HasSmallToken, TellsNothing, TellsFull, HasFilled, HasDrained};
 
@@ -15,8 +15,8 @@ use crate::looks::{InLook, OutLook};
 /// is drained one more.
 ///
 /// `stands` tells whether the stations carry given streams, one for each station. The tokens that
-/// passed an end are then the first of the station's stream. `admits` tells whether a token may be
-/// put in a station. `identity` is what the stations are made of: a call on a part of them that was
+/// passed an end are then the first of the station's stream, and no end was passed by more than the
+/// stream has. `admits` tells whether a token may be put in a station. `identity` is what the stations are made of: a call on a part of them that was
 /// lent is a call on the same stations.
 ///
 /// No call takes memory, and none changes which ends are served, a capacity or a start count.
@@ -83,4 +83,6 @@ pub trait Stations {
         ensures same { identity self.new ≡ identity self.old };
 
     ghost next_is_admitted: { (board : Self) → (streams : ℕ → List ℕ) → (station : ℕ) → (token : ℕ) → (f : Facts) → stands board streams → ends board (fill station) ≡ Some f → slice_get (streams station) f.passed ≡ Some token → admits board station token };
+
+    ghost passed_within: { (board : Self) → (streams : ℕ → List ℕ) → (station : ℕ) → (end : ℕ) → (f : Facts) → end / 2 ≡ station → stands board streams → ends board end ≡ Some f → f.passed ≤ length (streams station) };
 }

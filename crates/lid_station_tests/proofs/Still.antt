@@ -7,29 +7,17 @@ use Rattle.std.proofs.lemmas.List.Elements.{All-replicate}
 use Rattle.std.proofs.lemmas.Option.{same_Some, slice_get_within, get_or_from_slice_get}
 use mathlib.Core.Logic.{dite}
 use native.Mathlib.Decide.{ℕ_discrete}
-use base.Stored.{gnum, gcons}
-use Rattle.atomic_table.specs.Seated.{TableId, table_id_coded}
 use Rattle.lid_station.specs.Boards.{Facts, Changes}
 use Rattle.lid_station.proofs.Boards.{changed_here, changed_else}
-use Rattle.lid_board.specs.Owners.{IsOf, IsOwned, ends_of}
+use Rattle.lid_board.specs.Lending.{IsBack}
+use Rattle.lid_board.specs.Owners.{IsOf, IsOwned, ends_of, identity_of}
 use Rattle.lid_board.specs.Standing.{StandsFor}
 use Rattle.lid_board.specs.Starts.{Begins}
 use Rattle.lid_board.specs.Views.{Ends, at, facts, facts_at, held, held_of}
+use Rattle.lid_board.proofs.Lent.{come_back}
 use Rattle.lid_board.specs.declared.board.Board.{Board}
 use Rattle.lid_board.specs.declared.hand.Hand.{Hand}
 use Rattle.lid_board.specs.declared.view.Held.{Held}
-
--- what the same hand at the same board is made of
-same_made : (a b n m : ℕ) (z w : TableId) → gcons (gnum a) (gcons (gnum n) (table_id_coded.code z)) ≡ gcons (gnum b) (gcons (gnum m) (table_id_coded.code w)) → (n ≡ m) × (z ≡ w)
-same_made a b n m z w e = (cc, table_id_coded.inj z w cc)
-
--- a hand that was lent is one of its board still
-pub still_of : (old new : Hand) (board : Board) (a b : ℕ)
-    → gcons (gnum a) (gcons (gnum (length new.ends.items)) (table_id_coded.code new.seat.table_id)) ≡ gcons (gnum b) (gcons (gnum (length old.ends.items)) (table_id_coded.code old.seat.table_id))
-    → IsOf old board → IsOf new board
-still_of old new board a b e of =
-    let made = same_made a b (length new.ends.items) (length old.ends.items) new.seat.table_id old.seat.table_id e in
-    record { table = made.1 ∙ of.table; room = made.0 ∙ of.room }
 
 facts_there : (o : Option Held) (n : ℕ) → option_map (λ (h : Held). h.passed) o ≡ Some n → (f : Facts) × (option_map facts o ≡ Some f) × (f.passed ≡ n)
 facts_there None n e = absurd (cc)
@@ -57,12 +45,10 @@ pub stands_same : (plan : Ends) (n : ℕ) (stream : List ℕ) → length plan �
 stands_same plan n stream many stands station inside = stands station inside ∙ get_or-replicate n station stream [] (omega arith)
 
 -- the hand that was lent is the one that comes back
-pub still_back : (old new back : Hand) (board : Board) (a b : ℕ)
-    → gcons (gnum a) (gcons (gnum (length new.ends.items)) (table_id_coded.code new.seat.table_id)) ≡ gcons (gnum b) (gcons (gnum (length old.ends.items)) (table_id_coded.code old.seat.table_id))
-    → (b ≡ a → back ≡ new) → IsOf old board → IsOf back board
-still_back old new back board a b e is of =
-    let same : b ≡ a = cc in
-    subst (λ (h : Hand). IsOf h board) (sym (is same)) (still_of old new board a b e of)
+pub still_back : (old new back : Hand) (before after : Board) (a b : ℕ) → identity_of a new after ≡ identity_of b old before → (b ≡ a → back ≡ new) → IsOf old before → IsOf new after → IsOf back before
+still_back old new back before after a b e is of_old of_new =
+    let made : IsBack b a old new before = come_back b a old new before after e of_old of_new in
+    subst (λ (h : Hand). IsOf h before) (sym (is (sym made.same))) made.of
 
 -- an end of which something is known is owned
 owned_there : (o : Option Held) (f : Facts) → option_map facts o ≡ Some f → o ≡ Some (held_of o)
@@ -78,9 +64,7 @@ owned_kept old new end k step changes owned =
     (λ miss. owned_there (at new k) (facts (held old k)) (changed_else (facts_at old) (facts_at new) end k step changes miss ∙ known))
 
 -- what is owned at the hand that comes back
-pub owned_back : (old new back : Hand) (a b k : ℕ)
-    → gcons (gnum a) (gcons (gnum (length new.ends.items)) (table_id_coded.code new.seat.table_id)) ≡ gcons (gnum b) (gcons (gnum (length old.ends.items)) (table_id_coded.code old.seat.table_id))
-    → (b ≡ a → back ≡ new) → IsOwned (ends_of new) k → IsOwned (ends_of back) k
-owned_back old new back a b k e is owned =
-    let same : b ≡ a = cc in
-    subst (λ (h : Hand). IsOwned (ends_of h) k) (sym (is same)) owned
+pub owned_back : (old new back : Hand) (before after : Board) (a b k : ℕ) → identity_of a new after ≡ identity_of b old before → (b ≡ a → back ≡ new) → IsOf old before → IsOf new after → IsOwned (ends_of new) k → IsOwned (ends_of back) k
+owned_back old new back before after a b k e is of_old of_new owned =
+    let made : IsBack b a old new before = come_back b a old new before after e of_old of_new in
+    subst (λ (h : Hand). IsOwned (ends_of h) k) (sym (is (sym made.same))) owned

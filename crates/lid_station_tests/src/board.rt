@@ -3,7 +3,7 @@
 ghost use Rattle.std.specs.Prelude.{◌≡◌, ℕ, ◌^◌, ◌<◌, ◌≤◌, List, [], ◌∷◌, replicate, option_map, IfSome, IsTrue, length, Some, slice_get};
 ghost use Rattle.std.specs.List.{All};
 ghost use Rattle.std.specs.Thread.{IsSync};
-ghost use Rattle.lid_station.specs.Boards.{fill};
+ghost use Rattle.lid_station.specs.Boards.{fill, IsServed};
 ghost use Rattle.lid_board.specs.Owners.{IsOf, IsOwned, ends_of, plan_of};
 ghost use Rattle.lid_board.specs.Parting.{side_number};
 ghost use Rattle.lid_board.specs.Relation.{stream_of};
@@ -182,7 +182,7 @@ fn first_other(
 }
 
 /// A station of 3 places that starts with the token 5 of the stream 5, 6, 7, 8.
-static FULL: [Step; 6] = [
+static THREE: [Step; 6] = [
     Step::Offer(OutLook::Room),
     Step::Offer(OutLook::Room),
     Step::Offer(OutLook::Stop(0x8000_0006_8000_0005)),
@@ -191,21 +191,136 @@ static FULL: [Step; 6] = [
     Step::Offer(OutLook::Stop(0x8000_0006_8000_0008)),
 ];
 
-/// How many of the steps are as they are told.
-fn told_when_full(alloc: Global) -> Option<usize> {
+/// A station of 4 places that starts with the token 5 of the stream 5 to 10. The next token of the
+/// last offer would go to place 2, so the second word is told.
+static FOUR: [Step; 10] = [
+    Step::Offer(OutLook::Room),
+    Step::Offer(OutLook::Room),
+    Step::Offer(OutLook::Room),
+    Step::Offer(OutLook::Stop(0x8000_0006_8000_0005)),
+    Step::Receive(InLook::Token(5)),
+    Step::Offer(OutLook::Room),
+    Step::Offer(OutLook::Stop(0x8000_0006_8000_0009)),
+    Step::Receive(InLook::Token(6)),
+    Step::Offer(OutLook::Room),
+    Step::Offer(OutLook::Stop(0x8000_0008_8000_0007)),
+];
+
+/// A station of 5 places that starts with the token 5 of the stream 5 to 13. The next token of the
+/// last offer would go to place 4, which has the last word alone.
+static FIVE: [Step; 17] = [
+    Step::Offer(OutLook::Room),
+    Step::Offer(OutLook::Room),
+    Step::Offer(OutLook::Room),
+    Step::Offer(OutLook::Room),
+    Step::Offer(OutLook::Stop(0x8000_0006_8000_0005)),
+    Step::Receive(InLook::Token(5)),
+    Step::Offer(OutLook::Room),
+    Step::Offer(OutLook::Stop(0x8000_0006_8000_000a)),
+    Step::Receive(InLook::Token(6)),
+    Step::Offer(OutLook::Room),
+    Step::Offer(OutLook::Stop(0x8000_0008_8000_0007)),
+    Step::Receive(InLook::Token(7)),
+    Step::Offer(OutLook::Room),
+    Step::Offer(OutLook::Stop(0x8000_0008_8000_000c)),
+    Step::Receive(InLook::Token(8)),
+    Step::Offer(OutLook::Room),
+    Step::Offer(OutLook::Stop(0x8000_0009)),
+];
+
+/// A full station of 16 places that started with the token 5 of the stream 5 to 21.
+static SIXTEEN: [Step; 4] = [
+    Step::Offer(OutLook::Stop(0x8000_0006_8000_0005)),
+    Step::Receive(InLook::Token(5)),
+    Step::Offer(OutLook::Room),
+    Step::Offer(OutLook::Stop(0x8000_0006_8000_0015)),
+];
+
+/// How many of the steps are as they are told, at a station that starts with the stream's first
+/// token.
+fn told_at(alloc: Global, cap: u32, stream: &'static [u32], steps: &[Step]) -> Option<usize>
+    requires two { 2 ≤ cap }
+    requires few { cap ≤ 16 }
+{
     let course = Same {
         stations: 1,
-        stream: &[5, 6, 7, 8],
+        stream,
     };
-    let Some((board, mut hand)) = start_same(alloc, 3, &course) else {
+    let Some((board, mut hand)) = start_same(alloc, cap, &course) else {
         return None;
     };
-    Some(first_other(&board, &mut hand, 0, course.stream, &FULL))
+    Some(first_other(&board, &mut hand, 0, stream, steps))
 }
 
 #[test]
 fn stations_tell_what_they_hold(rt: HostRuntime) {
-    assert_eq!(rt; told_when_full(rt.alloc()), Some(6));
+    let three = told_at(rt.alloc(), 3, &[5, 6, 7, 8], &THREE);
+    assert_eq!(rt; three, Some(6));
+    let four = told_at(rt.alloc(), 4, &[5, 6, 7, 8, 9, 10], &FOUR);
+    assert_eq!(rt; four, Some(10));
+}
+
+/// How many tokens passed into a station of 16 places after fifteen were offered, and how many steps
+/// are as they are told then.
+fn told_of_sixteen(alloc: Global) -> Option<(Option<u64>, usize)> {
+    let course = Same {
+        stations: 1,
+        stream: &[
+            5, 6, 7, 8, 9, 10, 11, 12, 13, 14, 15, 16, 17, 18, 19, 20, 21,
+        ],
+    };
+    let Some((board, hand)) = start_same(alloc, 16, &course) else {
+        return None;
+    };
+    let mut hand = fill_some(&board, hand, 15, course.stream);
+    let filled = count_at(&hand, 0, Side::Fill);
+    let told = first_other(&board, &mut hand, 0, course.stream, &SIXTEEN);
+    Some((filled, told))
+}
+
+#[test]
+fn larger_stations_tell_what_they_hold(rt: HostRuntime) {
+    let five = told_at(rt.alloc(), 5, &[5, 6, 7, 8, 9, 10, 11, 12, 13], &FIVE);
+    assert_eq!(rt; five, Some(17));
+    assert_eq!(rt; told_of_sixteen(rt.alloc()), Some((Some(16), 4)));
+}
+
+/// How many steps are as they are told where a hand without ends is split off and joined again: at
+/// that hand, at the other, and there after the joining.
+fn told_without_ends(alloc: Global) -> Option<(usize, usize, usize)> {
+    let course = Same {
+        stations: 1,
+        stream: &[5, 6],
+    };
+    let Some((board, mut hand)) = start_same(alloc, 2, &course) else {
+        return None;
+    };
+    let Ok(mut none) = board.split(&mut hand, &[]) else {
+        return None;
+    };
+    let stream = course.stream;
+    let there = first_other(&board, &mut none, 0, stream, &[Step::ReceiveElsewhere]);
+    let here = first_other(
+        &board,
+        &mut hand,
+        0,
+        stream,
+        &[Step::Receive(InLook::Token(5))],
+    );
+    board.join(&mut hand, none);
+    let after = first_other(
+        &board,
+        &mut hand,
+        0,
+        stream,
+        &[Step::Receive(InLook::Void(0))],
+    );
+    Some((there, here, after))
+}
+
+#[test]
+fn no_end_goes_to_another_hand(rt: HostRuntime) {
+    assert_eq!(rt; told_without_ends(rt.alloc()), Some((1, 1, 1)));
 }
 
 /// Streams worked by hand: `1` for station 0, and `0 1` for station 1.
@@ -330,38 +445,85 @@ fn drain_some(board: &Board, mut hand: Hand, tries: u32, stream: &[u32]) -> (Han
     (hand, wrong)
 }
 
-/// Whether there is room at a station for a token that the stream has.
-fn has_room(board: &Board, hand: &mut Hand, station: u32, stream: &[u32]) -> bool
+/// Looks for room at a station for a token that the stream has.
+fn look_for_room(board: &Board, hand: &mut Hand, station: u32, stream: &[u32]) -> Option<OutLook>
     requires { IsOf hand.old board.now }
     ensures { IsOf hand.new board.now }
 {
     let Some(passed) = count_at(hand, station, Side::Fill) else {
-        return false;
+        return None;
     };
     if passed >= stream.len() as u64 {
-        return false;
+        return None;
     }
     let mut stations = Attended {
         board,
         hand: &mut *hand,
     };
-    matches!(stations.look_out(station), OutLook::Room)
+    Some(stations.look_out(station))
 }
 
-/// Carries a token from a station to another of the same stream so many times, where it can.
-fn carry_some(board: &Board, mut hand: Hand, from: u32, to: u32, stream: &[u32]) -> Hand
+/// What a try to carry a token came to.
+#[derive(Clone, Copy)]
+enum Carried {
+    /// This token went on.
+    Token(u32),
+    /// The station to drain held nothing, and told this word.
+    Void(u64),
+    /// The station to fill held its capacity, and told this word.
+    Stop(u64),
+}
+
+/// Carries a token from a station to another of the same stream, where it can.
+fn carry(board: &Board, hand: &mut Hand, from: u32, to: u32, stream: &[u32]) -> Option<Carried>
+    requires of { IsOf hand.old board.now }
+    requires stands { StandsFor (plan_of board.now) (λ _. stream.now) }
+    ensures { IsOf hand.new board.now }
+{
+    let Some(room) = look_for_room(board, hand, to, stream) else {
+        return None;
+    };
+    if let OutLook::Stop(word) = room {
+        return Some(Carried::Stop(word));
+    }
+    let Some((found, taken)) = receive(board, hand, from) else {
+        return None;
+    };
+    if let InLook::Void(word) = found {
+        return Some(Carried::Void(word));
+    }
+    let Some(token) = taken else {
+        return None;
+    };
+    let _look = offer(board, hand, to, stream);
+    Some(Carried::Token(token))
+}
+
+/// Whether a try was told what stations of two places tell that hold sevens alone.
+fn is_told_of_sevens(carried: Carried) -> bool {
+    match carried {
+        Carried::Token(token) => token == 7,
+        Carried::Void(word) => word == 0,
+        Carried::Stop(word) => word == 0x8000_0007_8000_0007,
+    }
+}
+
+/// Carries sevens from a station to another so many times, where it can, and adds up how many tries
+/// were told something else than stations of two places tell.
+fn carry_some(board: &Board, mut hand: Hand, from: u32, to: u32, stream: &[u32]) -> (Hand, u32)
     requires of { IsOf hand board.now }
     requires stands { StandsFor (plan_of board.now) (λ _. stream.now) }
-    ensures { IsOf result board.now }
+    ensures { IsOf result.0 board.now }
 {
+    let mut wrong = 0u32;
     for _try in 0..200 {
-        if has_room(board, &mut hand, to, stream) {
-            if let Some((_, Some(_token))) = receive(board, &mut hand, from) {
-                let _look = offer(board, &mut hand, to, stream);
+        if let Some(carried) = carry(board, &mut hand, from, to, stream) {
+            if !is_told_of_sevens(carried) {
+                wrong = wrong.saturating_add(1);
             }
         }
     }
-    hand
+    (hand, wrong)
 }
 
 /// What a thread does at a board, many times.
@@ -382,7 +544,8 @@ struct Task {
     work: Work,
 }
 
-/// Does some work: the hand after it, and how many tokens taken from station 0 differ from the stream's.
+/// Does some work: the hand after it, and how many tokens taken from station 0 differ from the
+/// stream's, or how many tries to carry were told something else.
 fn do_work(board: &Board, task: Task, stream: &[u32]) -> (Hand, u32)
     requires of { IsOf task.hand board.now }
     requires stands { StandsFor (plan_of board.now) (λ _. stream.now) }
@@ -392,7 +555,7 @@ fn do_work(board: &Board, task: Task, stream: &[u32]) -> (Hand, u32)
     match work {
         Work::Fill => (fill_some(board, hand, 300, stream), 0),
         Work::Drain => drain_some(board, hand, 300, stream),
-        Work::Carry(from, to) => (carry_some(board, hand, from, to, stream), 0),
+        Work::Carry(from, to) => carry_some(board, hand, from, to, stream),
     }
 }
 
@@ -593,13 +756,14 @@ fn two_workers(
     Some((one, two))
 }
 
-/// Lets four workers carry in a ring; the hand has all ends again then.
+/// Lets four workers carry in a ring; the hand has all ends again then. With it comes how many tries
+/// were told something else.
 fn carried_round<R: Threads + Sync>(
     rt: &R,
     board: &Board,
     mut hand: Hand,
     stream: &[u32],
-) -> Option<Hand>
+) -> Option<(Hand, u32)>
     requires of { IsOf hand board.now }
     requires stands { StandsFor (plan_of board.now) (λ _. stream.now) }
 {
@@ -609,7 +773,7 @@ fn carried_round<R: Threads + Sync>(
     let Some((three, four)) = two_workers(board, &mut hand, 2, 3, 0) else {
         return None;
     };
-    let ((one, two, _), (three, four, _)) = do_all(
+    let ((one, two, wrong), (three, four, more)) = do_all(
         rt,
         board,
         carrying(one, 0, 1),
@@ -622,7 +786,7 @@ fn carried_round<R: Threads + Sync>(
     board.join(&mut hand, two);
     board.join(&mut hand, three);
     board.join(&mut hand, four);
-    Some(hand)
+    Some((hand, wrong.saturating_add(more)))
 }
 
 /// How many tokens a station holds, by a hand with both its ends.
@@ -644,9 +808,9 @@ fn has_gone_round(hand: &Hand, least: u64) -> bool {
 }
 
 /// How many tokens four stations hold that started with one each, after four workers carried them
-/// in a ring, and whether each worker carried one: each finds a token and room at its first try,
-/// whatever the others do.
-fn held_in_ring<R: Threads + Sync>(rt: &R, alloc: Global) -> Option<(u64, bool)> {
+/// in a ring, whether each worker carried one (each finds a token and room at its first try, whatever
+/// the others do), and how many tries were told another word or token than they must.
+fn held_in_ring<R: Threads + Sync>(rt: &R, alloc: Global) -> Option<(u64, bool, u32)> {
     let course = Same {
         stations: 4,
         stream: &[7; 40],
@@ -654,17 +818,17 @@ fn held_in_ring<R: Threads + Sync>(rt: &R, alloc: Global) -> Option<(u64, bool)>
     let Some((board, hand)) = start_same(alloc, 2, &course) else {
         return None;
     };
-    let Some(hand) = carried_round(rt, &board, hand, course.stream) else {
+    let Some((hand, wrong)) = carried_round(rt, &board, hand, course.stream) else {
         return None;
     };
     let half = holds(&hand, 0).saturating_add(holds(&hand, 1));
     let rest = holds(&hand, 2).saturating_add(holds(&hand, 3));
-    Some((half.saturating_add(rest), has_gone_round(&hand, 2)))
+    Some((half.saturating_add(rest), has_gone_round(&hand, 2), wrong))
 }
 
 #[test]
 fn four_workers_share_a_ring(rt: HostRuntime) {
-    assert_eq!(rt; held_in_ring(&rt, rt.alloc()), Some((4, true)));
+    assert_eq!(rt; held_in_ring(&rt, rt.alloc()), Some((4, true, 0)));
 }
 
 /// Streams worked by hand: `5 6 7 8` for station 0, and `9` for station 1.
@@ -743,4 +907,54 @@ fn left_after_close(alloc: Global) -> Option<(usize, OutLook, bool)> {
 fn a_board_closes_into_plain_stations(rt: HostRuntime) {
     let full = OutLook::Stop(0x8000_0006_8000_0008);
     assert_eq!(rt; left_after_close(rt.alloc()), Some((4, full, true)));
+}
+
+/// Looks for room at a station so many times, over any stations.
+fn look_often<B: Stations>(stations: &mut B, station: u32, times: u32)
+    requires served { IsServed (B.ends stations.old) (fill station) }
+    ensures same { B.identity stations.new ≡ B.identity stations.old }
+{
+    for _time in 0..times {
+        let _look = stations.look_out(station);
+    }
+}
+
+/// Lends a hand to that code, where it has the filled end of the station.
+fn lend(board: &Board, hand: &mut Hand, station: u32, times: u32)
+    requires { IsOf hand.old board.now }
+    ensures { IsOf hand.new board.now }
+{
+    let Some(_passed) = count_at(hand, station, Side::Fill) else {
+        return;
+    };
+    let mut stations = Attended {
+        board,
+        hand: &mut *hand,
+    };
+    look_often(&mut stations, station, times);
+}
+
+/// A station of 2 places that starts with the token 5 of the stream 5, 6.
+static TWO: [Step; 3] = [
+    Step::Offer(OutLook::Room),
+    Step::Offer(OutLook::Stop(0x8000_0006_8000_0005)),
+    Step::Receive(InLook::Token(5)),
+];
+
+/// How many steps are as they are told, by a hand that was lent and came back.
+fn told_after_lending(alloc: Global) -> Option<usize> {
+    let course = Same {
+        stations: 1,
+        stream: &[5, 6],
+    };
+    let Some((board, mut hand)) = start_same(alloc, 2, &course) else {
+        return None;
+    };
+    lend(&board, &mut hand, 0, 3);
+    Some(first_other(&board, &mut hand, 0, course.stream, &TWO))
+}
+
+#[test]
+fn a_hand_that_was_lent_comes_back(rt: HostRuntime) {
+    assert_eq!(rt; told_after_lending(rt.alloc()), Some(3));
 }

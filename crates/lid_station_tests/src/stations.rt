@@ -1,6 +1,6 @@
 //! Plain stations, with the answers that follow from what they hold.
 
-ghost use Rattle.std.specs.Prelude.{◌<◌};
+ghost use Rattle.std.specs.Prelude.{◌<◌, ◌≤◌};
 
 use lid_station::{InLook, OutLook, PlainBoard, Stations};
 use std::alloc::Global;
@@ -56,7 +56,7 @@ fn told_before_other(board: &mut PlainBoard, steps: &[Step]) -> usize {
 }
 
 /// A station of 3 places that starts with the token 5.
-static FULL: [Step; 10] = [
+static THREE: [Step; 10] = [
     Step::Offer(6, OutLook::Room),
     Step::Offer(7, OutLook::Room),
     Step::Offer(8, OutLook::Stop(0x8000_0006_8000_0005)),
@@ -69,6 +69,39 @@ static FULL: [Step; 10] = [
     Step::Receive(InLook::Token(7)),
 ];
 
+/// A station of 4 places that starts with the token 5.
+static FOUR: [Step; 7] = [
+    Step::Offer(6, OutLook::Room),
+    Step::Offer(7, OutLook::Room),
+    Step::Offer(8, OutLook::Room),
+    Step::Offer(9, OutLook::Stop(0x8000_0006_8000_0005)),
+    Step::Receive(InLook::Token(5)),
+    Step::Offer(9, OutLook::Room),
+    Step::Offer(10, OutLook::Stop(0x8000_0006_8000_0009)),
+];
+
+/// A station of 5 places that starts with the token 5. The next token of the last offer would go to
+/// place 4, which has the last word alone.
+static FIVE: [Step; 17] = [
+    Step::Offer(6, OutLook::Room),
+    Step::Offer(7, OutLook::Room),
+    Step::Offer(8, OutLook::Room),
+    Step::Offer(9, OutLook::Room),
+    Step::Offer(10, OutLook::Stop(0x8000_0006_8000_0005)),
+    Step::Receive(InLook::Token(5)),
+    Step::Offer(10, OutLook::Room),
+    Step::Offer(11, OutLook::Stop(0x8000_0006_8000_000a)),
+    Step::Receive(InLook::Token(6)),
+    Step::Offer(11, OutLook::Room),
+    Step::Offer(12, OutLook::Stop(0x8000_0008_8000_0007)),
+    Step::Receive(InLook::Token(7)),
+    Step::Offer(12, OutLook::Room),
+    Step::Offer(13, OutLook::Stop(0x8000_0008_8000_000c)),
+    Step::Receive(InLook::Token(8)),
+    Step::Offer(13, OutLook::Room),
+    Step::Offer(14, OutLook::Stop(0x8000_0009)),
+];
+
 /// A station of 2 places that starts empty.
 static EMPTY: [Step; 3] = [
     Step::Receive(InLook::Void(0)),
@@ -76,10 +109,13 @@ static EMPTY: [Step; 3] = [
     Step::Receive(InLook::Token(2_147_483_647)),
 ];
 
-/// How many steps are as they are told at a station of 3 places that starts with a token.
-fn told_when_full(alloc: Global) -> Option<usize> {
-    match PlainBoard::start(alloc, &[Some(5)], &[3]) {
-        Ok(mut board) => Some(told_before_other(&mut board, &FULL)),
+/// How many steps are as they are told at a station that starts with the token 5.
+fn told_when_full(alloc: Global, cap: u32, steps: &[Step]) -> Option<usize>
+    requires two { 2 ≤ cap }
+    requires few { cap ≤ 16 }
+{
+    match PlainBoard::start(alloc, &[Some(5)], &[cap]) {
+        Ok(mut board) => Some(told_before_other(&mut board, steps)),
         Err(_) => None,
     }
 }
@@ -94,12 +130,15 @@ fn told_when_empty(alloc: Global) -> Option<usize> {
 
 #[test]
 fn stations_tell_what_they_hold(rt: HostRuntime) {
-    assert_eq!(rt; told_when_full(rt.alloc()), Some(10));
+    assert_eq!(rt; told_when_full(rt.alloc(), 3, &THREE), Some(10));
+    assert_eq!(rt; told_when_full(rt.alloc(), 4, &FOUR), Some(7));
+    assert_eq!(rt; told_when_full(rt.alloc(), 5, &FIVE), Some(17));
     assert_eq!(rt; told_when_empty(rt.alloc()), Some(3));
 }
 
-/// Whether 16 tokens go into an empty station of 16 places, no more, and come out again.
-fn goes_round(board: &mut PlainBoard, first: u32) -> bool
+/// Whether 16 tokens go into an empty station of 16 places, no more, where this word is told, and
+/// come out again.
+fn goes_round(board: &mut PlainBoard, first: u32, full: u64) -> bool
     requires { first < 1000 }
 {
     for token in first..first + 16 {
@@ -107,7 +146,7 @@ fn goes_round(board: &mut PlainBoard, first: u32) -> bool
             return false;
         }
     }
-    if !matches!(offer(board, 99), Some(OutLook::Stop(_))) {
+    if offer(board, 99) != Some(OutLook::Stop(full)) {
         return false;
     }
     for token in first..first + 16 {
@@ -121,7 +160,10 @@ fn goes_round(board: &mut PlainBoard, first: u32) -> bool
 /// Whether a station of 16 places goes round twice.
 fn goes_round_twice(alloc: Global) -> bool {
     match PlainBoard::start(alloc, &[None], &[16]) {
-        Ok(mut board) => goes_round(&mut board, 0) && goes_round(&mut board, 100),
+        Ok(mut board) => {
+            goes_round(&mut board, 0, 0x8000_0001_8000_0000)
+                && goes_round(&mut board, 100, 0x8000_0065_8000_0064)
+        }
         Err(_) => false,
     }
 }

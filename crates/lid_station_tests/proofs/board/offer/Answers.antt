@@ -13,19 +13,19 @@ look_out-look-requires c =
     (there.0, there.1)
 
 pub returns-in_default-look-clause-of : goal.returns-in_default-look-clause-of
-returns-in_default-look-clause-of c = still_back c.args.hand.now _ _ c.args.board.now _ _ c.in_default-look.ensures.same c.hand-1.given.1 c.requires.of
+returns-in_default-look-clause-of c = still_back c.args.hand.now c.look_out-look.new.self.hand.now _ c.args.board.now c.look_out-look.new.self.board.now _ _ c.in_default-look.ensures.same c.hand-1.given.1 c.requires.of c.look_out-look.new.self.of_board
 
 pub returns-in_default-look-clause-owned : goal.returns-in_default-look-clause-owned
 returns-in_default-look-clause-owned c end owned =
-    owned_back c.args.hand.now _ _ _ _ end c.in_default-look.ensures.same c.hand-1.given.1
+    owned_back c.args.hand.now c.look_out-look.new.self.hand.now _ c.args.board.now c.look_out-look.new.self.board.now _ _ end c.in_default-look.ensures.same c.hand-1.given.1 c.requires.of c.look_out-look.new.self.of_board
     (owned_kept (ends_of c.args.hand.now) (ends_of c.look_out-look.new.self.hand.now) (fill c.args.station) end _ c.in_default-look.ensures.changed owned)
 
 pub returns-in_default-next-clause-of : goal.returns-in_default-next-clause-of
-returns-in_default-next-clause-of c = still_back c.args.hand.now _ _ c.args.board.now _ _ c.in-Room.ensures.same c.hand-in_default-next-1.given.1 c.requires.of
+returns-in_default-next-clause-of c = still_back c.args.hand.now c.look_out-look.new.self.hand.now _ c.args.board.now c.look_out-look.new.self.board.now _ _ c.in-Room.ensures.same c.hand-in_default-next-1.given.1 c.requires.of c.look_out-look.new.self.of_board
 
 pub returns-in_default-next-clause-owned : goal.returns-in_default-next-clause-owned
 returns-in_default-next-clause-owned c end owned =
-    owned_back c.args.hand.now _ _ _ _ end c.in-Room.ensures.same c.hand-in_default-next-1.given.1
+    owned_back c.args.hand.now c.look_out-look.new.self.hand.now _ c.args.board.now c.look_out-look.new.self.board.now _ _ end c.in-Room.ensures.same c.hand-in_default-next-1.given.1 c.requires.of c.look_out-look.new.self.of_board
     (owned_kept (ends_of c.args.hand.now) (ends_of c.look_out-look.new.self.hand.now) (fill c.args.station) end _ c.in-Room.ensures.changed owned)
 
 pub put-requires-clause-room : goal.put-requires-clause-room
@@ -43,10 +43,10 @@ put-requires-clause-admitted c =
     (ap (λ (s : List ℕ). slice_get s there.0.passed) (c.requires.stream within) ∙ ap (slice_get c.args.stream.now) there.2 ∙ c.in-Some-next.ensures.next)
 
 pub returns-clause-of : goal.returns-clause-of
-returns-clause-of c = still_back c.args.hand.now _ _ c.args.board.now _ _ (c.put.ensures.same ∙ c.in-Room.ensures.same) c.hand-2-1.given.1 c.requires.of
+returns-clause-of c = still_back c.args.hand.now c.put.new.self.hand.now _ c.args.board.now c.put.new.self.board.now _ _ (c.put.ensures.same ∙ c.in-Room.ensures.same) c.hand-2-1.given.1 c.requires.of c.put.new.self.of_board
 
 pub returns-clause-owned : goal.returns-clause-owned
 returns-clause-owned c end owned =
-    owned_back c.args.hand.now _ _ _ _ end (c.put.ensures.same ∙ c.in-Room.ensures.same) c.hand-2-1.given.1
+    owned_back c.args.hand.now c.put.new.self.hand.now _ c.args.board.now c.put.new.self.board.now _ _ end (c.put.ensures.same ∙ c.in-Room.ensures.same) c.hand-2-1.given.1 c.requires.of c.put.new.self.of_board
     (owned_kept (ends_of c.look_out-look.new.self.hand.now) (ends_of c.put.new.self.hand.now) (fill c.args.station) end advanced c.put.ensures.changed
     (owned_kept (ends_of c.args.hand.now) (ends_of c.look_out-look.new.self.hand.now) (fill c.args.station) end _ c.in-Room.ensures.changed owned))

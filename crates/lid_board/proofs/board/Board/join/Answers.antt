@@ -1,9 +1,11 @@
 use Rattle.std.proofs.Common.{rules, ℕ, List, None, get_or, sym, ◌∙◌, ap, subst}
 use Rattle.std.specs.Prelude.{Option}
+use Rattle.lid_board.specs.Owners.{plan_of}
 use Rattle.lid_board.specs.Parting.{or_else}
+use Rattle.lid_board.specs.Relation.{AreWithin}
 use Rattle.lid_board.specs.Ties.{IsTied}
 use Rattle.lid_board.specs.Views.{Ends, at}
-use Rattle.lid_board.proofs.Numbers.{written, tied_merged}
+use Rattle.lid_board.proofs.Numbers.{written, written_long, tied_merged, within_merged}
 use Rattle.lid_board.proofs.Parting.{at_merged}
 use Rattle.lid_board.proofs.board.Board.join.Goals as goal
 
@@ -23,3 +25,12 @@ invariant_of-hand c = record {
 
 pub returns-clause-joined : goal.returns-clause-joined
 returns-clause-joined c end = ap (λ (e : Ends). at e end) c.join_both.ensures.both ∙ at_merged c.args.hand.now.seat.me.0.ends c.args.other.seat.me.0.ends end
+
+pub returns-clause-of : goal.returns-clause-of
+returns-clause-of c = record {
+  table = c.join_both.ensures.seat.0 ∙ c.requires.of.table;
+  room = written_long c.merge_numbers.new.into c.args.hand.now.ends.items c.args.hand.now.ends.len (search rules) (search rules) ∙ c.requires.of.room;
+  within =
+      subst (AreWithin (plan_of c.args.self.now)) (sym c.join_both.ensures.both)
+      (within_merged (plan_of c.args.self.now) c.args.hand.now.seat.me.0.ends c.args.other.seat.me.0.ends c.requires.of.within c.requires.other.within);
+}

@@ -1,9 +1,11 @@
 use Rattle.std.proofs.Common.{rules, ℕ, cond, List, None, get_or, sym, ◌∙◌, ap, subst}
 use Rattle.std.specs.Prelude.{Option}
+use Rattle.lid_board.specs.Owners.{plan_of}
 use Rattle.lid_board.specs.Parting.{is_chosen}
+use Rattle.lid_board.specs.Relation.{AreWithin}
 use Rattle.lid_board.specs.Ties.{IsTied}
 use Rattle.lid_board.specs.Views.{Ends, at}
-use Rattle.lid_board.proofs.Numbers.{written_at, tied_left, tied_right}
+use Rattle.lid_board.proofs.Numbers.{written_at, written_long, tied_left, tied_right, within_left, within_right}
 use Rattle.lid_board.proofs.Parting.{at_left, at_right}
 use Rattle.lid_board.proofs.board.Board.split.Goals as goal
 
@@ -32,3 +34,21 @@ returns-clause-kept c end = ap (λ (e : Ends). at e end) c.split_as-seat.ensures
 
 pub returns-clause-given : goal.returns-clause-given
 returns-clause-given c end = ap (λ (e : Ends). at e end) c.split_as-seat.ensures.right ∙ at_right (is_chosen c.args.ends.now) c.args.hand.now.seat.me.0.ends end
+
+pub returns-clause-of : goal.returns-clause-of
+returns-clause-of c = record {
+  table = c.split_as-seat.ensures.seat.0 ∙ c.requires.of.table;
+  room = written_long c.move_numbers.new.from c.args.hand.now.ends.items c.args.hand.now.ends.len (search rules) (search rules) ∙ c.requires.of.room;
+  within =
+      subst (AreWithin (plan_of c.args.self.now)) (sym c.split_as-seat.ensures.left)
+      (within_left (plan_of c.args.self.now) c.args.hand.now.seat.me.0.ends (is_chosen c.args.ends.now) c.requires.of.within);
+}
+
+pub returns-clause-new_of : goal.returns-clause-new_of
+returns-clause-new_of c = record {
+  table = c.split_as-seat.ensures.seat.2 ∙ c.requires.of.table;
+  room = written_long c.move_numbers.new.into c.in_ok-numbers.numbers.items c.in_ok-numbers.numbers.len (search rules) (search rules) ∙ search rules ∙ c.requires.of.room;
+  within =
+      subst (AreWithin (plan_of c.args.self.now)) (sym c.split_as-seat.ensures.right)
+      (within_right (plan_of c.args.self.now) c.args.hand.now.seat.me.0.ends (is_chosen c.args.ends.now) c.requires.of.within);
+}

@@ -1,10 +1,11 @@
-use Rattle.std.proofs.Common.{ℕ, List, length, refl, sym, ◌∙◌, ap, subst, arith}
+use Rattle.std.proofs.Common.{rules, ◌≡◌, ℕ, List, length, refl, sym, ◌∙◌, ap, subst, arith}
 use Rattle.atomic_table.specs.Table.{Me}
 use Rattle.atomic_table.specs.declared.shared.Seat.{Seat}
+use Rattle.lid_board.specs.Relation.{AreWithin}
 use Rattle.lid_board.specs.Starts.{AreLaid}
 use Rattle.lid_board.specs.Ties.{IsLaid}
 use Rattle.lid_board.specs.declared.view.View.{View}
-use Rattle.lid_board.proofs.Starting.{start_related, plan_laid, plan_tied, plan_early, plan_fill, plan_drain, plan_stream, plan_long}
+use Rattle.lid_board.proofs.Starting.{start_related, plan_laid, plan_tied, plan_early, plan_within, plan_fill, plan_drain, plan_stream, plan_long}
 use Rattle.lid_board.proofs.board.Board.start.Goals as goal
 
 pub lay_ground-requires : goal.lay_ground-requires
@@ -53,3 +54,16 @@ pub returns-clause-many : goal.returns-clause-many
 returns-clause-many g c =
     let is = ap (λ (k : Seat (Unit {0}) View). k.me.0.ends) c.in_ok-table.ensures.5 ∙ c.in_ok-key.ensures in
     plan_long c.args.firsts.now c.args.caps.now (g.C.Course.streams c.args.course.now) c.in_ok-table.table.shared.key.me.0.ends is
+
+pub returns-clause-of : goal.returns-clause-of
+returns-clause-of g c =
+    let plan_is = ap (λ (k : Seat (Unit {0}) View). k.me.0.ends) c.in_ok-table.ensures.5 ∙ c.in_ok-key.ensures in
+    let ends_are = ap (λ (m : Me (Unit {0}) View). m.0.ends) c.in_ok-table.ensures.4 in
+    let same : c.in_ok-table.seat.me.0.ends ≡ c.in_ok-table.table.shared.key.me.0.ends = ends_are ∙ c.in_ok-key.ensures ∙ sym plan_is in
+    record {
+      table = search rules;
+      room = search rules;
+      within =
+          subst (AreWithin c.in_ok-table.table.shared.key.me.0.ends) (sym same)
+          (plan_within c.args.firsts.now c.args.caps.now (g.C.Course.streams c.args.course.now) c.in_ok-table.table.shared.key.me.0.ends plan_is c.requires.course);
+    }
