@@ -2,6 +2,9 @@
 #![tactic(auto)]
 
 mod cells;
+mod lines;
 mod reader;
+mod writer;
 
 pub use reader::{VcdFault, read};
+pub use writer::write;

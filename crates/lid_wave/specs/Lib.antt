@@ -3,3 +3,4 @@ pub mod Form
 pub mod Shows
 pub mod Text
 pub mod Words
+pub mod Writable

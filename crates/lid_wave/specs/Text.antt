@@ -1,5 +1,5 @@
 -- The dump that is written of a trace.
-use Rattle.std.specs.Prelude.{ℕ, zero, suc, ◌+◌, ◌*◌, ◌/◌, ◌%◌, ◌==◌, Bool, true, false, if◌then◌else◌, List, [], ◌∷◌, ◌++◌, length, take, drop, codes}
+use Rattle.std.specs.Prelude.{ℕ, zero, suc, ◌+◌, ◌*◌, ◌/◌, ◌%◌, ◌==◌, Bool, true, false, not, ◌||◌, if◌then◌else◌, List, [], ◌∷◌, ◌++◌, length, take, drop, codes}
 use Rattle.std.specs.Fmt.{decimal}
 use Rattle.lid_base.specs.declared.runs.Shown.{Shown}
 use Rattle.lid_lines.specs.Texts.{Words, lines_text}
@@ -55,26 +55,42 @@ bit_change n true true = []
 bit_change n false false = []
 bit_change n _ bit = bit_words n bit ∷ []
 
--- the variables of a station that changed
+abbrev pub token_change : ℕ → ℕ → ℕ → List Words
+token_change n old new = if old == new then [] else token_words n new ∷ []
+
+-- the variables of a station that changed, of which n is the first
 abbrev pub cell_changes : ℕ → Shown → Shown → List Words
 cell_changes n old new =
-    bit_change n old.valid new.valid ++ bit_change (n + 1) old.stop new.stop ++ (if old.token == new.token then [] else token_words (n + 2) new.token ∷ [])
+    bit_change n old.valid new.valid ++ bit_change (n + 1) old.stop new.stop ++ token_change (n + 2) old.token new.token
 
 -- the variables from n on that changed from one cycle to the next
 abbrev pub changes : ℕ → List Shown → List Shown → List Words
 changes n (old ∷ olds) (new ∷ news) = cell_changes n old new ++ changes (n + 3) olds news
 changes n _ _ = []
 
--- a time, where something changed at it
-abbrev pub timed : ℕ → List Words → List Words
-timed at [] = []
-timed at (line ∷ lines) = time_words at ∷ line ∷ lines
+abbrev pub bit_differs : Bool → Bool → Bool
+bit_differs true true = false
+bit_differs false false = false
+bit_differs _ _ = true
+
+-- whether a station changed
+abbrev pub differs : Shown → Shown → Bool
+differs old new = bit_differs old.valid new.valid || (bit_differs old.stop new.stop || not (old.token == new.token))
+
+-- whether one of the stations changed
+abbrev pub any_differs : List Shown → List Shown → Bool
+any_differs (old ∷ olds) (new ∷ news) = differs old new || any_differs olds news
+any_differs _ _ = false
+
+-- a cycle after the first: nothing where no station changed
+abbrev pub cycle_lines : ℕ → List Shown → List Shown → List Words
+cycle_lines at olds news = if any_differs olds news then time_words at ∷ changes 0 olds news else []
 
 -- so many cycles from the k-th on, where this was shown in the cycle before; at the end how many cycles there are
 abbrev pub later_lines : ℕ → ℕ → ℕ → List Shown → List Shown → List Words
 later_lines stations k zero before cells = time_words k ∷ []
 later_lines stations k (suc left) before cells =
-    timed k (changes 0 before (take stations cells)) ++ later_lines stations (k + 1) left (take stations cells) (drop stations cells)
+    cycle_lines k before (take stations cells) ++ later_lines stations (k + 1) left (take stations cells) (drop stations cells)
 
 -- the lines of the body
 abbrev pub body_lines : ℕ → ℕ → List Shown → List Words

@@ -109,14 +109,14 @@ pub(crate) fn is_token(n: u32) -> bool
 }
 
 /// The width of a variable as a word.
-pub(crate) fn width_of(n: u32) -> &'static [u8]
+pub fn width_of(n: u32) -> &'static [u8]
     ensures { result.now ≡ width_of n }
 {
     if is_token(n) { b"31" } else { b"1" }
 }
 
 /// What the name of a variable ends in.
-pub(crate) fn ending_of(n: u32) -> &'static [u8]
+pub fn ending_of(n: u32) -> &'static [u8]
     ensures { result.now ≡ ending_of n }
 {
     match n % 3 {

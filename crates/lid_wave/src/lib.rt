@@ -7,5 +7,5 @@ mod ids;
 mod words;
 
 pub use form::{Next, Place, Section, step};
-pub use ids::{append_binary, append_id, is_id};
+pub use ids::{append_binary, append_id, ending_of, is_id, width_of};
 pub use words::{Placed, next_word};
