@@ -18,7 +18,7 @@ ends line word b bs h = by (is_newline b) (is_separator b) h
     by false false e = absurd (let f : false ≡ true = e in cc)
 
 -- any other byte belongs to the word
-grows : (line : ℕ) (word : List ℕ) (b : ℕ) (bs : List ℕ) → separates b ≡ false → words_on line word (b ∷ bs) ≡ words_on line (word ++ b ∷ []) bs
+pub grows : (line : ℕ) (word : List ℕ) (b : ℕ) (bs : List ℕ) → separates b ≡ false → words_on line word (b ∷ bs) ≡ words_on line (word ++ b ∷ []) bs
 grows line word b bs h = by (is_newline b) (is_separator b) h
   where
     by : (n s : Bool) → (n || s) ≡ false → cond n (word_before line word (words_on (line + 1) [] bs)) (cond s (word_before line word (words_on line [] bs)) (words_on line (word ++ b ∷ []) bs)) ≡ words_on line (word ++ b ∷ []) bs
