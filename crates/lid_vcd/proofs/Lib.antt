@@ -8,3 +8,4 @@ pub mod CellsRead
 pub mod CyclesRead
 pub mod WordsSound
 pub mod WavesRead
+pub mod Sound
