@@ -1,6 +1,6 @@
 -- What a dump of the form shows can be written again.
 use Rattle.std.proofs.Common.{◌≡◌, ℕ, zero, suc, ◌+◌, ◌-◌, ◌*◌, ◌/◌, ◌%◌, ◌^◌, ◌<◌, ◌≤◌, ◌==◌, ◌&&◌, ◌||◌, Bool, true, false, cond, List, [], ◌∷◌, ◌++◌, length, set, replicate, refl, sym, ap, ◌∙◌, subst, length-append, arith}
-use Rattle.std.specs.Prelude.{Option, Some, None, Result, Ok, Err, nat_lt, nat_le, codes, bytes_eq}
+use Rattle.std.specs.Prelude.{max, Option, Some, None, Result, Ok, Err, nat_lt, nat_le, codes, bytes_eq}
 use Rattle.std.specs.List.{AllByRecursion, list_all}
 use Rattle.std.proofs.Math.Nat.{pow-le-pow_right, mul-le-mul_right}
 use Rattle.std.proofs.lemmas.Bool.{and_parts, ltb-true, leb-true, cases_Bool}
@@ -16,7 +16,8 @@ use Rattle.lid_wave.specs.declared.form.Place.{Place}
 use Rattle.lid_wave.specs.Ids.{variable_of, token_of, is_token, is_bit, are_bits, bits_on}
 use Rattle.lid_wave.specs.Form.{place, start, step, run, ended, going_on, is_time, is_end, is_note, is_name, only, begins_variable, begins, before_section, in_note, in_timescale, in_scope, in_variable, in_section, later, bit_set, token_read, token_set, change, in_body}
 use Rattle.lid_wave.specs.Shows.{cell_of, shown, cycles_of, time_of, values_after, cycles_until, cells_with, cells_on}
-use Rattle.lid_wave.specs.Writable.{IsCell}
+use Rattle.lid_reports.specs.declared.trace.Trace.{Trace}
+use Rattle.lid_wave.specs.Writable.{IsCell, IsWritable}
 use Rattle.lid_wave.proofs.Digits.{bit_small}
 
 abbrev IsSmall : Next → Type 0
@@ -321,3 +322,22 @@ all_shown last first stations p q values (word ∷ words) so e all ran =
 zeros_small : (n : ℕ) → AreSmall (replicate n 0)
 zeros_small zero = tt
 zeros_small (suc n) = (omega arith, zeros_small n)
+
+length_zeros : (n : ℕ) → length (replicate {A = ℕ} n 0) ≡ n
+length_zeros zero = refl
+length_zeros (suc n) = let e = length_zeros n in omega arith
+
+-- a trace of words of the form, within the limit
+pub writable_trace : (words : List (ℕ × List ℕ)) (p : Place) (t : Trace) → run 0 start words ≡ Ok p → t.stations ≡ p.variables / 3 → t.cycles ≡ time_of p.next → t.cells ≡ cells_on start (replicate p.variables 0) words →
+    max (p.variables / 3) 1 * time_of p.next ≤ 1048576 → IsWritable t
+writable_trace words p t ran stations cycles cells few =
+    let so : IsSound 0 start = record { few = omega arith; small = tt; follows = refl } in
+    let long = length_zeros p.variables in
+    let all = all_shown 0 0 (p.variables / 3) start p (replicate p.variables 0) words so (ap (λ (n : ℕ). n / 3) long) (zeros_small p.variables) ran in
+    let whole : time_of p.next - 0 ≡ time_of p.next = omega arith in
+    record {
+      whole = ap (λ (cs : List Shown). length cs) cells ∙ all.whole ∙ ap (λ (n : ℕ). p.variables / 3 * n) whole ∙ ap (λ (n : ℕ). n * time_of p.next) (sym stations) ∙ ap (λ (n : ℕ). t.stations * n) (sym cycles);
+      few = subst (λ (s : ℕ). max s 1 * t.cycles ≤ 1048576) (sym stations) (subst (λ (n : ℕ). max (p.variables / 3) 1 * n ≤ 1048576) (sym cycles) few);
+      stations = (let f = all.few in omega arith);
+      cells = subst (AllByRecursion IsCell) (sym cells) all.cells;
+    }

@@ -4,6 +4,7 @@ ghost use Rattle.std.specs.Prelude.{◌≡◌, ◌⊎◌, ◌≤◌, ◌*◌, �
 ghost use Rattle.lid_wave.specs.Words.{placed_words};
 ghost use Rattle.lid_wave.specs.Form.{start, run};
 ghost use Rattle.lid_wave.specs.Shows.{time_of, Wave, trace_at, wave_of};
+ghost use Rattle.lid_wave.specs.Writable.{IsWritable};
 ghost use Rattle.lid_vcd.specs.Reading.{cell_count, if_few, wave_reading};
 
 use crate::cells::cells_of;
@@ -66,7 +67,9 @@ fn count_cells(place: Place) -> u64
 
 /// The trace of a text that is of the form and ends at this place.
 fn trace_at(alloc: Global, place: Place, bytes: &[u8]) -> Result<Trace, VcdFault>
-    requires { length bytes.now ≤ 67108864 }
+    requires few { length bytes.now ≤ 67108864 }
+    requires form { run 0 start (placed_words bytes.now) ≡ Ok place }
+    ensures writable { IfOk result IsWritable }
     ensures ok { IfOk result (λ trace. if_few (trace_at (placed_words bytes.now) place) ≡ Ok trace) }
     ensures err { IfErr result (λ e. (e ≡ VcdFault.Memory) ⊎ (if_few (trace_at (placed_words bytes.now) place) ≡ Err e)) }
 {
@@ -99,6 +102,7 @@ fn trace_at(alloc: Global, place: Place, bytes: &[u8]) -> Result<Trace, VcdFault
 pub fn read(alloc: Global, bytes: &[u8]) -> Result<Trace, VcdFault>
     ensures ok { IfOk result (λ trace. wave_reading bytes.now ≡ Ok trace) }
     ensures err { IfErr result (λ e. (e ≡ VcdFault.Memory) ⊎ (wave_reading bytes.now ≡ Err e)) }
+    ensures writable { IfOk result IsWritable }
 {
     if bytes.len() > MOST_BYTES {
         return Err(VcdFault::Limit {
