@@ -7,7 +7,8 @@ use lid_wave::append_id;
 use std::alloc::{AllocError, Global};
 
 /// The dump of two stations in two cycles.
-static WORKED: &[u8] = b"$timescale 1 ns $end\n$scope module lid $end\n$var wire 1 ! s0_valid $end\n$var wire 1 \" s0_stop $end\n$var wire 31 # s0_token $end\n$var wire 1 $ s1_valid $end\n$var wire 1 % s1_stop $end\n$var wire 31 & s1_token $end\n$upscope $end\n$enddefinitions $end\n#0\n1!\n0\"\nb1 #\n1$\n0%\nb0 &\n#1\nb0 #\nb1 &\n#2\n";
+static WORKED: &[u8] =
+    b"$timescale 1 ns $end\n$scope module lid $end\n$var wire 1 ! s0_valid $end\n$var wire 1 \" s0_stop $end\n$var wire 31 # s0_token $end\n$var wire 1 $ s1_valid $end\n$var wire 1 % s1_stop $end\n$var wire 31 & s1_token $end\n$upscope $end\n$enddefinitions $end\n#0\n1!\n0\"\nb1 #\n1$\n0%\nb0 &\n#1\nb0 #\nb1 &\n#2\n";
 
 /// What is told of a text: its cycles, or its refusal.
 type Told = (&'static str, u64);
@@ -114,51 +115,120 @@ static REFUSED: [(&[u8], Told); 25] = [
     // No words, but lines.
     (b"\n \t\r\n", ("Word", 0)),
     // An ID that is no variable.
-    (b"$timescale 1 ns $end\n$scope module lid $end\n$var wire 1 ! s0_valid $end\n$var wire 1 \" s0_stop $end\n$var wire 31 # s0_token $end\n$upscope $end\n$enddefinitions $end\n#0\n1$\n#1\n", ("Word", 9)),
+    (
+        b"$timescale 1 ns $end\n$scope module lid $end\n$var wire 1 ! s0_valid $end\n$var wire 1 \" s0_stop $end\n$var wire 31 # s0_token $end\n$upscope $end\n$enddefinitions $end\n#0\n1$\n#1\n",
+        ("Word", 9),
+    ),
     // A bit whose ID is that of a token.
-    (b"$timescale 1 ns $end\n$scope module lid $end\n$var wire 1 ! s0_valid $end\n$var wire 1 \" s0_stop $end\n$var wire 31 # s0_token $end\n$upscope $end\n$enddefinitions $end\n#0\n1#\n#1\n", ("Word", 9)),
+    (
+        b"$timescale 1 ns $end\n$scope module lid $end\n$var wire 1 ! s0_valid $end\n$var wire 1 \" s0_stop $end\n$var wire 31 # s0_token $end\n$upscope $end\n$enddefinitions $end\n#0\n1#\n#1\n",
+        ("Word", 9),
+    ),
     // Bits whose ID is that of no token.
-    (b"$timescale 1 ns $end\n$scope module lid $end\n$var wire 1 ! s0_valid $end\n$var wire 1 \" s0_stop $end\n$var wire 31 # s0_token $end\n$upscope $end\n$enddefinitions $end\n#0\nb1\n\n!\n#1\n", ("Word", 11)),
+    (
+        b"$timescale 1 ns $end\n$scope module lid $end\n$var wire 1 ! s0_valid $end\n$var wire 1 \" s0_stop $end\n$var wire 31 # s0_token $end\n$upscope $end\n$enddefinitions $end\n#0\nb1\n\n!\n#1\n",
+        ("Word", 11),
+    ),
     // An ID with a last digit 0.
-    (b"$timescale 1 ns $end\n$scope module lid $end\n$var wire 1 ! s0_valid $end\n$var wire 1 \" s0_stop $end\n$var wire 31 # s0_token $end\n$upscope $end\n$enddefinitions $end\n#0\n0\"!\n#1\n", ("Word", 9)),
+    (
+        b"$timescale 1 ns $end\n$scope module lid $end\n$var wire 1 ! s0_valid $end\n$var wire 1 \" s0_stop $end\n$var wire 31 # s0_token $end\n$upscope $end\n$enddefinitions $end\n#0\n0\"!\n#1\n",
+        ("Word", 9),
+    ),
     // A time that is that before.
-    (b"$timescale 1 ns $end\n$scope module lid $end\n$var wire 1 ! s0_valid $end\n$var wire 1 \" s0_stop $end\n$var wire 31 # s0_token $end\n$upscope $end\n$enddefinitions $end\n#0\n#1\n#1\n", ("Word", 10)),
+    (
+        b"$timescale 1 ns $end\n$scope module lid $end\n$var wire 1 ! s0_valid $end\n$var wire 1 \" s0_stop $end\n$var wire 31 # s0_token $end\n$upscope $end\n$enddefinitions $end\n#0\n#1\n#1\n",
+        ("Word", 10),
+    ),
     // A time with a leading zero.
-    (b"$timescale 1 ns $end\n$scope module lid $end\n$var wire 1 ! s0_valid $end\n$var wire 1 \" s0_stop $end\n$var wire 31 # s0_token $end\n$upscope $end\n$enddefinitions $end\n#0\n#01\n", ("Word", 9)),
+    (
+        b"$timescale 1 ns $end\n$scope module lid $end\n$var wire 1 ! s0_valid $end\n$var wire 1 \" s0_stop $end\n$var wire 31 # s0_token $end\n$upscope $end\n$enddefinitions $end\n#0\n#01\n",
+        ("Word", 9),
+    ),
     // The last time.
-    (b"$timescale 1 ns $end\n$scope module lid $end\n$var wire 1 ! s0_valid $end\n$var wire 1 \" s0_stop $end\n$var wire 31 # s0_token $end\n$upscope $end\n$enddefinitions $end\n#0\n#4294967295\n1!\n", ("Word", 10)),
+    (
+        b"$timescale 1 ns $end\n$scope module lid $end\n$var wire 1 ! s0_valid $end\n$var wire 1 \" s0_stop $end\n$var wire 31 # s0_token $end\n$upscope $end\n$enddefinitions $end\n#0\n#4294967295\n1!\n",
+        ("Word", 10),
+    ),
     // A time that is too large.
-    (b"$timescale 1 ns $end\n$scope module lid $end\n$var wire 1 ! s0_valid $end\n$var wire 1 \" s0_stop $end\n$var wire 31 # s0_token $end\n$upscope $end\n$enddefinitions $end\n#0\n#4294967296\n", ("Word", 9)),
+    (
+        b"$timescale 1 ns $end\n$scope module lid $end\n$var wire 1 ! s0_valid $end\n$var wire 1 \" s0_stop $end\n$var wire 31 # s0_token $end\n$upscope $end\n$enddefinitions $end\n#0\n#4294967296\n",
+        ("Word", 9),
+    ),
     // A first time that is not 0.
-    (b"$timescale 1 ns $end\n$scope module lid $end\n$var wire 1 ! s0_valid $end\n$var wire 1 \" s0_stop $end\n$var wire 31 # s0_token $end\n$upscope $end\n$enddefinitions $end\n#1\n", ("Word", 8)),
+    (
+        b"$timescale 1 ns $end\n$scope module lid $end\n$var wire 1 ! s0_valid $end\n$var wire 1 \" s0_stop $end\n$var wire 31 # s0_token $end\n$upscope $end\n$enddefinitions $end\n#1\n",
+        ("Word", 8),
+    ),
     // No bits.
-    (b"$timescale 1 ns $end\n$scope module lid $end\n$var wire 1 ! s0_valid $end\n$var wire 1 \" s0_stop $end\n$var wire 31 # s0_token $end\n$upscope $end\n$enddefinitions $end\n#0\nb #\n#1\n", ("Word", 9)),
+    (
+        b"$timescale 1 ns $end\n$scope module lid $end\n$var wire 1 ! s0_valid $end\n$var wire 1 \" s0_stop $end\n$var wire 31 # s0_token $end\n$upscope $end\n$enddefinitions $end\n#0\nb #\n#1\n",
+        ("Word", 9),
+    ),
     // 32 bits.
-    (b"$timescale 1 ns $end\n$scope module lid $end\n$var wire 1 ! s0_valid $end\n$var wire 1 \" s0_stop $end\n$var wire 31 # s0_token $end\n$upscope $end\n$enddefinitions $end\n#0\nb00000000000000000000000000000000 #\n#1\n", ("Word", 9)),
+    (
+        b"$timescale 1 ns $end\n$scope module lid $end\n$var wire 1 ! s0_valid $end\n$var wire 1 \" s0_stop $end\n$var wire 31 # s0_token $end\n$upscope $end\n$enddefinitions $end\n#0\nb00000000000000000000000000000000 #\n#1\n",
+        ("Word", 9),
+    ),
     // Two digits as a bit.
-    (b"$timescale 1 ns $end\n$scope module lid $end\n$var wire 1 ! s0_valid $end\n$var wire 1 \" s0_stop $end\n$var wire 31 # s0_token $end\n$upscope $end\n$enddefinitions $end\n#0\nb2 #\n#1\n", ("Word", 9)),
+    (
+        b"$timescale 1 ns $end\n$scope module lid $end\n$var wire 1 ! s0_valid $end\n$var wire 1 \" s0_stop $end\n$var wire 31 # s0_token $end\n$upscope $end\n$enddefinitions $end\n#0\nb2 #\n#1\n",
+        ("Word", 9),
+    ),
     // A token without stations.
-    (b"$timescale $end $scope module lid $end $upscope $end $enddefinitions $end\n#0 b1\n#1", ("Word", 2)),
+    (
+        b"$timescale $end $scope module lid $end $upscope $end $enddefinitions $end\n#0 b1\n#1",
+        ("Word", 2),
+    ),
     // A note in the body.
-    (b"$timescale 1 ns $end\n$scope module lid $end\n$var wire 1 ! s0_valid $end\n$var wire 1 \" s0_stop $end\n$var wire 31 # s0_token $end\n$upscope $end\n$enddefinitions $end\n#0\n$comment $end\n#1\n", ("Word", 9)),
+    (
+        b"$timescale 1 ns $end\n$scope module lid $end\n$var wire 1 ! s0_valid $end\n$var wire 1 \" s0_stop $end\n$var wire 31 # s0_token $end\n$upscope $end\n$enddefinitions $end\n#0\n$comment $end\n#1\n",
+        ("Word", 9),
+    ),
     // A section that is left out.
-    (b"$timescale 1 ns $end\n$scope module lid $end\n$var wire 1 ! s0_valid $end\n$var wire 1 \" s0_stop $end\n$var wire 31 # s0_token $end\n$enddefinitions $end\n#0\n", ("Word", 6)),
+    (
+        b"$timescale 1 ns $end\n$scope module lid $end\n$var wire 1 ! s0_valid $end\n$var wire 1 \" s0_stop $end\n$var wire 31 # s0_token $end\n$enddefinitions $end\n#0\n",
+        ("Word", 6),
+    ),
     // A wrong station.
-    (b"$timescale 1 ns $end\n$scope module lid $end\n$var wire 1 ! s0_valid $end\n$var wire 1 \" s1_stop $end\n$var wire 31 # s0_token $end\n$upscope $end\n$enddefinitions $end\n#0\n", ("Word", 4)),
+    (
+        b"$timescale 1 ns $end\n$scope module lid $end\n$var wire 1 ! s0_valid $end\n$var wire 1 \" s1_stop $end\n$var wire 31 # s0_token $end\n$upscope $end\n$enddefinitions $end\n#0\n",
+        ("Word", 4),
+    ),
     // A station with a leading zero.
-    (b"$timescale 1 ns $end\n$scope module lid $end\n$var wire 1 ! s0_valid $end\n$var wire 1 \" s00_stop $end\n$var wire 31 # s0_token $end\n$upscope $end\n$enddefinitions $end\n#0\n", ("Word", 4)),
+    (
+        b"$timescale 1 ns $end\n$scope module lid $end\n$var wire 1 ! s0_valid $end\n$var wire 1 \" s00_stop $end\n$var wire 31 # s0_token $end\n$upscope $end\n$enddefinitions $end\n#0\n",
+        ("Word", 4),
+    ),
     // A wrong width.
-    (b"$timescale 1 ns $end\n$scope module lid $end\n$var wire 1 ! s0_valid $end\n$var wire 1 \" s0_stop $end\n$var wire 32 # s0_token $end\n$upscope $end\n$enddefinitions $end\n#0\n", ("Word", 5)),
+    (
+        b"$timescale 1 ns $end\n$scope module lid $end\n$var wire 1 ! s0_valid $end\n$var wire 1 \" s0_stop $end\n$var wire 32 # s0_token $end\n$upscope $end\n$enddefinitions $end\n#0\n",
+        ("Word", 5),
+    ),
     // A station without its token.
-    (b"$timescale 1 ns $end\n$scope module lid $end\n$var wire 1 ! s0_valid $end\n$var wire 1 \" s0_stop $end\n$upscope $end\n$enddefinitions $end\n#0\n", ("Word", 5)),
+    (
+        b"$timescale 1 ns $end\n$scope module lid $end\n$var wire 1 ! s0_valid $end\n$var wire 1 \" s0_stop $end\n$upscope $end\n$enddefinitions $end\n#0\n",
+        ("Word", 5),
+    ),
     // A change after the last time.
-    (b"$timescale 1 ns $end\n$scope module lid $end\n$var wire 1 ! s0_valid $end\n$var wire 1 \" s0_stop $end\n$var wire 31 # s0_token $end\n$upscope $end\n$enddefinitions $end\n#0\n1!\n", ("Word", 9)),
+    (
+        b"$timescale 1 ns $end\n$scope module lid $end\n$var wire 1 ! s0_valid $end\n$var wire 1 \" s0_stop $end\n$var wire 31 # s0_token $end\n$upscope $end\n$enddefinitions $end\n#0\n1!\n",
+        ("Word", 9),
+    ),
     // One cell too many.
-    (b"$timescale 1 ns $end\n$scope module lid $end\n$var wire 1 ! s0_valid $end\n$var wire 1 \" s0_stop $end\n$var wire 31 # s0_token $end\n$upscope $end\n$enddefinitions $end\n#0\n#1048577\n", ("TraceCells", 1048577)),
+    (
+        b"$timescale 1 ns $end\n$scope module lid $end\n$var wire 1 ! s0_valid $end\n$var wire 1 \" s0_stop $end\n$var wire 31 # s0_token $end\n$upscope $end\n$enddefinitions $end\n#0\n#1048577\n",
+        ("TraceCells", 1048577),
+    ),
     // Very many cells.
-    (b"$timescale 1 ns $end\n$scope module lid $end\n$var wire 1 ! s0_valid $end\n$var wire 1 \" s0_stop $end\n$var wire 31 # s0_token $end\n$upscope $end\n$enddefinitions $end\n#0\n#4000000000\n", ("TraceCells", 4000000000)),
+    (
+        b"$timescale 1 ns $end\n$scope module lid $end\n$var wire 1 ! s0_valid $end\n$var wire 1 \" s0_stop $end\n$var wire 31 # s0_token $end\n$upscope $end\n$enddefinitions $end\n#0\n#4000000000\n",
+        ("TraceCells", 4000000000),
+    ),
     // One cycle too many without stations.
-    (b"$timescale $end $scope module lid $end $upscope $end $enddefinitions $end\n#0 #1048577", ("TraceCells", 1048577)),
+    (
+        b"$timescale $end $scope module lid $end $upscope $end $enddefinitions $end\n#0 #1048577",
+        ("TraceCells", 1048577),
+    ),
 ];
 
 #[test]
@@ -176,7 +246,11 @@ fn is_cell(cell: &Shown, wanted: &Cell) -> bool {
 }
 
 fn are_cells(cells: &[Shown], wanted: &[Cell]) -> bool {
-    cells.len() == wanted.len() && cells.iter().zip(wanted).all(|(cell, want)| is_cell(cell, want))
+    cells.len() == wanted.len()
+        && cells
+            .iter()
+            .zip(wanted)
+            .all(|(cell, want)| is_cell(cell, want))
 }
 
 /// Whether a text shows this trace.
@@ -194,23 +268,66 @@ fn is_shown(alloc: Global, text: &[u8], stations: u32, cycles: u64, cells: &[Cel
 /// Texts with their stations, cycles and cells.
 static TRACES: [(&[u8], u32, u64, &[Cell]); 6] = [
     // The text that is written of two stations.
-    (b"$timescale 1 ns $end\n$scope module lid $end\n$var wire 1 ! s0_valid $end\n$var wire 1 \" s0_stop $end\n$var wire 31 # s0_token $end\n$var wire 1 $ s1_valid $end\n$var wire 1 % s1_stop $end\n$var wire 31 & s1_token $end\n$upscope $end\n$enddefinitions $end\n#0\n1!\n0\"\nb1 #\n1$\n0%\nb0 &\n#1\nb0 #\nb1 &\n#2\n", 2, 2, &[(true, false, 1), (true, false, 0), (true, false, 0), (true, false, 1)]),
+    (
+        b"$timescale 1 ns $end\n$scope module lid $end\n$var wire 1 ! s0_valid $end\n$var wire 1 \" s0_stop $end\n$var wire 31 # s0_token $end\n$var wire 1 $ s1_valid $end\n$var wire 1 % s1_stop $end\n$var wire 31 & s1_token $end\n$upscope $end\n$enddefinitions $end\n#0\n1!\n0\"\nb1 #\n1$\n0%\nb0 &\n#1\nb0 #\nb1 &\n#2\n",
+        2,
+        2,
+        &[
+            (true, false, 1),
+            (true, false, 0),
+            (true, false, 0),
+            (true, false, 1),
+        ],
+    ),
     // A token kept while its station is not valid.
-    (b"$timescale 1 ns $end\n$scope module lid $end\n$var wire 1 ! s0_valid $end\n$var wire 1 \" s0_stop $end\n$var wire 31 # s0_token $end\n$upscope $end\n$enddefinitions $end\n#0\n1!\nb101 #\n#1\n0!\n#2\n1!\n1\"\n#4\n", 1, 4, &[(true, false, 5), (false, false, 0), (true, true, 5), (true, true, 5)]),
+    (
+        b"$timescale 1 ns $end\n$scope module lid $end\n$var wire 1 ! s0_valid $end\n$var wire 1 \" s0_stop $end\n$var wire 31 # s0_token $end\n$upscope $end\n$enddefinitions $end\n#0\n1!\nb101 #\n#1\n0!\n#2\n1!\n1\"\n#4\n",
+        1,
+        4,
+        &[
+            (true, false, 5),
+            (false, false, 0),
+            (true, true, 5),
+            (true, true, 5),
+        ],
+    ),
     // Notes wherever they may stand.
-    (b"$comment a #5 $var $end $timescale any words $end $comment a #5 $var $end $scope module lid $end\r\n$comment a #5 $var $end $var wire 1 ! s0_valid $end $comment a #5 $var $end $version $end $date $end\t$var wire 1 \" s0_stop $end $comment a #5 $var $end $var wire 31 # s0_token $end $comment a #5 $var $end $upscope $end $comment a #5 $var $end $enddefinitions $end $comment a #5 $var $end #0 b1111111111111111111111111111111 # 1! 0! 1! #1", 1, 1, &[(true, false, 2147483647)]),
+    (
+        b"$comment a #5 $var $end $timescale any words $end $comment a #5 $var $end $scope module lid $end\r\n$comment a #5 $var $end $var wire 1 ! s0_valid $end $comment a #5 $var $end $version $end $date $end\t$var wire 1 \" s0_stop $end $comment a #5 $var $end $var wire 31 # s0_token $end $comment a #5 $var $end $upscope $end $comment a #5 $var $end $enddefinitions $end $comment a #5 $var $end #0 b1111111111111111111111111111111 # 1! 0! 1! #1",
+        1,
+        1,
+        &[(true, false, 2147483647)],
+    ),
     // No stations.
-    (b"$timescale $end $scope module lid $end $upscope $end $enddefinitions $end\n#0 #3", 0, 3, &[]),
+    (
+        b"$timescale $end $scope module lid $end $upscope $end $enddefinitions $end\n#0 #3",
+        0,
+        3,
+        &[],
+    ),
     // No cycles.
-    (b"$timescale 1 ns $end\n$scope module lid $end\n$var wire 1 ! s0_valid $end\n$var wire 1 \" s0_stop $end\n$var wire 31 # s0_token $end\n$upscope $end\n$enddefinitions $end\n#0", 1, 0, &[]),
+    (
+        b"$timescale 1 ns $end\n$scope module lid $end\n$var wire 1 ! s0_valid $end\n$var wire 1 \" s0_stop $end\n$var wire 31 # s0_token $end\n$upscope $end\n$enddefinitions $end\n#0",
+        1,
+        0,
+        &[],
+    ),
     // A change that is set again at one time.
-    (b"$timescale 1 ns $end\n$scope module lid $end\n$var wire 1 ! s0_valid $end\n$var wire 1 \" s0_stop $end\n$var wire 31 # s0_token $end\n$upscope $end\n$enddefinitions $end\n#0 1! b1 # b0010 # #1", 1, 1, &[(true, false, 2)]),
+    (
+        b"$timescale 1 ns $end\n$scope module lid $end\n$var wire 1 ! s0_valid $end\n$var wire 1 \" s0_stop $end\n$var wire 31 # s0_token $end\n$upscope $end\n$enddefinitions $end\n#0 1! b1 # b0010 # #1",
+        1,
+        1,
+        &[(true, false, 2)],
+    ),
 ];
 
 #[test]
 fn traces_are_shown(rt: HostRuntime) {
     for (text, stations, cycles, cells) in &TRACES {
-        assert!(rt; is_shown(rt.alloc(), text, *stations, *cycles, cells), "{text:?}");
+        assert!(rt;
+            is_shown(rt.alloc(), text, *stations, *cycles, cells),
+            "{text:?}"
+        );
     }
 }
 
@@ -223,12 +340,18 @@ fn is_written(alloc: Global, text: &[u8], wanted: &[u8]) -> bool {
     if into.push(b'x').is_err() || write(&trace, &mut into).is_err() {
         return false;
     }
-    into.len() > 0 && into.starts_with(b"x") && into.ends_with(wanted) && into.len() == wanted.len().saturating_add(1)
+    into.len() > 0
+        && into.starts_with(b"x")
+        && into.ends_with(wanted)
+        && into.len() == wanted.len().saturating_add(1)
 }
 
 /// Texts, and what is written of their traces.
 static WRITTEN: [(&[u8], &[u8]); 4] = [
-    (b"$timescale 1 ns $end\n$scope module lid $end\n$var wire 1 ! s0_valid $end\n$var wire 1 \" s0_stop $end\n$var wire 31 # s0_token $end\n$var wire 1 $ s1_valid $end\n$var wire 1 % s1_stop $end\n$var wire 31 & s1_token $end\n$upscope $end\n$enddefinitions $end\n#0\n1!\n0\"\nb1 #\n1$\n0%\nb0 &\n#1\nb0 #\nb1 &\n#2\n", b"$timescale 1 ns $end\n$scope module lid $end\n$var wire 1 ! s0_valid $end\n$var wire 1 \" s0_stop $end\n$var wire 31 # s0_token $end\n$var wire 1 $ s1_valid $end\n$var wire 1 % s1_stop $end\n$var wire 31 & s1_token $end\n$upscope $end\n$enddefinitions $end\n#0\n1!\n0\"\nb1 #\n1$\n0%\nb0 &\n#1\nb0 #\nb1 &\n#2\n"),
+    (
+        b"$timescale 1 ns $end\n$scope module lid $end\n$var wire 1 ! s0_valid $end\n$var wire 1 \" s0_stop $end\n$var wire 31 # s0_token $end\n$var wire 1 $ s1_valid $end\n$var wire 1 % s1_stop $end\n$var wire 31 & s1_token $end\n$upscope $end\n$enddefinitions $end\n#0\n1!\n0\"\nb1 #\n1$\n0%\nb0 &\n#1\nb0 #\nb1 &\n#2\n",
+        b"$timescale 1 ns $end\n$scope module lid $end\n$var wire 1 ! s0_valid $end\n$var wire 1 \" s0_stop $end\n$var wire 31 # s0_token $end\n$var wire 1 $ s1_valid $end\n$var wire 1 % s1_stop $end\n$var wire 31 & s1_token $end\n$upscope $end\n$enddefinitions $end\n#0\n1!\n0\"\nb1 #\n1$\n0%\nb0 &\n#1\nb0 #\nb1 &\n#2\n",
+    ),
     // A change that changes nothing, and a time without a change.
     (
         b"$timescale 1 ns $end\n$scope module lid $end\n$var wire 1 ! s0_valid $end\n$var wire 1 \" s0_stop $end\n$var wire 31 # s0_token $end\n$upscope $end\n$enddefinitions $end\n#0 1! #1 1! #2 #3 0! b11 # #4",
