@@ -133,7 +133,7 @@ fn append_token_change(
     ensures ok { OnOk result (into.new.items ≡ into.old.items ++ lines_text (token_change n old new)) }
     ensures kept { Keeps into.old.items into.new.items }
 {
-    if old == new {
+    if new == old {
         return Ok(());
     }
     append_token(n, new, into)
