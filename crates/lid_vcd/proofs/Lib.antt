@@ -9,3 +9,4 @@ pub mod CyclesRead
 pub mod WordsSound
 pub mod WavesRead
 pub mod Sound
+pub mod TextSize

@@ -96,11 +96,12 @@ all_goes_on t so =
     let most = so.stations in
     let thrice : (v % 3 == 0) ≡ true = eq-eqb (v % 3) 0 (omega arith) in
     let body = trace_goes t so in
-    let none : List Shown = [] in
-    (body.after,
-    subst (λ (ws : List (ℕ × List ℕ)). Goes start (replicate v 0) ws (place v (Time t.cycles)) body.after t.cells) (sym (placed_append 1 (head_lines v) (body_lines t.stations t.cycles t.cells)))
-    (then_goes start (place v (Before Body)) (place v (Time t.cycles)) (replicate v 0) (replicate v 0) body.after (placed_lines 1 (head_lines v)) (placed_lines (1 + length (head_lines v)) (body_lines t.stations t.cycles t.cells)) none t.cells
-    (head_read 1 v (replicate v 0) (omega arith) thrice) body.goes))
+    let none : List Shown = [] in (
+      body.after,
+      subst (λ (ws : List (ℕ × List ℕ)). Goes start (replicate v 0) ws (place v (Time t.cycles)) body.after t.cells) (sym (placed_append 1 (head_lines v) (body_lines t.stations t.cycles t.cells)))
+          (then_goes start (place v (Before Body)) (place v (Time t.cycles)) (replicate v 0) (replicate v 0) body.after (placed_lines 1 (head_lines v)) (placed_lines (1 + length (head_lines v)) (body_lines t.stations t.cycles t.cells)) none t.cells
+          (head_read 1 v (replicate v 0) (omega arith) thrice) body.goes),
+    )
 
 words_read : (t : Trace) → IsWritable t → placed_words (wave_text t) ≡ placed_lines 1 (lines_of t)
 unfolding wave_text

@@ -3,10 +3,9 @@
 
 mod cells;
 mod laws;
-mod lines;
 mod reader;
 mod writer;
 
-pub use laws::{dumps_have_one_trace, written_dumps_are_waves};
+pub use laws::{dumps_have_one_trace, written_dumps_are_read, written_dumps_are_waves};
 pub use reader::{VcdFault, read};
 pub use writer::write;

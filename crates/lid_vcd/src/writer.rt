@@ -22,10 +22,10 @@ ghost use Rattle.lid_wave.specs.Text.{
   wave_text,
 };
 
-use crate::lines::{append_cell, append_cell_changes, append_declaration, append_time};
 use lid_base::Shown;
 use lid_lines::cut_back;
 use lid_reports::Trace;
+use lid_wave::{append_cell, append_cell_changes, append_declaration, append_time};
 use std::alloc::AllocError;
 
 /// Appends the sections before the declarations.
@@ -220,12 +220,7 @@ fn append_wave(trace: &Trace, into: &mut Vec<u8>) -> Result<(), AllocError>
     ensures kept { Keeps into.old.items into.new.items }
 {
     append_head(3 * trace.stations, into)?;
-    append_body(
-        trace.stations,
-        trace.cycles,
-        trace.cells.as_slice(),
-        into,
-    )
+    append_body(trace.stations, trace.cycles, trace.cells.as_slice(), into)
 }
 
 /// Appends the value change dump of a trace: a line for each section, declaration, time and change. A

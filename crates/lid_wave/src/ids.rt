@@ -31,7 +31,7 @@ fn id_value(word: &[u8]) -> u32
 
 /// Whether a word is the ID of a variable.
 #[tactic(auto, unfolding(crate::specs::Ids::id_of))]
-pub fn is_id(n: u32, word: &[u8]) -> bool
+pub(crate) fn is_id(n: u32, word: &[u8]) -> bool
     ensures { result ≡ bytes_eq word.now (id_of n) }
 {
     let last = (33 + n % 94) as u8;
@@ -109,14 +109,14 @@ pub(crate) fn is_token(n: u32) -> bool
 }
 
 /// The width of a variable as a word.
-pub fn width_of(n: u32) -> &'static [u8]
+pub(crate) fn width_of(n: u32) -> &'static [u8]
     ensures { result.now ≡ width_of n }
 {
     if is_token(n) { b"31" } else { b"1" }
 }
 
 /// What the name of a variable ends in.
-pub fn ending_of(n: u32) -> &'static [u8]
+pub(crate) fn ending_of(n: u32) -> &'static [u8]
     ensures { result.now ≡ ending_of n }
 {
     match n % 3 {
@@ -188,7 +188,7 @@ fn append_digits(digits: u32, number: u32, into: &mut Vec<u8>) -> Result<(), All
 /// # Errors
 /// What was there before is still there.
 #[tactic(auto, unfolding(crate::specs::Ids::binary))]
-pub fn append_binary(number: u32, into: &mut Vec<u8>) -> Result<(), AllocError>
+pub(crate) fn append_binary(number: u32, into: &mut Vec<u8>) -> Result<(), AllocError>
     ensures ok { OnOk result (into.new.items ≡ into.old.items ++ binary number) }
     ensures kept { Keeps into.old.items into.new.items }
 {

@@ -16,8 +16,8 @@ ghost use Rattle.lid_wave.specs.Text.{
   cell_changes,
 };
 
+use crate::ids::{append_binary, append_id, ending_of, width_of};
 use lid_base::{Shown, append_number};
-use lid_wave::{append_binary, append_id, ending_of, width_of};
 use std::alloc::AllocError;
 
 /// Appends the name of a variable.
@@ -41,8 +41,8 @@ fn append_kind(n: u32, into: &mut Vec<u8>) -> Result<(), AllocError>
 }
 
 /// Appends the declaration of a variable.
-#[tactic(auto, unfolding(lid_lines::specs::Texts::line_text, lid_wave::specs::Text::declaration))]
-pub(crate) fn append_declaration(n: u32, into: &mut Vec<u8>) -> Result<(), AllocError>
+#[tactic(auto, unfolding(lid_lines::specs::Texts::line_text, crate::specs::Text::declaration))]
+pub fn append_declaration(n: u32, into: &mut Vec<u8>) -> Result<(), AllocError>
     ensures ok { OnOk result (into.new.items ≡ into.old.items ++ line_text (declaration n)) }
     ensures kept { Keeps into.old.items into.new.items }
 {
@@ -55,7 +55,7 @@ pub(crate) fn append_declaration(n: u32, into: &mut Vec<u8>) -> Result<(), Alloc
 
 /// Appends a time.
 #[tactic(auto, unfolding(lid_lines::specs::Texts::line_text))]
-pub(crate) fn append_time(at: u64, into: &mut Vec<u8>) -> Result<(), AllocError>
+pub fn append_time(at: u64, into: &mut Vec<u8>) -> Result<(), AllocError>
     ensures ok { OnOk result (into.new.items ≡ into.old.items ++ line_text (time_words at)) }
     ensures kept { Keeps into.old.items into.new.items }
 {
@@ -97,7 +97,7 @@ fn append_token(n: u32, token: u32, into: &mut Vec<u8>) -> Result<(), AllocError
 }
 
 /// Appends the three variables of a station, of which `n` is the first.
-pub(crate) fn append_cell(n: u32, cell: &Shown, into: &mut Vec<u8>) -> Result<(), AllocError>
+pub fn append_cell(n: u32, cell: &Shown, into: &mut Vec<u8>) -> Result<(), AllocError>
     requires { n ≤ 196605 }
     ensures ok { OnOk result (into.new.items ≡ into.old.items ++ lines_text (cell_lines n cell.now)) }
     ensures kept { Keeps into.old.items into.new.items }
@@ -108,12 +108,7 @@ pub(crate) fn append_cell(n: u32, cell: &Shown, into: &mut Vec<u8>) -> Result<()
 }
 
 /// Appends a bit where it changed.
-fn append_bit_change(
-    n: u32,
-    old: bool,
-    new: bool,
-    into: &mut Vec<u8>,
-) -> Result<(), AllocError>
+fn append_bit_change(n: u32, old: bool, new: bool, into: &mut Vec<u8>) -> Result<(), AllocError>
     ensures ok { OnOk result (into.new.items ≡ into.old.items ++ lines_text (bit_change n old new)) }
     ensures kept { Keeps into.old.items into.new.items }
 {
@@ -124,12 +119,7 @@ fn append_bit_change(
 }
 
 /// Appends a token where it changed.
-fn append_token_change(
-    n: u32,
-    old: u32,
-    new: u32,
-    into: &mut Vec<u8>,
-) -> Result<(), AllocError>
+fn append_token_change(n: u32, old: u32, new: u32, into: &mut Vec<u8>) -> Result<(), AllocError>
     ensures ok { OnOk result (into.new.items ≡ into.old.items ++ lines_text (token_change n old new)) }
     ensures kept { Keeps into.old.items into.new.items }
 {
@@ -140,7 +130,7 @@ fn append_token_change(
 }
 
 /// Appends the variables of a station that changed, of which `n` is the first.
-pub(crate) fn append_cell_changes(
+pub fn append_cell_changes(
     n: u32,
     old: &Shown,
     new: &Shown,
