@@ -106,7 +106,7 @@ pub at_set : (variables at n value : ℕ) → AtTime variables at (Set at n valu
 unfolding step
 at_set variables at n value = record { steps = λ word. refl; time = refl }
 
-time_told : (variables at k : ℕ) → at < k → k < 4294967296 → in_body variables at (35 ∷ decimal k) ≡ Some (place variables (Time k))
+pub time_told : (variables at k : ℕ) → at < k → k < 4294967296 → in_body variables at (35 ∷ decimal k) ≡ Some (place variables (Time k))
 unfolding in_body
 time_told variables at k after small = ap (later variables at) (number_back 4294967296 k small (omega arith)) ∙ only_true (nat_lt at k) variables (Time k) (lt-ltb at k after)
 
@@ -148,7 +148,7 @@ bits_told variables at token early some small =
     cond-true (nat_lt at 4294967295) (change variables at 98 (binary token)) None (lt-ltb at 4294967295 early)
     ∙ ap (token_read variables at) (token_back token small) ∙ only_true (nat_lt 0 variables) variables (Bits at token) (lt-ltb 0 variables some)
 
-token_told : (variables at n token : ℕ) → n < variables → n < 830584 → is_token n ≡ true → step (place variables (Bits at token)) (id_of n) ≡ Some (place variables (Set at n token))
+pub token_told : (variables at n token : ℕ) → n < variables → n < 830584 → is_token n ≡ true → step (place variables (Bits at token)) (id_of n) ≡ Some (place variables (Set at n token))
 unfolding step
 token_told variables at n token below small kind = ap (token_set variables at token) (named variables n below small) ∙ only_true (is_token n) variables (Set at n token) kind
 

@@ -4,12 +4,11 @@ use Rattle.std.specs.Prelude.{Option, Some, None, Result, Ok, Err, option_and_th
 use Rattle.lid_base.specs.declared.runs.Shown.{Shown}
 use Rattle.lid_wave.specs.declared.form.Place.{Place}
 use Rattle.lid_wave.specs.Form.{step, run, is_time, going_on, ended}
+use Rattle.lid_vcd.specs.Laws.{place_after}
 use Rattle.lid_wave.specs.Shows.{time_of, cycles_until, values_after, cells_with, cells_on}
 
--- the place after some words
 abbrev pub goes : Place → List (ℕ × List ℕ) → Option Place
-goes p [] = Some p
-goes p (word ∷ words) = option_and_then (λ q. goes q words) (step p word.1)
+goes p words = place_after p words
 
 -- these words lead from a place to another, set these values and show these cells
 pub record Goes (p : Place) (values : List ℕ) (words : List (ℕ × List ℕ)) (q : Place) (after : List ℕ) (cells : List Shown) : Type 0 where
@@ -19,7 +18,7 @@ pub record Goes (p : Place) (values : List ℕ) (words : List (ℕ × List ℕ))
 pub nothing : (p : Place) (values : List ℕ) → Goes p values [] p values []
 nothing p values = record { leads = refl; shows = λ more. refl }
 
-goes_on : (p q : Place) (xs ys : List (ℕ × List ℕ)) → goes p xs ≡ Some q → goes p (xs ++ ys) ≡ goes q ys
+pub goes_on : (p q : Place) (xs ys : List (ℕ × List ℕ)) → goes p xs ≡ Some q → goes p (xs ++ ys) ≡ goes q ys
 goes_on p q [] ys h = ap (λ (o : Option Place). option_and_then (λ r. goes r ys) o) h
 goes_on p q (word ∷ xs) ys h = by (step p word.1) (λ r. goes_on r q xs ys) h
   where

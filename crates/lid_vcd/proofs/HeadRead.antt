@@ -28,7 +28,7 @@ same_word word = bytes_same word word refl
 stem_is : (m : ℕ) → m < 4294967296 → is_stem m (115 ∷ decimal m) ≡ true
 stem_is m small = ap (is_number m) (number_back 4294967296 m small (omega arith)) ∙ eq-eqb m m refl
 
-name_is : (n : ℕ) → n < 196608 → is_name n (codes "s" ++ decimal (n / 3) ++ ending_of n) ≡ true
+pub name_is : (n : ℕ) → n < 196608 → is_name n (codes "s" ++ decimal (n / 3) ++ ending_of n) ≡ true
 unfolding is_name
 name_is n small =
     let stem : List ℕ = 115 ∷ decimal (n / 3) in
@@ -41,34 +41,34 @@ name_is n small =
     (ap (is_stem (n / 3)) front ∙ stem_is (n / 3) (omega arith))
 
 -- the words of a declaration
-word_0 : (n : ℕ) → n < 196608 → step (place n (Before Variable)) (codes "$var") ≡ Some (place (n + 1) (Inside Variable 1))
+pub word_0 : (n : ℕ) → n < 196608 → step (place n (Before Variable)) (codes "$var") ≡ Some (place (n + 1) (Inside Variable 1))
 unfolding step begins begins_variable
 word_0 n small = only_true (nat_lt n 196608) (n + 1) (Inside Variable 1) (lt-ltb n 196608 small)
 
-word_1 : (n : ℕ) → step (place n (Inside Variable 1)) (codes "wire") ≡ Some (place n (Inside Variable 2))
+pub word_1 : (n : ℕ) → step (place n (Inside Variable 1)) (codes "wire") ≡ Some (place n (Inside Variable 2))
 unfolding step in_variable
 word_1 n = refl
 
-word_2 : (n : ℕ) → step (place (n + 1) (Inside Variable 2)) (width_of n) ≡ Some (place (n + 1) (Inside Variable 3))
+pub word_2 : (n : ℕ) → step (place (n + 1) (Inside Variable 2)) (width_of n) ≡ Some (place (n + 1) (Inside Variable 3))
 unfolding step in_variable
 word_2 n =
     let less : n + 1 - 1 ≡ n = omega arith in
     only_true (bytes_eq (width_of n) (width_of (n + 1 - 1))) (n + 1) (Inside Variable 3) (ap (λ (m : ℕ). bytes_eq (width_of n) (width_of m)) less ∙ same_word (width_of n))
 
-word_3 : (n : ℕ) → step (place (n + 1) (Inside Variable 3)) (id_of n) ≡ Some (place (n + 1) (Inside Variable 4))
+pub word_3 : (n : ℕ) → step (place (n + 1) (Inside Variable 3)) (id_of n) ≡ Some (place (n + 1) (Inside Variable 4))
 unfolding step in_variable
 word_3 n =
     let less : n + 1 - 1 ≡ n = omega arith in
     only_true (bytes_eq (id_of n) (id_of (n + 1 - 1))) (n + 1) (Inside Variable 4) (ap (λ (m : ℕ). bytes_eq (id_of n) (id_of m)) less ∙ same_word (id_of n))
 
-word_4 : (n : ℕ) → n < 196608 → step (place (n + 1) (Inside Variable 4)) (codes "s" ++ decimal (n / 3) ++ ending_of n) ≡ Some (place (n + 1) (Inside Variable 5))
+pub word_4 : (n : ℕ) → n < 196608 → step (place (n + 1) (Inside Variable 4)) (codes "s" ++ decimal (n / 3) ++ ending_of n) ≡ Some (place (n + 1) (Inside Variable 5))
 unfolding step in_variable
 word_4 n small =
     let less : n + 1 - 1 ≡ n = omega arith in
     let word = codes "s" ++ decimal (n / 3) ++ ending_of n in
     only_true (is_name (n + 1 - 1) word) (n + 1) (Inside Variable 5) (ap (λ (m : ℕ). is_name m word) less ∙ name_is n small)
 
-word_5 : (n : ℕ) → step (place n (Inside Variable 5)) (codes "$end") ≡ Some (place n (Before Variable))
+pub word_5 : (n : ℕ) → step (place n (Inside Variable 5)) (codes "$end") ≡ Some (place n (Before Variable))
 unfolding step in_variable
 word_5 n = refl
 
@@ -97,19 +97,19 @@ opened : (line : ℕ) (values : List ℕ) → Goes start values (placed_lines li
 unfolding step begins in_scope
 opened line values = record { leads = refl; shows = λ more. refl }
 
-closing_0 : (n : ℕ) → (n % 3 == 0) ≡ true → step (place n (Before Variable)) (codes "$upscope") ≡ Some (place n (Inside Upscope 1))
+pub closing_0 : (n : ℕ) → (n % 3 == 0) ≡ true → step (place n (Before Variable)) (codes "$upscope") ≡ Some (place n (Inside Upscope 1))
 unfolding step begins begins_variable
 closing_0 n whole = only_true (n % 3 == 0) n (Inside Upscope 1) whole
 
-closing_1 : (n : ℕ) → step (place n (Inside Upscope 1)) (codes "$end") ≡ Some (place n (Before Definitions))
+pub closing_1 : (n : ℕ) → step (place n (Inside Upscope 1)) (codes "$end") ≡ Some (place n (Before Definitions))
 unfolding step
 closing_1 n = refl
 
-closing_2 : (n : ℕ) → step (place n (Before Definitions)) (codes "$enddefinitions") ≡ Some (place n (Inside Definitions 1))
+pub closing_2 : (n : ℕ) → step (place n (Before Definitions)) (codes "$enddefinitions") ≡ Some (place n (Inside Definitions 1))
 unfolding step begins
 closing_2 n = refl
 
-closing_3 : (n : ℕ) → step (place n (Inside Definitions 1)) (codes "$end") ≡ Some (place n (Before Body))
+pub closing_3 : (n : ℕ) → step (place n (Inside Definitions 1)) (codes "$end") ≡ Some (place n (Before Body))
 unfolding step
 closing_3 n = refl
 

@@ -10,3 +10,4 @@ pub mod WordsSound
 pub mod WavesRead
 pub mod Sound
 pub mod TextSize
+pub mod Alive

@@ -37,18 +37,18 @@ pub record IsSound (last : ℕ) (p : Place) : Type 0 where
 
 -- what a choice gives
 module _ (P : Place → Type 0) where
-  some_gives : (p q : Place) → P p → Some p ≡ Some q → P q
+  pub some_gives : (p q : Place) → P p → Some p ≡ Some q → P q
   some_gives p q h e = subst P (let f : Some p ≡ Some q = e in cc) h
 
-  only_gives : (b : Bool) (n : ℕ) (next : Next) → (b ≡ true → P (place n next)) → (q : Place) → only b n next ≡ Some q → P q
+  pub only_gives : (b : Bool) (n : ℕ) (next : Next) → (b ≡ true → P (place n next)) → (q : Place) → only b n next ≡ Some q → P q
   only_gives true n next h q e = some_gives (place n next) q (h refl) e
   only_gives false n next h q e = absurd (let f : None ≡ Some q = e in cc)
 
-  cond_gives : (b : Bool) (x y : Option Place) → (b ≡ true → (q : Place) → x ≡ Some q → P q) → ((q : Place) → y ≡ Some q → P q) → (q : Place) → cond b x y ≡ Some q → P q
+  pub cond_gives : (b : Bool) (x y : Option Place) → (b ≡ true → (q : Place) → x ≡ Some q → P q) → ((q : Place) → y ≡ Some q → P q) → (q : Place) → cond b x y ≡ Some q → P q
   cond_gives true x y f g q e = f refl q e
   cond_gives false x y f g q e = g q e
 
-none_gives : {P : Type 0} (q : Place) → None ≡ Some q → P
+pub none_gives : {P : Type 0} (q : Place) → None ≡ Some q → P
 none_gives q e = absurd (let f : None ≡ Some q = e in cc)
 
 -- before the body

@@ -26,7 +26,7 @@ use Rattle.lid_vcd.proofs.BodyRead.{at_time}
 use Rattle.lid_vcd.proofs.CellsRead.{values_of, values_shown}
 use Rattle.lid_vcd.proofs.CyclesRead.{all_goes, all_take, all_drop, Ends, later_goes}
 
-first_time : (variables : ℕ) → step (place variables (Before Body)) (codes "#0") ≡ Some (place variables (Time 0))
+pub first_time : (variables : ℕ) → step (place variables (Before Body)) (codes "#0") ≡ Some (place variables (Time 0))
 unfolding step begins
 first_time variables = refl
 

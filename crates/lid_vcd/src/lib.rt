@@ -6,6 +6,9 @@ mod laws;
 mod reader;
 mod writer;
 
-pub use laws::{dumps_have_one_trace, written_dumps_are_read, written_dumps_are_waves};
+pub use laws::{
+    dumps_have_one_trace, refusals_stay, words_go_on, written_dumps_are_read,
+    written_dumps_are_waves,
+};
 pub use reader::{VcdFault, read};
 pub use writer::write;
