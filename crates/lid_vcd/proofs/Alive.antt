@@ -1,6 +1,6 @@
 -- Words none of which is refused begin a dump of the form.
-use Rattle.std.proofs.Common.{◌≡◌, ℕ, zero, suc, ◌+◌, ◌-◌, ◌*◌, ◌/◌, ◌%◌, ◌<◌, ◌≤◌, ◌==◌, ◌&&◌, ◌||◌, Bool, true, false, cond, List, [], ◌∷◌, ◌++◌, length, refl, sym, ap, ◌∙◌, subst, lt-ltb, inl, inr, arith}
-use Rattle.std.specs.Prelude.{Option, Some, None, Result, Ok, Err, option_and_then, nat_lt, codes, bytes_eq}
+use Rattle.std.proofs.Common.{◌≡◌, ℕ, ◌+◌, ◌-◌, ◌/◌, ◌%◌, ◌<◌, ◌≤◌, ◌==◌, ◌&&◌, ◌||◌, Bool, true, false, cond, List, [], ◌∷◌, ◌++◌, refl, sym, ap, ◌∙◌, subst, inl, inr, arith}
+use Rattle.std.specs.Prelude.{Option, Some, None, Ok, Err, option_and_then, nat_lt, codes, bytes_eq}
 use Rattle.std.specs.Fmt.{decimal}
 use Rattle.std.proofs.lemmas.Bool.{and_parts, ltb-true, eqb-true, eq-eqb, cases_lt, cond-false}
 use Rattle.lid_base.specs.Numbers.{number_below}
@@ -9,13 +9,13 @@ use Rattle.lid_wave.specs.declared.form.Section.TheVariants.{Timescale, Scope, V
 use Rattle.lid_wave.specs.declared.form.Next.{Next}
 use Rattle.lid_wave.specs.declared.form.Next.TheVariants.{Before, Note, Inside, Time, Set, Bits}
 use Rattle.lid_wave.specs.declared.form.Place.{Place}
-use Rattle.lid_wave.specs.Ids.{variable_of, token_of, is_token, id_of, width_of, ending_of}
+use Rattle.lid_wave.specs.Ids.{variable_of, token_of, id_of, width_of, ending_of}
 use Rattle.lid_wave.specs.Form.{place, start, step, run, is_time, is_end, is_note, is_name, only, begins_variable, begins, before_section, in_note, in_timescale, in_scope, in_variable, in_section, going_on, later, bit_set, token_read, token_set, change, in_body}
 use Rattle.lid_vcd.specs.Laws.{place_after}
 use Rattle.lid_vcd.proofs.Going.{run_goes, goes_on}
-use Rattle.lid_vcd.proofs.HeadRead.{only_true, same_word, name_is, word_0, word_1, word_2, word_3, word_4, word_5, closing_0, closing_1, closing_2, closing_3}
+use Rattle.lid_vcd.proofs.HeadRead.{only_true, same_word, name_is, word_0, word_1, word_2, word_3, word_4, word_5, closing_0, closing_2}
 use Rattle.lid_vcd.proofs.WavesRead.{first_time}
-use Rattle.lid_vcd.proofs.BodyRead.{time_told, token_told, named}
+use Rattle.lid_vcd.proofs.BodyRead.{time_told, token_told}
 use Rattle.lid_vcd.proofs.Sound.{some_gives, only_gives, cond_gives, none_gives}
 
 -- after the declarations all stations are whole

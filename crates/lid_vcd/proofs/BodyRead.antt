@@ -1,22 +1,20 @@
 -- The changes of a written dump set the variables.
-use Rattle.std.proofs.Common.{◌≡◌, ℕ, zero, suc, ◌+◌, ◌-◌, ◌*◌, ◌/◌, ◌%◌, ◌^◌, ◌<◌, ◌≤◌, ◌==◌, ◌&&◌, Bool, true, false, not, cond, List, [], ◌∷◌, ◌++◌, length, map, set, refl, sym, ap, ◌∙◌, subst, length-append, append_assoc, lt-ltb, inl, inr, arith}
-use Rattle.std.specs.Prelude.{Option, Some, None, nat_lt, nat_le, codes, bytes_eq}
+use Rattle.std.proofs.Common.{◌≡◌, ℕ, zero, suc, ◌+◌, ◌-◌, ◌*◌, ◌/◌, ◌%◌, ◌^◌, ◌<◌, ◌≤◌, ◌&&◌, Bool, true, false, not, cond, List, [], ◌∷◌, ◌++◌, length, map, set, refl, sym, ap, ◌∙◌, subst, length-append, lt-ltb, inl, inr, arith}
+use Rattle.std.specs.Prelude.{Some, None, nat_lt, nat_le, bytes_eq}
 use Rattle.std.specs.Fmt.{decimal}
 use Rattle.std.specs.List.{list_all}
 use Rattle.std.proofs.Math.Seq.{set-append_seam}
-use Rattle.std.proofs.lemmas.Bool.{and_from, and_parts, eq-eqb, ne_eqb, cases_lt, cond-true, cond-false, le-leb}
+use Rattle.std.proofs.lemmas.Bool.{and_from, and_parts, cases_lt, cond-true, cond-false, le-leb}
 use Rattle.lid_base.specs.declared.runs.Shown.{Shown}
 use Rattle.lid_base.proofs.Numbers.{number_back}
-use Rattle.lid_lines.specs.Texts.{Words}
 use Rattle.lid_wave.specs.declared.form.Next.{Next}
-use Rattle.lid_wave.specs.declared.form.Next.TheVariants.{Before, Inside, Time, Set, Bits}
-use Rattle.lid_wave.specs.declared.form.Place.{Place}
+use Rattle.lid_wave.specs.declared.form.Next.TheVariants.{Time, Set, Bits}
 use Rattle.lid_wave.specs.Ids.{id_of, id_value, variable_of, token_of, binary, binary_by, bits_on, is_bit, are_bits, is_token}
 use Rattle.lid_wave.specs.Form.{place, step, in_body, later, bit_set, token_read, token_set, change}
-use Rattle.lid_wave.specs.Shows.{time_of, cycles_of, values_after}
+use Rattle.lid_wave.specs.Shows.{time_of, cycles_of}
 use Rattle.lid_wave.specs.Text.{time_words, bit_words, token_words}
 use Rattle.lid_vcd.proofs.WrittenWords.{on_line}
-use Rattle.lid_vcd.proofs.Going.{Goes, nothing, then_goes, one_word, word_then}
+use Rattle.lid_vcd.proofs.Going.{Goes, one_word, word_then}
 use Rattle.lid_vcd.proofs.HeadRead.{only_true, same_word}
 
 -- an ID stands for its variable

@@ -1,22 +1,20 @@
 -- The cycles of a written dump show its cells.
-use Rattle.std.proofs.Common.{◌≡◌, ℕ, zero, suc, ◌+◌, ◌-◌, ◌*◌, ◌/◌, ◌%◌, ◌^◌, ◌<◌, ◌≤◌, ◌==◌, ◌||◌, Bool, true, false, not, cond, List, [], ◌∷◌, ◌++◌, length, take, drop, map, refl, sym, ap, ◌∙◌, subst, length-append, append_assoc, append-nil, lt-ltb, inl, inr, arith}
-use Rattle.std.specs.Prelude.{nat_lt}
+use Rattle.std.proofs.Common.{◌≡◌, ℕ, ◌+◌, ◌*◌, ◌%◌, ◌^◌, ◌<◌, ◌≤◌, ◌==◌, Bool, true, false, cond, List, [], ◌∷◌, ◌++◌, length, map, refl, sym, ap, ◌∙◌, subst, length-append, append_assoc, append-nil, arith}
 use Rattle.std.specs.List.{AllByRecursion}
-use Rattle.std.proofs.lemmas.Bool.{eq-eqb, eqb-true, or_parts, cond-false, cond-true}
+use Rattle.std.proofs.lemmas.Bool.{eqb-true}
 use Rattle.lid_base.specs.declared.runs.Shown.{Shown}
 use Rattle.lid_lines.specs.Texts.{Words}
 use Rattle.lid_wave.specs.declared.form.Next.{Next}
-use Rattle.lid_wave.specs.declared.form.Next.TheVariants.{Time, Set}
-use Rattle.lid_wave.specs.declared.form.Place.{Place}
+use Rattle.lid_wave.specs.declared.form.Next.TheVariants.{Set}
 use Rattle.lid_wave.specs.Ids.{is_token}
 use Rattle.lid_wave.specs.Form.{place}
-use Rattle.lid_wave.specs.Shows.{cell_of, shown, cycles_of}
-use Rattle.lid_wave.specs.Text.{bit_words, token_words, cell_lines, all_lines, bit_change, token_change, cell_changes, changes, bit_differs, differs, any_differs}
+use Rattle.lid_wave.specs.Shows.{cell_of, shown}
+use Rattle.lid_wave.specs.Text.{bit_words, token_words, cell_lines, bit_change, token_change, cell_changes}
 use Rattle.lid_wave.specs.Writable.{IsCell}
 use Rattle.lid_vcd.proofs.WrittenWords.{on_line, placed_lines}
 use Rattle.lid_vcd.proofs.Going.{Goes, nothing, then_goes}
 use Rattle.lid_vcd.proofs.HeadRead.{placed_append}
-use Rattle.lid_vcd.proofs.BodyRead.{AtTime, at_time, at_set, bit_value, bit_read, token_read_at}
+use Rattle.lid_vcd.proofs.BodyRead.{AtTime, at_set, bit_value, bit_read, token_read_at}
 
 -- the values of the variables of some stations
 abbrev pub values_of : List Shown → List ℕ

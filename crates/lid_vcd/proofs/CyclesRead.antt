@@ -8,16 +8,15 @@ use Rattle.lid_base.proofs.Lists.{not_false}
 use Rattle.lid_lines.specs.Texts.{Words}
 use Rattle.lid_wave.specs.declared.form.Next.{Next}
 use Rattle.lid_wave.specs.declared.form.Next.TheVariants.{Time}
-use Rattle.lid_wave.specs.declared.form.Place.{Place}
 use Rattle.lid_wave.specs.Form.{place}
 use Rattle.lid_wave.specs.Shows.{shown, cycles_of}
-use Rattle.lid_wave.specs.Text.{time_words, cell_lines, all_lines, cell_changes, changes, bit_differs, differs, any_differs, cycle_lines, later_lines}
+use Rattle.lid_wave.specs.Text.{time_words, cell_lines, all_lines, cell_changes, changes, bit_differs, differs, any_differs, later_lines}
 use Rattle.lid_wave.specs.Writable.{IsCell}
 use Rattle.lid_vcd.proofs.WrittenWords.{on_line, placed_lines}
-use Rattle.lid_vcd.proofs.Going.{Goes, nothing, then_goes}
+use Rattle.lid_vcd.proofs.Going.{Goes, then_goes}
 use Rattle.lid_vcd.proofs.HeadRead.{placed_append}
 use Rattle.lid_vcd.proofs.BodyRead.{AtTime, at_time, bit_value, time_read}
-use Rattle.lid_vcd.proofs.CellsRead.{values_of, length_values, values_shown, GoesAt, stays, at_then, cell_goes, cell_changed}
+use Rattle.lid_vcd.proofs.CellsRead.{values_of, values_shown, GoesAt, stays, at_then, cell_goes, cell_changed}
 
 -- the front of the values is done
 shifted : (variables at : ℕ) (next : Next) (done front xs ys : List ℕ) (words : List (ℕ × List ℕ)) → GoesAt variables at next ((done ++ front) ++ xs) words ((done ++ front) ++ ys) → GoesAt variables at next (done ++ (front ++ xs)) words (done ++ (front ++ ys))

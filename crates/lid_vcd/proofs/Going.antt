@@ -1,5 +1,5 @@
 -- Words by which a dump goes on, and the cells that they show.
-use Rattle.std.proofs.Common.{◌≡◌, ℕ, ◌+◌, ◌-◌, Bool, true, false, List, [], ◌∷◌, ◌++◌, map, refl, sym, ap, ◌∙◌, subst, append-nil, append_assoc, cond}
+use Rattle.std.proofs.Common.{◌≡◌, ℕ, Bool, true, List, [], ◌∷◌, ◌++◌, refl, sym, ap, ◌∙◌, subst, append_assoc, cond}
 use Rattle.std.specs.Prelude.{Option, Some, None, Result, Ok, Err, option_and_then}
 use Rattle.lid_base.specs.declared.runs.Shown.{Shown}
 use Rattle.lid_wave.specs.declared.form.Place.{Place}

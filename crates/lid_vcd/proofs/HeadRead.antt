@@ -1,6 +1,6 @@
 -- The sections of a written dump lead to its body.
-use Rattle.std.proofs.Common.{◌≡◌, ℕ, zero, suc, ◌+◌, ◌-◌, ◌*◌, ◌/◌, ◌%◌, ◌<◌, ◌≤◌, ◌==◌, ◌&&◌, Bool, true, false, cond, List, [], ◌∷◌, ◌++◌, length, take, drop, map, refl, sym, ap, ◌∙◌, subst, length-append, append_assoc, lt-ltb, arith}
-use Rattle.std.specs.Prelude.{Option, Some, None, nat_lt, codes, bytes_eq}
+use Rattle.std.proofs.Common.{◌≡◌, ℕ, zero, suc, ◌+◌, ◌-◌, ◌/◌, ◌%◌, ◌<◌, ◌≤◌, ◌==◌, Bool, true, cond, List, [], ◌∷◌, ◌++◌, length, take, drop, map, refl, sym, ap, ◌∙◌, subst, length-append, append_assoc, lt-ltb, arith}
+use Rattle.std.specs.Prelude.{Some, None, nat_lt, codes, bytes_eq}
 use Rattle.std.specs.Fmt.{decimal}
 use Rattle.std.proofs.Math.Seq.{take-append_seam, drop-append_seam}
 use Rattle.std.proofs.lemmas.Bool.{and_from, eq-eqb}
@@ -8,9 +8,9 @@ use Rattle.lid_base.specs.declared.runs.Shown.{Shown}
 use Rattle.lid_base.proofs.Lists.{bytes_same}
 use Rattle.lid_base.proofs.Numbers.{number_back}
 use Rattle.lid_lines.specs.Texts.{Words}
-use Rattle.lid_wave.specs.declared.form.Section.TheVariants.{Timescale, Scope, Variable, Upscope, Definitions, Body}
+use Rattle.lid_wave.specs.declared.form.Section.TheVariants.{Variable, Upscope, Definitions, Body}
 use Rattle.lid_wave.specs.declared.form.Next.{Next}
-use Rattle.lid_wave.specs.declared.form.Next.TheVariants.{Before, Inside, Time}
+use Rattle.lid_wave.specs.declared.form.Next.TheVariants.{Before, Inside}
 use Rattle.lid_wave.specs.declared.form.Place.{Place}
 use Rattle.lid_wave.specs.Ids.{id_of, width_of, ending_of}
 use Rattle.lid_wave.specs.Form.{place, start, step, only, begins, begins_variable, in_scope, in_variable, is_name, is_stem, is_number}

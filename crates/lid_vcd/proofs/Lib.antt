@@ -11,3 +11,4 @@ pub mod WavesRead
 pub mod Sound
 pub mod TextSize
 pub mod Alive
+pub mod ReadSound

@@ -1,5 +1,5 @@
 -- Lines, appended one part after another.
-use Rattle.std.proofs.Common.{◌≡◌, ℕ, zero, suc, ◌+◌, ◌-◌, ◌*◌, ◌<◌, List, [], ◌∷◌, ◌++◌, length, take, drop, sym, ap, ◌∙◌, append_assoc, append-nil, false, refl, subst, arith}
+use Rattle.std.proofs.Common.{◌≡◌, ℕ, zero, suc, ◌+◌, ◌-◌, ◌<◌, List, [], ◌∷◌, ◌++◌, length, take, drop, sym, ap, ◌∙◌, append_assoc, append-nil, false, refl, arith}
 use Rattle.lid_base.specs.declared.runs.Shown.{Shown}
 use Rattle.lid_lines.specs.Texts.{Words, line_text, lines_text}
 use Rattle.lid_lines.proofs.Pieces.{appended, lines_text_append}

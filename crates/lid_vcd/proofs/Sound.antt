@@ -1,9 +1,9 @@
 -- What a dump of the form shows can be written again.
-use Rattle.std.proofs.Common.{◌≡◌, ℕ, zero, suc, ◌+◌, ◌-◌, ◌*◌, ◌/◌, ◌%◌, ◌^◌, ◌<◌, ◌≤◌, ◌==◌, ◌&&◌, ◌||◌, Bool, true, false, cond, List, [], ◌∷◌, ◌++◌, length, set, replicate, refl, sym, ap, ◌∙◌, subst, length-append, arith}
+use Rattle.std.proofs.Common.{◌≡◌, ℕ, zero, suc, ◌+◌, ◌-◌, ◌*◌, ◌/◌, ◌%◌, ◌^◌, ◌<◌, ◌≤◌, ◌==◌, ◌&&◌, ◌||◌, Bool, true, false, cond, List, [], ◌∷◌, length, set, replicate, refl, sym, ap, ◌∙◌, subst, length-append, arith}
 use Rattle.std.specs.Prelude.{max, Option, Some, None, Result, Ok, Err, nat_lt, nat_le, codes, bytes_eq}
 use Rattle.std.specs.List.{AllByRecursion, list_all}
 use Rattle.std.proofs.Math.Nat.{pow-le-pow_right, mul-le-mul_right}
-use Rattle.std.proofs.lemmas.Bool.{and_parts, ltb-true, leb-true, cases_Bool}
+use Rattle.std.proofs.lemmas.Bool.{and_parts, ltb-true, leb-true}
 use Rattle.std.proofs.lemmas.List.{length-set}
 use Rattle.lid_base.specs.declared.runs.Shown.{Shown}
 use Rattle.lid_base.specs.Numbers.{number_below}
@@ -13,8 +13,8 @@ use Rattle.lid_wave.specs.declared.form.Section.TheVariants.{Timescale, Scope, V
 use Rattle.lid_wave.specs.declared.form.Next.{Next}
 use Rattle.lid_wave.specs.declared.form.Next.TheVariants.{Before, Note, Inside, Time, Set, Bits}
 use Rattle.lid_wave.specs.declared.form.Place.{Place}
-use Rattle.lid_wave.specs.Ids.{variable_of, token_of, is_token, is_bit, are_bits, bits_on}
-use Rattle.lid_wave.specs.Form.{place, start, step, run, ended, going_on, is_time, is_end, is_note, is_name, only, begins_variable, begins, before_section, in_note, in_timescale, in_scope, in_variable, in_section, later, bit_set, token_read, token_set, change, in_body}
+use Rattle.lid_wave.specs.Ids.{variable_of, token_of, is_bit, are_bits, bits_on}
+use Rattle.lid_wave.specs.Form.{place, start, step, run, going_on, is_time, is_end, is_note, only, begins_variable, begins, before_section, in_note, in_timescale, in_scope, in_variable, in_section, later, bit_set, token_read, token_set, change, in_body}
 use Rattle.lid_wave.specs.Shows.{cell_of, shown, cycles_of, time_of, values_after, cycles_until, cells_with, cells_on}
 use Rattle.lid_reports.specs.declared.trace.Trace.{Trace}
 use Rattle.lid_wave.specs.Writable.{IsCell, IsWritable}

@@ -1,6 +1,6 @@
 -- A written dump is within the limit of bytes.
-use Rattle.std.proofs.Common.{◌≡◌, ℕ, zero, suc, ◌+◌, ◌-◌, ◌*◌, ◌/◌, ◌%◌, ◌^◌, ◌<◌, ◌≤◌, ◌==◌, Bool, true, false, cond, List, [], ◌∷◌, ◌++◌, length, take, drop, refl, sym, ap, ◌∙◌, subst, length-append, append_assoc, arith}
-use Rattle.std.specs.Prelude.{max, nat_lt, codes, Result, Ok, Err}
+use Rattle.std.proofs.Common.{◌≡◌, ℕ, zero, suc, ◌+◌, ◌*◌, ◌/◌, ◌%◌, ◌<◌, ◌≤◌, ◌==◌, Bool, true, false, cond, List, [], ◌∷◌, ◌++◌, length, take, drop, ap, ◌∙◌, length-append, append_assoc, arith}
+use Rattle.std.specs.Prelude.{max, nat_lt, codes, Ok, Err}
 use Rattle.std.specs.Fmt.{decimal}
 use Rattle.std.specs.List.{join_with_byte}
 use Rattle.std.proofs.lemmas.Bool.{cond-false}
@@ -15,9 +15,8 @@ use Rattle.lid_wave.specs.Ids.{id_of, width_of, ending_of, is_token, binary, bin
 use Rattle.lid_wave.specs.Shows.{wave_of}
 use Rattle.lid_wave.specs.Text.{declaration, declarations, timescale_words, scope_words, upscope_words, definitions_words, time_words, head_lines, bit_words, token_words, cell_lines, all_lines, bit_change, token_change, cell_changes, changes, any_differs, cycle_lines, later_lines, body_lines, wave_text}
 use Rattle.lid_wave.specs.Writable.{IsWritable}
-use Rattle.lid_vcd.specs.declared.reader.VcdFault.{VcdFault}
 use Rattle.lid_vcd.specs.declared.reader.VcdFault.TheVariants.{Limit}
-use Rattle.lid_vcd.specs.Reading.{cell_count, if_few, judged, wave_reading}
+use Rattle.lid_vcd.specs.Reading.{cell_count, judged, wave_reading}
 use Rattle.lid_vcd.proofs.WavesRead.{wave_written}
 
 -- a word with what separates it from the next

@@ -1,18 +1,16 @@
 -- The text that is written of a trace shows this trace.
-use Rattle.std.proofs.Common.{◌≡◌, ℕ, zero, suc, ◌+◌, ◌-◌, ◌*◌, ◌/◌, ◌%◌, ◌^◌, ◌<◌, ◌≤◌, ◌==◌, true, List, [], ◌∷◌, ◌++◌, length, take, drop, map, refl, sym, ap, ◌∙◌, subst, append-nil, append_assoc, replicate, arith}
-use Rattle.std.specs.Prelude.{max, Option, Some, Result, Ok, codes}
+use Rattle.std.proofs.Common.{◌≡◌, ℕ, zero, suc, ◌+◌, ◌-◌, ◌*◌, ◌/◌, ◌%◌, ◌≤◌, ◌==◌, true, List, [], ◌∷◌, ◌++◌, length, take, drop, map, refl, sym, ap, ◌∙◌, subst, append-nil, replicate, arith}
+use Rattle.std.specs.Prelude.{max, Some, Ok, codes}
 use Rattle.std.specs.List.{AllByRecursion}
 use Rattle.std.proofs.lemmas.Bool.{eq-eqb}
 use Rattle.std.proofs.lemmas.Fmt.{decimal_digit}
 use Rattle.std.proofs.lemmas.List.{length-take-le, length-drop, take-append-drop}
 use Rattle.lid_base.specs.declared.runs.Shown.{Shown}
 use Rattle.lid_base.proofs.Lists.{all_append}
-use Rattle.lid_lines.specs.Texts.{Words, lines_text}
+use Rattle.lid_lines.specs.Texts.{Words}
 use Rattle.lid_reports.specs.declared.trace.Trace.{Trace}
 use Rattle.lid_wave.specs.declared.form.Section.TheVariants.{Body}
-use Rattle.lid_wave.specs.declared.form.Next.{Next}
 use Rattle.lid_wave.specs.declared.form.Next.TheVariants.{Before, Time}
-use Rattle.lid_wave.specs.declared.form.Place.{Place}
 use Rattle.lid_wave.specs.Words.{placed_words}
 use Rattle.lid_wave.specs.Form.{place, start, step, run, begins}
 use Rattle.lid_wave.specs.Shows.{shown, cycles_of, cells_on, trace_at, trace_of, wave_of}

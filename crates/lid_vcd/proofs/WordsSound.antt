@@ -1,17 +1,16 @@
 -- The words of a written dump are words of a text.
-use Rattle.std.proofs.Common.{◌≡◌, ℕ, zero, suc, ◌+◌, ◌-◌, ◌*◌, ◌/◌, ◌%◌, ◌^◌, ◌<◌, ◌≤◌, ◌==◌, ◌||◌, Bool, true, false, cond, List, [], ◌∷◌, ◌++◌, length, take, drop, refl, sym, ap, ◌∙◌, subst, length-append, inl, inr, arith}
+use Rattle.std.proofs.Common.{◌≡◌, ℕ, zero, suc, ◌+◌, ◌/◌, ◌%◌, ◌^◌, ◌<◌, ◌≤◌, ◌==◌, ◌||◌, Bool, true, false, cond, List, [], ◌∷◌, ◌++◌, take, drop, refl, arith}
 use Rattle.std.specs.Prelude.{nat_lt, codes}
 use Rattle.std.specs.Fmt.{decimal}
 use Rattle.std.specs.List.{AllByRecursion}
-use Rattle.std.proofs.lemmas.Bool.{ne_eqb, or_from, cases_lt, cases_Bool}
-use Rattle.std.proofs.lemmas.Fmt.{decimal_by_steps, decimal_nonempty}
+use Rattle.std.proofs.lemmas.Bool.{ne_eqb, or_from}
+use Rattle.std.proofs.lemmas.Fmt.{decimal_by_steps}
 use Rattle.lid_base.specs.declared.runs.Shown.{Shown}
 use Rattle.lid_base.specs.Lines.{is_newline, is_separator}
 use Rattle.lid_base.proofs.Lists.{all_append}
-use Rattle.lid_lines.specs.Texts.{Words}
 use Rattle.lid_wave.specs.Words.{separates}
 use Rattle.lid_wave.specs.Ids.{id_of, width_of, ending_of, is_token, binary, binary_by}
-use Rattle.lid_wave.specs.Text.{declaration, declarations, timescale_words, scope_words, upscope_words, definitions_words, time_words, head_lines, bit_words, token_words, cell_lines, all_lines, bit_change, token_change, cell_changes, changes, any_differs, cycle_lines, later_lines, body_lines}
+use Rattle.lid_wave.specs.Text.{declaration, declarations, timescale_words, scope_words, upscope_words, definitions_words, time_words, head_lines, bit_words, token_words, all_lines, bit_change, token_change, cell_changes, changes, any_differs, cycle_lines, later_lines, body_lines}
 use Rattle.lid_vcd.proofs.WrittenWords.{IsWord, IsLine}
 
 -- bytes from 33 on separate no words

@@ -1,7 +1,6 @@
 -- The words of a text of lines.
-use Rattle.std.proofs.Common.{◌≡◌, ℕ, zero, suc, ◌+◌, ◌<◌, Bool, true, false, cond, List, [], ◌∷◌, ◌++◌, length, map, refl, sym, ap, ◌∙◌, append-nil, append_assoc, arith}
+use Rattle.std.proofs.Common.{◌≡◌, ℕ, ◌+◌, ◌<◌, false, List, [], ◌∷◌, ◌++◌, length, map, refl, sym, ap, ◌∙◌, append-nil, append_assoc, arith}
 use Rattle.std.specs.List.{AllByRecursion, join_with_byte}
-use Rattle.lid_base.specs.Lines.{is_newline, is_separator}
 use Rattle.lid_lines.specs.Texts.{Words, line_text, lines_text}
 use Rattle.lid_wave.specs.Words.{separates, word_before, words_on, placed_words}
 use Rattle.lid_wave.proofs.Cuts.{grows}

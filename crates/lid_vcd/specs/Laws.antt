@@ -32,3 +32,7 @@ WordsGoOn = (words : List (ℕ × List ℕ)) (p : Place) → place_after start w
 -- words that begin with one that is refused are of the form by no further words: the line of that word is told
 abbrev pub RefusalsStay : Type 0
 RefusalsStay = (words : List (ℕ × List ℕ)) (p : Place) (word : ℕ × List ℕ) (more : List (ℕ × List ℕ)) → place_after start words ≡ Some p → step p word.1 ≡ None → run 0 start (words ++ word ∷ more) ≡ Err word.0
+
+-- a trace that is read is one that the text shows
+abbrev pub ReadAreWaves : Type 0
+ReadAreWaves = (bytes : List ℕ) (t : Trace) → wave_reading bytes ≡ Ok t → Wave bytes t

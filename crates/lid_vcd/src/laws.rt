@@ -1,6 +1,6 @@
 //! What is known of dumps. Each function here does nothing; its contract is a law.
 
-ghost use Rattle.lid_vcd.specs.Laws.{WrittenAreWaves, HaveOneTrace, WrittenAreRead, WordsGoOn, RefusalsStay};
+ghost use Rattle.lid_vcd.specs.Laws.{WrittenAreWaves, HaveOneTrace, WrittenAreRead, WordsGoOn, RefusalsStay, ReadAreWaves};
 
 /// The text that is written of a trace is a dump that shows this trace.
 pub fn written_dumps_are_waves()
@@ -28,4 +28,9 @@ pub fn words_go_on()
 /// told whatever follows.
 pub fn refusals_stay()
     ensures { RefusalsStay }
+{}
+
+/// A trace that is read of a text is the one that the text shows.
+pub fn read_dumps_are_waves()
+    ensures { ReadAreWaves }
 {}

@@ -7,7 +7,7 @@ mod reader;
 mod writer;
 
 pub use laws::{
-    dumps_have_one_trace, refusals_stay, words_go_on, written_dumps_are_read,
+    dumps_have_one_trace, read_dumps_are_waves, refusals_stay, words_go_on, written_dumps_are_read,
     written_dumps_are_waves,
 };
 pub use reader::{VcdFault, read};

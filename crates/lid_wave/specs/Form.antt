@@ -1,5 +1,5 @@
 -- The form of a dump: what each word may be, by what was read before it.
-use Rattle.std.specs.Prelude.{ℕ, ◌+◌, ◌-◌, ◌*◌, ◌/◌, ◌%◌, ◌==◌, nat_lt, nat_le, Bool, true, false, not, ◌&&◌, ◌||◌, if◌then◌else◌, List, [], ◌∷◌, length, take, drop, codes, bytes_eq, Option, Some, None, Result, Ok, Err}
+use Rattle.std.specs.Prelude.{ℕ, ◌+◌, ◌-◌, ◌/◌, ◌%◌, ◌==◌, nat_lt, Bool, true, false, not, ◌&&◌, ◌||◌, if◌then◌else◌, List, [], ◌∷◌, length, take, drop, codes, bytes_eq, Option, Some, None, Result, Ok, Err}
 use Rattle.lid_base.specs.Numbers.{number_below}
 use Rattle.lid_wave.specs.Ids.{id_of, variable_of, token_of, is_token, width_of, ending_of}
 use Rattle.lid_wave.specs.declared.form.Section.{Section}

@@ -1,9 +1,9 @@
 -- What a dump shows.
-use Rattle.std.specs.Prelude.{◌≡◌, ℕ, zero, suc, ◌+◌, ◌-◌, ◌*◌, ◌/◌, ◌==◌, nat_lt, nat_le, Bool, if◌then◌else◌, List, [], ◌∷◌, ◌++◌, length, slice_set, replicate, Option, Some, None, Result, Ok, Err}
+use Rattle.std.specs.Prelude.{◌≡◌, ℕ, zero, suc, ◌-◌, ◌/◌, ◌==◌, if◌then◌else◌, List, [], ◌∷◌, ◌++◌, slice_set, replicate, Option, Some, None, Result, Ok, Err}
 use Rattle.lid_base.specs.declared.runs.Shown.{Shown}
 use Rattle.lid_reports.specs.declared.trace.Trace.{Trace}
 use Rattle.lid_wave.specs.declared.form.Next.{Next}
-use Rattle.lid_wave.specs.declared.form.Next.TheVariants.{Before, Note, Inside, Time, Set, Bits}
+use Rattle.lid_wave.specs.declared.form.Next.TheVariants.{Time, Set, Bits}
 use Rattle.lid_wave.specs.declared.form.Place.{Place}
 use Rattle.lid_wave.specs.Form.{start, step, run}
 use Rattle.lid_wave.specs.Words.{placed_words}

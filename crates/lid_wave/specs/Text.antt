@@ -1,10 +1,10 @@
 -- The dump that is written of a trace.
-use Rattle.std.specs.Prelude.{ℕ, zero, suc, ◌+◌, ◌*◌, ◌/◌, ◌%◌, ◌==◌, Bool, true, false, not, ◌||◌, if◌then◌else◌, List, [], ◌∷◌, ◌++◌, length, take, drop, codes}
+use Rattle.std.specs.Prelude.{ℕ, zero, suc, ◌+◌, ◌*◌, ◌/◌, ◌==◌, Bool, true, false, not, ◌||◌, if◌then◌else◌, List, [], ◌∷◌, ◌++◌, take, drop, codes}
 use Rattle.std.specs.Fmt.{decimal}
 use Rattle.lid_base.specs.declared.runs.Shown.{Shown}
 use Rattle.lid_lines.specs.Texts.{Words, lines_text}
 use Rattle.lid_reports.specs.declared.trace.Trace.{Trace}
-use Rattle.lid_wave.specs.Ids.{id_of, binary, is_token, width_of, ending_of}
+use Rattle.lid_wave.specs.Ids.{id_of, binary, width_of, ending_of}
 
 -- the declaration of a variable
 unfoldable pub declaration : ℕ → Words

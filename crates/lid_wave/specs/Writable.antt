@@ -1,5 +1,5 @@
 -- Which traces are written as dumps.
-use Rattle.std.specs.Prelude.{◌≡◌, ◌*◌, ◌<◌, ◌≤◌, ◌^◌, max, false, List, length}
+use Rattle.std.specs.Prelude.{◌≡◌, ◌*◌, ◌<◌, ◌≤◌, ◌^◌, max, false, length}
 use Rattle.std.specs.List.{AllByRecursion}
 use Rattle.lid_base.specs.declared.runs.Shown.{Shown}
 use Rattle.lid_reports.specs.declared.trace.Trace.{Trace}

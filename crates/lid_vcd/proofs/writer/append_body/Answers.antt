@@ -1,4 +1,4 @@
-use Rattle.std.proofs.Common.{◌<◌, List, ℕ, ◌++◌, ap, ◌∙◌, sym, arith}
+use Rattle.std.proofs.Common.{arith}
 use Rattle.lid_base.proofs.Results.{on_ok}
 use Rattle.lid_reports.proofs.Steps.{cells_left}
 use Rattle.lid_vcd.proofs.Parts.{body_made}

@@ -1,6 +1,4 @@
-use Rattle.std.proofs.Common.{◌∷◌, [], sym, ap, ◌∙◌, List, ℕ, ◌++◌}
-use Rattle.lid_lines.proofs.Pieces.{appended, lines_text_append}
-use Rattle.lid_lines.specs.Texts.{lines_text}
+use Rattle.std.proofs.Common.{◌∷◌, []}
 use Rattle.lid_wave.specs.Text.{declarations, timescale_words, scope_words, upscope_words, definitions_words, head_lines}
 use Rattle.lid_base.proofs.Results.{on_ok}
 use Rattle.lid_vcd.proofs.Parts.{three}

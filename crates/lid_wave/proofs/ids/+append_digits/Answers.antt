@@ -1,4 +1,4 @@
-use Rattle.std.proofs.Common.{◌<◌, ◌≤◌, ◌≡◌, arith, rules}
+use Rattle.std.proofs.Common.{arith, rules}
 use Rattle.lid_wave.proofs.Digits.{digit_next}
 use Rattle.lid_wave.proofs.ids.+append_digits.Goals as goal
 use Rattle.lid_wave.proofs.ids.+append_digits.Goals.{then-number-ge2+in_ok-append_digits, else-number-ge2}

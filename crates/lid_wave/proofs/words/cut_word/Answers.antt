@@ -1,4 +1,4 @@
-use Rattle.std.proofs.Common.{◌≡◌, ℕ, ◌<◌, ◌∷◌, [], List, length, take, drop, sym, ap, subst, ◌∙◌, arith}
+use Rattle.std.proofs.Common.{ℕ, ◌∷◌, [], List, take, drop, sym, ap, ◌∙◌, arith}
 use Rattle.lid_wave.specs.Words.{words_on, word_length}
 use Rattle.lid_wave.proofs.Cuts.{cut_at, end_behind}
 use Rattle.lid_wave.proofs.words.cut_word.Goals as goal
