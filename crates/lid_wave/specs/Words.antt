@@ -1,5 +1,5 @@
 -- The words of a dump, each with the number of its line. No sign begins a comment, and no line goes on.
-use Rattle.std.specs.Prelude.{ℕ, suc, ◌+◌, Bool, not, ◌||◌, if◌then◌else◌, List, [], ◌∷◌, ◌++◌}
+use Rattle.std.specs.Prelude.{ℕ, suc, ◌+◌, Bool, true, not, ◌||◌, if◌then◌else◌, List, [], ◌∷◌, ◌++◌}
 use Rattle.lid_base.specs.Lines.{is_newline, is_separator}
 
 -- blank, tab, carriage return and newline separate words
@@ -25,7 +25,7 @@ placed_words bytes = words_on 1 [] bytes
 
 -- whether a text begins with a word, or has no byte
 abbrev pub begins_word : List ℕ → Bool
-begins_word [] = not (separates 0)
+begins_word [] = true
 begins_word (b ∷ bs) = not (separates b)
 
 -- how many bytes stand before the first that separates words
