@@ -1,0 +1,14 @@
+pub mod Cycles
+pub mod Parts
+pub mod WrittenWords
+pub mod Going
+pub mod HeadRead
+pub mod BodyRead
+pub mod CellsRead
+pub mod CyclesRead
+pub mod WordsSound
+pub mod WavesRead
+pub mod Sound
+pub mod TextSize
+pub mod Alive
+pub mod ReadSound
