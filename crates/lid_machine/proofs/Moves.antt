@@ -63,9 +63,9 @@ module _ (m : Plan) (st : State) (v : ℕ) where
   outs_as more at_station taken same beside station h =
       dite (ℕ_discrete (drainer_of m station) v)
       (λ mine. let d = subst (λ (w : ℕ). (i : ℕ) × DrainsAt m w i station) mine (drained_at m station h) in
-          let before = out_here st v d.0 station d.1 in
-          let after = out_here then_ v d.0 station d.1 in
-          omega (arith, before, after, taken d.0 d.1.within, same d.0 station d.1))
+      let before = out_here st v d.0 station d.1 in
+      let after = out_here then_ v d.0 station d.1 in
+      omega (arith, before, after, taken d.0 d.1.within, same d.0 station d.1))
       (λ other. omega (arith, out_else station other, beside station other))
 
   ins_as : (more : ℕ → ℕ) (at_station : ℕ → ℕ) → Put more
@@ -75,9 +75,9 @@ module _ (m : Plan) (st : State) (v : ℕ) where
   ins_as more at_station put same beside station h =
       dite (ℕ_discrete (filler_of m station) v)
       (λ mine. let f = subst (λ (w : ℕ). (j : ℕ) × FillsAt m w j station) mine (filled_at m station h) in
-          let before = in_here st v f.0 station f.1 in
-          let after = in_here then_ v f.0 station f.1 in
-          omega (arith, before, after, put f.0 f.1.within, same f.0 station f.1))
+      let before = in_here st v f.0 station f.1 in
+      let after = in_here then_ v f.0 station f.1 in
+      omega (arith, before, after, put f.0 f.1.within, same f.0 station f.1))
       (λ other. omega (arith, in_else station other, beside station other))
 
   -- nothing was taken, or nothing put
@@ -98,8 +98,8 @@ module _ (m : Plan) (st : State) (v : ℕ) where
   out_one place h taken =
       outs_as (one_at place) (one_at (in_at m v place)) taken
       (λ i station d. ap (λ (b : Bool). if b then 1 else 0) (test_same i place station (in_at m v place)
-          (λ is. sym d.at ∙ ap (in_at m v) is)
-          (λ is. sym d.place ∙ ap (place_in (ins_of m v)) is ∙ (drains_at m v place h).place)))
+      (λ is. sym d.at ∙ ap (in_at m v) is)
+      (λ is. sym d.place ∙ ap (place_in (ins_of m v)) is ∙ (drains_at m v place h).place)))
       (λ station other. ap (λ (b : Bool). if b then 1 else 0) (ne_eqb station (in_at m v place) (λ is. other (ap (drainer_of m) is ∙ (drains_at m v place h).drainer))))
 
   -- a token was put in the station at a place
@@ -107,6 +107,6 @@ module _ (m : Plan) (st : State) (v : ℕ) where
   in_one place h put =
       ins_as (one_at place) (one_at (out_at m v place)) put
       (λ j station f. ap (λ (b : Bool). if b then 1 else 0) (test_same j place station (out_at m v place)
-          (λ is. sym f.at ∙ ap (out_at m v) is)
-          (λ is. sym f.place ∙ ap (place_in (outs_of m v)) is ∙ (fills_at m v place h).place)))
+      (λ is. sym f.at ∙ ap (out_at m v) is)
+      (λ is. sym f.place ∙ ap (place_in (outs_of m v)) is ∙ (fills_at m v place h).place)))
       (λ station other. ap (λ (b : Bool). if b then 1 else 0) (ne_eqb station (out_at m v place) (λ is. other (ap (filler_of m) is ∙ (fills_at m v place h).filler))))

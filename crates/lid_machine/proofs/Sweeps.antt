@@ -142,8 +142,8 @@ module _ (x : Setup) (rules : IsSetup x) where
         up = λ k up before w less.
             later.up k (λ u within. omega (arith, up u within, fired_after st v u there sound))
             (λ u below. dite (ℕ_discrete u v)
-                (λ same. subst (λ (y : ℕ). F (suc k) y ≤ (turn m st v y).fired) (sym same) (turn_keeps_up st k v sound rest there up))
-                (λ other. omega (arith, before u (omega (arith, below, other)), fired_after st v u there sound)))
+            (λ same. subst (λ (y : ℕ). F (suc k) y ≤ (turn m st v y).fired) (sym same) (turn_keeps_up st k v sound rest there up))
+            (λ other. omega (arith, before u (omega (arith, below, other)), fired_after st v u there sound)))
             w (omega (arith, less));
       }
 
@@ -169,16 +169,17 @@ module _ (x : Setup) (rules : IsSetup x) where
     pub idle_settled : ((v : ℕ) → v < actors_of m → (sweep m st v).fired ≡ (st v).fired) → IsSettled m st
     idle_settled none v h =
         let enough = tokens_reach_caps g caps (g.nodes * cap m v) v (rateable x.system x.placement rules.system rules.fits).paired (caps_fit x.system x.placement rules.system rules.fits m.rows) (have_tokens x.system x.placement rules.system rules.fits)
-            (omega (arith, h, node_count x.system x.placement)) (omega arith) in
+        (omega (arith, h, node_count x.system x.placement)) (omega arith) in
         omega (arith, enough, idle none (g.nodes * cap m v) v h, (sound.actors v h).capped)
 
   pub many : (st : State) (k : ℕ) → IsSound m st → AllRest m st → HasSwept m st (sweeps m st k) × HaveFired m (sweeps m st k) k
   many st zero sound rest = (record { sound = sound; rest = rest; goes_on = λ v h. omega arith }, at_first st sound rest)
   many st (suc k) sound rest =
       let before = many st k sound rest in
-      let more = has_swept (sweeps m st k) before.0.sound before.0.rest in
-      (record { sound = more.sound; rest = more.rest; goes_on = λ v h. omega (arith, before.0.goes_on v h, more.goes_on v h) },
-      keeps_up (sweeps m st k) before.0.sound before.0.rest k before.1)
+      let more = has_swept (sweeps m st k) before.0.sound before.0.rest in (
+        record { sound = more.sound; rest = more.rest; goes_on = λ v h. omega (arith, before.0.goes_on v h, more.goes_on v h) },
+        keeps_up (sweeps m st k) before.0.sound before.0.rest k before.1,
+      )
 
   pub settles : (st : State) (k : ℕ) → IsSound m st → AllRest m st → ((v : ℕ) → v < actors_of m → F k v ≡ cap m v) → IsSettled m (sweeps m st k)
   settles st k sound rest at v h =

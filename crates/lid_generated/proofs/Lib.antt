@@ -1,0 +1,12 @@
+mod Each
+mod Names
+mod Pearls
+mod Roots
+mod Heights
+mod Formed
+mod Words
+mod Written
+mod Carried
+mod Channels
+mod Sizes
+mod Subs
