@@ -1,5 +1,4 @@
 pub mod Fetched
-pub mod Tokens
 pub mod Lifetimes
 pub mod Rest
 pub mod Runs

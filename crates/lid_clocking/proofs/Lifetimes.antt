@@ -4,14 +4,13 @@ use Rattle.std.specs.List.{AllByRecursion, flat_map}
 use Rattle.lid_base.specs.declared.runs.Shown.{Shown}
 use Rattle.lid_design.specs.declared.Design.{Design}
 use Rattle.lid_design.specs.Network.{Table, IsStrict, from_each}
-use Rattle.lid_design.specs.Columns.{Column, drivers, root_inputs, root_outputs, output_rows, IsStrictOutput}
+use Rattle.lid_design.specs.Columns.{Column, drivers, root_inputs, root_outputs, output_rows}
 use Rattle.lid_graph.specs.Firings.{no_hold}
 use Rattle.lid_system.specs.declared.System.{System}
 use Rattle.lid_system.specs.Systems.{IsWellFormed}
-use Rattle.lid_system.specs.Streams.{output_row, IsOutput}
-use Rattle.lid_system.proofs.Streaming.{each_same, inputs_agree}
+use Rattle.lid_system.proofs.Streaming.{each_same}
 use Rattle.lid_agree.specs.Agreement.{seen, IsSystemOf}
-use Rattle.lid_agree.proofs.Agreeing.{table_is, rows_are, output_back}
+use Rattle.lid_agree.proofs.Agreeing.{table_is, rows_are}
 use Rattle.lid_stations.specs.declared.placement.Placement.{Placement}
 use Rattle.lid_stations.specs.Placements.{links_of, station_count, Fits}
 use Rattle.lid_runs.specs.Runs.{token_of, fired_in, in_count, out_count}
@@ -23,7 +22,7 @@ use Rattle.lid_reports.specs.Runs.{cycles_text, trace_text}
 use Rattle.lid_clockrun.specs.RunTexts.{IsLifeOf, IsRunText, cells_after, end_text}
 use Rattle.lid_clockrun.specs.RunTexts as run
 use Rattle.lid_script.specs.Clocked.{station_token, cells_of, nodes_fired, traced, IsClockText}
-use Rattle.lid_clocking.proofs.Tokens.{all_so, token_same}
+use Rattle.lid_script.proofs.Tokens.{all_so, token_same, are_outputs}
 
 flat_same : {A B : Type 0} (f g : A → List B) (xs : List A) → ((x : A) → f x ≡ g x) → flat_map f xs ≡ flat_map g xs
 flat_same f g [] same = refl
@@ -72,22 +71,12 @@ module _ (d : Design) (s : System) (p : Placement) (of : IsSystemOf d s) (well :
       let told : List Shown → List ℕ = λ cells. trace_text (record { stations = station_count p.relays; cycles = min most k; cells = cells }) in
       ap told (cells_after_same (min most k))
 
-  are_outputs : IsStrictOutput d rows (output_rows d b count)
-  are_outputs =
-      let at = seen d of.columns b in
-      let table = table_is d s of well rows b strict in
-      let is : IsOutput s rows (output_rows d b count) = record {
-        some = (at, table);
-        each = λ a other. sym (rows_are d s of well rows b strict) ∙ each_same (output_row s at) (output_row s a) 0 count (λ t h. inputs_agree s well rows at a table other (length s.nodes - 1) t (omega (arith, h)));
-      } in
-      output_back d s rows (output_rows d b count) b of well strict is
-
   pub clock_text : (trace : Option ℕ) (text : List ℕ) → IsRunText life (root_outputs d) trace text → IsClockText d (links_of s) p rows trace text
   clock_text trace text is = record {
     table = b;
     strict = strict;
     outs = output_rows d b count;
-    are_outs = are_outputs;
+    are_outs = are_outputs d s of well b rows strict;
     cycles = is.cycles;
     ends = is.ends;
     within = is.within;

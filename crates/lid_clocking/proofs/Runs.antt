@@ -35,7 +35,7 @@ use Rattle.lid_script.specs.Statuses.{HasText, Writes, WritesPrefix, TellsAll}
 use Rattle.lid_script.specs.Early.{RunsEarly}
 use Rattle.lid_script.proofs.Readings.{vec_declines}
 use Rattle.lid_clocking.specs.Stops.{stop_of_feed, end_of_run}
-use Rattle.lid_clocking.proofs.Tokens.{all_so}
+use Rattle.lid_script.proofs.Tokens.{all_so}
 use Rattle.lid_clocking.proofs.Lifetimes.{life, lives, clock_text}
 use Rattle.lid_clocking.proofs.Rest.{Rest, rest, Falls, is_changed, never_told, falls_refused, falls_few}
 

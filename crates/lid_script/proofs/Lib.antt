@@ -4,3 +4,4 @@ pub mod Placements
 pub mod Traces
 pub mod Within
 pub mod Schedules
+pub mod Tokens

@@ -81,6 +81,7 @@ fn rows_of<'a>(alloc: Global, checked: &Checked, bytes: &[u8]) -> Result<Rows, S
     ensures ok { IfOk result (λ rows. vec_reading checked.now bytes.now ≡ good rows.bits) }
     ensures columns { IfOk result (λ rows. rows.columns ≡ root_inputs checked.now) }
     ensures wide { IfOk result (λ rows. AllByRecursion (λ row. length row ≡ length (root_inputs checked.now)) rows.bits) }
+    ensures few { IfOk result (λ rows. length rows.bits ≤ 1000000) }
     ensures err { IfErr result (Declines (vec_reading checked.now bytes.now)) }
 {
     let outs = checked.outputs().len() as u32;
@@ -100,6 +101,7 @@ pub fn read_vec<'a, S: Shelf>(
     ensures ok { IfOk result (λ rows. Got (S.held shelf.old) vec.now rows_limit (vec_reading checked.now) rows.bits) }
     ensures columns { IfOk result (λ rows. rows.columns ≡ root_inputs checked.now) }
     ensures wide { IfOk result (λ rows. AllByRecursion (λ row. length row ≡ length (root_inputs checked.now)) rows.bits) }
+    ensures few { IfOk result (λ rows. length rows.bits ≤ 1000000) }
     ensures err { IfErr result (Misses (S.held shelf.old) vec.now rows_limit (vec_reading checked.now) (S.faults shelf.old) (S.faults shelf.new)) }
     ensures kept { S.held shelf.new ≡ S.held shelf.old }
     ensures grows { (q : List ℕ) → S.faults shelf.old q ≤ S.faults shelf.new q }

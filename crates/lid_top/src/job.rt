@@ -7,6 +7,7 @@ ghost use Rattle.lid_script.specs.Scripts.{script_of};
 ghost use Rattle.lid_script.specs.Causes.{IsCause, IsEnd, IsStopped, IsRefusal};
 ghost use Rattle.lid_script.specs.Statuses.{HasText, Writes, WritesPrefix, TellsAll, Leaves, writes_early};
 
+use crate::held::held_text;
 use lid_base::{Gate, Shelf, Sink, SinkFailed};
 use lid_cli::Job;
 use lid_clocking::run_clock;
@@ -29,6 +30,9 @@ fn text_of<'a, S: Shelf>(alloc: Global, shelf: &mut S, job: &'a Job) -> Result<V
     match job {
         Job::Check { net, root } => check_text(alloc, shelf, net.as_str(), root),
         Job::Clock { .. } => unreachable!(),
+        Job::Gen { .. } | Job::Unwave { .. } | Job::Walk { .. } | Job::Wave { .. } => {
+            held_text(alloc, shelf, job)
+        }
         Job::Place {
             net,
             wires,
@@ -145,9 +149,13 @@ where
             root,
         ),
         Job::Check { .. }
+        | Job::Gen { .. }
         | Job::Place { .. }
         | Job::Rate { .. }
         | Job::Strict { .. }
-        | Job::Verify { .. } => run_whole(rt.alloc(), job, shelf, out),
+        | Job::Unwave { .. }
+        | Job::Verify { .. }
+        | Job::Walk { .. }
+        | Job::Wave { .. } => run_whole(rt.alloc(), job, shelf, out),
     }
 }

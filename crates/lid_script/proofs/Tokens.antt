@@ -1,5 +1,5 @@
--- The tokens of a system are those of its design.
-use Rattle.std.proofs.Common.{◌≡◌, ℕ, zero, suc, ◌+◌, ◌<◌, Bool, false, List, [], ◌∷◌, length, get_or, map, Some, slice_get, refl, sym, ◌∙◌, ap, subst, arith}
+-- The tokens and the output rows of a system are those of its design.
+use Rattle.std.proofs.Common.{◌≡◌, ℕ, zero, suc, ◌+◌, ◌-◌, ◌<◌, Bool, false, List, [], ◌∷◌, length, get_or, map, Some, slice_get, refl, sym, ◌∙◌, ap, subst, arith}
 use Rattle.std.specs.List.{AllByRecursion}
 use Rattle.std.specs.Option.{option_map_or}
 use Rattle.std.proofs.lemmas.List.{get_or-map}
@@ -9,8 +9,8 @@ use Rattle.lid_base.proofs.Lists.{all_among}
 use Rattle.lid_cover.specs.Masks.{packed}
 use Rattle.lid_design.specs.declared.Design.{Design}
 use Rattle.lid_design.specs.declared.Model.{Model}
-use Rattle.lid_design.specs.Network.{Table}
-use Rattle.lid_design.specs.Columns.{Column, column, model_at}
+use Rattle.lid_design.specs.Network.{Table, IsStrict}
+use Rattle.lid_design.specs.Columns.{Column, column, model_at, drivers, output_rows, IsStrictOutput}
 use Rattle.lid_design.specs.Loops.{pearls}
 use Rattle.lid_design.proofs.Tables.{map_agree}
 use Rattle.lid_pearl.specs.Pearls.{View}
@@ -20,13 +20,14 @@ use Rattle.lid_system.specs.declared.Node.TheVariants.{Source, Shell, Sink}
 use Rattle.lid_system.specs.declared.InBit.{InBit}
 use Rattle.lid_system.specs.declared.Channel.{Channel}
 use Rattle.lid_system.specs.Systems.{Point, source_port, ports_at, IsChannel, IsWellFormed}
-use Rattle.lid_system.specs.Streams.{token_at}
+use Rattle.lid_system.specs.Streams.{token_at, output_row, IsOutput}
+use Rattle.lid_system.proofs.Streaming.{each_same, inputs_agree}
 use Rattle.lid_stations.specs.declared.placement.Placement.{Placement}
 use Rattle.lid_stations.specs.Placements.{links_of}
 use Rattle.lid_stations.specs.Stations.{spot_at, channel_at, no_channel}
 use Rattle.lid_runs.specs.Runs.{token_of}
 use Rattle.lid_agree.specs.Agreement.{column_of, seen, IsSystemOf}
-use Rattle.lid_agree.proofs.Agreeing.{source_ports, shell_ports}
+use Rattle.lid_agree.proofs.Agreeing.{source_ports, shell_ports, table_is, rows_are, output_back}
 use Rattle.lid_net.specs.Graphs.{ports_of, outputs_at}
 use Rattle.lid_script.specs.Clocked.{channel_token, station_token}
 
@@ -93,3 +94,14 @@ module _ (d : Design) where
       pub token_same : (p : Placement) (station i : ℕ) → token_of s p (seen d of.columns b) station i ≡ station_token d b (links_of s) p station i
       token_same p station i =
           item_or Agrees s.channels (spot_at p.relays station).channel no_channel (all_so (IsChannel s) Agrees s.channels channel_agrees well.each_channel) (λ t. refl) i
+
+      -- the strict output rows of the design are the rows that the table of the system gives
+      pub are_outputs : (rows : List (List Bool)) → IsStrict (drivers d) rows b → IsStrictOutput d rows (output_rows d b (length rows))
+      are_outputs rows strict =
+          let at = seen d of.columns b in
+          let table = table_is d s of well rows b strict in
+          let is : IsOutput s rows (output_rows d b (length rows)) = record {
+            some = (at, table);
+            each = λ a other. sym (rows_are d s of well rows b strict) ∙ each_same (output_row s at) (output_row s a) 0 (length rows) (λ t h. inputs_agree s well rows at a table other (length s.nodes - 1) t (omega (arith, h)));
+          } in
+          output_back d s rows (output_rows d b (length rows)) b of well strict is

@@ -1,0 +1,67 @@
+//! Jobs whose output is told by what their runs hold.
+
+ghost use Rattle.std.specs.Prelude.{◌≡◌, ℕ, ◌≤◌, true, List, IfOk, IfErr};
+ghost use Rattle.lid_cli.specs.Jobs.{IsSound};
+ghost use Rattle.lid_script.specs.Scripts.{script_of};
+ghost use Rattle.lid_script.specs.Causes.{IsCause};
+ghost use Rattle.lid_script.specs.Statuses.{HasText};
+ghost use Rattle.lid_top.specs.Held.{is_held};
+
+use lid_base::Shelf;
+use lid_cli::Job;
+use lid_generating::gen_text;
+use lid_heldruns::{walk_text, wave_text};
+use lid_script::Stop;
+use lid_waving::unwave_text;
+use std::alloc::Global;
+use std::convert::AsStr;
+
+/// What `gen`, `unwave`, `walk` or `wave` writes.
+pub fn held_text<'a, S: Shelf>(
+    alloc: Global,
+    shelf: &mut S,
+    job: &'a Job,
+) -> Result<Vec<u8>, Stop<'a>>
+    requires held { is_held job.now ≡ true }
+    requires sound { IsSound job.now }
+    ensures ok { IfOk result (λ text. HasText (S.held shelf.old) (script_of job.now) text.items) }
+    ensures err { IfErr result (IsCause (S.held shelf.old) (script_of job.now) (S.faults shelf.old) (S.faults shelf.new)) }
+    ensures kept { S.held shelf.new ≡ S.held shelf.old }
+    ensures grows { (q : List ℕ) → S.faults shelf.old q ≤ S.faults shelf.new q }
+{
+    match job {
+        Job::Gen { seed, shells, run } => gen_text(alloc, *seed, *shells, run),
+        Job::Unwave { file } => unwave_text(alloc, shelf, file.as_str()),
+        Job::Walk {
+            net,
+            vec,
+            schedule,
+            stations,
+            root,
+        } => walk_text(
+            alloc,
+            shelf,
+            net.as_str(),
+            vec.as_str(),
+            schedule.as_str(),
+            stations,
+            root,
+        ),
+        Job::Wave {
+            net,
+            vec,
+            stations,
+            trace,
+            root,
+        } => wave_text(
+            alloc,
+            shelf,
+            net.as_str(),
+            vec.as_str(),
+            stations,
+            *trace,
+            root,
+        ),
+        _ => unreachable!(),
+    }
+}
