@@ -17,6 +17,8 @@ mod rate_tests;
 #[cfg(test)]
 mod report_tests;
 #[cfg(test)]
+mod run_tests;
+#[cfg(test)]
 mod tests;
 
 use lid_base::{DirShelf, StdSink, Text};
