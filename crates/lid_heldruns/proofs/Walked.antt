@@ -1,5 +1,5 @@
 -- A walk of a system is told as one of its design.
-use Rattle.std.proofs.Common.{◌≡◌, ℕ, zero, suc, ◌+◌, ◌-◌, ◌<◌, ◌≤◌, Bool, List, [], ◌∷◌, ◌++◌, length, take, refl, sym, ◌∙◌, ap, subst, arith}
+use Rattle.std.proofs.Common.{◌≡◌, ℕ, zero, suc, ◌+◌, ◌-◌, ◌<◌, ◌≤◌, Bool, List, [], ◌∷◌, ◌++◌, length, take, append-nil, append_assoc, refl, sym, ◌∙◌, ap, subst, arith}
 use Rattle.std.specs.List.{AllByRecursion}
 use Rattle.lid_base.specs.declared.runs.Answer.{Answer}
 use Rattle.lid_design.specs.declared.Design.{Design}
@@ -17,7 +17,7 @@ use Rattle.lid_runs.specs.Runs.{token_of}
 use Rattle.lid_texts.specs.RowsText.{rows_text}
 use Rattle.lid_machine.specs.Plans.{Plan, sink}
 use Rattle.lid_machine.specs.Setups.{Setup, IsSetup, IsInputRow, plan, output_rows as given_rows}
-use Rattle.lid_machine.specs.Machine.{State, answers, after_all, begun}
+use Rattle.lid_machine.specs.Machine.{State, answers, after_all, answer_of, next, begun}
 use Rattle.lid_script.specs.Clocked.{station_token}
 use Rattle.lid_script.specs.Walked.{plan_of, answer_lines, given_after, IsWalkText}
 use Rattle.lid_script.proofs.Tokens.{all_so, token_same, are_outputs}
@@ -27,6 +27,21 @@ take_each : {A : Type 0} (f : ℕ → A) (first n m : ℕ) → m ≤ n → take 
 take_each f first n zero h = refl
 take_each f first zero (suc m) h = absurd (omega (arith, h))
 take_each f first (suc n) (suc m) h = ap (λ xs. f first ∷ xs) (take_each f (first + 1) n m (omega (arith, h)))
+
+-- one step more of a schedule
+module _ (m : Plan) where
+  pub after_more : (st : State) (schedule : List ℕ) (v : ℕ) → after_all m st (schedule ++ v ∷ []) ≡ next m (after_all m st schedule) v
+  unfolding after_all
+  after_more st [] v = refl
+  after_more st (w ∷ schedule) v = after_more (next m st w) schedule v
+
+  pub lines_more : (st : State) (schedule : List ℕ) (v : ℕ)
+      → answer_lines (schedule ++ v ∷ []) (answers m st (schedule ++ v ∷ [])) ≡ answer_lines schedule (answers m st schedule) ++ answer_text v (answer_of m (after_all m st schedule) v)
+  unfolding answers after_all
+  lines_more st [] v = append-nil (answer_text v (answer_of m st v))
+  lines_more st (w ∷ schedule) v =
+      ap (λ xs. answer_text w (answer_of m st w) ++ xs) (lines_more (next m st w) schedule v)
+      ∙ sym (append_assoc (answer_text w (answer_of m st w)) (answer_lines schedule (answers m (next m st w) schedule)) (answer_text v (answer_of m (after_all m (next m st w) schedule) v)))
 
 module _ (d : Design) (s : System) (p : Placement) (of : IsSystemOf d s) (well : IsWellFormed s) (rows : List (List Bool)) (b : Table Column) (strict : IsStrict (drivers d) rows b) where
   -- the setup of the system, whose table is that of the design
