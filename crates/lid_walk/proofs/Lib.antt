@@ -1,0 +1,3 @@
+pub mod Elements
+pub mod Serving
+pub mod Stepping
