@@ -1,15 +1,15 @@
 //! Walks.
 
-ghost use Rattle.std.specs.Prelude.{◌≡◌, ◌↔◌, ◌≤◌, ℕ, true, length, IfOk};
+ghost use Rattle.std.specs.Prelude.{◌≡◌, ◌↔◌, ◌≤◌, ◌-◌, ℕ, true, length, IfOk};
 ghost use Rattle.std.specs.List.{AllByRecursion};
 ghost use Rattle.lid_system.specs.Systems.{IsWellFormed};
 ghost use Rattle.lid_stations.specs.Placements.{Fits};
 ghost use Rattle.lid_machine.specs.Plans.{actors_of, sink};
 ghost use Rattle.lid_machine.specs.Setups.{Setup, IsSetup, IsInputRow, plan, output_rows};
-ghost use Rattle.lid_machine.specs.Machine.{State, begun, answer_of, next, sweep};
+ghost use Rattle.lid_machine.specs.Machine.{State, begun, answer_of, next, turn, sweep};
 ghost use Rattle.lid_machine.specs.Laws.{IsSound, AllRest, IsSettled};
 ghost use Rattle.lid_shell.specs.Parts.{AreColumns};
-ghost use Rattle.lid_walk.specs.Walks.{AreActors, IsBoard, Walks, IsWalk, HasActor, IsAtRest, IsSetupOf, firings_between};
+ghost use Rattle.lid_walk.specs.Walks.{AreActors, IsBoard, Walks, IsWalk, HasActor, HasActorAtRest, IsAtRest, IsSetupOf, firings_between};
 
 use lid_base::{Answer, Items};
 use lid_shell::Actor;
@@ -75,14 +75,43 @@ impl<'r> Walk<'r> {
         ensures rest { (m : Setup) (st : State) → Walks m st self.old → AllRest (plan m) st → AllRest (plan m) (sweep (plan m) st) }
         ensures idle { (m : Setup) (st : State) → Walks m st self.old → AllRest (plan m) st → result ≡ 0 → IsSettled (plan m) st }
     {
-        loop {}
+        let mut fired = 0u64;
+        for actor in 0..self.actors.len() as u32 {
+            fired += self.turn(actor);
+        }
+        fired
+    }
+
+    /// Makes one turn of an actor, which exists and is at rest. Answers how often it fired, which is at most once.
+    fn turn(&mut self, actor: u32) -> u64
+        requires { HasActorAtRest self.old actor }
+        ensures walks { (m : Setup) (st : State) → Walks m st self.old → Walks m (turn (plan m) st actor) self.new }
+        ensures fired { (m : Setup) (st : State) → Walks m st self.old → (st actor).position ≡ 0 → result ≡ (turn (plan m) st actor actor).fired - (st actor).fired }
+        ensures once { result ≤ 1 }
+    {
+        let before = self.fired(actor);
+        self.step_to_rest(actor);
+        self.fired(actor) - before
+    }
+
+    /// Makes steps of an actor, which exists, until it is at rest.
+    fn step_to_rest(&mut self, actor: u32)
+        requires { HasActor self.old actor }
+        ensures { (m : Setup) (st : State) → Walks m st self.old → Walks m (turn (plan m) st actor) self.new }
+    {
+        let _ = self.step(actor);
+        while !self.actors[actor as usize].at_rest() {
+            let _ = self.step(actor);
+        }
     }
 
     /// Whether every actor is at its cap.
     pub fn settled(&self) -> bool
         ensures { (m : Setup) (st : State) → Walks m st self.now → (result ≡ true) ↔ IsSettled (plan m) st }
     {
-        loop {}
+        self.actors
+            .iter()
+            .all(|actor| actor.fired() == actor.cap())
     }
 
     /// How often an actor has fired. It exists.
