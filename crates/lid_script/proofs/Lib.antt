@@ -3,3 +3,4 @@ pub mod Readings
 pub mod Placements
 pub mod Traces
 pub mod Within
+pub mod Schedules

@@ -308,32 +308,29 @@ schedule_read actors bytes = schedule_good (schedule_reading actors bytes)
 unfoldable pub schedule_script : Design → Links → Placement → List ℕ → List (List Bool) → Script
 schedule_script d l p schedule rows = read_step schedule text_limit (schedule_read (actor_count l p)) (λ actors. end (gives (walked d l p rows actors)))
 
--- `walk` of a system with such a placement: the rows are fetched and read
-unfoldable pub walked_script : Design → Links → Placement → List ℕ → List ℕ → Script
-walked_script d l p vec schedule = read_step vec rows_limit (vec_reading d) (schedule_script d l p schedule)
+-- a run that holds its rows: the netlist is read and checked, and its system built, then the stations are read, and
+-- then the rows
+abbrev pub rows_step : Design → List ℕ → (List (List Bool) → Script) → Script
+rows_step d vec next = read_step vec rows_limit (vec_reading d) next
 
--- `walk` of an accepted design: its system is built, and the stations are read
-unfoldable pub walking_script : Design → List ℕ → List ℕ → Option (List ℕ) → Script
-walking_script d vec schedule stations =
-    net_step d (λ channels. placement_step (links d channels) stations (λ p. walked_script d (links d channels) p vec schedule))
+abbrev pub built_step : Design → List ℕ → Option (List ℕ) → (Links → Placement → List (List Bool) → Script) → Script
+built_step d vec stations next =
+    net_step d (λ channels. placement_step (links d channels) stations (λ p. rows_step d vec (next (links d channels) p)))
 
--- `walk`: the netlist is read and checked, and its system built, then the stations are read, then the rows, and then
--- the schedule
+abbrev pub held_step : List ℕ → List ℕ → Option (List ℕ) → Option (List ℕ) → (Design → Links → Placement → List (List Bool) → Script) → Script
+held_step net vec stations root next = read_step net net_limit net_reading (λ d. check_step root d (λ checked. built_step checked vec stations (next checked)))
+
+-- `walk`: the schedule is read after the rows
 unfoldable pub walk_script : List ℕ → List ℕ → List ℕ → Option (List ℕ) → Option (List ℕ) → Script
-walk_script net vec schedule stations root = read_step net net_limit net_reading (λ d. check_step root d (λ checked. walking_script checked vec schedule stations))
+walk_script net vec schedule stations root = held_step net vec stations root (λ d l p rows. schedule_script d l p schedule rows)
 
 -- `wave` of a system with such a placement whose rows were read: the trace is judged
 unfoldable pub waving_script : Design → Links → Placement → ℕ → List (List Bool) → Script
 waving_script d l p cycles rows = step (trace_read p (Some cycles)) (λ _. end (gives (waved d l p rows cycles)))
 
--- `wave` of an accepted design: its system is built, the stations are read, and then the rows
-unfoldable pub waved_script : Design → List ℕ → Option (List ℕ) → ℕ → Script
-waved_script d vec stations cycles =
-    net_step d (λ channels. placement_step (links d channels) stations (λ p. read_step vec rows_limit (vec_reading d) (waving_script d (links d channels) p cycles)))
-
 -- `wave`: the steps of `clock`, with the rows held
 unfoldable pub wave_script : List ℕ → List ℕ → Option (List ℕ) → ℕ → Option (List ℕ) → Script
-wave_script net vec stations cycles root = read_step net net_limit net_reading (λ d. check_step root d (λ checked. waved_script checked vec stations cycles))
+wave_script net vec stations cycles root = held_step net vec stations root (λ d l p rows. waving_script d l p cycles rows)
 
 abbrev pub dump_good : Result Trace VcdFault → Reading Trace
 dump_good (Ok trace) = good trace

@@ -1,7 +1,7 @@
 //! Schedules that are read.
 
 ghost use Rattle.std.specs.Prelude.{◌≡◌, ℕ, ◌≤◌, ◌<◌, List, IfOk, IfErr};
-ghost use Rattle.std.specs.List.{All};
+ghost use Rattle.std.specs.List.{AllByRecursion};
 ghost use Rattle.lid_script.specs.Scripts.{good, text_limit, schedule_read};
 ghost use Rattle.lid_script.specs.Causes.{Declines, Got, Misses};
 
@@ -17,7 +17,7 @@ const SCHEDULE_LIMIT: usize = 16_777_216;
 /// The schedule of a text, for so many actors.
 fn schedule_of<'a>(alloc: Global, actors: u32, bytes: &[u8]) -> Result<Items<u32>, Stop<'a>>
     ensures ok { IfOk result (λ schedule. schedule_read actors bytes.now ≡ good schedule) }
-    ensures below { IfOk result (λ schedule. All (λ v. v < actors) schedule) }
+    ensures below { IfOk result (AllByRecursion (λ v. v < actors)) }
     ensures err { IfErr result (Declines (schedule_read actors bytes.now)) }
 {
     match read_schedule(alloc, bytes, actors) {
@@ -34,7 +34,7 @@ pub fn read_schedule_file<'a, S: Shelf>(
     schedule: &'a str,
 ) -> Result<Items<u32>, Stop<'a>>
     ensures ok { IfOk result (λ list. Got (S.held shelf.old) schedule.now text_limit (schedule_read actors) list) }
-    ensures below { IfOk result (λ list. All (λ v. v < actors) list) }
+    ensures below { IfOk result (AllByRecursion (λ v. v < actors)) }
     ensures err { IfErr result (Misses (S.held shelf.old) schedule.now text_limit (schedule_read actors) (S.faults shelf.old) (S.faults shelf.new)) }
     ensures kept { S.held shelf.new ≡ S.held shelf.old }
     ensures grows { (q : List ℕ) → S.faults shelf.old q ≤ S.faults shelf.new q }

@@ -1,6 +1,6 @@
 -- How a board agrees with an actor: what it serves of the actor's stations, by the numbers of the interleaving
 -- machine.
-use Rattle.std.specs.Prelude.{◌≡◌, ℕ, ◌+◌, ◌<◌, ◌≤◌, ◌⊎◌, Bool, true, List, length, Option, Some, slice_get}
+use Rattle.std.specs.Prelude.{◌≡◌, ℕ, ◌+◌, ◌<◌, ◌≤◌, true, length, Some, slice_get}
 use Rattle.lid_station.specs.Boards.{Facts, Ends, fill, drain}
 use Rattle.lid_machine.specs.Plans.{ins_of, outs_of, start_of, room_of}
 use Rattle.lid_machine.specs.Setups.{Setup, plan}

@@ -3,3 +3,5 @@ pub mod Parts
 pub mod Actors
 pub mod Steps
 pub mod Turns
+pub mod Inside
+pub mod Starts

@@ -1,13 +1,13 @@
 -- What a step of an actor does to it and to the board.
-use Rattle.std.specs.Prelude.{◌≡◌, ℕ, ◌+◌, ◌≤◌, ◌⊎◌, ◌==◌, Bool, true, false, if◌then◌else◌, List, Option, Some, None, option_map, slice_get}
+use Rattle.std.specs.Prelude.{◌≡◌, ℕ, ◌+◌, ◌<◌, ◌≤◌, ◌⊎◌, ◌==◌, Bool, true, false, if◌then◌else◌, List, Option, Some, None, option_map, slice_get}
 use Rattle.lid_base.specs.declared.runs.Answer.{Answer}
-use Rattle.lid_base.specs.declared.runs.Answer.TheVariants.{Token, Void, Room, Stop, Took, Put, Fired, Done}
+use Rattle.lid_base.specs.declared.runs.Answer.TheVariants.{Void, Stop}
 use Rattle.lid_station.specs.Boards.{Facts, Ends, fill, drain}
-use Rattle.lid_machine.specs.Plans.{stream}
+use Rattle.lid_machine.specs.Plans.{cap, stream}
 use Rattle.lid_machine.specs.Setups.{Setup, plan}
 use Rattle.lid_machine.specs.Machine.{Progress, State, answer_as, after_as, finds}
 use Rattle.lid_shell.specs.declared.actor.Actor.{Actor}
-use Rattle.lid_shell.specs.Boards.{Agrees, ServesAll}
+use Rattle.lid_shell.specs.Boards.{Agrees}
 use Rattle.lid_shell.specs.Actors.{IsActor}
 
 -- actor v, that far, and a board that agrees with it and stands for the streams
@@ -36,9 +36,9 @@ pub record Steps (m : Setup) (v : ℕ) (q : Progress) (answer : Answer) (a : Act
   pub works : Works m v (after_as (plan m) v q (found_in answer)) a ends stands
 
 -- where the board serves both ends of each of its stations by a state of the machine, a look finds what it looks for
--- exactly where the counts say so
+-- exactly where the counts say so. At its cap an actor does not look
 abbrev pub IsExact : Setup → State → ℕ → Answer → Type 0
-IsExact m st v answer = found_in answer ≡ finds (plan m) st v
+IsExact m st v answer = (st v).fired < cap (plan m) v → found_in answer ≡ finds (plan m) st v
 
 -- the end at which a look missed
 abbrev pub missed_end : Answer → Option ℕ

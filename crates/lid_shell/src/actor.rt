@@ -15,10 +15,13 @@ ghost use Rattle.lid_shell.specs.Steps.{Works, CanStep, CanTurn, Steps, IsExact,
 ghost use Rattle.lid_shell.specs.Turns.{answer_at, end_at, Turned};
 ghost use Rattle.lid_shell.specs.declared.turn.TurnEnd.TheVariants as end;
 
-use crate::desk::Desk;
-use crate::part::{Given, Part};
-use crate::turn::TurnEnd;
+use crate::building::{mover_desk, new_desk, new_given};
+use crate::desk::{Desk, Next};
+use crate::part::Part;
+use crate::rules::actors_go_by_rules;
+use crate::turn::{TurnEnd, end_of};
 use lid_base::{Answer, Items};
+use lid_nodes::{ShellNode, SinkNode, SourceNode};
 use lid_station::Stations;
 use lid_system::System;
 use lid_texts::Rows;
@@ -48,7 +51,14 @@ impl<'r> Actor<'r> {
         requires system { IsWellFormed system.now }
         ensures { IfOk result (λ a. (m : Setup) → IsSetup m → m.system ≡ system.now → m.input ≡ rows.now.bits → outs_of (plan m) 0 ≡ outs.now → IsActor m 0 (record { fired = 0; position = 0 }) a) }
     {
-        loop {}
+        actors_go_by_rules();
+        let node = SourceNode::of(alloc, system)?;
+        let cap = (rows.bits.len() as u64).saturating_sub(1);
+        let desk = new_desk(alloc, &[], outs, cap)?;
+        Ok(Actor {
+            desk,
+            part: Part::Source(node, rows),
+        })
     }
 
     /// The shell at a node of a system, in a run of so many rows, which drains and fills these stations, one for each
@@ -68,14 +78,22 @@ impl<'r> Actor<'r> {
         requires shell { (0 < node) × (node + 1 < length system.now.nodes) }
         ensures { IfOk result (λ a. (m : Setup) → IsSetup m → m.system ≡ system.now → length m.input ≡ rows → ins_of (plan m) node ≡ ins.now → outs_of (plan m) node ≡ outs.now → IsActor m node (record { fired = 0; position = 0 }) a) }
     {
-        loop {}
+        let part = ShellNode::of(alloc, system, node)?;
+        let desk = new_desk(alloc, ins, outs, rows.saturating_sub(1))?;
+        Ok(Actor {
+            desk,
+            part: Part::Shell(part),
+        })
     }
 
     /// A mover from one station to the next, in a run of so many rows. It takes no memory.
     pub fn mover(alloc: Global, from: u32, to: u32, rows: u64) -> Actor<'r>
         ensures { (m : Setup) (v : ℕ) → IsSetup m → length m.system.nodes ≤ v → v < actors_of (plan m) → length m.input ≡ rows → ins_of (plan m) v ≡ from ∷ [] → outs_of (plan m) v ≡ to ∷ [] → IsActor m v (record { fired = 0; position = 0 }) result }
     {
-        loop {}
+        Actor {
+            desk: mover_desk(alloc, from, to, rows),
+            part: Part::Mover,
+        }
     }
 
     /// The sink of a system, in a run of so many rows, which drains these stations, one for each channel that leads to
@@ -83,11 +101,23 @@ impl<'r> Actor<'r> {
     ///
     /// # Errors
     /// Memory is wanting.
-    pub fn sink(alloc: Global, system: &System, ins: &[u32], rows: u64) -> Result<Actor<'r>, AllocError>
+    pub fn sink(
+        alloc: Global,
+        system: &System,
+        ins: &[u32],
+        rows: u64,
+    ) -> Result<Actor<'r>, AllocError>
         requires system { IsWellFormed system.now }
         ensures { IfOk result (λ a. (m : Setup) → IsSetup m → m.system ≡ system.now → length m.input ≡ rows → ins_of (plan m) (sink (plan m)) ≡ ins.now → IsActor m (sink (plan m)) (record { fired = 0; position = 0 }) a) }
     {
-        loop {}
+        actors_go_by_rules();
+        let node = SinkNode::of(alloc, system)?;
+        let given = new_given(alloc, system, node.width(), rows)?;
+        let desk = new_desk(alloc, ins, &[], rows)?;
+        Ok(Actor {
+            desk,
+            part: Part::Sink(node, given),
+        })
     }
 
     /// Makes one step at a board, which serves the actor's ends in agreement with how far it is. At its cap it answers
@@ -103,7 +133,19 @@ impl<'r> Actor<'r> {
         ensures done { result ≡ answer.Done → (self.new ≡ self.old) × (board.new ≡ board.old) }
         ensures same { B.identity board.new ≡ B.identity board.old }
     {
-        loop {}
+        if self.desk.fired == self.desk.cap {
+            return Answer::Done;
+        }
+        match self.desk.next() {
+            Next::LookIn(i) => self.desk.look_in(board, i),
+            Next::LookOut(j) => self.desk.look_out(board, j),
+            Next::Take(i) => self.take(board, i),
+            Next::Put(j) => self.put(board, j),
+            Next::Fire => {
+                self.fire();
+                Answer::Fired
+            }
+        }
     }
 
     /// Makes one turn at a board: steps from rest until the actor is at rest again. It is at rest, and the board serves
@@ -119,7 +161,13 @@ impl<'r> Actor<'r> {
         ensures done { result ≡ end.Done → (self.new ≡ self.old) × (board.new ≡ board.old) }
         ensures same { B.identity board.new ≡ B.identity board.old }
     {
-        loop {}
+        loop {
+            let answer = self.step(board);
+            match end_of(answer) {
+                Some(end) => return end,
+                None => {}
+            }
+        }
     }
 
     /// How often it has fired.
@@ -149,7 +197,10 @@ impl<'r> Actor<'r> {
         ensures which { (m : Setup) (v : ℕ) (q : Progress) → IsActor m v q self.now → (IsSome result ↔ v ≡ sink (plan m)) }
         ensures rows { (m : Setup) (v : ℕ) (q : Progress) → IsActor m v q self.now → IfSome result (λ rows. rows.now ≡ output_rows m q.fired) }
     {
-        loop {}
+        match &self.part {
+            Part::Sink(_, given) => Some(given.done.as_slice()),
+            Part::Source(_, _) | Part::Shell(_) | Part::Mover => None,
+        }
     }
 
     /// Hands out the rows that the sink has given. None for an actor that is no sink.
@@ -158,6 +209,10 @@ impl<'r> Actor<'r> {
         ensures which { (m : Setup) (v : ℕ) (q : Progress) → IsActor m v q self.entry → (IsSome result ↔ v ≡ sink (plan m)) }
         ensures rows { (m : Setup) (v : ℕ) (q : Progress) → IsActor m v q self.entry → IfSome result (λ rows. AreColumns m v rows.columns × (rows.bits ≡ output_rows m q.fired)) }
     {
-        loop {}
+        let Actor { part, .. } = self;
+        match part {
+            Part::Sink(_, given) => Some(given.into_rows()),
+            Part::Source(_, _) | Part::Shell(_) | Part::Mover => None,
+        }
     }
 }

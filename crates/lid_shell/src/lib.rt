@@ -2,8 +2,14 @@
 #![tactic(auto)]
 
 mod actor;
+mod building;
 mod desk;
+mod finishing;
+mod looking;
+mod moving;
 mod part;
+mod passing;
+mod rules;
 mod turn;
 
 pub use actor::Actor;

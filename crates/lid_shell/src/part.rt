@@ -1,5 +1,7 @@
 //! The part of an actor.
 
+ghost use Rattle.std.specs.Prelude.{◌≡◌};
+
 use lid_base::{Items, Name};
 use lid_nodes::{ShellNode, SinkNode, SourceNode};
 use lid_texts::Rows;
@@ -25,4 +27,18 @@ pub(crate) enum Part<'r> {
     Mover,
     /// The sink, with its output rows.
     Sink(SinkNode, Given),
+}
+
+impl Given {
+    /// Hands out the rows given.
+    pub(crate) fn into_rows(self) -> Rows
+        ensures columns { result.columns ≡ self.columns }
+        ensures bits { result.bits ≡ self.done.items }
+    {
+        let Given { columns, done, .. } = self;
+        Rows {
+            columns,
+            bits: Items::from_vec(done),
+        }
+    }
 }

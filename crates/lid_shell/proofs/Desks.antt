@@ -1,0 +1,160 @@
+-- The desk of an actor after each of its acts.
+use Rattle.std.proofs.Common.{◌≡◌, ℕ, zero, suc, ◌+◌, ◌<◌, ◌≤◌, inl, inr, List, [], ◌∷◌, length, get_or, map, set, refl, sym, ◌∙◌, ap, arith, length-set}
+use Rattle.std.specs.Prelude.{Some, slice_get}
+use Rattle.std.proofs.lemmas.Bool.{cases_eq}
+use Rattle.std.proofs.lemmas.Option.{slice_get_within, slice_get-get_or, get_or_from_slice_get}
+use Rattle.std.proofs.lemmas.List.{get_or-map, length-map}
+use Rattle.std.proofs.lemmas.Grind.{same_number_lists}
+use Rattle.smallvec.specs.SmallVec.{SmallVec}
+use Rattle.lid_machine.specs.Plans.{ins_of, outs_of, start_of}
+use Rattle.lid_machine.specs.Setups.{Setup, plan}
+use Rattle.lid_machine.specs.Machine.{Progress, takes_from, puts_from, in_at}
+use Rattle.lid_shell.specs.declared.desk.Desk.{Desk}
+use Rattle.lid_shell.specs.Actors.{IsDesk}
+use Rattle.lid_shell.specs.Inside.{further, tokens_taken, AreMade}
+
+-- what stands in a list after an element was set
+set_here : {A : Type 0} (xs : List A) (i : ℕ) (x : A) → i < length xs → slice_get (set xs i x) i ≡ Some x
+set_here [] i x h = absurd (omega arith)
+set_here (y ∷ xs) zero x h = refl
+set_here (y ∷ xs) (suc i) x h = set_here xs i x (omega arith)
+
+set_else : {A : Type 0} (xs : List A) (i k : ℕ) (x : A) → (k ≡ i → ⊥) → slice_get (set xs i x) k ≡ slice_get xs k
+set_else [] i k x other = refl
+set_else (y ∷ xs) zero zero x other = absurd (other refl)
+set_else (y ∷ xs) zero (suc k) x other = refl
+set_else (y ∷ xs) (suc i) zero x other = refl
+set_else (y ∷ xs) (suc i) (suc k) x other = set_else xs i k x (λ same. other (ap suc same))
+
+-- a station of a desk is that of its actor
+pub own_in : (m : Setup) (v : ℕ) (q : Progress) (d : Desk) (xs : List ℕ) (i : ℕ) → IsDesk m v q d → xs ≡ d.ins.items → i < length (ins_of (plan m) v) → slice_get (ins_of (plan m) v) i ≡ Some (get_or xs i 0)
+own_in m v q d xs i is same within =
+    slice_get-get_or (ins_of (plan m) v) i 0 within ∙ ap (λ (ys : List ℕ). Some (get_or ys i 0)) (sym (same ∙ is.drains))
+
+pub own_out : (m : Setup) (v : ℕ) (q : Progress) (d : Desk) (xs : List ℕ) (j : ℕ) → IsDesk m v q d → xs ≡ d.outs.items → j < length (outs_of (plan m) v) → slice_get (outs_of (plan m) v) j ≡ Some (get_or xs j 0)
+own_out m v q d xs j is same within =
+    slice_get-get_or (outs_of (plan m) v) j 0 within ∙ ap (λ (ys : List ℕ). Some (get_or ys j 0)) (sym (same ∙ is.fills))
+
+-- and one of the desk itself
+pub own_read : (m : Setup) (v : ℕ) (q : Progress) (d : Desk) (xs : List ℕ) (i : ℕ) → IsDesk m v q d → xs ≡ d.ins.items → i < length (ins_of (plan m) v) → slice_get d.ins.items i ≡ Some (get_or xs i 0)
+own_read m v q d xs i is same within = ap (λ (ys : List ℕ). slice_get ys i) is.drains ∙ own_in m v q d xs i is same within
+
+pub own_wrote : (m : Setup) (v : ℕ) (q : Progress) (d : Desk) (xs : List ℕ) (j : ℕ) → IsDesk m v q d → xs ≡ d.outs.items → j < length (outs_of (plan m) v) → slice_get d.outs.items j ≡ Some (get_or xs j 0)
+own_wrote m v q d xs j is same within = ap (λ (ys : List ℕ). slice_get ys j) is.fills ∙ own_out m v q d xs j is same within
+
+-- after a look, which leaves no token taken
+pub desk_looked : (m : Setup) (v : ℕ) (q : Progress) (d : Desk) (position now : ℕ) → IsDesk m v q d → now ≡ position → position ≤ takes_from (length (ins_of (plan m) v)) (length (outs_of (plan m) v))
+    → IsDesk m v (record { fired = q.fired; position = position }) (record d { position = now })
+desk_looked m v q d position now is same early =
+    record {
+      drains = is.drains;
+      fills = is.fills;
+      capped = is.capped;
+      fired_is = is.fired_is;
+      position_is = same;
+      taken_many = is.taken_many;
+      tokens_many = is.tokens_many;
+      kept = λ i station at past. absurd (omega arith);
+      made = λ j station at past. absurd (omega arith);
+    }
+
+-- after a take
+pub desk_took : (m : Setup) (v : ℕ) (q : Progress) (d : Desk) (taken : SmallVec ℕ) (i x now : ℕ) → IsDesk m v q d → q.position ≡ takes_from (length (ins_of (plan m) v)) (length (outs_of (plan m) v)) + i → i < length (ins_of (plan m) v)
+    → taken.items ≡ set d.taken.items i x → x ≡ (plan m).token (in_at (plan m) v i) q.fired → now ≡ q.position + 1 → IsDesk m v (further q) (record d { taken = taken; position = now })
+desk_took m v q d taken i x now is here within sets value next =
+    let many : length d.taken.items ≡ length (ins_of (plan m) v) = is.taken_many in
+    record {
+      drains = is.drains;
+      fills = is.fills;
+      capped = is.capped;
+      fired_is = is.fired_is;
+      position_is = next;
+      taken_many = ap length sets ∙ length-set d.taken.items i x ∙ many;
+      tokens_many = is.tokens_many;
+      kept = λ k station at past.
+          elim (cases_eq k i) [
+            | inl same ↦
+                (let place : in_at (plan m) v i ≡ station = ap (in_at (plan m) v) (sym same) ∙ get_or_from_slice_get (ins_of (plan m) v) k station 0 at in
+                ap (λ (xs : List ℕ). slice_get xs k) sets
+                ∙ ap (slice_get (set d.taken.items i x)) same
+                ∙ set_here d.taken.items i x (omega arith)
+                ∙ ap (λ (y : ℕ). Some y) (value ∙ ap (λ (s : ℕ). (plan m).token s q.fired) place))
+            | inr other ↦
+                (ap (λ (xs : List ℕ). slice_get xs k) sets
+                ∙ set_else d.taken.items i k x other
+                ∙ is.kept k station at (omega (arith, other)))
+          ];
+      made = λ j station at past. absurd (omega arith);
+    }
+
+-- after a put
+pub desk_put : (m : Setup) (v : ℕ) (q : Progress) (d : Desk) (now : ℕ) → IsDesk m v q d → puts_from (length (ins_of (plan m) v)) (length (outs_of (plan m) v)) ≤ q.position → AreMade m v q.fired d.tokens.items
+    → now ≡ q.position + 1 → IsDesk m v (further q) (record d { position = now })
+desk_put m v q d now is late made next =
+    record {
+      drains = is.drains;
+      fills = is.fills;
+      capped = is.capped;
+      fired_is = is.fired_is;
+      position_is = next;
+      taken_many = is.taken_many;
+      tokens_many = is.tokens_many;
+      kept = λ i station at past. (let within : i < length (ins_of (plan m) v) = slice_get_within (ins_of (plan m) v) i station at in is.kept i station at (omega arith));
+      made = λ j station at past. made j station at;
+    }
+
+-- all tokens of a firing are taken
+pub all_taken : (m : Setup) (v : ℕ) (q : Progress) (d : Desk) → IsDesk m v q d → puts_from (length (ins_of (plan m) v)) (length (outs_of (plan m) v)) ≤ q.position → d.taken.items ≡ tokens_taken m v q.fired
+all_taken m v q d is late =
+    let many : length d.taken.items ≡ length (ins_of (plan m) v) = is.taken_many in
+    same_number_lists d.taken.items (tokens_taken m v q.fired) (many ∙ sym (length-map (ins_of (plan m) v) (λ (s : ℕ). (plan m).token s q.fired)))
+    (λ i below.
+    let within : i < length (ins_of (plan m) v) = omega arith in
+    let station : ℕ = get_or (ins_of (plan m) v) i 0 in
+    let at : slice_get (ins_of (plan m) v) i ≡ Some station = slice_get-get_or (ins_of (plan m) v) i 0 within in
+    get_or_from_slice_get d.taken.items i ((plan m).token station q.fired) 0 (is.kept i station at (omega arith))
+    ∙ sym (get_or-map (λ (s : ℕ). (plan m).token s q.fired) (ins_of (plan m) v) i 0 0 within))
+
+-- tokens that were made are those that are put
+pub are_made : (m : Setup) (v fired : ℕ) (tokens : List ℕ) → tokens ≡ map (λ station. (plan m).token station (start_of (plan m) station + fired)) (outs_of (plan m) v) → AreMade m v fired tokens
+are_made m v fired tokens is j station at =
+    let within : j < length (outs_of (plan m) v) = slice_get_within (outs_of (plan m) v) j station at in
+    let long : length (map (λ (s : ℕ). (plan m).token s (start_of (plan m) s + fired)) (outs_of (plan m) v)) ≡ length (outs_of (plan m) v) = length-map (outs_of (plan m) v) (λ (s : ℕ). (plan m).token s (start_of (plan m) s + fired)) in
+    ap (λ (xs : List ℕ). slice_get xs j) is
+    ∙ slice_get-get_or (map (λ (s : ℕ). (plan m).token s (start_of (plan m) s + fired)) (outs_of (plan m) v)) j 0 (omega arith)
+    ∙ ap (λ (y : ℕ). Some y) (get_or-map (λ (s : ℕ). (plan m).token s (start_of (plan m) s + fired)) (outs_of (plan m) v) j 0 0 within ∙ ap (λ (s : ℕ). (plan m).token s (start_of (plan m) s + fired)) (get_or_from_slice_get (outs_of (plan m) v) j station 0 at))
+
+pub made_at : (m : Setup) (v fired : ℕ) (xs tokens : List ℕ) (j station : ℕ) → AreMade m v fired tokens → xs ≡ tokens → slice_get (outs_of (plan m) v) j ≡ Some station → get_or xs j 0 ≡ (plan m).token station (start_of (plan m) station + fired)
+made_at m v fired xs tokens j station made same at =
+    ap (λ (ys : List ℕ). get_or ys j 0) same ∙ get_or_from_slice_get tokens j ((plan m).token station (start_of (plan m) station + fired)) 0 (made j station at)
+
+-- the desk after its tokens were made
+pub desk_made : (m : Setup) (v : ℕ) (q : Progress) (d : Desk) (tokens : SmallVec ℕ) → IsDesk m v q d → length tokens.items ≡ length d.tokens.items → AreMade m v q.fired tokens.items
+    → IsDesk m v q (record d { tokens = tokens })
+desk_made m v q d tokens is many made =
+    record {
+      drains = is.drains;
+      fills = is.fills;
+      capped = is.capped;
+      fired_is = is.fired_is;
+      position_is = is.position_is;
+      taken_many = is.taken_many;
+      tokens_many = many ∙ is.tokens_many;
+      kept = is.kept;
+      made = λ j station at past. made j station at;
+    }
+
+-- the desk after a firing
+pub desk_closed : (m : Setup) (v : ℕ) (q : Progress) (d : Desk) (fired : ℕ) → IsDesk m v q d → fired ≡ q.fired + 1 → IsDesk m v (record { fired = q.fired + 1; position = 0 }) (record d { fired = fired; position = 0 })
+desk_closed m v q d fired is next =
+    record {
+      drains = is.drains;
+      fills = is.fills;
+      capped = is.capped;
+      fired_is = next;
+      position_is = refl;
+      taken_many = is.taken_many;
+      tokens_many = is.tokens_many;
+      kept = λ i station at past. absurd (omega arith);
+      made = λ j station at past. absurd (omega arith);
+    }

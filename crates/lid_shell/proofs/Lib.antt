@@ -1,0 +1,14 @@
+pub mod Places
+pub mod Counts
+pub mod Changed
+pub mod Agreed
+pub mod Streams
+pub mod Told
+pub mod Desks
+pub mod Passed
+pub mod Made
+pub mod Stepped
+pub mod Begun
+pub mod Served
+pub mod Ended
+pub mod Along
