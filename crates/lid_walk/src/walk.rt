@@ -1,6 +1,6 @@
 //! Walks.
 
-ghost use Rattle.std.specs.Prelude.{◌≡◌, ◌↔◌, ◌≤◌, ◌-◌, ℕ, true, length, IfOk};
+ghost use Rattle.std.specs.Prelude.{◌≡◌, ◌↔◌, ◌≤◌, ◌+◌, ℕ, true, length, IfOk};
 ghost use Rattle.std.specs.List.{AllByRecursion};
 ghost use Rattle.lid_system.specs.Systems.{IsWellFormed};
 ghost use Rattle.lid_stations.specs.Placements.{Fits};
@@ -12,7 +12,7 @@ ghost use Rattle.lid_shell.specs.Parts.{AreColumns};
 ghost use Rattle.lid_walk.specs.Walks.{AreActors, IsBoard, Walks, IsWalk, HasActor, HasActorAtRest, IsAtRest, IsSetupOf, firings_between};
 
 use lid_base::{Answer, Items};
-use lid_shell::Actor;
+use lid_shell::{Actor, TurnEnd};
 use lid_station::PlainBoard;
 use lid_stations::Placement;
 use lid_system::System;
@@ -51,7 +51,7 @@ impl<'r> Walk<'r> {
     /// Goes on from a board and the actors of one system over its rows, in the order of their numbers, which agree with
     /// the board.
     pub fn adopt(board: PlainBoard, actors: Vec<Actor<'r>>) -> Walk<'r>
-        requires { (m : Setup) × (st : State) × IsSetup m × IsSound (plan m) st × AreActors m st actors.entry.items × IsBoard m st board.pairs.items }
+        requires { (m : Setup) × (st : State) × IsSetup m × IsSound (plan m) st × AreActors m st actors.items × IsBoard m st board.pairs.items }
         ensures { (m : Setup) (st : State) → IsSetup m → IsSound (plan m) st → AreActors m st actors.entry.items → IsBoard m st board.pairs.items → Walks m st result }
     {
         Walk { board, actors }
@@ -85,23 +85,13 @@ impl<'r> Walk<'r> {
     /// Makes one turn of an actor, which exists and is at rest. Answers how often it fired, which is at most once.
     fn turn(&mut self, actor: u32) -> u64
         requires { HasActorAtRest self.old actor }
-        ensures walks { (m : Setup) (st : State) → Walks m st self.old → Walks m (turn (plan m) st actor) self.new }
-        ensures fired { (m : Setup) (st : State) → Walks m st self.old → (st actor).position ≡ 0 → result ≡ (turn (plan m) st actor actor).fired - (st actor).fired }
+        ensures walks { (m : Setup) (st : State) → Walks m st self.old → (st actor).position ≡ 0 → Walks m (turn (plan m) st actor) self.new }
+        ensures fired { (m : Setup) (st : State) → Walks m st self.old → (st actor).position ≡ 0 → (turn (plan m) st actor actor).fired ≡ (st actor).fired + result }
         ensures once { result ≤ 1 }
     {
-        let before = self.fired(actor);
-        self.step_to_rest(actor);
-        self.fired(actor) - before
-    }
-
-    /// Makes steps of an actor, which exists, until it is at rest.
-    fn step_to_rest(&mut self, actor: u32)
-        requires { HasActor self.old actor }
-        ensures { (m : Setup) (st : State) → Walks m st self.old → Walks m (turn (plan m) st actor) self.new }
-    {
-        let _ = self.step(actor);
-        while !self.actors[actor as usize].at_rest() {
-            let _ = self.step(actor);
+        match self.actors[actor as usize].turn(&mut self.board) {
+            TurnEnd::Fired => 1,
+            _ => 0,
         }
     }
 
@@ -127,14 +117,28 @@ impl<'r> Walk<'r> {
         requires { IsWalk self.now }
         ensures { (m : Setup) (st : State) → Walks m st self.now → result.now ≡ output_rows m (st (sink (plan m))).fired }
     {
-        loop {}
+        self.actors[self.sink()].given().unwrap()
     }
 
     /// Hands out the rows that the sink has given.
     pub fn into_rows(self) -> Rows
-        requires { IsWalk self.entry }
+        requires { IsWalk self }
         ensures { (m : Setup) (st : State) → Walks m st self.entry → AreColumns m (sink (plan m)) result.columns × (result.bits ≡ output_rows m (st (sink (plan m))).fired) }
     {
-        loop {}
+        let sink = self.sink();
+        let mut actors = self.actors;
+        actors.swap_remove(sink).into_given().unwrap()
+    }
+
+    /// The number of the sink.
+    fn sink(&self) -> usize
+        requires { IsWalk self.now }
+        ensures { (m : Setup) (st : State) → Walks m st self.now → result ≡ sink (plan m) }
+    {
+        let mut actor = 0usize;
+        while self.actors[actor].given().is_none() {
+            actor += 1;
+        }
+        actor
     }
 }

@@ -1,19 +1,53 @@
-use Rattle.std.proofs.Common.{rules, ◌≡◌, ◌↔◌, ◌≤◌, ◌-◌, ℕ, true, length, IfOk, ◌+◌, ◌*◌, ◌<◌, ◌/◌, ◌%◌, Bool, false, nat_eq, nat_lt, List, [], ◌∷◌, ◌++◌, slice_index_or, slice_set, bit_and, bit_or, w8, w32, w64, Bor, MutBor}
-use Rattle.std.specs.List.{AllByRecursion}
-use Rattle.lid_system.specs.Systems.{IsWellFormed}
-use Rattle.lid_stations.specs.Placements.{Fits}
-use Rattle.lid_machine.specs.Plans.{actors_of, sink}
-use Rattle.lid_machine.specs.Setups.{Setup, IsSetup, IsInputRow, plan, output_rows}
-use Rattle.lid_machine.specs.Machine.{State, begun, answer_of, next, turn, sweep}
-use Rattle.lid_machine.specs.Laws.{IsSound, AllRest, IsSettled}
-use Rattle.lid_shell.specs.Parts.{AreColumns}
-use Rattle.lid_walk.specs.Walks.{AreActors, IsBoard, Walks, IsWalk, HasActor, HasActorAtRest, IsAtRest, IsSetupOf, firings_between}
+use Rattle.std.proofs.Common.{◌≡◌, ℕ, ◌+◌, ◌<◌, length, refl, sym, ◌∙◌, ap, subst, arith}
+use Rattle.std.specs.Prelude.{Some, slice_get}
+use Rattle.lid_machine.specs.Plans.{actors_of}
+use Rattle.lid_machine.specs.Setups.{Setup, plan}
+use Rattle.lid_machine.specs.Machine.{State, turn}
+use Rattle.lid_shell.specs.declared.turn.TurnEnd.{TurnEnd}
+use Rattle.lid_shell.specs.Turns.{fired_at}
+use Rattle.lid_walk.specs.Walks.{Walks, HasActor, HasActorAtRest}
+use Rattle.lid_walk.proofs.Elements.{is_there}
+use Rattle.lid_walk.proofs.Stepping.{works, serves, has_place, is_actor}
+use Rattle.lid_walk.proofs.Turning.{works_at_rest, fired_so, walks_then, fired_none}
 use Rattle.lid_walk.proofs.walk.Walk.turn.Goals as goal
 
--- src/walk.rt:94:9
-pub overflow_sub-result : goal.overflow_sub-result
-overflow_sub-result c = ?
+pub turn-requires : goal.turn-requires
+turn-requires c =
+    let (m, st, walks, h, rests) = c.requires in
+    let there = is_there c.args.self.now.actors.items c.args.actor c.index_mut.result.now (has_place c.args.self.now c.args.actor (m, st, walks, h)) c.index_mut.ensures.value in
+    record { can = (m, c.args.actor, (st c.args.actor).fired, works_at_rest m st c.args.self.now c.args.actor c.index_mut.result.now walks h rests there) }
 
--- src/walk.rt:86:5
-pub returns-clause-once : goal.returns-clause-once
-returns-clause-once c = ?
+pub returns-in-Fired : goal.returns-in-Fired
+returns-in-Fired c = record {
+    walks = λ m st walks rests. walks_then m st c.args.self.now c.args.actor c.index_mut.result.now c.turn.new.self c.turn.new.board.pairs.items c.turn.result walks (is_actor m st c.args.self.now c.args.actor (has c) walks) rests (at c)
+        (c.turn.ensures.turned m c.args.actor (st c.args.actor).fired (works_at_rest m st c.args.self.now c.args.actor c.index_mut.result.now walks (is_actor m st c.args.self.now c.args.actor (has c) walks) rests (at c)))
+        (c.turn.ensures.exact m c.args.actor st rests (works m st c.args.self.now c.args.actor c.index_mut.result.now walks (is_actor m st c.args.self.now c.args.actor (has c) walks) (at c)) (serves m st c.args.self.now c.args.actor walks)).1 _ c.turn.ensures.moves _ refl refl;
+    fired = λ m st walks rests. fired_so m st c.args.self.now c.args.actor c.index_mut.result.now c.turn.new.self c.turn.new.board.pairs.items c.turn.result walks (is_actor m st c.args.self.now c.args.actor (has c) walks) rests (at c)
+        (c.turn.ensures.turned m c.args.actor (st c.args.actor).fired (works_at_rest m st c.args.self.now c.args.actor c.index_mut.result.now walks (is_actor m st c.args.self.now c.args.actor (has c) walks) rests (at c)))
+        (c.turn.ensures.exact m c.args.actor st rests (works m st c.args.self.now c.args.actor c.index_mut.result.now walks (is_actor m st c.args.self.now c.args.actor (has c) walks) (at c)) (serves m st c.args.self.now c.args.actor walks)).1 ∙ ap (λ (e : TurnEnd). fired_at e (st c.args.actor).fired) c.in-Fired.is;
+    once = omega arith;
+  }
+  where
+    has : (c : goal.In-Fired) → HasActor c.args.self.now c.args.actor
+    has c = let (m, st, walks, h, rests) = c.requires in (m, st, walks, h)
+
+    at : (c : goal.In-Fired) → slice_get c.args.self.now.actors.items c.args.actor ≡ Some c.index_mut.result.now
+    at c = is_there c.args.self.now.actors.items c.args.actor c.index_mut.result.now (has_place c.args.self.now c.args.actor (has c)) c.index_mut.ensures.value
+
+pub returns-in_default : goal.returns-in_default
+returns-in_default c = record {
+    walks = λ m st walks rests. walks_then m st c.args.self.now c.args.actor c.index_mut.result.now c.turn.new.self c.turn.new.board.pairs.items c.turn.result walks (is_actor m st c.args.self.now c.args.actor (has c) walks) rests (at c)
+        (c.turn.ensures.turned m c.args.actor (st c.args.actor).fired (works_at_rest m st c.args.self.now c.args.actor c.index_mut.result.now walks (is_actor m st c.args.self.now c.args.actor (has c) walks) rests (at c)))
+        (c.turn.ensures.exact m c.args.actor st rests (works m st c.args.self.now c.args.actor c.index_mut.result.now walks (is_actor m st c.args.self.now c.args.actor (has c) walks) (at c)) (serves m st c.args.self.now c.args.actor walks)).1 _ c.turn.ensures.moves _ refl refl;
+    fired = λ m st walks rests. fired_so m st c.args.self.now c.args.actor c.index_mut.result.now c.turn.new.self c.turn.new.board.pairs.items c.turn.result walks (is_actor m st c.args.self.now c.args.actor (has c) walks) rests (at c)
+        (c.turn.ensures.turned m c.args.actor (st c.args.actor).fired (works_at_rest m st c.args.self.now c.args.actor c.index_mut.result.now walks (is_actor m st c.args.self.now c.args.actor (has c) walks) rests (at c)))
+        (c.turn.ensures.exact m c.args.actor st rests (works m st c.args.self.now c.args.actor c.index_mut.result.now walks (is_actor m st c.args.self.now c.args.actor (has c) walks) (at c)) (serves m st c.args.self.now c.args.actor walks)).1 ∙ fired_none c.turn.result (st c.args.actor).fired c.in_default.not-Fired;
+    once = omega arith;
+  }
+  where
+    has : (c : goal.In_default) → HasActor c.args.self.now c.args.actor
+    has c = let (m, st, walks, h, rests) = c.requires in (m, st, walks, h)
+
+    at : (c : goal.In_default) → slice_get c.args.self.now.actors.items c.args.actor ≡ Some c.index_mut.result.now
+    at c = is_there c.args.self.now.actors.items c.args.actor c.index_mut.result.now (has_place c.args.self.now c.args.actor (has c)) c.index_mut.ensures.value
+
