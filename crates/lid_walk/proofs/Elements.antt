@@ -23,3 +23,9 @@ set_there (z ∷ xs) zero zero x other = absurd (other refl)
 set_there (z ∷ xs) zero (suc j) x other = refl
 set_there (z ∷ xs) (suc i) zero x other = refl
 set_there (z ∷ xs) (suc i) (suc j) x other = set_there xs i j x (λ e. other (ap suc e))
+
+-- each place within a list has an element
+pub there_is : {X : Type 0} (xs : List X) (i : ℕ) → i < length xs → (x : X) × (slice_get xs i ≡ Some x)
+there_is [] i h = absurd (omega (arith, h))
+there_is (x ∷ xs) zero h = (x, refl)
+there_is (x ∷ xs) (suc i) h = there_is xs i (omega (arith, h))

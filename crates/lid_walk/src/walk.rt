@@ -1,7 +1,7 @@
 //! Walks.
 
 ghost use Rattle.std.specs.Prelude.{◌≡◌, ◌↔◌, ◌≤◌, ◌+◌, ℕ, true, length, IfOk};
-ghost use Rattle.std.specs.List.{AllByRecursion};
+ghost use Rattle.std.specs.List.{All, AllByRecursion};
 ghost use Rattle.lid_system.specs.Systems.{IsWellFormed};
 ghost use Rattle.lid_stations.specs.Placements.{Fits};
 ghost use Rattle.lid_machine.specs.Plans.{actors_of, sink};
@@ -25,6 +25,13 @@ pub struct Walk<'r> {
     pub(crate) board: PlainBoard,
     /// The actors, in the order of their numbers.
     pub(crate) actors: Vec<Actor<'r>>,
+}
+
+/// Whether all actors are at their caps.
+fn are_done(actors: &[Actor]) -> bool
+    ensures { (result ≡ true) ↔ All (λ actor. actor.desk.fired ≡ actor.desk.cap) actors.now }
+{
+    actors.iter().all(|actor| actor.fired() == actor.cap())
 }
 
 impl<'r> Walk<'r> {
@@ -99,9 +106,7 @@ impl<'r> Walk<'r> {
     pub fn settled(&self) -> bool
         ensures { (m : Setup) (st : State) → Walks m st self.now → (result ≡ true) ↔ IsSettled (plan m) st }
     {
-        self.actors
-            .iter()
-            .all(|actor| actor.fired() == actor.cap())
+        are_done(self.actors.as_slice())
     }
 
     /// How often an actor has fired. It exists.
