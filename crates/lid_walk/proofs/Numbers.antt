@@ -1,5 +1,5 @@
 -- How many actors a setup has, and which of them is the sink.
-use Rattle.std.proofs.Common.{◌≡◌, ◌≢◌, ℕ, ◌+◌, ◌-◌, ◌^◌, ◌<◌, ◌≤◌, length, sym, ◌∙◌, arith}
+use Rattle.std.proofs.Common.{◌<◌, ◌≤◌, arith}
 use Rattle.lid_stations.proofs.Spots.{fewer_relays}
 use Rattle.lid_machine.specs.Plans.{actors_of, sink}
 use Rattle.lid_machine.specs.Setups.{Setup, IsSetup, plan}

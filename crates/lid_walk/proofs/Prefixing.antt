@@ -1,6 +1,6 @@
 -- Each station of a walk holds the tokens of its stream between those taken and those put.
-use Rattle.std.proofs.Common.{◌≡◌, ℕ, ◌+◌, ◌*◌, ◌/◌, ◌%◌, ◌<◌, ◌≤◌, ◌==◌, Bool, true, false, length, refl, sym, ◌∙◌, ap, subst, arith, eq-eqb, ne_eqb}
-use Rattle.std.specs.Prelude.{Option, Some, option_map, slice_get}
+use Rattle.std.proofs.Common.{◌≡◌, ℕ, ◌+◌, ◌*◌, ◌/◌, ◌%◌, ◌<◌, ◌==◌, Bool, true, false, length, refl, sym, ◌∙◌, ap, arith, eq-eqb, ne_eqb}
+use Rattle.std.specs.Prelude.{Some, option_map, slice_get}
 use Rattle.std.proofs.lemmas.Option.{same_Some, slice_get_within}
 use Rattle.lid_system.proofs.Shelling.{each_length}
 use Rattle.lid_station.specs.Boards.{Facts, fill, drain}
@@ -8,10 +8,9 @@ use Rattle.lid_station.specs.Plain.{end_facts, plain_ends}
 use Rattle.lid_station.specs.declared.pair.Pair.{Pair}
 use Rattle.lid_stations.proofs.Spots.{stands_between}
 use Rattle.lid_runs.proofs.Ends.{filled_there}
-use Rattle.lid_machine.specs.Plans.{actors_of, stations_of, room_of, stream, filler_of}
+use Rattle.lid_machine.specs.Plans.{stations_of, room_of, filler_of}
 use Rattle.lid_machine.specs.Setups.{Setup, plan}
 use Rattle.lid_machine.specs.Machine.{State, in_count, out_count}
-use Rattle.lid_shell.specs.Boards.{HasEnd}
 use Rattle.lid_walk.specs.declared.walk.Walk.{Walk}
 use Rattle.lid_walk.specs.Walks.{Walks}
 use Rattle.lid_walk.specs.Laws.{HoldsPrefix}

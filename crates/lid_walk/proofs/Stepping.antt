@@ -1,7 +1,7 @@
 -- What a step of one actor leaves of the others, and of the board.
-use Rattle.std.proofs.Common.{◌≡◌, ◌≢◌, ℕ, zero, suc, ◌+◌, ◌*◌, ◌/◌, ◌%◌, ◌<◌, ◌≤◌, ◌==◌, nat_lt, ◌⊎◌, inl, inr, Bool, true, false, List, [], ◌∷◌, length, get_or, set, refl, sym, ◌∙◌, ap, subst, arith, length-set, eq-eqb}
+use Rattle.std.proofs.Common.{◌≡◌, ◌≢◌, ℕ, ◌*◌, ◌/◌, ◌%◌, ◌<◌, ◌≤◌, ◌==◌, nat_lt, inl, inr, Bool, true, false, List, [], ◌∷◌, length, get_or, set, refl, sym, ◌∙◌, ap, subst, arith, length-set, eq-eqb}
 use Rattle.std.specs.Prelude.{Option, Some, None, option_map, slice_get}
-use Rattle.std.proofs.lemmas.Option.{same_Some, slice_get_within, slice_get-get_or, slice_get_past}
+use Rattle.std.proofs.lemmas.Option.{slice_get-get_or, slice_get_past}
 use Rattle.std.proofs.lemmas.Bool.{ltb-true, ltb-false}
 use mathlib.Core.Logic.{dite}
 use native.Mathlib.Decide.{ℕ_discrete}
@@ -9,14 +9,13 @@ use Rattle.lid_base.specs.declared.runs.Answer.{Answer}
 use Rattle.lid_station.specs.Boards.{Facts, Ends, fill, drain}
 use Rattle.lid_station.specs.Plain.{end_facts, plain_ends, PlainStands}
 use Rattle.lid_station.specs.declared.pair.Pair.{Pair}
-use Rattle.lid_machine.specs.Plans.{Plan, actors_of, stations_of, ins_of, outs_of, drainer_of, filler_of, cap, stream}
+use Rattle.lid_machine.specs.Plans.{actors_of, ins_of, outs_of, drainer_of, filler_of, cap}
 use Rattle.lid_machine.specs.Setups.{Setup, IsSetup, plan}
 use Rattle.lid_machine.specs.Machine.{Progress, State, answer_as, after_as, answer_of, finds, next}
-use Rattle.lid_machine.specs.Laws.{IsSound}
 use Rattle.lid_machine.proofs.Moves.{here, elsewhere}
 use Rattle.lid_machine.proofs.Sound.{sound_after}
 use Rattle.lid_shell.specs.declared.actor.Actor.{Actor}
-use Rattle.lid_shell.specs.Boards.{HasEnd, IsDrainedBy, IsFilledBy, Agrees, ServesAll}
+use Rattle.lid_shell.specs.Boards.{Agrees, ServesAll}
 use Rattle.lid_shell.specs.Actors.{IsActor}
 use Rattle.lid_shell.specs.Steps.{Works, Steps, IsExact, found_in, IsOwn, Moves}
 use Rattle.lid_walk.specs.declared.walk.Walk.{Walk}
@@ -151,7 +150,7 @@ module _ (m : Setup) (st : State) (w : Walk) (v : ℕ) (a b : Actor) (news : Lis
     many = length-set w.actors.items v b ∙ walks.actors.many;
     each = λ u c at. dite (ℕ_discrete u v)
         (λ is. subst (λ (n : ℕ). IsActor m n (next (plan m) st v n) c) (sym is)
-            (subst (λ (d : Actor). IsActor m v (next (plan m) st v v) d) (set_here w.actors.items v b c (subst (λ (n : ℕ). slice_get (set w.actors.items v b) n ≡ Some c) is at)) works_then.actor))
+        (subst (λ (d : Actor). IsActor m v (next (plan m) st v v) d) (set_here w.actors.items v b c (subst (λ (n : ℕ). slice_get (set w.actors.items v b) n ≡ Some c) is at)) works_then.actor))
         (λ other. subst (λ (q : Progress). IsActor m u q c) (sym (elsewhere (plan m) st v u other)) (walks.actors.each u c (sym (set_there w.actors.items v u b other) ∙ at)));
   }
 

@@ -1,11 +1,11 @@
 -- Sweeps: so many turns are made, and so many are left.
-use Rattle.std.proofs.Common.{◌≡◌, ◌≢◌, ℕ, zero, suc, ◌+◌, ◌-◌, ◌<◌, ◌≤◌, List, [], ◌∷◌, refl, sym, ◌∙◌, ap, subst, arith}
+use Rattle.std.proofs.Common.{◌≡◌, ℕ, zero, suc, ◌+◌, ◌-◌, ◌<◌, ◌≤◌, [], refl, sym, ◌∙◌, ap, subst, arith}
 use Rattle.std.specs.List.{sum_by}
 use Rattle.std.proofs.lemmas.List.Sums.{sum_by-cons}
 use mathlib.Core.Logic.{dite}
 use native.Mathlib.Decide.{ℕ_discrete}
 use Rattle.lid_design.specs.Network.{from_each}
-use Rattle.lid_machine.specs.Plans.{Plan, actors_of}
+use Rattle.lid_machine.specs.Plans.{actors_of}
 use Rattle.lid_machine.specs.Setups.{Setup, plan}
 use Rattle.lid_machine.specs.Machine.{State, turn, turns_from, sweep}
 use Rattle.lid_machine.specs.Laws.{AllRest, IsSettled, HasTurned}

@@ -1,6 +1,6 @@
 -- What a turn of one actor leaves of the others, and of the board.
-use Rattle.std.proofs.Common.{◌≡◌, ◌≢◌, ℕ, ◌+◌, ◌<◌, ◌≤◌, List, length, set, refl, sym, ◌∙◌, ap, subst, arith, length-set}
-use Rattle.std.specs.Prelude.{Option, Some, None, slice_get}
+use Rattle.std.proofs.Common.{◌≡◌, ℕ, ◌+◌, ◌<◌, List, set, refl, sym, ◌∙◌, ap, subst, arith, length-set}
+use Rattle.std.specs.Prelude.{Option, Some, slice_get}
 use mathlib.Core.Logic.{dite}
 use native.Mathlib.Decide.{ℕ_discrete}
 use Rattle.lid_station.specs.Plain.{plain_ends, PlainStands}
@@ -13,14 +13,13 @@ use Rattle.lid_machine.proofs.Turns.{has_turned}
 use Rattle.lid_shell.specs.declared.actor.Actor.{Actor}
 use Rattle.lid_shell.specs.declared.turn.TurnEnd.{TurnEnd}
 use Rattle.lid_shell.specs.declared.turn.TurnEnd.TheVariants.{Fired}
-use Rattle.lid_shell.specs.Boards.{ServesAll}
 use Rattle.lid_shell.specs.Actors.{IsActor}
 use Rattle.lid_shell.specs.Steps.{Works, Moves}
 use Rattle.lid_shell.specs.Turns.{fired_at, Turned}
 use Rattle.lid_walk.specs.declared.walk.Walk.{Walk}
 use Rattle.lid_walk.specs.Walks.{AreActors, IsBoard, Walks}
 use Rattle.lid_walk.proofs.Elements.{set_here, set_there}
-use Rattle.lid_walk.proofs.Stepping.{works, serves, as_many, all_agree}
+use Rattle.lid_walk.proofs.Stepping.{works, as_many, all_agree}
 
 abbrev pub at_rest : ℕ → Progress
 at_rest fired = record { fired = fired; position = 0 }
@@ -59,7 +58,7 @@ module _ (m : Setup) (st : State) (w : Walk) (v : ℕ) (a b : Actor) (news : Lis
     many = length-set w.actors.items v b ∙ walks.actors.many;
     each = λ u c at. dite (ℕ_discrete u v)
         (λ same. subst (λ (n : ℕ). IsActor m n (new n) c) (sym same)
-            (subst (λ (d : Actor). IsActor m v (new v) d) (set_here w.actors.items v b c (subst (λ (n : ℕ). slice_get (set w.actors.items v b) n ≡ Some c) same at)) is))
+        (subst (λ (d : Actor). IsActor m v (new v) d) (set_here w.actors.items v b c (subst (λ (n : ℕ). slice_get (set w.actors.items v b) n ≡ Some c) same at)) is))
         (λ other. subst (λ (q : Progress). IsActor m u q c) (sym (left.others u other)) (walks.actors.each u c (sym (set_there w.actors.items v u b other) ∙ at)));
   }
 

@@ -1,4 +1,4 @@
-use Rattle.std.proofs.Common.{◌≡◌, ℕ, ◌<◌, length, refl, sym, ◌∙◌, ap, arith}
+use Rattle.std.proofs.Common.{◌∙◌}
 use Rattle.lid_walk.proofs.Elements.{is_there}
 use Rattle.lid_walk.proofs.Stepping.{has_place}
 use Rattle.lid_walk.proofs.walk.Walk.fired.Goals as goal

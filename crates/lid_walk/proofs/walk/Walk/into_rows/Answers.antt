@@ -1,10 +1,7 @@
-use Rattle.std.proofs.Common.{◌≡◌, ℕ, ◌<◌, List, true, length, get_or, refl, sym, ◌∙◌, ap, subst, arith}
-use Rattle.std.specs.Prelude.{Some, IfSome}
-use Rattle.lid_machine.specs.Plans.{sink}
-use Rattle.lid_machine.specs.Setups.{Setup, plan, output_rows}
-use Rattle.lid_machine.specs.Machine.{State}
+use Rattle.std.proofs.Common.{◌≡◌, ℕ, ◌<◌, length, subst, arith}
+use Rattle.std.specs.Prelude.{IfSome}
+use Rattle.lid_machine.specs.Setups.{output_rows}
 use Rattle.lid_shell.specs.Parts.{AreColumns}
-use Rattle.lid_walk.specs.Walks.{Walks}
 use Rattle.lid_walk.proofs.Elements.{is_there}
 use Rattle.lid_walk.proofs.Numbers.{sink_there}
 use Rattle.lid_walk.proofs.walk.Walk.into_rows.Goals as goal

@@ -1,9 +1,6 @@
-use Rattle.std.proofs.Common.{◌≡◌, ℕ, ◌<◌, true, length, get_or, refl, sym, ◌∙◌, ap, subst, arith}
-use Rattle.std.specs.Prelude.{Some, IfSome}
-use Rattle.lid_machine.specs.Plans.{sink}
-use Rattle.lid_machine.specs.Setups.{Setup, plan, output_rows}
-use Rattle.lid_machine.specs.Machine.{State}
-use Rattle.lid_walk.specs.Walks.{Walks}
+use Rattle.std.proofs.Common.{◌≡◌, ℕ, ◌<◌, length, ◌∙◌, ap, subst, arith}
+use Rattle.std.specs.Prelude.{IfSome}
+use Rattle.lid_machine.specs.Setups.{output_rows}
 use Rattle.lid_walk.proofs.Elements.{is_there}
 use Rattle.lid_walk.proofs.Numbers.{sink_there}
 use Rattle.lid_walk.proofs.walk.Walk.rows.Goals as goal

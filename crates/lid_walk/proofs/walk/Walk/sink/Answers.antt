@@ -1,8 +1,4 @@
-use Rattle.std.proofs.Common.{◌≡◌, ℕ, ◌+◌, ◌<◌, ◌≤◌, Bool, true, false, not, true≢false, length, refl, sym, ◌∙◌, ap, subst, arith}
-use Rattle.lid_machine.specs.Plans.{sink}
-use Rattle.lid_machine.specs.Setups.{Setup, plan}
-use Rattle.lid_machine.specs.Machine.{State}
-use Rattle.lid_walk.specs.Walks.{Walks}
+use Rattle.std.proofs.Common.{◌≡◌, ◌<◌, Bool, true, false, not, true≢false, length, sym, ◌∙◌, ap, arith}
 use Rattle.lid_walk.proofs.Elements.{is_there}
 use Rattle.lid_walk.proofs.Numbers.{sink_there}
 use Rattle.lid_walk.proofs.walk.Walk.sink.Goals as goal

@@ -1,12 +1,4 @@
-use Rattle.std.proofs.Common.{◌≡◌, ℕ, ◌<◌, List, length, refl, sym, ◌∙◌, ap, subst, arith}
-use Rattle.std.specs.Prelude.{Some, slice_get}
-use Rattle.lid_shell.specs.declared.actor.Actor.{Actor}
-use Rattle.lid_machine.specs.Plans.{actors_of}
-use Rattle.lid_machine.specs.Setups.{Setup, plan}
-use Rattle.lid_machine.specs.Machine.{State}
-use Rattle.lid_shell.specs.Steps.{Works}
-use Rattle.lid_walk.specs.declared.walk.Walk.{Walk}
-use Rattle.lid_walk.specs.Walks.{Walks, HasActor}
+use Rattle.std.proofs.Common.{refl}
 use Rattle.lid_walk.proofs.Elements.{is_there}
 use Rattle.lid_walk.proofs.Stepping.{works, answers_so, walks_then, has_place, is_actor}
 use Rattle.lid_walk.proofs.walk.Walk.step.Goals as goal

@@ -1,8 +1,7 @@
-use Rattle.std.proofs.Common.{◌≡◌, ℕ, ◌+◌, ◌<◌, ◌≤◌, length, refl, sym, ◌∙◌, ap, subst, arith}
+use Rattle.std.proofs.Common.{◌≡◌, arith}
 use Rattle.lid_machine.specs.Plans.{actors_of}
 use Rattle.lid_machine.specs.Setups.{Setup, plan}
 use Rattle.lid_machine.specs.Machine.{State}
-use Rattle.lid_walk.specs.declared.walk.Walk.{Walk}
 use Rattle.lid_walk.specs.Walks.{Walks}
 use Rattle.lid_walk.proofs.Sweeping.{none_yet, next_rests, one_more, swept_walks, swept_count, swept_rest, swept_idle}
 use Rattle.lid_walk.proofs.Numbers.{few_actors}
@@ -30,11 +29,11 @@ overflow_cast-actor-end c =
 
 pub returns : goal.returns
 returns c = record {
-    walks = λ m st walks rest. swept_walks c.loop-actor.actor c.loop-actor.fired c.args.self.now c.loop-actor.self c.loop-actor.invariant m st walks rest (past c m st walks);
-    fired = λ m st walks rest. swept_count c.loop-actor.actor c.loop-actor.fired c.args.self.now c.loop-actor.self c.loop-actor.invariant m st walks rest (past c m st walks);
-    rest = λ m st walks rest. swept_rest c.loop-actor.actor c.loop-actor.fired c.args.self.now c.loop-actor.self c.loop-actor.invariant m st walks rest (past c m st walks);
-    idle = λ m st walks rest none. swept_idle c.loop-actor.actor c.loop-actor.fired c.args.self.now c.loop-actor.self c.loop-actor.invariant m st walks rest (past c m st walks) none;
-  }
+  walks = λ m st walks rest. swept_walks c.loop-actor.actor c.loop-actor.fired c.args.self.now c.loop-actor.self c.loop-actor.invariant m st walks rest (past c m st walks);
+  fired = λ m st walks rest. swept_count c.loop-actor.actor c.loop-actor.fired c.args.self.now c.loop-actor.self c.loop-actor.invariant m st walks rest (past c m st walks);
+  rest = λ m st walks rest. swept_rest c.loop-actor.actor c.loop-actor.fired c.args.self.now c.loop-actor.self c.loop-actor.invariant m st walks rest (past c m st walks);
+  idle = λ m st walks rest none. swept_idle c.loop-actor.actor c.loop-actor.fired c.args.self.now c.loop-actor.self c.loop-actor.invariant m st walks rest (past c m st walks) none;
+}
   where
     past : (c : goal.After-loop-actor) (m : Setup) (st : State) → Walks m st c.args.self.now → c.loop-actor.actor ≡ actors_of (plan m)
     past c m st walks =
