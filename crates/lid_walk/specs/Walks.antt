@@ -41,6 +41,10 @@ IsWalk w = (m : Setup) × (st : State) × Walks m st w
 abbrev pub HasActor : Walk → ℕ → Type 0
 HasActor w v = (m : Setup) × (st : State) × Walks m st w × (v < actors_of (plan m))
 
+-- and where that is at rest
+abbrev pub HasActorAtRest : Walk → ℕ → Type 0
+HasActorAtRest w v = (m : Setup) × (st : State) × Walks m st w × (v < actors_of (plan m)) × ((st v).position ≡ 0)
+
 -- and one in which all actors are at rest
 abbrev pub IsAtRest : Walk → Type 0
 IsAtRest w = (m : Setup) × (st : State) × Walks m st w × AllRest (plan m) st

@@ -1,18 +1,18 @@
 //! Walks.
 
-ghost use Rattle.std.specs.Prelude.{◌≡◌, ◌↔◌, ◌≤◌, ℕ, true, length, IfOk};
-ghost use Rattle.std.specs.List.{AllByRecursion};
+ghost use Rattle.std.specs.Prelude.{◌≡◌, ◌↔◌, ◌≤◌, ◌+◌, ℕ, true, length, IfOk};
+ghost use Rattle.std.specs.List.{All, AllByRecursion};
 ghost use Rattle.lid_system.specs.Systems.{IsWellFormed};
 ghost use Rattle.lid_stations.specs.Placements.{Fits};
 ghost use Rattle.lid_machine.specs.Plans.{actors_of, sink};
 ghost use Rattle.lid_machine.specs.Setups.{Setup, IsSetup, IsInputRow, plan, output_rows};
-ghost use Rattle.lid_machine.specs.Machine.{State, begun, answer_of, next, sweep};
+ghost use Rattle.lid_machine.specs.Machine.{State, begun, answer_of, next, turn, sweep};
 ghost use Rattle.lid_machine.specs.Laws.{IsSound, AllRest, IsSettled};
 ghost use Rattle.lid_shell.specs.Parts.{AreColumns};
-ghost use Rattle.lid_walk.specs.Walks.{AreActors, IsBoard, Walks, IsWalk, HasActor, IsAtRest, IsSetupOf, firings_between};
+ghost use Rattle.lid_walk.specs.Walks.{AreActors, IsBoard, Walks, IsWalk, HasActor, HasActorAtRest, IsAtRest, IsSetupOf, firings_between};
 
 use lid_base::{Answer, Items};
-use lid_shell::Actor;
+use lid_shell::{Actor, TurnEnd};
 use lid_station::PlainBoard;
 use lid_stations::Placement;
 use lid_system::System;
@@ -25,6 +25,13 @@ pub struct Walk<'r> {
     pub(crate) board: PlainBoard,
     /// The actors, in the order of their numbers.
     pub(crate) actors: Vec<Actor<'r>>,
+}
+
+/// Whether all actors are at their caps.
+fn are_done(actors: &[Actor]) -> bool
+    ensures { (result ≡ true) ↔ All (λ actor. actor.desk.fired ≡ actor.desk.cap) actors.now }
+{
+    actors.iter().all(|actor| actor.fired() == actor.cap())
 }
 
 impl<'r> Walk<'r> {
@@ -51,7 +58,7 @@ impl<'r> Walk<'r> {
     /// Goes on from a board and the actors of one system over its rows, in the order of their numbers, which agree with
     /// the board.
     pub fn adopt(board: PlainBoard, actors: Vec<Actor<'r>>) -> Walk<'r>
-        requires { (m : Setup) × (st : State) × IsSetup m × IsSound (plan m) st × AreActors m st actors.entry.items × IsBoard m st board.pairs.items }
+        requires { (m : Setup) × (st : State) × IsSetup m × IsSound (plan m) st × AreActors m st actors.items × IsBoard m st board.pairs.items }
         ensures { (m : Setup) (st : State) → IsSetup m → IsSound (plan m) st → AreActors m st actors.entry.items → IsBoard m st board.pairs.items → Walks m st result }
     {
         Walk { board, actors }
@@ -75,14 +82,31 @@ impl<'r> Walk<'r> {
         ensures rest { (m : Setup) (st : State) → Walks m st self.old → AllRest (plan m) st → AllRest (plan m) (sweep (plan m) st) }
         ensures idle { (m : Setup) (st : State) → Walks m st self.old → AllRest (plan m) st → result ≡ 0 → IsSettled (plan m) st }
     {
-        loop {}
+        let mut fired = 0u64;
+        for actor in 0..self.actors.len() as u32 {
+            fired += self.turn(actor);
+        }
+        fired
+    }
+
+    /// Makes one turn of an actor, which exists and is at rest. Answers how often it fired, which is at most once.
+    fn turn(&mut self, actor: u32) -> u64
+        requires { HasActorAtRest self.old actor }
+        ensures walks { (m : Setup) (st : State) → Walks m st self.old → (st actor).position ≡ 0 → Walks m (turn (plan m) st actor) self.new }
+        ensures fired { (m : Setup) (st : State) → Walks m st self.old → (st actor).position ≡ 0 → (turn (plan m) st actor actor).fired ≡ (st actor).fired + result }
+        ensures once { result ≤ 1 }
+    {
+        match self.actors[actor as usize].turn(&mut self.board) {
+            TurnEnd::Fired => 1,
+            _ => 0,
+        }
     }
 
     /// Whether every actor is at its cap.
     pub fn settled(&self) -> bool
         ensures { (m : Setup) (st : State) → Walks m st self.now → (result ≡ true) ↔ IsSettled (plan m) st }
     {
-        loop {}
+        are_done(self.actors.as_slice())
     }
 
     /// How often an actor has fired. It exists.
@@ -98,14 +122,28 @@ impl<'r> Walk<'r> {
         requires { IsWalk self.now }
         ensures { (m : Setup) (st : State) → Walks m st self.now → result.now ≡ output_rows m (st (sink (plan m))).fired }
     {
-        loop {}
+        self.actors[self.sink()].given().unwrap()
     }
 
     /// Hands out the rows that the sink has given.
     pub fn into_rows(self) -> Rows
-        requires { IsWalk self.entry }
+        requires { IsWalk self }
         ensures { (m : Setup) (st : State) → Walks m st self.entry → AreColumns m (sink (plan m)) result.columns × (result.bits ≡ output_rows m (st (sink (plan m))).fired) }
     {
-        loop {}
+        let sink = self.sink();
+        let mut actors = self.actors;
+        actors.swap_remove(sink).into_given().unwrap()
+    }
+
+    /// The number of the sink.
+    fn sink(&self) -> usize
+        requires { IsWalk self.now }
+        ensures { (m : Setup) (st : State) → Walks m st self.now → result ≡ sink (plan m) }
+    {
+        let mut actor = 0usize;
+        while self.actors[actor].given().is_none() {
+            actor += 1;
+        }
+        actor
     }
 }

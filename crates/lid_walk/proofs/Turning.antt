@@ -1,0 +1,86 @@
+-- What a turn of one actor leaves of the others, and of the board.
+use Rattle.std.proofs.Common.{◌≡◌, ℕ, ◌+◌, ◌<◌, List, set, refl, sym, ◌∙◌, ap, subst, arith, length-set}
+use Rattle.std.specs.Prelude.{Option, Some, slice_get}
+use mathlib.Core.Logic.{dite}
+use native.Mathlib.Decide.{ℕ_discrete}
+use Rattle.lid_station.specs.Plain.{plain_ends, PlainStands}
+use Rattle.lid_station.specs.declared.pair.Pair.{Pair}
+use Rattle.lid_machine.specs.Plans.{actors_of}
+use Rattle.lid_machine.specs.Setups.{Setup, plan}
+use Rattle.lid_machine.specs.Machine.{Progress, State, turn}
+use Rattle.lid_machine.specs.Laws.{HasTurned}
+use Rattle.lid_machine.proofs.Turns.{has_turned}
+use Rattle.lid_shell.specs.declared.actor.Actor.{Actor}
+use Rattle.lid_shell.specs.declared.turn.TurnEnd.{TurnEnd}
+use Rattle.lid_shell.specs.declared.turn.TurnEnd.TheVariants.{Fired}
+use Rattle.lid_shell.specs.Actors.{IsActor}
+use Rattle.lid_shell.specs.Steps.{Works, Moves}
+use Rattle.lid_shell.specs.Turns.{fired_at, Turned}
+use Rattle.lid_walk.specs.declared.walk.Walk.{Walk}
+use Rattle.lid_walk.specs.Walks.{AreActors, IsBoard, Walks}
+use Rattle.lid_walk.proofs.Elements.{set_here, set_there}
+use Rattle.lid_walk.proofs.Stepping.{works, as_many, all_agree}
+
+abbrev pub at_rest : ℕ → Progress
+at_rest fired = record { fired = fired; position = 0 }
+
+as_far : (p q : Progress) → p.fired ≡ q.fired → p.position ≡ q.position → p ≡ q
+as_far p q fired position = ap (λ (n : ℕ). let r : Progress = record { fired = n; position = p.position } in r) fired ∙ ap (λ (n : ℕ). let r : Progress = record { fired = q.fired; position = n } in r) position
+
+-- an actor at rest works at the board
+pub works_at_rest : (m : Setup) (st : State) (w : Walk) (v : ℕ) (a : Actor) → Walks m st w → v < actors_of (plan m) → (st v).position ≡ 0 → slice_get w.actors.items v ≡ Some a
+    → Works m v (at_rest (st v).fired) a (plain_ends w.board.pairs.items) (PlainStands w.board.pairs.items)
+works_at_rest m st w v a walks h rests there =
+    subst (λ (q : Progress). Works m v q a (plain_ends w.board.pairs.items) (PlainStands w.board.pairs.items)) (as_far (st v) (at_rest (st v).fired) refl rests) (works m st w v a walks h there)
+
+-- actor v has made a turn at the board: so all are as the machine says
+module _ (m : Setup) (st : State) (w : Walk) (v : ℕ) (a b : Actor) (news : List Pair) (end : TurnEnd)
+    (walks : Walks m st w) (h : v < actors_of (plan m)) (rests : (st v).position ≡ 0) (there : slice_get w.actors.items v ≡ Some a)
+    (turned : Turned m v (st v).fired end b (plain_ends news) (PlainStands news))
+    (is : IsActor m v (turn (plan m) st v v) b) where
+  abbrev new : State
+  new = turn (plan m) st v
+
+  left : HasTurned (plan m) v st new
+  left = has_turned m walks.rules v h st walks.sound
+
+  far : new v ≡ at_rest (fired_at end (st v).fired)
+  far = as_far (new v) (at_rest (fired_at end (st v).fired)) (sym is.at.fired_is ∙ turned.works.actor.at.fired_is) left.rests
+
+  pub fired_so : (new v).fired ≡ fired_at end (st v).fired
+  fired_so = ap (λ (q : Progress). q.fired) far
+
+  works_then : Works m v (new v) b (plain_ends news) (PlainStands news)
+  works_then = subst (λ (q : Progress). Works m v q b (plain_ends news) (PlainStands news)) (sym far) turned.works
+
+  actors_then : AreActors m new (set w.actors.items v b)
+  actors_then = record {
+    many = length-set w.actors.items v b ∙ walks.actors.many;
+    each = λ u c at. dite (ℕ_discrete u v)
+        (λ same. subst (λ (n : ℕ). IsActor m n (new n) c) (sym same)
+        (subst (λ (d : Actor). IsActor m v (new v) d) (set_here w.actors.items v b c (subst (λ (n : ℕ). slice_get (set w.actors.items v b) n ≡ Some c) same at)) is))
+        (λ other. subst (λ (q : Progress). IsActor m u q c) (sym (left.others u other)) (walks.actors.each u c (sym (set_there w.actors.items v u b other) ∙ at)));
+  }
+
+  module _ (missed : Option ℕ) (moves : Moves a.desk.ins.items a.desk.outs.items missed (plain_ends w.board.pairs.items) (plain_ends news)) where
+    board_then : IsBoard m new news
+    board_then =
+        let was = walks.actors.each v a there in
+        record {
+          many = as_many w.board.pairs.items news moves.none (λ end f e. let g = moves.some end f e in (g.0, g.1)) ∙ walks.board.many;
+          agrees = all_agree m walks.rules st new v a.desk.ins.items a.desk.outs.items (plain_ends w.board.pairs.items) (plain_ends news) was.at.drains was.at.fills moves.others left.others works_then.agrees walks.board.agrees;
+          streams = works_then.streams;
+        }
+
+    pub walks_then : (x : Walk) → x.actors.items ≡ set w.actors.items v b → x.board.pairs.items ≡ news → Walks m new x
+    walks_then x actors board = record {
+      rules = walks.rules;
+      sound = left.sound;
+      actors = subst (AreActors m new) (sym actors) actors_then;
+      board = subst (IsBoard m new) (sym board) board_then;
+    }
+
+-- where an actor does not fire in a turn, it has fired as often as before
+pub fired_none : (end : TurnEnd) (fired : ℕ) → (end ≡ Fired → ⊥) → fired_at end fired ≡ fired + 0
+fired_none Fired fired other = absurd (other refl)
+fired_none _ fired other = omega arith
