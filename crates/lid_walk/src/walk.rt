@@ -35,26 +35,6 @@ fn are_done(actors: &[Actor]) -> bool
 }
 
 impl<'r> Walk<'r> {
-    /// Starts a walk of a system with its stations over these rows: at most 1,000,000, each as wide as the source. All
-    /// actors are at rest and have not fired.
-    ///
-    /// # Errors
-    /// Memory is wanting.
-    pub fn start(
-        alloc: Global,
-        system: &System,
-        placement: &Placement,
-        rows: &'r Rows,
-    ) -> Result<Walk<'r>, AllocError>
-        requires system { IsWellFormed system.now }
-        requires fits { Fits system.now placement.now }
-        requires few { length rows.now.bits ≤ 1000000 }
-        requires wide { AllByRecursion (IsInputRow system.now) rows.now.bits }
-        ensures { IfOk result (λ w. (m : Setup) → IsSetupOf m system.now placement.now rows.now.bits → Walks m begun w) }
-    {
-        loop {}
-    }
-
     /// Goes on from a board and the actors of one system over its rows, in the order of their numbers, which agree with
     /// the board.
     pub fn adopt(board: PlainBoard, actors: Vec<Actor<'r>>) -> Walk<'r>

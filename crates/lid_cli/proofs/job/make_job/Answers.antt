@@ -34,8 +34,5 @@ returns-in-Verify-clause-sound c = if_ok c.verify_job.result (λ job e. same_job
 pub returns-in-Unwave-clause-sound : goal.returns-in-Unwave-clause-sound
 returns-in-Unwave-clause-sound c = if_ok c.unwave_job.result (λ job e. same_job job _ tt e) c.unwave_job.ensures
 
-pub returns-in-Walk-clause-sound : goal.returns-in-Walk-clause-sound
-returns-in-Walk-clause-sound c = if_ok c.walk_job.result (λ job e. same_job job _ tt e) c.walk_job.ensures
-
 pub returns-in-Wave-clause-sound : goal.returns-in-Wave-clause-sound
 returns-in-Wave-clause-sound c = if_ok c.wave_job.result (λ job e. same_job job _ (trace_long _ c.requires) e) c.wave_job.ensures
