@@ -1,9 +1,7 @@
-//! The commands whose runs hold their rows at hand: `walk` and `wave`.
+//! The commands whose runs hold their rows at hand: `wave`.
 #![tactic(auto)]
 
 mod held;
 mod run;
-mod walking;
-mod waving;
 
-pub use held::{walk_text, wave_text};
+pub use held::wave_text;

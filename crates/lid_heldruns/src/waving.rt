@@ -1,24 +1,24 @@
 //! `wave`: the trace of the clocked run as a value change dump.
 
-ghost use Rattle.std.specs.Prelude.{◌≡◌, ◌*◌, ℕ, ◌≤◌, Bool, List, length, Option, IfOk, IfErr};
+ghost use Rattle.std.specs.Prelude.{◌≡◌, ℕ, ◌≤◌, Bool, List, length, Option, IfOk, IfErr};
 ghost use Rattle.std.specs.List.{AllByRecursion};
 ghost use Rattle.lid_agree.specs.Agreement.{IsSystemOf};
 ghost use Rattle.lid_design.specs.Columns.{root_inputs};
-ghost use Rattle.lid_script.specs.Causes.{IsCause, IsWant};
+ghost use Rattle.lid_script.specs.Causes.{IsCause};
 ghost use Rattle.lid_script.specs.Scripts.{waving_script};
 ghost use Rattle.lid_script.specs.Statuses.{HasText};
-ghost use Rattle.lid_script.specs.Waved.{IsWaveText};
-ghost use Rattle.lid_stations.specs.Placements.{links_of, station_count, Fits};
+ghost use Rattle.lid_stations.specs.Placements.{links_of, Fits};
 ghost use Rattle.lid_system.specs.Systems.{IsWellFormed as IsSystem};
 
 use lid_check::Checked;
-use lid_script::Stop;
+use lid_script::{Stop, judge_trace};
 use lid_stations::Placement;
 use lid_system::System;
 use lid_texts::Rows;
+use lid_waving::dump_text;
 use std::alloc::Global;
 
-/// What `wave` writes once the rows are read: a trace of 1 to 1,048,576 cycles.
+/// What `wave` writes once the rows are read: the dump of a trace of 1 to 1,048,576 cycles.
 pub(crate) fn waved_text<'a>(
     alloc: Global,
     checked: &Checked,
@@ -37,5 +37,11 @@ pub(crate) fn waved_text<'a>(
     ensures ok { IfOk result (λ text. (held : List ℕ → Option (List ℕ)) → HasText held (waving_script checked.now (links_of system.now) placement.now cycles rows.now.bits) text.items) }
     ensures err { IfErr result (λ stop. (held : List ℕ → Option (List ℕ)) (before after : List ℕ → ℕ) → IsCause held (waving_script checked.now (links_of system.now) placement.now cycles rows.now.bits) before after stop) }
 {
-    Err(Stop::Memory)
+    match judge_trace(placement, &Some(cycles)) {
+        Ok(()) => match dump_text(alloc, checked, system, placement, rows, cycles) {
+            Ok(text) => Ok(text),
+            Err(_) => Err(Stop::Memory),
+        },
+        Err(stop) => Err(stop),
+    }
 }

@@ -4,8 +4,6 @@ use Rattle.std.specs.List.{sum_by}
 use Rattle.lid_design.specs.Network.{from_each}
 use Rattle.lid_station.specs.Plain.{plain_ends, PlainStands}
 use Rattle.lid_station.specs.declared.pair.Pair.{Pair}
-use Rattle.lid_system.specs.declared.System.{System}
-use Rattle.lid_stations.specs.declared.placement.Placement.{Placement}
 use Rattle.lid_machine.specs.Plans.{Plan, actors_of, stations_of, stream}
 use Rattle.lid_machine.specs.Setups.{Setup, IsSetup, plan}
 use Rattle.lid_machine.specs.Machine.{State}
@@ -48,13 +46,6 @@ HasActorAtRest w v = (m : Setup) × (st : State) × Walks m st w × (v < actors_
 -- and one in which all actors are at rest
 abbrev pub IsAtRest : Walk → Type 0
 IsAtRest w = (m : Setup) × (st : State) × Walks m st w × AllRest (plan m) st
-
--- the setup of a system with its stations over these rows
-pub record IsSetupOf (m : Setup) (s : System) (p : Placement) (rows : List (List Bool)) : Type 0 where
-  pub rules : IsSetup m
-  pub system : m.system ≡ s
-  pub placement : m.placement ≡ p
-  pub input : m.input ≡ rows
 
 -- how many firings lie between two states
 abbrev pub firings_between : Plan → State → State → ℕ

@@ -1,23 +1,18 @@
 //! Walks.
 
-ghost use Rattle.std.specs.Prelude.{◌≡◌, ◌↔◌, ◌≤◌, ◌+◌, ℕ, true, length, IfOk};
-ghost use Rattle.std.specs.List.{All, AllByRecursion};
-ghost use Rattle.lid_system.specs.Systems.{IsWellFormed};
-ghost use Rattle.lid_stations.specs.Placements.{Fits};
+ghost use Rattle.std.specs.Prelude.{◌≡◌, ◌↔◌, ◌≤◌, ◌+◌, ℕ, true};
+ghost use Rattle.std.specs.List.{All};
 ghost use Rattle.lid_machine.specs.Plans.{actors_of, sink};
-ghost use Rattle.lid_machine.specs.Setups.{Setup, IsSetup, IsInputRow, plan, output_rows};
-ghost use Rattle.lid_machine.specs.Machine.{State, begun, answer_of, next, turn, sweep};
+ghost use Rattle.lid_machine.specs.Setups.{Setup, IsSetup, plan, output_rows};
+ghost use Rattle.lid_machine.specs.Machine.{State, answer_of, next, turn, sweep};
 ghost use Rattle.lid_machine.specs.Laws.{IsSound, AllRest, IsSettled};
 ghost use Rattle.lid_shell.specs.Parts.{AreColumns};
-ghost use Rattle.lid_walk.specs.Walks.{AreActors, IsBoard, Walks, IsWalk, HasActor, HasActorAtRest, IsAtRest, IsSetupOf, firings_between};
+ghost use Rattle.lid_walk.specs.Walks.{AreActors, IsBoard, Walks, IsWalk, HasActor, HasActorAtRest, IsAtRest, firings_between};
 
 use lid_base::{Answer, Items};
 use lid_shell::{Actor, TurnEnd};
 use lid_station::PlainBoard;
-use lid_stations::Placement;
-use lid_system::System;
 use lid_texts::Rows;
-use std::alloc::{AllocError, Global};
 
 /// All actors of a system over one board. Actors make steps one at a time, in whatever order.
 #[derive(Drop)]

@@ -1,0 +1,7 @@
+//! Tests of actors over boards. What is expected was worked out by hand from the rules of the interleaving machine.
+#![tactic(auto)]
+
+#[cfg(test)]
+mod movers;
+#[cfg(test)]
+mod setting;
