@@ -1,5 +1,5 @@
 -- The life of the system of a design for rows, in which nobody is held: its dump is that of the design.
-use Rattle.std.proofs.Common.{◌≡◌, ℕ, suc, ◌+◌, ◌-◌, ◌*◌, ◌<◌, ◌≤◌, ◌==◌, ◌⊎◌, inl, inr, nat_lt, min, Bool, if◌then◌else◌, List, [], ◌∷◌, ◌++◌, length, refl, sym, ◌∙◌, ap, subst, arith}
+use Rattle.std.proofs.Common.{◌≡◌, ℕ, ◌-◌, ◌*◌, ◌<◌, ◌≤◌, ◌==◌, ◌⊎◌, inl, inr, nat_lt, min, Bool, if◌then◌else◌, List, [], ◌∷◌, ◌++◌, length, refl, sym, ◌∙◌, ap, arith}
 use Rattle.std.specs.List.{AllByRecursion, flat_map}
 use Rattle.std.proofs.lemmas.Bool.{cases_lt}
 use Rattle.lid_base.specs.declared.runs.Shown.{Shown}
@@ -13,7 +13,6 @@ use Rattle.lid_reports.specs.declared.trace.Trace.{Trace}
 use Rattle.lid_system.specs.declared.System.{System}
 use Rattle.lid_system.specs.Systems.{IsWellFormed}
 use Rattle.lid_system.proofs.Streaming.{each_same}
-use Rattle.lid_system.proofs.Points.{first_node}
 use Rattle.lid_agree.specs.Agreement.{seen, IsSystemOf}
 use Rattle.lid_agree.proofs.Agreeing.{table_is}
 use Rattle.lid_stations.specs.declared.placement.Placement.{Placement}
@@ -25,7 +24,7 @@ use Rattle.lid_runs.specs.Views.{shown_as, shown_at}
 use Rattle.lid_runs.proofs.Caps.{cap_of_sink}
 use Rattle.lid_runs.proofs.Ending.{ends}
 use Rattle.lid_wave.specs.Text.{wave_text}
-use Rattle.lid_clock.specs.Lives.{Life, IsWide, IsBelow, fired_after, shown_after, sink}
+use Rattle.lid_clock.specs.Lives.{Life, IsWide, fired_after, shown_after, sink}
 use Rattle.lid_clocked.specs.Clocks.{IsFreeLife}
 use Rattle.lid_clocked.proofs.FreeLives.{sinks_few}
 use Rattle.lid_script.specs.Clocked.{station_token, cells_of, trace_of}

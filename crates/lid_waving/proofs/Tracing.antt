@@ -6,7 +6,7 @@ use Rattle.lid_stations.specs.Placements.{station_count}
 use Rattle.lid_clock.specs.Lives.{Life, IsBelow}
 use Rattle.lid_clocked.specs.declared.clocked.Clocked.{Clocked}
 use Rattle.lid_clocked.specs.Clocks.{Clocks}
-use Rattle.lid_waving.specs.Traces.{cells_at, cells_before, HasTraced, IsTraceOf}
+use Rattle.lid_waving.specs.Traces.{cells_at, HasTraced, IsTraceOf}
 use Rattle.lid_waving.proofs.Cells.{cells_one_more}
 
 module _ (l : Life) (k : ℕ) (now : Clocked) (cells : List Shown) (has : HasTraced l k now cells) where

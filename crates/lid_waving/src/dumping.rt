@@ -35,11 +35,7 @@ fn push_cells(run: &Clocked, stations: u32, cells: &mut Vec<Shown>) -> Result<()
 
 /// Makes a cycle, where the sink has not yet fired for each row, and appends what each station showed as it
 /// began. Answers whether it made one.
-fn trace_cycle(
-    run: &mut Clocked,
-    stations: u32,
-    cells: &mut Vec<Shown>,
-) -> Result<bool, AllocError>
+fn trace_cycle(run: &mut Clocked, stations: u32, cells: &mut Vec<Shown>) -> Result<bool, AllocError>
     requires { (l : Life) × (k : ℕ) × Clocks l k run.old × (stations ≡ station_count l.placement.relays) }
     ensures made { (l : Life) (k : ℕ) → Clocks l k run.old → IfOk result (λ made. made ≡ true → Clocks l (suc k) run.new) }
     ensures shown { (l : Life) (k : ℕ) → Clocks l k run.old → stations ≡ station_count l.placement.relays → IfOk result (λ made. made ≡ true → cells.new.items ≡ cells.old.items ++ cells_at l k) }

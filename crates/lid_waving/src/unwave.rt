@@ -61,11 +61,7 @@ fn text_of<'a>(alloc: Global, trace: &Trace) -> Result<Vec<u8>, Stop<'a>>
 }
 
 /// Fetches and reads a dump.
-fn read_dump<'a, S: Shelf>(
-    alloc: Global,
-    shelf: &mut S,
-    file: &'a str,
-) -> Result<Trace, Stop<'a>>
+fn read_dump<'a, S: Shelf>(alloc: Global, shelf: &mut S, file: &'a str) -> Result<Trace, Stop<'a>>
     ensures ok { IfOk result (Got (S.held shelf.old) file.now dump_limit dump_read) }
     ensures writable { IfOk result IsWritable }
     ensures err { IfErr result (Misses (S.held shelf.old) file.now dump_limit dump_read (S.faults shelf.old) (S.faults shelf.new)) }

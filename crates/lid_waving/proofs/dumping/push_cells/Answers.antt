@@ -1,4 +1,4 @@
-use Rattle.std.proofs.Common.{◌≡◌, ℕ, [], ◌∷◌, ◌++◌, sym, ◌∙◌, ap, arith}
+use Rattle.std.proofs.Common.{◌≡◌, ℕ, [], ◌∷◌, ◌++◌, ◌∙◌, ap, arith}
 use Rattle.lid_base.specs.declared.runs.Shown.{Shown}
 use Rattle.lid_design.specs.Network.{from_each}
 use Rattle.lid_clock.specs.Lives.{shown_after}

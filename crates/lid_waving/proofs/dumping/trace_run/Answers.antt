@@ -1,4 +1,4 @@
-use Rattle.std.proofs.Common.{◌≡◌, ℕ, ◌<◌, ◌≤◌, List, true≢false, refl, sym, ◌∙◌, ap, subst, arith}
+use Rattle.std.proofs.Common.{◌≡◌, ◌<◌, List, true≢false, sym, ◌∙◌, ap, subst, arith}
 use Rattle.lid_base.specs.declared.runs.Shown.{Shown}
 use Rattle.lid_clock.specs.Lives.{IsBelow}
 use Rattle.lid_waving.specs.Traces.{IsTraceOf, HasTraced}
@@ -37,10 +37,10 @@ returns c = λ l begins.
     let has = c.loop-made.invariant.traced l begins in
     let few = c.loop-made.invariant.few in
     let ends : (cells : List Shown) → cells ≡ c.loop-made.cells.items → (k < c.args.cycles → IsBelow l k → ⊥) → IsTraceOf l c.args.cycles (record { stations = c.args.stations; cycles = k; cells = cells }) = λ cells is ended.
-        trace_ends l k c.loop-made.run cells (subst (HasTraced l k c.loop-made.run) (sym is) has) c.args.stations c.args.cycles begins.all few ended in
+    trace_ends l k c.loop-made.run cells (subst (HasTraced l k c.loop-made.run) (sym is) has) c.args.stations c.args.cycles begins.all few ended in
     elim c.loop-made-test.branch [
-    | else-loop-made-test w ↦ ends c.from_vec.result (c.from_vec.ensures ∙ ap (λ v. v.items) w.cells-is) (λ less. absurd (let over = w.loop-made-test.false in omega (arith, over)))
-    | then-loop-made-test+in_ok-trace_cycle+then-not-branch w ↦
-        ends c.from_vec.result (c.from_vec.ensures ∙ ap (λ v. v.items) w.cells-is ∙ w.in_ok-trace_cycle.ensures.still w.if-not-branch.true)
-        (λ less below. true≢false (sym ((w.in_ok-trace_cycle.ensures.below l k has.ran).1 below) ∙ w.if-not-branch.true))
+      | else-loop-made-test w ↦ ends c.from_vec.result (c.from_vec.ensures ∙ ap (λ v. v.items) w.cells-is) (λ less. absurd (let over = w.loop-made-test.false in omega (arith, over)))
+      | then-loop-made-test+in_ok-trace_cycle+then-not-branch w ↦
+          ends c.from_vec.result (c.from_vec.ensures ∙ ap (λ v. v.items) w.cells-is ∙ w.in_ok-trace_cycle.ensures.still w.if-not-branch.true)
+          (λ less below. true≢false (sym ((w.in_ok-trace_cycle.ensures.below l k has.ran).1 below) ∙ w.if-not-branch.true))
     ]

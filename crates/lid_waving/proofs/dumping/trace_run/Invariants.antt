@@ -1,4 +1,4 @@
-use Rattle.std.proofs.Common.{◌≡◌, ◌≤◌, ◌-◌, ℕ}
+use Rattle.std.proofs.Common.{◌≤◌, ◌-◌}
 use Rattle.lid_clock.specs.Lives.{Life}
 use Rattle.lid_waving.specs.Traces.{HasTraced, Begins}
 use Rattle.lid_waving.proofs.dumping.trace_run.Given as goal
