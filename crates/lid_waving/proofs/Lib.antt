@@ -1,0 +1,5 @@
+mod Cells
+mod Dumps
+mod Lifetimes
+mod Tokens
+mod Tracing

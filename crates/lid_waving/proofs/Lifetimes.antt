@@ -1,0 +1,135 @@
+-- The life of the system of a design for rows, in which nobody is held: its dump is that of the design.
+use Rattle.std.proofs.Common.{◌≡◌, ℕ, ◌-◌, ◌*◌, ◌<◌, ◌≤◌, ◌==◌, ◌⊎◌, inl, inr, nat_lt, min, Bool, if◌then◌else◌, List, [], ◌∷◌, ◌++◌, length, refl, sym, ◌∙◌, ap, arith}
+use Rattle.std.specs.List.{AllByRecursion, flat_map}
+use Rattle.std.proofs.lemmas.Bool.{cases_lt}
+use Rattle.lid_base.specs.declared.runs.Shown.{Shown}
+use Rattle.lid_design.specs.declared.Design.{Design}
+use Rattle.lid_design.specs.Network.{Table, IsStrict, from_each}
+use Rattle.lid_design.specs.Columns.{Column, drivers, root_inputs}
+use Rattle.lid_graph.specs.declared.graph.Graph.{Graph}
+use Rattle.lid_graph.specs.Firings.{Counts, no_hold, IsFirstAtCap}
+use Rattle.lid_firings.proofs.Rising.{first_at_cap}
+use Rattle.lid_reports.specs.declared.trace.Trace.{Trace}
+use Rattle.lid_system.specs.declared.System.{System}
+use Rattle.lid_system.specs.Systems.{IsWellFormed}
+use Rattle.lid_system.proofs.Streaming.{each_same}
+use Rattle.lid_agree.specs.Agreement.{seen, IsSystemOf}
+use Rattle.lid_agree.proofs.Agreeing.{table_is}
+use Rattle.lid_stations.specs.declared.placement.Placement.{Placement}
+use Rattle.lid_stations.specs.Placements.{links_of, station_count, Fits}
+use Rattle.lid_stations.specs.Stations.{actor_count, capacity}
+use Rattle.lid_stations.specs.Markings.{marking}
+use Rattle.lid_runs.specs.Runs.{cap_of, token_of, fired_in, in_count, out_count}
+use Rattle.lid_runs.specs.Views.{shown_as, shown_at}
+use Rattle.lid_runs.proofs.Caps.{cap_of_sink}
+use Rattle.lid_runs.proofs.Ending.{ends}
+use Rattle.lid_wave.specs.Text.{wave_text}
+use Rattle.lid_clock.specs.Lives.{Life, IsWide, fired_after, shown_after, sink}
+use Rattle.lid_clocked.specs.Clocks.{IsFreeLife}
+use Rattle.lid_clocked.proofs.FreeLives.{sinks_few}
+use Rattle.lid_script.specs.Clocked.{station_token, cells_of, trace_of}
+use Rattle.lid_script.specs.Waved.{IsWaveText}
+use Rattle.lid_waving.specs.Traces.{cells_at, cells_before, IsTraceOf}
+use Rattle.lid_waving.proofs.Tokens.{all_so, token_same}
+
+flat_same : {A B : Type 0} (f g : A → List B) (xs : List A) → ((x : A) → f x ≡ g x) → flat_map f xs ≡ flat_map g xs
+flat_same f g [] same = refl
+flat_same f g (x ∷ xs) same = ap (λ ys. ys ++ flat_map f xs) (same x) ∙ ap (λ ys. g x ++ ys) (flat_same f g xs same)
+
+shown_same : (cap put taken : ℕ) (f g : ℕ → ℕ) → f taken ≡ g taken → shown_as cap put taken f ≡ shown_as cap put taken g
+shown_same cap put taken f g same =
+    let with_token : ℕ → Shown = λ token. record { valid = nat_lt taken put; stop = put - taken == cap; token = if nat_lt taken put then token else 0 } in
+    ap with_token same
+
+-- rows as wide as the inputs of a design have the width of the source
+pub wide_rows : (d : Design) (s : System) → IsSystemOf d s → (rows : List (List Bool)) → AllByRecursion (λ row. length row ≡ length (root_inputs d)) rows → AllByRecursion (IsWide s) rows
+wide_rows d s of rows wide = all_so (λ row. length row ≡ length (root_inputs d)) (IsWide s) rows (λ row is columns here. is ∙ ap length (sym (of.source 0 columns here))) wide
+
+module _ (d : Design) (s : System) (p : Placement) (of : IsSystemOf d s) (well : IsWellFormed s) (rows : List (List Bool)) (b : Table Column) (strict : IsStrict (drivers d) rows b) (fits : Fits s p) where
+  abbrev pub life : Life
+  life = record { system = s; placement = p; input = rows; table = seen d of.columns b; hold = no_hold }
+
+  pub lives : length rows ≤ 1000000 → AllByRecursion (λ row. length row ≡ length (root_inputs d)) rows → IsFreeLife life rows
+  lives few wide = record {
+    rules = record {
+      system = well;
+      fits = fits;
+      few = few;
+      wide = wide_rows d s of rows wide;
+      table = table_is d s of well rows b strict;
+    };
+    input = refl;
+    nobody = λ k v. refl;
+  }
+
+  abbrev count : ℕ
+  count = length rows
+
+  cells_same : (k : ℕ) → cells_at life k ≡ cells_of d b (links_of s) p count k
+  cells_same k =
+      let l = links_of s in
+      let fired = fired_in l p count no_hold k in
+      each_same (shown_after life k) (λ station. shown_at l p count fired station (station_token d b l p station)) 0 (station_count p.relays)
+      (λ station h. shown_same (capacity p station) (in_count l p count fired station) (out_count l p fired station)
+      (token_of s p (seen d of.columns b) station) (station_token d b l p station) (token_same d s of well b p station (out_count l p fired station)))
+
+  cells_before_same : (k : ℕ) → cells_before life k ≡ flat_map (cells_of d b (links_of s) p count) (from_each (λ j. j) 0 k)
+  cells_before_same k = flat_same (cells_at life) (cells_of d b (links_of s) p count) (from_each (λ j. j) 0 k) cells_same
+
+  abbrev g : Graph
+  g = marking (links_of s) p
+
+  abbrev cap : Counts
+  cap = cap_of (links_of s) count
+
+  sink_cap : cap (sink life) ≡ count
+  sink_cap = cap_of_sink s count well.least
+
+  ended : (k : ℕ) × IsFirstAtCap g cap no_hold (sink life) k
+  ended =
+      let most = actor_count (links_of s) p * count in
+      let found = first_at_cap g cap no_hold (sink life) most (ends s p well fits count most (omega arith) ∙ sym sink_cap) in
+      (found.0, found.1)
+
+  module _ (free : IsFreeLife life rows) (most : ℕ) (t : Trace) (is : IsTraceOf life most t) (k : ℕ) (first : IsFirstAtCap g cap no_hold (sink life) k) where
+    at_end : fired_after life k (sink life) ≡ count
+    at_end = first.reached ∙ sink_cap
+
+    -- no cycle after the last one is in the trace
+    within : t.cycles ≤ k
+    within = by_order (cases_lt k t.cycles)
+      where
+        by_order : (k < t.cycles) ⊎ (t.cycles ≤ k) → t.cycles ≤ k
+        by_order (inl less) = absurd (let below = is.needed k less in omega (arith, below, at_end))
+        by_order (inr past) = past
+
+    -- and all cycles are, where the trace has fewer than it may have
+    all_there : t.cycles < most → k ≤ t.cycles
+    all_there less =
+        let rest = is.ended less in
+        let few = sinks_few life free.rules t.cycles in
+        let over : fired_after life t.cycles (sink life) ≡ count = omega (arith, rest, few) in
+        first.first t.cycles (over ∙ sym sink_cap)
+
+    cycles_are : t.cycles ≡ min most k
+    cycles_are = by_order (cases_lt t.cycles most)
+      where
+        by_order : (t.cycles < most) ⊎ (most ≤ t.cycles) → t.cycles ≡ min most k
+        by_order (inl less) = omega (arith, within, all_there less)
+        by_order (inr past) = omega (arith, within, is.few)
+
+    trace_is : t ≡ trace_of d b (links_of s) p count (min most k)
+    trace_is =
+        let told : ℕ → ℕ → List Shown → Trace = λ stations cycles cells. record { stations = stations; cycles = cycles; cells = cells } in
+        ap (λ (n : ℕ). told n t.cycles t.cells) is.all
+        ∙ ap (told (station_count p.relays) t.cycles) (is.shown ∙ cells_before_same t.cycles)
+        ∙ ap (λ (n : ℕ). told (station_count p.relays) n (flat_map (cells_of d b (links_of s) p count) (from_each (λ j. j) 0 n))) cycles_are
+
+  pub dump_is : (most : ℕ) (t : Trace) (text : List ℕ) → IsFreeLife life rows → IsTraceOf life most t → text ≡ wave_text t → IsWaveText d (links_of s) p rows most text
+  dump_is most t text free is written = record {
+    table = b;
+    strict = strict;
+    cycles = ended.0;
+    ends = ended.1;
+    written = written ∙ ap wave_text (trace_is free most t is ended.0 ended.1);
+  }

@@ -1,0 +1,93 @@
+-- The tokens of a system are those of its design, and lie below 2^31.
+use Rattle.std.proofs.Common.{◌≡◌, ℕ, zero, suc, ◌+◌, ◌<◌, List, [], ◌∷◌, length, get_or, map, Some, slice_get, refl, sym, ◌∙◌, ap, subst, arith}
+use Rattle.std.specs.List.{AllByRecursion}
+use Rattle.std.specs.Option.{option_map_or}
+use Rattle.std.proofs.lemmas.List.{get_or-map}
+use Rattle.std.proofs.lemmas.Option.{slice_get-get_or}
+use Rattle.std.proofs.lemmas.Simd.{map-map}
+use Rattle.lid_base.proofs.Lists.{all_among}
+use Rattle.lid_cover.specs.Masks.{packed}
+use Rattle.lid_design.specs.declared.Design.{Design}
+use Rattle.lid_design.specs.declared.Model.{Model}
+use Rattle.lid_design.specs.Network.{Table}
+use Rattle.lid_design.specs.Columns.{Column, column, model_at}
+use Rattle.lid_design.specs.Loops.{pearls}
+use Rattle.lid_design.proofs.Tables.{map_agree}
+use Rattle.lid_system.specs.declared.System.{System}
+use Rattle.lid_system.specs.declared.Node.{Node}
+use Rattle.lid_system.specs.declared.Node.TheVariants.{Source, Shell, Sink}
+use Rattle.lid_system.specs.declared.Channel.{Channel}
+use Rattle.lid_system.specs.Systems.{Point, source_port, ports_at, IsChannel, IsWellFormed}
+use Rattle.lid_system.specs.Streams.{token_at}
+use Rattle.lid_stations.specs.declared.placement.Placement.{Placement}
+use Rattle.lid_stations.specs.Placements.{links_of}
+use Rattle.lid_stations.specs.Stations.{spot_at, no_channel}
+use Rattle.lid_runs.specs.Runs.{token_of}
+use Rattle.lid_agree.specs.Agreement.{column_of, seen, IsSystemOf}
+use Rattle.lid_agree.proofs.Agreeing.{source_ports, shell_ports}
+use Rattle.lid_net.specs.Graphs.{ports_of, outputs_at}
+use Rattle.lid_script.specs.Clocked.{channel_token, station_token}
+
+pub all_so : {A : Type 0} (P Q : A → Type 0) (xs : List A) → ((x : A) → P x → Q x) → AllByRecursion P xs → AllByRecursion Q xs
+all_so P Q [] f all = tt
+all_so P Q (x ∷ xs) f all = (f x all.0, all_so P Q xs f all.1)
+
+-- what holds of each item and of what stands past the last one
+pub item_or : {A : Type 0} (P : A → Type 0) (xs : List A) (i : ℕ) (d : A) → AllByRecursion P xs → P d → P (get_or xs i d)
+item_or P [] zero d all past = past
+item_or P [] (suc i) d all past = past
+item_or P (x ∷ xs) zero d all past = all.0
+item_or P (x ∷ xs) (suc i) d all past = item_or P xs i d all.1 past
+
+module _ (d : Design) where
+  ports_of_shell : (n : ℕ) (path : List ℕ) (model : Model) → slice_get (pearls d) n ≡ Some path → model_at d path ≡ Some model → ports_of d (suc n) ≡ map (column path) model.outputs
+  unfolding ports_of
+  ports_of_shell n path model here body =
+      ap (λ o. option_map_or (outputs_at d) o []) here
+      ∙ ap (λ o. option_map_or (λ (m : Model). map (column path) m.outputs) o []) body
+
+  module _ (s : System) (of : IsSystemOf d s) (well : IsWellFormed s) where
+    abbrev col : Point → Column
+    col = column_of d of.columns
+
+    ports_of_source : map col (ports_at s 0) ≡ ports_of d 0
+    unfolding ports_of
+    ports_of_source = source_ports d s of well
+
+    -- the ports of a node of the system stand for those of the node of the design
+    ports_same : (v : ℕ) → v + 1 < length s.nodes → map col (ports_at s v) ≡ ports_of d v
+    ports_same v below = by (get_or s.nodes v (Sink [] [])) (slice_get-get_or s.nodes v (Sink [] []) (omega arith))
+      where
+        by : (node : Node) → slice_get s.nodes v ≡ Some node → map col (ports_at s v) ≡ ports_of d v
+        by (Source columns) here =
+            let first : v ≡ 0 = well.each_node v (Source columns) here in
+            subst (λ (n : ℕ). map col (ports_at s n) ≡ ports_of d n) (sym first) ports_of_source
+        by (Shell pearl ins) here =
+            let is = of.shells v pearl ins here in
+            let place = is.place in
+            let after : suc is.number ≡ v = omega (arith, place) in
+            shell_ports d s v pearl ins of here
+            ∙ sym (ports_of_shell is.number is.path is.model is.here is.body)
+            ∙ ap (ports_of d) after
+        by (Sink columns ins) here = absurd (let last = (well.each_node v (Sink columns ins) here).last in omega (arith, last, below))
+
+    module _ (b : Table Column) where
+      abbrev Agrees : Channel → Type 0
+      Agrees ch = (t : ℕ) → token_at s (seen d of.columns b) ch t ≡ channel_token d b ch t
+
+      channel_agrees : (ch : Channel) → IsChannel s ch → Agrees ch
+      channel_agrees ch is t =
+          let ports = ports_at s ch.from in
+          let port_of : ℕ → Point = λ port. get_or ports port (source_port 0) in
+          ap packed (
+          map-map (seen d of.columns b t) port_of ch.ports
+          ∙ map_agree (λ port. seen d of.columns b t (port_of port)) (λ port. b t (get_or (ports_of d ch.from) port (column [] []))) ch.ports
+          (λ port among. ap (b t) (
+          sym (get_or-map col ports port (source_port 0) (column [] []) (all_among (λ (p : ℕ). p < length ports) ch.ports port is.below among))
+          ∙ ap (λ (cs : List Column). get_or cs port (column [] [])) (ports_same ch.from is.comes)
+          ))
+          )
+
+      pub token_same : (p : Placement) (station i : ℕ) → token_of s p (seen d of.columns b) station i ≡ station_token d b (links_of s) p station i
+      token_same p station i =
+          item_or Agrees s.channels (spot_at p.relays station).channel no_channel (all_so (IsChannel s) Agrees s.channels channel_agrees well.each_channel) (λ t. refl) i

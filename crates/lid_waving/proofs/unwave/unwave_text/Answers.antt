@@ -1,0 +1,30 @@
+use Rattle.std.proofs.Common.{refl}
+use Rattle.lid_base.proofs.Results.{if_ok, if_err}
+use Rattle.lid_reports.specs.declared.trace.Trace.{Trace}
+use Rattle.lid_script.specs.Outputs.{unwaved}
+use Rattle.lid_script.specs.Scripts.{Script, end, gives, dump_limit, dump_read, unwave_script}
+use Rattle.lid_script.proofs.Composition.{text_after, cause_here, want_anywhere}
+use Rattle.lid_waving.proofs.unwave.unwave_text.Goals as goal
+
+abbrev next : Trace → Script
+next trace = end (gives (unwaved trace))
+
+pub returns-in-Ok-clause-ok : goal.returns-in-Ok-clause-ok
+unfolding unwave_script
+returns-in-Ok-clause-ok g c =
+    if_ok c.text_of.result
+    (λ text h. text_after (g.S.Shelf.held c.args.shelf.now) c.args.file.now dump_limit dump_read next c.in-Ok.trace text.items c.in-Ok.ensures.ok
+    (record { output = unwaved c.in-Ok.trace; ends = refl; text_of = h }))
+    c.text_of.ensures.ok
+
+pub returns-in-Ok-clause-err : goal.returns-in-Ok-clause-err
+returns-in-Ok-clause-err g c =
+    if_err c.text_of.result
+    (want_anywhere (g.S.Shelf.held c.args.shelf.now) (unwave_script c.args.file.now) (g.S.Shelf.faults c.args.shelf.now) (g.S.Shelf.faults c.read_dump.new.shelf))
+    c.text_of.ensures.err
+
+pub returns-in-Err-clause-err : goal.returns-in-Err-clause-err
+unfolding unwave_script
+returns-in-Err-clause-err g c =
+    cause_here (g.S.Shelf.held c.args.shelf.now) c.args.file.now dump_limit dump_read next (g.S.Shelf.faults c.args.shelf.now)
+    (g.S.Shelf.faults c.read_dump.new.shelf) c.in-Err.stop c.in-Err.ensures.err
