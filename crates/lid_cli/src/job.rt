@@ -6,7 +6,8 @@ ghost use Rattle.lid_cli.specs.Reading.{matches_in, option_names};
 ghost use Rattle.lid_cli.specs.Jobs.{IsSound, option_fits, form_shown, job_made, job_formed, job_given, job_of};
 
 use crate::commands::{
-    check_job, clock_job, gen_job, place_job, rate_job, strict_job, unwave_job, verify_job, wave_job,
+    check_job, clock_job, gen_job, place_job, rate_job, strict_job, unwave_job, verify_job,
+    wave_job,
 };
 use crate::form::{form_of, has_form};
 use crate::reader::parse;

@@ -181,5 +181,13 @@ pub fn wave_text<'a, S: Shelf>(
     ensures kept { S.held shelf.new ≡ S.held shelf.old }
     ensures grows { (q : List ℕ) → S.faults shelf.old q ≤ S.faults shelf.new q }
 {
-    held_text(alloc, shelf, net, vec, stations, root, HeldRun::Wave(cycles))
+    held_text(
+        alloc,
+        shelf,
+        net,
+        vec,
+        stations,
+        root,
+        HeldRun::Wave(cycles),
+    )
 }

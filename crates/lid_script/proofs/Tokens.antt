@@ -36,7 +36,7 @@ all_so P Q [] f all = tt
 all_so P Q (x ∷ xs) f all = (f x all.0, all_so P Q xs f all.1)
 
 -- what holds of each item and of what stands past the last one
-item_or : {A : Type 0} (P : A → Type 0) (xs : List A) (i : ℕ) (d : A) → AllByRecursion P xs → P d → P (get_or xs i d)
+pub item_or : {A : Type 0} (P : A → Type 0) (xs : List A) (i : ℕ) (d : A) → AllByRecursion P xs → P d → P (get_or xs i d)
 item_or P [] zero d all past = past
 item_or P [] (suc i) d all past = past
 item_or P (x ∷ xs) zero d all past = all.0

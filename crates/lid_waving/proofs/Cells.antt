@@ -22,7 +22,7 @@ use Rattle.lid_runs.specs.Views.{shown_as}
 use Rattle.lid_wave.specs.Writable.{IsCell, IsWritable}
 use Rattle.lid_clock.specs.Lives.{Life, IsLife, fired_after, shown_after}
 use Rattle.lid_waving.specs.Traces.{cells_at, cells_before, IsTraceOf}
-use Rattle.lid_waving.proofs.Tokens.{all_so, item_or}
+use Rattle.lid_script.proofs.Tokens.{all_so, item_or}
 
 -- one more
 pub each_one_more : {A : Type 0} (f : ℕ → A) (n : ℕ) → from_each f 0 (n + 1) ≡ from_each f 0 n ++ f n ∷ []

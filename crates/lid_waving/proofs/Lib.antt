@@ -1,5 +1,4 @@
 mod Cells
 mod Dumps
 mod Lifetimes
-mod Tokens
 mod Tracing

@@ -30,7 +30,7 @@ use Rattle.lid_clocked.proofs.FreeLives.{sinks_few}
 use Rattle.lid_script.specs.Clocked.{station_token, cells_of, trace_of}
 use Rattle.lid_script.specs.Waved.{IsWaveText}
 use Rattle.lid_waving.specs.Traces.{cells_at, cells_before, IsTraceOf}
-use Rattle.lid_waving.proofs.Tokens.{all_so, token_same}
+use Rattle.lid_script.proofs.Tokens.{all_so, token_same}
 
 flat_same : {A B : Type 0} (f g : A → List B) (xs : List A) → ((x : A) → f x ≡ g x) → flat_map f xs ≡ flat_map g xs
 flat_same f g [] same = refl
