@@ -1,1 +1,7 @@
 mod Endings
+mod Fitted
+mod Lives
+mod Ones
+mod Sizes
+mod Standing
+mod Summaries

@@ -9,6 +9,7 @@ ghost use Rattle.lid_script.specs.Outputs.{IsTextOf};
 ghost use Rattle.lid_script.specs.Scripts.{gen_script, generating};
 ghost use Rattle.lid_script.specs.Statuses.{HasText};
 
+use crate::running::run_text;
 use lid_blifout::write;
 use lid_design::Design;
 use lid_gen::make;
@@ -42,7 +43,7 @@ fn made_text(
     generated_designs_are_writable();
     match *run {
         None => design_text(alloc, &design),
-        Some(_) => Err(AllocError),
+        Some(rows) => run_text(alloc, seed, shells, rows as u32, design),
     }
 }
 
