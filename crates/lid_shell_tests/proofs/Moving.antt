@@ -57,35 +57,35 @@ module _ (s : System) (rows : List (List Bool)) (formed : IsWellFormed s) (fits 
   pub rules : IsSetup setup
   rules = record { system = formed; fits = fits; few = few; wide = wide; table = (tables rows).1 }
 
-  there : length s.nodes < actors_of setup
+  there : length s.nodes < actors_of (plan setup)
   there = omega arith
 
-  moves_one : (ins_of setup (length s.nodes) ≡ 1 ∷ []) × (outs_of setup (length s.nodes) ≡ 2 ∷ [])
+  moves_one : (ins_of (plan setup) (length s.nodes) ≡ 1 ∷ []) × (outs_of (plan setup) (length s.nodes) ≡ 2 ∷ [])
   moves_one =
       let moves = law s laid (length s.nodes) formed fits (omega arith) there in
       let place = drained_there setup (length s.nodes) 1 (omega arith) (drained_by_first (links_of s)) in
       let is : moves.0 ≡ 1 = only moves.0 1 place.0 (subst (λ (xs : List ℕ). slice_get xs place.0 ≡ Some 1) moves.1.drained place.1) in
       (moves.1.drained ∙ ap (λ (x : ℕ). x ∷ []) is, moves.1.filled ∙ ap (λ (x : ℕ). (x + 1) ∷ []) is)
 
-  rooms : (station : ℕ) → station < stations_of setup → get_or (2 ∷ 2 ∷ 2 ∷ 2 ∷ []) station 0 ≡ room_of setup station
+  rooms : (station : ℕ) → station < stations_of (plan setup) → get_or (2 ∷ 2 ∷ 2 ∷ 2 ∷ []) station 0 ≡ room_of (plan setup) station
   rooms zero h = refl
   rooms (suc zero) h = refl
   rooms (suc (suc zero)) h = refl
   rooms (suc (suc (suc zero))) h = refl
   rooms (suc (suc (suc (suc i)))) h = absurd (omega arith)
 
-  pub begin : Begin firsts (stream setup)
+  pub begin : Begin firsts (stream (plan setup))
   begin = record {
-    short = λ i h. (let long : length (stream setup i) ≡ length rows = each_length (token setup i) 0 (length rows) in omega arith);
+    short = λ i h. (let long : length (stream (plan setup) i) ≡ length rows = each_length ((plan setup).token i) 0 (length rows) in omega arith);
     small = λ i h k d within.
-        let long : length (stream setup i) ≡ length rows = each_length (token setup i) 0 (length rows) in
-        subst (λ (n : ℕ). n < 2 ^ 31) (sym (each_at (token setup i) 0 (length rows) k d (omega arith))) (token_small setup i (0 + k) rules);
+        let long : length (stream (plan setup) i) ≡ length rows = each_length ((plan setup).token i) 0 (length rows) in
+        subst (λ (n : ℕ). n < 2 ^ 31) (sym (each_at ((plan setup).token i) 0 (length rows) k d (omega arith))) (token_small setup i (0 + k) rules);
     first = λ i x h. absurd (no_first i x h);
   }
 
   pub can_turn : (mover : Actor) (pairs : List Pair) → AreStarts firsts (2 ∷ 2 ∷ 2 ∷ 2 ∷ []) pairs
       → ((m : Setup) (v : ℕ) → IsSetup m → length m.system.nodes ≤ v → v < actors_of (plan m) → length m.input ≡ length rows → ins_of (plan m) v ≡ 1 ∷ [] → outs_of (plan m) v ≡ 2 ∷ [] → IsActor m v rest mover)
-      → PlainStands pairs (stream setup) → CanTurn mover (plain_ends pairs) (PlainStands pairs)
+      → PlainStands pairs (stream (plan setup)) → CanTurn mover (plain_ends pairs) (PlainStands pairs)
   can_turn mover pairs starts is stands = (
     setup,
     length s.nodes,
@@ -96,7 +96,7 @@ module _ (s : System) (rows : List (List Bool)) (formed : IsWellFormed s) (fits 
           starts_agree setup (length s.nodes) firsts (2 ∷ 2 ∷ 2 ∷ 2 ∷ []) pairs starts starts.many rooms
           (λ j station at.
           let two : 2 ≡ station = only 2 station j (subst (λ (xs : List ℕ). slice_get xs j ≡ Some station) moves_one.1 at) in
-          subst (λ (n : ℕ). start_count (get_or firsts n None) ≡ start_of setup n) two (omega arith));
+          subst (λ (n : ℕ). start_count (get_or firsts n None) ≡ start_of (plan setup) n) two (omega arith));
       streams = stands;
     },
   )
