@@ -3,5 +3,6 @@
 
 mod held;
 mod run;
+mod waving;
 
 pub use held::wave_text;
