@@ -37,8 +37,8 @@ fn dumps_are_read_as_traces(rt: HostRuntime) -> Result<(), Fail> {
         let files = [("t.vcd", *dump)];
         let left = Left {
             status: *status,
-            out,
-            err,
+            out: *out,
+            err: *err,
         };
         expect_run(&rt, &["unwave", "t.vcd"], &files, NONE_FAILS, left)?;
     }
@@ -67,8 +67,8 @@ fn designs_are_made_of_seeds(rt: HostRuntime) -> Result<(), Fail> {
     for (seed, shells, status, out, err) in SEEDS {
         let left = Left {
             status: *status,
-            out,
-            err,
+            out: *out,
+            err: *err,
         };
         let words = ["gen", seed, "--shells", shells];
         expect_run(&rt, &words, &[], NONE_FAILS, left)?;
