@@ -1,12 +1,13 @@
 #!/usr/bin/env python3
-"""Compares `lid clock` with a slow run, written from the definitions of firing counts and strict tables, on random
-designs, placements and rows.
+"""Compares `lid clock`, `wave` and `unwave` with a slow run, written from the definitions of firing counts and strict
+tables, on random designs, placements and rows.
 
     tools/clocks.py SEED COUNT
 
 The slow run has no stations and no pearls: how often an actor has fired is the least that its edges allow, and a
 token is packed from the strict table. `strict` and `clock` must give the same rows, and `clock` the cycles, the
-firings and the trace of the slow run. It stops at the first difference.
+firings and the trace of the slow run. What `wave` writes shows this trace, to waves.py and to `unwave`. It stops at
+the first difference.
 """
 
 import sys
@@ -16,6 +17,7 @@ from pathlib import Path
 from compare import Maker, rows_text, text_of
 from rates import Session, marking
 from reference import Judge, Refused, channels, pearls, settle
+from waves import shown
 
 
 def firing_counts(nodes: int, count: int, edges: list, rows: int) -> list[list[int]]:
@@ -89,14 +91,25 @@ def compare_run(session: Session, judge: Judge, whole, chans: list, named: list[
     words += [] if trace is None else ["--trace", str(trace)]
     wanted = outs + "".join(line + "\n" for line in run.told(trace))
     session.want(session.run(*words), (wanted, "", 0), " ".join(map(str, words)))
+    if trace is not None:
+        compare_wave(session, words[1:], run.told(trace)[run.nodes + 1 :])
     session.came["with rows" if rows else "without rows"] += 1
+
+
+def compare_wave(session: Session, words: list, trace: list[str]):
+    dump, _, status = session.run("wave", *words)
+    session.want(status, 0, "wave")
+    session.want(shown(dump.encode()), "\n".join(trace), "dump")
+    session.files["dump"].write_text(dump)
+    session.want(session.run("unwave", session.files["dump"]), ("\n".join(trace) + "\n", "", 0), "unwave")
+    session.came["dumps"] += 1
 
 
 def main():
     maker = Maker(int(sys.argv[1]))
     with tempfile.TemporaryDirectory() as folder:
         session = Session(folder, maker.dice)
-        session.files["rows"] = Path(folder, "rows")
+        session.files |= {name: Path(folder, name) for name in ("rows", "dump")}
         for _ in range(int(sys.argv[2])):
             models = maker.design()
             try:

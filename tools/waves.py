@@ -150,4 +150,5 @@ def main():
         print(count, shown(text[:end]).split("\n")[0])
 
 
-main()
+if __name__ == "__main__":
+    main()
