@@ -50,7 +50,8 @@ def functions() -> dict[str, str]:
             if not (function := FUNCTION.match(line)):
                 continue
             indent, name = function[1], function[2]
-            begin = next(i for i in range(number, len(lines)) if lines[i].endswith("{") or lines[i].rstrip().endswith(";"))
+            # (a law has an empty body, on a line of its own)
+            begin = next(i for i in range(number, len(lines)) if lines[i].rstrip().endswith(("{", "{}", ";")))
             if lines[begin].endswith("{"):
                 end = next(i for i in range(begin + 1, len(lines)) if lines[i] == indent + "}")
                 found[owner + name] = "\n".join(lines[begin + 1 : end])
