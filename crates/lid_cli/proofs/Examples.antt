@@ -1,7 +1,7 @@
 -- Some words, and the jobs that they are by the definitions alone.
 use Rattle.std.proofs.Common.{◌≡◌, refl, [], ◌∷◌, Some, None, codes}
 use Rattle.clap.proofs.OnLiterals.{clap_on_literals}
-use Rattle.lid_cli.specs.declared.job.Job.TheVariants.{Check, Clock, Gen, Place, Rate, Strict, Verify}
+use Rattle.lid_cli.specs.declared.job.Job.TheVariants.{Check, Clock, Gen, Place, Rate, Strict, Verify, Walk}
 use Rattle.lid_base.specs.Numbers.{number_below}
 use Rattle.lid_cli.specs.Reading.{lid_app, given_in}
 use Rattle.lid_cli.specs.Jobs.{is_given, is_tallied, files_in, file_at, name_in, seed_in, number_if, number_or, clock_job, is_allowed, has_only, has_each, is_within, fits, option_fits, has_both, has_form, job_made, job_formed, form_in, job_given, job_of}
@@ -35,8 +35,8 @@ place_with_reach : job_of (codes "place" ∷ codes "a" ∷ codes "--wires" ∷ c
 unfolding words_on_literals
 place_with_reach = refl
 
--- `walk a b --schedule s`, which is not built yet
-walk_with_schedule : job_of (codes "walk" ∷ codes "a" ∷ codes "b" ∷ codes "--schedule" ∷ codes "s" ∷ []) ≡ None
+-- `walk a b --schedule s`
+walk_with_schedule : job_of (codes "walk" ∷ codes "a" ∷ codes "b" ∷ codes "--schedule" ∷ codes "s" ∷ []) ≡ Some (Walk (codes "a") (codes "b") (codes "s") None None)
 unfolding words_on_literals
 walk_with_schedule = refl
 

@@ -6,11 +6,11 @@ use Rattle.std.specs.List.{list_all, list_any}
 use Rattle.std.specs.Str.{bytes_eq}
 use Rattle.clap.specs.Walk.{Row, first_of, all_of}
 use Rattle.lid_base.specs.Numbers.{number}
-use Rattle.lid_cli.specs.declared.table.TheConstants.{COMMAND, FILES, TALLY, ROOT, STATIONS, STALLS, WIRES, WORKERS, REACH, TRACE, SHELLS, RUN}
+use Rattle.lid_cli.specs.declared.table.TheConstants.{COMMAND, FILES, TALLY, ROOT, STATIONS, STALLS, SCHEDULE, WIRES, WORKERS, REACH, TRACE, SHELLS, RUN}
 use Rattle.lid_cli.specs.declared.table.Command.{Command}
 use Rattle.lid_cli.specs.declared.table.Command.TheVariants as command
 use Rattle.lid_cli.specs.declared.job.Job.{Job}
-use Rattle.lid_cli.specs.declared.job.Job.TheVariants.{Check, Clock, Gen, Place, Rate, Strict, Unwave, Verify, Wave}
+use Rattle.lid_cli.specs.declared.job.Job.TheVariants.{Check, Clock, Gen, Place, Rate, Strict, Unwave, Verify, Walk, Wave}
 use Rattle.lid_cli.specs.Table.{Form, form, table, Range, range, ranges}
 use Rattle.lid_cli.specs.Reading.{option_names, given_in}
 
@@ -149,6 +149,10 @@ unwave_job found = Some (Unwave (file_at 0 found))
 abbrev pub verify_job : List Row → Option Job
 verify_job found = Some (Verify (file_at 0 found) (file_at 1 found) (first_of STATIONS.now found) (root_in found))
 
+-- the job of `walk`
+abbrev pub walk_job : List Row → Option Job
+walk_job found = Some (Walk (file_at 0 found) (file_at 1 found) (name_in SCHEDULE.now found) (first_of STATIONS.now found) (root_in found))
+
 -- the job of `wave`
 abbrev pub wave_job : List Row → Option Job
 wave_job found = Some (Wave (file_at 0 found) (file_at 1 found) (first_of STATIONS.now found) (number_or 1 TRACE.now found) (root_in found))
@@ -162,6 +166,7 @@ job_made command.Rate found = rate_job found
 job_made command.Verify found = verify_job found
 job_made command.Place found = place_job found
 job_made command.Gen found = gen_job found
+job_made command.Walk found = walk_job found
 job_made command.Wave found = wave_job found
 job_made command.Unwave found = unwave_job found
 job_made unbuilt found = None

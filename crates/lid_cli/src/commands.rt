@@ -2,11 +2,11 @@
 
 ghost use Rattle.std.specs.Prelude.{◌≡◌, IfOk};
 ghost use Rattle.lid_cli.specs.Reading.{matches_in};
-ghost use Rattle.lid_cli.specs.Jobs.{file_at, root_in, seed_in, number_if, number_or, check_job, gen_job, place_job, rate_job, strict_job, unwave_job, verify_job, wave_job, plain_clock_job, clock_job};
+ghost use Rattle.lid_cli.specs.Jobs.{file_at, root_in, seed_in, number_if, number_or, check_job, gen_job, place_job, rate_job, strict_job, unwave_job, verify_job, walk_job, wave_job, plain_clock_job, clock_job};
 
 use crate::given::{file_at, file_text, is_given, root_of, text_if_given, text_of, value_of};
 use crate::job::Job;
-use crate::table::{REACH, RUN, SHELLS, STALLS, STATIONS, TRACE, WIRES, WORKERS};
+use crate::table::{REACH, RUN, SCHEDULE, SHELLS, STALLS, STATIONS, TRACE, WIRES, WORKERS};
 use clap::ArgMatches;
 use lid_base::{Name, Text, number};
 use std::alloc::{AllocError, Global};
@@ -151,6 +151,22 @@ pub fn unwave_job(alloc: Global, given: &ArgMatches<'_>) -> Result<Option<Job>, 
 {
     let file = file_text(alloc, given, 0)?;
     Ok(Some(Job::Unwave { file }))
+}
+
+/// The job of `walk`.
+pub fn walk_job(alloc: Global, given: &ArgMatches<'_>) -> Result<Option<Job>, AllocError>
+    ensures { IfOk result (λ job. job ≡ walk_job (matches_in given.now)) }
+{
+    let (net, root) = netlist_of(alloc, given)?;
+    let vec = file_text(alloc, given, 1)?;
+    let stations = text_if_given(alloc, given, STATIONS)?;
+    Ok(Some(Job::Walk {
+        net,
+        vec,
+        schedule: text_of(alloc, given, SCHEDULE)?,
+        stations,
+        root,
+    }))
 }
 
 /// The job of `wave`.

@@ -373,6 +373,7 @@ script_of (Place net wires reach root) = place_script net wires reach root
 script_of (Rate net stations root) = rate_script net stations root
 script_of (Strict net vec root) = strict_script net vec root
 script_of (Verify net cert stations root) = verify_script net cert stations root
+script_of (Walk net vec schedule stations root) = walk_script net vec schedule stations root
 script_of (Wave net vec stations trace root) = wave_script net vec stations trace root
 script_of (Unwave file) = unwave_script file
 script_of (Gen seed shells run) = gen_script seed shells run

@@ -67,6 +67,7 @@ writes_early (Place net wires reach root) = false
 writes_early (Rate net stations root) = false
 writes_early (Strict net vec root) = false
 writes_early (Verify net cert stations root) = false
+writes_early (Walk net vec schedule stations root) = false
 writes_early (Wave net vec stations trace root) = false
 writes_early (Unwave file) = false
 writes_early (Gen seed shells run) = false
