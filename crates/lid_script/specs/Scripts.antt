@@ -38,7 +38,7 @@ use Rattle.lid_vcd.specs.Reading.{wave_reading}
 use Rattle.lid_gen.specs.declared.fault.GenFault.{GenFault}
 use Rattle.lid_gen.specs.Designs.{size_fault}
 use Rattle.lid_cli.specs.declared.job.Job.{Job}
-use Rattle.lid_cli.specs.declared.job.Job.TheVariants.{Check, Clock, Gen, Place, Rate, Strict, Unwave, Verify, Wave}
+use Rattle.lid_cli.specs.declared.job.Job.TheVariants.{Check, Clock, Gen, Place, Rate, Strict, Unwave, Verify, Walk, Wave}
 use Rattle.lid_refusals.specs.Faults.{blif_line, rows_line, check_line, net_line, stations_line, cert_line, trace_line, schedule_line, vcd_line, gen_line}
 use Rattle.lid_script.specs.Outputs.{Output, report, strict_output, placed, throughput, verdict, clocked, walked, waved, unwaved, design_of_seed, run_of_seed}
 
