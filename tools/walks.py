@@ -1,0 +1,143 @@
+#!/usr/bin/env python3
+"""Compares `lid walk` with a slow interleaving machine, written from its definition, on random schedules.
+
+    tools/walks.py SEED COUNT STEPS
+
+The machine has two numbers for each actor, how often it has fired and its position; a token is packed from the
+strict table (`Run` of clocks.py). COUNT random designs with random stations and rows are walked along schedules of
+STEPS actors, and as many generated designs of 1 to 12 shells. It stops at the first difference.
+"""
+
+import sys
+import tempfile
+from pathlib import Path
+
+from clocks import Run
+from compare import Maker, rows_text, text_of
+from gen import Draws
+from generated import design
+from rates import Session
+from reference import Judge, Model, Refused, channels, pearls
+
+FULL = 1 << 31
+
+
+class Machine:
+    """All actors at rest, and the stations with their start tokens."""
+
+    def __init__(self, run: Run):
+        self.run = run
+        stations = range(len(run.caps))
+        fill, drain, start = zip(*(run.edges[2 * s] for s in stations)) if stations else ((), (), ())
+        count = len(run.after[0])
+        self.ins = [[s for s in stations if drain[s] == v] for v in range(count)]
+        self.outs = [[s for s in stations if fill[s] == v] for v in range(count)]
+        self.fill, self.drain = fill, drain
+        self.start = [m if run.rows else 0 for m in start]
+        self.fired, self.position = [0] * count, [0] * count
+
+    def cap(self, v: int) -> int:
+        return max(self.run.rows - 1, 0) if v < self.run.nodes - 1 else self.run.rows
+
+    def taken(self, s: int) -> int:
+        v = self.drain[s]
+        done = len(self.ins[v]) + len(self.outs[v]) + self.ins[v].index(s) < self.position[v]
+        return self.fired[v] + done
+
+    def put(self, s: int) -> int:
+        v = self.fill[s]
+        done = 2 * len(self.ins[v]) + len(self.outs[v]) + self.outs[v].index(s) < self.position[v]
+        return self.start[s] + self.fired[v] + done
+
+    def token(self, s: int, i: int) -> int:
+        return sum(self.run.table[i][column] << j for j, column in enumerate(self.run.ports[s]))
+
+    def word(self, s: int, i: int) -> str:
+        """The word that has the place of token i, by what the station holds."""
+        held = {j % self.run.caps[s]: self.token(s, j) | FULL for j in range(self.taken(s), self.put(s))}
+        low = i % self.run.caps[s] // 2 * 2
+        return f"{held.get(low, 0) | held.get(low + 1, 0) << 32:016x}"
+
+    def found_nothing(self, v: int, told: str) -> str:
+        self.position[v] = 0
+        return told
+
+    def moved(self, v: int, told: str) -> str:
+        self.position[v] += 1
+        if self.position[v] < 2 * (len(self.ins[v]) + len(self.outs[v])):
+            return told
+        self.position[v] = 0
+        self.fired[v] += 1
+        return told + " fired"
+
+    def looked(self, v: int, told: str) -> str:
+        self.position[v] += 1
+        return told
+
+    def step(self, v: int) -> str:
+        ins, outs, at = self.ins[v], self.outs[v], self.position[v]
+        if at == 0 and self.fired[v] == self.cap(v):
+            return "done"
+        if not ins and not outs:
+            self.fired[v] += 1
+            return "fired"
+        if at < len(ins):
+            s = ins[at]
+            i = self.taken(s)
+            if i == self.put(s):
+                return self.found_nothing(v, f"void {s} {self.word(s, i)}")
+            return self.looked(v, f"token {s} {self.token(s, i)}")
+        at -= len(ins)
+        if at < len(outs):
+            s = outs[at]
+            if self.put(s) - self.taken(s) == self.run.caps[s]:
+                return self.found_nothing(v, f"stop {s} {self.word(s, self.put(s))}")
+            return self.looked(v, f"room {s}")
+        at -= len(outs)
+        if at < len(ins):
+            s = ins[at]
+            return self.moved(v, f"take {s} {self.token(s, self.taken(s))}")
+        s = outs[at - len(ins)]
+        return self.moved(v, f"put {s} {self.token(s, self.put(s))}")
+
+
+def compare_walk(session: Session, models: list[Model], judge: Judge, whole, steps: int):
+    chans, nodes = channels(whole, judge), len(pearls(judge)) + 2
+    name = lambda v: "in" if v == 0 else "out" if v == nodes - 1 else f"u{v - 1}"
+    relays, caps = session.draw_stations([f"{name(a)} {name(b)} {piece}" for a, b, piece, _ in chans])
+    names = judge.data_inputs(judge.root)
+    rows = [[session.dice.randint(0, 1) for _ in names] for _ in range(session.dice.choice([0, 1, 2, 9, 300]))]
+    session.files["net"].write_text(text_of(models))
+    session.files["rows"].write_text(rows_text(names, rows))
+    run = Run(judge, whole, chans, relays, caps, rows)
+    machine = Machine(run)
+    schedule = [session.dice.randrange(len(machine.fired)) for _ in range(steps)]
+    session.files["schedule"].write_text(" ".join(map(str, schedule)) + "\n")
+    lines = "".join(f"{v} {machine.step(v)}\n" for v in schedule)
+    given = run.table[: machine.fired[nodes - 1]]
+    wanted = lines + rows_text(judge.root.outputs, [[row[(), net] for net in judge.root.outputs] for row in given])
+    words = ["walk", session.files["net"], session.files["rows"], "--stations", session.files["stations"]]
+    came = session.run(*words, "--schedule", session.files["schedule"])
+    session.want(came, (wanted, "", 0), " ".join(map(str, words)))
+    for line in lines.splitlines():
+        session.came[line.split()[1] + (" fired" if line.endswith(" fired") else "")] += 1
+
+
+def main():
+    maker, count, steps = Maker(int(sys.argv[1])), int(sys.argv[2]), int(sys.argv[3])
+    with tempfile.TemporaryDirectory() as folder:
+        session = Session(folder, maker.dice)
+        session.files |= {name: Path(folder, name) for name in ("rows", "schedule")}
+        for number in range(2 * count):
+            models = maker.design() if number < count else design(Draws(number), 1 + number % 12)
+            try:
+                judge = Judge(models, models[0])
+                whole = judge.run()
+            except Refused:
+                continue
+            compare_walk(session, models, judge, whole, steps)
+    print(*(f"{count:8} {answer}" for answer, count in session.came.most_common()), sep="\n")
+
+
+if __name__ == "__main__":
+    main()
