@@ -239,7 +239,7 @@ fn refusals_are_told(rt: HostRuntime) {
 }
 
 /// A cell: valid, stop and token.
-type Cell = (bool, bool, u32);
+pub type Cell = (bool, bool, u32);
 
 fn is_cell(cell: &Shown, wanted: &Cell) -> bool {
     cell.valid == wanted.0 && cell.stop == wanted.1 && cell.token == wanted.2
@@ -254,7 +254,7 @@ fn are_cells(cells: &[Shown], wanted: &[Cell]) -> bool {
 }
 
 /// Whether a text shows this trace.
-fn is_shown(alloc: Global, text: &[u8], stations: u32, cycles: u64, cells: &[Cell]) -> bool {
+pub fn is_shown(alloc: Global, text: &[u8], stations: u32, cycles: u64, cells: &[Cell]) -> bool {
     match read(alloc, text) {
         Ok(trace) => {
             trace.stations == stations
