@@ -1,7 +1,8 @@
 //! Stalls as a text.
 
 ghost use Rattle.std.specs.Prelude.{◌≡◌, ◌⊎◌, ◌++◌, ◌∷◌, Ok, Err, Some, None, [], IfOk, IfErr, OnOk, OnErr};
-ghost use Rattle.lid_stall.specs.Stalls.{is_header, stall_by, stall_of, is_after, line_fault, with_stall, lines_reading, all_reading, of_text, stalls_reading};
+ghost use Rattle.lid_stalltext.specs.Stalls.{is_header, stall_by, stall_of, is_after, line_fault, with_stall, lines_reading, all_reading, of_text, stalls_reading};
+ghost use Rattle.lid_stalltext.specs.Holds.{Ascend};
 
 use lid_base::{Items, Line, Name, TextFault, Which, is_same, lines, number, word_at};
 use std::alloc::Global;
@@ -129,6 +130,7 @@ fn push_lines(lines: &[Line], stalls: &mut Vec<Stall>) -> Result<(), StallFault>
 /// The stalls of the lines after the first.
 fn stalls_of(alloc: Global, lines: &[Line]) -> Result<Items<Stall>, StallFault>
     ensures ok { IfOk result (λ stalls. lines_reading [] lines.now ≡ Ok stalls) }
+    ensures ascend { IfOk result Ascend }
     ensures err { IfErr result (λ e. (e ≡ StallFault.Memory) ⊎ (lines_reading [] lines.now ≡ Err e)) }
 {
     let mut stalls = Vec::new(alloc);
@@ -141,6 +143,7 @@ fn stalls_of(alloc: Global, lines: &[Line]) -> Result<Items<Stall>, StallFault>
 /// The stalls of all lines.
 fn all_stalls(alloc: Global, lines: &[Line]) -> Result<Items<Stall>, StallFault>
     ensures ok { IfOk result (λ stalls. all_reading lines.now ≡ Ok stalls) }
+    ensures ascend { IfOk result Ascend }
     ensures err { IfErr result (λ e. (e ≡ StallFault.Memory) ⊎ (all_reading lines.now ≡ Err e)) }
 {
     match lines {
@@ -180,6 +183,7 @@ fn of_text(fault: TextFault) -> StallFault
 #[tactic(auto, unfolding(crate::specs::Stalls::stalls_reading))]
 pub fn read_stalls(alloc: Global, bytes: &[u8]) -> Result<Items<Stall>, StallFault>
     ensures ok { IfOk result (λ stalls. stalls_reading bytes.now ≡ Ok stalls) }
+    ensures ascend { IfOk result Ascend }
     ensures err { IfErr result (λ e. (e ≡ StallFault.Memory) ⊎ (stalls_reading bytes.now ≡ Err e)) }
 {
     if bytes.len() > MOST_BYTES {
