@@ -1,6 +1,6 @@
 -- What stalls cost: a run that they hold ends no earlier than one in which nobody is held, and later by at most a
 -- cycle for each that holds somebody.
-use Rattle.std.proofs.Common.{◌≡◌, ◌⊎◌, inl, inr, ℕ, zero, suc, ◌+◌, ◌-◌, ◌*◌, ◌<◌, ◌≤◌, ◌==◌, ◌||◌, Bool, true, false, cond, List, length, refl, sym, ◌∙◌, ap, subst, true≢false, arith}
+use Rattle.std.proofs.Common.{◌≡◌, ◌⊎◌, inl, inr, ℕ, zero, suc, ◌+◌, ◌-◌, ◌*◌, ◌<◌, ◌≤◌, ◌==◌, ◌||◌, Bool, true, false, cond, List, length, slice_get, refl, sym, ◌∙◌, ap, subst, arith}
 use Rattle.std.proofs.lemmas.Nat.{mul-le}
 use Rattle.std.proofs.lemmas.Bool.{cases_lt, eq-eqb, eqb-true}
 use Rattle.lid_graph.specs.declared.graph.Graph.{Graph}
@@ -18,8 +18,10 @@ use Rattle.lid_runs.proofs.Caps.{cap_of_sink}
 use Rattle.lid_runs.proofs.Ending.{ends, ends_within_lag}
 use Rattle.lid_clock.specs.Lives.{Life, IsLife, IsBelow, fired_after, sink}
 use Rattle.lid_stalltext.specs.declared.stalls.Stall.{Stall}
-use Rattle.lid_stalltext.specs.Holds.{holds_source, holds_sink, stall_hold}
+use Rattle.lid_stalltext.specs.Holds.{holds_source, holds_sink, stalled_by, Ascend}
+use Rattle.lid_stall.specs.Places.{due_of, place_after, Divides}
 use Rattle.lid_stall.specs.Runs.{IsHeldBy, holds_one, stalled_after, IsOverBy}
+use Rattle.lid_stall.proofs.Walking.{source_due, sink_due, divides_on, counted_moves}
 
 or_left : (a b : Bool) → a ≡ true → (a || b) ≡ true
 or_left true b is = refl
@@ -56,6 +58,15 @@ module _ (l : Life) (rules : IsLife l) (stalls : List Stall) (by : IsHeldBy l st
       by k (sink l)
       ∙ ap (λ (b : Bool). cond b (holds_source stalls k) (cond (sink l == sink l) (holds_sink stalls k) false)) sink_last
       ∙ ap (λ (b : Bool). cond b (holds_sink stalls k) false) (eq-eqb (sink l) (sink l) refl)
+
+  one_held : (k : ℕ) → holds_one l k ≡ (holds_source stalls k || holds_sink stalls k)
+  one_held k = ap (λ (b : Bool). b || l.hold k (sink l)) (source_held k) ∙ ap (λ (b : Bool). holds_source stalls k || b) (sink_held k)
+
+  -- the cycles in which stalls hold somebody are those that hold somebody
+  pub stalled_is : (k : ℕ) → stalled_after l k ≡ stalled_by stalls k
+  unfolding held_below
+  stalled_is zero = refl
+  stalled_is (suc k) = ap (λ (b : Bool). stalled_after l k + cond b 1 0) (one_held k) ∙ ap (λ (n : ℕ). n + cond (holds_source stalls k || holds_sink stalls k) 1 0) (stalled_is k)
 
   -- nobody else is held
   names : NamesHeld l.hold (holds_one l)
@@ -107,6 +118,7 @@ module _ (l : Life) (rules : IsLife l) (stalls : List Stall) (by : IsHeldBy l st
 
   -- after the last of the cycles that are needed the run is over
   pub is_over : (k : ℕ) → ((j : ℕ) → j < k → IsBelow l j) → (IsBelow l k → ⊥) → IsOverBy l k
+  unfolding held_below
   is_over k needed ended =
       record {
         all = all;
@@ -139,10 +151,59 @@ module _ (l : Life) (rules : IsLife l) (stalls : List Stall) (by : IsHeldBy l st
           omega (arith, first.reached, sink_cap)
 
       most : (n : ℕ) → ((j : ℕ) → j < n → IsBelow l j) → n ≤ cycles + stalled_after l n
-      unfolding held_below
       most zero _ = omega arith
       most (suc j) below = by_order (cases_lt (j - stalled_after l j) cycles)
         where
           by_order : (j - stalled_after l j < cycles) ⊎ (cycles ≤ j - stalled_after l j) → suc j ≤ cycles + stalled_after l (suc j)
           by_order (inl less) = omega arith
           by_order (inr past) = absurd (omega (arith, late (j - stalled_after l j) past, behind j, below j (omega arith)))
+
+-- before the first cycle no stall is past
+pub begun : (stalls : List Stall) → Divides stalls 0 0
+begun stalls = record { most = omega arith; before = λ i stall less is. absurd (omega arith); after = λ i stall least is. omega arith }
+
+pub none_stalled : (l : Life) → 0 ≡ stalled_after l 0
+unfolding held_below
+none_stalled l = refl
+
+-- how a cycle counts as stalled
+pub counts_on : (l : Life) (rules : IsLife l) (stalls : List Stall) (by : IsHeldBy l stalls) (place k : ℕ) (ascends : Ascend stalls) (at : Divides stalls place k)
+    → stalled_after l (suc k) ≡ stalled_after l k + cond ((due_of (slice_get stalls place) k).source || (due_of (slice_get stalls place) k).sink) 1 0
+unfolding held_below
+counts_on l rules stalls by place k ascends at =
+    ap (λ (b : Bool). stalled_after l k + cond b 1 0)
+    (one_held l rules stalls by k ∙ ap (λ (b : Bool). b || holds_sink stalls k) (source_due stalls place k ascends at)
+    ∙ ap (λ (b : Bool). (due_of (slice_get stalls place) k).source || b) (sink_due stalls place k ascends at))
+
+-- stalls hold somebody in no more cycles than there are stalls
+record HasPassed (l : Life) (stalls : List Stall) (k : ℕ) : Type 0 where
+  place : ℕ
+  at : Divides stalls place k
+  few : stalled_after l k ≤ place
+
+module _ (l : Life) (rules : IsLife l) (stalls : List Stall) (by : IsHeldBy l stalls) (ascends : Ascend stalls) where
+  passed : (k : ℕ) → HasPassed l stalls k
+  unfolding held_below
+  passed zero = record { place = 0; at = begun stalls; few = omega arith }
+  passed (suc k) = on (passed k)
+    where
+      on : HasPassed l stalls k → HasPassed l stalls (suc k)
+      on has = record {
+        place = place_after (slice_get stalls has.place) has.place k;
+        at = divides_on stalls has.place k ascends has.at;
+        few = omega (arith, has.few, counts_on l rules stalls by has.place k ascends has.at, counted_moves (slice_get stalls has.place) has.place k);
+      }
+
+  pub few_stalled : (k : ℕ) → stalled_after l k ≤ length stalls
+  few_stalled k = let has = passed k in omega (arith, has.few, has.at.most)
+
+  -- so the run ends
+  pub ends_at : (k : ℕ) → actor_count (links_of l.system) l.placement * length l.input + length stalls ≤ k → fired_after l k (sink l) ≡ length l.input
+  ends_at k late = omega (arith, over, sinks_few l rules stalls by k)
+    where
+      over : length l.input ≤ fired_after l k (sink l)
+      over = by_order (cases_lt (fired_after l k (sink l)) (length l.input))
+        where
+          by_order : (fired_after l k (sink l) < length l.input) ⊎ (length l.input ≤ fired_after l k (sink l)) → length l.input ≤ fired_after l k (sink l)
+          by_order (inl below) = absurd (omega (arith, before_end l rules stalls by k below, few_stalled k))
+          by_order (inr past) = past

@@ -1,15 +1,13 @@
 //! The clocked run that stalls hold.
 
-ghost use Rattle.std.specs.Prelude.{◌≡◌, ◌↔◌, ℕ, suc, ◌+◌, ◌<◌, true, false, ◌||◌, if◌then◌else◌, Some, slice_get};
+ghost use Rattle.std.specs.Prelude.{◌≡◌, ◌↔◌, ℕ, suc, ◌+◌, ◌^◌, ◌<◌, true, false, ◌||◌, if◌then◌else◌, Some, slice_get};
 ghost use Rattle.lid_stations.specs.Placements.{links_of, station_count};
 ghost use Rattle.lid_stations.specs.Stations.{actor_count};
-ghost use Rattle.lid_system.specs.declared.System.{System};
 ghost use Rattle.lid_clock.specs.Lives.{Life, IsWide, NeedsRow, IsBelow, IsLast, fired_after, shown_after};
 ghost use Rattle.lid_clock.specs.Ran.{Ran, lent};
 ghost use Rattle.lid_stalltext.specs.Holds.{Ascend};
 ghost use Rattle.lid_stall.specs.Places.{due_of, place_after};
 ghost use Rattle.lid_stall.specs.Runs.{IsHeldBy, IsOverBy, RanHeld, stalled_after};
-
 
 use lid_base::{Items, Shown};
 use lid_clock::ClockStream;
@@ -60,11 +58,10 @@ fn counted(stall: Stall) -> u64
 }
 
 impl Held {
-    /// A run in which these stalls hold the source and the sink. The stream has made no cycle, and the
-    /// cycles of the stalls ascend.
+    /// A run in which these stalls, whose cycles ascend, hold the source and the sink. The stream has made
+    /// no cycle.
     pub fn start(stream: ClockStream, stalls: Items<Stall>) -> Held
-        requires begins { (l : Life) × (g : ℕ) × Ran l 0 g stream }
-        requires ascend { Ascend stalls }
+        requires { Ascend stalls }
         ensures { (l : Life) (g : ℕ) → Ran l 0 g stream → IsHeldBy l stalls → RanHeld l 0 g result }
     {
         Held {
@@ -87,6 +84,7 @@ impl Held {
         ensures made { (l : Life) (k g : ℕ) → RanHeld l k g self.old → (result ≡ true) ↔ IsBelow l k }
         ensures over { (l : Life) (k g : ℕ) → RanHeld l k g self.old → result ≡ false → IsOverBy l k }
         ensures kept { result ≡ false → self.new ≡ self.old }
+        ensures counts { (l : Life) (k g : ℕ) → RanHeld l k g self.old → result ≡ true → k + 1 < 2 ^ 64 }
     {
         let stall = due(self.stalls.as_slice(), self.next, self.made);
         if !self.stream.cycle_held(stall.source, stall.sink) {
@@ -96,6 +94,13 @@ impl Held {
         self.stalled += counted(stall);
         self.made += 1;
         true
+    }
+
+    /// Whether the sink has fired fewer times than there are rows.
+    pub fn below(&self) -> bool
+        ensures { (l : Life) (k g : ℕ) → RanHeld l k g self.now → (result ≡ true) ↔ IsBelow l k }
+    {
+        self.stream.below()
     }
 
     /// How many cycles were made in which the source or the sink was held.

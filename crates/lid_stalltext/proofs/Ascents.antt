@@ -1,17 +1,15 @@
 -- The cycles of stalls that are read ascend.
-use Rattle.std.proofs.Common.{◌≡◌, ◌⊎◌, inl, inr, ℕ, zero, suc, ◌<◌, Bool, true, false, cond, List, [], ◌∷◌, ◌++◌, length, Option, Some, None, Result, Ok, Err, slice_get, refl, sym, ◌∙◌, ap, subst, arith}
+use Rattle.std.proofs.Common.{◌≡◌, ◌⊎◌, inl, inr, ℕ, zero, suc, ◌<◌, Bool, true, false, cond, List, [], ◌∷◌, ◌++◌, length, Option, Some, None, Ok, slice_get, refl, ap, subst, arith}
 use Rattle.std.proofs.lemmas.Bool.{ltb-true}
 use Rattle.std.proofs.lemmas.Option.{slice_get_within}
 use Rattle.lid_base.specs.declared.line.Line.{Line}
 use Rattle.lid_stalltext.specs.declared.stalls.Stall.{Stall}
-use Rattle.lid_stalltext.specs.declared.stalls.StallFault.{StallFault}
 use Rattle.lid_stalltext.specs.declared.stalls.StallFault.TheVariants.{Order}
 use Rattle.lid_stalltext.specs.Stalls.{stall_of, is_after, line_fault, with_stall, unless, lines_reading}
 use Rattle.lid_stalltext.specs.Holds.{Ascend}
 
 ascend_after : (stall : Stall) (stalls : List Stall) → Ascend (stall ∷ stalls) → Ascend stalls
 ascend_after stall stalls ascends i j one other less here there = ascends (suc i) (suc j) one other (omega arith) here there
-
 
 -- a cycle after the last of stalls that ascend is after each of them
 pub after_all : (stalls : List Stall) (cycle : ℕ) → Ascend stalls → is_after stalls cycle ≡ true

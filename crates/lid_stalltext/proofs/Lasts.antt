@@ -1,5 +1,5 @@
 -- The last of some stalls.
-use Rattle.std.proofs.Common.{◌≡◌, ℕ, zero, suc, ◌+◌, ◌-◌, ◌<◌, nat_lt, List, [], ◌∷◌, length, get_or, refl, ap, ◌∙◌, arith}
+use Rattle.std.proofs.Common.{◌≡◌, ℕ, suc, ◌-◌, ◌<◌, nat_lt, List, [], ◌∷◌, length, get_or, refl, ap, ◌∙◌, arith}
 use Rattle.lid_stalltext.specs.declared.stalls.Stall.{Stall}
 use Rattle.lid_stalltext.specs.Stalls.{is_after}
 
