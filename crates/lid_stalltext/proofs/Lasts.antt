@@ -1,7 +1,7 @@
 -- The last of some stalls.
 use Rattle.std.proofs.Common.{◌≡◌, ℕ, zero, suc, ◌+◌, ◌-◌, ◌<◌, nat_lt, List, [], ◌∷◌, length, get_or, refl, ap, ◌∙◌, arith}
-use Rattle.lid_stall.specs.declared.stalls.Stall.{Stall}
-use Rattle.lid_stall.specs.Stalls.{is_after}
+use Rattle.lid_stalltext.specs.declared.stalls.Stall.{Stall}
+use Rattle.lid_stalltext.specs.Stalls.{is_after}
 
 pub after_last : (stalls : List Stall) (cycle : ℕ) (d : Stall) → 0 < length stalls → nat_lt (get_or stalls (length stalls - 1) d).cycle cycle ≡ is_after stalls cycle
 after_last [] cycle d some = absurd (omega arith)

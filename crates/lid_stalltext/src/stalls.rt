@@ -1,7 +1,7 @@
 //! Stalls as a text.
 
 ghost use Rattle.std.specs.Prelude.{◌≡◌, ◌⊎◌, ◌++◌, ◌∷◌, Ok, Err, Some, None, [], IfOk, IfErr, OnOk, OnErr};
-ghost use Rattle.lid_stall.specs.Stalls.{is_header, stall_by, stall_of, is_after, line_fault, with_stall, lines_reading, all_reading, of_text, stalls_reading};
+ghost use Rattle.lid_stalltext.specs.Stalls.{is_header, stall_by, stall_of, is_after, line_fault, with_stall, lines_reading, all_reading, of_text, stalls_reading};
 
 use lid_base::{Items, Line, Name, TextFault, Which, is_same, lines, number, word_at};
 use std::alloc::Global;

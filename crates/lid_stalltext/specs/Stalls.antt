@@ -7,9 +7,9 @@ use Rattle.lid_base.specs.declared.which.Which.TheVariants.{FileBytes}
 use Rattle.lid_base.specs.Lines.{logical_lines, text_fault}
 use Rattle.lid_base.specs.Numbers.{number}
 use Rattle.lid_base.specs.Words.{word_at}
-use Rattle.lid_stall.specs.declared.stalls.Stall.{Stall}
-use Rattle.lid_stall.specs.declared.stalls.StallFault.{StallFault}
-use Rattle.lid_stall.specs.declared.stalls.StallFault.TheVariants.{Limit, Word, Order}
+use Rattle.lid_stalltext.specs.declared.stalls.Stall.{Stall}
+use Rattle.lid_stalltext.specs.declared.stalls.StallFault.{StallFault}
+use Rattle.lid_stalltext.specs.declared.stalls.StallFault.TheVariants.{Limit, Word, Order}
 
 -- the first line: `lid-stalls 1`
 abbrev pub is_header : List (List ℕ) → Bool
