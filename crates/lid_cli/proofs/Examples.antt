@@ -21,9 +21,14 @@ unfolding words_on_literals
 strict_with_root = refl
 
 -- `clock a b --trace 7 --stations s`
-clock_with_trace : job_of (codes "clock" ∷ codes "a" ∷ codes "b" ∷ codes "--trace" ∷ codes "7" ∷ codes "--stations" ∷ codes "s" ∷ []) ≡ Some (Clock (codes "a") (codes "b") (Some (codes "s")) (Some 7) None)
+clock_with_trace : job_of (codes "clock" ∷ codes "a" ∷ codes "b" ∷ codes "--trace" ∷ codes "7" ∷ codes "--stations" ∷ codes "s" ∷ []) ≡ Some (Clock (codes "a") (codes "b") (Some (codes "s")) None (Some 7) None)
 unfolding words_on_literals
 clock_with_trace = refl
+
+-- `clock a b --stalls h`
+clock_with_stalls : job_of (codes "clock" ∷ codes "a" ∷ codes "b" ∷ codes "--stalls" ∷ codes "h" ∷ []) ≡ Some (Clock (codes "a") (codes "b") None (Some (codes "h")) None None)
+unfolding words_on_literals
+clock_with_stalls = refl
 
 -- `clock a b --workers 2`, which is not built yet
 clock_on_workers : job_of (codes "clock" ∷ codes "a" ∷ codes "b" ∷ codes "--workers" ∷ codes "2" ∷ []) ≡ None

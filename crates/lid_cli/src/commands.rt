@@ -48,28 +48,30 @@ fn number_or(given: &ArgMatches<'_>, option: &str, other: u64) -> u64
     number_if(given, option).unwrap_or(other)
 }
 
-/// The job of `clock` without stalls and on no workers.
+/// The job of `clock` on no workers.
 fn plain_clock_job(alloc: Global, given: &ArgMatches<'_>) -> Result<Option<Job>, AllocError>
     ensures { IfOk result (λ job. job ≡ plain_clock_job (matches_in given.now)) }
 {
     let (net, root) = netlist_of(alloc, given)?;
     let vec = file_text(alloc, given, 1)?;
     let stations = text_if_given(alloc, given, STATIONS)?;
+    let stalls = text_if_given(alloc, given, STALLS)?;
     Ok(Some(Job::Clock {
         net,
         vec,
         stations,
+        stalls,
         trace: number_if(given, TRACE),
         root,
     }))
 }
 
-/// The job of `clock`; one with stalls or on workers is not built yet.
+/// The job of `clock`; one on workers is not built yet.
 #[tactic(auto, unfolding(crate::specs::Jobs::clock_job))]
 pub fn clock_job(alloc: Global, given: &ArgMatches<'_>) -> Result<Option<Job>, AllocError>
     ensures { IfOk result (λ job. job ≡ clock_job (matches_in given.now)) }
 {
-    if is_given(given, STALLS) || is_given(given, WORKERS) {
+    if is_given(given, WORKERS) {
         Ok(None)
     } else {
         plain_clock_job(alloc, given)
