@@ -1,8 +1,110 @@
-//! Waves and generated designs, through the top call. What is expected is worked out by hand from the strict tables
-//! and the draws.
+//! Walks, waves and generated designs, through the top call. What is expected is worked out by hand from the strict
+//! tables, from the numbers of the interleaving machine, and from the draws.
 
-use crate::tests::{Left, NONE_FAILS, REGISTER, done, expect_run};
+use crate::net_tests::RING;
+use crate::tests::{Left, NONE_FAILS, REGISTER, done, ended, expect_run};
 use std::test::Fail;
+
+/// Walks: netlist, rows, stations, schedule, and what is printed.
+type Walk = (
+    &'static str,
+    &'static str,
+    &'static str,
+    &'static str,
+    &'static str,
+);
+
+static WALKS: &[Walk] = &[
+    // the source fires once, and then its station is full
+    (
+        REGISTER,
+        "d\n1\n0\n1\n",
+        "lid-stations 1\n",
+        "0 0 0\n",
+        "0 room 0\n0 put 0 0 fired\n0 stop 0 8000000080000001\nq\n",
+    ),
+    // the shell takes the start token, puts, and finds no other
+    (
+        REGISTER,
+        "d\n1\n0\n1\n",
+        "lid-stations 1\n",
+        "1 1 1\n1 1\n",
+        "1 token 0 1\n1 room 1\n1 take 0 1\n1 put 1 1 fired\n1 void 0 0000000000000000\nq\n",
+    ),
+    // a mover carries the start token on, and the sink sees it
+    (
+        REGISTER,
+        "d\n1\n0\n1\n",
+        "lid-stations 1\nu0 out 0 1\n",
+        "3 3 3 3 2\n",
+        "3 token 1 0\n3 room 2\n3 take 1 0\n3 put 2 0 fired\n2 token 2 0\nq\n",
+    ),
+    // without rows all is done
+    (
+        REGISTER,
+        "d\n",
+        "lid-stations 1\n",
+        "0 1 2\n",
+        "0 done\n1 done\n2 done\nq\n",
+    ),
+    (REGISTER, "d\n1\n0\n1\n", "lid-stations 1\n", "", "q\n"),
+    // three places: two words, of which the first is full
+    (
+        REGISTER,
+        "d\n1\n0\n1\n1\n",
+        "lid-stations 2\nin u0 0 0 3\n",
+        "0 0 0 0 0\n",
+        "0 room 0\n0 put 0 0 fired\n0 room 0\n0 put 0 1 fired\n0 stop 0 8000000080000001\nq\n",
+    ),
+    // the sink of the ring takes the start token of its station, which is its first row
+    (
+        RING,
+        "-\n-\n-\n",
+        "lid-stations 1\n",
+        "3 3 3 0\n",
+        "3 token 2 1\n3 take 2 1 fired\n3 void 2 0000000000000000\n0 fired\ny\n1\n",
+    ),
+];
+
+#[test]
+fn schedules_are_walked_step_by_step(rt: HostRuntime) -> Result<(), Fail> {
+    for (net, rows, stations, schedule, told) in WALKS {
+        let files = [
+            ("n.blif", *net),
+            ("r.vec", *rows),
+            ("s", *stations),
+            ("w", *schedule),
+        ];
+        let words = [
+            "walk",
+            "n.blif",
+            "r.vec",
+            "--stations",
+            "s",
+            "--schedule",
+            "w",
+        ];
+        expect_run(&rt, &words, &files, NONE_FAILS, done(told))?;
+    }
+    Ok(())
+}
+
+/// Schedules that do not read, and the lines that are told.
+static SCHEDULES: &[(&str, &str)] = &[
+    ("0 9\n", "lid: schedule NoActor 1\n"),
+    ("0\n\n1 x\n", "lid: schedule Word 3\n"),
+    ("0\n01\n", "lid: schedule Word 2\n"),
+];
+
+#[test]
+fn schedules_that_do_not_read_are_told(rt: HostRuntime) -> Result<(), Fail> {
+    for (schedule, line) in SCHEDULES {
+        let files = [("n.blif", REGISTER), ("r.vec", "d\n1\n"), ("w", *schedule)];
+        let words = ["walk", "n.blif", "r.vec", "--schedule", "w"];
+        expect_run(&rt, &words, &files, NONE_FAILS, ended(1, line))?;
+    }
+    Ok(())
+}
 
 /// The dump of two cycles of a register.
 const DUMP: &str = "$timescale 1 ns $end\n$scope module lid $end\n$var wire 1 ! s0_valid $end\n\
@@ -37,8 +139,8 @@ fn dumps_are_read_as_traces(rt: HostRuntime) -> Result<(), Fail> {
         let files = [("t.vcd", *dump)];
         let left = Left {
             status: *status,
-            out: *out,
-            err: *err,
+            out,
+            err,
         };
         expect_run(&rt, &["unwave", "t.vcd"], &files, NONE_FAILS, left)?;
     }
@@ -67,8 +169,8 @@ fn designs_are_made_of_seeds(rt: HostRuntime) -> Result<(), Fail> {
     for (seed, shells, status, out, err) in SEEDS {
         let left = Left {
             status: *status,
-            out: *out,
-            err: *err,
+            out,
+            err,
         };
         let words = ["gen", seed, "--shells", shells];
         expect_run(&rt, &words, &[], NONE_FAILS, left)?;

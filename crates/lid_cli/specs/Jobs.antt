@@ -6,11 +6,11 @@ use Rattle.std.specs.List.{list_all, list_any}
 use Rattle.std.specs.Str.{bytes_eq}
 use Rattle.clap.specs.Walk.{Row, first_of, all_of}
 use Rattle.lid_base.specs.Numbers.{number}
-use Rattle.lid_cli.specs.declared.table.TheConstants.{COMMAND, FILES, TALLY, ROOT, STATIONS, STALLS, WIRES, WORKERS, REACH, TRACE, SHELLS, RUN}
+use Rattle.lid_cli.specs.declared.table.TheConstants.{COMMAND, FILES, TALLY, ROOT, STATIONS, STALLS, SCHEDULE, WIRES, WORKERS, REACH, TRACE, SHELLS, RUN}
 use Rattle.lid_cli.specs.declared.table.Command.{Command}
 use Rattle.lid_cli.specs.declared.table.Command.TheVariants as command
 use Rattle.lid_cli.specs.declared.job.Job.{Job}
-use Rattle.lid_cli.specs.declared.job.Job.TheVariants.{Check, Clock, Gen, Place, Rate, Strict, Unwave, Verify, Wave}
+use Rattle.lid_cli.specs.declared.job.Job.TheVariants.{Check, Clock, Gen, Place, Rate, Strict, Unwave, Verify, Walk, Wave}
 use Rattle.lid_cli.specs.Table.{Form, form, table, Range, range, ranges}
 use Rattle.lid_cli.specs.Reading.{option_names, given_in}
 
@@ -113,13 +113,9 @@ number_if option found = option_and_then number (first_of option found)
 unfoldable pub number_or : ℕ → List ℕ → List Row → ℕ
 number_or other option found = unwrap_or (number_if option found) other
 
--- the job of `clock` without stalls and on no workers
-abbrev pub plain_clock_job : List Row → Option Job
-plain_clock_job found = Some (Clock (file_at 0 found) (file_at 1 found) (first_of STATIONS.now found) (number_if TRACE.now found) (root_in found))
-
--- the job of `clock`; one with stalls or on workers is not built yet
-unfoldable pub clock_job : List Row → Option Job
-clock_job found = if is_given found STALLS.now || is_given found WORKERS.now then None else plain_clock_job found
+-- the job of `clock`
+abbrev pub clock_job : List Row → Option Job
+clock_job found = Some (Clock (file_at 0 found) (file_at 1 found) (first_of STATIONS.now found) (first_of STALLS.now found) (number_or 1 WORKERS.now found) (number_if TRACE.now found) (root_in found))
 
 -- the seed that stands in the first place
 unfoldable pub seed_in : List Row → ℕ
@@ -149,6 +145,10 @@ unwave_job found = Some (Unwave (file_at 0 found))
 abbrev pub verify_job : List Row → Option Job
 verify_job found = Some (Verify (file_at 0 found) (file_at 1 found) (first_of STATIONS.now found) (root_in found))
 
+-- the job of `walk`
+abbrev pub walk_job : List Row → Option Job
+walk_job found = Some (Walk (file_at 0 found) (file_at 1 found) (name_in SCHEDULE.now found) (first_of STATIONS.now found) (root_in found))
+
 -- the job of `wave`
 abbrev pub wave_job : List Row → Option Job
 wave_job found = Some (Wave (file_at 0 found) (file_at 1 found) (first_of STATIONS.now found) (number_or 1 TRACE.now found) (root_in found))
@@ -162,6 +162,7 @@ job_made command.Rate found = rate_job found
 job_made command.Verify found = verify_job found
 job_made command.Place found = place_job found
 job_made command.Gen found = gen_job found
+job_made command.Walk found = walk_job found
 job_made command.Wave found = wave_job found
 job_made command.Unwave found = unwave_job found
 job_made unbuilt found = None
@@ -190,9 +191,13 @@ job_of words = option_and_then job_given (given_in words)
 abbrev pub IsTraceLong : ℕ → Type 0
 IsTraceLong cycles = (1 ≤ cycles) × (cycles ≤ 1048576)
 
+-- there are some workers and not too many
+abbrev pub AreFew : ℕ → Type 0
+AreFew workers = (1 ≤ workers) × (workers ≤ 64)
+
 -- numbers are in their ranges
 abbrev pub IsSound : Job → Type 0
-IsSound (Clock net vec stations trace root) = IfSome trace IsTraceLong
+IsSound (Clock net vec stations stalls workers trace root) = AreFew workers × IfSome trace IsTraceLong
 IsSound (Gen seed shells run) = (shells ≤ 4294967295) × IfSome run (λ rows. (1 ≤ rows) × (rows ≤ 1000000))
 IsSound (Place net wires reach root) = 1 ≤ reach
 IsSound (Wave net vec stations trace root) = IsTraceLong trace

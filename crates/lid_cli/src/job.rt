@@ -7,7 +7,7 @@ ghost use Rattle.lid_cli.specs.Jobs.{IsSound, option_fits, form_shown, job_made,
 
 use crate::commands::{
     check_job, clock_job, gen_job, place_job, rate_job, strict_job, unwave_job, verify_job,
-    wave_job,
+    walk_job, wave_job,
 };
 use crate::form::{form_of, has_form};
 use crate::reader::parse;
@@ -34,6 +34,10 @@ pub enum Job {
         vec: Text,
         /// The name of the file with the stations, as for `rate`.
         stations: Option<Text>,
+        /// The name of the file with the stalls, where the environment stalls.
+        stalls: Option<Text>,
+        /// The number of workers, 1 to 64; 1 where stalls are given.
+        workers: u64,
         /// The number of cycles of the trace, 1 to 1,048,576, where one is asked for.
         trace: Option<u64>,
         /// The name of the model that is to be the root, as for `strict`.
@@ -94,6 +98,19 @@ pub enum Job {
         /// The name of the model that is to be the root, as for `strict`.
         root: Option<Name>,
     },
+    /// `walk NET VEC --schedule FILE`: what the actors answer, step by step, along a schedule.
+    Walk {
+        /// The name of the file with the netlist.
+        net: Text,
+        /// The name of the file with the rows.
+        vec: Text,
+        /// The name of the file with the schedule.
+        schedule: Text,
+        /// The name of the file with the stations, as for `rate`.
+        stations: Option<Text>,
+        /// The name of the model that is to be the root, as for `strict`.
+        root: Option<Name>,
+    },
     /// `wave NET VEC --trace K`: the trace of the clocked run as a value change dump.
     Wave {
         /// The name of the file with the netlist.
@@ -129,9 +146,10 @@ fn make_job(
         Command::Strict => strict_job(alloc, given),
         Command::Unwave => unwave_job(alloc, given),
         Command::Verify => verify_job(alloc, given),
+        Command::Walk => walk_job(alloc, given),
         Command::Wave => wave_job(alloc, given),
         // not built yet
-        Command::Walk | Command::Free | Command::Emit | Command::Slack | Command::Size => Ok(None),
+        Command::Free | Command::Emit | Command::Slack | Command::Size => Ok(None),
     }
 }
 

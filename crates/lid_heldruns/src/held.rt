@@ -6,13 +6,14 @@ ghost use Rattle.lid_agree.specs.Agreement.{IsSystemOf};
 ghost use Rattle.lid_design.specs.Columns.{root_inputs};
 ghost use Rattle.lid_design.specs.WellFormed.{IsWellFormed};
 ghost use Rattle.lid_script.specs.Causes.{IsCause};
-ghost use Rattle.lid_script.specs.Scripts.{rows_step, placement_step, built_step, check_step, held_step, wave_script};
+ghost use Rattle.lid_script.specs.Scripts.{rows_step, placement_step, built_step, check_step, held_step, walk_script, wave_script};
 ghost use Rattle.lid_script.specs.Statuses.{HasText};
 ghost use Rattle.lid_stations.specs.Placements.{links_of, Fits};
 ghost use Rattle.lid_system.specs.Systems.{IsWellFormed as IsSystem};
 ghost use Rattle.lid_heldruns.specs.Runs.{script_for, IsSoundRun};
 
 use crate::run::HeldRun;
+use crate::walking::walked_text;
 use crate::waving::waved_text;
 use lid_base::{Name, Shelf, Text};
 use lid_check::Checked;
@@ -31,20 +32,23 @@ fn run_text<'a, S: Shelf>(
     system: &System,
     placement: &Placement,
     rows: &Rows,
-    run: HeldRun,
+    run: HeldRun<'a>,
 ) -> Result<Vec<u8>, Stop<'a>>
     requires system { IsSystem system.now }
     requires fits { Fits system.now placement.now }
     requires of { IsSystemOf checked.now system.now }
     requires few { length rows.now.bits ≤ 1000000 }
     requires wide { AllByRecursion (λ row. length row ≡ length (root_inputs checked.now)) rows.now.bits }
-    requires sound { IsSoundRun run }
-    ensures ok { IfOk result (λ text. HasText (S.held shelf.old) (script_for run checked.now (links_of system.now) placement.now rows.now.bits) text.items) }
-    ensures err { IfErr result (IsCause (S.held shelf.old) (script_for run checked.now (links_of system.now) placement.now rows.now.bits) (S.faults shelf.old) (S.faults shelf.new)) }
+    requires sound { IsSoundRun run.entry }
+    ensures ok { IfOk result (λ text. HasText (S.held shelf.old) (script_for run.entry checked.now (links_of system.now) placement.now rows.now.bits) text.items) }
+    ensures err { IfErr result (IsCause (S.held shelf.old) (script_for run.entry checked.now (links_of system.now) placement.now rows.now.bits) (S.faults shelf.old) (S.faults shelf.new)) }
     ensures kept { S.held shelf.new ≡ S.held shelf.old }
     ensures grows { (q : List ℕ) → S.faults shelf.old q ≤ S.faults shelf.new q }
 {
     match run {
+        HeldRun::Walk(schedule) => {
+            walked_text(alloc, shelf, checked, system, placement, rows, schedule)
+        }
         HeldRun::Wave(cycles) => waved_text(alloc, checked, system, placement, rows, cycles),
     }
 }
@@ -57,14 +61,14 @@ fn placed_text<'a, S: Shelf>(
     system: &System,
     placement: &Placement,
     vec: &'a str,
-    run: HeldRun,
+    run: HeldRun<'a>,
 ) -> Result<Vec<u8>, Stop<'a>>
     requires system { IsSystem system.now }
     requires fits { Fits system.now placement.now }
     requires of { IsSystemOf checked.now system.now }
-    requires sound { IsSoundRun run }
-    ensures ok { IfOk result (λ text. HasText (S.held shelf.old) (rows_step checked.now vec.now (script_for run checked.now (links_of system.now) placement.now)) text.items) }
-    ensures err { IfErr result (IsCause (S.held shelf.old) (rows_step checked.now vec.now (script_for run checked.now (links_of system.now) placement.now)) (S.faults shelf.old) (S.faults shelf.new)) }
+    requires sound { IsSoundRun run.entry }
+    ensures ok { IfOk result (λ text. HasText (S.held shelf.old) (rows_step checked.now vec.now (script_for run.entry checked.now (links_of system.now) placement.now)) text.items) }
+    ensures err { IfErr result (IsCause (S.held shelf.old) (rows_step checked.now vec.now (script_for run.entry checked.now (links_of system.now) placement.now)) (S.faults shelf.old) (S.faults shelf.new)) }
     ensures kept { S.held shelf.new ≡ S.held shelf.old }
     ensures grows { (q : List ℕ) → S.faults shelf.old q ≤ S.faults shelf.new q }
 {
@@ -82,13 +86,13 @@ fn built_text<'a, S: Shelf>(
     system: &System,
     vec: &'a str,
     stations: &'a Option<Text>,
-    run: HeldRun,
+    run: HeldRun<'a>,
 ) -> Result<Vec<u8>, Stop<'a>>
     requires system { IsSystem system.now }
     requires of { IsSystemOf checked.now system.now }
-    requires sound { IsSoundRun run }
-    ensures ok { IfOk result (λ text. HasText (S.held shelf.old) (placement_step (links_of system.now) stations.now (λ p. rows_step checked.now vec.now (script_for run checked.now (links_of system.now) p))) text.items) }
-    ensures err { IfErr result (IsCause (S.held shelf.old) (placement_step (links_of system.now) stations.now (λ p. rows_step checked.now vec.now (script_for run checked.now (links_of system.now) p))) (S.faults shelf.old) (S.faults shelf.new)) }
+    requires sound { IsSoundRun run.entry }
+    ensures ok { IfOk result (λ text. HasText (S.held shelf.old) (placement_step (links_of system.now) stations.now (λ p. rows_step checked.now vec.now (script_for run.entry checked.now (links_of system.now) p))) text.items) }
+    ensures err { IfErr result (IsCause (S.held shelf.old) (placement_step (links_of system.now) stations.now (λ p. rows_step checked.now vec.now (script_for run.entry checked.now (links_of system.now) p))) (S.faults shelf.old) (S.faults shelf.new)) }
     ensures kept { S.held shelf.new ≡ S.held shelf.old }
     ensures grows { (q : List ℕ) → S.faults shelf.old q ≤ S.faults shelf.new q }
 {
@@ -105,11 +109,11 @@ fn checked_text<'a, S: Shelf>(
     checked: &Checked,
     vec: &'a str,
     stations: &'a Option<Text>,
-    run: HeldRun,
+    run: HeldRun<'a>,
 ) -> Result<Vec<u8>, Stop<'a>>
-    requires { IsSoundRun run }
-    ensures ok { IfOk result (λ text. HasText (S.held shelf.old) (built_step checked.now vec.now stations.now (script_for run checked.now)) text.items) }
-    ensures err { IfErr result (IsCause (S.held shelf.old) (built_step checked.now vec.now stations.now (script_for run checked.now)) (S.faults shelf.old) (S.faults shelf.new)) }
+    requires { IsSoundRun run.entry }
+    ensures ok { IfOk result (λ text. HasText (S.held shelf.old) (built_step checked.now vec.now stations.now (script_for run.entry checked.now)) text.items) }
+    ensures err { IfErr result (IsCause (S.held shelf.old) (built_step checked.now vec.now stations.now (script_for run.entry checked.now)) (S.faults shelf.old) (S.faults shelf.new)) }
     ensures kept { S.held shelf.new ≡ S.held shelf.old }
     ensures grows { (q : List ℕ) → S.faults shelf.old q ≤ S.faults shelf.new q }
 {
@@ -127,12 +131,12 @@ fn read_text<'a, S: Shelf>(
     vec: &'a str,
     stations: &'a Option<Text>,
     root: &Option<Name>,
-    run: HeldRun,
+    run: HeldRun<'a>,
 ) -> Result<Vec<u8>, Stop<'a>>
     requires formed { IsWellFormed design }
-    requires sound { IsSoundRun run }
-    ensures ok { IfOk result (λ text. HasText (S.held shelf.old) (check_step root.now design (λ checked. built_step checked vec.now stations.now (script_for run checked))) text.items) }
-    ensures err { IfErr result (IsCause (S.held shelf.old) (check_step root.now design (λ checked. built_step checked vec.now stations.now (script_for run checked))) (S.faults shelf.old) (S.faults shelf.new)) }
+    requires sound { IsSoundRun run.entry }
+    ensures ok { IfOk result (λ text. HasText (S.held shelf.old) (check_step root.now design (λ checked. built_step checked vec.now stations.now (script_for run.entry checked))) text.items) }
+    ensures err { IfErr result (IsCause (S.held shelf.old) (check_step root.now design (λ checked. built_step checked vec.now stations.now (script_for run.entry checked))) (S.faults shelf.old) (S.faults shelf.new)) }
     ensures kept { S.held shelf.new ≡ S.held shelf.old }
     ensures grows { (q : List ℕ) → S.faults shelf.old q ≤ S.faults shelf.new q }
 {
@@ -150,11 +154,11 @@ fn held_text<'a, S: Shelf>(
     vec: &'a str,
     stations: &'a Option<Text>,
     root: &Option<Name>,
-    run: HeldRun,
+    run: HeldRun<'a>,
 ) -> Result<Vec<u8>, Stop<'a>>
-    requires { IsSoundRun run }
-    ensures ok { IfOk result (λ text. HasText (S.held shelf.old) (held_step net.now vec.now stations.now root.now (script_for run)) text.items) }
-    ensures err { IfErr result (IsCause (S.held shelf.old) (held_step net.now vec.now stations.now root.now (script_for run)) (S.faults shelf.old) (S.faults shelf.new)) }
+    requires { IsSoundRun run.entry }
+    ensures ok { IfOk result (λ text. HasText (S.held shelf.old) (held_step net.now vec.now stations.now root.now (script_for run.entry)) text.items) }
+    ensures err { IfErr result (IsCause (S.held shelf.old) (held_step net.now vec.now stations.now root.now (script_for run.entry)) (S.faults shelf.old) (S.faults shelf.new)) }
     ensures kept { S.held shelf.new ≡ S.held shelf.old }
     ensures grows { (q : List ℕ) → S.faults shelf.old q ≤ S.faults shelf.new q }
 {
@@ -162,6 +166,32 @@ fn held_text<'a, S: Shelf>(
         Ok(design) => read_text(alloc, shelf, design, vec, stations, root, run),
         Err(stop) => Err(stop),
     }
+}
+
+/// What `walk` writes.
+pub fn walk_text<'a, S: Shelf>(
+    alloc: Global,
+    shelf: &mut S,
+    net: &'a str,
+    vec: &'a str,
+    schedule: &'a str,
+    stations: &'a Option<Text>,
+    root: &Option<Name>,
+) -> Result<Vec<u8>, Stop<'a>>
+    ensures ok { IfOk result (λ text. HasText (S.held shelf.old) (walk_script net.now vec.now schedule.now stations.now root.now) text.items) }
+    ensures err { IfErr result (IsCause (S.held shelf.old) (walk_script net.now vec.now schedule.now stations.now root.now) (S.faults shelf.old) (S.faults shelf.new)) }
+    ensures kept { S.held shelf.new ≡ S.held shelf.old }
+    ensures grows { (q : List ℕ) → S.faults shelf.old q ≤ S.faults shelf.new q }
+{
+    held_text(
+        alloc,
+        shelf,
+        net,
+        vec,
+        stations,
+        root,
+        HeldRun::Walk(schedule),
+    )
 }
 
 /// What `wave` writes, of a trace of 1 to 1,048,576 cycles.

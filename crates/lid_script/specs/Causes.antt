@@ -1,7 +1,7 @@
 -- Why a run does not end with its whole output: the cause that a value of the program tells.
 use Rattle.std.specs.Prelude.{◌≡◌, ◌⊎◌, ℕ, List, Option, Some, None}
 use Rattle.lid_base.specs.Outside.{Rose}
-use Rattle.lid_refusals.specs.declared.refusal.Refusal.TheVariants.{Blif, Check, Net, Rows, Stations, Cert, Schedule, Vcd, Gen}
+use Rattle.lid_refusals.specs.declared.refusal.Refusal.TheVariants.{Blif, Check, Net, Rows, Stations, Cert, Stalls, Schedule, Vcd, Gen}
 use Rattle.lid_script.specs.declared.fault.Stop.{Stop}
 use Rattle.lid_script.specs.declared.fault.Stop.TheVariants.{Refused, Read, Memory, Denied}
 use Rattle.lid_script.specs.declared.fault.End.{End}
@@ -24,6 +24,8 @@ use Rattle.lid_certtext.specs.declared.fault.CertFault.{CertFault}
 use Rattle.lid_certtext.specs.declared.fault.CertFault.TheVariants as cert
 use Rattle.lid_reports.specs.declared.schedule.SchedFault.{SchedFault}
 use Rattle.lid_reports.specs.declared.schedule.SchedFault.TheVariants as schedule
+use Rattle.lid_stalltext.specs.declared.stalls.StallFault.{StallFault}
+use Rattle.lid_stalltext.specs.declared.stalls.StallFault.TheVariants as stalls
 use Rattle.lid_vcd.specs.declared.reader.VcdFault.{VcdFault}
 use Rattle.lid_vcd.specs.declared.reader.VcdFault.TheVariants as vcd
 use Rattle.lid_gen.specs.declared.fault.GenFault.{GenFault}
@@ -60,6 +62,10 @@ stop_of_cert fault = Refused (Cert fault)
 abbrev pub stop_of_schedule : SchedFault → Stop
 stop_of_schedule schedule.Memory = Memory
 stop_of_schedule fault = Refused (Schedule fault)
+
+abbrev pub stop_of_stalls : StallFault → Stop
+stop_of_stalls stalls.Memory = Memory
+stop_of_stalls fault = Refused (Stalls fault)
 
 abbrev pub stop_of_dump : VcdFault → Stop
 stop_of_dump vcd.Memory = Memory

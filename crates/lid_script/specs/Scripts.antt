@@ -28,6 +28,9 @@ use Rattle.lid_placetext.specs.Readings.{stations_reading, wires_reading}
 use Rattle.lid_reports.specs.declared.trace.TraceFault.TheVariants as trace
 use Rattle.lid_reports.specs.declared.schedule.SchedFault.{SchedFault}
 use Rattle.lid_reports.specs.Schedules.{schedule_reading}
+use Rattle.lid_stalltext.specs.declared.stalls.Stall.{Stall}
+use Rattle.lid_stalltext.specs.declared.stalls.StallFault.{StallFault}
+use Rattle.lid_stalltext.specs.Stalls.{stalls_reading}
 use Rattle.lid_texts.specs.declared.rows.Rows.{Rows}
 use Rattle.lid_texts.specs.declared.rows.VecFault.{VecFault}
 use Rattle.lid_texts.specs.declared.rows.VecFault.TheVariants.{Changed}
@@ -38,8 +41,8 @@ use Rattle.lid_vcd.specs.Reading.{wave_reading}
 use Rattle.lid_gen.specs.declared.fault.GenFault.{GenFault}
 use Rattle.lid_gen.specs.Designs.{size_fault}
 use Rattle.lid_cli.specs.declared.job.Job.{Job}
-use Rattle.lid_cli.specs.declared.job.Job.TheVariants.{Check, Clock, Gen, Place, Rate, Strict, Unwave, Verify, Wave}
-use Rattle.lid_refusals.specs.Faults.{blif_line, rows_line, check_line, net_line, stations_line, cert_line, trace_line, schedule_line, vcd_line, gen_line}
+use Rattle.lid_cli.specs.declared.job.Job.TheVariants.{Check, Clock, Gen, Place, Rate, Strict, Unwave, Verify, Walk, Wave}
+use Rattle.lid_refusals.specs.Faults.{blif_line, rows_line, check_line, net_line, stations_line, cert_line, trace_line, stalls_line, schedule_line, vcd_line, gen_line}
 use Rattle.lid_script.specs.Outputs.{Output, report, strict_output, placed, throughput, verdict, clocked, walked, waved, unwaved, design_of_seed, run_of_seed}
 
 -- what a reading makes of a value
@@ -296,6 +299,14 @@ built_script d vec stations trace = net_step d (λ channels. placed_script d (li
 unfoldable pub clock_script : List ℕ → List ℕ → Option (List ℕ) → Option ℕ → Option (List ℕ) → Script
 clock_script net vec stations trace root = read_step net net_limit net_reading (λ d. check_step root d (λ checked. built_script checked vec stations trace))
 
+abbrev pub stalls_good : Result (List Stall) StallFault → Reading (List Stall)
+stalls_good (Ok stalls) = good stalls
+stalls_good (Err fault) = bad (stalls_line fault)
+
+-- the stalls that a text stands for
+unfoldable pub stalls_read : List ℕ → Reading (List Stall)
+stalls_read bytes = stalls_good (stalls_reading bytes)
+
 abbrev pub schedule_good : Result (List ℕ) SchedFault → Reading (List ℕ)
 schedule_good (Ok schedule) = good schedule
 schedule_good (Err fault) = bad (schedule_line fault)
@@ -373,6 +384,7 @@ script_of (Place net wires reach root) = place_script net wires reach root
 script_of (Rate net stations root) = rate_script net stations root
 script_of (Strict net vec root) = strict_script net vec root
 script_of (Verify net cert stations root) = verify_script net cert stations root
+script_of (Walk net vec schedule stations root) = walk_script net vec schedule stations root
 script_of (Wave net vec stations trace root) = wave_script net vec stations trace root
 script_of (Unwave file) = unwave_script file
 script_of (Gen seed shells run) = gen_script seed shells run

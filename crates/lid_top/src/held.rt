@@ -10,13 +10,13 @@ ghost use Rattle.lid_top.specs.Held.{is_held};
 use lid_base::Shelf;
 use lid_cli::Job;
 use lid_generating::gen_text;
-use lid_heldruns::wave_text;
+use lid_heldruns::{walk_text, wave_text};
 use lid_script::Stop;
 use lid_waving::unwave_text;
 use std::alloc::Global;
 use std::convert::AsStr;
 
-/// What `gen`, `unwave` or `wave` writes.
+/// What `gen`, `unwave`, `walk` or `wave` writes.
 pub fn held_text<'a, S: Shelf>(
     alloc: Global,
     shelf: &mut S,
@@ -32,6 +32,21 @@ pub fn held_text<'a, S: Shelf>(
     match job {
         Job::Gen { seed, shells, run } => gen_text(alloc, *seed, *shells, run),
         Job::Unwave { file } => unwave_text(alloc, shelf, file.as_str()),
+        Job::Walk {
+            net,
+            vec,
+            schedule,
+            stations,
+            root,
+        } => walk_text(
+            alloc,
+            shelf,
+            net.as_str(),
+            vec.as_str(),
+            schedule.as_str(),
+            stations,
+            root,
+        ),
         Job::Wave {
             net,
             vec,

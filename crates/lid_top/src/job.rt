@@ -30,7 +30,9 @@ fn text_of<'a, S: Shelf>(alloc: Global, shelf: &mut S, job: &'a Job) -> Result<V
     match job {
         Job::Check { net, root } => check_text(alloc, shelf, net.as_str(), root),
         Job::Clock { .. } => unreachable!(),
-        Job::Gen { .. } | Job::Unwave { .. } | Job::Wave { .. } => held_text(alloc, shelf, job),
+        Job::Gen { .. } | Job::Unwave { .. } | Job::Walk { .. } | Job::Wave { .. } => {
+            held_text(alloc, shelf, job)
+        }
         Job::Place {
             net,
             wires,
@@ -153,6 +155,7 @@ where
         | Job::Strict { .. }
         | Job::Unwave { .. }
         | Job::Verify { .. }
+        | Job::Walk { .. }
         | Job::Wave { .. } => run_whole(rt.alloc(), job, shelf, out),
     }
 }

@@ -14,7 +14,7 @@ pub returns-in-Ok-clause-ok : goal.returns-in-Ok-clause-ok
 returns-in-Ok-clause-ok g c =
     let held = g.S.Shelf.held c.args.shelf.now in
     let d = c.args.checked.now in
-    let on : Links → Script = λ l. placement_step l c.args.stations.now (λ p. rows_step d c.args.vec.now (script_for c.args.run d l p)) in
+    let on : Links → Script = λ l. placement_step l c.args.stations.now (λ p. rows_step d c.args.vec.now (script_for c.args.run.entry d l p)) in
     let next : List Channel → Script = λ channels. on (links d channels) in
     let channels = c.in-Ok.system.channels in
     if_ok c.built_text.result
@@ -26,7 +26,7 @@ pub returns-in-Ok-clause-err : goal.returns-in-Ok-clause-err
 returns-in-Ok-clause-err g c =
     let held = g.S.Shelf.held c.args.shelf.now in
     let d = c.args.checked.now in
-    let on : Links → Script = λ l. placement_step l c.args.stations.now (λ p. rows_step d c.args.vec.now (script_for c.args.run d l p)) in
+    let on : Links → Script = λ l. placement_step l c.args.stations.now (λ p. rows_step d c.args.vec.now (script_for c.args.run.entry d l p)) in
     let next : List Channel → Script = λ channels. on (links d channels) in
     let channels = c.in-Ok.system.channels in
     let before = g.S.Shelf.faults c.args.shelf.now in
@@ -40,6 +40,6 @@ pub returns-in-Err-clause-err : goal.returns-in-Err-clause-err
 returns-in-Err-clause-err g c =
     let held = g.S.Shelf.held c.args.shelf.now in
     let d = c.args.checked.now in
-    let next : List Channel → Script = λ channels. placement_step (links d channels) c.args.stations.now (λ p. rows_step d c.args.vec.now (script_for c.args.run d (links d channels) p)) in
+    let next : List Channel → Script = λ channels. placement_step (links d channels) c.args.stations.now (λ p. rows_step d c.args.vec.now (script_for c.args.run.entry d (links d channels) p)) in
     let before = g.S.Shelf.faults c.args.shelf.now in
     cause_undecided held (HasChannels d) (IsOverfull d) next before before c.in-Err.stop c.in-Err.ensures.err

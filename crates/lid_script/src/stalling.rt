@@ -1,0 +1,42 @@
+//! Stalls that are read.
+
+ghost use Rattle.std.specs.Prelude.{◌≡◌, ℕ, ◌≤◌, List, IfOk, IfErr};
+ghost use Rattle.lid_script.specs.Scripts.{good, text_limit, stalls_read};
+ghost use Rattle.lid_script.specs.Causes.{Declines, Got, Misses};
+
+use crate::fault::{Stop, stalls_stop};
+use crate::steps::fetch_file;
+use lid_base::{Items, Shelf};
+use lid_stalltext::{Stall, read_stalls};
+use std::alloc::Global;
+
+/// The greatest size of a text of stalls, in bytes.
+const STALLS_LIMIT: usize = 16_777_216;
+
+/// The stalls of a text.
+fn stalls_of<'a>(alloc: Global, bytes: &[u8]) -> Result<Items<Stall>, Stop<'a>>
+    ensures ok { IfOk result (λ stalls. stalls_read bytes.now ≡ good stalls) }
+    ensures err { IfErr result (Declines (stalls_read bytes.now)) }
+{
+    match read_stalls(alloc, bytes) {
+        Ok(stalls) => Ok(stalls),
+        Err(fault) => Err(stalls_stop(fault)),
+    }
+}
+
+/// Fetches and reads stalls.
+pub fn read_stalls_file<'a, S: Shelf>(
+    alloc: Global,
+    shelf: &mut S,
+    stalls: &'a str,
+) -> Result<Items<Stall>, Stop<'a>>
+    ensures ok { IfOk result (λ list. Got (S.held shelf.old) stalls.now text_limit stalls_read list) }
+    ensures err { IfErr result (Misses (S.held shelf.old) stalls.now text_limit stalls_read (S.faults shelf.old) (S.faults shelf.new)) }
+    ensures kept { S.held shelf.new ≡ S.held shelf.old }
+    ensures grows { (q : List ℕ) → S.faults shelf.old q ≤ S.faults shelf.new q }
+{
+    match fetch_file(alloc, shelf, stalls, STALLS_LIMIT) {
+        Ok(bytes) => stalls_of(alloc, &bytes),
+        Err(stop) => Err(stop),
+    }
+}

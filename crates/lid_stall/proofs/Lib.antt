@@ -1,3 +1,0 @@
-pub mod Walking
-pub mod Delays
-pub mod Steps
