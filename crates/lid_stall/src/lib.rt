@@ -1,0 +1,7 @@
+//! Stalls of the environment: the clocked run in which stalls hold the source and the sink.
+#![tactic(auto)]
+
+mod held;
+
+pub use held::Held;
+pub use lid_stalltext::{Stall, StallFault, read_stalls};
