@@ -1,6 +1,5 @@
 -- How often the sink has fired, and when a run ends.
-use Rattle.std.proofs.Common.{◌≡◌, ℕ, zero, suc, ◌+◌, ◌-◌, ◌*◌, ◌<◌, ◌≤◌, ◌==◌, Option, ◌++◌, ◌⊎◌, inl, inr, nat_lt, Bool, true, false, cond, List, length, refl, sym, ◌∙◌, ap, subst, le-ltb, arith}
-use Rattle.std.proofs.lemmas.Bool.{ltb-true, ltb-false}
+use Rattle.std.proofs.Common.{◌≡◌, ℕ, zero, suc, ◌+◌, ◌-◌, ◌*◌, ◌<◌, ◌≤◌, ◌==◌, Option, ◌++◌, ◌⊎◌, inl, inr, Bool, true, false, cond, List, length, refl, sym, ◌∙◌, ap, subst, le-ltb, arith}
 use Rattle.std.proofs.lemmas.Bool.Decides.{eqb_tells}
 use Rattle.lid_graph.specs.declared.graph.Graph.{Graph}
 use Rattle.lid_graph.specs.Firings.{Counts, IsFirstAtCap}
@@ -13,7 +12,7 @@ use Rattle.lid_stations.specs.Stations.{actor_count}
 use Rattle.lid_stations.specs.Markings.{marking}
 use Rattle.lid_stations.proofs.Edges.{node_count}
 use Rattle.lid_stations.proofs.Alive.{rateable}
-use Rattle.lid_runs.specs.Runs.{cap_of, fired_in}
+use Rattle.lid_runs.specs.Runs.{cap_of}
 use Rattle.lid_clock.specs.Lives.{Life, IsLife, fired_after, sink, IsBelow}
 use Rattle.lid_clockrun.specs.RunTexts.{IsRunText, end_text, first_outputs}
 use Rattle.lid_texts.specs.RowsText.{rows_text}

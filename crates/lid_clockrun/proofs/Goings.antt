@@ -9,7 +9,7 @@ use Rattle.lid_stations.specs.Placements.{station_count, Fits}
 use Rattle.lid_clock.specs.Lives.{Life, NeedsRow, IsBelow, sink}
 use Rattle.lid_stalltext.specs.declared.stalls.Stall.{Stall}
 use Rattle.lid_stalltext.specs.Holds.{Ascend, listed, hold_of}
-use Rattle.lid_stall.specs.Runs.{RanHeld}
+use Rattle.lid_clockrun.specs.Courses.{RanBy}
 use Rattle.lid_reports.specs.Runs.{trace_text}
 use Rattle.lid_feed.specs.declared.feed.RowFeed.{RowFeed}
 use Rattle.lid_feed.specs.Fetching.{GivesRow}
@@ -18,7 +18,6 @@ use Rattle.lid_clockrun.specs.RunTexts.{cells_after, cycles_traced, traced}
 use Rattle.lid_clockrun.specs.Runnings.{Run, source_columns, AreGiven, Begins}
 use Rattle.lid_clockrun.specs.Stepping.{IsSound, HasBegun, Feeds, IsAt, IsRunning, GoesOn, IsFedOn}
 use Rattle.lid_clockrun.proofs.Living.{some_life, begins_before, next_row_is, more_given}
-use Rattle.lid_clockrun.proofs.Stalling.{held_by}
 use Rattle.lid_clockrun.proofs.Outputs.{cells_long, cells_traced, cells_none, text_traced, text_untraced}
 
 -- a fact along a number of cycles and one of rows
@@ -34,11 +33,11 @@ module _ (r : Run) (run : Running) (given : List (List Bool)) (at : IsRunning r 
   the_life = some_life r at.rules given at.rows
 
   -- a run of the stream of this life
-  pub the_ran : (l : Life) × (k : ℕ) × (g : ℕ) × RanHeld l k g run.stream × Begins r given l
+  pub the_ran : (l : Life) × (k : ℕ) × (g : ℕ) × RanBy l k g run.stream × Begins r given l
   the_ran = (the_life.0, run.made, length given, (at.lives the_life.0 the_life.1).ran, the_life.1)
 
   -- where a row is needed, not all were given
-  pub below_all : ((l : Life) (k g : ℕ) → RanHeld l k g run.stream → NeedsRow l k g) → length given < r.rows
+  pub below_all : ((l : Life) (k g : ℕ) → RanBy l k g run.stream → NeedsRow l k g) → length given < r.rows
   below_all needs =
       let b = the_life.1 in
       let n = needs the_life.0 run.made (length given) (at.lives the_life.0 b).ran in
@@ -49,15 +48,15 @@ module _ (r : Run) (run : Running) (given : List (List Bool)) (at : IsRunning r 
 
   -- a further row was given
   module _ (new : Running) (feed : RowFeed) (row : List Bool)
-      (needs : (l : Life) (k g : ℕ) → RanHeld l k g run.stream → NeedsRow l k g)
+      (needs : (l : Life) (k g : ℕ) → RanBy l k g run.stream → NeedsRow l k g)
       (gave : GivesRow r.held (source_columns r.system) (length r.columns) feed given row)
-      (gives : (l : Life) (k g : ℕ) → RanHeld l k g run.stream → slice_get l.input g ≡ Some row → RanHeld l k (g + 1) new.stream)
+      (gives : (l : Life) (k g : ℕ) → RanBy l k g run.stream → slice_get l.input g ≡ Some row → RanBy l k (g + 1) new.stream)
       (made : new.made ≡ run.made) (count : new.given ≡ run.given + 1) (trace : new.trace ≡ run.trace) (told : new.told ≡ run.told) (stations : new.stations ≡ run.stations) (cells : new.cells ≡ run.cells) where
     is_at : (l : Life) → Begins r (given ++ row ∷ []) l → IsAt r (length (given ++ row ∷ [])) new l
     is_at l b =
         let before = at.lives l (begins_before r given row l b) in
         record {
-          ran = along (λ k g. RanHeld l k g new.stream) run.made new.made (length given + 1) (length (given ++ row ∷ [])) (sym made) (sym (one_longer given row))
+          ran = along (λ k g. RanBy l k g new.stream) run.made new.made (length given + 1) (length (given ++ row ∷ [])) (sym made) (sym (one_longer given row))
               (gives l run.made (length given) before.ran (next_row_is r given row l b));
           cells = ap (λ cs. cs.items) cells ∙ before.cells ∙ ap (λ (k : ℕ). cells_after l (cycles_traced r.trace k)) (sym made);
           busy = λ k h. before.busy k (let e = made in omega arith);
@@ -87,7 +86,7 @@ module _ (r : Run) (run : Running) (given : List (List Bool)) (at : IsRunning r 
     }
 
   -- no row is needed
-  pub fed_already : (feed : RowFeed) → Feeds r feed given → ((l : Life) (k g : ℕ) → RanHeld l k g run.stream → NeedsRow l k g → ⊥) → IsFedOn r given run feed
+  pub fed_already : (feed : RowFeed) → Feeds r feed given → ((l : Life) (k g : ℕ) → RanBy l k g run.stream → NeedsRow l k g → ⊥) → IsFedOn r given run feed
   fed_already feed feeds none = record {
     given = given;
     running = at;
@@ -99,7 +98,7 @@ module _ (r : Run) (run : Running) (given : List (List Bool)) (at : IsRunning r 
   -- a cycle was made
   pub stepped : (new : Running) → GoesOn r run given
       → ((l : Life) → Begins r given l → new.cells.items ≡ cells_after l (cycles_traced r.trace (run.made + 1)))
-      → ((l : Life) (k g : ℕ) → RanHeld l k g run.stream → IsBelow l k → RanHeld l (suc k) g new.stream)
+      → ((l : Life) (k g : ℕ) → RanBy l k g run.stream → IsBelow l k → RanBy l (suc k) g new.stream)
       → new.made ≡ run.made + 1 → new.given ≡ run.given → new.trace ≡ run.trace → new.told ≡ run.told → new.stations ≡ run.stations → IsRunning r new given
   stepped new goes shown ran made count trace told stations = record {
     rules = at.rules;
@@ -109,7 +108,7 @@ module _ (r : Run) (run : Running) (given : List (List Bool)) (at : IsRunning r 
     told = told ∙ at.told;
     stations = stations ∙ at.stations;
     lives = λ l b. record {
-      ran = subst (λ (k : ℕ). RanHeld l k (length given) new.stream) (sym (add-one run.made) ∙ sym made) (ran l run.made (length given) (at.lives l b).ran (goes l b));
+      ran = subst (λ (k : ℕ). RanBy l k (length given) new.stream) (sym (add-one run.made) ∙ sym made) (ran l run.made (length given) (at.lives l b).ran (goes l b));
       cells = shown l b ∙ ap (λ (k : ℕ). cells_after l (cycles_traced r.trace k)) (sym made);
       busy = λ k h. busy_on l b k (let e = made in omega arith);
     };
@@ -157,9 +156,9 @@ begun r s p rows trace stalls system stations many most same sound given are run
   told = h.told ∙ ap is_some (sym same);
   stations = h.stations ∙ ap (λ p. station_count p.relays) (sym stations);
   lives = λ l b. record {
-    ran = along (λ k g. RanHeld l k g run.stream) 0 run.made (min 1 rows) (length given) (sym h.made) (sym long)
+    ran = along (λ k g. RanBy l k g run.stream) 0 run.made (min 1 rows) (length given) (sym h.made) (sym long)
         (h.ran l (record { rules = b.of.rules; of = b.of.of ∙ system; stations = b.of.stations ∙ stations; many = b.many ∙ many; begins = begins l b })
-        (held_by l stalls (b.of.held ∙ ap (λ (xs : Option (List Stall)). hold_of xs (sink l)) same)));
+        (b.of.held ∙ ap (λ (xs : Option (List Stall)). hold_of xs (sink l)) same));
     cells = h.cells ∙ sym (cells_none l r.trace) ∙ ap (λ (k : ℕ). cells_after l (cycles_traced r.trace k)) (sym h.made);
     busy = λ k below. absurd (let none = h.made in omega arith);
   };

@@ -1,6 +1,7 @@
 //! The clocked run whose rows are fetched from a file as they are needed, told as it goes.
 #![tactic(auto)]
 
+mod course;
 mod fault;
 mod lines;
 mod steps;

@@ -1,6 +1,6 @@
 //! A run between its cycles.
 
-ghost use Rattle.std.specs.Prelude.{◌≡◌, ◌≤◌, ◌<◌, ◌+◌, ◌++◌, ℕ, min, Bool, List, [], length, Option, None, Some, IfOk, IfErr, OnOk};
+ghost use Rattle.std.specs.Prelude.{◌≡◌, ◌≤◌, ◌<◌, ◌+◌, ◌^◌, ◌++◌, ℕ, min, Bool, List, [], length, Option, None, Some, IfOk, IfErr, OnOk};
 ghost use Rattle.lid_base.specs.Outside.{Rose};
 ghost use Rattle.lid_design.specs.Network.{from_each};
 ghost use Rattle.lid_system.specs.Systems.{IsWellFormed};
@@ -9,18 +9,19 @@ ghost use Rattle.std.specs.Option.{is_some};
 ghost use Rattle.lid_clock.specs.Lives.{Life, fired_after, shown_after};
 ghost use Rattle.lid_clock.specs.Ran.{lent, IsFirst};
 ghost use Rattle.lid_stalltext.specs.Holds.{Ascend, listed, stalled_line};
-ghost use Rattle.lid_stall.specs.Runs.{RanHeld};
+ghost use Rattle.lid_clockrun.specs.Courses.{RanBy};
 ghost use Rattle.lid_feed.specs.Fetching.{HasGiven, GivesRow};
 ghost use Rattle.lid_clockrun.specs.RunTexts.{cells_after, cycles_traced, traced, end_text};
 ghost use Rattle.lid_clockrun.specs.Runnings.{Run, Begins, IsCause, source_columns};
 ghost use Rattle.lid_clockrun.specs.Stepping.{HasBegun, Feeds, IsRunning, IsReady, GoesOn, IsFed, IsFedOn, HasGone};
 
+use crate::course::Course;
 use crate::fault::RunFault;
 use lid_base::{Items, Shelf, Shown};
 use lid_clock::ClockStream;
 use lid_feed::RowFeed;
 use lid_lines::append_number_line;
-use lid_stall::{Held, Stall};
+use lid_stall::Stall;
 use lid_stations::Placement;
 use lid_system::System;
 use lid_texts::{Trace, print_cycles, print_trace};
@@ -31,7 +32,7 @@ use std::mem;
 #[derive(Drop)]
 pub(crate) struct Running {
     alloc: Global,
-    pub(crate) stream: Held,
+    pub(crate) stream: Course,
     /// How many cycles were made.
     made: u64,
     /// How many rows were given.
@@ -68,9 +69,9 @@ fn next_row<S: Shelf>(
 }
 
 /// Appends what each station shows.
-fn push_cells(stream: &Held, stations: u32, cells: &mut Vec<Shown>) -> Result<(), AllocError>
-    requires { (l : Life) × (k : ℕ) × (g : ℕ) × RanHeld l k g stream.now × (stations ≡ station_count l.placement.relays) }
-    ensures { (l : Life) (k g : ℕ) → RanHeld l k g stream.now → OnOk result (cells.new.items ≡ cells.old.items ++ from_each (shown_after l k) 0 stations) }
+fn push_cells(stream: &Course, stations: u32, cells: &mut Vec<Shown>) -> Result<(), AllocError>
+    requires { (l : Life) × (k : ℕ) × (g : ℕ) × RanBy l k g stream.now × (stations ≡ station_count l.placement.relays) }
+    ensures { (l : Life) (k g : ℕ) → RanBy l k g stream.now → OnOk result (cells.new.items ≡ cells.old.items ++ from_each (shown_after l k) 0 stations) }
 {
     for station in 0..stations {
         cells.push(stream.show(station))?;
@@ -79,25 +80,15 @@ fn push_cells(stream: &Held, stations: u32, cells: &mut Vec<Shown>) -> Result<()
 }
 
 /// How often each of so many nodes has fired.
-fn firings(alloc: Global, stream: &Held, nodes: u32) -> Result<Vec<u64>, AllocError>
-    requires { (l : Life) × (k : ℕ) × (g : ℕ) × RanHeld l k g stream.now × (nodes ≡ length l.system.nodes) }
-    ensures { (l : Life) (k g : ℕ) → RanHeld l k g stream.now → IfOk result (λ fired. fired.items ≡ from_each (fired_after l k) 0 nodes) }
+fn firings(alloc: Global, stream: &Course, nodes: u32) -> Result<Vec<u64>, AllocError>
+    requires { (l : Life) × (k : ℕ) × (g : ℕ) × RanBy l k g stream.now × (nodes ≡ length l.system.nodes) }
+    ensures { (l : Life) (k g : ℕ) → RanBy l k g stream.now → IfOk result (λ fired. fired.items ≡ from_each (fired_after l k) 0 nodes) }
 {
     let mut fired = Vec::new(alloc);
     for node in 0..nodes {
         fired.push(stream.fired(node))?;
     }
     Ok(fired)
-}
-
-/// The stalls, where some are given.
-fn listed(alloc: Global, stalls: Option<Items<Stall>>) -> Items<Stall>
-    ensures { result ≡ listed stalls }
-{
-    match stalls {
-        Some(stalls) => stalls,
-        None => Items::from_vec(Vec::new(alloc)),
-    }
 }
 
 impl Running {
@@ -125,7 +116,7 @@ impl Running {
         let told = stalls.is_some();
         Ok(Running {
             alloc,
-            stream: Held::start(stream, listed(alloc, stalls)),
+            stream: Course::start(stream, stalls),
             made: 0,
             given: rows.min(1),
             stations: placement.caps.len() as u32,
@@ -223,6 +214,7 @@ impl Running {
         ensures ok { (r : Run) (given : List (List Bool)) → IsRunning r self.old given → IsReady r self.old given → GoesOn r self.old given
             → OnOk result (IsRunning r self.new given) }
         ensures one { OnOk result (self.new.made ≡ self.old.made + 1) }
+        ensures few { OnOk result (self.new.made < 2 ^ 64) }
     {
         self.show()?;
         self.stream.cycle();

@@ -38,7 +38,7 @@ fn tell_run<S: Shelf, O: Sink>(
         → OnOk result (HasRun r (O.written out.old) (O.written out.new)) }
     ensures err { (r : Run) (given : List (List Bool)) → IsRunOf r system.now columns.now → IsFed r (S.held shelf.old feed.old.name) run.old feed.old given
         → IfErr result (HasStopped r (O.written out.old) (O.written out.new)
-            (Rose (S.faults shelf.old feed.old.name) (S.faults shelf.new feed.old.name)) (Rose (O.faults out.old) (O.faults out.new))) }
+        (Rose (S.faults shelf.old feed.old.name) (S.faults shelf.new feed.old.name)) (Rose (O.faults out.old) (O.faults out.new))) }
     ensures kept { S.held shelf.new ≡ S.held shelf.old }
     ensures grows { (q : List ℕ) → S.faults shelf.old q ≤ S.faults shelf.new q }
     ensures rises { O.faults out.old ≤ O.faults out.new }
@@ -97,22 +97,12 @@ pub fn run<S: Shelf, O: Sink>(
     ensures grows { (q : List ℕ) → S.faults shelf.old q ≤ S.faults shelf.new q }
     ensures rises { O.faults out.old ≤ O.faults out.new }
 {
-    let mut run = match Running::start(
-        alloc, shelf, system, placement, rows, feed, trace, stalls,
-    ) {
+    let mut run = match Running::start(alloc, shelf, system, placement, rows, feed, trace, stalls) {
         Ok(run) => run,
         Err(fault) => return Err(fault),
     };
     let Ok(mut telling) = Telling::start(alloc) else {
         return Err(RunFault::Memory);
     };
-    tell_run(
-        shelf,
-        out,
-        system,
-        columns,
-        feed,
-        &mut run,
-        &mut telling,
-    )
+    tell_run(shelf, out, system, columns, feed, &mut run, &mut telling)
 }

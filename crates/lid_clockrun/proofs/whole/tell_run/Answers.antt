@@ -90,7 +90,7 @@ loop-run-smaller g c =
     let made = c.loop-run.run.made in
     let goes : (l : Life) → Begins start.0 t.given l → IsBelow l made = λ l b. (c.below.ensures l made (length t.given) (t.fed.running.lives l b).ran).0 c.loop-run-test.true in
     let gone = c.in_default-go.ensures.ok start.0 t.given t.fed goes in
-    smaller made c.go.new.self.made gone.one ?
+    smaller made c.go.new.self.made gone.one gone.few
 
 pub loop-run-preserved : goal.loop-run-preserved
 loop-run-preserved g c =

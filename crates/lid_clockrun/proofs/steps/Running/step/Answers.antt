@@ -1,5 +1,5 @@
 use Rattle.std.proofs.Common.{◌+◌, length, sym, ap, subst, arith}
-use Rattle.lid_stall.specs.Runs.{RanHeld}
+use Rattle.lid_clockrun.specs.Courses.{RanBy}
 use Rattle.lid_clockrun.proofs.Goings.{the_life, stepped}
 use Rattle.lid_clockrun.proofs.steps.Running.step.Goals as goal
 
@@ -12,10 +12,11 @@ cycle-requires c =
       life.0,
       c.args.self.now.made,
       length given,
-      subst (λ s. RanHeld life.0 c.args.self.now.made (length given) s) (sym (ap (λ run. run.stream) c.show.ensures.rest)) (at.lives life.0 life.1).ran,
+      subst (λ s. RanBy life.0 c.args.self.now.made (length given) s) (sym (ap (λ run. run.stream) c.show.ensures.rest)) (at.lives life.0 life.1).ran,
       c.requires.3 life.0 life.1,
     )
 
+-- a cycle more can be counted
 pub overflow_add-self : goal.overflow_add-self
 overflow_add-self c =
     let r = c.requires.0 in
@@ -24,7 +25,20 @@ overflow_add-self c =
     let life = the_life r c.args.self.now given at in
     let l = life.0 in
     let made = c.args.self.now.made in
-    let before = subst (λ s. RanHeld l made (length given) s) (sym (ap (λ run. run.stream) c.show.ensures.rest)) (at.lives l life.1).ran in
+    let before = subst (λ s. RanBy l made (length given) s) (sym (ap (λ run. run.stream) c.show.ensures.rest)) (at.lives l life.1).ran in
+    let few = c.cycle.ensures.counts l made (length given) before ((c.cycle.ensures.made l made (length given) before).1 (c.requires.4 l life.1)) in
+    let same = ap (λ run. run.made) c.show.ensures.rest in
+    omega (arith, few, same)
+
+pub returns-clause-few : goal.returns-clause-few
+returns-clause-few c =
+    let r = c.requires.0 in
+    let given = c.requires.1 in
+    let at = c.requires.2 in
+    let life = the_life r c.args.self.now given at in
+    let l = life.0 in
+    let made = c.args.self.now.made in
+    let before = subst (λ s. RanBy l made (length given) s) (sym (ap (λ run. run.stream) c.show.ensures.rest)) (at.lives l life.1).ran in
     let few = c.cycle.ensures.counts l made (length given) before ((c.cycle.ensures.made l made (length given) before).1 (c.requires.4 l life.1)) in
     let same = ap (λ run. run.made) c.show.ensures.rest in
     omega (arith, few, same)
@@ -34,6 +48,6 @@ returns-clause-ok c = λ r given at ready goes.
     stepped r c.args.self.now given at _ goes
     (c.in_ok-show.ensures.shown r given at)
     (λ l k g ran below.
-    let before = subst (λ s. RanHeld l k g s) (sym (ap (λ run. run.stream) c.show.ensures.rest)) ran in
+    let before = subst (λ s. RanBy l k g s) (sym (ap (λ run. run.stream) c.show.ensures.rest)) ran in
     c.cycle.ensures.ran l k g before ((c.cycle.ensures.made l k g before).1 below))
     (ap (λ run. run.made + 1) c.show.ensures.rest) (ap (λ run. run.given) c.show.ensures.rest) (ap (λ run. run.trace) c.show.ensures.rest) (ap (λ run. run.told) c.show.ensures.rest) (ap (λ run. run.stations) c.show.ensures.rest)
