@@ -9,9 +9,11 @@ ghost use Rattle.lid_stalltext.specs.Holds.{Ascend, listed, hold_of};
 ghost use Rattle.lid_stall.specs.Runs.{stalled_after};
 ghost use Rattle.lid_clockrun.specs.Courses.{RanBy};
 
-use lid_base::{Items, Shown};
+use crate::workers::Workers;
+use lid_base::{Gate, Items, Shown};
 use lid_clock::ClockStream;
 use lid_stall::{Held, Stall};
+use std::thread::Threads;
 
 /// A clocked run in which nobody is held, or one that stalls hold.
 #[derive(Drop)]
@@ -65,15 +67,20 @@ impl Course {
     }
 
     /// Makes a cycle where the sink has not yet fired for each row, and answers whether it made one. No row
-    /// is wanting.
-    pub(crate) fn cycle(&mut self) -> bool
-        requires { (l : Life) × (k : ℕ) × (g : ℕ) × RanBy l k g self.old × ¬ NeedsRow l k g }
+    /// is wanting. The cycle has this number, counted from 0.
+    pub(crate) fn cycle<R: Threads + Sync, G: Gate>(
+        &mut self,
+        workers: &Workers<'_, R, G>,
+        number: u64,
+    ) -> bool
+        requires some { 0 < workers.now.many }
+        requires can { (l : Life) × (k : ℕ) × (g : ℕ) × RanBy l k g self.old × ¬ NeedsRow l k g }
         ensures ran { (l : Life) (k g : ℕ) → RanBy l k g self.old → result ≡ true → RanBy l (suc k) g self.new }
         ensures made { (l : Life) (k g : ℕ) → RanBy l k g self.old → (result ≡ true) ↔ IsBelow l k }
         ensures counts { (l : Life) (k g : ℕ) → RanBy l k g self.old → result ≡ true → k + 1 < 2 ^ 64 }
     {
         match self {
-            Course::Free(stream) => stream.cycle(),
+            Course::Free(stream) => workers.cycle(stream, number),
             Course::Stalled(held) => held.cycle(),
         }
     }

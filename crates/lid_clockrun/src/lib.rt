@@ -6,6 +6,8 @@ mod fault;
 mod lines;
 mod steps;
 mod whole;
+mod workers;
 
 pub use fault::RunFault;
 pub use whole::run;
+pub use workers::Workers;

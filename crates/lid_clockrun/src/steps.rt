@@ -17,7 +17,8 @@ ghost use Rattle.lid_clockrun.specs.Stepping.{HasBegun, Feeds, IsRunning, IsRead
 
 use crate::course::Course;
 use crate::fault::RunFault;
-use lid_base::{Items, Shelf, Shown};
+use crate::workers::Workers;
+use lid_base::{Gate, Items, Shelf, Shown};
 use lid_clock::ClockStream;
 use lid_feed::RowFeed;
 use lid_lines::append_number_line;
@@ -27,6 +28,7 @@ use lid_system::System;
 use lid_texts::{Trace, print_cycles, print_trace};
 use std::alloc::{AllocError, Global};
 use std::mem;
+use std::thread::Threads;
 
 /// A run between its cycles.
 #[derive(Drop)]
@@ -209,23 +211,33 @@ impl Running {
     }
 
     /// Makes a cycle of a run that is ready and has not ended.
-    fn step(&mut self) -> Result<(), AllocError>
-        requires { (r : Run) × (given : List (List Bool)) × IsRunning r self.old given × IsReady r self.old given × GoesOn r self.old given }
+    fn step<R: Threads + Sync, G: Gate>(
+        &mut self,
+        workers: &Workers<'_, R, G>,
+    ) -> Result<(), AllocError>
+        requires some { 0 < workers.now.many }
+        requires ready { (r : Run) × (given : List (List Bool)) × IsRunning r self.old given × IsReady r self.old given × GoesOn r self.old given }
         ensures ok { (r : Run) (given : List (List Bool)) → IsRunning r self.old given → IsReady r self.old given → GoesOn r self.old given
             → OnOk result (IsRunning r self.new given) }
         ensures one { OnOk result (self.new.made ≡ self.old.made + 1) }
         ensures few { OnOk result (self.new.made < 2 ^ 64) }
     {
         self.show()?;
-        self.stream.cycle();
+        self.stream.cycle(workers, self.made);
         self.made += 1;
         Ok(())
     }
 
     /// Makes a cycle of a run that has not ended, before which it fetches and gives the next row, where
     /// it is needed.
-    pub(crate) fn go<S: Shelf>(&mut self, shelf: &mut S, feed: &mut RowFeed) -> Result<(), RunFault>
-        requires { (r : Run) × (given : List (List Bool)) × IsFed r (S.held shelf.old feed.old.name) self.old feed.old given × GoesOn r self.old given }
+    pub(crate) fn go<S: Shelf, R: Threads + Sync, G: Gate>(
+        &mut self,
+        shelf: &mut S,
+        feed: &mut RowFeed,
+        workers: &Workers<'_, R, G>,
+    ) -> Result<(), RunFault>
+        requires some { 0 < workers.now.many }
+        requires fed { (r : Run) × (given : List (List Bool)) × IsFed r (S.held shelf.old feed.old.name) self.old feed.old given × GoesOn r self.old given }
         ensures ok { (r : Run) (given : List (List Bool)) → IsFed r (S.held shelf.old feed.old.name) self.old feed.old given → GoesOn r self.old given
             → OnOk result (HasGone r given self.old.made self.new feed.new) }
         ensures err { (r : Run) (given : List (List Bool)) → IsFed r (S.held shelf.old feed.old.name) self.old feed.old given → GoesOn r self.old given
@@ -237,7 +249,7 @@ impl Running {
         if let Err(fault) = self.feed_on(shelf, feed) {
             return Err(fault);
         }
-        let Ok(()) = self.step() else {
+        let Ok(()) = self.step(workers) else {
             return Err(RunFault::Memory);
         };
         Ok(())

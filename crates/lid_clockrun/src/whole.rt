@@ -1,6 +1,6 @@
 //! Running a system over the rows of a file, and telling it as it goes.
 
-ghost use Rattle.std.specs.Prelude.{◌≡◌, ℕ, ◌≤◌, Bool, List, [], length, Option, OnOk, IfErr};
+ghost use Rattle.std.specs.Prelude.{◌≡◌, ℕ, ◌<◌, ◌≤◌, Bool, List, [], length, Option, OnOk, IfErr};
 ghost use Rattle.lid_base.specs.Outside.{Rose};
 ghost use Rattle.lid_system.specs.Systems.{IsWellFormed};
 ghost use Rattle.lid_stations.specs.Placements.{Fits};
@@ -12,16 +12,18 @@ ghost use Rattle.lid_stalltext.specs.Holds.{Ascend, listed};
 use crate::fault::RunFault;
 use crate::lines::Telling;
 use crate::steps::Running;
-use lid_base::{Items, Name, Shelf, Sink};
+use crate::workers::Workers;
+use lid_base::{Gate, Items, Name, Shelf, Sink};
 use lid_feed::RowFeed;
 use lid_stall::Stall;
 use lid_stations::Placement;
 use lid_system::System;
 use std::alloc::Global;
+use std::thread::Threads;
 
 /// Tells a run that has begun: the header, each output row after the cycle in which the sink fired for
 /// it, and the end.
-fn tell_run<S: Shelf, O: Sink>(
+fn tell_run<S: Shelf, O: Sink, R: Threads + Sync, G: Gate>(
     shelf: &mut S,
     out: &mut O,
     system: &System,
@@ -29,7 +31,9 @@ fn tell_run<S: Shelf, O: Sink>(
     feed: &mut RowFeed,
     run: &mut Running,
     telling: &mut Telling,
+    workers: &Workers<'_, R, G>,
 ) -> Result<(), RunFault>
+    requires some { 0 < workers.now.many }
     requires fed { (r : Run) × (given : List (List Bool)) × IsRunOf r system.now columns.now × IsFed r (S.held shelf.old feed.old.name) run.old feed.old given }
     requires none { run.old.made ≡ 0 }
     requires line { telling.old.line.items ≡ [] }
@@ -47,7 +51,7 @@ fn tell_run<S: Shelf, O: Sink>(
         return Err(fault);
     }
     while run.stream.below() {
-        if let Err(fault) = run.go(shelf, feed) {
+        if let Err(fault) = run.go(shelf, feed, workers) {
             return Err(fault);
         }
         if let Err(fault) = telling.tell_last(run.stream.last(), columns, out) {
@@ -64,7 +68,7 @@ fn tell_run<S: Shelf, O: Sink>(
 /// the run to `out`: the output rows below their header line, how many cycles were made and how often each
 /// node fired, and a trace of at most so many cycles, where one is wanted. Where stalls are given, their
 /// cycles ascend, the source and the sink are held as they say, and it is told in how many cycles somebody
-/// was held; nobody is held where none are given. A row is fetched only when it is needed, an output row is
+/// was held; nobody is held where none are given, and then the workers make the cycles. A row is fetched only when it is needed, an output row is
 /// pushed after the cycle in which the sink fired for it, and a piece is written as soon as 65,536 bytes are
 /// held.
 ///
@@ -73,7 +77,7 @@ fn tell_run<S: Shelf, O: Sink>(
 /// feed gave. `Feed` hands on the fault of the feed, where `Read` comes only where the count of its name
 /// rose in this call. `Few` tells how many rows the text has, where it ended without a fault after fewer
 /// rows. `Write` comes only where the count of `out` rose in this call. `Memory` may come at any text.
-pub fn run<S: Shelf, O: Sink>(
+pub fn run<S: Shelf, O: Sink, R: Threads + Sync, G: Gate>(
     alloc: Global,
     shelf: &mut S,
     out: &mut O,
@@ -84,7 +88,9 @@ pub fn run<S: Shelf, O: Sink>(
     feed: &mut RowFeed,
     trace: Option<u64>,
     stalls: Option<Items<Stall>>,
+    workers: &Workers<'_, R, G>,
 ) -> Result<(), RunFault>
+    requires some { 0 < workers.now.many }
     requires system { IsWellFormed system.now }
     requires fits { Fits system.now placement.now }
     requires few { rows ≤ 1000000 }
@@ -104,5 +110,14 @@ pub fn run<S: Shelf, O: Sink>(
     let Ok(mut telling) = Telling::start(alloc) else {
         return Err(RunFault::Memory);
     };
-    tell_run(shelf, out, system, columns, feed, &mut run, &mut telling)
+    tell_run(
+        shelf,
+        out,
+        system,
+        columns,
+        feed,
+        &mut run,
+        &mut telling,
+        workers,
+    )
 }

@@ -3,48 +3,48 @@ use Rattle.lid_clockrun.specs.Courses.{RanBy}
 use Rattle.lid_clockrun.proofs.Goings.{the_life, stepped}
 use Rattle.lid_clockrun.proofs.steps.Running.step.Goals as goal
 
-pub cycle-requires : goal.cycle-requires
-cycle-requires c =
-    let r = c.requires.0 in
-    let given = c.requires.1 in
-    let at = c.requires.2 in
+pub cycle-requires-clause-can : goal.cycle-requires-clause-can
+cycle-requires-clause-can g c κs within =
+    let r = c.requires.ready.0 in
+    let given = c.requires.ready.1 in
+    let at = c.requires.ready.2 in
     let life = the_life r c.args.self.now given at in (
       life.0,
       c.args.self.now.made,
       length given,
       subst (λ s. RanBy life.0 c.args.self.now.made (length given) s) (sym (ap (λ run. run.stream) c.show.ensures.rest)) (at.lives life.0 life.1).ran,
-      c.requires.3 life.0 life.1,
+      c.requires.ready.3 life.0 life.1,
     )
 
 -- a cycle more can be counted
 pub overflow_add-self : goal.overflow_add-self
-overflow_add-self c =
-    let r = c.requires.0 in
-    let given = c.requires.1 in
-    let at = c.requires.2 in
+overflow_add-self g c =
+    let r = c.requires.ready.0 in
+    let given = c.requires.ready.1 in
+    let at = c.requires.ready.2 in
     let life = the_life r c.args.self.now given at in
     let l = life.0 in
     let made = c.args.self.now.made in
     let before = subst (λ s. RanBy l made (length given) s) (sym (ap (λ run. run.stream) c.show.ensures.rest)) (at.lives l life.1).ran in
-    let few = c.cycle.ensures.counts l made (length given) before ((c.cycle.ensures.made l made (length given) before).1 (c.requires.4 l life.1)) in
+    let few = c.cycle.ensures.counts l made (length given) before ((c.cycle.ensures.made l made (length given) before).1 (c.requires.ready.4 l life.1)) in
     let same = ap (λ run. run.made) c.show.ensures.rest in
     omega (arith, few, same)
 
 pub returns-clause-few : goal.returns-clause-few
-returns-clause-few c =
-    let r = c.requires.0 in
-    let given = c.requires.1 in
-    let at = c.requires.2 in
+returns-clause-few g c =
+    let r = c.requires.ready.0 in
+    let given = c.requires.ready.1 in
+    let at = c.requires.ready.2 in
     let life = the_life r c.args.self.now given at in
     let l = life.0 in
     let made = c.args.self.now.made in
     let before = subst (λ s. RanBy l made (length given) s) (sym (ap (λ run. run.stream) c.show.ensures.rest)) (at.lives l life.1).ran in
-    let few = c.cycle.ensures.counts l made (length given) before ((c.cycle.ensures.made l made (length given) before).1 (c.requires.4 l life.1)) in
+    let few = c.cycle.ensures.counts l made (length given) before ((c.cycle.ensures.made l made (length given) before).1 (c.requires.ready.4 l life.1)) in
     let same = ap (λ run. run.made) c.show.ensures.rest in
     omega (arith, few, same)
 
 pub returns-clause-ok : goal.returns-clause-ok
-returns-clause-ok c = λ r given at ready goes.
+returns-clause-ok g c = λ r given at ready goes.
     stepped r c.args.self.now given at _ goes
     (c.in_ok-show.ensures.shown r given at)
     (λ l k g ran below.
