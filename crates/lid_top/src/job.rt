@@ -136,6 +136,8 @@ where
             net,
             vec,
             stations,
+            stalls,
+            workers: _,
             trace,
             root,
         } => run_clock(
@@ -145,6 +147,7 @@ where
             net.as_str(),
             vec.as_str(),
             stations,
+            stalls,
             trace,
             root,
         ),
