@@ -240,7 +240,15 @@ fn the_size_of_a_trace_is_judged_before_the_run(rt: HostRuntime) -> Result<(), F
 
 /// Words of `clock` that are no job.
 static NO_JOBS: &[&[&str]] = &[
-    &["clock", "n.blif", "r.vec", "--stalls", "f", "--workers", "1"],
+    &[
+        "clock",
+        "n.blif",
+        "r.vec",
+        "--stalls",
+        "f",
+        "--workers",
+        "1",
+    ],
     &["clock", "n.blif", "r.vec", "--workers", "65"],
     &["clock", "n.blif"],
     &["clock", "n.blif", "r.vec", "--trace", "0"],

@@ -50,9 +50,7 @@ static RUNS: &[(&str, &str, &str)] = &[
 fn a_run_waits_where_its_environment_does(rt: HostRuntime) -> Result<(), Fail> {
     for (rows, stalls, told) in RUNS {
         let files = [("n.blif", REGISTER), ("r.vec", *rows), ("f", *stalls)];
-        let words = [
-            "clock", "n.blif", "r.vec", "--stalls", "f", "--trace", "10",
-        ];
+        let words = ["clock", "n.blif", "r.vec", "--stalls", "f", "--trace", "10"];
         expect_run(&rt, &words, &files, NONE_FAILS, done(told))?;
     }
     Ok(())

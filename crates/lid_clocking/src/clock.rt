@@ -147,7 +147,9 @@ fn run_checked<'a, S: Shelf, O: Sink>(
     ensures kept { S.held shelf.new ≡ S.held shelf.old }
 {
     match build_system(alloc, checked) {
-        Ok(system) => run_built(alloc, shelf, out, checked, &system, vec, stations, stalls, trace),
+        Ok(system) => run_built(
+            alloc, shelf, out, checked, &system, vec, stations, stalls, trace,
+        ),
         Err(stop) => Err(End::Stopped(stop)),
     }
 }
@@ -190,7 +192,9 @@ pub fn run_clock<'a, S: Shelf, O: Sink>(
     ensures kept { S.held shelf.new ≡ S.held shelf.old }
 {
     match read_net(alloc, shelf, net) {
-        Ok(design) => run_read(alloc, shelf, out, design, vec, stations, stalls, trace, root),
+        Ok(design) => run_read(
+            alloc, shelf, out, design, vec, stations, stalls, trace, root,
+        ),
         Err(stop) => Err(End::Stopped(stop)),
     }
 }
