@@ -31,7 +31,7 @@ returns-in_default-clause-err g c =
 
 -- the feed's file is the same one, and holds the same, once the run has begun
 pub tell_run-requires-clause-fed : goal.tell_run-requires-clause-fed
-tell_run-requires-clause-fed g c =
+tell_run-requires-clause-fed g c κs within =
     let run = run_of c.args.system.now c.args.placement.now c.args.columns.now c.args.rows c.args.trace c.args.stalls (g.S.Shelf.held c.args.shelf.now c.args.feed.now.name) in
     let same = ap (g.S.Shelf.held c.args.shelf.now) (sym c.in-Ok.ensures.name) ∙ ap (λ h. h c.start.new.feed.name) (sym c.in-Ok.ensures.kept) in
     let has = c.in-Ok.ensures.ok run refl refl refl refl refl refl c.requires.feeds in

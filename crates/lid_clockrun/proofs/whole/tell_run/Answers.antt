@@ -37,11 +37,11 @@ loop-run-init g c =
       rises = c.in_default.ensures.grows;
     }
 
-pub go-requires : goal.go-requires
-go-requires g c =
+pub go-requires-clause-fed : goal.go-requires-clause-fed
+go-requires-clause-fed g c κs within =
     let start = c.requires.fed in
     let t = c.loop-run.invariant.telling start.0 start.1 start.2 start.3 in
-    (c.requires.some, (start.0, t.given, t.fed, λ l b. (c.below.ensures l c.loop-run.run.made (length t.given) (t.fed.running.lives l b).ran).0 c.loop-run-test.true))
+    (start.0, t.given, t.fed, λ l b. (c.below.ensures l c.loop-run.run.made (length t.given) (t.fed.running.lives l b).ran).0 c.loop-run-test.true)
 
 pub returns-in-Err-go-clause-err : goal.returns-in-Err-go-clause-err
 returns-in-Err-go-clause-err g c = λ r given of fed.
