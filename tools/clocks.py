@@ -6,8 +6,8 @@ tables, on random designs, placements and rows.
 
 The slow run has no stations and no pearls: how often an actor has fired is the least that its edges allow, and a
 token is packed from the strict table. `strict` and `clock` must give the same rows, and `clock` the cycles, the
-firings and the trace of the slow run. What `wave` writes shows this trace, to waves.py and to `unwave`. It stops at
-the first difference.
+firings and the trace of the slow run, with and without stalls. What `wave` writes shows this trace, to waves.py and
+to `unwave`. It stops at the first difference.
 """
 
 import sys
@@ -20,13 +20,14 @@ from reference import Judge, Refused, channels, pearls, settle
 from waves import shown
 
 
-def firing_counts(nodes: int, count: int, edges: list, rows: int) -> list[list[int]]:
-    """The counts after each number of cycles, until the sink has fired for each row."""
+def firing_counts(nodes: int, count: int, edges: list, rows: int, held: dict[int, set]) -> list[list[int]]:
+    """The counts after each number of cycles, until the sink has fired for each row; `held` has who is held in a cycle."""
     cap = [max(rows - 1, 0) if v < nodes - 1 else rows for v in range(count)]
     after = [[0] * count]
     while after[-1][nodes - 1] < rows:
-        now = after[-1]
-        after.append([min([cap[v], *(now[a] + tokens for a, b, tokens in edges if b == v)]) for v in range(count)])
+        now, rests = after[-1], held.get(len(after) - 1, set())
+        most = lambda v: min([cap[v], *(now[a] + tokens for a, b, tokens in edges if b == v)])
+        after.append([now[v] if v in rests else most(v) for v in range(count)])
     return after
 
 
@@ -48,11 +49,13 @@ def port_columns(judge: Judge) -> list[list[tuple]]:
 class Run:
     """The slow run of a design with stations over rows."""
 
-    def __init__(self, judge: Judge, whole, chans: list, relays: list[int], caps: list[int], rows: list[list[int]]):
-        self.nodes = len(pearls(judge)) + 2
+    def __init__(self, judge: Judge, whole, chans: list, relays: list[int], caps: list[int], rows: list[list[int]], stalls=None):
+        self.nodes, self.stalls = len(pearls(judge)) + 2, stalls
+        who = {"in": {0}, "out": {self.nodes - 1}, "both": {0, self.nodes - 1}}
+        held = {cycle: who[word] for cycle, word in stalls or []}
         self.caps, self.rows = caps, len(rows)
         count, self.edges = marking(self.nodes, chans, relays, caps)
-        self.after = firing_counts(self.nodes, count, self.edges, len(rows))
+        self.after = firing_counts(self.nodes, count, self.edges, len(rows), held)
         self.table = tables(judge, whole, judge.data_inputs(judge.root), rows)
         named = port_columns(judge)
         self.ports = [[named[a][j] for j in js] for (a, _, _, js), k in zip(chans, relays) for _ in range(k + 1)]
@@ -71,6 +74,8 @@ class Run:
         cycles = len(self.after) - 1
         name = lambda v: "in" if v == 0 else "out" if v == self.nodes - 1 else f"u{v - 1}"
         lines = [f"cycles {cycles}"] + [f"fired {name(v)} {self.after[-1][v]}" for v in range(self.nodes)]
+        if self.stalls is not None:
+            lines.append(f"stalled {sum(cycle < cycles for cycle, _ in self.stalls)}")
         if trace is not None:
             stations = range(len(self.ports))
             lines += [f"trace {len(stations)} {min(trace, cycles)}"]
@@ -93,7 +98,20 @@ def compare_run(session: Session, judge: Judge, whole, chans: list, named: list[
     session.want(session.run(*words), (wanted, "", 0), " ".join(map(str, words)))
     if trace is not None:
         compare_wave(session, words[1:], run.told(trace)[run.nodes + 1 :])
+    stalls = draw_stalls(session)
+    run = Run(judge, whole, chans, relays, caps, rows, stalls)
+    wanted = outs + "".join(line + "\n" for line in run.told(trace))
+    session.want(session.run(*words, "--stalls", session.files["stalls"]), (wanted, "", 0), "clock under stalls")
     session.came["with rows" if rows else "without rows"] += 1
+
+
+def draw_stalls(session: Session) -> list[tuple[int, str]]:
+    """Stalls of random cycles, and their text in its file."""
+    chance = session.dice.choice([0, 0.1, 0.5, 0.9])
+    drawn = [(cycle, session.dice.choice(["in", "out", "both"])) for cycle in range(session.dice.choice([3, 12, 40]))]
+    stalls = [stall for stall in drawn if session.dice.random() < chance]
+    session.files["stalls"].write_text("lid-stalls 1\n" + "".join(f"{cycle} {word}\n" for cycle, word in stalls))
+    return stalls
 
 
 def compare_wave(session: Session, words: list, trace: list[str]):
@@ -109,7 +127,7 @@ def main():
     maker = Maker(int(sys.argv[1]))
     with tempfile.TemporaryDirectory() as folder:
         session = Session(folder, maker.dice)
-        session.files |= {name: Path(folder, name) for name in ("rows", "dump")}
+        session.files |= {name: Path(folder, name) for name in ("rows", "dump", "stalls")}
         for _ in range(int(sys.argv[2])):
             models = maker.design()
             try:

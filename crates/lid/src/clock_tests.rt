@@ -238,10 +238,18 @@ fn the_size_of_a_trace_is_judged_before_the_run(rt: HostRuntime) -> Result<(), F
     Ok(())
 }
 
-/// Words of runs that are not built.
-static UNBUILT: &[&[&str]] = &[
-    &["clock", "n.blif", "r.vec", "--stalls", "f"],
-    &["clock", "n.blif", "r.vec", "--workers", "1"],
+/// Words of `clock` that are no job.
+static NO_JOBS: &[&[&str]] = &[
+    &[
+        "clock",
+        "n.blif",
+        "r.vec",
+        "--stalls",
+        "f",
+        "--workers",
+        "1",
+    ],
+    &["clock", "n.blif", "r.vec", "--workers", "65"],
     &["clock", "n.blif"],
     &["clock", "n.blif", "r.vec", "--trace", "0"],
     &["clock", "n.blif", "r.vec", "--trace", "1048577"],
@@ -249,7 +257,7 @@ static UNBUILT: &[&[&str]] = &[
 
 #[test]
 fn other_words_of_clock_are_no_job(rt: HostRuntime) -> Result<(), Fail> {
-    for words in UNBUILT {
+    for words in NO_JOBS {
         expect_run(&rt, words, &[], NONE_FAILS, ended(2, "lid: usage\n"))?;
     }
     Ok(())

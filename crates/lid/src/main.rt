@@ -19,6 +19,8 @@ mod report_tests;
 #[cfg(test)]
 mod run_tests;
 #[cfg(test)]
+mod stall_tests;
+#[cfg(test)]
 mod tests;
 
 use lid_base::{DirShelf, StdSink, Text};

@@ -4,10 +4,10 @@ use Rattle.clap.proofs.OnLiterals.{clap_on_literals}
 use Rattle.lid_cli.specs.declared.job.Job.TheVariants.{Check, Clock, Gen, Place, Rate, Strict, Verify, Walk}
 use Rattle.lid_base.specs.Numbers.{number_below}
 use Rattle.lid_cli.specs.Reading.{lid_app, given_in}
-use Rattle.lid_cli.specs.Jobs.{is_given, is_tallied, files_in, file_at, name_in, seed_in, number_if, number_or, clock_job, is_allowed, has_only, has_each, is_within, fits, option_fits, has_both, has_form, job_made, job_formed, form_in, job_given, job_of}
+use Rattle.lid_cli.specs.Jobs.{is_given, is_tallied, files_in, file_at, name_in, seed_in, number_if, number_or, is_allowed, has_only, has_each, is_within, fits, option_fits, has_both, has_form, job_made, job_formed, form_in, job_given, job_of}
 
 unfoldable words_on_literals : Unit {0}
-unfolding clap_on_literals lid_app given_in is_given is_tallied number_below files_in file_at name_in seed_in number_if number_or clock_job is_allowed has_only has_each is_within fits option_fits has_both has_form job_made job_formed form_in job_given job_of
+unfolding clap_on_literals lid_app given_in is_given is_tallied number_below files_in file_at name_in seed_in number_if number_or is_allowed has_only has_each is_within fits option_fits has_both has_form job_made job_formed form_in job_given job_of
 words_on_literals = tt
 
 -- `check --root m a`
@@ -21,12 +21,17 @@ unfolding words_on_literals
 strict_with_root = refl
 
 -- `clock a b --trace 7 --stations s`
-clock_with_trace : job_of (codes "clock" ∷ codes "a" ∷ codes "b" ∷ codes "--trace" ∷ codes "7" ∷ codes "--stations" ∷ codes "s" ∷ []) ≡ Some (Clock (codes "a") (codes "b") (Some (codes "s")) (Some 7) None)
+clock_with_trace : job_of (codes "clock" ∷ codes "a" ∷ codes "b" ∷ codes "--trace" ∷ codes "7" ∷ codes "--stations" ∷ codes "s" ∷ []) ≡ Some (Clock (codes "a") (codes "b") (Some (codes "s")) None 1 (Some 7) None)
 unfolding words_on_literals
 clock_with_trace = refl
 
--- `clock a b --workers 2`, which is not built yet
-clock_on_workers : job_of (codes "clock" ∷ codes "a" ∷ codes "b" ∷ codes "--workers" ∷ codes "2" ∷ []) ≡ None
+-- `clock a b --stalls h`
+clock_with_stalls : job_of (codes "clock" ∷ codes "a" ∷ codes "b" ∷ codes "--stalls" ∷ codes "h" ∷ []) ≡ Some (Clock (codes "a") (codes "b") None (Some (codes "h")) 1 None None)
+unfolding words_on_literals
+clock_with_stalls = refl
+
+-- `clock a b --workers 2`
+clock_on_workers : job_of (codes "clock" ∷ codes "a" ∷ codes "b" ∷ codes "--workers" ∷ codes "2" ∷ []) ≡ Some (Clock (codes "a") (codes "b") None None 2 None None)
 unfolding words_on_literals
 clock_on_workers = refl
 
@@ -56,7 +61,7 @@ unfolding words_on_literals
 verify_with_root = refl
 
 -- two files of `check`, one of `strict`, an option of another command, the flag of another, a number out of its
--- range, and an option that is not there
+-- range, an option that is not there, and stalls on workers
 words_are_no_job :
     (job_of (codes "check" ∷ codes "a" ∷ codes "b" ∷ []) ≡ None)
     × (job_of (codes "strict" ∷ codes "a" ∷ []) ≡ None)
@@ -64,8 +69,9 @@ words_are_no_job :
     × (job_of (codes "strict" ∷ codes "a" ∷ codes "b" ∷ codes "--tally" ∷ []) ≡ None)
     × (job_of (codes "place" ∷ codes "a" ∷ codes "--wires" ∷ codes "w" ∷ codes "--reach" ∷ codes "0" ∷ []) ≡ None)
     × (job_of (codes "place" ∷ codes "a" ∷ codes "--reach" ∷ codes "10" ∷ []) ≡ None)
+    × (job_of (codes "clock" ∷ codes "a" ∷ codes "b" ∷ codes "--workers" ∷ codes "2" ∷ codes "--stalls" ∷ codes "h" ∷ []) ≡ None)
 unfolding words_on_literals
-words_are_no_job = (refl, refl, refl, refl, refl, refl)
+words_are_no_job = (refl, refl, refl, refl, refl, refl, refl)
 
 -- an option twice, one without its value, the flag twice, and the flag with a value
 words_are_not_given :

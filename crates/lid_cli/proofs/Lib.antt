@@ -2,4 +2,3 @@ pub mod Readings
 pub mod SameTable
 mod Examples
 pub mod Reaches
-pub mod Clocks

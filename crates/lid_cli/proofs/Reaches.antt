@@ -9,7 +9,7 @@ use Rattle.clap.specs.Walk.{Row, first_of}
 use Rattle.lid_base.specs.Numbers.{number}
 use Rattle.lid_cli.specs.Table.{Form}
 use Rattle.lid_cli.specs.Reading.{option_names}
-use Rattle.lid_cli.specs.Jobs.{fits, is_within, files_in, files_fit, has_each, has_only, has_both, is_tallied, option_fits, has_form, number_if, number_or, IsTraceLong}
+use Rattle.lid_cli.specs.Jobs.{fits, is_within, files_in, files_fit, has_each, has_only, has_both, is_tallied, option_fits, has_form, number_if, number_or, AreFew, IsTraceLong}
 
 between : (least greatest : ℕ) (n : Option ℕ) → option_map_or (λ m. nat_le least m && nat_le m greatest) n false ≡ true → IfSome n (λ m. (least ≤ m) × (m ≤ greatest))
 between least greatest None h = tt
@@ -57,6 +57,10 @@ trace_range : (text : List ℕ) → fits (codes "trace") text ≡ is_within 1 10
 unfolding fits
 trace_range text = refl
 
+workers_range : (text : List ℕ) → fits (codes "workers") text ≡ is_within 1 64 text
+unfolding fits
+workers_range text = refl
+
 reach_range : (text : List ℕ) → fits (codes "reach") text ≡ is_within 1 9223372036854775807 text
 unfolding fits
 reach_range text = refl
@@ -80,6 +84,12 @@ module _ (found : List Row) (all : list_all (option_fits found) option_names ≡
   pub trace_long : IsTraceLong (number_or 1 (codes "trace") found)
   unfolding number_or
   trace_long = other_in_range 1 1048576 1 (number_if (codes "trace") found) (omega arith) (omega arith) trace_sound
+
+  pub workers_few : AreFew (number_or 1 (codes "workers") found)
+  unfolding number_or
+  workers_few =
+      other_in_range 1 64 1 (number_if (codes "workers") found) (omega arith) (omega arith)
+      (number_in_range (codes "workers") 1 64 workers_range found (fits_at 3 (codes "workers") (omega arith) refl))
 
   pub reach_positive : 1 ≤ number_or 1 (codes "reach") found
   unfolding number_or

@@ -113,13 +113,9 @@ number_if option found = option_and_then number (first_of option found)
 unfoldable pub number_or : ℕ → List ℕ → List Row → ℕ
 number_or other option found = unwrap_or (number_if option found) other
 
--- the job of `clock` without stalls and on no workers
-abbrev pub plain_clock_job : List Row → Option Job
-plain_clock_job found = Some (Clock (file_at 0 found) (file_at 1 found) (first_of STATIONS.now found) (number_if TRACE.now found) (root_in found))
-
--- the job of `clock`; one with stalls or on workers is not built yet
-unfoldable pub clock_job : List Row → Option Job
-clock_job found = if is_given found STALLS.now || is_given found WORKERS.now then None else plain_clock_job found
+-- the job of `clock`
+abbrev pub clock_job : List Row → Option Job
+clock_job found = Some (Clock (file_at 0 found) (file_at 1 found) (first_of STATIONS.now found) (first_of STALLS.now found) (number_or 1 WORKERS.now found) (number_if TRACE.now found) (root_in found))
 
 -- the seed that stands in the first place
 unfoldable pub seed_in : List Row → ℕ
@@ -195,9 +191,13 @@ job_of words = option_and_then job_given (given_in words)
 abbrev pub IsTraceLong : ℕ → Type 0
 IsTraceLong cycles = (1 ≤ cycles) × (cycles ≤ 1048576)
 
+-- there are some workers and not too many
+abbrev pub AreFew : ℕ → Type 0
+AreFew workers = (1 ≤ workers) × (workers ≤ 64)
+
 -- numbers are in their ranges
 abbrev pub IsSound : Job → Type 0
-IsSound (Clock net vec stations trace root) = IfSome trace IsTraceLong
+IsSound (Clock net vec stations stalls workers trace root) = AreFew workers × IfSome trace IsTraceLong
 IsSound (Gen seed shells run) = (shells ≤ 4294967295) × IfSome run (λ rows. (1 ≤ rows) × (rows ≤ 1000000))
 IsSound (Place net wires reach root) = 1 ≤ reach
 IsSound (Wave net vec stations trace root) = IsTraceLong trace

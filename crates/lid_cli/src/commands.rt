@@ -2,9 +2,9 @@
 
 ghost use Rattle.std.specs.Prelude.{◌≡◌, IfOk};
 ghost use Rattle.lid_cli.specs.Reading.{matches_in};
-ghost use Rattle.lid_cli.specs.Jobs.{file_at, root_in, seed_in, number_if, number_or, check_job, gen_job, place_job, rate_job, strict_job, unwave_job, verify_job, walk_job, wave_job, plain_clock_job, clock_job};
+ghost use Rattle.lid_cli.specs.Jobs.{file_at, root_in, seed_in, number_if, number_or, check_job, gen_job, place_job, rate_job, strict_job, unwave_job, verify_job, walk_job, wave_job, clock_job};
 
-use crate::given::{file_at, file_text, is_given, root_of, text_if_given, text_of, value_of};
+use crate::given::{file_at, file_text, root_of, text_if_given, text_of, value_of};
 use crate::job::Job;
 use crate::table::{REACH, RUN, SCHEDULE, SHELLS, STALLS, STATIONS, TRACE, WIRES, WORKERS};
 use clap::ArgMatches;
@@ -48,32 +48,23 @@ fn number_or(given: &ArgMatches<'_>, option: &str, other: u64) -> u64
     number_if(given, option).unwrap_or(other)
 }
 
-/// The job of `clock` without stalls and on no workers.
-fn plain_clock_job(alloc: Global, given: &ArgMatches<'_>) -> Result<Option<Job>, AllocError>
-    ensures { IfOk result (λ job. job ≡ plain_clock_job (matches_in given.now)) }
+/// The job of `clock`.
+pub fn clock_job(alloc: Global, given: &ArgMatches<'_>) -> Result<Option<Job>, AllocError>
+    ensures { IfOk result (λ job. job ≡ clock_job (matches_in given.now)) }
 {
     let (net, root) = netlist_of(alloc, given)?;
     let vec = file_text(alloc, given, 1)?;
     let stations = text_if_given(alloc, given, STATIONS)?;
+    let stalls = text_if_given(alloc, given, STALLS)?;
     Ok(Some(Job::Clock {
         net,
         vec,
         stations,
+        stalls,
+        workers: number_or(given, WORKERS, 1),
         trace: number_if(given, TRACE),
         root,
     }))
-}
-
-/// The job of `clock`; one with stalls or on workers is not built yet.
-#[tactic(auto, unfolding(crate::specs::Jobs::clock_job))]
-pub fn clock_job(alloc: Global, given: &ArgMatches<'_>) -> Result<Option<Job>, AllocError>
-    ensures { IfOk result (λ job. job ≡ clock_job (matches_in given.now)) }
-{
-    if is_given(given, STALLS) || is_given(given, WORKERS) {
-        Ok(None)
-    } else {
-        plain_clock_job(alloc, given)
-    }
 }
 
 /// The seed that stands in the first place.

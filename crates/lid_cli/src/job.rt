@@ -34,6 +34,10 @@ pub enum Job {
         vec: Text,
         /// The name of the file with the stations, as for `rate`.
         stations: Option<Text>,
+        /// The name of the file with the stalls, where the environment stalls.
+        stalls: Option<Text>,
+        /// The number of workers, 1 to 64; 1 where stalls are given.
+        workers: u64,
         /// The number of cycles of the trace, 1 to 1,048,576, where one is asked for.
         trace: Option<u64>,
         /// The name of the model that is to be the root, as for `strict`.

@@ -39,7 +39,7 @@ fn ends_after(clocked: &mut Clocked, cycles: u64) -> bool
 }
 
 /// Whether the stations show this.
-fn show_so(clocked: &Clocked, shown: &[u8]) -> bool
+pub(crate) fn show_so(clocked: &Clocked, shown: &[u8]) -> bool
     requires { IsRun clocked.now }
 {
     let stations = clocked.stream.stations.as_slice().len();
@@ -55,7 +55,7 @@ fn show_so(clocked: &Clocked, shown: &[u8]) -> bool
 }
 
 /// Whether the actors have fired so often.
-fn fired_so(clocked: &Clocked, fired: &[u8]) -> bool
+pub(crate) fn fired_so(clocked: &Clocked, fired: &[u8]) -> bool
     requires { IsRun clocked.now }
 {
     let actors = clocked.stream.actors.as_slice().len();
@@ -71,7 +71,7 @@ fn fired_so(clocked: &Clocked, fired: &[u8]) -> bool
 }
 
 /// Whether rows have one column each, with these bits.
-fn are_bits(rows: &[Vec<bool>], bits: &[u8]) -> bool {
+pub(crate) fn are_bits(rows: &[Vec<bool>], bits: &[u8]) -> bool {
     if rows.len() != bits.len() {
         return false;
     }

@@ -4,6 +4,8 @@
 #[cfg(test)]
 mod at_hand;
 #[cfg(test)]
+mod on_workers;
+#[cfg(test)]
 mod setting;
 #[cfg(test)]
 mod streams;

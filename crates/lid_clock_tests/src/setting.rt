@@ -54,6 +54,23 @@ pub(crate) fn one_relay(alloc: Global) -> Option<Placement>
     })
 }
 
+/// A relay station on the first of three channels, and eight on the last.
+pub(crate) fn nine_relays(alloc: Global) -> Option<Placement>
+    ensures relays { IfSome result (λ p. p.relays ≡ 1 ∷ 0 ∷ 8 ∷ []) }
+    ensures caps { IfSome result (λ p. p.caps ≡ 2 ∷ 2 ∷ 2 ∷ 2 ∷ 2 ∷ 2 ∷ 2 ∷ 2 ∷ 2 ∷ 2 ∷ 2 ∷ 2 ∷ []) }
+{
+    let Ok(relays) = vec![in alloc; 1, 0, 8] else {
+        return None;
+    };
+    let Ok(caps) = vec![in alloc; 2; 12] else {
+        return None;
+    };
+    Some(Placement {
+        relays: Items::from_vec(relays),
+        caps: Items::from_vec(caps),
+    })
+}
+
 /// Two relay stations on the second of two channels.
 pub(crate) fn two_relays(alloc: Global) -> Option<Placement>
     ensures relays { IfSome result (λ p. p.relays ≡ 0 ∷ 2 ∷ []) }

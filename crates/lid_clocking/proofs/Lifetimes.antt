@@ -1,11 +1,13 @@
--- The life of the system of a design for rows, in which nobody is held: its text is that of the design.
+-- The life of the system of a design for rows, held as stalls say where they are given: its text is that of the design.
 use Rattle.std.proofs.Common.{◌≡◌, ℕ, ◌-◌, ◌≤◌, ◌==◌, nat_lt, min, Bool, if◌then◌else◌, List, [], ◌∷◌, ◌++◌, length, Option, None, Some, slice_get, refl, sym, ◌∙◌, ap, arith}
 use Rattle.std.specs.List.{AllByRecursion, flat_map}
 use Rattle.lid_base.specs.declared.runs.Shown.{Shown}
 use Rattle.lid_design.specs.declared.Design.{Design}
 use Rattle.lid_design.specs.Network.{Table, IsStrict, from_each}
 use Rattle.lid_design.specs.Columns.{Column, drivers, root_inputs, root_outputs, output_rows}
-use Rattle.lid_graph.specs.Firings.{no_hold}
+use Rattle.lid_graph.specs.Firings.{Hold}
+use Rattle.lid_stalltext.specs.declared.stalls.Stall.{Stall}
+use Rattle.lid_stalltext.specs.Holds.{hold_of, stalled_line}
 use Rattle.lid_system.specs.declared.System.{System}
 use Rattle.lid_system.specs.Systems.{IsWellFormed}
 use Rattle.lid_system.proofs.Streaming.{each_same}
@@ -13,7 +15,7 @@ use Rattle.lid_agree.specs.Agreement.{seen, IsSystemOf}
 use Rattle.lid_agree.proofs.Agreeing.{table_is, rows_are}
 use Rattle.lid_stations.specs.declared.placement.Placement.{Placement}
 use Rattle.lid_stations.specs.Placements.{links_of, station_count, Fits}
-use Rattle.lid_runs.specs.Runs.{token_of, fired_in, in_count, out_count}
+use Rattle.lid_runs.specs.Runs.{sink_of, token_of, fired_in, in_count, out_count}
 use Rattle.lid_stations.specs.Stations.{capacity}
 use Rattle.lid_runs.specs.Views.{shown_as, shown_at}
 use Rattle.lid_clock.specs.Lives.{Life, IsWide, shown_after}
@@ -21,7 +23,7 @@ use Rattle.lid_texts.specs.RowsText.{rows_text}
 use Rattle.lid_reports.specs.Runs.{cycles_text, trace_text}
 use Rattle.lid_clockrun.specs.RunTexts.{IsLifeOf, IsRunText, cells_after, end_text}
 use Rattle.lid_clockrun.specs.RunTexts as run
-use Rattle.lid_script.specs.Clocked.{station_token, cells_of, nodes_fired, traced, IsClockText}
+use Rattle.lid_script.specs.Clocked.{station_token, cells_under, nodes_fired, traced, clock_end, IsClockText}
 use Rattle.lid_script.proofs.Tokens.{all_so, token_same, are_outputs}
 
 flat_same : {A B : Type 0} (f g : A → List B) (xs : List A) → ((x : A) → f x ≡ g x) → flat_map f xs ≡ flat_map g xs
@@ -33,11 +35,14 @@ shown_same cap put taken f g same =
     let with_token : ℕ → Shown = λ token. record { valid = nat_lt taken put; stop = put - taken == cap; token = if nat_lt taken put then token else 0 } in
     ap with_token same
 
-module _ (d : Design) (s : System) (p : Placement) (of : IsSystemOf d s) (well : IsWellFormed s) (rows : List (List Bool)) (b : Table Column) (strict : IsStrict (drivers d) rows b) where
-  abbrev pub life : Life
-  life = record { system = s; placement = p; input = rows; table = seen d of.columns b; hold = no_hold }
+module _ (d : Design) (s : System) (p : Placement) (of : IsSystemOf d s) (well : IsWellFormed s) (rows : List (List Bool)) (b : Table Column) (strict : IsStrict (drivers d) rows b) (stalls : Option (List Stall)) where
+  abbrev held : Hold
+  held = hold_of stalls (sink_of (links_of s))
 
-  pub lives : Fits s p → length rows ≤ 1000000 → AllByRecursion (λ row. length row ≡ length (root_inputs d)) rows → IsLifeOf life s p
+  abbrev pub life : Life
+  life = record { system = s; placement = p; input = rows; table = seen d of.columns b; hold = held }
+
+  pub lives : Fits s p → length rows ≤ 1000000 → AllByRecursion (λ row. length row ≡ length (root_inputs d)) rows → IsLifeOf life s p stalls
   lives fits few wide = record {
     rules = record {
       system = well;
@@ -48,30 +53,30 @@ module _ (d : Design) (s : System) (p : Placement) (of : IsSystemOf d s) (well :
     };
     of = refl;
     stations = refl;
-    free = refl;
+    held = refl;
   }
 
   abbrev count : ℕ
   count = length rows
 
-  cells_same : (k : ℕ) → run.cells_of life k ≡ cells_of d b (links_of s) p count k
+  cells_same : (k : ℕ) → run.cells_of life k ≡ cells_under d b (links_of s) p count held k
   cells_same k =
       let l = links_of s in
-      let fired = fired_in l p count no_hold k in
+      let fired = fired_in l p count held k in
       each_same (shown_after life k) (λ station. shown_at l p count fired station (station_token d b l p station)) 0 (station_count p.relays)
       (λ station h. shown_same (capacity p station) (in_count l p count fired station) (out_count l p fired station)
       (token_of s p (seen d of.columns b) station) (station_token d b l p station) (token_same d s of well b p station (out_count l p fired station)))
 
-  cells_after_same : (k : ℕ) → cells_after life k ≡ flat_map (cells_of d b (links_of s) p count) (from_each (λ j. j) 0 k)
-  cells_after_same k = flat_same (run.cells_of life) (cells_of d b (links_of s) p count) (from_each (λ j. j) 0 k) cells_same
+  cells_after_same : (k : ℕ) → cells_after life k ≡ flat_map (cells_under d b (links_of s) p count held) (from_each (λ j. j) 0 k)
+  cells_after_same k = flat_same (run.cells_of life) (cells_under d b (links_of s) p count held) (from_each (λ j. j) 0 k) cells_same
 
-  traced_same : (trace : Option ℕ) (k : ℕ) → run.traced life trace k ≡ traced d b (links_of s) p count k trace
+  traced_same : (trace : Option ℕ) (k : ℕ) → run.traced life trace k ≡ traced d b (links_of s) p count held k trace
   traced_same None k = refl
   traced_same (Some most) k =
       let told : List Shown → List ℕ = λ cells. trace_text (record { stations = station_count p.relays; cycles = min most k; cells = cells }) in
       ap told (cells_after_same (min most k))
 
-  pub clock_text : (trace : Option ℕ) (text : List ℕ) → IsRunText life (root_outputs d) trace text → IsClockText d (links_of s) p rows trace text
+  pub clock_text : (trace : Option ℕ) (text : List ℕ) → IsRunText life (root_outputs d) stalls trace text → IsClockText d (links_of s) p rows stalls trace text
   clock_text trace text is = record {
     table = b;
     strict = strict;
@@ -82,6 +87,6 @@ module _ (d : Design) (s : System) (p : Placement) (of : IsSystemOf d s) (well :
     within = is.within;
     written =
         is.written
-        ∙ ap (λ outs. rows_text (root_outputs d) outs ++ end_text life trace is.cycles) (rows_are d s of well rows b strict)
-        ∙ ap (λ told. rows_text (root_outputs d) (output_rows d b count) ++ (cycles_text is.cycles (nodes_fired (links_of s) p count is.cycles) ++ told)) (traced_same trace is.cycles);
+        ∙ ap (λ outs. rows_text (root_outputs d) outs ++ end_text life stalls trace is.cycles) (rows_are d s of well rows b strict)
+        ∙ ap (λ told. rows_text (root_outputs d) (output_rows d b count) ++ (cycles_text is.cycles (nodes_fired (links_of s) p count held is.cycles) ++ (stalled_line stalls is.cycles ++ told))) (traced_same trace is.cycles);
   }

@@ -15,6 +15,7 @@ use Rattle.lid_agree.specs.Agreement.{IsSystemOf}
 use Rattle.lid_stations.specs.declared.placement.Placement.{Placement}
 use Rattle.lid_stations.specs.Placements.{links_of, Fits}
 use Rattle.lid_clock.specs.Lives.{Life, IsWide}
+use Rattle.lid_stalltext.specs.declared.stalls.Stall.{Stall}
 use Rattle.lid_texts.specs.declared.rows.VecFault.TheVariants.{Changed}
 use Rattle.lid_refusals.specs.declared.refusal.Refusal.TheVariants.{Rows}
 use Rattle.lid_refusals.specs.Refusals.{refusal_line}
@@ -45,16 +46,16 @@ source_named d s of well =
     let first = first_node s well in
     ap (λ o. option_map_or columns_of o []) first.1 ∙ of.source 0 first.0 first.1
 
-module _ (held : List ℕ → Option (List ℕ)) (d : Design) (s : System) (p : Placement) (file : Bor (List ℕ)) (trace : Option ℕ) (count : ℕ) (rows : List (List Bool))
+module _ (held : List ℕ → Option (List ℕ)) (d : Design) (s : System) (p : Placement) (file : Bor (List ℕ)) (stalls : Option (List Stall)) (trace : Option ℕ) (count : ℕ) (rows : List (List Bool))
     (of : IsSystemOf d s) (well : IsWellFormed s) (fits : Fits s p) (few : count ≤ 1000000) (has : HasTable (drivers d)) (got : Got held file.now rows_limit (vec_reading d) rows) (many : count ≡ length rows) where
   abbrev vec : List ℕ
   vec = file.now
 
   abbrev r : Run
-  r = record { system = s; placement = p; columns = root_outputs d; rows = count; trace = trace; held = held vec }
+  r = record { system = s; placement = p; columns = root_outputs d; rows = count; trace = trace; stalls = stalls; held = held vec }
 
   abbrev script : Script
-  script = rerun_script d (links_of s) p vec trace rows
+  script = rerun_script d (links_of s) p vec stalls trace rows
 
   module _ (given : List (List Bool)) (are : AreGiven r given) where
     abbrev Wide : List Bool → Type 0
@@ -72,21 +73,21 @@ module _ (held : List ℕ → Option (List ℕ)) (d : Design) (s : System) (p : 
     table = has second.input
 
     abbrev alive : Life
-    alive = life d s p of well second.input table.0 table.1
+    alive = life d s p of well second.input table.0 table.1 stalls
 
     begins : Begins r given alive
     begins = record {
-      of = lives d s p of well second.input table.0 table.1 fits (let same = second.is.many in omega (arith, same, many, few)) second.is.wide;
+      of = lives d s p of well second.input table.0 table.1 stalls fits (let same = second.is.many in omega (arith, same, many, few)) second.is.wide;
       many = second.is.many ∙ sym many;
       first = second.first;
     }
 
-    has_text : (text : List ℕ) → IsRunText alive (root_outputs d) trace text → HasText held script text
+    has_text : (text : List ℕ) → IsRunText alive (root_outputs d) stalls trace text → HasText held script text
     unfolding rerun_script
     has_text text is = record {
-      output = clocked d (links_of s) p second.input trace;
+      output = clocked d (links_of s) p second.input stalls trace;
       ends = inl (second.input, second.is, refl);
-      text_of = clock_text d s p of well second.input table.0 table.1 trace text is;
+      text_of = clock_text d s p of well second.input table.0 table.1 stalls trace text is;
     }
 
     part_written : (old new : Option (List ℕ)) → ((l : Life) → Begins r given l → WritesPart r l old new) → WritesPrefix held script old new

@@ -7,3 +7,4 @@ mod rerun;
 mod stops;
 
 pub use clock::run_clock;
+pub use lid_clockrun::Workers;

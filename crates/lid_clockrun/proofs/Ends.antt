@@ -1,9 +1,8 @@
 -- How often the sink has fired, and when a run ends.
-use Rattle.std.proofs.Common.{◌≡◌, ℕ, zero, suc, ◌+◌, ◌-◌, ◌*◌, ◌<◌, ◌≤◌, ◌==◌, Option, ◌++◌, ◌⊎◌, inl, inr, nat_lt, Bool, true, false, cond, List, length, refl, sym, ◌∙◌, ap, subst, le-ltb, arith}
-use Rattle.std.proofs.lemmas.Bool.{ltb-true, ltb-false}
+use Rattle.std.proofs.Common.{◌≡◌, ℕ, zero, suc, ◌+◌, ◌-◌, ◌*◌, ◌<◌, ◌≤◌, ◌==◌, Option, ◌++◌, ◌⊎◌, inl, inr, Bool, true, false, cond, List, length, refl, sym, ◌∙◌, ap, subst, le-ltb, arith}
 use Rattle.std.proofs.lemmas.Bool.Decides.{eqb_tells}
 use Rattle.lid_graph.specs.declared.graph.Graph.{Graph}
-use Rattle.lid_graph.specs.Firings.{Counts, no_hold, IsFirstAtCap}
+use Rattle.lid_graph.specs.Firings.{Counts, IsFirstAtCap}
 use Rattle.lid_graph.proofs.Counting.{firings_cap}
 use Rattle.lid_firings.proofs.Rising.{rises, rises_by_one}
 use Rattle.lid_system.specs.declared.System.{System}
@@ -13,11 +12,15 @@ use Rattle.lid_stations.specs.Stations.{actor_count}
 use Rattle.lid_stations.specs.Markings.{marking}
 use Rattle.lid_stations.proofs.Edges.{node_count}
 use Rattle.lid_stations.proofs.Alive.{rateable}
-use Rattle.lid_runs.specs.Runs.{cap_of, fired_in}
+use Rattle.lid_runs.specs.Runs.{cap_of}
 use Rattle.lid_clock.specs.Lives.{Life, IsLife, fired_after, sink, IsBelow}
 use Rattle.lid_clockrun.specs.RunTexts.{IsRunText, end_text, first_outputs}
 use Rattle.lid_texts.specs.RowsText.{rows_text}
-use Rattle.lid_runs.proofs.Ending.{ends, ends_within_lag}
+use Rattle.lid_stalltext.specs.declared.stalls.Stall.{Stall}
+use Rattle.lid_stalltext.specs.Holds.{listed, hold_of, stalled_of, Ascend}
+use Rattle.lid_stall.specs.Runs.{stalled_after, IsOverBy}
+use Rattle.lid_stall.proofs.Delays.{stalled_is, ends_at, is_over}
+use Rattle.lid_clockrun.proofs.Stalling.{held_by, stalled_listed}
 
 -- where a count comes to a number, it does so first
 pub record IsFirstAt (f : ℕ → ℕ) (n k : ℕ) : Type 0 where
@@ -81,33 +84,35 @@ module _ (l : Life) (rules : IsLife l) where
       let least = sink_rises k in
       omega (arith, not)
 
-  module _ (free : l.hold ≡ no_hold) where
-    -- the count of a run in which nobody is held
-    unheld : (k : ℕ) → fired_in (links_of s) p rows no_hold k (sink l) ≡ fired_after l k (sink l)
-    unheld k = ap (λ h. fired_in (links_of s) p rows h k (sink l)) (sym free)
+  module _ (stalls : Option (List Stall)) (held : l.hold ≡ hold_of stalls (sink l)) (ascends : Ascend (listed stalls)) where
+    -- a run has ended after a cycle for each actor and each row, and one for each stall
+    abbrev last : ℕ
+    last = actor_count (links_of s) p * rows + length (listed stalls)
 
-    -- a run has ended after so many cycles
-    pub ends_by : (k : ℕ) → actor_count (links_of s) p * rows ≤ k → fired_after l k (sink l) ≡ rows
-    ends_by k h = sym (unheld k) ∙ ends s p rules.system rules.fits rows k h
+    ends_last : fired_after l last (sink l) ≡ rows
+    ends_last = ends_at l rules (listed stalls) (held_by l stalls held) ascends last (omega arith)
 
-    pub below_bounds : (k : ℕ) → IsBelow l k → k < actor_count (links_of s) p * rows
-    below_bounds k below = by (nat_lt k (actor_count (links_of s) p * rows)) refl
-      where
-        by : (b : Bool) → nat_lt k (actor_count (links_of s) p * rows) ≡ b → k < actor_count (links_of s) p * rows
-        by true is = ltb-true k (actor_count (links_of s) p * rows) is
-        by false is = let over = ends_by k (ltb-false k (actor_count (links_of s) p * rows) is) in absurd (omega arith)
+    -- the cycles that hold somebody
+    pub stalled : (k : ℕ) → stalled_after l k ≡ stalled_of stalls k
+    stalled k = stalled_is l rules (listed stalls) (held_by l stalls held) k ∙ stalled_listed stalls k
 
     -- where the sink has first fired for each row, this is the text
     module _ (columns : List (List ℕ)) (trace : Option ℕ) where
-      pub text_at : (k : ℕ) → IsFirstAt (λ j. fired_after l j (sink l)) rows k → IsRunText l columns trace (rows_text columns (first_outputs l rows) ++ end_text l trace k)
-      text_at k f =
-          let first : IsFirstAtCap g cap no_hold (sink l) k = record {
-            reached = unheld k ∙ f.at ∙ sym sink_cap;
-            first = λ j is. f.first j (sym (unheld j) ∙ is ∙ sink_cap);
-          } in
-          record { cycles = k; ends = first; within = ends_within_lag s p rules.system rules.fits rows k first; written = refl }
+      pub text_at : (k : ℕ) → IsFirstAt (λ j. fired_after l j (sink l)) rows k → IsRunText l columns stalls trace (rows_text columns (first_outputs l rows) ++ end_text l stalls trace k)
+      text_at k f = record { cycles = k; ends = first; within = λ n d lag ratio is_lag. omega (arith, over.within n d lag ratio is_lag, over.most, stalled k); written = refl }
+        where
+          first : IsFirstAtCap g cap l.hold (sink l) k
+          first = record { reached = f.at ∙ sym sink_cap; first = λ j is. f.first j (is ∙ sink_cap) }
 
-      pub some_text : (k : ℕ) × IsRunText l columns trace (rows_text columns (first_outputs l rows) ++ end_text l trace k)
-      some_text =
-          let found = first_at (λ j. fired_after l j (sink l)) rows (actor_count (links_of s) p * rows) (ends_by (actor_count (links_of s) p * rows) (omega arith)) in
-          (found.0, text_at found.0 found.1)
+          needed : (j : ℕ) → j < k → IsBelow l j
+          needed j less = by (eqb_tells (fired_after l j (sink l)) rows)
+            where
+              by : ((fired_after l j (sink l) == rows ≡ true) × (fired_after l j (sink l) ≡ rows)) ⊎ ((fired_after l j (sink l) == rows ≡ false) × (fired_after l j (sink l) ≡ rows → ⊥)) → IsBelow l j
+              by (inl same) = absurd (omega (arith, f.first j same.1))
+              by (inr other) = let differs = other.1 in omega (arith, differs, sink_within j)
+
+          over : IsOverBy l k
+          over = is_over l rules (listed stalls) (held_by l stalls held) k needed (λ below. absurd (let at = f.at in omega arith))
+
+      pub some_text : (k : ℕ) × IsRunText l columns stalls trace (rows_text columns (first_outputs l rows) ++ end_text l stalls trace k)
+      some_text = let found = first_at (λ j. fired_after l j (sink l)) rows last ends_last in (found.0, text_at found.0 found.1)

@@ -1,15 +1,15 @@
 -- A run from cycle to cycle.
 use Rattle.std.proofs.Common.{◌≡◌, ℕ, suc, ◌+◌, ◌*◌, ◌<◌, ◌≤◌, ◌==◌, ◌⊎◌, inl, inr, Bool, true, false, min, List, [], ◌∷◌, ◌++◌, length, length-append, Option, None, Some, Result, Ok, Err, OnOk, slice_get, sym, ◌∙◌, ap, subst, add-one, arith}
+use Rattle.std.specs.Option.{is_some}
 use Rattle.std.proofs.lemmas.Bool.Decides.{eqb_tells}
-use Rattle.std.proofs.Math.Nat.{mul-le-mul_left, mul-le-mul_right}
 use Rattle.lid_system.specs.declared.System.{System}
 use Rattle.lid_system.specs.Systems.{IsWellFormed}
 use Rattle.lid_stations.specs.declared.placement.Placement.{Placement}
-use Rattle.lid_stations.specs.Placements.{links_of, station_count, Fits}
-use Rattle.lid_stations.specs.Stations.{actor_count}
-use Rattle.lid_stations.proofs.Spots.{fewer_relays}
-use Rattle.lid_clock.specs.Lives.{Life, NeedsRow, IsBelow, HoldsNobody}
-use Rattle.lid_clock.specs.Ran.{Ran}
+use Rattle.lid_stations.specs.Placements.{station_count, Fits}
+use Rattle.lid_clock.specs.Lives.{Life, NeedsRow, IsBelow, sink}
+use Rattle.lid_stalltext.specs.declared.stalls.Stall.{Stall}
+use Rattle.lid_stalltext.specs.Holds.{Ascend, listed, hold_of}
+use Rattle.lid_clockrun.specs.Courses.{RanBy}
 use Rattle.lid_reports.specs.Runs.{trace_text}
 use Rattle.lid_feed.specs.declared.feed.RowFeed.{RowFeed}
 use Rattle.lid_feed.specs.Fetching.{GivesRow}
@@ -18,7 +18,6 @@ use Rattle.lid_clockrun.specs.RunTexts.{cells_after, cycles_traced, traced}
 use Rattle.lid_clockrun.specs.Runnings.{Run, source_columns, AreGiven, Begins}
 use Rattle.lid_clockrun.specs.Stepping.{IsSound, HasBegun, Feeds, IsAt, IsRunning, GoesOn, IsFedOn}
 use Rattle.lid_clockrun.proofs.Living.{some_life, begins_before, next_row_is, more_given}
-use Rattle.lid_clockrun.proofs.Ends.{below_bounds}
 use Rattle.lid_clockrun.proofs.Outputs.{cells_long, cells_traced, cells_none, text_traced, text_untraced}
 
 -- a fact along a number of cycles and one of rows
@@ -34,11 +33,11 @@ module _ (r : Run) (run : Running) (given : List (List Bool)) (at : IsRunning r 
   the_life = some_life r at.rules given at.rows
 
   -- a run of the stream of this life
-  pub the_ran : (l : Life) × (k : ℕ) × (g : ℕ) × Ran l k g run.stream × Begins r given l
+  pub the_ran : (l : Life) × (k : ℕ) × (g : ℕ) × RanBy l k g run.stream × Begins r given l
   the_ran = (the_life.0, run.made, length given, (at.lives the_life.0 the_life.1).ran, the_life.1)
 
   -- where a row is needed, not all were given
-  pub below_all : ((l : Life) (k g : ℕ) → Ran l k g run.stream → NeedsRow l k g) → length given < r.rows
+  pub below_all : ((l : Life) (k g : ℕ) → RanBy l k g run.stream → NeedsRow l k g) → length given < r.rows
   below_all needs =
       let b = the_life.1 in
       let n = needs the_life.0 run.made (length given) (at.lives the_life.0 b).ran in
@@ -49,15 +48,15 @@ module _ (r : Run) (run : Running) (given : List (List Bool)) (at : IsRunning r 
 
   -- a further row was given
   module _ (new : Running) (feed : RowFeed) (row : List Bool)
-      (needs : (l : Life) (k g : ℕ) → Ran l k g run.stream → NeedsRow l k g)
+      (needs : (l : Life) (k g : ℕ) → RanBy l k g run.stream → NeedsRow l k g)
       (gave : GivesRow r.held (source_columns r.system) (length r.columns) feed given row)
-      (gives : (l : Life) (k g : ℕ) → Ran l k g run.stream → slice_get l.input g ≡ Some row → Ran l k (g + 1) new.stream)
-      (made : new.made ≡ run.made) (count : new.given ≡ run.given + 1) (trace : new.trace ≡ run.trace) (stations : new.stations ≡ run.stations) (cells : new.cells ≡ run.cells) where
+      (gives : (l : Life) (k g : ℕ) → RanBy l k g run.stream → slice_get l.input g ≡ Some row → RanBy l k (g + 1) new.stream)
+      (made : new.made ≡ run.made) (count : new.given ≡ run.given + 1) (trace : new.trace ≡ run.trace) (told : new.told ≡ run.told) (stations : new.stations ≡ run.stations) (cells : new.cells ≡ run.cells) where
     is_at : (l : Life) → Begins r (given ++ row ∷ []) l → IsAt r (length (given ++ row ∷ [])) new l
     is_at l b =
         let before = at.lives l (begins_before r given row l b) in
         record {
-          ran = along (λ k g. Ran l k g new.stream) run.made new.made (length given + 1) (length (given ++ row ∷ [])) (sym made) (sym (one_longer given row))
+          ran = along (λ k g. RanBy l k g new.stream) run.made new.made (length given + 1) (length (given ++ row ∷ [])) (sym made) (sym (one_longer given row))
               (gives l run.made (length given) before.ran (next_row_is r given row l b));
           cells = ap (λ cs. cs.items) cells ∙ before.cells ∙ ap (λ (k : ℕ). cells_after l (cycles_traced r.trace k)) (sym made);
           busy = λ k h. before.busy k (let e = made in omega arith);
@@ -71,6 +70,7 @@ module _ (r : Run) (run : Running) (given : List (List Bool)) (at : IsRunning r 
         rows = more_given r given row at.rows (below_all needs) gave.wide gave.first;
         count = count ∙ ap (λ (n : ℕ). n + 1) at.count ∙ sym (one_longer given row);
         trace = trace ∙ at.trace;
+        told = told ∙ at.told;
         stations = stations ∙ at.stations;
         lives = is_at;
       };
@@ -86,7 +86,7 @@ module _ (r : Run) (run : Running) (given : List (List Bool)) (at : IsRunning r 
     }
 
   -- no row is needed
-  pub fed_already : (feed : RowFeed) → Feeds r feed given → ((l : Life) (k g : ℕ) → Ran l k g run.stream → NeedsRow l k g → ⊥) → IsFedOn r given run feed
+  pub fed_already : (feed : RowFeed) → Feeds r feed given → ((l : Life) (k g : ℕ) → RanBy l k g run.stream → NeedsRow l k g → ⊥) → IsFedOn r given run feed
   fed_already feed feeds none = record {
     given = given;
     running = at;
@@ -98,55 +98,28 @@ module _ (r : Run) (run : Running) (given : List (List Bool)) (at : IsRunning r 
   -- a cycle was made
   pub stepped : (new : Running) → GoesOn r run given
       → ((l : Life) → Begins r given l → new.cells.items ≡ cells_after l (cycles_traced r.trace (run.made + 1)))
-      → ((l : Life) (k g : ℕ) → Ran l k g run.stream → HoldsNobody l k → IsBelow l k → Ran l (suc k) g new.stream)
-      → new.made ≡ run.made + 1 → new.given ≡ run.given → new.trace ≡ run.trace → new.stations ≡ run.stations → IsRunning r new given
-  stepped new goes shown ran made count trace stations = record {
+      → ((l : Life) (k g : ℕ) → RanBy l k g run.stream → IsBelow l k → RanBy l (suc k) g new.stream)
+      → new.made ≡ run.made + 1 → new.given ≡ run.given → new.trace ≡ run.trace → new.told ≡ run.told → new.stations ≡ run.stations → IsRunning r new given
+  stepped new goes shown ran made count trace told stations = record {
     rules = at.rules;
     rows = at.rows;
     count = count ∙ at.count;
     trace = trace ∙ at.trace;
+    told = told ∙ at.told;
     stations = stations ∙ at.stations;
     lives = λ l b. record {
-      ran = subst (λ (k : ℕ). Ran l k (length given) new.stream) (sym (add-one run.made) ∙ sym made) (ran l run.made (length given) (at.lives l b).ran (free l b) (goes l b));
+      ran = subst (λ (k : ℕ). RanBy l k (length given) new.stream) (sym (add-one run.made) ∙ sym made) (ran l run.made (length given) (at.lives l b).ran (goes l b));
       cells = shown l b ∙ ap (λ (k : ℕ). cells_after l (cycles_traced r.trace k)) (sym made);
       busy = λ k h. busy_on l b k (let e = made in omega arith);
     };
   }
     where
-      free : (l : Life) → Begins r given l → HoldsNobody l run.made
-      free l b v = ap (λ hold. hold run.made v) b.of.free
-
       busy_on : (l : Life) → Begins r given l → (k : ℕ) → k < run.made + 1 → IsBelow l k
       busy_on l b k h = by (eqb_tells k run.made)
         where
           by : ((k == run.made ≡ true) × (k ≡ run.made)) ⊎ ((k == run.made ≡ false) × (k ≡ run.made → ⊥)) → IsBelow l k
           by (inl same) = subst (λ (j : ℕ). IsBelow l j) (sym same.1) (goes l b)
           by (inr other) = (at.lives l b).busy k (let differs = other.1 in omega (arith, differs))
-
-  -- a run that goes on has made few cycles
-  pub few_cycles : GoesOn r run given → run.made < actor_count (links_of r.system) r.placement * r.rows
-  few_cycles goes =
-      let l = the_life.0 in
-      let b = the_life.1 in
-      subst (λ (n : ℕ). run.made < n) (bound l b) (below_bounds l b.of.rules b.of.free run.made (goes l b))
-    where
-      bound : (l : Life) → Begins r given l → actor_count (links_of l.system) l.placement * length l.input ≡ actor_count (links_of r.system) r.placement * r.rows
-      bound l b = ap (λ s. actor_count (links_of s) l.placement * length l.input) b.of.of ∙ ap (λ p. actor_count (links_of r.system) p * length l.input) b.of.stations ∙ ap (λ (n : ℕ). actor_count (links_of r.system) r.placement * n) b.many
-
-  actors_few : actor_count (links_of r.system) r.placement ≤ 70000
-  actors_few =
-      let sum = fewer_relays r.placement.relays in
-      let most = at.rules.fits.rules.most in
-      let nodes = at.rules.system.most in
-      omega arith
-
-  pub made_fits : GoesOn r run given → run.made < 70000 * 1000000
-  made_fits goes =
-      let few = few_cycles goes in
-      let rows : r.rows ≤ 1000000 = (let f = at.rules.few in omega arith) in
-      let first = mul-le-mul_right r.rows actors_few in
-      let second = mul-le-mul_left 70000 rows in
-      omega (arith, few, first, second)
 
   -- the trace of a run
   module _ (most : ℕ) (is : run.trace ≡ Some most) where
@@ -172,29 +145,32 @@ module _ (r : Run) (run : Running) (given : List (List Bool)) (at : IsRunning r 
   trace_is_none is l = text_untraced l r.trace run.made (sym at.trace ∙ is)
 
 -- a run that has begun
-pub begun : (r : Run) (s : System) (p : Placement) (rows : ℕ) (trace : Option ℕ) → r.system ≡ s → r.placement ≡ p → r.rows ≡ rows → r.trace ≡ trace
-    → IsSound r → (given : List (List Bool)) → AreGiven r given → (run : Running) (first : Option (List Bool)) → HasBegun s p rows first trace run
+pub begun : (r : Run) (s : System) (p : Placement) (rows : ℕ) (trace : Option ℕ) (stalls : Option (List Stall)) → r.system ≡ s → r.placement ≡ p → r.rows ≡ rows → r.trace ≡ trace → r.stalls ≡ stalls
+    → IsSound r → (given : List (List Bool)) → AreGiven r given → (run : Running) (first : Option (List Bool)) → HasBegun s p rows first trace stalls run
     → length given ≡ min 1 rows → ((l : Life) → Begins r given l → slice_get l.input 0 ≡ first) → IsRunning r run given
-begun r s p rows trace system stations many most sound given are run first h long begins = record {
+begun r s p rows trace stalls system stations many most same sound given are run first h long begins = record {
   rules = sound;
   rows = are;
   count = h.given ∙ sym long;
   trace = h.trace ∙ sym most;
+  told = h.told ∙ ap is_some (sym same);
   stations = h.stations ∙ ap (λ p. station_count p.relays) (sym stations);
   lives = λ l b. record {
-    ran = along (λ k g. Ran l k g run.stream) 0 run.made (min 1 rows) (length given) (sym h.made) (sym long)
-        (h.ran l (record { rules = b.of.rules; of = b.of.of ∙ system; stations = b.of.stations ∙ stations; many = b.many ∙ many; begins = begins l b }));
+    ran = along (λ k g. RanBy l k g run.stream) 0 run.made (min 1 rows) (length given) (sym h.made) (sym long)
+        (h.ran l (record { rules = b.of.rules; of = b.of.of ∙ system; stations = b.of.stations ∙ stations; many = b.many ∙ many; begins = begins l b })
+        (b.of.held ∙ ap (λ (xs : Option (List Stall)). hold_of xs (sink l)) same));
     cells = h.cells ∙ sym (cells_none l r.trace) ∙ ap (λ (k : ℕ). cells_after l (cycles_traced r.trace k)) (sym h.made);
     busy = λ k below. absurd (let none = h.made in omega arith);
   };
 }
 
 -- the rules of a run
-pub sound_of : (r : Run) (s : System) (p : Placement) (rows : ℕ) → r.system ≡ s → r.placement ≡ p → r.rows ≡ rows → IsWellFormed s → Fits s p → rows ≤ 1000000 → IsSound r
-sound_of r s p rows system stations many well fits few = record {
+pub sound_of : (r : Run) (s : System) (p : Placement) (rows : ℕ) → r.system ≡ s → r.placement ≡ p → r.rows ≡ rows → IsWellFormed s → Fits s p → rows ≤ 1000000 → Ascend (listed r.stalls) → IsSound r
+sound_of r s p rows system stations many well fits few ascend = record {
   system = subst IsWellFormed (sym system) well;
   fits = subst (λ q. Fits r.system q) (sym stations) (subst (λ t. Fits t p) (sym system) fits);
   few = subst (λ (n : ℕ). n ≤ 1000000) (sym many) few;
+  ascend = ascend;
 }
 
 -- what holds of a result for each value

@@ -1,5 +1,6 @@
 pub mod Pushes
 pub mod Outputs
+pub mod Stalling
 pub mod Ends
 pub mod Living
 pub mod Goings

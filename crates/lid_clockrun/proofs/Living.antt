@@ -6,7 +6,9 @@ use Rattle.std.proofs.lemmas.List.{length-replicate, take-append-drop}
 use Rattle.std.proofs.Math.Seq.{take-append_seam}
 use Rattle.lid_base.proofs.Lists.{all_append}
 use Rattle.lid_design.proofs.Tables.{has_table}
-use Rattle.lid_graph.specs.Firings.{no_hold}
+use Rattle.lid_stalltext.specs.Holds.{hold_of}
+use Rattle.lid_runs.specs.Runs.{sink_of}
+use Rattle.lid_stations.specs.Placements.{links_of}
 use Rattle.lid_system.specs.declared.System.{System}
 use Rattle.lid_system.specs.Tables.{system_drivers}
 use Rattle.lid_system.proofs.Points.{points_once}
@@ -54,7 +56,7 @@ module _ (r : Run) (sound : IsSound r) (given : List (List Bool)) (rows : AreGiv
     placement = r.placement;
     input = input;
     table = (has_table (system_drivers r.system) (limit r.system sound.system) (points_end r.system sound.system) (points_once r.system sound.system) input).0;
-    hold = no_hold;
+    hold = hold_of r.stalls (sink_of (links_of r.system));
   }
 
   pub some_life : (l : Life) × Begins r given l
@@ -72,7 +74,7 @@ module _ (r : Run) (sound : IsSound r) (given : List (List Bool)) (rows : AreGiv
         };
         of = refl;
         stations = refl;
-        free = refl;
+        held = refl;
       };
       many = long;
       first = take-append_seam given further;
@@ -124,5 +126,5 @@ none_given r = record { few = omega arith; wide = tt; first = first_none r.held 
     first_none None = tt
     first_none (Some file) = λ rows reads. refl
 
-pub begins_none : (r : Run) (l : Life) → IsLifeOf l r.system r.placement → length l.input ≡ r.rows → Begins r [] l
+pub begins_none : (r : Run) (l : Life) → IsLifeOf l r.system r.placement r.stalls → length l.input ≡ r.rows → Begins r [] l
 begins_none r l of many = record { of = of; many = many; first = refl }

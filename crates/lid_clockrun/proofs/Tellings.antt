@@ -11,6 +11,7 @@ use Rattle.lid_lines.specs.Texts.{line_text}
 use Rattle.lid_texts.specs.Rows.{header_words}
 use Rattle.lid_texts.specs.RowsText.{row_text, rows_text}
 use Rattle.lid_clock.specs.Lives.{Life, IsBelow, HasSunk, IsLast, fired_after, sink}
+use Rattle.lid_stalltext.specs.Holds.{Ascend, listed}
 use Rattle.lid_feed.specs.declared.fault.FeedFault.{FeedFault}
 use Rattle.lid_feed.specs.declared.fault.FeedFault.TheVariants as feeds
 use Rattle.lid_feed.specs.Feeds.{IfRead}
@@ -71,21 +72,21 @@ cause_of_telling r rows reads before writes Write on c = on c
 pub pushed_part : (before now : Option (List ℕ)) (held text : List ℕ) → HasPushed before now held text → AppendedPrefix before now text
 pushed_part before now held text p = subst (λ (xs : List ℕ). AppendedPrefix before now xs) p.whole (first_and_part before now now p.done held p.written (nothing_of now held))
 
-module _ (r : Run) (given : List (List Bool)) (l : Life) (b : Begins r given l) where
+module _ (r : Run) (ascends : Ascend (listed r.stalls)) (given : List (List Bool)) (l : Life) (b : Begins r given l) where
   -- the text of the first rows is a first part of the text
   pub part_of_rows : (before now : Option (List ℕ)) (n : ℕ) → n ≤ length l.input → AppendedPrefix before now (rows_text r.columns (first_outputs l n)) → WritesPart r l before now
   part_of_rows before now n few a =
       let all = length l.input in
-      let t = some_text l b.of.rules b.of.free r.columns r.trace in
+      let t = some_text l b.of.rules r.stalls b.of.held ascends r.columns r.trace in
       let f = output_row l.system l.table in
       let rest = flat_map (row_text r.columns) (from_each f (0 + n) (all - n)) in
       record {
-        text = rows_text r.columns (first_outputs l all) ++ end_text l r.trace t.0;
+        text = rows_text r.columns (first_outputs l all) ++ end_text l r.stalls r.trace t.0;
         is = t.1;
         written =
             subst (λ (xs : List ℕ). AppendedPrefix before now xs)
-            (sym (ap (λ (xs : List ℕ). xs ++ end_text l r.trace t.0) (rows_first r.columns f n all few) ∙ append_assoc (rows_text r.columns (first_outputs l n)) rest (end_text l r.trace t.0)))
-            (part_of_first before now (rows_text r.columns (first_outputs l n)) (rest ++ end_text l r.trace t.0) a);
+            (sym (ap (λ (xs : List ℕ). xs ++ end_text l r.stalls r.trace t.0) (rows_first r.columns f n all few) ∙ append_assoc (rows_text r.columns (first_outputs l n)) rest (end_text l r.stalls r.trace t.0)))
+            (part_of_first before now (rows_text r.columns (first_outputs l n)) (rest ++ end_text l r.stalls r.trace t.0) a);
       }
 
   pub part_of_fired : (before now : Option (List ℕ)) (k : ℕ) → AppendedPrefix before now (rows_text r.columns (first_outputs l (fired_after l k (sink l)))) → WritesPart r l before now
@@ -102,14 +103,16 @@ module _ (r : Run) (given : List (List Bool)) (l : Life) (b : Begins r given l) 
   header_is : [] ++ line_text (header_words r.columns) ≡ rows_text r.columns (first_outputs l (fired_after l 0 (sink l)))
   header_is = sym (header_alone r.columns) ∙ ap (λ (n : ℕ). rows_text r.columns (first_outputs l n)) (sym none_fired)
 
-  pub header_told : (before now : Option (List ℕ)) (held rest : List ℕ) → held ≡ [] → Adds before now held rest (line_text (header_words r.columns)) → HasPushed before now rest (rows_text r.columns (first_outputs l (fired_after l 0 (sink l))))
-  header_told before now held rest none add =
-      subst (λ (xs : List ℕ). HasPushed before now rest xs) header_is (add before [] (subst (λ (xs : List ℕ). HasPushed before before xs []) (sym none) (pushes_begin before)))
+  pub header_told : (columns : List (List ℕ)) → r.columns ≡ columns → (before now : Option (List ℕ)) (held rest : List ℕ) → held ≡ [] → Adds before now held rest (line_text (header_words columns)) → HasPushed before now rest (rows_text r.columns (first_outputs l (fired_after l 0 (sink l))))
+  header_told columns named before now held rest none add =
+      let told = subst (λ (names : List (List ℕ)). Adds before now held rest (line_text (header_words names))) (sym named) add in
+      subst (λ (xs : List ℕ). HasPushed before now rest xs) header_is (told before [] (subst (λ (xs : List ℕ). HasPushed before before xs []) (sym none) (pushes_begin before)))
 
-  pub header_breaks : (before now : Option (List ℕ)) (held : List ℕ) → held ≡ [] → Breaks before now held (line_text (header_words r.columns)) → WritesPart r l before now
-  header_breaks before now held none break =
+  pub header_breaks : (columns : List (List ℕ)) → r.columns ≡ columns → (before now : Option (List ℕ)) (held : List ℕ) → held ≡ [] → Breaks before now held (line_text (header_words columns)) → WritesPart r l before now
+  header_breaks columns named before now held none break =
+      let told = subst (λ (names : List (List ℕ)). Breaks before now held (line_text (header_words names))) (sym named) break in
       part_of_fired before now 0
-      (subst (λ (xs : List ℕ). AppendedPrefix before now xs) header_is (break before [] (subst (λ (xs : List ℕ). HasPushed before before xs []) (sym none) (pushes_begin before))))
+      (subst (λ (xs : List ℕ). AppendedPrefix before now xs) header_is (told before [] (subst (λ (xs : List ℕ). HasPushed before before xs []) (sym none) (pushes_begin before))))
 
   -- the row of a cycle
   module _ (made : ℕ) (last : Option (List Bool)) (is_last : IsLast l (made + 1) last) where
@@ -149,11 +152,15 @@ module _ (r : Run) (given : List (List Bool)) (l : Life) (b : Begins r given l) 
         by (inr not) = rests not.1
 
     module _ (before now new : Option (List ℕ)) (held : List ℕ) (pushed : HasPushed before now held (rows_text r.columns (first_outputs l (fired_after l made (sink l))))) where
-      pub last_told : (rest : List ℕ) → Adds now new held rest (last_text r.columns last) → HasPushed before new rest (rows_text r.columns (first_outputs l (fired_after l (made + 1) (sink l))))
-      last_told rest add = subst (λ (xs : List ℕ). HasPushed before new rest xs) row_told (add before _ pushed)
+      pub last_told : (columns : List (List ℕ)) → r.columns ≡ columns → (rest : List ℕ) → Adds now new held rest (last_text columns last) → HasPushed before new rest (rows_text r.columns (first_outputs l (fired_after l (made + 1) (sink l))))
+      last_told columns named rest add =
+          let told = subst (λ (names : List (List ℕ)). Adds now new held rest (last_text names last)) (sym named) add in
+          subst (λ (xs : List ℕ). HasPushed before new rest xs) row_told (told before _ pushed)
 
-      pub last_breaks : Breaks now new held (last_text r.columns last) → WritesPart r l before new
-      last_breaks break = part_of_fired before new (made + 1) (subst (λ (xs : List ℕ). AppendedPrefix before new xs) row_told (break before _ pushed))
+      pub last_breaks : (columns : List (List ℕ)) → r.columns ≡ columns → Breaks now new held (last_text columns last) → WritesPart r l before new
+      last_breaks columns named break =
+          let told = subst (λ (names : List (List ℕ)). Breaks now new held (last_text names last)) (sym named) break in
+          part_of_fired before new (made + 1) (subst (λ (xs : List ℕ). AppendedPrefix before new xs) row_told (told before _ pushed))
 
   -- the end
   module _ (k : ℕ) (busy : (j : ℕ) → j < k → IsBelow l j) (over : IsBelow l k → ⊥) where
@@ -170,21 +177,21 @@ module _ (r : Run) (given : List (List Bool)) (l : Life) (b : Begins r given l) 
             by (inl none) = let e = none.1 in omega arith
             by (inr some) = let below = busy j (let e = some.1 in omega (arith, e)) in absurd (omega (arith, below, is))
 
-    module _ (before now new : Option (List ℕ)) (held line : List ℕ) (pushed : HasPushed before now held (rows_text r.columns (first_outputs l (fired_after l k (sink l))))) (is : line ≡ end_text l r.trace k) where
-      end_is : rows_text r.columns (first_outputs l (fired_after l k (sink l))) ++ line ≡ rows_text r.columns (first_outputs l (length l.input)) ++ end_text l r.trace k
+    module _ (before now new : Option (List ℕ)) (held line : List ℕ) (pushed : HasPushed before now held (rows_text r.columns (first_outputs l (fired_after l k (sink l))))) (is : line ≡ end_text l r.stalls r.trace k) where
+      end_is : rows_text r.columns (first_outputs l (fired_after l k (sink l))) ++ line ≡ rows_text r.columns (first_outputs l (length l.input)) ++ end_text l r.stalls r.trace k
       end_is = ap (λ (n : ℕ). rows_text r.columns (first_outputs l n) ++ line) ended ∙ ap (λ (xs : List ℕ). rows_text r.columns (first_outputs l (length l.input)) ++ xs) is
 
       pub end_told : Closes now new held line → Writes r l before new
       end_told close = record {
-        text = rows_text r.columns (first_outputs l (length l.input)) ++ end_text l r.trace k;
-        is = text_at l b.of.rules b.of.free r.columns r.trace k first_end;
+        text = rows_text r.columns (first_outputs l (length l.input)) ++ end_text l r.stalls r.trace k;
+        is = text_at l b.of.rules r.stalls b.of.held ascends r.columns r.trace k first_end;
         written = subst (λ (xs : List ℕ). Appended before new xs) end_is (close before _ pushed);
       }
 
       pub end_breaks : Breaks now new held line → WritesPart r l before new
       end_breaks break = record {
-        text = rows_text r.columns (first_outputs l (length l.input)) ++ end_text l r.trace k;
-        is = text_at l b.of.rules b.of.free r.columns r.trace k first_end;
+        text = rows_text r.columns (first_outputs l (length l.input)) ++ end_text l r.stalls r.trace k;
+        is = text_at l b.of.rules r.stalls b.of.held ascends r.columns r.trace k first_end;
         written = subst (λ (xs : List ℕ). AppendedPrefix before new xs) end_is (break before _ pushed);
       }
 

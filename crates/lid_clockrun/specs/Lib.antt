@@ -1,3 +1,4 @@
+pub mod Courses
 pub mod RunTexts
 pub mod Runnings
 pub mod Pushing

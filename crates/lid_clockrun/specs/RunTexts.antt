@@ -1,10 +1,10 @@
--- The text of a clocked run: its output rows, how many cycles it made and how often each node fired, and what the
--- stations showed in the first cycles.
-use Rattle.std.specs.Prelude.{◌≡◌, ℕ, min, Bool, List, [], ◌++◌, length, Option, None, Some}
+-- The text of a clocked run: its output rows, how many cycles it made and how often each node fired, in how many of
+-- them somebody was held, and what the stations showed in the first cycles.
+use Rattle.std.specs.Prelude.{◌≡◌, ℕ, ◌-◌, min, Bool, List, [], ◌++◌, length, Option, None, Some}
 use Rattle.std.specs.List.{flat_map}
 use Rattle.lid_base.specs.declared.runs.Shown.{Shown}
 use Rattle.lid_design.specs.Network.{from_each}
-use Rattle.lid_graph.specs.Firings.{no_hold, IsFirstAtCap}
+use Rattle.lid_graph.specs.Firings.{IsFirstAtCap}
 use Rattle.lid_system.specs.declared.System.{System}
 use Rattle.lid_system.specs.Streams.{output_row}
 use Rattle.lid_stations.specs.declared.placement.Placement.{Placement}
@@ -14,13 +14,16 @@ use Rattle.lid_runs.specs.Runs.{cap_of, IsWithinLag}
 use Rattle.lid_clock.specs.Lives.{Life, IsLife, fired_after, shown_after, sink}
 use Rattle.lid_texts.specs.RowsText.{rows_text}
 use Rattle.lid_reports.specs.Runs.{cycles_text, trace_text}
+use Rattle.lid_stalltext.specs.declared.stalls.Stall.{Stall}
+use Rattle.lid_stalltext.specs.Holds.{hold_of, stalled_of, stalled_line}
 
--- a life of a system with its stations in which nobody is ever held
-pub record IsLifeOf (l : Life) (s : System) (p : Placement) : Type 0 where
+-- a life of a system with its stations in which the source and the sink are held as stalls say, and nobody where none
+-- are given
+pub record IsLifeOf (l : Life) (s : System) (p : Placement) (stalls : Option (List Stall)) : Type 0 where
   pub rules : IsLife l
   pub of : l.system ≡ s
   pub stations : l.placement ≡ p
-  pub free : l.hold ≡ no_hold
+  pub held : l.hold ≡ hold_of stalls (sink l)
 
 -- what the stations show as cycle k begins, in order
 abbrev pub cells_of : Life → ℕ → List Shown
@@ -49,13 +52,13 @@ traced l None k = []
 traced l (Some most) k = trace_text (record { stations = station_count l.placement.relays; cycles = min most k; cells = cells_after l (min most k) })
 
 -- how the text ends, after the rows
-abbrev pub end_text : Life → Option ℕ → ℕ → List ℕ
-end_text l trace k = cycles_text k (nodes_fired l k) ++ traced l trace k
+abbrev pub end_text : Life → Option (List Stall) → Option ℕ → ℕ → List ℕ
+end_text l stalls trace k = cycles_text k (nodes_fired l k) ++ (stalled_line stalls k ++ traced l trace k)
 
 -- the text of the run of a life: all output rows, and what the cycles told up to the first after which the sink
--- has fired for each row
-pub record IsRunText (l : Life) (columns : List (List ℕ)) (trace : Option ℕ) (text : List ℕ) : Type 0 where
+-- has fired for each row. These, less those that held somebody, are within the bound
+pub record IsRunText (l : Life) (columns : List (List ℕ)) (stalls : Option (List Stall)) (trace : Option ℕ) (text : List ℕ) : Type 0 where
   pub cycles : ℕ
-  pub ends : IsFirstAtCap (marking (links_of l.system) l.placement) (cap_of (links_of l.system) (length l.input)) no_hold (sink l) cycles
-  pub within : IsWithinLag (links_of l.system) l.placement (length l.input) cycles
-  pub written : text ≡ rows_text columns (first_outputs l (length l.input)) ++ end_text l trace cycles
+  pub ends : IsFirstAtCap (marking (links_of l.system) l.placement) (cap_of (links_of l.system) (length l.input)) l.hold (sink l) cycles
+  pub within : IsWithinLag (links_of l.system) l.placement (length l.input) (cycles - stalled_of stalls cycles)
+  pub written : text ≡ rows_text columns (first_outputs l (length l.input)) ++ end_text l stalls trace cycles

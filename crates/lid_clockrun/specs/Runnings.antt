@@ -9,23 +9,26 @@ use Rattle.lid_system.specs.declared.Node.{Node}
 use Rattle.lid_system.specs.declared.Node.TheVariants.{Source, Shell, Sink}
 use Rattle.lid_stations.specs.declared.placement.Placement.{Placement}
 use Rattle.lid_clock.specs.Lives.{Life, IsWide}
+use Rattle.lid_stalltext.specs.declared.stalls.Stall.{Stall}
 use Rattle.lid_feed.specs.Feeds.{AreFirst, AreAll, IsRefused, IfRead, IfRefused}
 use Rattle.lid_clockrun.specs.declared.fault.RunFault.{RunFault}
 use Rattle.lid_clockrun.specs.declared.fault.RunFault.TheVariants.{Feed, Few, Memory, Write}
 use Rattle.lid_clockrun.specs.RunTexts.{IsLifeOf, IsRunText}
 
 -- a run: a system with its stations, the columns of its output, how many rows there are, for how many cycles at
--- most a trace is wanted, and what the file of the rows holds, where that is told
+-- most a trace is wanted, the stalls that hold it, where some are given, and what the file of the rows holds, where
+-- that is told
 pub record Run : Type 0 where
   pub system : System
   pub placement : Placement
   pub columns : List (List ℕ)
   pub rows : ℕ
   pub trace : Option ℕ
+  pub stalls : Option (List Stall)
   pub held : Option (List ℕ)
 
-abbrev pub run_of : System → Placement → List (List ℕ) → ℕ → Option ℕ → Option (List ℕ) → Run
-run_of s p columns rows trace held = record { system = s; placement = p; columns = columns; rows = rows; trace = trace; held = held }
+abbrev pub run_of : System → Placement → List (List ℕ) → ℕ → Option ℕ → Option (List Stall) → Option (List ℕ) → Run
+run_of s p columns rows trace stalls held = record { system = s; placement = p; columns = columns; rows = rows; trace = trace; stalls = stalls; held = held }
 
 -- the columns of a source
 abbrev pub columns_of : Node → List (List ℕ)
@@ -45,20 +48,20 @@ pub record AreGiven (r : Run) (rows : List (List Bool)) : Type 0 where
 
 -- a life of the run that begins with these rows
 pub record Begins (r : Run) (rows : List (List Bool)) (l : Life) : Type 0 where
-  pub of : IsLifeOf l r.system r.placement
+  pub of : IsLifeOf l r.system r.placement r.stalls
   pub many : length l.input ≡ r.rows
   pub first : take (length rows) l.input ≡ rows
 
 -- the text of a life was written
 pub record Writes (r : Run) (l : Life) (before now : Option (List ℕ)) : Type 0 where
   pub text : List ℕ
-  pub is : IsRunText l r.columns r.trace text
+  pub is : IsRunText l r.columns r.stalls r.trace text
   pub written : Appended before now text
 
 -- a first part of the text of a life was written
 pub record WritesPart (r : Run) (l : Life) (before now : Option (List ℕ)) : Type 0 where
   pub text : List ℕ
-  pub is : IsRunText l r.columns r.trace text
+  pub is : IsRunText l r.columns r.stalls r.trace text
   pub written : AppendedPrefix before now text
 
 -- the file gave some rows, and the text of each life that begins with them was written. These are all rows but

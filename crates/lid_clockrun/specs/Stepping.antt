@@ -1,11 +1,14 @@
 -- What a run is between its cycles. This serves the code of this crate.
-use Rattle.std.specs.Prelude.{◌≡◌, ℕ, ◌+◌, ◌<◌, ◌≤◌, min, Bool, List, [], length, Option}
+use Rattle.std.specs.Prelude.{◌≡◌, ℕ, ◌+◌, ◌^◌, ◌<◌, ◌≤◌, min, Bool, List, [], length, Option}
+use Rattle.std.specs.Option.{is_some}
 use Rattle.lid_stations.specs.Placements.{station_count, Fits}
 use Rattle.lid_system.specs.declared.System.{System}
 use Rattle.lid_system.specs.Systems.{IsWellFormed}
 use Rattle.lid_stations.specs.declared.placement.Placement.{Placement}
 use Rattle.lid_clock.specs.Lives.{Life, NeedsRow, IsBelow, StartsSo, fired_after, sink}
-use Rattle.lid_clock.specs.Ran.{Ran}
+use Rattle.lid_stalltext.specs.declared.stalls.Stall.{Stall}
+use Rattle.lid_stalltext.specs.Holds.{listed, hold_of, Ascend}
+use Rattle.lid_clockrun.specs.Courses.{RanBy}
 use Rattle.lid_texts.specs.RowsText.{rows_text}
 use Rattle.lid_feed.specs.declared.feed.RowFeed.{RowFeed}
 use Rattle.lid_feed.specs.Fetching.{HasGiven}
@@ -19,15 +22,22 @@ pub record IsSound (r : Run) : Type 0 where
   pub system : IsWellFormed r.system
   pub fits : Fits r.system r.placement
   pub few : r.rows ≤ 1000000
+  pub ascend : Ascend (listed r.stalls)
 
 -- a run that made no cycle, of a system with its stations over so many rows, of which the first is this
-pub record HasBegun (s : System) (p : Placement) (rows : ℕ) (first : Option (List Bool)) (most : Option ℕ) (run : Running) : Type 0 where
-  pub ran : (l : Life) → StartsSo l s p rows first → Ran l 0 (min 1 rows) run.stream
+pub record HasBegun (s : System) (p : Placement) (rows : ℕ) (first : Option (List Bool)) (most : Option ℕ) (stalls : Option (List Stall)) (run : Running) : Type 0 where
+  pub ran : (l : Life) → StartsSo l s p rows first → l.hold ≡ hold_of stalls (sink l) → RanBy l 0 (min 1 rows) run.stream
   pub given : run.given ≡ min 1 rows
   pub made : run.made ≡ 0
   pub stations : run.stations ≡ station_count p.relays
   pub trace : run.trace ≡ most
+  pub told : run.told ≡ is_some stalls
   pub cells : run.cells.items ≡ []
+
+-- the run is one of this system, whose output has these columns
+pub record IsRunOf (r : Run) (s : System) (columns : List (List ℕ)) : Type 0 where
+  pub of : r.system ≡ s
+  pub named : r.columns ≡ columns
 
 -- the feed has given these rows
 abbrev pub Feeds : Run → RowFeed → List (List Bool) → Type 0
@@ -35,7 +45,7 @@ Feeds r feed given = HasGiven r.held (source_columns r.system) (length r.columns
 
 -- a run is where a life is that was given so many rows, and the sink had a firing left before each cycle
 pub record IsAt (r : Run) (given : ℕ) (run : Running) (l : Life) : Type 0 where
-  pub ran : Ran l run.made given run.stream
+  pub ran : RanBy l run.made given run.stream
   pub cells : run.cells.items ≡ cells_after l (cycles_traced r.trace run.made)
   pub busy : (k : ℕ) → k < run.made → IsBelow l k
 
@@ -45,6 +55,7 @@ pub record IsRunning (r : Run) (run : Running) (given : List (List Bool)) : Type
   pub rows : AreGiven r given
   pub count : run.given ≡ length given
   pub trace : run.trace ≡ r.trace
+  pub told : run.told ≡ is_some r.stalls
   pub stations : run.stations ≡ station_count r.placement.relays
   pub lives : (l : Life) → Begins r given l → IsAt r (length given) run l
 
@@ -77,6 +88,7 @@ pub record HasGone (r : Run) (before : List (List Bool)) (made : ℕ) (run : Run
   pub feeds : Feeds r feed given
   pub further : (l : Life) → Begins r given l → Begins r before l
   pub one : run.made ≡ made + 1
+  pub few : run.made < 2 ^ 64
 
 -- the rows for which the sink has fired were pushed
 abbrev pub HasTold : Run → List (List Bool) → ℕ → Option (List ℕ) → Option (List ℕ) → List ℕ → Type 0

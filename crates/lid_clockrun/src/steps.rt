@@ -1,32 +1,40 @@
 //! A run between its cycles.
 
-ghost use Rattle.std.specs.Prelude.{◌≡◌, ◌≤◌, ◌<◌, ◌+◌, ◌++◌, ℕ, min, Bool, List, [], length, Option, None, Some, IfOk, IfErr, OnOk};
+ghost use Rattle.std.specs.Prelude.{◌≡◌, ◌≤◌, ◌<◌, ◌+◌, ◌^◌, ◌++◌, ℕ, min, Bool, List, [], length, Option, None, Some, IfOk, IfErr, OnOk};
 ghost use Rattle.lid_base.specs.Outside.{Rose};
 ghost use Rattle.lid_design.specs.Network.{from_each};
 ghost use Rattle.lid_system.specs.Systems.{IsWellFormed};
 ghost use Rattle.lid_stations.specs.Placements.{links_of, station_count, Fits};
+ghost use Rattle.std.specs.Option.{is_some};
 ghost use Rattle.lid_clock.specs.Lives.{Life, fired_after, shown_after};
-ghost use Rattle.lid_clock.specs.Ran.{Ran, lent, IsFirst};
+ghost use Rattle.lid_clock.specs.Ran.{lent, IsFirst};
+ghost use Rattle.lid_stalltext.specs.Holds.{Ascend, listed, stalled_line};
+ghost use Rattle.lid_clockrun.specs.Courses.{RanBy};
 ghost use Rattle.lid_feed.specs.Fetching.{HasGiven, GivesRow};
 ghost use Rattle.lid_clockrun.specs.RunTexts.{cells_after, cycles_traced, traced, end_text};
 ghost use Rattle.lid_clockrun.specs.Runnings.{Run, Begins, IsCause, source_columns};
 ghost use Rattle.lid_clockrun.specs.Stepping.{HasBegun, Feeds, IsRunning, IsReady, GoesOn, IsFed, IsFedOn, HasGone};
 
+use crate::course::Course;
 use crate::fault::RunFault;
-use lid_base::{Items, Shelf, Shown};
+use crate::workers::Workers;
+use lid_base::{Gate, Items, Shelf, Shown};
 use lid_clock::ClockStream;
 use lid_feed::RowFeed;
+use lid_lines::append_number_line;
+use lid_stall::Stall;
 use lid_stations::Placement;
 use lid_system::System;
 use lid_texts::{Trace, print_cycles, print_trace};
 use std::alloc::{AllocError, Global};
 use std::mem;
+use std::thread::Threads;
 
 /// A run between its cycles.
 #[derive(Drop)]
 pub(crate) struct Running {
     alloc: Global,
-    pub(crate) stream: ClockStream,
+    pub(crate) stream: Course,
     /// How many cycles were made.
     made: u64,
     /// How many rows were given.
@@ -35,6 +43,8 @@ pub(crate) struct Running {
     stations: u32,
     /// For how many cycles at most a trace is wanted.
     trace: Option<u64>,
+    /// Whether it is told in how many cycles somebody was held.
+    told: bool,
     /// What the stations showed in these.
     cells: Vec<Shown>,
 }
@@ -61,9 +71,9 @@ fn next_row<S: Shelf>(
 }
 
 /// Appends what each station shows.
-fn push_cells(stream: &ClockStream, stations: u32, cells: &mut Vec<Shown>) -> Result<(), AllocError>
-    requires { (l : Life) × (k : ℕ) × (g : ℕ) × Ran l k g stream.now × (stations ≡ station_count l.placement.relays) }
-    ensures { (l : Life) (k g : ℕ) → Ran l k g stream.now → OnOk result (cells.new.items ≡ cells.old.items ++ from_each (shown_after l k) 0 stations) }
+fn push_cells(stream: &Course, stations: u32, cells: &mut Vec<Shown>) -> Result<(), AllocError>
+    requires { (l : Life) × (k : ℕ) × (g : ℕ) × RanBy l k g stream.now × (stations ≡ station_count l.placement.relays) }
+    ensures { (l : Life) (k g : ℕ) → RanBy l k g stream.now → OnOk result (cells.new.items ≡ cells.old.items ++ from_each (shown_after l k) 0 stations) }
 {
     for station in 0..stations {
         cells.push(stream.show(station))?;
@@ -72,9 +82,9 @@ fn push_cells(stream: &ClockStream, stations: u32, cells: &mut Vec<Shown>) -> Re
 }
 
 /// How often each of so many nodes has fired.
-fn firings(alloc: Global, stream: &ClockStream, nodes: u32) -> Result<Vec<u64>, AllocError>
-    requires { (l : Life) × (k : ℕ) × (g : ℕ) × Ran l k g stream.now × (nodes ≡ length l.system.nodes) }
-    ensures { (l : Life) (k g : ℕ) → Ran l k g stream.now → IfOk result (λ fired. fired.items ≡ from_each (fired_after l k) 0 nodes) }
+fn firings(alloc: Global, stream: &Course, nodes: u32) -> Result<Vec<u64>, AllocError>
+    requires { (l : Life) × (k : ℕ) × (g : ℕ) × RanBy l k g stream.now × (nodes ≡ length l.system.nodes) }
+    ensures { (l : Life) (k g : ℕ) → RanBy l k g stream.now → IfOk result (λ fired. fired.items ≡ from_each (fired_after l k) 0 nodes) }
 {
     let mut fired = Vec::new(alloc);
     for node in 0..nodes {
@@ -92,24 +102,28 @@ impl Running {
         rows: u64,
         first: Option<&[bool]>,
         trace: Option<u64>,
+        stalls: Option<Items<Stall>>,
     ) -> Result<Running, RunFault>
         requires system { IsWellFormed system.now }
         requires fits { Fits system.now placement.now }
         requires few { rows ≤ 1000000 }
         requires first { IsFirst system.now rows (lent first) }
-        ensures begun { IfOk result (HasBegun system.now placement.now rows (lent first.entry) trace) }
+        requires ascend { Ascend (listed stalls) }
+        ensures begun { IfOk result (HasBegun system.now placement.now rows (lent first.entry) trace stalls) }
         ensures cause { IfErr result (λ fault. fault ≡ RunFault.Memory) }
     {
         let Ok(stream) = ClockStream::start(alloc, system, placement, rows, first) else {
             return Err(RunFault::Memory);
         };
+        let told = stalls.is_some();
         Ok(Running {
             alloc,
-            stream,
+            stream: Course::start(stream, stalls),
             made: 0,
             given: rows.min(1),
             stations: placement.caps.len() as u32,
             trace,
+            told,
             cells: Vec::new(alloc),
         })
     }
@@ -123,12 +137,14 @@ impl Running {
         rows: u64,
         feed: &mut RowFeed,
         trace: Option<u64>,
+        stalls: Option<Items<Stall>>,
     ) -> Result<Running, RunFault>
         requires system { IsWellFormed system.now }
         requires fits { Fits system.now placement.now }
         requires few { rows ≤ 1000000 }
+        requires ascend { Ascend (listed stalls) }
         requires feeds { (columns : List (List ℕ)) × HasGiven (S.held shelf.old feed.old.name) (source_columns system.now) (length columns) feed.old [] }
-        ensures ok { (r : Run) → r.system ≡ system.now → r.placement ≡ placement.now → r.rows ≡ rows → r.trace ≡ trace → r.held ≡ S.held shelf.old feed.old.name → Feeds r feed.old []
+        ensures ok { (r : Run) → r.system ≡ system.now → r.placement ≡ placement.now → r.rows ≡ rows → r.trace ≡ trace → r.stalls ≡ stalls → r.held ≡ S.held shelf.old feed.old.name → Feeds r feed.old []
             → IfOk result (λ run. (given : List (List Bool)) × IsRunning r run given × Feeds r feed.new given) }
         ensures made { IfOk result (λ run. run.made ≡ 0) }
         ensures err { (r : Run) → r.system ≡ system.now → r.rows ≡ rows → r.held ≡ S.held shelf.old feed.old.name → Feeds r feed.old []
@@ -138,13 +154,21 @@ impl Running {
         ensures grows { (q : List ℕ) → S.faults shelf.old q ≤ S.faults shelf.new q }
     {
         if rows == 0 {
-            return Running::begin(alloc, system, placement, rows, None, trace);
+            return Running::begin(alloc, system, placement, rows, None, trace, stalls);
         }
         let row = match next_row(shelf, feed, 0) {
             Ok(row) => row,
             Err(fault) => return Err(fault),
         };
-        Running::begin(alloc, system, placement, rows, Some(row.as_slice()), trace)
+        Running::begin(
+            alloc,
+            system,
+            placement,
+            rows,
+            Some(row.as_slice()),
+            trace,
+            stalls,
+        )
     }
 
     /// Fetches and gives the next row, where it is needed.
@@ -187,22 +211,33 @@ impl Running {
     }
 
     /// Makes a cycle of a run that is ready and has not ended.
-    fn step(&mut self) -> Result<(), AllocError>
-        requires { (r : Run) × (given : List (List Bool)) × IsRunning r self.old given × IsReady r self.old given × GoesOn r self.old given }
+    fn step<R: Threads + Sync, G: Gate>(
+        &mut self,
+        workers: &Workers<'_, R, G>,
+    ) -> Result<(), AllocError>
+        requires some { 0 < workers.now.many }
+        requires ready { (r : Run) × (given : List (List Bool)) × IsRunning r self.old given × IsReady r self.old given × GoesOn r self.old given }
         ensures ok { (r : Run) (given : List (List Bool)) → IsRunning r self.old given → IsReady r self.old given → GoesOn r self.old given
             → OnOk result (IsRunning r self.new given) }
         ensures one { OnOk result (self.new.made ≡ self.old.made + 1) }
+        ensures few { OnOk result (self.new.made < 2 ^ 64) }
     {
         self.show()?;
-        self.stream.cycle();
+        self.stream.cycle(workers, self.made);
         self.made += 1;
         Ok(())
     }
 
     /// Makes a cycle of a run that has not ended, before which it fetches and gives the next row, where
     /// it is needed.
-    pub(crate) fn go<S: Shelf>(&mut self, shelf: &mut S, feed: &mut RowFeed) -> Result<(), RunFault>
-        requires { (r : Run) × (given : List (List Bool)) × IsFed r (S.held shelf.old feed.old.name) self.old feed.old given × GoesOn r self.old given }
+    pub(crate) fn go<S: Shelf, R: Threads + Sync, G: Gate>(
+        &mut self,
+        shelf: &mut S,
+        feed: &mut RowFeed,
+        workers: &Workers<'_, R, G>,
+    ) -> Result<(), RunFault>
+        requires some { 0 < workers.now.many }
+        requires fed { (r : Run) × (given : List (List Bool)) × IsFed r (S.held shelf.old feed.old.name) self.old feed.old given × GoesOn r self.old given }
         ensures ok { (r : Run) (given : List (List Bool)) → IsFed r (S.held shelf.old feed.old.name) self.old feed.old given → GoesOn r self.old given
             → OnOk result (HasGone r given self.old.made self.new feed.new) }
         ensures err { (r : Run) (given : List (List Bool)) → IsFed r (S.held shelf.old feed.old.name) self.old feed.old given → GoesOn r self.old given
@@ -214,10 +249,21 @@ impl Running {
         if let Err(fault) = self.feed_on(shelf, feed) {
             return Err(fault);
         }
-        let Ok(()) = self.step() else {
+        let Ok(()) = self.step(workers) else {
             return Err(RunFault::Memory);
         };
         Ok(())
+    }
+
+    /// Appends in how many cycles somebody was held, where stalls are given.
+    fn append_stalled(&self, into: &mut Vec<u8>) -> Result<(), AllocError>
+        ensures { (r : Run) (given : List (List Bool)) (l : Life) → IsRunning r self.now given → Begins r given l
+            → OnOk result (into.new.items ≡ into.old.items ++ stalled_line r.stalls self.now.made) }
+    {
+        if !self.told {
+            return Ok(());
+        }
+        append_number_line(b"stalled", &[self.stream.stalled()], into)
     }
 
     /// Appends the trace, where one is wanted.
@@ -238,15 +284,16 @@ impl Running {
         print_trace(&trace, into)
     }
 
-    /// Appends how many cycles were made, how often each of so many nodes has fired, and the trace,
-    /// where one is wanted.
+    /// Appends how many cycles were made, how often each of so many nodes has fired, in how many cycles
+    /// somebody was held, where stalls are given, and the trace, where one is wanted.
     pub(crate) fn append_end(&mut self, nodes: u32, into: &mut Vec<u8>) -> Result<(), AllocError>
         requires { (r : Run) × (given : List (List Bool)) × IsRunning r self.old given × (nodes ≡ length r.system.nodes) }
         ensures { (r : Run) (given : List (List Bool)) (l : Life) → IsRunning r self.old given → Begins r given l → nodes ≡ length r.system.nodes
-            → OnOk result (into.new.items ≡ into.old.items ++ end_text l r.trace self.old.made) }
+            → OnOk result (into.new.items ≡ into.old.items ++ end_text l r.stalls r.trace self.old.made) }
     {
         let fired = firings(self.alloc, &self.stream, nodes)?;
         print_cycles(self.made, &fired, into)?;
+        self.append_stalled(into)?;
         self.append_trace(into)
     }
 }

@@ -21,6 +21,8 @@ use Rattle.lid_reports.specs.declared.trace.TraceFault.{TraceFault}
 use Rattle.lid_reports.specs.declared.trace.TraceFault.TheVariants as trace
 use Rattle.lid_reports.specs.declared.schedule.SchedFault.{SchedFault}
 use Rattle.lid_reports.specs.declared.schedule.SchedFault.TheVariants as schedule
+use Rattle.lid_stalltext.specs.declared.stalls.StallFault.{StallFault}
+use Rattle.lid_stalltext.specs.declared.stalls.StallFault.TheVariants as stalls
 use Rattle.lid_vcd.specs.declared.reader.VcdFault.{VcdFault}
 use Rattle.lid_vcd.specs.declared.reader.VcdFault.TheVariants as vcd
 use Rattle.lid_gen.specs.declared.fault.GenFault.{GenFault}
@@ -140,6 +142,12 @@ schedule_words (schedule.NoActor line) = at_line (codes "NoActor") line
 schedule_words (schedule.Limit which count) = over_limit which count
 schedule_words schedule.Memory = []
 
+abbrev pub stalls_words : StallFault → List (List ℕ)
+stalls_words (stalls.Limit which count) = over_limit which count
+stalls_words (stalls.Word line) = at_line (codes "Word") line
+stalls_words (stalls.Order line) = at_line (codes "Order") line
+stalls_words stalls.Memory = []
+
 abbrev pub vcd_words : VcdFault → List (List ℕ)
 vcd_words (vcd.Word line) = at_line (codes "Word") line
 vcd_words (vcd.Limit which count) = over_limit which count
@@ -177,6 +185,9 @@ trace_line fault = fault_line (codes "trace" ∷ trace_words fault)
 
 abbrev pub schedule_line : SchedFault → List ℕ
 schedule_line fault = fault_line (codes "schedule" ∷ schedule_words fault)
+
+abbrev pub stalls_line : StallFault → List ℕ
+stalls_line fault = fault_line (codes "stalls" ∷ stalls_words fault)
 
 abbrev pub vcd_line : VcdFault → List ℕ
 vcd_line fault = fault_line (codes "vcd" ∷ vcd_words fault)

@@ -8,7 +8,7 @@ ghost use Rattle.lid_refusals.specs.Saying.{Says};
 use crate::saying::{say, say_told};
 use crate::told::{
     told_of_blif, told_of_cert, told_of_check, told_of_dump, told_of_gen, told_of_net,
-    told_of_place, told_of_rows, told_of_schedule, told_of_trace,
+    told_of_place, told_of_rows, told_of_schedule, told_of_stalls, told_of_trace,
 };
 use lid_base::Sink;
 use lid_blif::BlifFault;
@@ -19,6 +19,7 @@ use lid_io::Word;
 use lid_placetext::PlaceFault;
 use lid_reports::{SchedFault, TraceFault};
 use lid_rules::CheckFault;
+use lid_stalltext::StallFault;
 use lid_texts::VecFault;
 use lid_vcd::VcdFault;
 
@@ -32,6 +33,7 @@ pub enum Refusal {
     Stations(PlaceFault),
     Cert(CertFault),
     Trace(TraceFault),
+    Stalls(StallFault),
     Schedule(SchedFault),
     Vcd(VcdFault),
     Gen(GenFault),
@@ -49,6 +51,7 @@ pub fn say_refusal<E: Sink>(err: &mut E, refusal: &Refusal)
         Refusal::Stations(fault) => say_told(err, "stations", told_of_place(*fault)),
         Refusal::Cert(fault) => say_told(err, "cert", told_of_cert(*fault)),
         Refusal::Trace(fault) => say_told(err, "trace", told_of_trace(*fault)),
+        Refusal::Stalls(fault) => say_told(err, "stalls", told_of_stalls(*fault)),
         Refusal::Schedule(fault) => say_told(err, "schedule", told_of_schedule(*fault)),
         Refusal::Vcd(fault) => say_told(err, "vcd", told_of_dump(*fault)),
         Refusal::Gen(fault) => say_told(err, "gen", told_of_gen(*fault)),

@@ -1,7 +1,7 @@
 //! What a refusal tells: its name and its fields, as the words of one line.
 
 ghost use Rattle.std.specs.Prelude.{◌≡◌, true};
-ghost use Rattle.lid_refusals.specs.Faults.{text_words, blif_words, rows_words, net_words, place_words, cert_words, trace_words, schedule_words, vcd_words, gen_words, is_at_inst, check_words};
+ghost use Rattle.lid_refusals.specs.Faults.{text_words, blif_words, rows_words, net_words, place_words, cert_words, trace_words, stalls_words, schedule_words, vcd_words, gen_words, is_at_inst, check_words};
 ghost use Rattle.lid_refusals.specs.Told.{told_words};
 
 use lid_base::{Items, Name, TextFault, Which};
@@ -12,6 +12,7 @@ use lid_gen::GenFault;
 use lid_placetext::PlaceFault;
 use lid_reports::{SchedFault, TraceFault};
 use lid_rules::CheckFault;
+use lid_stalltext::StallFault;
 use lid_texts::VecFault;
 use lid_vcd::VcdFault;
 
@@ -136,6 +137,18 @@ pub fn told_of_schedule(fault: SchedFault) -> Told<'static>
         SchedFault::NoActor { line } => Told::At("NoActor", line),
         SchedFault::Limit { which, count } => Told::Over(which, count),
         SchedFault::Memory => Told::Nothing,
+    }
+}
+
+/// What a refusal of stalls tells.
+pub fn told_of_stalls(fault: StallFault) -> Told<'static>
+    ensures { told_words result ≡ stalls_words fault }
+{
+    match fault {
+        StallFault::Limit { which, count } => Told::Over(which, count),
+        StallFault::Word { line } => Told::At("Word", line),
+        StallFault::Order { line } => Told::At("Order", line),
+        StallFault::Memory => Told::Nothing,
     }
 }
 

@@ -5,3 +5,4 @@ pub mod Traces
 pub mod Within
 pub mod Schedules
 pub mod Tokens
+pub mod Stalls

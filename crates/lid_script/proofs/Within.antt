@@ -4,13 +4,14 @@ use Rattle.std.proofs.Common.{◌≡◌, ℕ, ◌≤◌, true, List, Option, Som
 use Rattle.lid_base.proofs.Results.{on_ok, if_err}
 use Rattle.lid_stations.specs.declared.placement.Placement.{Placement}
 use Rattle.lid_stations.specs.Placements.{Links}
+use Rattle.lid_stalltext.specs.declared.stalls.Stall.{Stall}
 use Rattle.lid_refusals.specs.Refusals.{refusal_line}
 use Rattle.lid_script.specs.declared.fault.Stop.{Stop}
 use Rattle.lid_script.specs.declared.fault.Stop.TheVariants.{Refused, Read, Memory, Denied}
 use Rattle.lid_script.specs.declared.fault.End.{End}
 use Rattle.lid_script.specs.declared.fault.End.TheVariants.{Stopped, Unwritten}
-use Rattle.lid_script.specs.Scripts.{Ending, refuses, denies, gives, Script, decide, Reading, good, step, read_step, text_limit, stations_read, placement_step, EndsIn, Reaches}
-use Rattle.lid_script.specs.Causes.{Got, GotPlacement, IsCause, IsEnd}
+use Rattle.lid_script.specs.Scripts.{Ending, refuses, denies, gives, Script, decide, Reading, good, step, read_step, text_limit, stations_read, placement_step, stalls_read, stalls_step, EndsIn, Reaches}
+use Rattle.lid_script.specs.Causes.{Got, GotPlacement, GotStalls, IsCause, IsEnd}
 use Rattle.lid_script.specs.Statuses.{HasText, Writes, WritesPrefix, TellsAll, Leaves}
 use Rattle.lid_script.specs.Early.{RunsEarly}
 use Rattle.lid_script.proofs.Composition.{rose_later}
@@ -47,6 +48,15 @@ within_placed held l next None p g = record {
   reaches = λ file r. subst (λ x. Reaches held (next x) file) g r;
 }
 within_placed held l next (Some stations) p g = within_read held stations text_limit (stations_read l) next p g
+
+-- the stalls of the job are known
+pub within_stalled : (held : List ℕ → Option (List ℕ)) (next : Option (List Stall) → Script) (stalls : Option (List ℕ)) (read : Option (List Stall)) → GotStalls held stalls read → Within held (next read) (stalls_step stalls next)
+within_stalled held next None read g = record {
+  ends = λ ending e. subst (λ x. EndsIn held (next x) ending) g e;
+  reaches = λ file r. subst (λ x. Reaches held (next x) file) g r;
+}
+within_stalled held next (Some stalls) None g = absurd g
+within_stalled held next (Some stalls) (Some read) g = within_read held stalls text_limit stalls_read (λ list. next (Some list)) read g
 
 module _ (held : List ℕ → Option (List ℕ)) (inner outer : Script) (w : Within held inner outer) where
   has_text : (text : List ℕ) → HasText held inner text → HasText held outer text

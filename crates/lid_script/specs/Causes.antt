@@ -1,7 +1,7 @@
 -- Why a run does not end with its whole output: the cause that a value of the program tells.
 use Rattle.std.specs.Prelude.{◌≡◌, ◌⊎◌, ℕ, List, Option, Some, None}
 use Rattle.lid_base.specs.Outside.{Rose}
-use Rattle.lid_refusals.specs.declared.refusal.Refusal.TheVariants.{Blif, Check, Net, Rows, Stations, Cert, Schedule, Vcd, Gen}
+use Rattle.lid_refusals.specs.declared.refusal.Refusal.TheVariants.{Blif, Check, Net, Rows, Stations, Cert, Stalls, Schedule, Vcd, Gen}
 use Rattle.lid_script.specs.declared.fault.Stop.{Stop}
 use Rattle.lid_script.specs.declared.fault.Stop.TheVariants.{Refused, Read, Memory, Denied}
 use Rattle.lid_script.specs.declared.fault.End.{End}
@@ -24,13 +24,16 @@ use Rattle.lid_certtext.specs.declared.fault.CertFault.{CertFault}
 use Rattle.lid_certtext.specs.declared.fault.CertFault.TheVariants as cert
 use Rattle.lid_reports.specs.declared.schedule.SchedFault.{SchedFault}
 use Rattle.lid_reports.specs.declared.schedule.SchedFault.TheVariants as schedule
+use Rattle.lid_stalltext.specs.declared.stalls.Stall.{Stall}
+use Rattle.lid_stalltext.specs.declared.stalls.StallFault.{StallFault}
+use Rattle.lid_stalltext.specs.declared.stalls.StallFault.TheVariants as stalls
 use Rattle.lid_vcd.specs.declared.reader.VcdFault.{VcdFault}
 use Rattle.lid_vcd.specs.declared.reader.VcdFault.TheVariants as vcd
 use Rattle.lid_gen.specs.declared.fault.GenFault.{GenFault}
 use Rattle.lid_gen.specs.declared.fault.GenFault.TheVariants as gen
 use Rattle.lid_refusals.specs.Faults.{read_line, write_line, memory_line, denied_line}
 use Rattle.lid_refusals.specs.Refusals.{refusal_line}
-use Rattle.lid_script.specs.Scripts.{refuses, denies, Script, Reading, good, bad, net_limit, net_reading, text_limit, stations_read, links, IsFetched, IsChecked, IsUnchecked, HasChannels, IsOverfull, EndsIn, Reaches}
+use Rattle.lid_script.specs.Scripts.{refuses, denies, Script, Reading, good, bad, net_limit, net_reading, text_limit, stations_read, stalls_read, links, IsFetched, IsChecked, IsUnchecked, HasChannels, IsOverfull, EndsIn, Reaches}
 
 -- a fault that is want of memory is no refusal
 abbrev pub stop_of_blif : BlifFault → Stop
@@ -60,6 +63,10 @@ stop_of_cert fault = Refused (Cert fault)
 abbrev pub stop_of_schedule : SchedFault → Stop
 stop_of_schedule schedule.Memory = Memory
 stop_of_schedule fault = Refused (Schedule fault)
+
+abbrev pub stop_of_stalls : StallFault → Stop
+stop_of_stalls stalls.Memory = Memory
+stop_of_stalls fault = Refused (Stalls fault)
 
 abbrev pub stop_of_dump : VcdFault → Stop
 stop_of_dump vcd.Memory = Memory
@@ -167,6 +174,17 @@ GotPlacement held l (Some stations) p = Got held stations text_limit (stations_r
 abbrev pub MissesPlacement : (List ℕ → Option (List ℕ)) → Links → Option (List ℕ) → (List ℕ → ℕ) → (List ℕ → ℕ) → Stop → Type 0
 MissesPlacement held l None before after stop = IsWant stop
 MissesPlacement held l (Some stations) before after stop = Misses held stations text_limit (stations_read l) before after stop
+
+-- the stalls of a job, of whose file the bytes are known
+abbrev pub GotStalls : (List ℕ → Option (List ℕ)) → Option (List ℕ) → Option (List Stall) → Type 0
+GotStalls held None read = read ≡ None
+GotStalls held (Some stalls) None = ⊥
+GotStalls held (Some stalls) (Some read) = Got held stalls text_limit stalls_read read
+
+-- why they are not had
+abbrev pub MissesStalls : (List ℕ → Option (List ℕ)) → Option (List ℕ) → (List ℕ → ℕ) → (List ℕ → ℕ) → Stop → Type 0
+MissesStalls held None before after stop = ⊥
+MissesStalls held (Some stalls) before after stop = Misses held stalls text_limit stalls_read before after stop
 
 -- why a script comes to no output
 abbrev pub IsCause : (List ℕ → Option (List ℕ)) → Script → (List ℕ → ℕ) → (List ℕ → ℕ) → Stop → Type 0

@@ -19,6 +19,7 @@ use Rattle.lid_reports.specs.Runs.{report_text, trace_text}
 use Rattle.lid_reports.specs.declared.trace.Trace.{Trace}
 use Rattle.lid_blifout.specs.Canonical.{canonical_text}
 use Rattle.lid_gen.specs.Designs.{generated}
+use Rattle.lid_stalltext.specs.declared.stalls.Stall.{Stall}
 use Rattle.lid_script.specs.Clocked.{IsClockText}
 use Rattle.lid_script.specs.Walked.{IsWalkText}
 use Rattle.lid_script.specs.Waved.{IsWaveText}
@@ -31,7 +32,7 @@ pub data Output : Type 0 where
   placed : Links → Placement → Output  -- the relay stations of a placement
   throughput : Links → Placement → Output  -- the throughput of a placement
   verdict : Links → Cert → Output  -- what a certificate shows
-  clocked : Design → Links → Placement → List (List Bool) → Option ℕ → Output  -- the clocked run for rows, with its trace where one is asked for
+  clocked : Design → Links → Placement → List (List Bool) → Option (List Stall) → Option ℕ → Output  -- the clocked run for rows, under stalls where they are given, with its trace where one is asked for
   walked : Design → Links → Placement → List (List Bool) → List ℕ → Output  -- the walk along a schedule for rows
   waved : Design → Links → Placement → List (List Bool) → ℕ → Output  -- the trace of the clocked run for rows, of so many cycles, as a dump
   unwaved : Trace → Output  -- the trace that a dump shows
@@ -71,7 +72,7 @@ IsTextOf (strict_output d rows) text = IsStrictText d rows text
 IsTextOf (placed l p) text = text ≡ stations_text l p
 IsTextOf (throughput l p) text = IsRateText (marking l p) text
 IsTextOf (verdict l cert) text = text ≡ verdict_text cert (l.nodes - 1)
-IsTextOf (clocked d l p rows trace) text = IsClockText d l p rows trace text
+IsTextOf (clocked d l p rows stalls trace) text = IsClockText d l p rows stalls trace text
 IsTextOf (walked d l p rows schedule) text = IsWalkText d l p rows schedule text
 IsTextOf (waved d l p rows most) text = IsWaveText d l p rows most text
 IsTextOf (unwaved trace) text = text ≡ trace_text trace

@@ -28,6 +28,9 @@ use Rattle.lid_placetext.specs.Readings.{stations_reading, wires_reading}
 use Rattle.lid_reports.specs.declared.trace.TraceFault.TheVariants as trace
 use Rattle.lid_reports.specs.declared.schedule.SchedFault.{SchedFault}
 use Rattle.lid_reports.specs.Schedules.{schedule_reading}
+use Rattle.lid_stalltext.specs.declared.stalls.Stall.{Stall}
+use Rattle.lid_stalltext.specs.declared.stalls.StallFault.{StallFault}
+use Rattle.lid_stalltext.specs.Stalls.{stalls_reading}
 use Rattle.lid_texts.specs.declared.rows.Rows.{Rows}
 use Rattle.lid_texts.specs.declared.rows.VecFault.{VecFault}
 use Rattle.lid_texts.specs.declared.rows.VecFault.TheVariants.{Changed}
@@ -39,7 +42,7 @@ use Rattle.lid_gen.specs.declared.fault.GenFault.{GenFault}
 use Rattle.lid_gen.specs.Designs.{size_fault}
 use Rattle.lid_cli.specs.declared.job.Job.{Job}
 use Rattle.lid_cli.specs.declared.job.Job.TheVariants.{Check, Clock, Gen, Place, Rate, Strict, Unwave, Verify, Walk, Wave}
-use Rattle.lid_refusals.specs.Faults.{blif_line, rows_line, check_line, net_line, stations_line, cert_line, trace_line, schedule_line, vcd_line, gen_line}
+use Rattle.lid_refusals.specs.Faults.{blif_line, rows_line, check_line, net_line, stations_line, cert_line, trace_line, stalls_line, schedule_line, vcd_line, gen_line}
 use Rattle.lid_script.specs.Outputs.{Output, report, strict_output, placed, throughput, verdict, clocked, walked, waved, unwaved, design_of_seed, run_of_seed}
 
 -- what a reading makes of a value
@@ -271,30 +274,48 @@ trace_read p (Some cycles) = cells_read (station_count p.relays * cycles)
 abbrev pub reread_rows : Design → List ℕ → List (List Bool) → Rereading
 reread_rows d vec rows = record { name = vec; limit = rows_limit; width = length (root_inputs d); read = vec_reading d; rows = rows }
 
--- `clock` of a system with such a placement whose rows were read: they are read a second time as it runs
-unfoldable pub rerun_script : Design → Links → Placement → List ℕ → Option ℕ → List (List Bool) → Script
-rerun_script d l p vec trace rows = again (reread_rows d vec rows) (λ reread. end (gives (clocked d l p reread trace)))
+abbrev pub stalls_good : Result (List Stall) StallFault → Reading (List Stall)
+stalls_good (Ok stalls) = good stalls
+stalls_good (Err fault) = bad (stalls_line fault)
+
+-- the stalls that a text stands for
+unfoldable pub stalls_read : List ℕ → Reading (List Stall)
+stalls_read bytes = stalls_good (stalls_reading bytes)
+
+-- the stalls of a job: those of the file of stalls, where one is named
+abbrev pub stalls_step : Option (List ℕ) → (Option (List Stall) → Script) → Script
+stalls_step None next = next None
+stalls_step (Some stalls) next = read_step stalls text_limit stalls_read (λ read. next (Some read))
+
+-- `clock` of a system with such a placement and such stalls whose rows were read: they are read a second time as it
+-- runs
+unfoldable pub rerun_script : Design → Links → Placement → List ℕ → Option (List Stall) → Option ℕ → List (List Bool) → Script
+rerun_script d l p vec stalls trace rows = again (reread_rows d vec rows) (λ reread. end (gives (clocked d l p reread stalls trace)))
 
 -- the trace is judged, and then it runs
-unfoldable pub traced_script : Design → Links → Placement → List ℕ → Option ℕ → List (List Bool) → Script
-traced_script d l p vec trace rows = step (trace_read p trace) (λ _. rerun_script d l p vec trace rows)
+unfoldable pub traced_script : Design → Links → Placement → List ℕ → Option (List Stall) → Option ℕ → List (List Bool) → Script
+traced_script d l p vec stalls trace rows = step (trace_read p trace) (λ _. rerun_script d l p vec stalls trace rows)
 
--- `clock` of a system with such a placement: the rows are fetched and read
-unfoldable pub vec_script : Design → Links → Placement → List ℕ → Option ℕ → Script
-vec_script d l p vec trace = read_step vec rows_limit (vec_reading d) (traced_script d l p vec trace)
+-- `clock` of a system with such a placement and such stalls: the rows are fetched and read
+unfoldable pub vec_script : Design → Links → Placement → List ℕ → Option (List Stall) → Option ℕ → Script
+vec_script d l p vec stalls trace = read_step vec rows_limit (vec_reading d) (traced_script d l p vec stalls trace)
+
+-- `clock` of a system with such a placement: the stalls are read
+unfoldable pub stalled_script : Design → Links → Placement → List ℕ → Option (List ℕ) → Option ℕ → Script
+stalled_script d l p vec stalls trace = stalls_step stalls (λ read. vec_script d l p vec read trace)
 
 -- `clock` of a design with these channels: the stations are read
-unfoldable pub placed_script : Design → Links → List ℕ → Option (List ℕ) → Option ℕ → Script
-placed_script d l vec stations trace = placement_step l stations (λ p. vec_script d l p vec trace)
+unfoldable pub placed_script : Design → Links → List ℕ → Option (List ℕ) → Option (List ℕ) → Option ℕ → Script
+placed_script d l vec stations stalls trace = placement_step l stations (λ p. stalled_script d l p vec stalls trace)
 
 -- `clock` of an accepted design: its system is built
-unfoldable pub built_script : Design → List ℕ → Option (List ℕ) → Option ℕ → Script
-built_script d vec stations trace = net_step d (λ channels. placed_script d (links d channels) vec stations trace)
+unfoldable pub built_script : Design → List ℕ → Option (List ℕ) → Option (List ℕ) → Option ℕ → Script
+built_script d vec stations stalls trace = net_step d (λ channels. placed_script d (links d channels) vec stations stalls trace)
 
--- `clock`: the netlist is read and checked, and its system built, then the stations are read, then the rows,
--- and the trace is judged
-unfoldable pub clock_script : List ℕ → List ℕ → Option (List ℕ) → Option ℕ → Option (List ℕ) → Script
-clock_script net vec stations trace root = read_step net net_limit net_reading (λ d. check_step root d (λ checked. built_script checked vec stations trace))
+-- `clock`: the netlist is read and checked, and its system built, then the stations are read, then the stalls, then
+-- the rows, and the trace is judged
+unfoldable pub clock_script : List ℕ → List ℕ → Option (List ℕ) → Option (List ℕ) → Option ℕ → Option (List ℕ) → Script
+clock_script net vec stations stalls trace root = read_step net net_limit net_reading (λ d. check_step root d (λ checked. built_script checked vec stations stalls trace))
 
 abbrev pub schedule_good : Result (List ℕ) SchedFault → Reading (List ℕ)
 schedule_good (Ok schedule) = good schedule
@@ -368,7 +389,7 @@ gen_script seed shells run = step (size_read shells) (λ _. end (gives (generati
 -- the steps of a job
 abbrev pub script_of : Job → Script
 script_of (Check net root) = check_script net root
-script_of (Clock net vec stations trace root) = clock_script net vec stations trace root
+script_of (Clock net vec stations stalls workers trace root) = clock_script net vec stations stalls trace root
 script_of (Place net wires reach root) = place_script net wires reach root
 script_of (Rate net stations root) = rate_script net stations root
 script_of (Strict net vec root) = strict_script net vec root

@@ -62,7 +62,7 @@ pub record IsStatusOf (held : List ℕ → Option (List ℕ)) (script : Script) 
 -- whether a job writes while it runs, before its output is whole: of all commands `clock` alone does
 abbrev pub writes_early : Job → Bool
 writes_early (Check net root) = false
-writes_early (Clock net vec stations trace root) = true
+writes_early (Clock net vec stations stalls workers trace root) = true
 writes_early (Place net wires reach root) = false
 writes_early (Rate net stations root) = false
 writes_early (Strict net vec root) = false

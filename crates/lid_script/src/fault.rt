@@ -1,7 +1,7 @@
 //! Why a job does not end with its whole output.
 
 ghost use Rattle.std.specs.Prelude.{◌≡◌};
-ghost use Rattle.lid_script.specs.Causes.{stop_of_blif, stop_of_rows, stop_of_check, stop_of_net, stop_of_place, stop_of_cert, stop_of_schedule, stop_of_dump, stop_of_gen};
+ghost use Rattle.lid_script.specs.Causes.{stop_of_blif, stop_of_rows, stop_of_check, stop_of_net, stop_of_place, stop_of_cert, stop_of_stalls, stop_of_schedule, stop_of_dump, stop_of_gen};
 
 use lid_blif::BlifFault;
 use lid_certtext::CertFault;
@@ -10,6 +10,7 @@ use lid_gen::GenFault;
 use lid_net::NetFault;
 use lid_placetext::PlaceFault;
 use lid_refusals::Refusal;
+use lid_stalltext::StallFault;
 use lid_texts::{SchedFault, VecFault};
 use lid_vcd::VcdFault;
 
@@ -90,6 +91,16 @@ pub fn cert_stop<'a>(fault: CertFault) -> Stop<'a>
     match fault {
         CertFault::Memory => Stop::Memory,
         _ => Stop::Refused(Refusal::Cert(fault)),
+    }
+}
+
+/// Why a text gives no stalls.
+pub fn stalls_stop<'a>(fault: StallFault) -> Stop<'a>
+    ensures { result ≡ stop_of_stalls fault }
+{
+    match fault {
+        StallFault::Memory => Stop::Memory,
+        _ => Stop::Refused(Refusal::Stalls(fault)),
     }
 }
 

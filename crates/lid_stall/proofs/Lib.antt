@@ -1,1 +1,3 @@
-pub mod Lasts
+pub mod Walking
+pub mod Delays
+pub mod Steps

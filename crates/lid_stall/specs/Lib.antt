@@ -1,1 +1,2 @@
-pub mod Stalls
+pub mod Places
+pub mod Runs

@@ -1,6 +1,7 @@
-//! Stalls of the environment: the cycles in which a run's source or sink are held, read from a text.
+//! Stalls of the environment: the clocked run in which stalls hold the source and the sink.
 #![tactic(auto)]
 
-mod stalls;
+mod held;
 
-pub use stalls::{Stall, StallFault, read_stalls};
+pub use held::Held;
+pub use lid_stalltext::{Stall, StallFault, read_stalls};

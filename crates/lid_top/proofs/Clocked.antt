@@ -10,10 +10,10 @@ use Rattle.lid_script.specs.Statuses.{Writes, WritesPrefix, TellsAll, Leaves, wr
 use Rattle.lid_script.specs.Early.{RunsEarly}
 
 module _ {O : Type 0} (held : List ℕ → Option (List ℕ)) (before after : List ℕ → ℕ) (written : O → Option (List ℕ)) (writes : O → ℕ) (out out_after : O) (result : Result (Unit {0}) End)
-    (job : Job) (net vec first second : List ℕ) (stations : Option (List ℕ)) (trace : Option ℕ) (root : Option (List ℕ)) (is : job ≡ Clock net vec stations trace root) (first_is : first ≡ net) (second_is : second ≡ vec)
-    (ran : RunsEarly held (clock_script first second stations trace root) before after written writes out out_after result) where
-  asked : job ≡ Clock first second stations trace root
-  asked = is ∙ ap₂ (λ a b. Clock a b stations trace root) (sym first_is) (sym second_is)
+    (job : Job) (net vec first second : List ℕ) (stations stalls : Option (List ℕ)) (workers : ℕ) (trace : Option ℕ) (root : Option (List ℕ)) (is : job ≡ Clock net vec stations stalls workers trace root) (first_is : first ≡ net) (second_is : second ≡ vec)
+    (ran : RunsEarly held (clock_script first second stations stalls trace root) before after written writes out out_after result) where
+  asked : job ≡ Clock first second stations stalls workers trace root
+  asked = is ∙ ap₂ (λ a b. Clock a b stations stalls workers trace root) (sym first_is) (sym second_is)
 
   pub job_done : OnOk result (Writes held (script_of job) (written out) (written out_after))
   job_done = subst (λ (j : Job). OnOk result (Writes held (script_of j) (written out) (written out_after))) (sym asked) ran.done

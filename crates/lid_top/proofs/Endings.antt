@@ -12,10 +12,11 @@ use Rattle.lid_cli.specs.declared.job.Job.TheVariants.{Check, Clock, Gen, Place,
 use Rattle.lid_refusals.specs.Faults.{check_line, net_line}
 use Rattle.lid_script.specs.Outputs.{strict_output, report, placed, walked, waved, unwaved}
 use Rattle.lid_cert.specs.declared.cert.Cert.{Cert}
+use Rattle.lid_stalltext.specs.declared.stalls.Stall.{Stall}
 use Rattle.lid_stations.specs.declared.placement.Placement.{Placement}
 use Rattle.lid_stations.specs.Placements.{Links, no_relays}
 use Rattle.lid_stations.specs.Stations.{actor_count}
-use Rattle.lid_script.specs.Scripts.{Ending, refuses, gives, Script, fetch, again, decide, end, Reading, good, bad, step, net_reading, vec_reading, check_step, net_step, report_script, check_script, rows_script, checked_script, strict_script, links, system_step, placement_step, stations_read, wires_read, cert_read, wires_script, rated_script, judged_script, judging_script, cert_script, place_script, rate_script, verify_script, trace_read, rerun_script, traced_script, vec_script, placed_script, built_script, clock_script, rows_step, built_step, held_step, schedule_read, schedule_script, walk_script, waving_script, wave_script, dump_read, unwave_script, size_read, generating, gen_script, script_of, IsFetched, IsReread, IsChecked, IsUnchecked, EndsIn}
+use Rattle.lid_script.specs.Scripts.{Ending, refuses, gives, Script, fetch, again, decide, end, Reading, good, bad, step, net_reading, vec_reading, check_step, net_step, report_script, check_script, rows_script, checked_script, strict_script, links, system_step, placement_step, stalls_read, stalls_step, stations_read, wires_read, cert_read, wires_script, rated_script, judged_script, judging_script, cert_script, place_script, rate_script, verify_script, trace_read, rerun_script, traced_script, vec_script, stalled_script, placed_script, built_script, clock_script, rows_step, built_step, held_step, schedule_read, schedule_script, walk_script, waving_script, wave_script, dump_read, unwave_script, size_read, generating, gen_script, script_of, IsFetched, IsReread, IsChecked, IsUnchecked, EndsIn}
 use Rattle.lid_script.specs.Statuses.{TellsAll}
 
 -- each step of the script without a fetch has one outcome
@@ -87,6 +88,11 @@ placed_once : (held : List ℕ → Option (List ℕ)) (l : Links) (stations : Op
 placed_once held l None next s = s (no_relays l)
 placed_once held l (Some stations) next s = λ bytes _. settled_step held (stations_read l bytes) next s
 
+-- stalls have one outcome
+stalled_once : (held : List ℕ → Option (List ℕ)) (stalls : Option (List ℕ)) (next : Option (List Stall) → Script) → ((read : Option (List Stall)) → IsSettled held (next read)) → IsSettled held (stalls_step stalls next)
+stalled_once held None next s = s None
+stalled_once held (Some stalls) next s = λ bytes _. settled_step held (stalls_read bytes) (λ read. next (Some read)) (λ read. s (Some read))
+
 -- acceptance has one outcome
 module _ (apart : (d : Design) (fault : CheckFault) → IsAccepted d → IsRefusal d fault → ⊥) (one : (d : Design) (fault other : CheckFault) → IsRefusal d fault → IsRefusal d other → fault ≡ other) (graph : (d : Design) (a b : List Channel) → IsGraphOf d a → IsGraphOf d b → a ≡ b) where
   refused_once : (o : Option Design) (fault other : CheckFault) → IsRefused o fault → IsRefused o other → fault ≡ other
@@ -121,13 +127,14 @@ module _ (apart : (d : Design) (fault : CheckFault) → IsAccepted d → IsRefus
       (λ d. checked_once held root d built (λ checked. built_once held checked (λ channels. next (links checked channels)) (λ channels. s (links checked channels))))
 
   -- `clock` of an accepted design has one outcome
-  clocked_once : (held : List ℕ → Option (List ℕ)) (d : Design) (vec : List ℕ) (stations : Option (List ℕ)) (trace : Option ℕ) → IsSettled held (built_script d vec stations trace)
-  unfolding built_script placed_script vec_script traced_script rerun_script
-  clocked_once held d vec stations trace = built_once held d (λ channels. placed_script d (links d channels) vec stations trace) (λ channels.
+  clocked_once : (held : List ℕ → Option (List ℕ)) (d : Design) (vec : List ℕ) (stations stalls : Option (List ℕ)) (trace : Option ℕ) → IsSettled held (built_script d vec stations stalls trace)
+  unfolding built_script placed_script stalled_script vec_script traced_script rerun_script
+  clocked_once held d vec stations stalls trace = built_once held d (λ channels. placed_script d (links d channels) vec stations stalls trace) (λ channels.
       let l = links d channels in
-      placed_once held l stations (λ p. vec_script d l p vec trace) (λ p text _.
-      settled_step held (vec_reading d text) (traced_script d l p vec trace) (λ rows.
-      settled_step held (trace_read p trace) (λ _. rerun_script d l p vec trace rows) (λ _ reread _. tt))))
+      placed_once held l stations (λ p. stalled_script d l p vec stalls trace) (λ p.
+      stalled_once held stalls (λ read. vec_script d l p vec read trace) (λ read text _.
+      settled_step held (vec_reading d text) (traced_script d l p vec read trace) (λ rows.
+      settled_step held (trace_read p trace) (λ _. rerun_script d l p vec read trace rows) (λ _ reread _. tt)))))
 
   -- a run that holds its rows has one outcome
   held_once : (held : List ℕ → Option (List ℕ)) (net vec : List ℕ) (stations root : Option (List ℕ)) (next : Design → Links → Placement → List (List Bool) → Script)
@@ -153,9 +160,9 @@ module _ (apart : (d : Design) (fault : CheckFault) → IsAccepted d → IsRefus
   settled_job held (Check net root) = λ bytes _.
       let reported : (d : Design) → IsSettled held (report_script d) = λ d. built_once held d (λ channels. end (gives (report d channels))) (λ _. tt) in
       settled_step held (net_reading bytes) (λ d. check_step root d report_script) (λ d. checked_once held root d report_script reported)
-  settled_job held (Clock net vec stations trace root) = λ bytes _.
-      let built : Design → Script = λ checked. built_script checked vec stations trace in
-      settled_step held (net_reading bytes) (λ d. check_step root d built) (λ d. checked_once held root d built (λ checked. clocked_once held checked vec stations trace))
+  settled_job held (Clock net vec stations stalls workers trace root) = λ bytes _.
+      let built : Design → Script = λ checked. built_script checked vec stations stalls trace in
+      settled_step held (net_reading bytes) (λ d. check_step root d built) (λ d. checked_once held root d built (λ checked. clocked_once held checked vec stations stalls trace))
   settled_job held (Place net wires reach root) =
       system_once held net root (λ l. wires_script l wires reach) (λ l bytes _. settled_step held (wires_read reach l bytes) (λ p. end (gives (placed l p))) (λ _. tt))
   settled_job held (Rate net stations root) =

@@ -10,7 +10,7 @@ ghost use Rattle.lid_script.specs.Statuses.{HasText, Writes, WritesPrefix, Tells
 use crate::held::held_text;
 use lid_base::{Gate, Shelf, Sink, SinkFailed};
 use lid_cli::Job;
-use lid_clocking::run_clock;
+use lid_clocking::{Workers, run_clock};
 use lid_commands::{check_text, place_text, rate_text, strict_text, verify_text};
 use lid_io::PieceWriter;
 use lid_script::{End, Stop};
@@ -130,21 +130,27 @@ where
     ensures unwritten { IfErr result (λ end. IsRefusal end → TellsAll (S.held shelf.old) (script_of job.now) → out.new ≡ out.old) }
     ensures kept { S.held shelf.new ≡ S.held shelf.old }
 {
-    let _ = gate;
     match job {
         Job::Clock {
             net,
             vec,
             stations,
+            stalls,
+            workers,
             trace,
             root,
         } => run_clock(
-            rt.alloc(),
+            &Workers {
+                rt,
+                gate,
+                many: *workers as u32,
+            },
             shelf,
             out,
             net.as_str(),
             vec.as_str(),
             stations,
+            stalls,
             trace,
             root,
         ),

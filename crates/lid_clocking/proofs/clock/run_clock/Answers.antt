@@ -9,8 +9,8 @@ unfolding clock_script
 returns-in-Ok-clause-ran g c =
     let held = g.S.Shelf.held c.args.shelf.now in
     let net = c.args.net.now in
-    let next : Design → Script = λ d. check_step c.args.root.now d (λ checked. built_script checked c.args.vec.now c.args.stations.now c.args.trace.now) in
-    let outer = clock_script net c.args.vec.now c.args.stations.now c.args.trace.now c.args.root.now in
+    let next : Design → Script = λ d. check_step c.args.root.now d (λ checked. built_script checked c.args.vec.now c.args.stations.now c.args.stalls.now c.args.trace.now) in
+    let outer = clock_script net c.args.vec.now c.args.stations.now c.args.stalls.now c.args.trace.now c.args.root.now in
     runs_within held (next c.in-Ok.design) outer (within_read held net net_limit net_reading next c.in-Ok.design c.in-Ok.ensures.ok) g.O.Sink.written g.O.Sink.faults
     (g.S.Shelf.held c.read_net.new.shelf) (g.S.Shelf.faults c.args.shelf.now) (g.S.Shelf.faults c.read_net.new.shelf) (g.S.Shelf.faults c.run_read.new.shelf) c.args.out.now c.run_read.new.out
     c.run_read.result c.in-Ok.ensures.kept c.in-Ok.ensures.grows c.run_read.ensures.ran
@@ -20,8 +20,8 @@ unfolding clock_script
 returns-in-Err-clause-ran g c =
     let held = g.S.Shelf.held c.args.shelf.now in
     let net = c.args.net.now in
-    let next : Design → Script = λ d. check_step c.args.root.now d (λ checked. built_script checked c.args.vec.now c.args.stations.now c.args.trace.now) in
-    let outer = clock_script net c.args.vec.now c.args.stations.now c.args.trace.now c.args.root.now in
+    let next : Design → Script = λ d. check_step c.args.root.now d (λ checked. built_script checked c.args.vec.now c.args.stations.now c.args.stalls.now c.args.trace.now) in
+    let outer = clock_script net c.args.vec.now c.args.stations.now c.args.stalls.now c.args.trace.now c.args.root.now in
     let before = g.S.Shelf.faults c.args.shelf.now in
     let after = g.S.Shelf.faults c.read_net.new.shelf in
     runs_stopped held outer before after g.O.Sink.written g.O.Sink.faults c.args.out.now c.in-Err.stop

@@ -1,20 +1,19 @@
-use Rattle.std.proofs.Common.{◌≡◌, List, [], refl, sym, ◌∙◌, ap, subst, Bool}
+use Rattle.std.proofs.Common.{[], refl, sym, ◌∙◌, ap, subst}
 use Rattle.lid_base.specs.Outside.{Rose}
 use Rattle.lid_base.proofs.Results.{if_err}
-use Rattle.lid_clockrun.specs.Runnings.{run_of, HasStopped}
-use Rattle.lid_clockrun.specs.Stepping.{IsFed}
+use Rattle.lid_clockrun.specs.Runnings.{run_of}
 use Rattle.lid_clockrun.proofs.Living.{none_given}
 use Rattle.lid_clockrun.proofs.Tellings.{rose_later, cause_later, stopped_later, part_of_none}
 use Rattle.lid_clockrun.proofs.whole.run.Goals as goal
 
 pub returns-in-Err-clause-err : goal.returns-in-Err-clause-err
 returns-in-Err-clause-err g c =
-    let run = run_of c.args.system.now c.args.placement.now c.args.columns.now c.args.rows c.args.trace (g.S.Shelf.held c.args.shelf.now c.args.feed.now.name) in
+    let run = run_of c.args.system.now c.args.placement.now c.args.columns.now c.args.rows c.args.trace c.args.stalls (g.S.Shelf.held c.args.shelf.now c.args.feed.now.name) in
     let reads = Rose (g.S.Shelf.faults c.args.shelf.now c.args.feed.now.name) (g.S.Shelf.faults c.start.new.shelf c.args.feed.now.name) in
     record {
       rows = [];
       given = none_given run;
-      told = λ l b. part_of_none run [] l b (g.O.Sink.written c.args.out.now);
+      told = λ l b. part_of_none run c.requires.ascend [] l b (g.O.Sink.written c.args.out.now);
       cause =
           cause_later run [] reads reads (Rose (g.O.Sink.faults c.args.out.now) (g.O.Sink.faults c.args.out.now)) ⊥ c.in-Err.fault (λ rose. rose) (λ none. absurd none)
           (c.in-Err.ensures.err run refl refl refl c.requires.feeds);
@@ -22,38 +21,41 @@ returns-in-Err-clause-err g c =
 
 pub returns-in_default-clause-err : goal.returns-in_default-clause-err
 returns-in_default-clause-err g c =
-    let run = run_of c.args.system.now c.args.placement.now c.args.columns.now c.args.rows c.args.trace (g.S.Shelf.held c.args.shelf.now c.args.feed.now.name) in
+    let run = run_of c.args.system.now c.args.placement.now c.args.columns.now c.args.rows c.args.trace c.args.stalls (g.S.Shelf.held c.args.shelf.now c.args.feed.now.name) in
     record {
       rows = [];
       given = none_given run;
-      told = λ l b. part_of_none run [] l b (g.O.Sink.written c.args.out.now);
+      told = λ l b. part_of_none run c.requires.ascend [] l b (g.O.Sink.written c.args.out.now);
       cause = tt;
     }
 
 -- the feed's file is the same one, and holds the same, once the run has begun
-same_held : (g : _) (c : goal.After-telling-2-1 g) → g.S.Shelf.held c.args.shelf.now c.args.feed.now.name ≡ g.S.Shelf.held c.start.new.shelf c.start.new.feed.name
-same_held g c = ap (g.S.Shelf.held c.args.shelf.now) (sym c.in-Ok.ensures.name) ∙ ap (λ h. h c.start.new.feed.name) (sym c.in-Ok.ensures.kept)
-
 pub tell_run-requires-clause-fed : goal.tell_run-requires-clause-fed
-tell_run-requires-clause-fed g c =
-    let run = run_of c.args.system.now c.args.placement.now c.args.columns.now c.args.rows c.args.trace (g.S.Shelf.held c.args.shelf.now c.args.feed.now.name) in
-    let begun = c.in-Ok.ensures.ok run refl refl refl refl refl c.requires.feeds in
-    subst (λ held. (given : List (List Bool)) × IsFed (run_of c.args.system.now c.args.placement.now c.args.columns.now c.args.rows c.args.trace held) held c.in-Ok.run' c.start.new.feed given)
-    (same_held g c) (begun.0, record { told = refl; running = begun.1; feeds = begun.2 })
+tell_run-requires-clause-fed g c κs within =
+    let run = run_of c.args.system.now c.args.placement.now c.args.columns.now c.args.rows c.args.trace c.args.stalls (g.S.Shelf.held c.args.shelf.now c.args.feed.now.name) in
+    let same = ap (g.S.Shelf.held c.args.shelf.now) (sym c.in-Ok.ensures.name) ∙ ap (λ h. h c.start.new.feed.name) (sym c.in-Ok.ensures.kept) in
+    let has = c.in-Ok.ensures.ok run refl refl refl refl refl refl c.requires.feeds in
+    (run, has.0, record { of = refl; named = refl }, record { told = same; running = has.1; feeds = has.2 })
+
+pub returns-clause-ok : goal.returns-clause-ok
+returns-clause-ok g c =
+    let run = run_of c.args.system.now c.args.placement.now c.args.columns.now c.args.rows c.args.trace c.args.stalls (g.S.Shelf.held c.args.shelf.now c.args.feed.now.name) in
+    let same = ap (g.S.Shelf.held c.args.shelf.now) (sym c.in-Ok.ensures.name) ∙ ap (λ h. h c.start.new.feed.name) (sym c.in-Ok.ensures.kept) in
+    let has = c.in-Ok.ensures.ok run refl refl refl refl refl refl c.requires.feeds in
+    c.tell_run.ensures.ok run has.0 (record { of = refl; named = refl }) (record { told = same; running = has.1; feeds = has.2 })
 
 pub returns-clause-err : goal.returns-clause-err
 returns-clause-err g c =
+    let run = run_of c.args.system.now c.args.placement.now c.args.columns.now c.args.rows c.args.trace c.args.stalls (g.S.Shelf.held c.args.shelf.now c.args.feed.now.name) in
     let same = ap (g.S.Shelf.held c.args.shelf.now) (sym c.in-Ok.ensures.name) ∙ ap (λ h. h c.start.new.feed.name) (sym c.in-Ok.ensures.kept) in
+    let has = c.in-Ok.ensures.ok run refl refl refl refl refl refl c.requires.feeds in
     let first = g.S.Shelf.faults c.args.shelf.now in
     let old = g.S.Shelf.faults c.start.new.shelf in
     let new = g.S.Shelf.faults c.tell_run.new.shelf in
     let name = c.args.feed.now.name in
     if_err c.tell_run.result
     (λ fault stopped.
-    stopped_later (run_of c.args.system.now c.args.placement.now c.args.columns.now c.args.rows c.args.trace (g.S.Shelf.held c.args.shelf.now c.args.feed.now.name))
-    (g.O.Sink.written c.args.out.now) (g.O.Sink.written c.tell_run.new.out) (Rose (first name) (new name)) (Rose (old c.start.new.feed.name) (new c.start.new.feed.name)) (Rose (g.O.Sink.faults c.args.out.now) (g.O.Sink.faults c.tell_run.new.out)) fault
+    stopped_later run (g.O.Sink.written c.args.out.now) (g.O.Sink.written c.tell_run.new.out) (Rose (first name) (new name)) (Rose (old c.start.new.feed.name) (new c.start.new.feed.name)) (Rose (g.O.Sink.faults c.args.out.now) (g.O.Sink.faults c.tell_run.new.out)) fault
     (λ rose. rose_later (first name) (old name) (new name) (c.in-Ok.ensures.grows name) (subst (λ n. Rose (old n) (new n)) c.in-Ok.ensures.name rose))
-    (subst (λ held. HasStopped (run_of c.args.system.now c.args.placement.now c.args.columns.now c.args.rows c.args.trace held) (g.O.Sink.written c.args.out.now) (g.O.Sink.written c.tell_run.new.out)
-    (Rose (old c.start.new.feed.name) (new c.start.new.feed.name)) (Rose (g.O.Sink.faults c.args.out.now) (g.O.Sink.faults c.tell_run.new.out)) fault)
-    (sym same) stopped))
-    c.tell_run.ensures.err
+    stopped)
+    (c.tell_run.ensures.err run has.0 (record { of = refl; named = refl }) (record { told = same; running = has.1; feeds = has.2 }))

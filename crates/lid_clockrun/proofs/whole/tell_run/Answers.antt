@@ -1,40 +1,34 @@
-use Rattle.std.proofs.Common.{◌++◌, ℕ, List, length, refl, sym, ◌∙◌, ap, subst, arith}
+use Rattle.std.proofs.Common.{◌≡◌, ◌<◌, ◌+◌, ◌-◌, ◌^◌, ◌++◌, ℕ, List, length, refl, sym, ◌∙◌, ap, subst, arith}
 use Rattle.lid_base.specs.Outside.{Rose}
 use Rattle.lid_base.proofs.Results.{on_ok}
 use Rattle.lid_texts.specs.RowsText.{rows_text}
 use Rattle.lid_clock.specs.Lives.{Life, IsBelow, IsLast, fired_after, sink}
 use Rattle.lid_clock.specs.Ran.{lent}
 use Rattle.lid_clockrun.specs.RunTexts.{first_outputs, end_text}
-use Rattle.lid_clockrun.specs.Runnings.{run_of, Begins}
+use Rattle.lid_clockrun.specs.Runnings.{Begins}
 use Rattle.lid_clockrun.specs.Pushing.{HasPushed, IsTellCause}
-use Rattle.lid_clockrun.proofs.Goings.{few_cycles}
 use Rattle.lid_clockrun.proofs.Tellings.{rose_later, cause_later, cause_of_telling, pushed_part, part_of_fired, header_told, header_breaks, last_told, last_breaks, end_told, end_breaks, err_both}
 use Rattle.lid_clockrun.proofs.whole.tell_run.Goals as goal
 
 pub returns-in-Err-clause-err : goal.returns-in-Err-clause-err
-returns-in-Err-clause-err g c =
-    let run = run_of c.args.system.now c.args.placement.now c.args.columns.now c.args.rows c.args.trace (g.S.Shelf.held c.args.shelf.now c.args.feed.now.name) in
-    let given = c.requires.fed.0 in
-    let fed = c.requires.fed.1 in
+returns-in-Err-clause-err g c = λ r given of fed.
     record {
       rows = given;
       given = fed.running.rows;
-      told = λ l b. header_breaks run given l b (g.O.Sink.written c.args.out.now) (g.O.Sink.written c.tell_header.new.out) c.args.telling.now.writer c.requires.held c.in-Err.ensures.err;
-      cause = cause_of_telling run given (Rose (g.S.Shelf.faults c.args.shelf.now c.args.feed.now.name) (g.S.Shelf.faults c.args.shelf.now c.args.feed.now.name)) (Rose (g.O.Sink.faults c.args.out.now) (g.O.Sink.faults c.tell_header.new.out)) (Rose (g.O.Sink.faults c.args.out.now) (g.O.Sink.faults c.tell_header.new.out)) c.in-Err.fault (λ rose. rose) c.in-Err.ensures.cause;
+      told = λ l b. header_breaks r fed.running.rules.ascend given l b c.args.columns.now of.named (g.O.Sink.written c.args.out.now) (g.O.Sink.written c.tell_header.new.out) c.args.telling.now.writer c.requires.held c.in-Err.ensures.err;
+      cause = cause_of_telling r given (Rose (g.S.Shelf.faults c.args.shelf.now c.args.feed.now.name) (g.S.Shelf.faults c.args.shelf.now c.args.feed.now.name)) (Rose (g.O.Sink.faults c.args.out.now) (g.O.Sink.faults c.tell_header.new.out)) (Rose (g.O.Sink.faults c.args.out.now) (g.O.Sink.faults c.tell_header.new.out)) c.in-Err.fault (λ rose. rose) c.in-Err.ensures.cause;
     }
 
 pub loop-run-init : goal.loop-run-init
 loop-run-init g c =
-    let run = run_of c.args.system.now c.args.placement.now c.args.columns.now c.args.rows c.args.trace (g.S.Shelf.held c.args.shelf.now c.args.feed.now.name) in
-    let given = c.requires.fed.0 in
     record {
-      telling = record {
+      telling = λ r given of fed. record {
         given = given;
-        fed = c.requires.fed.1;
+        fed = fed;
         told = λ l b.
-            subst (λ (k : ℕ). HasPushed (g.O.Sink.written c.args.out.now) (g.O.Sink.written c.tell_header.new.out) c.tell_header.new.self.writer (rows_text c.args.columns.now (first_outputs l (fired_after l k (sink l)))))
+            subst (λ (k : ℕ). HasPushed (g.O.Sink.written c.args.out.now) (g.O.Sink.written c.tell_header.new.out) c.tell_header.new.self.writer (rows_text r.columns (first_outputs l (fired_after l k (sink l)))))
             (sym c.requires.none)
-            (header_told run given l b (g.O.Sink.written c.args.out.now) (g.O.Sink.written c.tell_header.new.out) c.args.telling.now.writer c.tell_header.new.self.writer c.requires.held c.in_default.ensures.ok);
+            (header_told r fed.running.rules.ascend given l b c.args.columns.now of.named (g.O.Sink.written c.args.out.now) (g.O.Sink.written c.tell_header.new.out) c.args.telling.now.writer c.tell_header.new.self.writer c.requires.held c.in_default.ensures.ok);
         line = c.in_default.ensures.none;
       };
       name = refl;
@@ -43,16 +37,15 @@ loop-run-init g c =
       rises = c.in_default.ensures.grows;
     }
 
-pub go-requires : goal.go-requires
-go-requires g c =
-    let run = run_of c.args.system.now c.args.placement.now c.args.columns.now c.args.rows c.args.trace (g.S.Shelf.held c.args.shelf.now c.args.feed.now.name) in
-    let t = c.loop-run.invariant.telling in
-    (run, t.given, t.fed, λ l b. (c.below.ensures l c.loop-run.run.made (length t.given) (t.fed.running.lives l b).ran).0 c.loop-run-test.true)
+pub go-requires-clause-fed : goal.go-requires-clause-fed
+go-requires-clause-fed g c κs within =
+    let start = c.requires.fed in
+    let t = c.loop-run.invariant.telling start.0 start.1 start.2 start.3 in
+    (start.0, t.given, t.fed, λ l b. (c.below.ensures l c.loop-run.run.made (length t.given) (t.fed.running.lives l b).ran).0 c.loop-run-test.true)
 
 pub returns-in-Err-go-clause-err : goal.returns-in-Err-go-clause-err
-returns-in-Err-go-clause-err g c =
-    let run = run_of c.args.system.now c.args.placement.now c.args.columns.now c.args.rows c.args.trace (g.S.Shelf.held c.args.shelf.now c.args.feed.now.name) in
-    let t = c.loop-run.invariant.telling in
+returns-in-Err-go-clause-err g c = λ r given of fed.
+    let t = c.loop-run.invariant.telling r given of fed in
     let name = c.loop-run.invariant.name in
     let first = g.S.Shelf.faults c.args.shelf.now in
     let old = g.S.Shelf.faults c.loop-run.shelf in
@@ -61,118 +54,121 @@ returns-in-Err-go-clause-err g c =
       rows = t.given;
       given = t.fed.running.rows;
       told = λ l b.
-          part_of_fired run t.given l b (g.O.Sink.written c.args.out.now) (g.O.Sink.written c.loop-run.out) c.loop-run.run.made
+          part_of_fired r t.fed.running.rules.ascend t.given l b (g.O.Sink.written c.args.out.now) (g.O.Sink.written c.loop-run.out) c.loop-run.run.made
           (pushed_part (g.O.Sink.written c.args.out.now) (g.O.Sink.written c.loop-run.out) c.loop-run.telling.writer _ (t.told l b));
       cause =
-          cause_later run t.given (Rose (first c.args.feed.now.name) (new c.args.feed.now.name)) (Rose (old c.loop-run.feed.name) (new c.loop-run.feed.name)) (Rose (g.O.Sink.faults c.args.out.now) (g.O.Sink.faults c.loop-run.out)) ⊥ c.in-Err-go.fault
+          cause_later r t.given (Rose (first c.args.feed.now.name) (new c.args.feed.now.name)) (Rose (old c.loop-run.feed.name) (new c.loop-run.feed.name)) (Rose (g.O.Sink.faults c.args.out.now) (g.O.Sink.faults c.loop-run.out)) ⊥ c.in-Err-go.fault
           (λ rose. rose_later (first c.args.feed.now.name) (old c.args.feed.now.name) (new c.args.feed.now.name) (c.loop-run.invariant.grows c.args.feed.now.name) (subst (λ n. Rose (old n) (new n)) name rose))
           (λ none. absurd none)
-          (c.in-Err-go.ensures.err run t.given t.fed (λ l b. (c.below.ensures l c.loop-run.run.made (length t.given) (t.fed.running.lives l b).ran).0 c.loop-run-test.true));
+          (c.in-Err-go.ensures.err r t.given t.fed (λ l b. (c.below.ensures l c.loop-run.run.made (length t.given) (t.fed.running.lives l b).ran).0 c.loop-run-test.true));
     }
 
 pub returns-in-Err-tell_last-clause-err : goal.returns-in-Err-tell_last-clause-err
-returns-in-Err-tell_last-clause-err g c =
-    let run = run_of c.args.system.now c.args.placement.now c.args.columns.now c.args.rows c.args.trace (g.S.Shelf.held c.args.shelf.now c.args.feed.now.name) in
-    let t = c.loop-run.invariant.telling in
+returns-in-Err-tell_last-clause-err g c = λ r given of fed.
+    let t = c.loop-run.invariant.telling r given of fed in
     let made = c.loop-run.run.made in
-    let gone = c.in_default-go.ensures.ok run t.given t.fed (λ l b. (c.below.ensures l made (length t.given) (t.fed.running.lives l b).ran).0 c.loop-run-test.true) in
+    let gone = c.in_default-go.ensures.ok r t.given t.fed (λ l b. (c.below.ensures l made (length t.given) (t.fed.running.lives l b).ran).0 c.loop-run-test.true) in
     record {
       rows = gone.given;
       given = gone.running.rows;
       told = λ l b.
-          last_breaks run gone.given l b made (lent c.last.result)
+          last_breaks r gone.running.rules.ascend gone.given l b made (lent c.last.result)
           (subst (λ (k : ℕ). IsLast l k (lent c.last.result)) gone.one (c.last.ensures l c.go.new.self.made (length gone.given) (gone.running.lives l b).ran))
-          (g.O.Sink.written c.args.out.now) (g.O.Sink.written c.loop-run.out) (g.O.Sink.written c.tell_last.new.out) c.loop-run.telling.writer (t.told l (gone.further l b)) c.in-Err-tell_last.ensures.err;
+          (g.O.Sink.written c.args.out.now) (g.O.Sink.written c.loop-run.out) (g.O.Sink.written c.tell_last.new.out) c.loop-run.telling.writer (t.told l (gone.further l b)) c.args.columns.now of.named c.in-Err-tell_last.ensures.err;
       cause =
-          cause_of_telling run gone.given (Rose (g.S.Shelf.faults c.args.shelf.now c.args.feed.now.name) (g.S.Shelf.faults c.go.new.shelf c.args.feed.now.name)) (Rose (g.O.Sink.faults c.loop-run.out) (g.O.Sink.faults c.tell_last.new.out)) (Rose (g.O.Sink.faults c.args.out.now) (g.O.Sink.faults c.tell_last.new.out)) c.in-Err-tell_last.fault
+          cause_of_telling r gone.given (Rose (g.S.Shelf.faults c.args.shelf.now c.args.feed.now.name) (g.S.Shelf.faults c.go.new.shelf c.args.feed.now.name)) (Rose (g.O.Sink.faults c.loop-run.out) (g.O.Sink.faults c.tell_last.new.out)) (Rose (g.O.Sink.faults c.args.out.now) (g.O.Sink.faults c.tell_last.new.out)) c.in-Err-tell_last.fault
           (λ rose. rose_later (g.O.Sink.faults c.args.out.now) (g.O.Sink.faults c.loop-run.out) (g.O.Sink.faults c.tell_last.new.out) c.loop-run.invariant.rises rose) c.in-Err-tell_last.ensures.cause;
     }
 
+smaller : (made more : ℕ) → more ≡ made + 1 → more < 2 ^ 64 → 2 ^ 64 - more < 2 ^ 64 - made
+smaller made more is few = omega arith
+
 pub loop-run-smaller : goal.loop-run-smaller
 loop-run-smaller g c =
-    let run = run_of c.args.system.now c.args.placement.now c.args.columns.now c.args.rows c.args.trace (g.S.Shelf.held c.args.shelf.now c.args.feed.now.name) in
-    let t = c.loop-run.invariant.telling in
+    let start = c.requires.fed in
+    let t = c.loop-run.invariant.telling start.0 start.1 start.2 start.3 in
     let made = c.loop-run.run.made in
-    let goes : (l : Life) → Begins run t.given l → IsBelow l made = λ l b. (c.below.ensures l made (length t.given) (t.fed.running.lives l b).ran).0 c.loop-run-test.true in
-    let gone = c.in_default-go.ensures.ok run t.given t.fed goes in
-    let few = few_cycles run c.loop-run.run t.given t.fed.running goes in
-    let one = gone.one in
-    omega (arith, few, one)
+    let goes : (l : Life) → Begins start.0 t.given l → IsBelow l made = λ l b. (c.below.ensures l made (length t.given) (t.fed.running.lives l b).ran).0 c.loop-run-test.true in
+    let gone = c.in_default-go.ensures.ok start.0 t.given t.fed goes in
+    smaller made c.go.new.self.made gone.one gone.few
 
 pub loop-run-preserved : goal.loop-run-preserved
 loop-run-preserved g c =
-    let run = run_of c.args.system.now c.args.placement.now c.args.columns.now c.args.rows c.args.trace (g.S.Shelf.held c.args.shelf.now c.args.feed.now.name) in
-    let t = c.loop-run.invariant.telling in
-    let made = c.loop-run.run.made in
-    let gone = c.in_default-go.ensures.ok run t.given t.fed (λ l b. (c.below.ensures l made (length t.given) (t.fed.running.lives l b).ran).0 c.loop-run-test.true) in
     record {
-      telling = record {
-        given = gone.given;
-        fed = record {
-          told = t.fed.told ∙ ap (g.S.Shelf.held c.loop-run.shelf) (sym c.in_default-go.ensures.name) ∙ ap (λ h. h c.go.new.feed.name) (sym c.in_default-go.ensures.kept);
-          running = gone.running;
-          feeds = gone.feeds;
-        };
-        told = λ l b.
-            subst (λ (k : ℕ). HasPushed (g.O.Sink.written c.args.out.now) (g.O.Sink.written c.tell_last.new.out) c.tell_last.new.self.writer (rows_text c.args.columns.now (first_outputs l (fired_after l k (sink l)))))
-            (sym gone.one)
-            (last_told run gone.given l b made (lent c.last.result)
-            (subst (λ (k : ℕ). IsLast l k (lent c.last.result)) gone.one (c.last.ensures l c.go.new.self.made (length gone.given) (gone.running.lives l b).ran))
-            (g.O.Sink.written c.args.out.now) (g.O.Sink.written c.loop-run.out) (g.O.Sink.written c.tell_last.new.out) c.loop-run.telling.writer (t.told l (gone.further l b)) c.tell_last.new.self.writer c.in_default-tell_last.ensures.ok);
-        line = c.in_default-tell_last.ensures.none;
-      };
+      telling = λ r given of fed.
+          let t = c.loop-run.invariant.telling r given of fed in
+          let made = c.loop-run.run.made in
+          let gone = c.in_default-go.ensures.ok r t.given t.fed (λ l b. (c.below.ensures l made (length t.given) (t.fed.running.lives l b).ran).0 c.loop-run-test.true) in
+          record {
+            given = gone.given;
+            fed = record {
+              told = t.fed.told ∙ ap (g.S.Shelf.held c.loop-run.shelf) (sym c.in_default-go.ensures.name) ∙ ap (λ h. h c.go.new.feed.name) (sym c.in_default-go.ensures.kept);
+              running = gone.running;
+              feeds = gone.feeds;
+            };
+            told = λ l b.
+                subst (λ (k : ℕ). HasPushed (g.O.Sink.written c.args.out.now) (g.O.Sink.written c.tell_last.new.out) c.tell_last.new.self.writer (rows_text r.columns (first_outputs l (fired_after l k (sink l)))))
+                (sym gone.one)
+                (last_told r gone.running.rules.ascend gone.given l b made (lent c.last.result)
+                (subst (λ (k : ℕ). IsLast l k (lent c.last.result)) gone.one (c.last.ensures l c.go.new.self.made (length gone.given) (gone.running.lives l b).ran))
+                (g.O.Sink.written c.args.out.now) (g.O.Sink.written c.loop-run.out) (g.O.Sink.written c.tell_last.new.out) c.loop-run.telling.writer (t.told l (gone.further l b)) c.args.columns.now of.named c.tell_last.new.self.writer c.in_default-tell_last.ensures.ok);
+            line = c.in_default-tell_last.ensures.none;
+          };
       name = c.in_default-go.ensures.name ∙ c.loop-run.invariant.name;
       kept = c.in_default-go.ensures.kept ∙ c.loop-run.invariant.kept;
       grows = λ q. omega (arith, c.loop-run.invariant.grows q, c.in_default-go.ensures.grows q);
       rises = omega (arith, c.loop-run.invariant.rises, c.in_default-tell_last.ensures.grows);
     }
 
+pub append_end-requires : goal.append_end-requires
+append_end-requires g c =
+    let start = c.requires.fed in
+    let t = c.loop-run.invariant.telling start.0 start.1 start.2 start.3 in
+    (start.0, t.given, t.fed.running, c.len.ensures ∙ ap (λ s. length s.nodes) (sym start.2.of))
+
 pub returns-in_default-append_end-clause-err : goal.returns-in_default-append_end-clause-err
-returns-in_default-append_end-clause-err g c =
-    let run = run_of c.args.system.now c.args.placement.now c.args.columns.now c.args.rows c.args.trace (g.S.Shelf.held c.args.shelf.now c.args.feed.now.name) in
-    let t = c.loop-run.invariant.telling in
+returns-in_default-append_end-clause-err g c = λ r given of fed.
+    let t = c.loop-run.invariant.telling r given of fed in
     record {
       rows = t.given;
       given = t.fed.running.rows;
       told = λ l b.
-          part_of_fired run t.given l b (g.O.Sink.written c.args.out.now) (g.O.Sink.written c.loop-run.out) c.loop-run.run.made
+          part_of_fired r t.fed.running.rules.ascend t.given l b (g.O.Sink.written c.args.out.now) (g.O.Sink.written c.loop-run.out) c.loop-run.run.made
           (pushed_part (g.O.Sink.written c.args.out.now) (g.O.Sink.written c.loop-run.out) c.loop-run.telling.writer _ (t.told l b));
       cause = tt;
     }
 
 pub returns-clause-ok : goal.returns-clause-ok
-returns-clause-ok g c =
-    let t = c.loop-run.invariant.telling in
+returns-clause-ok g c = λ r given of fed.
+    let t = c.loop-run.invariant.telling r given of fed in
     let made = c.loop-run.run.made in
-    let run = run_of c.args.system.now c.args.placement.now c.args.columns.now c.args.rows c.args.trace (g.S.Shelf.held c.args.shelf.now c.args.feed.now.name) in
     on_ok c.finish.result
     (λ close. record {
       rows = t.given;
       given = t.fed.running.rows;
       told = λ l b.
-          end_told run t.given l b made (t.fed.running.lives l b).busy
+          end_told r t.fed.running.rules.ascend t.given l b made (t.fed.running.lives l b).busy
           (λ below. let is = (c.below.ensures l made (length t.given) (t.fed.running.lives l b).ran).1 below in let not = c.loop-run-test.false in cc)
           (g.O.Sink.written c.args.out.now) (g.O.Sink.written c.loop-run.out) (g.O.Sink.written c.finish.new.out) c.loop-run.telling.writer c.append_end.new.into.items (t.told l b)
-          (c.in-Ok.ensures run t.given l t.fed.running b c.len.ensures ∙ ap (λ (xs : List ℕ). xs ++ end_text l c.args.trace made) t.line) close;
+          (c.in-Ok.ensures r t.given l t.fed.running b (c.len.ensures ∙ ap (λ s. length s.nodes) (sym of.of)) ∙ ap (λ (xs : List ℕ). xs ++ end_text l r.stalls r.trace made) t.line) close;
     })
     c.finish.ensures.ok
 
 pub returns-clause-err : goal.returns-clause-err
-returns-clause-err g c =
-    let t = c.loop-run.invariant.telling in
+returns-clause-err g c = λ r given of fed.
+    let t = c.loop-run.invariant.telling r given of fed in
     let made = c.loop-run.run.made in
-    let run = run_of c.args.system.now c.args.placement.now c.args.columns.now c.args.rows c.args.trace (g.S.Shelf.held c.args.shelf.now c.args.feed.now.name) in
     err_both (IsTellCause (Rose (g.O.Sink.faults c.loop-run.out) (g.O.Sink.faults c.finish.new.out))) _ c.finish.result
     (λ fault break cause. record {
       rows = t.given;
       given = t.fed.running.rows;
       told = λ l b.
-          end_breaks run t.given l b made (t.fed.running.lives l b).busy
+          end_breaks r t.fed.running.rules.ascend t.given l b made (t.fed.running.lives l b).busy
           (λ below. let is = (c.below.ensures l made (length t.given) (t.fed.running.lives l b).ran).1 below in let not = c.loop-run-test.false in cc)
           (g.O.Sink.written c.args.out.now) (g.O.Sink.written c.loop-run.out) (g.O.Sink.written c.finish.new.out) c.loop-run.telling.writer c.append_end.new.into.items (t.told l b)
-          (c.in-Ok.ensures run t.given l t.fed.running b c.len.ensures ∙ ap (λ (xs : List ℕ). xs ++ end_text l c.args.trace made) t.line) break;
+          (c.in-Ok.ensures r t.given l t.fed.running b (c.len.ensures ∙ ap (λ s. length s.nodes) (sym of.of)) ∙ ap (λ (xs : List ℕ). xs ++ end_text l r.stalls r.trace made) t.line) break;
       cause =
-          cause_of_telling run t.given (Rose (g.S.Shelf.faults c.args.shelf.now c.args.feed.now.name) (g.S.Shelf.faults c.loop-run.shelf c.args.feed.now.name)) (Rose (g.O.Sink.faults c.loop-run.out) (g.O.Sink.faults c.finish.new.out)) (Rose (g.O.Sink.faults c.args.out.now) (g.O.Sink.faults c.finish.new.out)) fault
+          cause_of_telling r t.given (Rose (g.S.Shelf.faults c.args.shelf.now c.args.feed.now.name) (g.S.Shelf.faults c.loop-run.shelf c.args.feed.now.name)) (Rose (g.O.Sink.faults c.loop-run.out) (g.O.Sink.faults c.finish.new.out)) (Rose (g.O.Sink.faults c.args.out.now) (g.O.Sink.faults c.finish.new.out)) fault
           (λ rose. rose_later (g.O.Sink.faults c.args.out.now) (g.O.Sink.faults c.loop-run.out) (g.O.Sink.faults c.finish.new.out) c.loop-run.invariant.rises rose) cause;
     })
     c.finish.ensures.err c.finish.ensures.cause

@@ -4,6 +4,7 @@ use Rattle.lid_design.specs.Network.{from_each}
 use Rattle.lid_system.proofs.Shelling.{each_length}
 use Rattle.lid_clock.specs.Lives.{fired_after}
 use Rattle.lid_reports.specs.Runs.{cycles_text}
+use Rattle.lid_stalltext.specs.Holds.{stalled_line}
 use Rattle.lid_clockrun.specs.RunTexts.{nodes_fired, traced}
 use Rattle.lid_clockrun.proofs.Goings.{the_life}
 use Rattle.lid_clockrun.proofs.steps.Running.append_end.Goals as goal
@@ -33,7 +34,12 @@ returns c = λ r given l at b nodes.
     let fired = c.in_ok-fired.ensures l made (length given) (at.lives l b).ran in
     let all : c.deref.result.now ≡ nodes_fired l made =
     c.deref.ensures.value ∙ fired ∙ ap (from_each (fired_after l made) 0) (nodes ∙ ap (λ s. length s.nodes) (sym b.of.of)) in
+    let cycles : c.print_cycles.new.into.items ≡ c.args.into.now.items ++ cycles_text made (nodes_fired l made) =
+    c.in_ok-print_cycles.ensures.ok ∙ ap (λ (ns : List ℕ). c.args.into.now.items ++ cycles_text made ns) all in
     on_ok c.append_trace.result
-    (λ is. is ∙ ap (λ (xs : List ℕ). xs ++ traced l r.trace made) (c.in_ok-print_cycles.ensures.ok ∙ ap (λ (ns : List ℕ). c.args.into.now.items ++ cycles_text made ns) all)
-    ∙ append_assoc c.args.into.now.items (cycles_text made (nodes_fired l made)) (traced l r.trace made))
+    (λ is. is
+    ∙ ap (λ (xs : List ℕ). xs ++ traced l r.trace made) (c.in_ok-append_stalled.ensures r given l at b)
+    ∙ ap (λ (xs : List ℕ). (xs ++ stalled_line r.stalls made) ++ traced l r.trace made) cycles
+    ∙ append_assoc (c.args.into.now.items ++ cycles_text made (nodes_fired l made)) (stalled_line r.stalls made) (traced l r.trace made)
+    ∙ append_assoc c.args.into.now.items (cycles_text made (nodes_fired l made)) (stalled_line r.stalls made ++ traced l r.trace made))
     (c.append_trace.ensures r given l at b)

@@ -36,4 +36,4 @@ returns-clause-ok g c = λ r given fed.
     (λ l k h ran. (c.needs.ensures l k h ran).0 c.if-not-needs.false)
     (c.in-Ok.ensures.ok r given fed.told fed.feeds)
     (λ l k h ran is. c.give.ensures l k h ran (is ∙ ap Some (sym c.as_slice.ensures)))
-    refl refl refl refl refl
+    refl refl refl refl refl refl

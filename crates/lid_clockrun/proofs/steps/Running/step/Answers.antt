@@ -1,34 +1,53 @@
 use Rattle.std.proofs.Common.{◌+◌, length, sym, ap, subst, arith}
-use Rattle.lid_clock.specs.Ran.{Ran}
-use Rattle.lid_clockrun.proofs.Goings.{the_life, made_fits, stepped}
+use Rattle.lid_clockrun.specs.Courses.{RanBy}
+use Rattle.lid_clockrun.proofs.Goings.{the_life, stepped}
 use Rattle.lid_clockrun.proofs.steps.Running.step.Goals as goal
 
-pub cycle-requires : goal.cycle-requires
-cycle-requires c =
-    let r = c.requires.0 in
-    let given = c.requires.1 in
-    let at = c.requires.2 in
+pub cycle-requires-clause-can : goal.cycle-requires-clause-can
+cycle-requires-clause-can g c κs within =
+    let r = c.requires.ready.0 in
+    let given = c.requires.ready.1 in
+    let at = c.requires.ready.2 in
     let life = the_life r c.args.self.now given at in (
       life.0,
       c.args.self.now.made,
       length given,
-      subst (λ s. Ran life.0 c.args.self.now.made (length given) s) (sym (ap (λ run. run.stream) c.show.ensures.rest)) (at.lives life.0 life.1).ran,
-      c.requires.3 life.0 life.1,
+      subst (λ s. RanBy life.0 c.args.self.now.made (length given) s) (sym (ap (λ run. run.stream) c.show.ensures.rest)) (at.lives life.0 life.1).ran,
+      c.requires.ready.3 life.0 life.1,
     )
 
+-- a cycle more can be counted
 pub overflow_add-self : goal.overflow_add-self
-overflow_add-self c =
-    let r = c.requires.0 in
-    let given = c.requires.1 in
-    let few = made_fits r c.args.self.now given c.requires.2 c.requires.4 in
+overflow_add-self g c =
+    let r = c.requires.ready.0 in
+    let given = c.requires.ready.1 in
+    let at = c.requires.ready.2 in
+    let life = the_life r c.args.self.now given at in
+    let l = life.0 in
+    let made = c.args.self.now.made in
+    let before = subst (λ s. RanBy l made (length given) s) (sym (ap (λ run. run.stream) c.show.ensures.rest)) (at.lives l life.1).ran in
+    let few = c.cycle.ensures.counts l made (length given) before ((c.cycle.ensures.made l made (length given) before).1 (c.requires.ready.4 l life.1)) in
+    let same = ap (λ run. run.made) c.show.ensures.rest in
+    omega (arith, few, same)
+
+pub returns-clause-few : goal.returns-clause-few
+returns-clause-few g c =
+    let r = c.requires.ready.0 in
+    let given = c.requires.ready.1 in
+    let at = c.requires.ready.2 in
+    let life = the_life r c.args.self.now given at in
+    let l = life.0 in
+    let made = c.args.self.now.made in
+    let before = subst (λ s. RanBy l made (length given) s) (sym (ap (λ run. run.stream) c.show.ensures.rest)) (at.lives l life.1).ran in
+    let few = c.cycle.ensures.counts l made (length given) before ((c.cycle.ensures.made l made (length given) before).1 (c.requires.ready.4 l life.1)) in
     let same = ap (λ run. run.made) c.show.ensures.rest in
     omega (arith, few, same)
 
 pub returns-clause-ok : goal.returns-clause-ok
-returns-clause-ok c = λ r given at ready goes.
+returns-clause-ok g c = λ r given at ready goes.
     stepped r c.args.self.now given at _ goes
     (c.in_ok-show.ensures.shown r given at)
-    (λ l k g ran free below.
-    let before = subst (λ s. Ran l k g s) (sym (ap (λ run. run.stream) c.show.ensures.rest)) ran in
-    c.cycle.ensures.ran l k g before free ((c.cycle.ensures.made l k g before).1 below))
-    (ap (λ run. run.made + 1) c.show.ensures.rest) (ap (λ run. run.given) c.show.ensures.rest) (ap (λ run. run.trace) c.show.ensures.rest) (ap (λ run. run.stations) c.show.ensures.rest)
+    (λ l k g ran below.
+    let before = subst (λ s. RanBy l k g s) (sym (ap (λ run. run.stream) c.show.ensures.rest)) ran in
+    c.cycle.ensures.ran l k g before ((c.cycle.ensures.made l k g before).1 below))
+    (ap (λ run. run.made + 1) c.show.ensures.rest) (ap (λ run. run.given) c.show.ensures.rest) (ap (λ run. run.trace) c.show.ensures.rest) (ap (λ run. run.told) c.show.ensures.rest) (ap (λ run. run.stations) c.show.ensures.rest)

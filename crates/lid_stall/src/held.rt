@@ -1,0 +1,158 @@
+//! The clocked run that stalls hold.
+
+ghost use Rattle.std.specs.Prelude.{◌≡◌, ◌↔◌, ℕ, suc, ◌+◌, ◌^◌, ◌<◌, true, false, ◌||◌, if◌then◌else◌, Some, slice_get};
+ghost use Rattle.lid_stations.specs.Placements.{links_of, station_count};
+ghost use Rattle.lid_stations.specs.Stations.{actor_count};
+ghost use Rattle.lid_clock.specs.Lives.{Life, IsWide, NeedsRow, IsBelow, IsLast, fired_after, shown_after};
+ghost use Rattle.lid_clock.specs.Ran.{Ran, lent};
+ghost use Rattle.lid_stalltext.specs.Holds.{Ascend};
+ghost use Rattle.lid_stall.specs.Places.{due_of, place_after};
+ghost use Rattle.lid_stall.specs.Runs.{IsHeldBy, IsOverBy, RanHeld, stalled_after};
+
+use lid_base::{Items, Shown};
+use lid_clock::ClockStream;
+use lid_stalltext::Stall;
+
+/// A clocked run in which stalls hold the source and the sink.
+#[derive(Drop)]
+pub struct Held {
+    stream: ClockStream,
+    stalls: Items<Stall>,
+    /// The place of the first stall whose cycle is not past.
+    next: usize,
+    /// How many cycles were made.
+    made: u64,
+    /// In how many of them the source or the sink was held.
+    stalled: u64,
+}
+
+/// The stall of a cycle, where it stands at this place, and else one that holds nobody.
+fn due(stalls: &[Stall], place: usize, cycle: u64) -> Stall
+    ensures { result ≡ due_of (slice_get stalls.now place) cycle }
+{
+    match stalls.get(place) {
+        Some(stall) if stall.cycle == cycle => *stall,
+        _ => Stall {
+            cycle,
+            source: false,
+            sink: false,
+        },
+    }
+}
+
+/// The place of the next stall after a cycle.
+fn after(stalls: &[Stall], place: usize, cycle: u64) -> usize
+    ensures { result ≡ place_after (slice_get stalls.now place) place cycle }
+{
+    match stalls.get(place) {
+        Some(stall) if stall.cycle == cycle => place + 1,
+        _ => place,
+    }
+}
+
+/// How many stalled cycles one with this stall is.
+fn counted(stall: Stall) -> u64
+    ensures { result ≡ (if stall.source || stall.sink then 1 else 0) }
+{
+    u64::from(stall.source || stall.sink)
+}
+
+impl Held {
+    /// A run in which these stalls, whose cycles ascend, hold the source and the sink. The stream has made
+    /// no cycle.
+    pub fn start(stream: ClockStream, stalls: Items<Stall>) -> Held
+        requires { Ascend stalls }
+        ensures { (l : Life) (g : ℕ) → Ran l 0 g stream → IsHeldBy l stalls → RanHeld l 0 g result }
+    {
+        Held {
+            stream,
+            stalls,
+            next: 0,
+            made: 0,
+            stalled: 0,
+        }
+    }
+
+    /// Makes a cycle where the sink has not yet fired for each row, and answers whether it made one. In
+    /// the cycle the source and the sink are held as the stalls say. No row is wanting.
+    ///
+    /// Where it made none, the run took as many cycles as one in which nobody is held, and at most one
+    /// more for each cycle in which somebody was.
+    pub fn cycle(&mut self) -> bool
+        requires { (l : Life) × (k : ℕ) × (g : ℕ) × RanHeld l k g self.old × ¬ NeedsRow l k g }
+        ensures ran { (l : Life) (k g : ℕ) → RanHeld l k g self.old → result ≡ true → RanHeld l (suc k) g self.new }
+        ensures made { (l : Life) (k g : ℕ) → RanHeld l k g self.old → (result ≡ true) ↔ IsBelow l k }
+        ensures over { (l : Life) (k g : ℕ) → RanHeld l k g self.old → result ≡ false → IsOverBy l k }
+        ensures kept { result ≡ false → self.new ≡ self.old }
+        ensures counts { (l : Life) (k g : ℕ) → RanHeld l k g self.old → result ≡ true → k + 1 < 2 ^ 64 }
+    {
+        let stall = due(self.stalls.as_slice(), self.next, self.made);
+        if !self.stream.cycle_held(stall.source, stall.sink) {
+            return false;
+        }
+        self.next = after(self.stalls.as_slice(), self.next, self.made);
+        self.stalled += counted(stall);
+        self.made += 1;
+        true
+    }
+
+    /// Whether the sink has fired fewer times than there are rows.
+    pub fn below(&self) -> bool
+        ensures { (l : Life) (k g : ℕ) → RanHeld l k g self.now → (result ≡ true) ↔ IsBelow l k }
+    {
+        self.stream.below()
+    }
+
+    /// How many cycles were made in which the source or the sink was held.
+    pub fn stalled(&self) -> u64
+        ensures { (l : Life) (k g : ℕ) → RanHeld l k g self.now → result ≡ stalled_after l k }
+    {
+        self.stalled
+    }
+
+    /// How many cycles were made.
+    pub fn made(&self) -> u64
+        ensures { (l : Life) (k g : ℕ) → RanHeld l k g self.now → result ≡ k }
+    {
+        self.made
+    }
+
+    /// Whether a row is wanting: the source has fired for all rows but the last of those that were given,
+    /// and is not at its last firing.
+    pub fn needs(&self) -> bool
+        ensures { (l : Life) (k g : ℕ) → RanHeld l k g self.now → (result ≡ true) ↔ NeedsRow l k g }
+    {
+        self.stream.needs()
+    }
+
+    /// Takes the next row, where one is wanting. The row has the width of the source.
+    pub fn give(&mut self, row: &[bool])
+        requires { (l : Life) × (k : ℕ) × (g : ℕ) × RanHeld l k g self.old × NeedsRow l k g × IsWide l.system row.now }
+        ensures { (l : Life) (k g : ℕ) → RanHeld l k g self.old → slice_get l.input g ≡ Some row.now → RanHeld l k (g + 1) self.new }
+    {
+        self.stream.give(row);
+    }
+
+    /// The output row of the last cycle made, where the sink fired in it.
+    pub fn last(&self) -> Option<&[bool]>
+        ensures { (l : Life) (k g : ℕ) → RanHeld l k g self.now → IsLast l k (lent result) }
+    {
+        self.stream.last()
+    }
+
+    /// What a station shows as the next cycle begins. The station exists.
+    pub fn show(&self, station: u32) -> Shown
+        requires { (l : Life) × (k : ℕ) × (g : ℕ) × RanHeld l k g self.now × (station < station_count l.placement.relays) }
+        ensures { (l : Life) (k g : ℕ) → RanHeld l k g self.now → result ≡ shown_after l k station }
+    {
+        self.stream.show(station)
+    }
+
+    /// How often an actor has fired. The actor exists.
+    pub fn fired(&self, actor: u32) -> u64
+        requires { (l : Life) × (k : ℕ) × (g : ℕ) × RanHeld l k g self.now × (actor < actor_count (links_of l.system) l.placement) }
+        ensures { (l : Life) (k g : ℕ) → RanHeld l k g self.now → result ≡ fired_after l k actor }
+    {
+        self.stream.fired(actor)
+    }
+}
