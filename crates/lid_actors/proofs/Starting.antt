@@ -11,7 +11,7 @@ use Rattle.lid_system.specs.Systems.{IsWellFormed}
 use Rattle.lid_system.specs.Tables.{system_drivers}
 use Rattle.lid_system.proofs.Shelling.{each_length, each_at}
 use Rattle.lid_stations.specs.declared.placement.Placement.{Placement}
-use Rattle.lid_stations.specs.Placements.{Fits}
+use Rattle.lid_stations.specs.Placements.{station_count, Fits}
 use Rattle.lid_stations.specs.Stations.{spot_at, start_count, starts}
 use Rattle.lid_stations.proofs.Spots.{starts_small}
 use Rattle.lid_station.specs.declared.pair.Pair.{Pair}
@@ -153,3 +153,19 @@ module _ (m : Setup) (setup : IsSetup m) where
       rooms station there =
           let long : length m.placement.caps ≡ stations_of (plan m) = setup.fits.rules.caps in
           ap (λ (xs : List ℕ). get_or xs station 0) same ∙ get_or_default m.placement.caps station 0 2 (omega arith)
+
+module _ (s : System) (p : Placement) (rows : List (List Bool)) (formed : IsWellFormed s) (fits : Fits s p) (few : length rows ≤ 1000000) (wide : AllByRecursion (IsInputRow s) rows) (tables : HasTable (system_drivers s)) (firsts : List (Option ℕ)) (are : (m : Setup) → IsSetupOf m s p rows → firsts ≡ first_tokens (plan m)) where
+  -- there is a start token, or none, for each capacity
+  pub as_many_firsts : length firsts ≡ length p.caps
+  as_many_firsts =
+      let own = setup_of s p rows formed fits few wide tables in
+      let on : stations_of (plan own.0) ≡ station_count p.relays = ap (λ (q : Placement). station_count q.relays) own.1.placement in
+      ap length (are own.0 own.1) ∙ firsts_many own.0 ∙ on ∙ sym fits.rules.caps
+
+  pub few_firsts : length firsts < 2 ^ 32
+  few_firsts = let many = as_many_firsts in let caps = fits.rules.caps in let most = fits.rules.most in omega arith
+
+  pub small_firsts : All (λ first. IfSome first (λ token. token < 2 ^ 31)) firsts
+  small_firsts =
+      let own = setup_of s p rows formed fits few wide tables in
+      subst (λ (xs : List (Option ℕ)). All (λ first. IfSome first (λ token. token < 2 ^ 31)) xs) (sym (are own.0 own.1)) (firsts_small own.0 own.1.rules)
