@@ -1,9 +1,12 @@
--- Words none of which is refused begin a dump of the form.
-use Rattle.std.proofs.Common.{◌≡◌, ℕ, ◌+◌, ◌-◌, ◌/◌, ◌%◌, ◌<◌, ◌≤◌, ◌==◌, ◌&&◌, ◌||◌, Bool, true, false, cond, List, [], ◌∷◌, ◌++◌, refl, sym, ap, ◌∙◌, subst, inl, inr, arith}
+-- Texts none of whose words is refused begin a dump of the form.
+use Rattle.std.proofs.Common.{◌≡◌, ℕ, ◌+◌, ◌-◌, ◌/◌, ◌%◌, ◌<◌, ◌≤◌, ◌==◌, ◌&&◌, ◌||◌, Bool, true, false, cond, List, [], ◌∷◌, ◌++◌, map, refl, sym, ap, ◌∙◌, subst, inl, inr, arith}
 use Rattle.std.specs.Prelude.{Option, Some, None, Ok, Err, option_and_then, nat_lt, codes, bytes_eq}
 use Rattle.std.specs.Fmt.{decimal}
+use Rattle.std.specs.List.{AllByRecursion}
 use Rattle.std.proofs.lemmas.Bool.{and_parts, ltb-true, eqb-true, eq-eqb, cases_lt, cond-false}
 use Rattle.lid_base.specs.Numbers.{number_below}
+use Rattle.lid_lines.specs.Texts.{Words}
+use Rattle.lid_reports.specs.declared.trace.Trace.{Trace}
 use Rattle.lid_wave.specs.declared.form.Section.{Section}
 use Rattle.lid_wave.specs.declared.form.Section.TheVariants.{Timescale, Scope, Variable, Upscope, Definitions, Body}
 use Rattle.lid_wave.specs.declared.form.Next.{Next}
@@ -11,8 +14,12 @@ use Rattle.lid_wave.specs.declared.form.Next.TheVariants.{Before, Note, Inside, 
 use Rattle.lid_wave.specs.declared.form.Place.{Place}
 use Rattle.lid_wave.specs.Ids.{variable_of, token_of, id_of, width_of, ending_of}
 use Rattle.lid_wave.specs.Form.{place, start, step, run, is_time, is_end, is_note, is_name, only, begins_variable, begins, before_section, in_note, in_timescale, in_scope, in_variable, in_section, going_on, later, bit_set, token_read, token_set, change, in_body}
+use Rattle.lid_wave.specs.Words.{placed_words}
+use Rattle.lid_wave.specs.Shows.{Wave, trace_at, trace_of, wave_of}
 use Rattle.lid_vcd.specs.Laws.{place_after}
 use Rattle.lid_vcd.proofs.Going.{run_goes, goes_on}
+use Rattle.lid_vcd.proofs.WrittenWords.{IsWord, on_line, spaced, spaced_read, line_after, both_read}
+use Rattle.lid_vcd.proofs.WordsSound.{id_word, width_word, name_word, var_word, wire_word, end_word, timescale_word, scope_word, module_word, lid_word, upscope_word, definitions_word, first_time_word, time_word}
 use Rattle.lid_vcd.proofs.HeadRead.{only_true, same_word, name_is, word_0, word_1, word_2, word_3, word_4, word_5, closing_0, closing_2}
 use Rattle.lid_vcd.proofs.WavesRead.{first_time}
 use Rattle.lid_vcd.proofs.BodyRead.{time_told, token_told}
@@ -42,54 +49,56 @@ record IsAlive (p : Place) : Type 0 where
   few : p.variables ≤ 196608
   next : NextIsAlive p.variables p.next
 
--- some words lead to an end
+-- some words of a text lead to an end, on whatever line they stand
 record CanEnd (p : Place) : Type 0 where
-  more : List (ℕ × List ℕ)
+  more : Words
   end : Place
-  leads : place_after p more ≡ Some end
+  words : AllByRecursion IsWord more
+  leads : (line : ℕ) → place_after p (map (on_line line) more) ≡ Some end
   time : is_time end.next ≡ true
 
-by_word : (p r : Place) (word : List ℕ) → step p word ≡ Some r → CanEnd r → CanEnd p
-by_word p r word e rest = record {
-  more = (0, word) ∷ rest.more;
+by_word : (p r : Place) (word : List ℕ) → IsWord word → step p word ≡ Some r → CanEnd r → CanEnd p
+by_word p r word so e rest = record {
+  more = word ∷ rest.more;
   end = rest.end;
-  leads = ap (λ (o : Option Place). option_and_then (λ q. place_after q rest.more) o) e ∙ rest.leads;
+  words = (so, rest.words);
+  leads = λ line. ap (λ (o : Option Place). option_and_then (λ q. place_after q (map (on_line line) rest.more)) o) e ∙ rest.leads line;
   time = rest.time;
 }
 
 at_time_ends : (n at : ℕ) → CanEnd (place n (Time at))
-at_time_ends n at = record { more = []; end = place n (Time at); leads = refl; time = refl }
+at_time_ends n at = record { more = []; end = place n (Time at); words = tt; leads = λ line. refl; time = refl }
 
 body_ends : (n : ℕ) → CanEnd (place n (Before Body))
-body_ends n = by_word (place n (Before Body)) (place n (Time 0)) (codes "#0") (first_time n) (at_time_ends n 0)
+body_ends n = by_word (place n (Before Body)) (place n (Time 0)) (codes "#0") first_time_word (first_time n) (at_time_ends n 0)
 
 in_definitions_ends : (n i : ℕ) → CanEnd (place n (Inside Definitions i))
 unfolding step
-in_definitions_ends n i = by_word (place n (Inside Definitions i)) (place n (Before Body)) (codes "$end") refl (body_ends n)
+in_definitions_ends n i = by_word (place n (Inside Definitions i)) (place n (Before Body)) (codes "$end") end_word refl (body_ends n)
 
 definitions_ends : (n : ℕ) → CanEnd (place n (Before Definitions))
-definitions_ends n = by_word (place n (Before Definitions)) (place n (Inside Definitions 1)) (codes "$enddefinitions") (closing_2 n) (in_definitions_ends n 1)
+definitions_ends n = by_word (place n (Before Definitions)) (place n (Inside Definitions 1)) (codes "$enddefinitions") definitions_word (closing_2 n) (in_definitions_ends n 1)
 
 in_upscope_ends : (n i : ℕ) → CanEnd (place n (Inside Upscope i))
 unfolding step
-in_upscope_ends n i = by_word (place n (Inside Upscope i)) (place n (Before Definitions)) (codes "$end") refl (definitions_ends n)
+in_upscope_ends n i = by_word (place n (Inside Upscope i)) (place n (Before Definitions)) (codes "$end") end_word refl (definitions_ends n)
 
 upscope_ends : (n : ℕ) → CanEnd (place n (Before Upscope))
 unfolding step begins
-upscope_ends n = by_word (place n (Before Upscope)) (place n (Inside Upscope 1)) (codes "$upscope") refl (in_upscope_ends n 1)
+upscope_ends n = by_word (place n (Before Upscope)) (place n (Inside Upscope 1)) (codes "$upscope") upscope_word refl (in_upscope_ends n 1)
 
 whole_ends : (n : ℕ) → n % 3 ≡ 0 → CanEnd (place n (Before Variable))
-whole_ends n whole = by_word (place n (Before Variable)) (place n (Inside Upscope 1)) (codes "$upscope") (closing_0 n (eq-eqb (n % 3) 0 whole)) (in_upscope_ends n 1)
+whole_ends n whole = by_word (place n (Before Variable)) (place n (Inside Upscope 1)) (codes "$upscope") upscope_word (closing_0 n (eq-eqb (n % 3) 0 whole)) (in_upscope_ends n 1)
 
 -- one more declaration
 declare : (n : ℕ) → n < 196608 → CanEnd (place (n + 1) (Before Variable)) → CanEnd (place n (Before Variable))
 declare n small rest =
-    by_word (place n (Before Variable)) (place (n + 1) (Inside Variable 1)) (codes "$var") (word_0 n small)
-    (by_word (place (n + 1) (Inside Variable 1)) (place (n + 1) (Inside Variable 2)) (codes "wire") (word_1 (n + 1))
-    (by_word (place (n + 1) (Inside Variable 2)) (place (n + 1) (Inside Variable 3)) (width_of n) (word_2 n)
-    (by_word (place (n + 1) (Inside Variable 3)) (place (n + 1) (Inside Variable 4)) (id_of n) (word_3 n)
-    (by_word (place (n + 1) (Inside Variable 4)) (place (n + 1) (Inside Variable 5)) (codes "s" ++ decimal (n / 3) ++ ending_of n) (word_4 n small)
-    (by_word (place (n + 1) (Inside Variable 5)) (place (n + 1) (Before Variable)) (codes "$end") (word_5 (n + 1)) rest)))))
+    by_word (place n (Before Variable)) (place (n + 1) (Inside Variable 1)) (codes "$var") var_word (word_0 n small)
+    (by_word (place (n + 1) (Inside Variable 1)) (place (n + 1) (Inside Variable 2)) (codes "wire") wire_word (word_1 (n + 1))
+    (by_word (place (n + 1) (Inside Variable 2)) (place (n + 1) (Inside Variable 3)) (width_of n) (width_word n) (word_2 n)
+    (by_word (place (n + 1) (Inside Variable 3)) (place (n + 1) (Inside Variable 4)) (id_of n) (id_word n) (word_3 n)
+    (by_word (place (n + 1) (Inside Variable 4)) (place (n + 1) (Inside Variable 5)) (codes "s" ++ decimal (n / 3) ++ ending_of n) (name_word n (omega arith)) (word_4 n small)
+    (by_word (place (n + 1) (Inside Variable 5)) (place (n + 1) (Before Variable)) (codes "$end") end_word (word_5 (n + 1)) rest)))))
 
 variable_ends : (n : ℕ) → n ≤ 196608 → CanEnd (place n (Before Variable))
 variable_ends n few =
@@ -107,19 +116,19 @@ unfolding step in_variable
 in_variable_ends n i few = by (i == 1) refl (i == 2) refl (i == 3) refl (i == 4) refl
   where
     last : (j : ℕ) → (j == 1) ≡ false → (j == 2) ≡ false → (j == 3) ≡ false → (j == 4) ≡ false → CanEnd (place n (Inside Variable j))
-    last j a b c d = by_word (place n (Inside Variable j)) (place n (Before Variable)) (codes "$end") (cond-false (j == 1) _ _ a ∙ cond-false (j == 2) _ _ b ∙ cond-false (j == 3) _ _ c ∙ cond-false (j == 4) _ _ d) (variable_ends n few)
+    last j a b c d = by_word (place n (Inside Variable j)) (place n (Before Variable)) (codes "$end") end_word (cond-false (j == 1) _ _ a ∙ cond-false (j == 2) _ _ b ∙ cond-false (j == 3) _ _ c ∙ cond-false (j == 4) _ _ d) (variable_ends n few)
 
     fourth : CanEnd (place n (Inside Variable 4))
-    fourth = by_word (place n (Inside Variable 4)) (place n (Inside Variable 5)) (codes "s" ++ decimal ((n - 1) / 3) ++ ending_of (n - 1)) (only_true (is_name (n - 1) (codes "s" ++ decimal ((n - 1) / 3) ++ ending_of (n - 1))) n (Inside Variable 5) (name_is (n - 1) (omega arith))) (last 5 refl refl refl refl)
+    fourth = by_word (place n (Inside Variable 4)) (place n (Inside Variable 5)) (codes "s" ++ decimal ((n - 1) / 3) ++ ending_of (n - 1)) (name_word (n - 1) (omega arith)) (only_true (is_name (n - 1) (codes "s" ++ decimal ((n - 1) / 3) ++ ending_of (n - 1))) n (Inside Variable 5) (name_is (n - 1) (omega arith))) (last 5 refl refl refl refl)
 
     third : CanEnd (place n (Inside Variable 3))
-    third = by_word (place n (Inside Variable 3)) (place n (Inside Variable 4)) (id_of (n - 1)) (only_true (bytes_eq (id_of (n - 1)) (id_of (n - 1))) n (Inside Variable 4) (same_word (id_of (n - 1)))) fourth
+    third = by_word (place n (Inside Variable 3)) (place n (Inside Variable 4)) (id_of (n - 1)) (id_word (n - 1)) (only_true (bytes_eq (id_of (n - 1)) (id_of (n - 1))) n (Inside Variable 4) (same_word (id_of (n - 1)))) fourth
 
     second : CanEnd (place n (Inside Variable 2))
-    second = by_word (place n (Inside Variable 2)) (place n (Inside Variable 3)) (width_of (n - 1)) (only_true (bytes_eq (width_of (n - 1)) (width_of (n - 1))) n (Inside Variable 3) (same_word (width_of (n - 1)))) third
+    second = by_word (place n (Inside Variable 2)) (place n (Inside Variable 3)) (width_of (n - 1)) (width_word (n - 1)) (only_true (bytes_eq (width_of (n - 1)) (width_of (n - 1))) n (Inside Variable 3) (same_word (width_of (n - 1)))) third
 
     first : CanEnd (place n (Inside Variable 1))
-    first = by_word (place n (Inside Variable 1)) (place n (Inside Variable 2)) (codes "wire") refl second
+    first = by_word (place n (Inside Variable 1)) (place n (Inside Variable 2)) (codes "wire") wire_word refl second
 
     at : (k : ℕ) → (i == k) ≡ true → CanEnd (place n (Inside Variable k)) → CanEnd (place n (Inside Variable i))
     at k e so = subst (λ (j : ℕ). CanEnd (place n (Inside Variable j))) (sym (eqb-true i k e)) so
@@ -136,13 +145,13 @@ unfolding step in_scope
 scope_word_ends n i few = by (i == 1) refl (i == 2) refl
   where
     last : (j : ℕ) → (j == 1) ≡ false → (j == 2) ≡ false → CanEnd (place n (Inside Scope j))
-    last j a b = by_word (place n (Inside Scope j)) (place n (Before Variable)) (codes "$end") (cond-false (j == 1) _ _ a ∙ cond-false (j == 2) _ _ b) (variable_ends n few)
+    last j a b = by_word (place n (Inside Scope j)) (place n (Before Variable)) (codes "$end") end_word (cond-false (j == 1) _ _ a ∙ cond-false (j == 2) _ _ b) (variable_ends n few)
 
     second : CanEnd (place n (Inside Scope 2))
-    second = by_word (place n (Inside Scope 2)) (place n (Inside Scope 3)) (codes "lid") refl (last 3 refl refl)
+    second = by_word (place n (Inside Scope 2)) (place n (Inside Scope 3)) (codes "lid") lid_word refl (last 3 refl refl)
 
     first : CanEnd (place n (Inside Scope 1))
-    first = by_word (place n (Inside Scope 1)) (place n (Inside Scope 2)) (codes "module") refl second
+    first = by_word (place n (Inside Scope 1)) (place n (Inside Scope 2)) (codes "module") module_word refl second
 
     at : (k : ℕ) → (i == k) ≡ true → CanEnd (place n (Inside Scope k)) → CanEnd (place n (Inside Scope i))
     at k e so = subst (λ (j : ℕ). CanEnd (place n (Inside Scope j))) (sym (eqb-true i k e)) so
@@ -154,15 +163,15 @@ scope_word_ends n i few = by (i == 1) refl (i == 2) refl
 
 scope_ends : (n : ℕ) → n ≤ 196608 → CanEnd (place n (Before Scope))
 unfolding step begins
-scope_ends n few = by_word (place n (Before Scope)) (place n (Inside Scope 1)) (codes "$scope") refl (scope_word_ends n 1 few)
+scope_ends n few = by_word (place n (Before Scope)) (place n (Inside Scope 1)) (codes "$scope") scope_word refl (scope_word_ends n 1 few)
 
 in_timescale_ends : (n i : ℕ) → n ≤ 196608 → CanEnd (place n (Inside Timescale i))
 unfolding step
-in_timescale_ends n i few = by_word (place n (Inside Timescale i)) (place n (Before Scope)) (codes "$end") refl (scope_ends n few)
+in_timescale_ends n i few = by_word (place n (Inside Timescale i)) (place n (Before Scope)) (codes "$end") end_word refl (scope_ends n few)
 
 timescale_ends : (n : ℕ) → n ≤ 196608 → CanEnd (place n (Before Timescale))
 unfolding step begins
-timescale_ends n few = by_word (place n (Before Timescale)) (place n (Inside Timescale 1)) (codes "$timescale") refl (in_timescale_ends n 1 few)
+timescale_ends n few = by_word (place n (Before Timescale)) (place n (Inside Timescale 1)) (codes "$timescale") timescale_word refl (in_timescale_ends n 1 few)
 
 before_ends : (n : ℕ) (section : Section) → n ≤ 196608 → CanEnd (place n (Before section))
 before_ends n Timescale few = timescale_ends n few
@@ -174,7 +183,7 @@ before_ends n Body few = body_ends n
 
 note_ends : (n : ℕ) (section : Section) → n ≤ 196608 → CanEnd (place n (Note section))
 unfolding step
-note_ends n section few = by_word (place n (Note section)) (place n (Before section)) (codes "$end") refl (before_ends n section few)
+note_ends n section few = by_word (place n (Note section)) (place n (Before section)) (codes "$end") end_word refl (before_ends n section few)
 
 inside_ends : (n : ℕ) (section : Section) (i : ℕ) → n ≤ 196608 → InsideIsAlive n section → CanEnd (place n (Inside section i))
 inside_ends n Timescale i few alive = in_timescale_ends n i few
@@ -186,10 +195,10 @@ inside_ends n Body i few alive = absurd alive
 
 set_ends : (n at m value : ℕ) → at < 4294967295 → CanEnd (place n (Set at m value))
 unfolding step
-set_ends n at m value early = by_word (place n (Set at m value)) (place n (Time (at + 1))) (35 ∷ decimal (at + 1)) (time_told n at (at + 1) (omega arith) (omega arith)) (at_time_ends n (at + 1))
+set_ends n at m value early = by_word (place n (Set at m value)) (place n (Time (at + 1))) (35 ∷ decimal (at + 1)) (time_word (at + 1) (omega arith)) (time_told n at (at + 1) (omega arith) (omega arith)) (at_time_ends n (at + 1))
 
 bits_ends : (n at value : ℕ) → n % 3 ≡ 0 → 0 < n → at < 4294967295 → CanEnd (place n (Bits at value))
-bits_ends n at value whole some early = by_word (place n (Bits at value)) (place n (Set at 2 value)) (id_of 2) (token_told n at 2 value (omega arith) (omega arith) refl) (set_ends n at 2 value early)
+bits_ends n at value whole some early = by_word (place n (Bits at value)) (place n (Set at 2 value)) (id_of 2) (id_word 2) (token_told n at 2 value (omega arith) (omega arith) refl) (set_ends n at 2 value early)
 
 alive_ends : (p : Place) → IsAlive p → CanEnd p
 alive_ends p so = by p.next so.next
@@ -314,11 +323,17 @@ reached_alive p q (word ∷ words) so e = by (step p word.1) (λ r. step_alive p
 after_both : (p q : Place) (xs ys : List (ℕ × List ℕ)) → place_after p xs ≡ Some q → place_after p (xs ++ ys) ≡ place_after q ys
 after_both p q xs ys h = goes_on p q xs ys h
 
--- words none of which is refused begin a text of the form
-pub words_go_on : (words : List (ℕ × List ℕ)) (p : Place) → place_after start words ≡ Some p → (more : List (ℕ × List ℕ)) × (q : Place) × (run 0 start (words ++ more) ≡ Ok q)
-words_go_on words p e =
-    let end = alive_ends p (reached_alive start p words (record { few = omega arith; next = tt }) e) in
-    (end.more, end.end, run_goes 0 start end.end (words ++ end.more) (after_both start p words end.more e ∙ end.leads) end.time)
+-- a text none of whose words is refused goes on, after a blank, to one of the form
+pub words_go_on : (bytes : List ℕ) (p : Place) → place_after start (placed_words bytes) ≡ Some p → (more : List ℕ) × (t : Trace) × Wave (bytes ++ 32 ∷ more) t
+unfolding placed_words wave_of
+words_go_on bytes p e =
+    let end = alive_ends p (reached_alive start p (placed_words bytes) (record { few = omega arith; next = tt }) e) in
+    let line = line_after 1 bytes in
+    let more = map (on_line line) end.more in
+    let whole = bytes ++ 32 ∷ spaced end.more in
+    let words : placed_words whole ≡ placed_words bytes ++ more = both_read 1 [] bytes (spaced end.more) ∙ ap (λ (ws : List (ℕ × List ℕ)). placed_words bytes ++ ws) (spaced_read line end.more end.words) in
+    let runs : run 0 start (placed_words bytes ++ more) ≡ Ok end.end = run_goes 0 start end.end (placed_words bytes ++ more) (after_both start p (placed_words bytes) more e ∙ end.leads line) end.time in
+    (spaced end.more, trace_at (placed_words whole) end.end, ap (trace_of (placed_words whole)) (ap (run 0 start) words ∙ runs))
 
 -- a refusal is told whatever follows
 pub words_stop : (words : List (ℕ × List ℕ)) (last : ℕ) (from p : Place) (word : ℕ × List ℕ) (more : List (ℕ × List ℕ)) → place_after from words ≡ Some p → step p word.1 ≡ None → run last from (words ++ word ∷ more) ≡ Err word.0

@@ -29,7 +29,7 @@ plain_decimal : (n : ℕ) → n < 2 ^ 64 → ArePlain (decimal n)
 plain_decimal n h = decimal_by_steps (λ m ds. ArePlain ds) (λ m small. (plain_byte (48 + m) (omega arith), tt)) (λ m ds large front. plain_append ds ((48 + m % 10) ∷ []) front (plain_byte (48 + m % 10) (omega arith), tt)) n h
 
 -- an ID
-id_word : (n : ℕ) → IsWord (id_of n)
+pub id_word : (n : ℕ) → IsWord (id_of n)
 unfolding id_of
 id_word n = by (nat_lt n 94) (nat_lt n 8836)
   where
@@ -61,23 +61,23 @@ ending_plain n = by (n % 3 == 0) (n % 3 == 1)
     by false true = (refl, (refl, (refl, (refl, (refl, tt)))))
     by false false = (refl, (refl, (refl, (refl, (refl, (refl, tt))))))
 
-width_word : (n : ℕ) → IsWord (width_of n)
+pub width_word : (n : ℕ) → IsWord (width_of n)
 width_word n = by (is_token n)
   where
     by : (b : Bool) → IsWord (cond b (codes "31") (codes "1"))
     by true = record { some = omega arith; bytes = (refl, (refl, tt)) }
     by false = record { some = omega arith; bytes = (refl, tt) }
 
-name_word : (n : ℕ) → n < 2 ^ 64 → IsWord (codes "s" ++ decimal (n / 3) ++ ending_of n)
+pub name_word : (n : ℕ) → n < 2 ^ 64 → IsWord (codes "s" ++ decimal (n / 3) ++ ending_of n)
 name_word n small = marked 115 (decimal (n / 3) ++ ending_of n) refl (plain_append (decimal (n / 3)) (ending_of n) (plain_decimal (n / 3) (omega arith)) (ending_plain n))
 
-var_word : IsWord (codes "$var")
+pub var_word : IsWord (codes "$var")
 var_word = record { some = omega arith; bytes = (refl, (refl, (refl, (refl, tt)))) }
 
-wire_word : IsWord (codes "wire")
+pub wire_word : IsWord (codes "wire")
 wire_word = record { some = omega arith; bytes = (refl, (refl, (refl, (refl, tt)))) }
 
-end_word : IsWord (codes "$end")
+pub end_word : IsWord (codes "$end")
 end_word = record { some = omega arith; bytes = (refl, (refl, (refl, (refl, tt)))) }
 
 declaration_line : (n : ℕ) → n < 2 ^ 64 → IsLine (declaration n)
@@ -88,34 +88,49 @@ declaration_lines : (n left : ℕ) → n + left < 2 ^ 64 → AllByRecursion IsLi
 declaration_lines n zero small = tt
 declaration_lines n (suc left) small = (declaration_line n (omega arith), declaration_lines (n + 1) left (omega arith))
 
+pub timescale_word : IsWord (codes "$timescale")
+timescale_word = record { some = omega arith; bytes = (refl, (refl, (refl, (refl, (refl, (refl, (refl, (refl, (refl, (refl, tt)))))))))) }
+
+pub scope_word : IsWord (codes "$scope")
+scope_word = record { some = omega arith; bytes = (refl, (refl, (refl, (refl, (refl, (refl, tt)))))) }
+
+pub module_word : IsWord (codes "module")
+module_word = record { some = omega arith; bytes = (refl, (refl, (refl, (refl, (refl, (refl, tt)))))) }
+
+pub lid_word : IsWord (codes "lid")
+lid_word = record { some = omega arith; bytes = (refl, (refl, (refl, tt))) }
+
+pub upscope_word : IsWord (codes "$upscope")
+upscope_word = record { some = omega arith; bytes = (refl, (refl, (refl, (refl, (refl, (refl, (refl, (refl, tt)))))))) }
+
+pub definitions_word : IsWord (codes "$enddefinitions")
+definitions_word = record { some = omega arith; bytes = (refl, (refl, (refl, (refl, (refl, (refl, (refl, (refl, (refl, (refl, (refl, (refl, (refl, (refl, (refl, tt))))))))))))))) }
+
+pub first_time_word : IsWord (codes "#0")
+first_time_word = record { some = omega arith; bytes = (refl, (refl, tt)) }
+
 timescale_line : IsLine timescale_words
-timescale_line = record {
-  some = omega arith;
-  words = (record { some = omega arith; bytes = (refl, (refl, (refl, (refl, (refl, (refl, (refl, (refl, (refl, (refl, tt)))))))))) }, (record { some = omega arith; bytes = (refl, tt) }, (record { some = omega arith; bytes = (refl, (refl, tt)) }, (end_word, tt))));
-}
+timescale_line = record { some = omega arith; words = (timescale_word, (record { some = omega arith; bytes = (refl, tt) }, (record { some = omega arith; bytes = (refl, (refl, tt)) }, (end_word, tt)))) }
 
 scope_line : IsLine scope_words
-scope_line = record {
-  some = omega arith;
-  words = (record { some = omega arith; bytes = (refl, (refl, (refl, (refl, (refl, (refl, tt)))))) }, (record { some = omega arith; bytes = (refl, (refl, (refl, (refl, (refl, (refl, tt)))))) }, (record { some = omega arith; bytes = (refl, (refl, (refl, tt))) }, (end_word, tt))));
-}
+scope_line = record { some = omega arith; words = (scope_word, (module_word, (lid_word, (end_word, tt)))) }
 
 upscope_line : IsLine upscope_words
-upscope_line = record { some = omega arith; words = (record { some = omega arith; bytes = (refl, (refl, (refl, (refl, (refl, (refl, (refl, (refl, tt)))))))) }, (end_word, tt)) }
+upscope_line = record { some = omega arith; words = (upscope_word, (end_word, tt)) }
 
 definitions_line : IsLine definitions_words
-definitions_line = record {
-  some = omega arith;
-  words = (record { some = omega arith; bytes = (refl, (refl, (refl, (refl, (refl, (refl, (refl, (refl, (refl, (refl, (refl, (refl, (refl, (refl, (refl, tt))))))))))))))) }, (end_word, tt));
-}
+definitions_line = record { some = omega arith; words = (definitions_word, (end_word, tt)) }
 
 pub head_sound : (variables : ℕ) → variables < 2 ^ 64 → AllByRecursion IsLine (head_lines variables)
 unfolding head_lines
 head_sound variables small =
     (timescale_line, (scope_line, all_append IsLine (declarations 0 variables) (upscope_words ∷ definitions_words ∷ []) (declaration_lines 0 variables (omega arith)) (upscope_line, (definitions_line, tt))))
 
+pub time_word : (k : ℕ) → k < 2 ^ 64 → IsWord (35 ∷ decimal k)
+time_word k small = marked 35 (decimal k) refl (plain_decimal k small)
+
 time_line : (k : ℕ) → k < 2 ^ 64 → IsLine (time_words k)
-time_line k small = record { some = omega arith; words = (marked 35 (decimal k) refl (plain_decimal k small), tt) }
+time_line k small = record { some = omega arith; words = (time_word k small, tt) }
 
 bit_line : (n : ℕ) (bit : Bool) → IsLine (bit_words n bit)
 bit_line n true = record { some = omega arith; words = (marked 49 (id_of n) refl (id_word n).bytes, tt) }

@@ -1,6 +1,7 @@
--- The words of a text of lines.
-use Rattle.std.proofs.Common.{◌≡◌, ℕ, ◌+◌, ◌<◌, false, List, [], ◌∷◌, ◌++◌, length, map, refl, sym, ap, ◌∙◌, append-nil, append_assoc, arith}
+-- The words of a text of lines, and of one that goes on.
+use Rattle.std.proofs.Common.{◌≡◌, ℕ, ◌+◌, ◌<◌, Bool, true, false, cond, List, [], ◌∷◌, ◌++◌, length, map, refl, sym, ap, ◌∙◌, append-nil, append_assoc, arith}
 use Rattle.std.specs.List.{AllByRecursion, join_with_byte}
+use Rattle.lid_base.specs.Lines.{is_newline, is_separator}
 use Rattle.lid_lines.specs.Texts.{Words, line_text, lines_text}
 use Rattle.lid_wave.specs.Words.{separates, word_before, words_on, placed_words}
 use Rattle.lid_wave.proofs.Cuts.{grows}
@@ -39,6 +40,39 @@ before_blank n word rest so = grow n [] word (32 ∷ rest) so.bytes ∙ word_tol
 
 before_newline : (n : ℕ) (word rest : List ℕ) → IsWord word → words_on n [] (word ++ 10 ∷ rest) ≡ (n, word) ∷ words_on (n + 1) [] rest
 before_newline n word rest so = grow n [] word (10 ∷ rest) so.bytes ∙ word_told n word (words_on (n + 1) [] rest) so.some
+
+-- words with a blank after each
+abbrev pub spaced : Words → List ℕ
+spaced [] = []
+spaced (word ∷ words) = word ++ 32 ∷ spaced words
+
+pub spaced_read : (n : ℕ) (words : Words) → AllByRecursion IsWord words → words_on n [] (spaced words) ≡ map (on_line n) words
+spaced_read n [] all = refl
+spaced_read n (word ∷ words) all = before_blank n word (spaced words) all.0 ∙ ap (λ (ws : List (ℕ × List ℕ)). (n, word) ∷ ws) (spaced_read n words all.1)
+
+-- the number of the line on which bytes end that begin on this line
+abbrev pub line_after : ℕ → List ℕ → ℕ
+line_after n [] = n
+line_after n (b ∷ bs) = line_after (cond (is_newline b) (n + 1) n) bs
+
+before_all : (n : ℕ) (word : List ℕ) (xs ys : List (ℕ × List ℕ)) → word_before n word (xs ++ ys) ≡ word_before n word xs ++ ys
+before_all n [] xs ys = refl
+before_all n (b ∷ bs) xs ys = refl
+
+-- the words of a text that goes on after a blank are its own, and those of what comes after that
+pub both_read : (n : ℕ) (word bytes rest : List ℕ) → words_on n word (bytes ++ 32 ∷ rest) ≡ words_on n word bytes ++ words_on (line_after n bytes) [] rest
+both_read n word [] rest = before_all n word [] (words_on n [] rest)
+both_read n word (b ∷ bs) rest = by (is_newline b) (is_separator b) (both_read (n + 1) [] bs rest) (both_read n [] bs rest) (both_read n (word ++ b ∷ []) bs rest)
+  where
+    by : (x y : Bool)
+        → words_on (n + 1) [] (bs ++ 32 ∷ rest) ≡ words_on (n + 1) [] bs ++ words_on (line_after (n + 1) bs) [] rest
+        → words_on n [] (bs ++ 32 ∷ rest) ≡ words_on n [] bs ++ words_on (line_after n bs) [] rest
+        → words_on n (word ++ b ∷ []) (bs ++ 32 ∷ rest) ≡ words_on n (word ++ b ∷ []) bs ++ words_on (line_after n bs) [] rest
+        → cond x (word_before n word (words_on (n + 1) [] (bs ++ 32 ∷ rest))) (cond y (word_before n word (words_on n [] (bs ++ 32 ∷ rest))) (words_on n (word ++ b ∷ []) (bs ++ 32 ∷ rest)))
+        ≡ cond x (word_before n word (words_on (n + 1) [] bs)) (cond y (word_before n word (words_on n [] bs)) (words_on n (word ++ b ∷ []) bs)) ++ words_on (line_after (cond x (n + 1) n) bs) [] rest
+    by true y newline blank more = ap (word_before n word) newline ∙ before_all n word (words_on (n + 1) [] bs) (words_on (line_after (n + 1) bs) [] rest)
+    by false true newline blank more = ap (word_before n word) blank ∙ before_all n word (words_on n [] bs) (words_on (line_after n bs) [] rest)
+    by false false newline blank more = more
 
 joined : (n : ℕ) (word : List ℕ) (words : Words) (rest : List ℕ) → AllByRecursion IsWord (word ∷ words) →
     words_on n [] (join_with_byte 32 (word ∷ words) ++ 10 ∷ rest) ≡ map (on_line n) (word ∷ words) ++ words_on (n + 1) [] rest

@@ -2,6 +2,7 @@
 use Rattle.std.specs.Prelude.{◌≡◌, ℕ, List, [], ◌∷◌, ◌++◌, Option, Some, None, option_and_then, Ok, Err}
 use Rattle.lid_reports.specs.declared.trace.Trace.{Trace}
 use Rattle.lid_wave.specs.declared.form.Place.{Place}
+use Rattle.lid_wave.specs.Words.{placed_words}
 use Rattle.lid_wave.specs.Form.{start, step, run}
 use Rattle.lid_wave.specs.Shows.{Wave}
 use Rattle.lid_wave.specs.Text.{wave_text}
@@ -25,9 +26,9 @@ abbrev pub place_after : Place → List (ℕ × List ℕ) → Option Place
 place_after p [] = Some p
 place_after p (word ∷ words) = option_and_then (λ q. place_after q words) (step p word.1)
 
--- words none of which is refused begin a text of the form
+-- a text none of whose words is refused goes on, after a blank, to one of the form
 abbrev pub WordsGoOn : Type 0
-WordsGoOn = (words : List (ℕ × List ℕ)) (p : Place) → place_after start words ≡ Some p → (more : List (ℕ × List ℕ)) × (q : Place) × (run 0 start (words ++ more) ≡ Ok q)
+WordsGoOn = (bytes : List ℕ) (p : Place) → place_after start (placed_words bytes) ≡ Some p → (more : List ℕ) × (t : Trace) × Wave (bytes ++ 32 ∷ more) t
 
 -- words that begin with one that is refused are of the form by no further words: the line of that word is told
 abbrev pub RefusalsStay : Type 0

@@ -18,8 +18,8 @@ pub fn written_dumps_are_read()
     ensures { WrittenAreRead }
 {}
 
-/// Words none of which is refused can be continued to a text of the form, so that no word is refused
-/// late.
+/// A text none of whose words is refused goes on, after a blank, to one of the form, so that no word is
+/// refused late.
 pub fn words_go_on()
     ensures { WordsGoOn }
 {}

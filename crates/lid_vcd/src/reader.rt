@@ -24,8 +24,8 @@ const MOST_CELLS: u64 = 1_048_576;
 pub enum VcdFault {
     /// The number of what is counted, which is over the limit.
     Limit { which: Which, count: u64 },
-    /// By the first word on this line that is refused no dump goes on. Where the text ends too early,
-    /// it is the line of the last word, and 0 where there is none.
+    /// The line of the first word by which no dump goes on. Where the text ends too early, it is that of
+    /// the last word, and 0 where there is none.
     Word { line: u32 },
     /// There was no memory.
     Memory,
