@@ -16,7 +16,7 @@ use std::test::Fail;
 use std::thread::Threads;
 
 /// Clocked runs: netlist, rows, stations, cycles of the trace, and what is printed.
-type Case = (
+pub type Case = (
     &'static str,
     &'static str,
     &'static str,
@@ -24,7 +24,7 @@ type Case = (
     &'static str,
 );
 
-static RUNS: &[Case] = &[
+pub static RUNS: &[Case] = &[
     // without rows there is no cycle
     (
         REGISTER,

@@ -22,6 +22,8 @@ mod run_tests;
 mod stall_tests;
 #[cfg(test)]
 mod tests;
+#[cfg(test)]
+mod worker_tests;
 
 use lid_base::{DirShelf, StdSink, Text};
 use lid_top::run_program;

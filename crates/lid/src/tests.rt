@@ -2,7 +2,7 @@
 
 ghost use Rattle.std.specs.Prelude.{None};
 
-use lid_base::{File, Items, MemShelf, MemSink, OpenGate, Shelf, ShelfFailed, Text};
+use lid_base::{File, Gate, Items, MemShelf, MemSink, OpenGate, Shelf, ShelfFailed, Text};
 use lid_top::lid_run;
 use std::alloc::{AllocError, Global};
 use std::process::Abort;
@@ -106,18 +106,33 @@ pub fn run_over<R: Threads + AllocGlobal + Sync, S: Shelf>(
     let words = words_of(rt.alloc(), words)?;
     let out = sink_of(rt.alloc(), failing.writes)?;
     let err = sink_of(rt.alloc(), failing.says)?;
-    Ok(run_words(rt, &words, shelf, out, err))
+    Ok(run_words(rt, &words, shelf, out, err, &OpenGate))
+}
+
+/// Runs the words over files in memory, on workers that pass a gate.
+pub fn run_gated<R: Threads + AllocGlobal + Sync, G: Gate>(
+    rt: &R,
+    words: &[&str],
+    files: &[(&str, &str)],
+    gate: &G,
+) -> Result<Ran, AllocError> {
+    let mut shelf = shelf_of(rt.alloc(), files, &[])?;
+    let words = words_of(rt.alloc(), words)?;
+    let out = sink_of(rt.alloc(), &[])?;
+    let err = sink_of(rt.alloc(), &[])?;
+    Ok(run_words(rt, &words, &mut shelf, out, err, gate))
 }
 
 /// Runs the words, and keeps what is left.
-fn run_words<R: Threads + AllocGlobal + Sync, S: Shelf>(
+fn run_words<R: Threads + AllocGlobal + Sync, S: Shelf, G: Gate>(
     rt: &R,
     words: &[Text],
     shelf: &mut S,
     mut out: MemSink,
     mut err: MemSink,
+    gate: &G,
 ) -> Ran {
-    let status = lid_run(rt, words, shelf, &mut out, &mut err, &OpenGate);
+    let status = lid_run(rt, words, shelf, &mut out, &mut err, gate);
     Ran { status, out, err }
 }
 
