@@ -2,8 +2,10 @@
 //!
 //! `lid check NET` prints the nodes and channels of a netlist that is accepted, `lid strict NET VEC` its
 //! strict outputs for rows of input bits, `lid clock NET VEC` those of the wrapped design with its cycles,
-//! `lid place NET --wires FILE --reach L` the relay stations that long wires need, `lid rate NET` a
-//! certificate of the throughput, and `lid verify NET CERT` what a certificate shows.
+//! `lid walk NET VEC --schedule FILE` what its actors answer step by step, `lid wave NET VEC --trace K` what
+//! its stations show as a value change dump, `lid unwave FILE` what a dump shows, `lid place NET --wires FILE
+//! --reach L` the relay stations that long wires need, `lid rate NET` a certificate of the throughput,
+//! `lid verify NET CERT` what a certificate shows, and `lid gen SEED --shells M` a netlist made from a seed.
 #![tactic(auto)]
 
 #[cfg(test)]
