@@ -1,0 +1,1 @@
+-- Walks that go on.
