@@ -1,7 +1,6 @@
 -- A walk of a system is told as one of its design.
-use Rattle.std.proofs.Common.{◌≡◌, ℕ, zero, suc, ◌+◌, ◌-◌, ◌<◌, ◌≤◌, Bool, List, [], ◌∷◌, ◌++◌, length, take, append-nil, append_assoc, refl, sym, ◌∙◌, ap, subst, arith}
+use Rattle.std.proofs.Common.{◌≡◌, ℕ, zero, suc, ◌+◌, ◌≤◌, Bool, List, [], ◌∷◌, ◌++◌, length, take, append-nil, append_assoc, refl, sym, ◌∙◌, ap, arith}
 use Rattle.std.specs.List.{AllByRecursion}
-use Rattle.lid_base.specs.declared.runs.Answer.{Answer}
 use Rattle.lid_design.specs.declared.Design.{Design}
 use Rattle.lid_design.specs.Network.{Table, IsStrict, from_each}
 use Rattle.lid_design.specs.Columns.{Column, drivers, root_inputs, root_outputs, output_rows}
@@ -13,12 +12,10 @@ use Rattle.lid_system.specs.Systems.{IsWellFormed}
 use Rattle.lid_system.specs.Streams.{output_row}
 use Rattle.lid_stations.specs.declared.placement.Placement.{Placement}
 use Rattle.lid_stations.specs.Placements.{links_of, Fits}
-use Rattle.lid_runs.specs.Runs.{token_of}
 use Rattle.lid_texts.specs.RowsText.{rows_text}
 use Rattle.lid_machine.specs.Plans.{Plan, sink}
 use Rattle.lid_machine.specs.Setups.{Setup, IsSetup, IsInputRow, plan, output_rows as given_rows}
 use Rattle.lid_machine.specs.Machine.{State, answers, after_all, answer_of, next, begun}
-use Rattle.lid_script.specs.Clocked.{station_token}
 use Rattle.lid_script.specs.Walked.{plan_of, answer_lines, given_after, IsWalkText}
 use Rattle.lid_script.proofs.Tokens.{all_so, token_same, are_outputs}
 
@@ -48,12 +45,16 @@ module _ (d : Design) (s : System) (p : Placement) (of : IsSystemOf d s) (well :
   abbrev pub setup : Setup
   setup = record { system = s; placement = p; input = rows; table = seen d of.columns b }
 
+  -- rows as wide as the inputs of the design are input rows of the system
+  pub input_rows : AllByRecursion (λ row. length row ≡ length (root_inputs d)) rows → AllByRecursion (IsInputRow s) rows
+  input_rows wide = all_so (λ row. length row ≡ length (root_inputs d)) (IsInputRow s) rows (λ row is columns here. is ∙ ap length (sym (of.source 0 columns here))) wide
+
   pub is_setup : Fits s p → length rows ≤ 1000000 → AllByRecursion (λ row. length row ≡ length (root_inputs d)) rows → IsSetup setup
   is_setup fits few wide = record {
     system = well;
     fits = fits;
     few = few;
-    wide = all_so (λ row. length row ≡ length (root_inputs d)) (IsInputRow s) rows (λ row is columns here. is ∙ ap length (sym (of.source 0 columns here))) wide;
+    wide = input_rows wide;
     table = table_is d s of well rows b strict;
   }
 
@@ -73,7 +74,7 @@ module _ (d : Design) (s : System) (p : Placement) (of : IsSystemOf d s) (well :
   walk_text schedule lines rows_given columns given text few named are said told whole =
       let fired = (after_all (plan setup) begun schedule (sink (plan setup))).fired in
       let first : given ≡ take fired (output_rows d b (length rows)) =
-          are ∙ sym (take_each (output_row s (seen d of.columns b)) 0 (length rows) fired few) ∙ ap (take fired) (rows_are d s of well rows b strict) in
+      are ∙ sym (take_each (output_row s (seen d of.columns b)) 0 (length rows) fired few) ∙ ap (take fired) (rows_are d s of well rows b strict) in
       record {
         table = b;
         strict = strict;

@@ -39,7 +39,7 @@ fn run_text<'a, S: Shelf>(
     requires of { IsSystemOf checked.now system.now }
     requires few { length rows.now.bits ≤ 1000000 }
     requires wide { AllByRecursion (λ row. length row ≡ length (root_inputs checked.now)) rows.now.bits }
-    requires sound { IsSoundRun run.entry }
+    requires sound { IsSoundRun run }
     ensures ok { IfOk result (λ text. HasText (S.held shelf.old) (script_for run.entry checked.now (links_of system.now) placement.now rows.now.bits) text.items) }
     ensures err { IfErr result (IsCause (S.held shelf.old) (script_for run.entry checked.now (links_of system.now) placement.now rows.now.bits) (S.faults shelf.old) (S.faults shelf.new)) }
     ensures kept { S.held shelf.new ≡ S.held shelf.old }
@@ -66,7 +66,7 @@ fn placed_text<'a, S: Shelf>(
     requires system { IsSystem system.now }
     requires fits { Fits system.now placement.now }
     requires of { IsSystemOf checked.now system.now }
-    requires sound { IsSoundRun run.entry }
+    requires sound { IsSoundRun run }
     ensures ok { IfOk result (λ text. HasText (S.held shelf.old) (rows_step checked.now vec.now (script_for run.entry checked.now (links_of system.now) placement.now)) text.items) }
     ensures err { IfErr result (IsCause (S.held shelf.old) (rows_step checked.now vec.now (script_for run.entry checked.now (links_of system.now) placement.now)) (S.faults shelf.old) (S.faults shelf.new)) }
     ensures kept { S.held shelf.new ≡ S.held shelf.old }
@@ -90,7 +90,7 @@ fn built_text<'a, S: Shelf>(
 ) -> Result<Vec<u8>, Stop<'a>>
     requires system { IsSystem system.now }
     requires of { IsSystemOf checked.now system.now }
-    requires sound { IsSoundRun run.entry }
+    requires sound { IsSoundRun run }
     ensures ok { IfOk result (λ text. HasText (S.held shelf.old) (placement_step (links_of system.now) stations.now (λ p. rows_step checked.now vec.now (script_for run.entry checked.now (links_of system.now) p))) text.items) }
     ensures err { IfErr result (IsCause (S.held shelf.old) (placement_step (links_of system.now) stations.now (λ p. rows_step checked.now vec.now (script_for run.entry checked.now (links_of system.now) p))) (S.faults shelf.old) (S.faults shelf.new)) }
     ensures kept { S.held shelf.new ≡ S.held shelf.old }
@@ -111,7 +111,7 @@ fn checked_text<'a, S: Shelf>(
     stations: &'a Option<Text>,
     run: HeldRun<'a>,
 ) -> Result<Vec<u8>, Stop<'a>>
-    requires { IsSoundRun run.entry }
+    requires { IsSoundRun run }
     ensures ok { IfOk result (λ text. HasText (S.held shelf.old) (built_step checked.now vec.now stations.now (script_for run.entry checked.now)) text.items) }
     ensures err { IfErr result (IsCause (S.held shelf.old) (built_step checked.now vec.now stations.now (script_for run.entry checked.now)) (S.faults shelf.old) (S.faults shelf.new)) }
     ensures kept { S.held shelf.new ≡ S.held shelf.old }
@@ -134,7 +134,7 @@ fn read_text<'a, S: Shelf>(
     run: HeldRun<'a>,
 ) -> Result<Vec<u8>, Stop<'a>>
     requires formed { IsWellFormed design }
-    requires sound { IsSoundRun run.entry }
+    requires sound { IsSoundRun run }
     ensures ok { IfOk result (λ text. HasText (S.held shelf.old) (check_step root.now design (λ checked. built_step checked vec.now stations.now (script_for run.entry checked))) text.items) }
     ensures err { IfErr result (IsCause (S.held shelf.old) (check_step root.now design (λ checked. built_step checked vec.now stations.now (script_for run.entry checked))) (S.faults shelf.old) (S.faults shelf.new)) }
     ensures kept { S.held shelf.new ≡ S.held shelf.old }
@@ -156,7 +156,7 @@ fn held_text<'a, S: Shelf>(
     root: &Option<Name>,
     run: HeldRun<'a>,
 ) -> Result<Vec<u8>, Stop<'a>>
-    requires { IsSoundRun run.entry }
+    requires { IsSoundRun run }
     ensures ok { IfOk result (λ text. HasText (S.held shelf.old) (held_step net.now vec.now stations.now root.now (script_for run.entry)) text.items) }
     ensures err { IfErr result (IsCause (S.held shelf.old) (held_step net.now vec.now stations.now root.now (script_for run.entry)) (S.faults shelf.old) (S.faults shelf.new)) }
     ensures kept { S.held shelf.new ≡ S.held shelf.old }

@@ -64,6 +64,7 @@ fn lines_text(
     requires below { AllByRecursion (λ v. v < actor_count (links_of system.now) placement.now) schedule.now }
     ensures { IfOk result (λ text. IsWalkText checked.now (links_of system.now) placement.now rows.now.bits schedule.now text.items) }
 {
+    let _ = checked.design();
     let mut walk = Walk::start(alloc, system, placement, rows)?;
     let mut text = Vec::new(alloc);
     walk_on(&mut walk, schedule, &mut text)?;

@@ -4,14 +4,16 @@
 use crate::tests::{Cell, is_shown};
 
 /// By Icarus Verilog: variables in reversed order at each time, tokens without leading zeros.
-static ICARUS: &[u8] = b"$date\n\tSat Nov 28 09:26:01 2026\n$end\n$version\n\tIcarus Verilog\n$end\n$timescale\n\t1ns\n$end\n\
+static ICARUS: &[u8] =
+    b"$date\n\tSat Nov 28 09:26:01 2026\n$end\n$version\n\tIcarus Verilog\n$end\n$timescale\n\t1ns\n$end\n\
 $scope module lid $end\n$var wire 1 ! s0_valid $end\n$var wire 1 \" s0_stop $end\n$var wire 31 # s0_token $end\n\
 $var wire 1 $ s1_valid $end\n$var wire 1 % s1_stop $end\n$var wire 31 & s1_token $end\n$upscope $end\n\
 $enddefinitions $end\n#0\nb0 &\n0%\n1$\nb1 #\n0\"\n1!\n#1\nb101 &\nb0 #\n1\"\n#2\n\
 b1111111111111111111111111111111 &\n0!\n0\"\n1%\n#3\n";
 
 /// By GTKWave's tools: tokens with all their digits.
-static GTKWAVE: &[u8] = b"$date\n\tSat Nov 28 09:26:01 2026\n\n$end\n$version\n\tIcarus Verilog\n$end\n$timescale\n\t1ns\n$end\n\
+static GTKWAVE: &[u8] =
+    b"$date\n\tSat Nov 28 09:26:01 2026\n\n$end\n$version\n\tIcarus Verilog\n$end\n$timescale\n\t1ns\n$end\n\
 $scope module lid $end\n$var wire 1 ! s0_valid $end\n$var wire 1 \" s0_stop $end\n$var wire 31 # s0_token $end\n\
 $var wire 1 $ s1_valid $end\n$var wire 1 % s1_stop $end\n$var wire 31 & s1_token $end\n$upscope $end\n\
 $enddefinitions $end\n#0\nb0000000000000000000000000000000 &\n0%\n1$\nb0000000000000000000000000000001 #\n0\"\n1!\n\

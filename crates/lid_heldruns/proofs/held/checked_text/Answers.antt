@@ -1,7 +1,6 @@
 use Rattle.std.proofs.Common.{List, subst}
 use Rattle.lid_base.proofs.Results.{if_ok, if_err}
 use Rattle.lid_system.specs.declared.Channel.{Channel}
-use Rattle.lid_stations.specs.declared.placement.Placement.{Placement}
 use Rattle.lid_stations.specs.Placements.{Links}
 use Rattle.lid_script.specs.Scripts.{Script, HasChannels, IsOverfull, links, placement_step, rows_step}
 use Rattle.lid_script.specs.Causes.{IsCause}
@@ -14,7 +13,7 @@ pub returns-in-Ok-clause-ok : goal.returns-in-Ok-clause-ok
 returns-in-Ok-clause-ok g c =
     let held = g.S.Shelf.held c.args.shelf.now in
     let d = c.args.checked.now in
-    let on : Links → Script = λ l. placement_step l c.args.stations.now (λ p. rows_step d c.args.vec.now (script_for c.args.run.entry d l p)) in
+    let on : Links → Script = λ l. placement_step l c.args.stations.now (λ p. rows_step d c.args.vec.now (script_for c.args.run d l p)) in
     let next : List Channel → Script = λ channels. on (links d channels) in
     let channels = c.in-Ok.system.channels in
     if_ok c.built_text.result
@@ -26,7 +25,7 @@ pub returns-in-Ok-clause-err : goal.returns-in-Ok-clause-err
 returns-in-Ok-clause-err g c =
     let held = g.S.Shelf.held c.args.shelf.now in
     let d = c.args.checked.now in
-    let on : Links → Script = λ l. placement_step l c.args.stations.now (λ p. rows_step d c.args.vec.now (script_for c.args.run.entry d l p)) in
+    let on : Links → Script = λ l. placement_step l c.args.stations.now (λ p. rows_step d c.args.vec.now (script_for c.args.run d l p)) in
     let next : List Channel → Script = λ channels. on (links d channels) in
     let channels = c.in-Ok.system.channels in
     let before = g.S.Shelf.faults c.args.shelf.now in
@@ -40,6 +39,6 @@ pub returns-in-Err-clause-err : goal.returns-in-Err-clause-err
 returns-in-Err-clause-err g c =
     let held = g.S.Shelf.held c.args.shelf.now in
     let d = c.args.checked.now in
-    let next : List Channel → Script = λ channels. placement_step (links d channels) c.args.stations.now (λ p. rows_step d c.args.vec.now (script_for c.args.run.entry d (links d channels) p)) in
+    let next : List Channel → Script = λ channels. placement_step (links d channels) c.args.stations.now (λ p. rows_step d c.args.vec.now (script_for c.args.run d (links d channels) p)) in
     let before = g.S.Shelf.faults c.args.shelf.now in
     cause_undecided held (HasChannels d) (IsOverfull d) next before before c.in-Err.stop c.in-Err.ensures.err

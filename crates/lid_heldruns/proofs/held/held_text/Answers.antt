@@ -11,7 +11,7 @@ use Rattle.lid_heldruns.proofs.held.held_text.Goals as goal
 pub returns-in-Ok-clause-ok : goal.returns-in-Ok-clause-ok
 returns-in-Ok-clause-ok g c =
     let held = g.S.Shelf.held c.args.shelf.now in
-    let next : Design → Script = λ d. check_step c.args.root.now d (λ checked. built_step checked c.args.vec.now c.args.stations.now (script_for c.args.run.entry checked)) in
+    let next : Design → Script = λ d. check_step c.args.root.now d (λ checked. built_step checked c.args.vec.now c.args.stations.now (script_for c.args.run checked)) in
     if_ok c.read_text.result
     (λ text h. text_after held c.args.net.now net_limit net_reading next c.in-Ok.design text.items c.in-Ok.ensures.ok
     (subst (λ (w : List ℕ → Option (List ℕ)). HasText w (next c.in-Ok.design) text.items) c.in-Ok.ensures.kept h))
@@ -20,7 +20,7 @@ returns-in-Ok-clause-ok g c =
 pub returns-in-Ok-clause-err : goal.returns-in-Ok-clause-err
 returns-in-Ok-clause-err g c =
     let held = g.S.Shelf.held c.args.shelf.now in
-    let next : Design → Script = λ d. check_step c.args.root.now d (λ checked. built_step checked c.args.vec.now c.args.stations.now (script_for c.args.run.entry checked)) in
+    let next : Design → Script = λ d. check_step c.args.root.now d (λ checked. built_step checked c.args.vec.now c.args.stations.now (script_for c.args.run checked)) in
     let before = g.S.Shelf.faults c.args.shelf.now in
     let mid = g.S.Shelf.faults c.read_net.new.shelf in
     let after = g.S.Shelf.faults c.read_text.new.shelf in
@@ -31,6 +31,6 @@ returns-in-Ok-clause-err g c =
 
 pub returns-in-Err-clause-err : goal.returns-in-Err-clause-err
 returns-in-Err-clause-err g c =
-    let next : Design → Script = λ d. check_step c.args.root.now d (λ checked. built_step checked c.args.vec.now c.args.stations.now (script_for c.args.run.entry checked)) in
+    let next : Design → Script = λ d. check_step c.args.root.now d (λ checked. built_step checked c.args.vec.now c.args.stations.now (script_for c.args.run checked)) in
     cause_here (g.S.Shelf.held c.args.shelf.now) c.args.net.now net_limit net_reading next (g.S.Shelf.faults c.args.shelf.now)
     (g.S.Shelf.faults c.read_net.new.shelf) c.in-Err.stop c.in-Err.ensures.err

@@ -12,7 +12,7 @@ pub returns-in-Ok-clause-ok : goal.returns-in-Ok-clause-ok
 returns-in-Ok-clause-ok g c =
     let held = g.S.Shelf.held c.args.shelf.now in
     let d = c.args.checked.now in
-    let next : List (List Bool) → Script = script_for c.args.run.entry d (links_of c.args.system.now) c.args.placement.now in
+    let next : List (List Bool) → Script = script_for c.args.run d (links_of c.args.system.now) c.args.placement.now in
     if_ok c.run_text.result
     (λ text h. text_after held c.args.vec.now rows_limit (vec_reading d) next c.in-Ok.rows.bits text.items c.in-Ok.ensures.ok
     (subst (λ (w : List ℕ → Option (List ℕ)). HasText w (next c.in-Ok.rows.bits) text.items) c.in-Ok.ensures.kept h))
@@ -22,7 +22,7 @@ pub returns-in-Ok-clause-err : goal.returns-in-Ok-clause-err
 returns-in-Ok-clause-err g c =
     let held = g.S.Shelf.held c.args.shelf.now in
     let d = c.args.checked.now in
-    let next : List (List Bool) → Script = script_for c.args.run.entry d (links_of c.args.system.now) c.args.placement.now in
+    let next : List (List Bool) → Script = script_for c.args.run d (links_of c.args.system.now) c.args.placement.now in
     let before = g.S.Shelf.faults c.args.shelf.now in
     let mid = g.S.Shelf.faults c.read_vec.new.shelf in
     let after = g.S.Shelf.faults c.run_text.new.shelf in
@@ -34,5 +34,5 @@ returns-in-Ok-clause-err g c =
 pub returns-in-Err-clause-err : goal.returns-in-Err-clause-err
 returns-in-Err-clause-err g c =
     let d = c.args.checked.now in
-    cause_here (g.S.Shelf.held c.args.shelf.now) c.args.vec.now rows_limit (vec_reading d) (script_for c.args.run.entry d (links_of c.args.system.now) c.args.placement.now)
+    cause_here (g.S.Shelf.held c.args.shelf.now) c.args.vec.now rows_limit (vec_reading d) (script_for c.args.run d (links_of c.args.system.now) c.args.placement.now)
     (g.S.Shelf.faults c.args.shelf.now) (g.S.Shelf.faults c.read_vec.new.shelf) c.in-Err.stop c.in-Err.ensures.err

@@ -7,14 +7,14 @@ use Rattle.lid_heldruns.proofs.held.read_text.Goals as goal
 
 pub returns-in-Ok-clause-ok : goal.returns-in-Ok-clause-ok
 returns-in-Ok-clause-ok g c =
-    let next : Design → Script = λ checked. built_step checked c.args.vec.now c.args.stations.now (script_for c.args.run.entry checked) in
+    let next : Design → Script = λ checked. built_step checked c.args.vec.now c.args.stations.now (script_for c.args.run checked) in
     if_ok c.checked_text.result
     (λ text h. text_checked (g.S.Shelf.held c.args.shelf.now) c.args.root.now c.args.design next c.in-Ok.checked text.items c.in-Ok.ensures.ok h)
     c.checked_text.ensures.ok
 
 pub returns-in-Ok-clause-err : goal.returns-in-Ok-clause-err
 returns-in-Ok-clause-err g c =
-    let next : Design → Script = λ checked. built_step checked c.args.vec.now c.args.stations.now (script_for c.args.run.entry checked) in
+    let next : Design → Script = λ checked. built_step checked c.args.vec.now c.args.stations.now (script_for c.args.run checked) in
     let before = g.S.Shelf.faults c.args.shelf.now in
     let after = g.S.Shelf.faults c.checked_text.new.shelf in
     if_err c.checked_text.result
@@ -23,6 +23,6 @@ returns-in-Ok-clause-err g c =
 
 pub returns-in-Err-clause-err : goal.returns-in-Err-clause-err
 returns-in-Err-clause-err g c =
-    let next : Design → Script = λ checked. built_step checked c.args.vec.now c.args.stations.now (script_for c.args.run.entry checked) in
+    let next : Design → Script = λ checked. built_step checked c.args.vec.now c.args.stations.now (script_for c.args.run checked) in
     cause_unchecked (g.S.Shelf.held c.args.shelf.now) c.args.root.now c.args.design next (g.S.Shelf.faults c.args.shelf.now)
     (g.S.Shelf.faults c.args.shelf.now) c.in-Err.stop c.in-Err.ensures.err

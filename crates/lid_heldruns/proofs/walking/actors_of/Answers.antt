@@ -6,5 +6,5 @@ use Rattle.lid_heldruns.proofs.walking.actors_of.Goals as goal
 pub overflow_sub-result : goal.overflow_sub-result
 overflow_sub-result c = let e = fewer_relays c.args.placement.now.relays in let caps = c.requires.fits.rules.caps in omega arith
 
-pub returns-clause-ensures : goal.returns-clause-ensures
-returns-clause-ensures c = let e = fewer_relays c.args.placement.now.relays in let caps = c.requires.fits.rules.caps in omega arith
+pub returns : goal.returns
+returns c = let e = fewer_relays c.args.placement.now.relays in let caps = c.requires.fits.rules.caps in omega arith
