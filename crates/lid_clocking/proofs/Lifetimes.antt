@@ -1,5 +1,5 @@
 -- The life of the system of a design for rows, held as stalls say where they are given: its text is that of the design.
-use Rattle.std.proofs.Common.{◌≡◌, ℕ, ◌-◌, ◌≤◌, ◌==◌, nat_lt, min, Bool, if◌then◌else◌, List, [], ◌∷◌, ◌++◌, length, Option, None, Some, slice_get, refl, sym, ◌∙◌, ap, arith}
+use Rattle.std.proofs.Common.{◌≡◌, ℕ, ◌-◌, ◌≤◌, ◌==◌, nat_lt, min, Bool, if◌then◌else◌, List, [], ◌∷◌, ◌++◌, length, Option, None, Some, refl, sym, ◌∙◌, ap}
 use Rattle.std.specs.List.{AllByRecursion, flat_map}
 use Rattle.lid_base.specs.declared.runs.Shown.{Shown}
 use Rattle.lid_design.specs.declared.Design.{Design}
@@ -23,7 +23,7 @@ use Rattle.lid_texts.specs.RowsText.{rows_text}
 use Rattle.lid_reports.specs.Runs.{cycles_text, trace_text}
 use Rattle.lid_clockrun.specs.RunTexts.{IsLifeOf, IsRunText, cells_after, end_text}
 use Rattle.lid_clockrun.specs.RunTexts as run
-use Rattle.lid_script.specs.Clocked.{station_token, cells_under, nodes_fired, traced, clock_end, IsClockText}
+use Rattle.lid_script.specs.Clocked.{station_token, cells_under, nodes_fired, traced, IsClockText}
 use Rattle.lid_script.proofs.Tokens.{all_so, token_same, are_outputs}
 
 flat_same : {A B : Type 0} (f g : A → List B) (xs : List A) → ((x : A) → f x ≡ g x) → flat_map f xs ≡ flat_map g xs

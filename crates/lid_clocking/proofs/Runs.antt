@@ -1,5 +1,5 @@
 -- The run that a file feeds is a run of the script that reads the file again.
-use Rattle.std.proofs.Common.{◌≡◌, ℕ, ◌≤◌, true, Bool, List, [], length, take, Option, None, Some, IsSome, Result, Ok, Err, inl, inr, refl, sym, ◌∙◌, ap, subst, arith}
+use Rattle.std.proofs.Common.{◌≡◌, ℕ, ◌≤◌, Bool, List, [], length, Option, IsSome, Result, Ok, Err, inl, inr, refl, sym, ◌∙◌, ap, arith}
 use Rattle.std.specs.Borrow.{Bor}
 use Rattle.std.specs.Option.{option_map_or}
 use Rattle.std.specs.List.{AllByRecursion}
@@ -30,12 +30,12 @@ use Rattle.lid_script.specs.declared.fault.Stop.TheVariants.{Refused, Read, Memo
 use Rattle.lid_script.specs.declared.fault.End.{End}
 use Rattle.lid_script.specs.declared.fault.End.TheVariants.{Stopped, Unwritten}
 use Rattle.lid_script.specs.Outputs.{clocked}
-use Rattle.lid_script.specs.Scripts.{gives, refuses, Script, rows_limit, vec_reading, reread_rows, rerun_script, EndsIn, Reaches}
+use Rattle.lid_script.specs.Scripts.{refuses, Script, rows_limit, vec_reading, reread_rows, rerun_script, EndsIn, Reaches}
 use Rattle.lid_script.specs.Causes.{Got, Declines, IsEnd, IsRefusal, stop_of_rows}
-use Rattle.lid_script.specs.Statuses.{HasText, Writes, WritesPrefix, TellsAll}
+use Rattle.lid_script.specs.Statuses.{HasText, Writes, WritesPrefix}
 use Rattle.lid_script.specs.Early.{RunsEarly}
 use Rattle.lid_script.proofs.Readings.{vec_declines}
-use Rattle.lid_clocking.specs.Stops.{stop_of_feed, end_of_run}
+use Rattle.lid_clocking.specs.Stops.{end_of_run}
 use Rattle.lid_script.proofs.Tokens.{all_so}
 use Rattle.lid_clocking.proofs.Lifetimes.{life, lives, clock_text}
 use Rattle.lid_clocking.proofs.Rest.{Rest, rest, Falls, is_changed, never_told, falls_refused, falls_few}

@@ -1,5 +1,5 @@
 -- What is said of schedules that are read.
-use Rattle.std.proofs.Common.{◌≡◌, ℕ, ◌+◌, ◌^◌, ◌<◌, ◌⊎◌, inl, inr, nat_lt, if◌then◌else◌, Bool, true, false, unwrap_or, List, [], ◌∷◌, length, map, Option, Some, None, sym, ap, ◌∙◌, subst, refl, arith}
+use Rattle.std.proofs.Common.{◌≡◌, ℕ, ◌+◌, ◌^◌, ◌<◌, ◌⊎◌, inl, inr, nat_lt, if◌then◌else◌, Bool, true, false, unwrap_or, List, [], ◌∷◌, length, map, Option, Some, None, sym, ap, subst, refl}
 use Rattle.std.specs.Prelude.{Result, Ok, Err, option_and_then}
 use Rattle.std.specs.List.{AllByRecursion, enumerate_from}
 use Rattle.std.proofs.lemmas.Bool.{ltb-true}
@@ -8,7 +8,7 @@ use Rattle.lid_base.specs.Lines.{logical_lines, text_fault}
 use Rattle.lid_base.specs.Numbers.{number, value_below}
 use Rattle.lid_reports.specs.declared.schedule.SchedFault.{SchedFault}
 use Rattle.lid_reports.specs.declared.schedule.SchedFault.TheVariants as schedule
-use Rattle.lid_reports.specs.Schedules.{schedule_reading, actors_reading, text_reading, actors_of, words_of, word_fault, actor_fault, first_some, ok_unless, of_text}
+use Rattle.lid_reports.specs.Schedules.{schedule_reading, text_reading, actors_of, words_of, word_fault, actor_fault, first_some, ok_unless, of_text}
 use Rattle.lid_refusals.specs.Faults.{schedule_line}
 use Rattle.lid_script.specs.Scripts.{Reading, good, bad, schedule_good, schedule_read}
 use Rattle.lid_script.specs.Causes.{Declines, stop_of_schedule}

@@ -1,5 +1,5 @@
 -- The tokens and the output rows of a system are those of its design.
-use Rattle.std.proofs.Common.{◌≡◌, ℕ, zero, suc, ◌+◌, ◌-◌, ◌<◌, Bool, false, List, [], ◌∷◌, length, get_or, map, Some, slice_get, refl, sym, ◌∙◌, ap, subst, arith}
+use Rattle.std.proofs.Common.{◌≡◌, ℕ, zero, suc, ◌+◌, ◌-◌, ◌<◌, Bool, List, [], ◌∷◌, length, get_or, map, Some, slice_get, refl, sym, ◌∙◌, ap, subst, arith}
 use Rattle.std.specs.List.{AllByRecursion}
 use Rattle.std.specs.Option.{option_map_or}
 use Rattle.std.proofs.lemmas.List.{get_or-map}
@@ -13,18 +13,16 @@ use Rattle.lid_design.specs.Network.{Table, IsStrict}
 use Rattle.lid_design.specs.Columns.{Column, column, model_at, drivers, output_rows, IsStrictOutput}
 use Rattle.lid_design.specs.Loops.{pearls}
 use Rattle.lid_design.proofs.Tables.{map_agree}
-use Rattle.lid_pearl.specs.Pearls.{View}
 use Rattle.lid_system.specs.declared.System.{System}
 use Rattle.lid_system.specs.declared.Node.{Node}
 use Rattle.lid_system.specs.declared.Node.TheVariants.{Source, Shell, Sink}
-use Rattle.lid_system.specs.declared.InBit.{InBit}
 use Rattle.lid_system.specs.declared.Channel.{Channel}
 use Rattle.lid_system.specs.Systems.{Point, source_port, ports_at, IsChannel, IsWellFormed}
 use Rattle.lid_system.specs.Streams.{token_at, output_row, IsOutput}
 use Rattle.lid_system.proofs.Streaming.{each_same, inputs_agree}
 use Rattle.lid_stations.specs.declared.placement.Placement.{Placement}
 use Rattle.lid_stations.specs.Placements.{links_of}
-use Rattle.lid_stations.specs.Stations.{spot_at, channel_at, no_channel}
+use Rattle.lid_stations.specs.Stations.{spot_at, no_channel}
 use Rattle.lid_runs.specs.Runs.{token_of}
 use Rattle.lid_agree.specs.Agreement.{column_of, seen, IsSystemOf}
 use Rattle.lid_agree.proofs.Agreeing.{source_ports, shell_ports, table_is, rows_are, output_back}

@@ -1,4 +1,4 @@
-use Rattle.std.proofs.Common.{◌≡◌, ℕ, List, [], length, Option, Err, sym, ap, subst}
+use Rattle.std.proofs.Common.{ℕ, List, [], length, Err, sym, ap, subst}
 use Rattle.lid_base.specs.Outside.{Rose}
 use Rattle.lid_design.specs.Walks.{HasTable}
 use Rattle.lid_design.specs.Columns.{drivers, root_inputs, root_outputs}
@@ -13,7 +13,7 @@ use Rattle.lid_clocking.proofs.Runs.{source_named, runs_whole, runs_in_part}
 use Rattle.lid_clocking.proofs.rerun.run_fed.Goals as goal
 
 pub run-requires-clause-feeds : goal.run-requires-clause-feeds
-run-requires-clause-feeds g c =
+run-requires-clause-feeds g c κs within =
     let held = g.S.Shelf.held c.args.shelf.now c.args.feed.now.name in
     let d = c.args.checked.now in
     subst (λ (columns : List (List ℕ)). HasGiven held columns (length c.outputs.result.now) c.args.feed.now []) (sym (source_named d c.args.system.now c.requires.of c.requires.system))
