@@ -48,16 +48,21 @@ fn new_tally(alloc: Global) -> Option<TallyGate> {
     })
 }
 
-/// Whether each of so many workers, and nobody else, has passed it once in each of so many cycles.
+/// What the gate counts of a worker that has passed it once in each of so many cycles.
+fn once_in_each(cycles: u64) -> u64 {
+    let mut passes = 0u64;
+    for _ in 0..cycles {
+        passes = passes.wrapping_mul(16).wrapping_add(1);
+    }
+    passes
+}
+
+/// Whether each of the first workers, so many, and nobody else has passed it once in each of so many cycles.
 fn was_passed(gate: &TallyGate, workers: usize, cycles: u64) -> bool {
-    let once = 0x1111111111111111
-        & (1u64
-            .checked_shl(4 * cycles as u32)
-            .unwrap_or(0)
-            .wrapping_sub(1));
+    let each = once_in_each(cycles);
     for i in 0..gate.passes.len() {
-        let word = if i < workers { once } else { 0 };
-        if gate.passes[i].load(Ordering::SeqCst) != word {
+        let passes = if i < workers { each } else { 0 };
+        if gate.passes[i].load(Ordering::SeqCst) != passes {
             return false;
         }
     }

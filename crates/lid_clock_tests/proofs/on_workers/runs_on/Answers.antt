@@ -4,7 +4,7 @@ use Rattle.lid_clock_tests.proofs.Living.{life, rules, nobody}
 use Rattle.lid_clock_tests.proofs.on_workers.runs_on.Goals as goal
 
 pub comes_to-requires-clause-run : goal.comes_to-requires-clause-run
-comes_to-requires-clause-run g c =
+comes_to-requires-clause-run g c κs within =
     let s = c.args.system.now in
     let p = c.args.placement.now in
     let rows = c.args.rows.now.bits in

@@ -1,4 +1,4 @@
-use Rattle.std.proofs.Common.{◌≡◌, Bool, List, get_or, sym, ◌∙◌, subst}
+use Rattle.std.proofs.Common.{◌≡◌, Bool, List, get_or, sym, subst}
 use Rattle.lid_clock.specs.Lives.{IsWide}
 use Rattle.lid_clock_tests.proofs.Feeding.{row_there, row_next, row_wide, fed}
 use Rattle.lid_clock_tests.proofs.streams.feed.Goals as goal
