@@ -38,7 +38,7 @@ pub(crate) struct Run {
 }
 
 /// The system of a netlist.
-fn system_of(alloc: Global, net: &[u8]) -> Option<System>
+pub(crate) fn system_of(alloc: Global, net: &[u8]) -> Option<System>
     ensures { IfSome result IsWellFormed }
 {
     let Ok(design) = lid_blif::read(alloc, net) else {
@@ -54,7 +54,7 @@ fn system_of(alloc: Global, net: &[u8]) -> Option<System>
 }
 
 /// Two relay stations on the second of two channels.
-fn two_relays(alloc: Global) -> Option<Placement>
+pub(crate) fn two_relays(alloc: Global) -> Option<Placement>
     ensures relays { IfSome result (λ p. p.relays ≡ 0 ∷ 2 ∷ []) }
     ensures caps { IfSome result (λ p. p.caps ≡ 2 ∷ 2 ∷ 2 ∷ 2 ∷ []) }
 {
@@ -85,7 +85,7 @@ fn placement_of(alloc: Global, system: &System, relayed: bool) -> Option<Placeme
 }
 
 /// Rows of so many columns, each of which has the bit of a letter.
-fn rows_of(alloc: Global, bits: &[u8], width: usize) -> Option<Rows> {
+pub(crate) fn rows_of(alloc: Global, bits: &[u8], width: usize) -> Option<Rows> {
     let mut rows = Vec::new(alloc);
     for bit in bits {
         let row = Vec::from_elem(alloc, *bit == b'1', width).ok()?;
@@ -115,7 +115,7 @@ fn have_width(rows: &[Items<bool>], width: usize) -> bool
 }
 
 /// Whether rows can be those of a run: as wide as the source, and few.
-fn are_rows(system: &System, rows: &[Items<bool>]) -> bool
+pub(crate) fn are_rows(system: &System, rows: &[Items<bool>]) -> bool
     ensures few { IsTrue result → length rows.now ≤ 1000000 }
     ensures wide { IsTrue result → AllByRecursion (IsInputRow system.now) rows.now }
 {

@@ -32,17 +32,70 @@ static CASES: [Case; 6] = [
         relayed: false,
         steps: &[
             (0, Answer::Room { station: 0 }),
-            (0, Answer::Put { station: 0, token: 0, fired: true }),
+            (
+                0,
+                Answer::Put {
+                    station: 0,
+                    token: 0,
+                    fired: true,
+                },
+            ),
             (0, Answer::Done),
-            (1, Answer::Token { station: 0, token: 1 }),
+            (
+                1,
+                Answer::Token {
+                    station: 0,
+                    token: 1,
+                },
+            ),
             (1, Answer::Room { station: 1 }),
-            (1, Answer::Took { station: 0, token: 1, fired: false }),
-            (1, Answer::Put { station: 1, token: 1, fired: true }),
+            (
+                1,
+                Answer::Took {
+                    station: 0,
+                    token: 1,
+                    fired: false,
+                },
+            ),
+            (
+                1,
+                Answer::Put {
+                    station: 1,
+                    token: 1,
+                    fired: true,
+                },
+            ),
             (1, Answer::Done),
-            (2, Answer::Token { station: 1, token: 0 }),
-            (2, Answer::Took { station: 1, token: 0, fired: true }),
-            (2, Answer::Token { station: 1, token: 1 }),
-            (2, Answer::Took { station: 1, token: 1, fired: true }),
+            (
+                2,
+                Answer::Token {
+                    station: 1,
+                    token: 0,
+                },
+            ),
+            (
+                2,
+                Answer::Took {
+                    station: 1,
+                    token: 0,
+                    fired: true,
+                },
+            ),
+            (
+                2,
+                Answer::Token {
+                    station: 1,
+                    token: 1,
+                },
+            ),
+            (
+                2,
+                Answer::Took {
+                    station: 1,
+                    token: 1,
+                    fired: true,
+                },
+            ),
             (2, Answer::Done),
         ],
     },
@@ -51,21 +104,99 @@ static CASES: [Case; 6] = [
         bits: b"101",
         relayed: true,
         steps: &[
-            (4, Answer::Void { station: 2, word: 0 }),
-            (3, Answer::Token { station: 1, token: 0 }),
+            (
+                4,
+                Answer::Void {
+                    station: 2,
+                    word: 0,
+                },
+            ),
+            (
+                3,
+                Answer::Token {
+                    station: 1,
+                    token: 0,
+                },
+            ),
             (3, Answer::Room { station: 2 }),
-            (3, Answer::Took { station: 1, token: 0, fired: false }),
-            (3, Answer::Put { station: 2, token: 0, fired: true }),
-            (4, Answer::Token { station: 2, token: 0 }),
+            (
+                3,
+                Answer::Took {
+                    station: 1,
+                    token: 0,
+                    fired: false,
+                },
+            ),
+            (
+                3,
+                Answer::Put {
+                    station: 2,
+                    token: 0,
+                    fired: true,
+                },
+            ),
+            (
+                4,
+                Answer::Token {
+                    station: 2,
+                    token: 0,
+                },
+            ),
             (4, Answer::Room { station: 3 }),
-            (4, Answer::Took { station: 2, token: 0, fired: false }),
-            (4, Answer::Put { station: 3, token: 0, fired: true }),
-            (2, Answer::Token { station: 3, token: 0 }),
-            (2, Answer::Took { station: 3, token: 0, fired: true }),
-            (2, Answer::Void { station: 3, word: 0 }),
+            (
+                4,
+                Answer::Took {
+                    station: 2,
+                    token: 0,
+                    fired: false,
+                },
+            ),
+            (
+                4,
+                Answer::Put {
+                    station: 3,
+                    token: 0,
+                    fired: true,
+                },
+            ),
+            (
+                2,
+                Answer::Token {
+                    station: 3,
+                    token: 0,
+                },
+            ),
+            (
+                2,
+                Answer::Took {
+                    station: 3,
+                    token: 0,
+                    fired: true,
+                },
+            ),
+            (
+                2,
+                Answer::Void {
+                    station: 3,
+                    word: 0,
+                },
+            ),
             (0, Answer::Room { station: 0 }),
-            (0, Answer::Put { station: 0, token: 0, fired: true }),
-            (0, Answer::Stop { station: 0, word: 0x8000_0000_8000_0001 }),
+            (
+                0,
+                Answer::Put {
+                    station: 0,
+                    token: 0,
+                    fired: true,
+                },
+            ),
+            (
+                0,
+                Answer::Stop {
+                    station: 0,
+                    word: 0x8000_0000_8000_0001,
+                },
+            ),
         ],
     },
     Case {
@@ -77,22 +208,100 @@ static CASES: [Case; 6] = [
             (0, Answer::Fired),
             (0, Answer::Fired),
             (0, Answer::Done),
-            (1, Answer::Token { station: 1, token: 1 }),
+            (
+                1,
+                Answer::Token {
+                    station: 1,
+                    token: 1,
+                },
+            ),
             (1, Answer::Room { station: 0 }),
-            (1, Answer::Took { station: 1, token: 1, fired: false }),
-            (1, Answer::Put { station: 0, token: 1, fired: true }),
-            (1, Answer::Void { station: 1, word: 0 }),
-            (2, Answer::Token { station: 0, token: 0 }),
+            (
+                1,
+                Answer::Took {
+                    station: 1,
+                    token: 1,
+                    fired: false,
+                },
+            ),
+            (
+                1,
+                Answer::Put {
+                    station: 0,
+                    token: 1,
+                    fired: true,
+                },
+            ),
+            (
+                1,
+                Answer::Void {
+                    station: 1,
+                    word: 0,
+                },
+            ),
+            (
+                2,
+                Answer::Token {
+                    station: 0,
+                    token: 0,
+                },
+            ),
             (2, Answer::Room { station: 1 }),
             (2, Answer::Room { station: 2 }),
-            (2, Answer::Took { station: 0, token: 0, fired: false }),
-            (2, Answer::Put { station: 1, token: 0, fired: false }),
-            (2, Answer::Put { station: 2, token: 0, fired: true }),
-            (2, Answer::Token { station: 0, token: 1 }),
+            (
+                2,
+                Answer::Took {
+                    station: 0,
+                    token: 0,
+                    fired: false,
+                },
+            ),
+            (
+                2,
+                Answer::Put {
+                    station: 1,
+                    token: 0,
+                    fired: false,
+                },
+            ),
+            (
+                2,
+                Answer::Put {
+                    station: 2,
+                    token: 0,
+                    fired: true,
+                },
+            ),
+            (
+                2,
+                Answer::Token {
+                    station: 0,
+                    token: 1,
+                },
+            ),
             (2, Answer::Room { station: 1 }),
-            (2, Answer::Stop { station: 2, word: 0x8000_0000_8000_0001 }),
-            (3, Answer::Token { station: 2, token: 1 }),
-            (3, Answer::Took { station: 2, token: 1, fired: true }),
+            (
+                2,
+                Answer::Stop {
+                    station: 2,
+                    word: 0x8000_0000_8000_0001,
+                },
+            ),
+            (
+                3,
+                Answer::Token {
+                    station: 2,
+                    token: 1,
+                },
+            ),
+            (
+                3,
+                Answer::Took {
+                    station: 2,
+                    token: 1,
+                    fired: true,
+                },
+            ),
         ],
     },
     Case {
@@ -100,17 +309,69 @@ static CASES: [Case; 6] = [
         bits: b"0000",
         relayed: false,
         steps: &[
-            (1, Answer::Token { station: 0, token: 0 }),
+            (
+                1,
+                Answer::Token {
+                    station: 0,
+                    token: 0,
+                },
+            ),
             (1, Answer::Room { station: 0 }),
             (1, Answer::Room { station: 1 }),
-            (1, Answer::Took { station: 0, token: 0, fired: false }),
-            (1, Answer::Put { station: 0, token: 1, fired: false }),
-            (1, Answer::Put { station: 1, token: 1, fired: true }),
-            (1, Answer::Token { station: 0, token: 1 }),
+            (
+                1,
+                Answer::Took {
+                    station: 0,
+                    token: 0,
+                    fired: false,
+                },
+            ),
+            (
+                1,
+                Answer::Put {
+                    station: 0,
+                    token: 1,
+                    fired: false,
+                },
+            ),
+            (
+                1,
+                Answer::Put {
+                    station: 1,
+                    token: 1,
+                    fired: true,
+                },
+            ),
+            (
+                1,
+                Answer::Token {
+                    station: 0,
+                    token: 1,
+                },
+            ),
             (1, Answer::Room { station: 0 }),
-            (1, Answer::Stop { station: 1, word: 0x8000_0001_8000_0000 }),
-            (2, Answer::Token { station: 1, token: 0 }),
-            (2, Answer::Took { station: 1, token: 0, fired: true }),
+            (
+                1,
+                Answer::Stop {
+                    station: 1,
+                    word: 0x8000_0001_8000_0000,
+                },
+            ),
+            (
+                2,
+                Answer::Token {
+                    station: 1,
+                    token: 0,
+                },
+            ),
+            (
+                2,
+                Answer::Took {
+                    station: 1,
+                    token: 0,
+                    fired: true,
+                },
+            ),
         ],
     },
     Case {
