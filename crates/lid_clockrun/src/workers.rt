@@ -10,6 +10,7 @@ use lid_parclock::cycle_on;
 use std::thread::Threads;
 
 /// Workers: 1 to 64 of them, who pass a gate where they are more than one.
+#[derive(Drop)]
 pub struct Workers<'a, R, G> {
     /// What starts threads.
     pub rt: &'a R,
