@@ -4,8 +4,8 @@
     tools/walks.py SEED COUNT STEPS
 
 The machine has two numbers for each actor, how often it has fired and its position; a token is packed from the
-strict table (`Run` of clocks.py). COUNT random designs with random stations and rows are walked along schedules of
-STEPS actors, and as many generated designs of 1 to 12 shells. It stops at the first difference.
+strict table (`Run` of clocks.py). A ring, a diamond, a pipeline, COUNT random designs and
+as many generated ones of 1 to 12 shells, with random stations and rows, are walked along schedules of STEPS actors. It stops at the first difference.
 """
 
 import sys
@@ -17,9 +17,44 @@ from compare import Maker, rows_text, text_of
 from gen import Draws
 from generated import design
 from rates import Session
-from reference import Judge, Model, Refused, channels, pearls
+from reference import Cover, Judge, Latch, Model, Refused, channels, pearls
 
 FULL = 1 << 31
+
+
+def register(name: str, init: str) -> Model:
+    return Model(name, ["d"], ["q"], [], [Latch("d", "q", None, None, init)], [])
+
+
+def ring() -> list[Model]:
+    insts = [("reg0", [("d", "y"), ("q", "w")]), ("reg1", [("d", "w"), ("q", "y")])]
+    return [Model("ring", [], ["y"], [], [], insts), register("reg0", "0"), register("reg1", "1")]
+
+
+def diamond() -> list[Model]:
+    insts = [
+        ("reg", [("d", "x"), ("q", "a")]),
+        ("xr", [("a", "a"), ("b", "b"), ("q", "y")]),
+        ("reg", [("d", "a"), ("q", "b")]),
+    ]
+    differ = Cover(["a", "b"], "n", [("10", "1"), ("01", "1")])
+    joined = Model("xr", ["a", "b"], ["q"], [], [differ, Latch("n", "q", None, None, "0")], [])
+    return [Model("dia", ["x"], ["y"], [], [], insts), register("reg", "0"), joined]
+
+
+def pipeline() -> list[Model]:
+    """Four stages of eight bits, of which the first also reads a bit of the last."""
+    names = [[f"{letter}{i}" for i in range(8)] for letter in "xmnoy"]
+    insts = []
+    for stage in range(4):
+        bound = [("f", "y0" if stage == 0 else "zero")]
+        bound += [(f"a{i}", names[stage][i]) for i in range(8)] + [(f"q{i}", names[stage + 1][i]) for i in range(8)]
+        insts.append(("stage", bound))
+    top = Model("pipe", names[0], names[4], [], [Cover([], "zero", [])], insts)
+    latches = [Latch("d0" if i == 0 else f"a{i}", f"q{i}", None, None, "0") for i in range(8)]
+    differ = Cover(["a0", "f"], "d0", [("10", "1"), ("01", "1")])
+    ports = [f"a{i}" for i in range(8)]
+    return [top, Model("stage", ["f", *ports], [f"q{i}" for i in range(8)], [], [differ, *latches], [])]
 
 
 class Machine:
@@ -128,8 +163,9 @@ def main():
     with tempfile.TemporaryDirectory() as folder:
         session = Session(folder, maker.dice)
         session.files |= {name: Path(folder, name) for name in ("rows", "schedule")}
-        for number in range(2 * count):
-            models = maker.design() if number < count else design(Draws(number), 1 + number % 12)
+        known = [ring(), diamond(), pipeline()]
+        made = [maker.design() for _ in range(count)] + [design(Draws(n), 1 + n % 12) for n in range(count)]
+        for models in [*known, *made]:
             try:
                 judge = Judge(models, models[0])
                 whole = judge.run()
