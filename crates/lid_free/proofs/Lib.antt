@@ -1,0 +1,15 @@
+pub mod Beginning
+pub mod Owning
+pub mod Shares
+pub mod Ready
+pub mod Crewing
+pub mod Parallel
+pub mod Resting
+pub mod Closing
+pub mod Firsts
+pub mod Solo
+pub mod Noting
+pub mod Gathered
+pub mod Settling
+pub mod Ended
+pub mod Running
