@@ -1,0 +1,6 @@
+pub mod Posts
+pub mod Tallies
+pub mod Turns
+pub mod Alone
+pub mod Laws
+pub mod Rounds
