@@ -1,6 +1,9 @@
 pub mod Sums
+pub mod Coming
 pub mod Misses
 pub mod Making
 pub mod Rounding
 pub mod Running
 pub mod Sweeping
+pub mod Circling
+pub mod Working

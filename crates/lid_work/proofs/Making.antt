@@ -222,20 +222,21 @@ module _ (board : Board) (before now : Ends) (then_stands : (ℕ → List ℕ) �
   pub makes_turn : IsAtWork board before a → is ≡ counted end was
       → ((m : Setup) (v : ℕ) (st : State) → (st v).position ≡ 0 → Works m v (st v) a before (StandsFor (plan_of board)) → ServesAll m st v before → (end ≡ end_at (turn_answer (plan m) st v)) × IsActor m v (turn (plan m) st v v) b)
       → MakesTurn board before a was now b is
-  makes_turn (m, v, fired, w) counted_is exactly =
-      (end,
-      record {
-        gone = gone_is (m, v, fired, w);
-        others = moves.others;
-        keeps = record {
-          none = moves.none;
-          some = λ e f served. let (g, now_served, stays) = moves.some e f served in (g, now_served, record { cap = stays.cap; start = stays.start });
-        };
-        counts = counted_is;
-        fires = fires_is m v fired w;
-        voids = voids_is m v fired w;
-        stops = stops_is m v fired w;
-        done_late = done_is m v fired w end refl;
-        done_stays = stays_is m v fired w;
-        exact = exactly;
-      })
+  makes_turn (m, v, fired, w) counted_is exactly = (
+    end,
+    record {
+      gone = gone_is (m, v, fired, w);
+      others = moves.others;
+      keeps = record {
+        none = moves.none;
+        some = λ e f served. let (g, now_served, stays) = moves.some e f served in (g, now_served, record { cap = stays.cap; start = stays.start });
+      };
+      counts = counted_is;
+      fires = fires_is m v fired w;
+      voids = voids_is m v fired w;
+      stops = stops_is m v fired w;
+      done_late = done_is m v fired w end refl;
+      done_stays = stays_is m v fired w;
+      exact = exactly;
+    },
+  )

@@ -260,12 +260,12 @@ abbrev pub upto : (ℕ → ℕ) → ℕ → ℕ → ℕ
 upto turns k i = turns i + cond (nat_lt i k) 1 0
 
 pub upto_none : (turns : ℕ → ℕ) (i : ℕ) → turns i ≡ upto turns 0 i
-upto_none turns i = let none = ap (λ (b : Bool). cond b 1 0) (le-ltb i 0 (omega arith)) in omega (arith, none)
+upto_none turns i = let none = ap {B = ℕ} (λ (b : Bool). cond b 1 0) (le-ltb i 0 (omega arith)) in omega (arith, none)
 
 pub upto_here : (turns : ℕ → ℕ) (k : ℕ) → upto turns (k + 1) k ≡ upto turns k k + 1
 upto_here turns k =
-    let one = ap (λ (b : Bool). cond b 1 0) (lt-ltb k (k + 1) (omega arith)) in
-    let none = ap (λ (b : Bool). cond b 1 0) (le-ltb k k (omega arith)) in
+    let one = ap {B = ℕ} (λ (b : Bool). cond b 1 0) (lt-ltb k (k + 1) (omega arith)) in
+    let none = ap {B = ℕ} (λ (b : Bool). cond b 1 0) (le-ltb k k (omega arith)) in
     omega (arith, one, none)
 
 pub upto_other : (turns : ℕ → ℕ) (k i : ℕ) → (i ≡ k → ⊥) → upto turns (k + 1) i ≡ upto turns k i

@@ -97,9 +97,11 @@ module _ (m : Setup) (numbers : List ℕ) (st : State) (board : Board) (before n
       let place = filled_there (plan m).links (plan m).placement v station h mine in
       let served = works_then.agrees.fills place.0 station place.1 in
       (served.0, served.1, served.2.passed ∙ sym (in_here (plan m) st v new v place.0 station (fills_by (plan m) v place.0 station place.1))))
-      (λ not_mine.
-      (f, others (fill station) (not_own not_mine) ∙ at,
-      passed ∙ ap (λ (q : Progress). start_of (plan m) station + put_by (plan m) (filler_of (plan m) station) q (place_in (outs_of (plan m) (filler_of (plan m) station)) station)) (sym (turn_else (plan m) st v (filler_of (plan m) station) not_mine))))
+      (λ not_mine. (
+        f,
+        others (fill station) (not_own not_mine) ∙ at,
+        passed ∙ ap (λ (q : Progress). start_of (plan m) station + put_by (plan m) (filler_of (plan m) station) q (place_in (outs_of (plan m) (filler_of (plan m) station)) station)) (sym (turn_else (plan m) st v (filler_of (plan m) station) not_mine)),
+      ))
     where
       not_own : (filler_of (plan m) station ≡ v → ⊥) → IsEndOf a (fill station) → ⊥
       not_own not_mine (s, j, inl own) = omega (arith, own.1)
@@ -115,9 +117,11 @@ module _ (m : Setup) (numbers : List ℕ) (st : State) (board : Board) (before n
       let place = drained_there (plan m).links (plan m).placement v station h mine in
       let served = works_then.agrees.drains place.0 station place.1 in
       (served.0, served.1, served.2.passed ∙ sym (out_here (plan m) st v new v place.0 station (drains_by (plan m) v place.0 station place.1))))
-      (λ not_mine.
-      (f, others (drain station) (not_own not_mine) ∙ at,
-      passed ∙ ap (λ (q : Progress). taken_by (plan m) (drainer_of (plan m) station) q (place_in (ins_of (plan m) (drainer_of (plan m) station)) station)) (sym (turn_else (plan m) st v (drainer_of (plan m) station) not_mine))))
+      (λ not_mine. (
+        f,
+        others (drain station) (not_own not_mine) ∙ at,
+        passed ∙ ap (λ (q : Progress). taken_by (plan m) (drainer_of (plan m) station) q (place_in (ins_of (plan m) (drainer_of (plan m) station)) station)) (sym (turn_else (plan m) st v (drainer_of (plan m) station) not_mine)),
+      ))
     where
       not_own : (drainer_of (plan m) station ≡ v → ⊥) → IsEndOf a (drain station) → ⊥
       not_own not_mine (s, j, inr own) = omega (arith, own.1)

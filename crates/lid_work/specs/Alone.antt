@@ -1,5 +1,5 @@
 -- A worker that shares no station with another: what it does is what the interleaving machine does.
-use Rattle.std.specs.Prelude.{◌≡◌, ℕ, zero, suc, ◌×◌, List, [], ◌∷◌, length, Some, slice_get}
+use Rattle.std.specs.Prelude.{◌≡◌, ℕ, zero, suc, List, [], ◌∷◌, length, Some, slice_get}
 use Rattle.lid_base.specs.declared.runs.Tally.{Tally}
 use Rattle.lid_station.specs.Boards.{Ends}
 use Rattle.lid_board.specs.Owners.{plan_of}

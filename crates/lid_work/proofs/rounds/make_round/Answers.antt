@@ -1,0 +1,49 @@
+use Rattle.std.proofs.Common.{◌≡◌, ◌+◌, ◌<◌, length, get_or, arith}
+use Rattle.std.specs.Prelude.{Some, slice_get}
+use Rattle.std.proofs.lemmas.Option.{slice_get-get_or}
+use Rattle.lid_work.specs.Posts.{known}
+use Rattle.lid_work.specs.Rounds.{Made}
+use Rattle.lid_work.proofs.Rounding.{upto}
+use Rattle.lid_work.proofs.Circling.{none_partway, entry_made, still_at_work, one_further, whole_round}
+use Rattle.lid_work.proofs.rounds.make_round.Goals as goal
+
+pub loop-at-init : goal.loop-at-init
+loop-at-init c = record { of = c.requires.of; partway = none_partway c.args.board.now (known c.args.hand.now) c.args.actors.now c.args.tally.now }
+
+entry : (c : goal.After-make_turn-arg-in-loop-at-1) → Made c.args.board.now (upto (λ _. 0) c.loop-at.at) (0 + c.loop-at.at) (known c.args.hand.now) c.args.actors.now c.args.tally.now (known c.loop-at.hand) c.loop-at.actors c.loop-at.tally
+entry c = entry_made c.args.board.now c.loop-at.at (known c.args.hand.now) c.args.actors.now c.args.tally.now (known c.loop-at.hand) c.loop-at.actors c.loop-at.tally c.requires.adds_up c.loop-at.invariant.partway
+
+pub make_turn-requires-clause-at_work : goal.make_turn-requires-clause-at_work
+make_turn-requires-clause-at_work c =
+    let within = c.loop-at-test.true in
+    let long = c.loop-at.auto.actors in
+    still_at_work c.args.board.now (upto (λ _. 0) c.loop-at.at) (0 + c.loop-at.at) (known c.args.hand.now) c.args.actors.now c.args.tally.now (known c.loop-at.hand) c.loop-at.actors c.loop-at.tally (entry c) c.requires.at_work
+    c.loop-at.at (get_or c.loop-at.actors c.loop-at.at c.index-actors-at.result) (slice_get-get_or c.loop-at.actors c.loop-at.at c.index-actors-at.result (omega arith))
+
+pub make_turn-requires-clause-adds_up : goal.make_turn-requires-clause-adds_up
+make_turn-requires-clause-adds_up c = (entry c).adds_up
+
+pub make_turn-requires-clause-room : goal.make_turn-requires-clause-room
+make_turn-requires-clause-room c =
+    let within = c.loop-at-test.true in
+    let turns = (entry c).turns_are in
+    let room = c.requires.room in
+    omega arith
+
+pub loop-at-preserved : goal.loop-at-preserved
+loop-at-preserved c =
+    let within = c.loop-at-test.true in
+    let long = c.loop-at.auto.actors in
+    record {
+      of = c.make_turn.ensures.of;
+      partway =
+          one_further c.args.board.now c.loop-at.at (known c.args.hand.now) c.args.actors.now c.args.tally.now (known c.loop-at.hand) c.loop-at.actors c.loop-at.tally (known c.make_turn.new.hand) c.make_turn.new.tally
+          (get_or c.loop-at.actors c.loop-at.at c.index-actors-at.result) c.make_turn.new.actor c.requires.adds_up c.requires.apart c.loop-at.invariant.partway
+          (slice_get-get_or c.loop-at.actors c.loop-at.at c.index-actors-at.result (omega arith)) c.make_turn.ensures.turn;
+    }
+
+pub returns-clause-round : goal.returns-clause-round
+returns-clause-round c =
+    let past = c.loop-at-test.false in
+    let high = c.loop-at.auto.at-end in
+    whole_round c.args.board.now c.loop-at.at (known c.args.hand.now) c.args.actors.now c.args.tally.now (known c.loop-at.hand) c.loop-at.actors c.loop-at.tally c.requires.adds_up c.loop-at.invariant.partway (omega arith)
