@@ -1,0 +1,34 @@
+//! The streams of a run.
+
+ghost use Rattle.std.specs.Prelude.{◌≤◌, length};
+ghost use Rattle.std.specs.List.{AllByRecursion};
+ghost use Rattle.lid_system.specs.Systems.{IsWellFormed};
+ghost use Rattle.lid_stations.specs.Placements.{Fits};
+ghost use Rattle.lid_machine.specs.Setups.{IsInputRow};
+ghost use Rattle.lid_free.specs.Courses.{streams_of};
+
+use lid_board::Course;
+use lid_stations::Placement;
+use lid_system::System;
+use lid_texts::Rows;
+
+/// The course of a run: its streams are the strict streams of its stations, in order.
+///
+/// The system is well formed and the placement fits it. There are at most 1,000,000 rows, each as wide as the source.
+#[derive(Drop)]
+pub struct StrictCourse<'r> {
+    /// The system.
+    pub system: &'r System,
+    /// Its stations.
+    pub placement: &'r Placement,
+    /// The input rows.
+    pub rows: &'r Rows,
+    ghost formed: { IsWellFormed system.now },
+    ghost fits: { Fits system.now placement.now },
+    ghost few: { length rows.now.bits ≤ 1000000 },
+    ghost wide: { AllByRecursion (IsInputRow system.now) rows.now.bits },
+}
+
+impl Course for StrictCourse<'_> {
+    ghost streams = { λ c. streams_of c.system.now c.formed c.placement.now c.rows.now.bits };
+}

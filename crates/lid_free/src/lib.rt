@@ -1,0 +1,14 @@
+//! Free runs: actors dealt to workers, which step a shared board in threads of their own.
+#![tactic(auto)]
+
+mod course;
+mod dealing;
+mod finishing;
+mod gathering;
+mod hiring;
+mod run;
+mod setting;
+
+pub use course::StrictCourse;
+pub use lid_work::{Worker, work};
+pub use run::{FreeEnd, free_run};
