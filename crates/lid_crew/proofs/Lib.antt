@@ -1,0 +1,4 @@
+pub mod Choosing
+pub mod Lists
+pub mod Picking
+pub mod Joining
