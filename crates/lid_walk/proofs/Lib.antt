@@ -5,3 +5,4 @@ pub mod Turning
 pub mod Sweeping
 pub mod Numbers
 pub mod Prefixing
+pub mod Started

@@ -19,7 +19,8 @@ use Rattle.lid_shell.specs.Boards.{Agrees, ServesAll}
 use Rattle.lid_shell.specs.Actors.{IsActor}
 use Rattle.lid_shell.specs.Steps.{Works, Steps, IsExact, found_in, IsOwn, Moves}
 use Rattle.lid_walk.specs.declared.walk.Walk.{Walk}
-use Rattle.lid_walk.specs.Walks.{AreActors, IsBoard, Walks, HasActor}
+use Rattle.lid_actors.specs.Actors.{AreActors}
+use Rattle.lid_walk.specs.Walks.{IsBoard, Walks, HasActor}
 use Rattle.lid_walk.proofs.Elements.{set_here, set_there}
 use Rattle.lid_walk.proofs.Serving.{drains_by, fills_by, serves_all}
 

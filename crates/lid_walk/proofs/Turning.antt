@@ -17,7 +17,8 @@ use Rattle.lid_shell.specs.Actors.{IsActor}
 use Rattle.lid_shell.specs.Steps.{Works, Moves}
 use Rattle.lid_shell.specs.Turns.{fired_at, Turned}
 use Rattle.lid_walk.specs.declared.walk.Walk.{Walk}
-use Rattle.lid_walk.specs.Walks.{AreActors, IsBoard, Walks}
+use Rattle.lid_actors.specs.Actors.{AreActors}
+use Rattle.lid_walk.specs.Walks.{IsBoard, Walks}
 use Rattle.lid_walk.proofs.Elements.{set_here, set_there}
 use Rattle.lid_walk.proofs.Stepping.{works, as_many, all_agree}
 

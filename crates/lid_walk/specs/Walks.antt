@@ -1,5 +1,5 @@
 -- Walks: all actors of a setup over one board, in a state of the interleaving machine.
-use Rattle.std.specs.Prelude.{◌≡◌, ℕ, ◌-◌, ◌<◌, Bool, List, length, Some, slice_get}
+use Rattle.std.specs.Prelude.{◌≡◌, ℕ, ◌-◌, ◌<◌, List, length}
 use Rattle.std.specs.List.{sum_by}
 use Rattle.lid_design.specs.Network.{from_each}
 use Rattle.lid_station.specs.Plain.{plain_ends, PlainStands}
@@ -8,15 +8,9 @@ use Rattle.lid_machine.specs.Plans.{Plan, actors_of, stations_of, stream}
 use Rattle.lid_machine.specs.Setups.{Setup, IsSetup, plan}
 use Rattle.lid_machine.specs.Machine.{State}
 use Rattle.lid_machine.specs.Laws.{IsSound, AllRest}
-use Rattle.lid_shell.specs.declared.actor.Actor.{Actor}
 use Rattle.lid_shell.specs.Boards.{Agrees}
-use Rattle.lid_shell.specs.Actors.{IsActor}
+use Rattle.lid_actors.specs.Actors.{AreActors}
 use Rattle.lid_walk.specs.declared.walk.Walk.{Walk}
-
--- these are all actors of a setup, as far as a state says
-pub record AreActors (m : Setup) (st : State) (actors : List Actor) : Type 0 where
-  pub many : length actors ≡ actors_of (plan m)
-  pub each : (v : ℕ) (a : Actor) → slice_get actors v ≡ Some a → IsActor m v (st v) a
 
 -- a board has all stations of a setup, agrees with each actor, and holds tokens of the streams
 pub record IsBoard (m : Setup) (st : State) (pairs : List Pair) : Type 0 where

@@ -2,6 +2,7 @@
 #![tactic(auto)]
 
 mod laws;
+mod starting;
 mod walk;
 
 pub use laws::stations_hold_prefixes;

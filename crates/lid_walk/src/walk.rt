@@ -1,18 +1,27 @@
 //! Walks.
 
-ghost use Rattle.std.specs.Prelude.{◌≡◌, ◌↔◌, ◌≤◌, ◌+◌, ℕ, true};
-ghost use Rattle.std.specs.List.{All};
+ghost use Rattle.std.specs.Prelude.{◌≡◌, ◌↔◌, ◌≤◌, ◌+◌, ℕ, true, length, IfOk};
+ghost use Rattle.std.specs.List.{All, AllByRecursion};
+ghost use Rattle.lid_system.specs.Systems.{IsWellFormed};
+ghost use Rattle.lid_stations.specs.Placements.{Fits};
 ghost use Rattle.lid_machine.specs.Plans.{actors_of, sink};
-ghost use Rattle.lid_machine.specs.Setups.{Setup, IsSetup, plan, output_rows};
-ghost use Rattle.lid_machine.specs.Machine.{State, answer_of, next, turn, sweep};
+ghost use Rattle.lid_machine.specs.Setups.{Setup, IsSetup, IsInputRow, plan, output_rows};
+ghost use Rattle.lid_machine.specs.Machine.{State, begun, answer_of, next, turn, sweep};
 ghost use Rattle.lid_machine.specs.Laws.{IsSound, AllRest, IsSettled};
 ghost use Rattle.lid_shell.specs.Parts.{AreColumns};
-ghost use Rattle.lid_walk.specs.Walks.{AreActors, IsBoard, Walks, IsWalk, HasActor, HasActorAtRest, IsAtRest, firings_between};
+ghost use Rattle.lid_actors.specs.Setups.{IsSetupOf};
+ghost use Rattle.lid_actors.specs.Actors.{AreActors};
+ghost use Rattle.lid_walk.specs.Walks.{IsBoard, Walks, IsWalk, HasActor, HasActorAtRest, IsAtRest, firings_between};
 
+use crate::starting::board_of;
+use lid_actors::all_actors;
 use lid_base::{Answer, Items};
 use lid_shell::{Actor, TurnEnd};
 use lid_station::PlainBoard;
+use lid_stations::Placement;
+use lid_system::{System, systems_have_one_table};
 use lid_texts::Rows;
+use std::alloc::{AllocError, Global};
 
 /// All actors of a system over one board. Actors make steps one at a time, in whatever order.
 #[derive(Drop)]
@@ -30,6 +39,29 @@ fn are_done(actors: &[Actor]) -> bool
 }
 
 impl<'r> Walk<'r> {
+    /// Starts a run of a system with its stations over input rows: at most 1,000,000, each as wide as the source. No
+    /// actor has begun, and each station that a node fills holds the token of the first row, where there is one.
+    ///
+    /// # Errors
+    /// Memory is wanting.
+    pub fn start(
+        alloc: Global,
+        system: &System,
+        placement: &Placement,
+        rows: &'r Rows,
+    ) -> Result<Walk<'r>, AllocError>
+        requires system { IsWellFormed system.now }
+        requires fits { Fits system.now placement.now }
+        requires few { length rows.now.bits ≤ 1000000 }
+        requires wide { AllByRecursion (IsInputRow system.now) rows.now.bits }
+        ensures { IfOk result (λ w. (m : Setup) → IsSetupOf m system.now placement.now rows.now.bits → Walks m begun w) }
+    {
+        systems_have_one_table();
+        let board = board_of(alloc, system, placement, rows)?;
+        let actors = all_actors(alloc, system, placement, rows)?;
+        Ok(Walk::adopt(board, actors))
+    }
+
     /// Goes on from a board and the actors of one system over its rows, in the order of their numbers, which agree with
     /// the board.
     pub fn adopt(board: PlainBoard, actors: Vec<Actor<'r>>) -> Walk<'r>

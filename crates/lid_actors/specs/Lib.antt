@@ -1,0 +1,4 @@
+pub mod Setups
+pub mod Firsts
+pub mod Actors
+pub mod Inside

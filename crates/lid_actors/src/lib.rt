@@ -1,0 +1,13 @@
+//! All actors of a system, and the tokens with which its stations start.
+#![tactic(auto)]
+
+mod actors;
+mod ends;
+mod firsts;
+mod movers;
+mod nodes;
+mod rules;
+mod tokens;
+
+pub use actors::all_actors;
+pub use firsts::first_tokens;

@@ -1,0 +1,15 @@
+//! The laws that actors rest on.
+
+ghost use Rattle.lid_actors.specs.Inside.{ActorsGoByRules};
+
+use lid_runs::{movers_move_tokens_on, nodes_pass_the_tokens_of_channels};
+use lid_stations::stations_stand_between_actors;
+
+/// What is known of the stations of actors. This does nothing; its contract is what laws say, in one.
+pub(crate) fn actors_go_by_rules()
+    ensures { ActorsGoByRules }
+{
+    stations_stand_between_actors();
+    nodes_pass_the_tokens_of_channels();
+    movers_move_tokens_on();
+}
