@@ -1,7 +1,7 @@
 //! The streams of a run.
 
 ghost use Rattle.std.specs.Prelude.{◌≤◌, length};
-ghost use Rattle.std.specs.List.{AllByRecursion};
+ghost use Rattle.std.specs.List.{All};
 ghost use Rattle.lid_system.specs.Systems.{IsWellFormed};
 ghost use Rattle.lid_stations.specs.Placements.{Fits};
 ghost use Rattle.lid_machine.specs.Setups.{IsInputRow};
@@ -23,12 +23,12 @@ pub struct StrictCourse<'r> {
     pub placement: &'r Placement,
     /// The input rows.
     pub rows: &'r Rows,
-    ghost formed: { IsWellFormed system.now },
+    ghost formed: { ∥ IsWellFormed system.now ∥₁ },
     ghost fits: { Fits system.now placement.now },
     ghost few: { length rows.now.bits ≤ 1000000 },
-    ghost wide: { AllByRecursion (IsInputRow system.now) rows.now.bits },
+    ghost wide: { All (IsInputRow system.now) rows.now.bits },
 }
 
 impl Course for StrictCourse<'_> {
-    ghost streams = { λ c. streams_of c.system.now c.formed c.placement.now c.rows.now.bits };
+    ghost streams = { λ c. streams_of c.system.now c.placement.now c.rows.now.bits c.fits c.formed };
 }

@@ -2,13 +2,10 @@
 #![tactic(auto)]
 
 mod course;
-mod dealing;
-mod finishing;
-mod gathering;
-mod hiring;
+mod rules;
 mod run;
 mod setting;
 
 pub use course::StrictCourse;
 pub use lid_work::{Worker, work};
-pub use run::{FreeEnd, free_run};
+pub use run::FreeEnd;

@@ -1,21 +1,28 @@
 //! What a free run is set out with: all that takes memory.
 
+ghost use Rattle.std.specs.Prelude.{◌≡◌, ◌<◌, ◌≤◌, ◌*◌, length, IfOk, slice_index_or};
+ghost use Rattle.std.specs.List.{AllByRecursion};
+ghost use Rattle.lid_graph.specs.Walks.{no_edge};
+ghost use Rattle.lid_system.specs.Systems.{IsWellFormed};
+ghost use Rattle.lid_stations.specs.Placements.{Fits};
+ghost use Rattle.lid_machine.specs.Setups.{Setup, IsInputRow};
+ghost use Rattle.lid_actors.specs.Setups.{IsSetupOf};
+ghost use Rattle.lid_free.specs.Settings.{AreBoards, AreOwners};
+
 use crate::course::StrictCourse;
-use crate::dealing::deal;
-use crate::hiring::hire;
+use crate::rules::runs_go_by_rules;
 use lid_actors::{all_actors, first_tokens};
 use lid_base::Tally;
 use lid_board::{Board, Hand};
-use lid_graph::Graph;
+use lid_graph::Edge;
 use lid_shell::Actor;
 use lid_station::PlainBoard;
 use lid_stations::{Placement, marking};
 use lid_system::System;
 use lid_texts::Rows;
-use lid_work::Worker;
 use std::alloc::{AllocError, Global};
 
-/// The shared board with the hand that has all its ends, and the plain board that it ends as.
+/// The shared board with the hand that keeps its ends, and the plain board that it ends as.
 #[derive(Drop)]
 pub(crate) struct Boards {
     pub(crate) board: Board,
@@ -29,7 +36,14 @@ fn start_boards(
     system: &System,
     placement: &Placement,
     rows: &Rows,
-) -> Result<Boards, AllocError> {
+) -> Result<Boards, AllocError>
+    requires system { IsWellFormed system.now }
+    requires fits { Fits system.now placement.now }
+    requires few { length rows.now.bits ≤ 1000000 }
+    requires wide { AllByRecursion (IsInputRow system.now) rows.now.bits }
+    ensures { IfOk result (λ boards. (m : Setup) → IsSetupOf m system.now placement.now rows.now.bits → AreBoards m boards) }
+{
+    runs_go_by_rules();
     let firsts = first_tokens(alloc, system, placement, rows)?;
     let course = StrictCourse {
         system,
@@ -44,6 +58,35 @@ fn start_boards(
         keeper,
         plain,
     })
+}
+
+/// The transition at which an edge begins; 0 past the last edge.
+fn from_at(edges: &[Edge], number: usize) -> u32
+    ensures { result ≡ (slice_index_or edges.now number no_edge).from }
+{
+    match edges.get(number) {
+        Some(edge) => edge.from,
+        None => 0,
+    }
+}
+
+/// The actor that owns each end of a station: the one that fills it, and the one that drains it.
+fn owners_of(
+    alloc: Global,
+    system: &System,
+    placement: &Placement,
+) -> Result<Vec<u32>, AllocError>
+    requires system { IsWellFormed system.now }
+    requires fits { Fits system.now placement.now }
+    ensures { IfOk result (λ owners. AreOwners system.now placement.now (2 * length placement.now.caps) owners.items) }
+{
+    runs_go_by_rules();
+    let graph = marking(alloc, system, placement)?;
+    let mut owners = Vec::new(alloc);
+    for end in 0..2 * placement.caps.len() {
+        owners.push(from_at(graph.edges.as_slice(), end))?;
+    }
+    Ok(owners)
 }
 
 /// Room for what a run leaves.

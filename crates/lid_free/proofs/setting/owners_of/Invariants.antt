@@ -1,0 +1,5 @@
+use Rattle.lid_free.specs.Settings.{AreOwners}
+use Rattle.lid_free.proofs.setting.owners_of.Given as goal
+
+abbrev pub invariant-loop-end : goal.invariant-loop-end
+invariant-loop-end l = AreOwners l.system l.placement l.end l.owners.items

@@ -1,0 +1,81 @@
+-- How a free run ends.
+use Rattle.std.specs.Prelude.{◌≡◌, ℕ, ◌+◌, ◌*◌, ◌<◌, ◌≤◌, ◌==◌, cond, List, [], ◌∷◌, length, get_or, Some, slice_get}
+use Rattle.std.specs.List.{All, sum_by}
+use Rattle.lid_design.specs.Network.{from_each}
+use Rattle.lid_base.specs.declared.runs.Tally.{Tally}
+use Rattle.lid_graph.specs.Firings.{no_hold}
+use Rattle.lid_stations.specs.Stations.{start_count}
+use Rattle.lid_runs.specs.Runs.{fired_in}
+use Rattle.lid_machine.specs.Plans.{Plan, actors_of, stations_of, sink, ins_of, drainer_of, filler_of, cap, start_of, room_of}
+use Rattle.lid_machine.specs.Setups.{Setup, plan, output_rows}
+use Rattle.lid_machine.specs.Machine.{State, begun, out_count}
+use Rattle.lid_machine.specs.Laws.{sweeps}
+use Rattle.lid_shell.specs.Parts.{AreColumns}
+use Rattle.lid_work.specs.Posts.{no_turns}
+use Rattle.lid_work.specs.Tallies.{AddsUp, sum_below}
+use Rattle.lid_work.specs.Alone.{run_from, rounds_of}
+use Rattle.lid_crew.specs.Shares.{numbers_of}
+use Rattle.lid_free.specs.declared.run.FreeEnd.{FreeEnd}
+
+-- the rounds that are made: without rows none is
+abbrev pub rounds_made : Setup → ℕ → ℕ
+rounds_made m rounds = cond (length m.input == 0) 0 rounds
+
+-- the tally of worker i, by how often each actor fired in the parallel phase: the turns of its actors, of which as
+-- many fired as these did, and not more ended at the cap than those at their caps may have made
+pub record IsShareTally (m : Setup) (workers rounds : ℕ) (fired : List ℕ) (i : ℕ) (t : Tally) : Type 0 where
+  pub turns_are : t.turns ≡ rounds_made m rounds * length (numbers_of workers i (actors_of (plan m)))
+  pub fired_are : t.fired ≡ sum_by (λ v. get_or fired v 0) (numbers_of workers i (actors_of (plan m)))
+  pub adds_up : AddsUp t
+  pub dones_most : t.dones ≤ rounds_made m rounds * sum_by (λ v. cond (get_or fired v 0 == cap (plan m) v) 1 0) (numbers_of workers i (actors_of (plan m)))
+
+-- how often actors fired, and how many tokens were taken from stations, in the parallel phase: no actor fired beyond
+-- its cap, each station was left by as many tokens as its drainer fired, and it holds 0 to its capacity
+pub record FitStations (m : Setup) (fired passed : List ℕ) : Type 0 where
+  pub capped : (v : ℕ) → v < actors_of (plan m) → get_or fired v 0 ≤ cap (plan m) v
+  pub drained : (station : ℕ) → station < stations_of (plan m) → get_or passed station 0 ≡ get_or fired (drainer_of (plan m) station) 0
+  pub some : (station : ℕ) → station < stations_of (plan m) → get_or passed station 0 ≤ start_of (plan m) station + get_or fired (filler_of (plan m) station) 0
+  pub few : (station : ℕ) → station < stations_of (plan m) → start_of (plan m) station + get_or fired (filler_of (plan m) station) 0 ≤ get_or passed station 0 + room_of (plan m) station
+
+-- an actor that may fire and drains home stations only, or none, fired: nothing can stop its first turn
+abbrev pub FirstTurnsFire : Setup → List ℕ → Type 0
+FirstTurnsFire m fired =
+    (v : ℕ)
+    → v < actors_of (plan m) → 0 < cap (plan m) v
+    → ((i station : ℕ) → slice_get (ins_of (plan m) v) i ≡ Some station → start_count m.placement station ≡ 1)
+    → 0 < get_or fired v 0
+
+-- one worker alone makes sweeps of the interleaving machine
+pub record AreSweeps (m : Setup) (rounds : ℕ) (tallies : List Tally) (fired passed : List ℕ) : Type 0 where
+  pub tally : tallies ≡ (rounds_of (plan m) (from_each (λ v. v) 0 (actors_of (plan m))) (rounds_made m rounds) (run_from begun)).tally ∷ []
+  pub fired_are : (v : ℕ) → v < actors_of (plan m) → get_or fired v 0 ≡ (sweeps (plan m) begun (rounds_made m rounds) v).fired
+  pub passed_are : (station : ℕ) → station < stations_of (plan m) → get_or passed station 0 ≡ out_count (plan m) (sweeps (plan m) begun (rounds_made m rounds)) station
+
+-- the sweeps that follow bring all actors to their caps; they are no more than a clocked run needs cycles for that,
+-- and each has a firing
+pub record Finishes (m : Setup) (tallies : List Tally) (finish finish_fired : ℕ) : Type 0 where
+  pub all_fired : sum_by (λ t. t.fired) tallies + finish_fired ≡ sum_below (cap (plan m)) (actors_of (plan m))
+  pub settles : (k : ℕ) → ((v : ℕ) → v < actors_of (plan m) → fired_in (plan m).links (plan m).placement (plan m).rows no_hold k v ≡ cap (plan m) v) → finish ≤ k
+  pub fires : finish ≤ finish_fired
+
+-- nothing was done
+pub record IsNothing (e : FreeEnd) : Type 0 where
+  pub tallies_none : All (λ t. t ≡ no_turns) e.tallies
+  pub fired_none : All (λ n. n ≡ 0) e.fired
+  pub passed_none : All (λ n. n ≡ 0) e.passed
+  pub finish_none : e.finish ≡ 0
+  pub finish_fired_none : e.finish_fired ≡ 0
+
+-- the strict output rows, and what workers and sweeps did
+pub record IsFreeEnd (m : Setup) (workers rounds : ℕ) (e : FreeEnd) : Type 0 where
+  pub columns : AreColumns m (sink (plan m)) e.rows.columns
+  pub rows : e.rows.bits ≡ output_rows m (length m.input)
+  pub tallies_many : length e.tallies ≡ workers
+  pub fired_many : length e.fired ≡ actors_of (plan m)
+  pub passed_many : length e.passed ≡ stations_of (plan m)
+  pub tallies_are : (i : ℕ) (t : Tally) → slice_get e.tallies i ≡ Some t → IsShareTally m workers rounds e.fired i t
+  pub fit : FitStations m e.fired e.passed
+  pub first : 0 < rounds_made m rounds → FirstTurnsFire m e.fired
+  pub alone : workers ≡ 1 → AreSweeps m rounds e.tallies e.fired e.passed
+  pub finishes : Finishes m e.tallies e.finish e.finish_fired
+  pub nothing : length m.input ≡ 0 → IsNothing e

@@ -1,0 +1,4 @@
+pub mod Courses
+pub mod Rules
+pub mod Settings
+pub mod FreeRuns
