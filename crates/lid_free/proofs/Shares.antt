@@ -106,6 +106,21 @@ one_share g workers n i = by_own (n % workers == i) refl
     by_own false is =
         let same = ap (sum_by g) (numbers_other workers i n (λ e. let t = sym is ∙ eq-eqb (n % workers) i e in absurd (cc))) in omega (arith, same)
 
+-- one of several is all
+only : (x m h : ℕ) → h < m → sum_below (λ i. cond (h == i) x 0) m ≡ x
+only x zero h low = absurd (omega (arith, low))
+only x (suc m) h low = by_last (h == m) refl (λ lower. only x m h lower)
+  where
+    by_last : (b : Bool) → (h == m) ≡ b → (h < m → sum_below (λ i. cond (h == i) x 0) m ≡ x) → sum_below (λ i. cond (h == i) x 0) m + cond b x 0 ≡ x
+    by_last true is later =
+        let same = eqb-true h m is in
+        let none = below_none (λ i. cond (h == i) x 0) m (λ i lower. ap (λ (c : Bool). cond c x 0) (ne_eqb h i (λ e. omega (arith, e, lower, same)))) in
+        omega (arith, none)
+    by_last false is later =
+        let other : (h ≡ m → ⊥) = (λ e. let t = sym is ∙ eq-eqb h m e in absurd (cc)) in
+        let lower = later (omega (arith, low, other)) in
+        omega (arith, lower)
+
 pub whole_sum : (g : ℕ → ℕ) (workers n : ℕ) → 0 < workers → sum_below (λ i. sum_by g (numbers_of workers i n)) workers ≡ sum_below g n
 whole_sum g workers zero some = below_none (λ i. 0) workers (λ i low. refl)
 whole_sum g workers (suc n) some =
@@ -113,16 +128,3 @@ whole_sum g workers (suc n) some =
     let before = whole_sum g workers n some in
     let one = only (g n) workers (n % workers) (mod-lt n some) in
     omega (arith, add, before, one)
-  where
-    only : (x m h : ℕ) → h < m → sum_below (λ i. cond (h == i) x 0) m ≡ x
-    only x zero h low = absurd (omega (arith, low))
-    only x (suc m) h low = by_last (h == m) refl
-      where
-        by_last : (b : Bool) → (h == m) ≡ b → sum_below (λ i. cond (h == i) x 0) m + cond b x 0 ≡ x
-        by_last true is =
-            let same = eqb-true h m is in
-            let none = below_none (λ i. cond (h == i) x 0) m (λ i lower. ap (λ (c : Bool). cond c x 0) (ne_eqb h i (λ e. omega (arith, e, lower, same)))) in
-            omega (arith, none)
-        by_last false is =
-            let later = only x m h (let other : (h ≡ m → ⊥) = (λ e. let t = sym is ∙ eq-eqb h m e in absurd (cc)) in omega (arith, low, other)) in
-            omega (arith, later)

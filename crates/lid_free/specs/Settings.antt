@@ -24,6 +24,8 @@ use Rattle.lid_crew.specs.Shares.{share}
 use Rattle.lid_crew.specs.Crews.{HasShare, HasNone}
 use Rattle.lid_free.specs.declared.setting.Boards.{Boards}
 use Rattle.lid_free.specs.declared.setting.Room.{Room}
+use Rattle.lid_free.specs.declared.setting.Crew.{Crew}
+use Rattle.lid_free.specs.declared.setting.Setting.{Setting}
 
 -- what is known at an end of a station that so many tokens have passed, at the start
 pub record IsStart (m : Setup) (station passed : ℕ) (h : Held) : Type 0 where
@@ -80,8 +82,6 @@ pub record IsCrew (m : Setup) (board : Board) (workers : ℕ) (owners : List ℕ
 
 -- room for so many workers, actors and stations
 pub record IsRoom (workers actors stations : ℕ) (r : Room) : Type 0 where
-  pub none : r.actors.items ≡ []
-  pub capacity : actors ≤ vec_capacity r.actors
   pub tallies : length r.tallies.items ≡ workers
   pub fired : length r.fired.items ≡ actors
   pub passed : length r.passed.items ≡ stations
@@ -91,3 +91,18 @@ pub record AreGiven (m : Setup) (b : Boards) : Type 0 where
   pub of : IsOf b.keeper b.board
   pub none : HasNone b.keeper
   pub plain : IsPlain m b.plain.pairs.items
+
+-- the workers of a run
+pub record IsCrewOf (m : Setup) (board : Board) (workers : ℕ) (c : Crew) : Type 0 where
+  pub owners : List ℕ
+  pub dealt : List Actor
+  pub crew : IsCrew m board workers owners dealt c.workers.items
+  pub actors_many : c.actors ≡ actors_of (plan m)
+  pub none : c.back.items ≡ []
+  pub capacity : c.actors ≤ vec_capacity c.back
+
+-- all that a run needs
+pub record IsSetOut (m : Setup) (workers : ℕ) (s : Setting) : Type 0 where
+  pub given : AreGiven m s.boards
+  pub crew : IsCrewOf m s.boards.board workers s.crew
+  pub room : IsRoom workers (actors_of (plan m)) (stations_of (plan m)) s.room

@@ -1,25 +1,27 @@
 //! What a free run is set out with: all that takes memory.
 
-ghost use Rattle.std.specs.Prelude.{◌≡◌, ◌<◌, ◌≤◌, ◌*◌, length, IfOk, slice_index_or};
+ghost use Rattle.std.specs.Prelude.{◌≡◌, ◌<◌, ◌≤◌, ◌*◌, length, IfOk, OnOk, slice_index_or};
 ghost use Rattle.std.specs.List.{AllByRecursion};
 ghost use Rattle.lid_graph.specs.Walks.{no_edge};
 ghost use Rattle.lid_system.specs.Systems.{IsWellFormed};
 ghost use Rattle.lid_stations.specs.Placements.{Fits};
 ghost use Rattle.lid_machine.specs.Setups.{Setup, IsInputRow};
 ghost use Rattle.lid_actors.specs.Setups.{IsSetupOf};
-ghost use Rattle.lid_free.specs.Settings.{AreBoards, AreOwners};
+ghost use Rattle.lid_free.specs.Settings.{AreBoards, AreOwners, AreGiven, IsCrewOf, IsRoom, IsSetOut};
 
 use crate::course::StrictCourse;
 use crate::rules::runs_go_by_rules;
 use lid_actors::{all_actors, first_tokens};
 use lid_base::Tally;
 use lid_board::{Board, Hand};
+use lid_crew::{deal, hire};
 use lid_graph::Edge;
 use lid_shell::Actor;
 use lid_station::PlainBoard;
 use lid_stations::{Placement, marking};
 use lid_system::System;
 use lid_texts::Rows;
+use lid_work::Worker;
 use std::alloc::{AllocError, Global};
 
 /// The shared board with the hand that keeps its ends, and the plain board that it ends as.
@@ -91,13 +93,122 @@ fn owners_of(
 
 /// Room for what a run leaves.
 #[derive(Drop)]
-pub(crate) struct Room<'r> {
-    /// For all actors, in the order of their numbers.
-    pub(crate) actors: Vec<Actor<'r>>,
+pub(crate) struct Room {
     /// A tally for each worker.
     pub(crate) tallies: Vec<Tally>,
     /// A number for each actor.
     pub(crate) fired: Vec<u64>,
     /// A number for each station.
     pub(crate) passed: Vec<u64>,
+}
+
+impl Room {
+    /// Room for so many workers, actors and stations.
+    fn make(
+        alloc: Global,
+        workers: u32,
+        actors: usize,
+        stations: usize,
+    ) -> Result<Room, AllocError>
+        ensures { IfOk result (IsRoom workers actors stations) }
+    {
+        let none = Tally {
+            turns: 0,
+            fired: 0,
+            voids: 0,
+            stops: 0,
+            dones: 0,
+        };
+        let fired = vec![in alloc; 0; actors]?;
+        let passed = vec![in alloc; 0; stations]?;
+        let tallies = vec![in alloc; none; workers as usize]?;
+        Ok(Room {
+            tallies,
+            fired,
+            passed,
+        })
+    }
+}
+
+/// The workers of a run, how many actors they have, and room for these.
+#[derive(Drop)]
+pub(crate) struct Crew<'r> {
+    pub(crate) workers: Vec<Worker<'r>>,
+    pub(crate) actors: usize,
+    pub(crate) back: Vec<Actor<'r>>,
+}
+
+impl Crew<'_> {
+    /// Room for what so many workers leave of its actors and of so many stations.
+    fn room(&self, alloc: Global, workers: u32, stations: usize) -> Result<Room, AllocError>
+        ensures { IfOk result (IsRoom workers self.now.actors stations) }
+    {
+        Room::make(alloc, workers, self.actors, stations)
+    }
+}
+
+/// The workers of a run, each with its share of the ends and of the actors. The keeper has given all ends.
+fn start_crew<'r>(
+    alloc: Global,
+    system: &System,
+    placement: &Placement,
+    rows: &'r Rows,
+    boards: &mut Boards,
+    workers: u32,
+) -> Result<Crew<'r>, AllocError>
+    requires system { IsWellFormed system.now }
+    requires fits { Fits system.now placement.now }
+    requires few { length rows.now.bits ≤ 1000000 }
+    requires wide { AllByRecursion (IsInputRow system.now) rows.now.bits }
+    requires some { 0 < workers }
+    requires boards { (m : Setup) → IsSetupOf m system.now placement.now rows.now.bits → AreBoards m boards.old }
+    ensures given { OnOk result ((m : Setup) → IsSetupOf m system.now placement.now rows.now.bits → AreGiven m boards.new) }
+    ensures crew { IfOk result (λ crew. (m : Setup) → IsSetupOf m system.now placement.now rows.now.bits → IsCrewOf m boards.new.board workers crew) }
+{
+    runs_go_by_rules();
+    let owners = owners_of(alloc, system, placement)?;
+    let mut hired = hire(
+        alloc,
+        &boards.board,
+        &mut boards.keeper,
+        owners.as_slice(),
+        workers,
+    )?;
+    let dealt = all_actors(alloc, system, placement, rows)?;
+    let actors = dealt.len();
+    deal(dealt, hired.as_mut_slice())?;
+    Ok(Crew {
+        workers: hired,
+        actors,
+        back: Vec::with_capacity(alloc, actors)?,
+    })
+}
+
+/// What a run is set out with.
+#[derive(Drop)]
+pub(crate) struct Setting<'r> {
+    pub(crate) boards: Boards,
+    pub(crate) crew: Crew<'r>,
+    pub(crate) room: Room,
+}
+
+/// Sets a run out: takes all memory that it needs.
+pub(crate) fn set_out<'r>(
+    alloc: Global,
+    system: &System,
+    placement: &Placement,
+    rows: &'r Rows,
+    workers: u32,
+) -> Result<Setting<'r>, AllocError>
+    requires system { IsWellFormed system.now }
+    requires fits { Fits system.now placement.now }
+    requires few { length rows.now.bits ≤ 1000000 }
+    requires wide { AllByRecursion (IsInputRow system.now) rows.now.bits }
+    requires some { 0 < workers }
+    ensures { IfOk result (λ setting. (m : Setup) → IsSetupOf m system.now placement.now rows.now.bits → IsSetOut m workers setting) }
+{
+    let mut boards = start_boards(alloc, system, placement, rows)?;
+    let crew = start_crew(alloc, system, placement, rows, &mut boards, workers)?;
+    let room = crew.room(alloc, workers, placement.caps.len())?;
+    Ok(Setting { boards, crew, room })
 }
