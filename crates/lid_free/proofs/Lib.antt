@@ -3,3 +3,6 @@ pub mod Owning
 pub mod Shares
 pub mod Ready
 pub mod Crewing
+pub mod Parallel
+pub mod Resting
+pub mod Closing

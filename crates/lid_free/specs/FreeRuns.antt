@@ -23,11 +23,11 @@ rounds_made m rounds = cond (length m.input == 0) 0 rounds
 
 -- the tally of worker i, by how often each actor fired in the parallel phase: the turns of its actors, of which as
 -- many fired as these did, and not more ended at the cap than those at their caps may have made
-pub record IsShareTally (m : Setup) (workers rounds : ℕ) (fired : List ℕ) (i : ℕ) (t : Tally) : Type 0 where
-  pub turns_are : t.turns ≡ rounds_made m rounds * length (numbers_of workers i (actors_of (plan m)))
+pub record IsShareTally (m : Setup) (workers made : ℕ) (fired : List ℕ) (i : ℕ) (t : Tally) : Type 0 where
+  pub turns_are : t.turns ≡ made * length (numbers_of workers i (actors_of (plan m)))
   pub fired_are : t.fired ≡ sum_by (λ v. get_or fired v 0) (numbers_of workers i (actors_of (plan m)))
   pub adds_up : AddsUp t
-  pub dones_most : t.dones ≤ rounds_made m rounds * sum_by (λ v. cond (get_or fired v 0 == cap (plan m) v) 1 0) (numbers_of workers i (actors_of (plan m)))
+  pub dones_most : t.dones ≤ made * sum_by (λ v. cond (get_or fired v 0 == cap (plan m) v) 1 0) (numbers_of workers i (actors_of (plan m)))
 
 -- how often actors fired, and how many tokens were taken from stations, in the parallel phase: no actor fired beyond
 -- its cap, each station was left by as many tokens as its drainer fired, and it holds 0 to its capacity
@@ -46,10 +46,10 @@ FirstTurnsFire m fired =
     → 0 < get_or fired v 0
 
 -- one worker alone makes sweeps of the interleaving machine
-pub record AreSweeps (m : Setup) (rounds : ℕ) (tallies : List Tally) (fired passed : List ℕ) : Type 0 where
-  pub tally : tallies ≡ (rounds_of (plan m) (from_each (λ v. v) 0 (actors_of (plan m))) (rounds_made m rounds) (run_from begun)).tally ∷ []
-  pub fired_are : (v : ℕ) → v < actors_of (plan m) → get_or fired v 0 ≡ (sweeps (plan m) begun (rounds_made m rounds) v).fired
-  pub passed_are : (station : ℕ) → station < stations_of (plan m) → get_or passed station 0 ≡ out_count (plan m) (sweeps (plan m) begun (rounds_made m rounds)) station
+pub record AreSweeps (m : Setup) (made : ℕ) (tallies : List Tally) (fired passed : List ℕ) : Type 0 where
+  pub tally : tallies ≡ (rounds_of (plan m) (from_each (λ v. v) 0 (actors_of (plan m))) made (run_from begun)).tally ∷ []
+  pub fired_are : (v : ℕ) → v < actors_of (plan m) → get_or fired v 0 ≡ (sweeps (plan m) begun made v).fired
+  pub passed_are : (station : ℕ) → station < stations_of (plan m) → get_or passed station 0 ≡ out_count (plan m) (sweeps (plan m) begun made) station
 
 -- the sweeps that follow bring all actors to their caps; they are no more than a clocked run needs cycles for that,
 -- and each has a firing
@@ -73,9 +73,9 @@ pub record IsFreeEnd (m : Setup) (workers rounds : ℕ) (e : FreeEnd) : Type 0 w
   pub tallies_many : length e.tallies ≡ workers
   pub fired_many : length e.fired ≡ actors_of (plan m)
   pub passed_many : length e.passed ≡ stations_of (plan m)
-  pub tallies_are : (i : ℕ) (t : Tally) → slice_get e.tallies i ≡ Some t → IsShareTally m workers rounds e.fired i t
+  pub tallies_are : (i : ℕ) (t : Tally) → slice_get e.tallies i ≡ Some t → IsShareTally m workers (rounds_made m rounds) e.fired i t
   pub fit : FitStations m e.fired e.passed
   pub first : 0 < rounds_made m rounds → FirstTurnsFire m e.fired
-  pub alone : workers ≡ 1 → AreSweeps m rounds e.tallies e.fired e.passed
+  pub alone : workers ≡ 1 → AreSweeps m (rounds_made m rounds) e.tallies e.fired e.passed
   pub finishes : Finishes m e.tallies e.finish e.finish_fired
   pub nothing : length m.input ≡ 0 → IsNothing e

@@ -2,3 +2,4 @@ pub mod Courses
 pub mod Rules
 pub mod Settings
 pub mod FreeRuns
+pub mod Gathering

@@ -1,0 +1,135 @@
+-- The hands are joined, and the board is closed.
+use Rattle.std.proofs.Common.{◌≡◌, ℕ, zero, suc, ◌+◌, ◌*◌, ◌/◌, ◌%◌, ◌<◌, ◌≤◌, ◌==◌, Bool, true, false, cond, List, [], ◌∷◌, length, get_or, map, refl, sym, ◌∙◌, ap, subst, arith, inl, inr, ne_eqb}
+use Rattle.std.specs.Prelude.{Option, Some, None, option_map, slice_get}
+use Rattle.std.specs.List.{sum_by}
+use Rattle.std.proofs.lemmas.Bool.{cases_lt}
+use Rattle.std.proofs.lemmas.Option.{same_Some, slice_get_within}
+use Rattle.lid_base.specs.declared.runs.Tally.{Tally}
+use Rattle.lid_station.specs.Boards.{Facts, fill, drain}
+use Rattle.lid_station.specs.Plain.{plain_ends, PlainStands}
+use Rattle.lid_station.specs.declared.pair.Pair.{Pair}
+use Rattle.lid_stations.specs.Stations.{start_count}
+use Rattle.lid_board.specs.Closing.{closed_facts}
+use Rattle.lid_board.specs.Owners.{IsOf, IsOwned, ends_of, plan_of}
+use Rattle.lid_board.specs.Parting.{unseen}
+use Rattle.lid_board.specs.Relation.{cap_of}
+use Rattle.lid_board.specs.Standing.{StandsFor}
+use Rattle.lid_board.specs.Views.{Ends, at, facts, held, held_of}
+use Rattle.lid_board.specs.declared.board.Board.{Board}
+use Rattle.lid_board.specs.declared.hand.Hand.{Hand}
+use Rattle.lid_board.specs.declared.view.Held.{Held}
+use Rattle.lid_machine.specs.Plans.{actors_of, stations_of, ins_of, outs_of, cap, start_of, room_of, stream}
+use Rattle.lid_machine.specs.Setups.{Setup, IsSetup, plan}
+use Rattle.lid_machine.specs.Machine.{Progress, State}
+use Rattle.lid_shell.specs.declared.actor.Actor.{Actor}
+use Rattle.lid_shell.specs.Boards.{Agrees}
+use Rattle.lid_walk.specs.Walks.{IsBoard}
+use Rattle.lid_walk.proofs.Elements.{there_is}
+use Rattle.lid_walk.proofs.Serving.{drains_by, fills_by}
+use Rattle.lid_work.specs.declared.worker.Worker.{Worker}
+use Rattle.lid_work.specs.Posts.{known}
+use Rattle.lid_crew.specs.Shares.{share, holder}
+use Rattle.lid_crew.specs.Crews.{HasWorked, HaveWorked, HasJoined, AreShared}
+use Rattle.lid_free.specs.Settings.{IsStarted, IsPlain, IsCrew}
+use Rattle.lid_free.specs.Gathering.{fired_of, state_at}
+use Rattle.lid_free.proofs.Crewing.{all_owned}
+use Rattle.lid_free.proofs.Parallel.{held_there, HasPair, pair_of, holder_low, mod_low, works_after, IsKept, kept}
+use Rattle.lid_free.proofs.Ready.{drain_holder, fill_holder}
+
+module _ (m : Setup) (board : Board) (workers : ℕ) (owners : List ℕ) (before : List Actor) (olds news : List Worker) (made : ℕ) (actors : List Actor)
+    (c : IsCrew m board workers owners before olds) (worked : HaveWorked board made olds news)
+    (long : length actors ≡ actors_of (plan m))
+    (shares : (i : ℕ) (w : Worker) → slice_get news i ≡ Some w → share workers i actors ≡ w.actors.items) where
+  abbrev Pair_ : ℕ → Type 0
+  Pair_ i = HasPair m board workers owners before olds news made actors c worked long shares i
+
+  pair : (i : ℕ) → i < workers → Pair_ i
+  pair i within = pair_of m board workers owners before olds news made actors c worked long shares i within
+
+  low : (end : ℕ) → holder workers owners end < workers
+  low end = holder_low m board workers owners before olds news made actors c worked long shares end
+
+  none_kept : (i end : ℕ) (w : Worker) (h : Held) → (p : Pair_ i) → slice_get news i ≡ Some w → at (ends_of p.old.hand) end ≡ None → at (ends_of w.hand) end ≡ None
+  none_kept i end w h p at_w none =
+      let same : p.new ≡ w = same_Some p.new w (sym p.at_new ∙ at_w) in
+      let gone : known p.new.hand end ≡ None = p.did.stays.ends.none end (ap (option_map facts) none) in
+      by_there (at (ends_of w.hand) end) (ap (λ (x : Worker). known x.hand end) (sym same) ∙ gone)
+    where
+      by_there : (o : Option Held) → option_map facts o ≡ None → o ≡ None
+      by_there None e = refl
+      by_there (Some x) e = absurd (cc)
+
+  -- no hand has an end that fell to another
+  pub shared : AreShared workers owners news
+  shared i end w at_w other =
+      let within = slice_get_within news i w at_w in
+      let p = pair i (omega (arith, within, c.many, worked.many)) in
+      let none : at (ends_of p.old.hand) end ≡ None = (c.each i p.old p.at_old).hand end ∙ ap (λ (b : Bool). cond b (at (plan_of board) end) None) (ne_eqb (holder workers owners end) i other) in
+      none_kept i end w (held_of None) p at_w none
+
+  module _ (keeper : Hand) (joined : HasJoined workers owners news keeper) where
+    -- what the keeper knows then
+    pub kept_at : (end : ℕ) → end < length (plan_of board) → (x : Held) × (at (ends_of keeper) end ≡ Some (unseen x)) × (p : Pair_ (holder workers owners end)) × (at (ends_of p.new.hand) end ≡ Some x)
+    kept_at end within =
+        let p = pair (holder workers owners end) (low end) in
+        let k = kept m board workers owners before olds news made actors c worked long shares end within p in
+        (k.last, joined end p.new p.at_new ∙ ap (option_map unseen) k.at_last, p, k.at_last)
+
+    pub all_kept : (end : ℕ) → end < length (plan_of board) → IsOwned (ends_of keeper) end
+    all_kept end within = let k = kept_at end within in k.1 ∙ ap (λ (o : Option Held). Some (held_of o)) (sym k.1)
+
+    -- what an actor's worker knew of an end, the keeper knows
+    kept_as : (end : ℕ) (i : ℕ) (p : Pair_ i) (x : Held) → holder workers owners end ≡ i → at (ends_of p.new.hand) end ≡ Some x → at (ends_of keeper) end ≡ Some (unseen x)
+    kept_as end i p x mine at_x =
+        joined end p.new (ap (slice_get news) mine ∙ p.at_new) ∙ ap (option_map unseen) at_x
+
+    -- and the plain board tells it
+    module _ (pairs : List Pair) (plain_many : length pairs ≡ stations_of (plan m))
+        (closed : (end : ℕ) → end < length (plan_of board) → plain_ends pairs end ≡ Some (closed_facts (held (ends_of keeper) end)))
+        (stands : PlainStands pairs (stream (plan m))) where
+      agrees_closed : (v : ℕ) (b : Actor) → slice_get actors v ≡ Some b → Agrees m v (state_at (fired_of actors) v) (plain_ends pairs)
+      agrees_closed v b at_b =
+          let p = pair (v % workers) (mod_low m board workers owners before olds news made actors c worked long shares v) in
+          let w = works_after m board workers owners before olds news made actors c worked long shares v b at_b p in
+          let many = c.started.many in
+          record {
+            drains = λ i station h.
+                let (f, at_f, is) = w.agrees.drains i station h in
+                let (x, at_x, is_x) = held_there (at (ends_of p.new.hand) (drain station)) f at_f in
+                let here = kept_as (drain station) (v % workers) p x (drain_holder m board workers owners before olds c v i station h) at_x in
+                let there = (drains_by (plan m) v i station h).there in
+                let tells = closed (drain station) (omega (arith, there, many)) ∙ ap (λ (o : Option Held). Some (closed_facts (held_of o))) here in
+                (closed_facts (unseen x), tells,
+                record {
+                  capacity = ap (λ (g : Facts). g.cap) is_x ∙ is.capacity;
+                  passed = ap (λ (g : Facts). g.passed) is_x ∙ is.passed;
+                  seen = λ lower higher. absurd (omega (arith, lower));
+                });
+            fills = λ j station h.
+                let (f, at_f, is) = w.agrees.fills j station h in
+                let (x, at_x, is_x) = held_there (at (ends_of p.new.hand) (fill station)) f at_f in
+                let here = kept_as (fill station) (v % workers) p x (fill_holder m board workers owners before olds c v j station h) at_x in
+                let there = (fills_by (plan m) v j station h).there in
+                let tells = closed (fill station) (omega (arith, there, many)) ∙ ap (λ (o : Option Held). Some (closed_facts (held_of o))) here in
+                (closed_facts (unseen x), tells,
+                record {
+                  capacity = ap (λ (g : Facts). g.cap) is_x ∙ is.capacity;
+                  passed = ap (λ (g : Facts). g.passed) is_x ∙ is.passed;
+                  seen = λ lower higher. absurd (omega (arith, lower));
+                });
+          }
+
+      pub board_closed : IsBoard m (state_at (fired_of actors)) pairs
+      board_closed = record {
+        many = plain_many;
+        agrees = λ v h. let (b, at_b) = there_is actors v (omega (arith, h, long)) in agrees_closed v b at_b;
+        streams = stands;
+      }
+
+-- the capacities of a plain board are those of the board
+pub caps_are : (m : Setup) (board : Board) (pairs : List Pair) → IsStarted m board → IsPlain m pairs → (station : ℕ) (p : Pair) → slice_get pairs station ≡ Some p → length p.places.items ≡ cap_of (plan_of board) station
+caps_are m board pairs started plain station p at_p =
+    let within = slice_get_within pairs station p at_p in
+    let many = plain.many in
+    let (h, at_h, start) = started.fills station (omega (arith, within, many)) in
+    plain.caps station p at_p ∙ sym start.cap ∙ ap (λ (o : Option Held). (held_of o).cap) (sym at_h)
