@@ -1,21 +1,21 @@
 -- The tokens with which stations start.
-use Rattle.std.proofs.Common.{◌≡◌, ℕ, zero, suc, ◌+◌, ◌-◌, ◌<◌, ◌≤◌, ◌==◌, inl, inr, min, Bool, true, false, cond, List, [], ◌∷◌, length, get_or, map, refl, sym, ◌∙◌, ap, subst, arith, replicate}
+use Rattle.std.proofs.Common.{◌≡◌, ℕ, ◌+◌, ◌-◌, ◌<◌, ◌≤◌, inl, inr, Bool, false, List, [], ◌∷◌, length, map, refl, sym, ◌∙◌, ap, subst, arith, replicate}
 use Rattle.std.specs.Prelude.{Option, Some, None, slice_get}
-use Rattle.std.proofs.lemmas.Bool.{cases_eq, cases_lt, eq-eqb, ne_eqb}
+use Rattle.std.proofs.lemmas.Bool.{cases_eq}
 use Rattle.std.proofs.lemmas.List.{same_lists, length-map, length-replicate, get_or-replicate}
 use Rattle.std.proofs.lemmas.Option.{slice_get_within, slice_get-get_or, get_or_from_slice_get}
-use Rattle.lid_design.specs.Network.{Table, from_each}
+use Rattle.lid_design.specs.Network.{Table}
 use Rattle.lid_system.specs.declared.System.{System}
 use Rattle.lid_system.specs.Systems.{Point, IsWellFormed}
 use Rattle.lid_system.specs.Streams.{token_at}
-use Rattle.lid_nodes.specs.Nodes.{channels_from, tokens_from}
+use Rattle.lid_nodes.specs.Nodes.{channels_from}
 use Rattle.lid_nodes.specs.Wiring.{ports_from}
 use Rattle.lid_stations.specs.declared.placement.Placement.{Placement}
-use Rattle.lid_stations.specs.Placements.{links_of, station_count, Fits}
+use Rattle.lid_stations.specs.Placements.{links_of, Fits}
 use Rattle.lid_stations.specs.Stations.{start_count}
 use Rattle.lid_runs.specs.Runs.{filled_by, token_of}
 use Rattle.lid_runs.proofs.Ends.{filled_is, filled_there}
-use Rattle.lid_machine.specs.Plans.{stations_of, outs_of, filler_of, start_of}
+use Rattle.lid_machine.specs.Plans.{stations_of, outs_of, filler_of}
 use Rattle.lid_machine.specs.Setups.{Setup, IsSetup, plan}
 use Rattle.lid_actors.specs.Setups.{IsSetupOf}
 use Rattle.lid_actors.specs.Firsts.{first_token, first_tokens}

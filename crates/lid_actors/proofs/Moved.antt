@@ -1,7 +1,7 @@
 -- The movers of a channel.
 use Rattle.std.proofs.Common.{◌≡◌, ℕ, zero, suc, ◌+◌, ◌<◌, ◌≤◌, Bool, List, [], ◌∷◌, length, take, get_or, sym, ◌∙◌, ap, subst, arith}
 use Rattle.std.specs.Prelude.{Some, slice_get}
-use Rattle.std.proofs.lemmas.List.Sums.{sum_by_more, sum_by_more_le}
+use Rattle.std.proofs.lemmas.List.Sums.{sum_by_more}
 use Rattle.lid_system.specs.declared.System.{System}
 use Rattle.lid_system.specs.Systems.{IsWellFormed}
 use Rattle.lid_stations.specs.declared.placement.Placement.{Placement}
@@ -15,8 +15,7 @@ use Rattle.lid_machine.specs.Setups.{Setup, IsSetup, plan}
 use Rattle.lid_machine.specs.Machine.{begun}
 use Rattle.lid_shell.specs.declared.actor.Actor.{Actor}
 use Rattle.lid_shell.specs.Actors.{IsActor}
-use Rattle.lid_actors.specs.Setups.{IsSetupOf}
-use Rattle.lid_actors.specs.Inside.{ActorsGoByRules, IsActorOf, AreFirst}
+use Rattle.lid_actors.specs.Inside.{ActorsGoByRules, IsActorOf}
 use Rattle.lid_actors.proofs.Listed.{mover_drains, within}
 use Rattle.lid_actors.proofs.Setting.{ins_are, outs_are, nodes_are, actors_are}
 

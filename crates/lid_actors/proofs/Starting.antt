@@ -1,5 +1,5 @@
 -- A board that starts with the start tokens of a setup agrees with actors that have not fired.
-use Rattle.std.proofs.Common.{◌≡◌, ℕ, ◌+◌, ◌*◌, ◌/◌, ◌%◌, ◌^◌, ◌<◌, ◌≤◌, ◌==◌, inl, inr, min, Bool, true, false, cond, List, length, get_or, refl, sym, ◌∙◌, ap, subst, arith, length-set, replicate}
+use Rattle.std.proofs.Common.{◌≡◌, ℕ, ◌+◌, ◌^◌, ◌<◌, ◌≤◌, inl, inr, Bool, true, false, cond, List, length, get_or, refl, sym, ◌∙◌, ap, subst, arith, length-set, replicate}
 use Rattle.std.proofs.lemmas.Bool.{cases_eq, eq-eqb, ne_eqb}
 use Rattle.std.proofs.lemmas.List.{length-replicate, get_or_default}
 use Rattle.std.proofs.lemmas.Option.{slice_get-get_or, slice_get_within, same_Some}
@@ -15,10 +15,10 @@ use Rattle.lid_stations.specs.Placements.{station_count, Fits}
 use Rattle.lid_stations.specs.Stations.{spot_at, start_count, starts}
 use Rattle.lid_stations.proofs.Spots.{starts_small}
 use Rattle.lid_station.specs.declared.pair.Pair.{Pair}
-use Rattle.lid_station.specs.Boards.{Facts, fill, drain}
+use Rattle.lid_station.specs.Boards.{fill, drain}
 use Rattle.lid_station.specs.Plain.{end_facts, plain_ends}
 use Rattle.lid_station.specs.PlainLaws.{ends_even, ends_odd}
-use Rattle.lid_station.specs.Starts.{start_count as begin_count, start_places, IsStart, AreStarts, Begin}
+use Rattle.lid_station.specs.Starts.{start_count as begin_count, start_places, AreStarts, Begin}
 use Rattle.lid_station.proofs.PlainStations.{station_there}
 use Rattle.lid_machine.specs.Plans.{ins_of, outs_of, start_of, room_of, stations_of, stream}
 use Rattle.lid_machine.specs.Setups.{Setup, IsSetup, IsInputRow, plan}

@@ -1,5 +1,5 @@
 -- Serves the bodies: stations as they are listed, actors as they are made, and start tokens as they are written.
-use Rattle.std.specs.Prelude.{◌≡◌, ℕ, ◌+◌, ◌<◌, ◌≤◌, ◌==◌, Bool, List, length, filter, Option, Some, None, slice_get}
+use Rattle.std.specs.Prelude.{◌≡◌, ℕ, ◌<◌, ◌≤◌, ◌==◌, Bool, List, length, filter, Option, Some, None, slice_get}
 use Rattle.lid_design.specs.Network.{Table, from_each}
 use Rattle.lid_system.specs.declared.System.{System}
 use Rattle.lid_system.specs.Systems.{Point}

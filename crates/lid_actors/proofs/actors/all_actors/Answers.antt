@@ -1,5 +1,4 @@
 -- The nodes and the movers are all actors.
-use Rattle.std.proofs.Common.{◌≡◌, sym, ◌∙◌}
 use Rattle.lid_actors.proofs.Pushed.{all_there}
 use Rattle.lid_actors.proofs.actors.all_actors.Goals as goal
 

@@ -1,5 +1,5 @@
 -- Without rows no station starts with a token.
-use Rattle.std.proofs.Common.{◌≡◌, List, Bool, sym, ◌∙◌, ap}
+use Rattle.std.proofs.Common.{List, Bool, sym, ◌∙◌, ap}
 use Rattle.std.specs.Prelude.{slice_get}
 use Rattle.std.specs.Option.{option_copied}
 use Rattle.lid_base.proofs.Results.{if_ok}

@@ -1,5 +1,5 @@
 -- All nodes but the sink have written their tokens.
-use Rattle.std.proofs.Common.{◌≡◌, length, sym, ◌∙◌}
+use Rattle.std.proofs.Common.{◌∙◌}
 use Rattle.lid_actors.proofs.Written.{refilled}
 use Rattle.lid_actors.proofs.Begun.{all_begin}
 use Rattle.lid_actors.proofs.firsts.tokens_of.Goals as goal

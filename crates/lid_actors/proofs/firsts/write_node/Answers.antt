@@ -1,10 +1,8 @@
 -- The tokens of a node are those of the stations that it fills.
-use Rattle.std.proofs.Common.{◌≡◌, ◌<◌, ◌+◌, ℕ, List, length, get_or, sym, ◌∙◌, ap, subst, arith}
+use Rattle.std.proofs.Common.{ℕ, List, length, get_or, sym, ◌∙◌, ap, arith}
 use Rattle.std.specs.Prelude.{slice_get}
 use Rattle.std.proofs.lemmas.Option.{slice_get-get_or}
 use Rattle.lid_stations.specs.Placements.{links_of}
-use Rattle.lid_stations.specs.Stations.{filler}
-use Rattle.lid_runs.specs.Runs.{filled_by}
 use Rattle.lid_runs.proofs.Ends.{filled_is}
 use Rattle.lid_machine.specs.Setups.{plan}
 use Rattle.lid_actors.proofs.Begun.{outs_many, tokens_are, next_node}

@@ -1,5 +1,5 @@
 -- One mover more.
-use Rattle.std.proofs.Common.{◌≡◌, ◌<◌, ◌+◌, ℕ, List, length, get_or, refl, ap, subst, arith}
+use Rattle.std.proofs.Common.{◌≡◌, ◌<◌, ◌+◌, ℕ, List, get_or, refl, ap, subst, arith}
 use Rattle.lid_stations.specs.Placements.{links_of}
 use Rattle.lid_stations.specs.Stations.{mover}
 use Rattle.lid_actors.specs.Inside.{AreFirst}

@@ -1,5 +1,5 @@
 -- A shell in its first state shows the tokens of the first row.
-use Rattle.std.proofs.Common.{◌≡◌, ℕ, Bool, false, List, length, sym, ◌∙◌, ap, arith}
+use Rattle.std.proofs.Common.{false, length, ◌∙◌, ap, arith}
 use Rattle.std.proofs.lemmas.Option.{slice_get_within}
 use Rattle.lid_design.specs.Network.{Table}
 use Rattle.lid_system.specs.Systems.{Point}
