@@ -72,7 +72,7 @@ module _ (m : Setup) (board : Board) (workers : ℕ) (owners : List ℕ) (before
     pub kept_at : (end : ℕ) → end < length (plan_of board) → (x : Held) × (at (ends_of keeper) end ≡ Some (unseen x)) × (p : Pair_ (holder workers owners end)) × (at (ends_of p.new.hand) end ≡ Some x)
     kept_at end within =
         let p = pair (holder workers owners end) (low end) in
-        let k = kept m board workers owners before olds news made actors c worked long shares end within p in
+        let k = kept m board workers owners before olds news made actors c worked long shares end (holder workers owners end) within p refl in
         (k.last, joined end p.new p.at_new ∙ ap (option_map unseen) k.at_last, p, k.at_last)
 
     pub all_kept : (end : ℕ) → end < length (plan_of board) → IsOwned (ends_of keeper) end

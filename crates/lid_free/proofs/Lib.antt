@@ -6,3 +6,6 @@ pub mod Crewing
 pub mod Parallel
 pub mod Resting
 pub mod Closing
+pub mod Firsts
+pub mod Solo
+pub mod Noting

@@ -113,7 +113,7 @@ module _ (m : Setup) (board : Board) (workers : ℕ) (owners : List ℕ) (before
   actors_after = record { many = long; each = λ v b at_b. (works_after v b at_b (pair_of (v % workers) (mod_low v))).actor }
 
   -- each end is known to the hand to which it fell, with the start count and the capacity that it had
-  pub record IsKept (end : ℕ) (p : HasPair (holder workers owners end)) : Type 0 where
+  pub record IsKept (end i : ℕ) (p : HasPair i) : Type 0 where
     pub first : Held
     pub at_first : at (plan_of board) end ≡ Some first
     pub last : Held
@@ -121,10 +121,10 @@ module _ (m : Setup) (board : Board) (workers : ℕ) (owners : List ℕ) (before
     pub cap : last.cap ≡ first.cap
     pub start : last.start ≡ first.start
 
-  pub kept : (end : ℕ) → end < length (plan_of board) → (p : HasPair (holder workers owners end)) → IsKept end p
-  kept end within p =
+  pub kept : (end i : ℕ) → end < length (plan_of board) → (p : HasPair i) → holder workers owners end ≡ i → IsKept end i p
+  kept end i within p mine =
       let (h, at_h, none) = at_start m board c.started end within in
-      let here = held_here m board workers owners before olds c (holder workers owners end) p.old p.at_old end h refl at_h in
+      let here = held_here m board workers owners before olds c i p.old p.at_old end h mine at_h in
       let (g, at_g, keeps) = p.did.stays.ends.some end (facts h) (ap (option_map facts) here) in
       let (x, at_x, is_x) = held_there (at (ends_of p.new.hand) end) g at_g in
       record {

@@ -2,6 +2,7 @@
 #![tactic(auto)]
 
 mod course;
+mod gathering;
 mod rules;
 mod run;
 mod setting;
