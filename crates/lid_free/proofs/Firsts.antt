@@ -8,6 +8,7 @@ use Rattle.lid_station.specs.Boards.{Facts, fill, drain}
 use Rattle.lid_stations.specs.Stations.{start_count, spot_at}
 use Rattle.lid_stations.proofs.Spots.{starts_small, cap_range}
 use Rattle.lid_board.specs.Owners.{ends_of, plan_of}
+use Rattle.lid_board.specs.Standing.{StandsFor}
 use Rattle.lid_board.specs.Views.{Ends, at, facts, sure}
 use Rattle.lid_board.specs.declared.board.Board.{Board}
 use Rattle.lid_board.specs.declared.hand.Hand.{Hand}
@@ -16,6 +17,7 @@ use Rattle.lid_machine.specs.Plans.{actors_of, stations_of, ins_of, outs_of, cap
 use Rattle.lid_machine.specs.Setups.{Setup, IsSetup, plan}
 use Rattle.lid_machine.specs.Machine.{takes_from, puts_from}
 use Rattle.lid_shell.specs.declared.actor.Actor.{Actor}
+use Rattle.lid_shell.specs.Steps.{Works}
 use Rattle.lid_shell.proofs.Counts.{early}
 use Rattle.lid_walk.proofs.Elements.{there_is}
 use Rattle.lid_walk.proofs.Serving.{drains_by, fills_by}
@@ -27,7 +29,7 @@ use Rattle.lid_crew.specs.Shares.{share, holder}
 use Rattle.lid_crew.specs.Crews.{HaveWorked}
 use Rattle.lid_free.specs.Settings.{IsCrew}
 use Rattle.lid_free.specs.FreeRuns.{FirstTurnsFire}
-use Rattle.lid_free.specs.Gathering.{fired_of}
+use Rattle.lid_free.specs.Gathering.{fired_of, state_at}
 use Rattle.lid_free.proofs.Parallel.{held_there, fired_read, HasPair, pair_of, mod_low, run_of, none_fired, works_after, kept}
 use Rattle.lid_free.proofs.Ready.{drain_holder, fill_holder}
 
@@ -43,7 +45,7 @@ module _ (m : Setup) (board : Board) (workers : ℕ) (owners : List ℕ) (before
   early_none hand end x at_x low = ap misses_in (ap (option_map facts) at_x) ∙ hand.early end x at_x low
 
   module _ (v : ℕ) (b : Actor) (at_b : slice_get actors v ≡ Some b) (none : b.desk.fired ≡ 0) (p : Pair_ (v % workers)) where
-    w : _
+    w : Works m v (state_at (fired_of actors) v) b (known p.new.hand) (StandsFor (plan_of board))
     w = works_after m board workers owners before olds news made actors c worked long shares v b at_b p
 
     far : get_or (fired_of actors) v 0 ≡ 0

@@ -9,3 +9,5 @@ pub mod Closing
 pub mod Firsts
 pub mod Solo
 pub mod Noting
+pub mod Gathered
+pub mod Settling

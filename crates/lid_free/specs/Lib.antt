@@ -3,3 +3,4 @@ pub mod Rules
 pub mod Settings
 pub mod FreeRuns
 pub mod Gathering
+pub mod Sweeps

@@ -2,6 +2,7 @@
 #![tactic(auto)]
 
 mod course;
+mod ending;
 mod gathering;
 mod rules;
 mod run;
