@@ -4,3 +4,4 @@ pub mod Settings
 pub mod FreeRuns
 pub mod Gathering
 pub mod Sweeps
+pub mod Endings

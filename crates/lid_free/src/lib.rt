@@ -10,4 +10,4 @@ mod setting;
 
 pub use course::StrictCourse;
 pub use lid_work::{Worker, work};
-pub use run::FreeEnd;
+pub use run::{FreeEnd, free_run};

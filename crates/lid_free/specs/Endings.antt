@@ -1,0 +1,20 @@
+-- Serves the bodies: how a run ends whose workers made so many rounds.
+use Rattle.std.specs.Prelude.{◌≡◌, ℕ, ◌<◌, ◌≤◌, length, Some, slice_get}
+use Rattle.lid_base.specs.declared.runs.Tally.{Tally}
+use Rattle.lid_machine.specs.Plans.{actors_of, stations_of, sink}
+use Rattle.lid_machine.specs.Setups.{Setup, plan, output_rows}
+use Rattle.lid_shell.specs.Parts.{AreColumns}
+use Rattle.lid_free.specs.FreeRuns.{IsShareTally, FitStations, FirstTurnsFire, AreSweeps, Finishes}
+use Rattle.lid_free.specs.declared.run.FreeEnd.{FreeEnd}
+
+pub record IsEnding (m : Setup) (workers made : ℕ) (e : FreeEnd) : Type 0 where
+  pub columns : AreColumns m (sink (plan m)) e.rows.columns
+  pub rows : e.rows.bits ≡ output_rows m (length m.input)
+  pub tallies_many : length e.tallies ≡ workers
+  pub fired_many : length e.fired ≡ actors_of (plan m)
+  pub passed_many : length e.passed ≡ stations_of (plan m)
+  pub tallies_are : (i : ℕ) (t : Tally) → slice_get e.tallies i ≡ Some t → IsShareTally m workers made e.fired i t
+  pub fit : FitStations m e.fired e.passed
+  pub first : 0 < made → FirstTurnsFire m e.fired
+  pub alone : workers ≡ 1 → AreSweeps m made e.tallies e.fired e.passed
+  pub finishes : 0 < workers → Finishes m e.tallies e.finish e.finish_fired
