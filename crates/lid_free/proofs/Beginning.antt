@@ -117,10 +117,14 @@ module _ (m : Setup) (rules : IsSetup m) where
       record {
         many = omega (arith, many, long);
         streams = λ station within. stands station within ∙ ap (λ (l : List (List ℕ)). get_or l station []) is ∙ stream_at station [] (omega (arith, within, many, long));
-        fills = λ station there.
-            (start_fill firsts caps streams station, ap (λ (e : Ends). at e (fill station)) (sym all) ∙ fills station (omega (arith, there, long)),
-            record { cap = rooms caps same station there; start = starts_with firsts are station there; passed_is = starts_with firsts are station there; mark = refl; misses = refl });
-        drains = λ station there.
-            (start_drain firsts caps streams station, ap (λ (e : Ends). at e (drain station)) (sym all) ∙ drains station (omega (arith, there, long)),
-            record { cap = rooms caps same station there; start = starts_with firsts are station there; passed_is = refl; mark = refl; misses = refl });
+        fills = λ station there. (
+          start_fill firsts caps streams station,
+          ap (λ (e : Ends). at e (fill station)) (sym all) ∙ fills station (omega (arith, there, long)),
+          record { cap = rooms caps same station there; start = starts_with firsts are station there; passed_is = starts_with firsts are station there; mark = refl; misses = refl },
+        );
+        drains = λ station there. (
+          start_drain firsts caps streams station,
+          ap (λ (e : Ends). at e (drain station)) (sym all) ∙ drains station (omega (arith, there, long)),
+          record { cap = rooms caps same station there; start = starts_with firsts are station there; passed_is = refl; mark = refl; misses = refl },
+        );
       }

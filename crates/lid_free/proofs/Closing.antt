@@ -98,25 +98,29 @@ module _ (m : Setup) (board : Board) (workers : ℕ) (owners : List ℕ) (before
                 let (x, at_x, is_x) = held_there (at (ends_of p.new.hand) (drain station)) f at_f in
                 let here = kept_as (drain station) (v % workers) p x (drain_holder m board workers owners before olds c v i station h) at_x in
                 let there = (drains_by (plan m) v i station h).there in
-                let tells = closed (drain station) (omega (arith, there, many)) ∙ ap (λ (o : Option Held). Some (closed_facts (held_of o))) here in
-                (closed_facts (unseen x), tells,
-                record {
-                  capacity = ap (λ (g : Facts). g.cap) is_x ∙ is.capacity;
-                  passed = ap (λ (g : Facts). g.passed) is_x ∙ is.passed;
-                  seen = λ lower higher. absurd (omega (arith, lower));
-                });
+                let tells = closed (drain station) (omega (arith, there, many)) ∙ ap (λ (o : Option Held). Some (closed_facts (held_of o))) here in (
+                  closed_facts (unseen x),
+                  tells,
+                  record {
+                    capacity = ap (λ (g : Facts). g.cap) is_x ∙ is.capacity;
+                    passed = ap (λ (g : Facts). g.passed) is_x ∙ is.passed;
+                    seen = λ lower higher. absurd (omega (arith, lower));
+                  },
+                );
             fills = λ j station h.
                 let (f, at_f, is) = w.agrees.fills j station h in
                 let (x, at_x, is_x) = held_there (at (ends_of p.new.hand) (fill station)) f at_f in
                 let here = kept_as (fill station) (v % workers) p x (fill_holder m board workers owners before olds c v j station h) at_x in
                 let there = (fills_by (plan m) v j station h).there in
-                let tells = closed (fill station) (omega (arith, there, many)) ∙ ap (λ (o : Option Held). Some (closed_facts (held_of o))) here in
-                (closed_facts (unseen x), tells,
-                record {
-                  capacity = ap (λ (g : Facts). g.cap) is_x ∙ is.capacity;
-                  passed = ap (λ (g : Facts). g.passed) is_x ∙ is.passed;
-                  seen = λ lower higher. absurd (omega (arith, lower));
-                });
+                let tells = closed (fill station) (omega (arith, there, many)) ∙ ap (λ (o : Option Held). Some (closed_facts (held_of o))) here in (
+                  closed_facts (unseen x),
+                  tells,
+                  record {
+                    capacity = ap (λ (g : Facts). g.cap) is_x ∙ is.capacity;
+                    passed = ap (λ (g : Facts). g.passed) is_x ∙ is.passed;
+                    seen = λ lower higher. absurd (omega (arith, lower));
+                  },
+                );
           }
 
       pub board_closed : IsBoard m (state_at (fired_of actors)) pairs

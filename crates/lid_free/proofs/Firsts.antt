@@ -78,7 +78,7 @@ module _ (m : Setup) (board : Board) (workers : ℕ) (owners : List ℕ) (before
         let size : x.cap ≡ room_of (plan m) station = ap (λ (g : Facts). g.cap) is_x ∙ is.capacity in
         let small : start_count m.placement station ≤ 1 = starts_small (spot_at m.placement.relays station).place in
         let passed : x.passed ≡ start_of (plan m) station + get_or (fired_of actors) v 0 =
-            ap (λ (g : Facts). g.passed) is_x ∙ is.passed ∙ ap (λ (n : ℕ). start_of (plan m) station + n) (early (puts_from (length (ins_of (plan m) v)) (length (outs_of (plan m) v)) + j) (get_or (fired_of actors) v 0) 0 (omega arith)) in
+        ap (λ (g : Facts). g.passed) is_x ∙ is.passed ∙ ap (λ (n : ℕ). start_of (plan m) station + n) (early (puts_from (length (ins_of (plan m) v)) (length (outs_of (plan m) v)) + j) (get_or (fired_of actors) v 0) 0 (omega arith)) in
         let even : (2 * station) % 2 ≡ 0 = omega arith in
         let bound : sure (fill station) x ≡ x.cap = ap (λ (t : Bool). cond t x.cap x.start) (eq-eqb (fill station % 2) 0 even) in
         early_none p.new.hand (fill station) x at_x (omega (arith, two, size, small, passed, far, bound))

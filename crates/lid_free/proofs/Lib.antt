@@ -11,3 +11,5 @@ pub mod Solo
 pub mod Noting
 pub mod Gathered
 pub mod Settling
+pub mod Ended
+pub mod Running

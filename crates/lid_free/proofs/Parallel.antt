@@ -83,9 +83,9 @@ module _ (m : Setup) (board : Board) (workers : ℕ) (owners : List ℕ) (before
       let own : is_own workers (v % workers) (0 + v) ≡ true = ap (λ (n : ℕ). n % workers == v % workers) z ∙ eq-eqb (v % workers) (v % workers) refl in
       let j = rank (is_own workers (v % workers)) 0 v in
       let at_old : slice_get p.old.actors.items j ≡ Some a =
-          ap (λ (l : List Actor). slice_get l j) (c.each (v % workers) p.old p.at_old).actors_are ∙ picked_at (is_own workers (v % workers)) 0 before v a at_a own in
+      ap (λ (l : List Actor). slice_get l j) (c.each (v % workers) p.old p.at_old).actors_are ∙ picked_at (is_own workers (v % workers)) 0 before v a at_a own in
       let at_new : slice_get p.new.actors.items j ≡ Some b =
-          ap (λ (l : List Actor). slice_get l j) (sym (shares (v % workers) p.new p.at_new)) ∙ picked_at (is_own workers (v % workers)) 0 actors v b at_b own in
+      ap (λ (l : List Actor). slice_get l j) (sym (shares (v % workers) p.new p.at_new)) ∙ picked_at (is_own workers (v % workers)) 0 actors v b at_b own in
       record { was = a; at_was = at_a; gone = p.did.gone.each j a b at_old at_new }
 
   -- it has not fired before
@@ -161,8 +161,8 @@ module _ (m : Setup) (board : Board) (workers : ℕ) (owners : List ℕ) (before
       let before_none = ap fired_by own ∙ none_before i in
       let after_all = ap fired_by (sym (shares i p.new p.at_new)) ∙ sum_new (λ a. a.desk.fired) (λ v. get_or (fired_of actors) v 0) i (λ v b at_b. sym (fired_read actors v b at_b)) in
       let done_all = ap done_among (sym (shares i p.new p.at_new))
-          ∙ sum_new (λ a. cond (a.desk.fired == a.desk.cap) 1 0) (λ v. cond (get_or (fired_of actors) v 0 == cap (plan m) v) 1 0) i
-          (λ v b at_b. ap (λ (n : ℕ). cond (n == b.desk.cap) 1 0) (sym (fired_read actors v b at_b)) ∙ ap (λ (n : ℕ). cond (get_or (fired_of actors) v 0 == n) 1 0) (cap_read v b at_b)) in
+      ∙ sum_new (λ a. cond (a.desk.fired == a.desk.cap) 1 0) (λ v. cond (get_or (fired_of actors) v 0 == cap (plan m) v) 1 0) i
+      (λ v b at_b. ap (λ (n : ℕ). cond (n == b.desk.cap) 1 0) (sym (fired_read actors v b at_b)) ∙ ap (λ (n : ℕ). cond (get_or (fired_of actors) v 0 == n) 1 0) (cap_read v b at_b)) in
       record {
         turns_are = t.turns_are ∙ ap (λ (n : ℕ). made * n) many;
         fired_are = (let f = t.fired_are in omega (arith, f, before_none, after_all));

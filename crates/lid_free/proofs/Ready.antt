@@ -67,25 +67,29 @@ module _ (m : Setup) (board : Board) (workers : ℕ) (owners : List ℕ) (actors
       drains = λ k station h.
           let d = drains_by (plan m) v k station h in
           let (x, at_x, start) = c.started.drains station d.there in
-          let here = held_here (drain station) x (drain_holder v k station h ∙ mine) at_x in
-          (facts x, ap (option_map facts) here,
-          record {
-            capacity = start.cap;
-            passed = start.passed_is ∙ sym (early (takes_from (length (ins_of (plan m) v)) (length (outs_of (plan m) v)) + k) 0 0 (omega arith));
-            seen = λ low high. absurd (omega (arith, low));
-          });
+          let here = held_here (drain station) x (drain_holder v k station h ∙ mine) at_x in (
+            facts x,
+            ap (option_map facts) here,
+            record {
+              capacity = start.cap;
+              passed = start.passed_is ∙ sym (early (takes_from (length (ins_of (plan m) v)) (length (outs_of (plan m) v)) + k) 0 0 (omega arith));
+              seen = λ low high. absurd (omega (arith, low));
+            },
+          );
       fills = λ k station h.
           let d = fills_by (plan m) v k station h in
           let (x, at_x, start) = c.started.fills station d.there in
           let here = held_here (fill station) x (fill_holder v k station h ∙ mine) at_x in
           let none = early (puts_from (length (ins_of (plan m) v)) (length (outs_of (plan m) v)) + k) 0 0 (omega arith) in
-          let zero_more : start_of (plan m) station + 0 ≡ start_of (plan m) station = omega arith in
-          (facts x, ap (option_map facts) here,
-          record {
-            capacity = start.cap;
-            passed = start.passed_is ∙ sym zero_more ∙ ap (λ (n : ℕ). start_of (plan m) station + n) (sym none);
-            seen = λ low high. absurd (omega (arith, low));
-          });
+          let zero_more : start_of (plan m) station + 0 ≡ start_of (plan m) station = omega arith in (
+            facts x,
+            ap (option_map facts) here,
+            record {
+              capacity = start.cap;
+              passed = start.passed_is ∙ sym zero_more ∙ ap (λ (n : ℕ). start_of (plan m) station + n) (sym none);
+              seen = λ low high. absurd (omega (arith, low));
+            },
+          );
     }
 
     pub works_at_start : (v : ℕ) (a : Actor) → v % workers ≡ i → slice_get actors v ≡ Some a → Works m v (begun v) a (known w.hand) (StandsFor (plan_of board))

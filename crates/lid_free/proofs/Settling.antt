@@ -55,7 +55,7 @@ none_swept m st w walks rest = record {
         omega (arith, sum_by-cons (λ v. (st v).fired - (st v).fired) k (from_each (λ v. v) (k + 1) n), later)
 
 -- one sweep more
-module _ (m : Setup) (st : State) (s : Sweeps) (w then_ : Walk) (fired : ℕ) 
+module _ (m : Setup) (st : State) (s : Sweeps) (w then_ : Walk) (fired : ℕ)
     (so : HasSwept m st s w) (first : IsSetup m)
     (grown : (v : ℕ) → v < actors_of (plan m) → (st v).fired ≤ (sweeps (plan m) st s.count v).fired)
     (not_settled : IsSettled (plan m) (sweeps (plan m) st s.count) → ⊥)
@@ -87,7 +87,7 @@ module _ (m : Setup) (st : State) (s : Sweeps) (w then_ : Walk) (fired : ℕ)
         rest = subst (AllRest (plan m)) same swept.rest;
         fired_are =
             (let parts = count_add (λ v. (mid v).fired - (st v).fired) (λ v. (sweep (plan m) mid v).fired - (mid v).fired) (λ v. (sweep (plan m) mid v).fired - (st v).fired) 0 (actors_of (plan m))
-                (λ v low high. let g = grown v (omega (arith, high)) in let t = swept.goes_on v (omega (arith, high)) in omega (arith, g, t)) in
+            (λ v low high. let g = grown v (omega (arith, high)) in let t = swept.goes_on v (omega (arith, high)) in omega (arith, g, t)) in
             let whole = ap (λ (x : State). firings_between (plan m) st x) same in
             let was = so.fired_are in
             omega (arith, parts, whole, was, is));
@@ -100,7 +100,7 @@ module _ (m : Setup) (st : State) (s : Sweeps) (w then_ : Walk) (fired : ℕ)
       }
 
 -- a sum over the actors of a walk is one over their numbers
-pub list_count : (f : Actor → ℕ) (g : ℕ → ℕ) (k : ℕ) (xs : List Actor) → ((v : ℕ) (a : Actor) → slice_get xs v ≡ Some a → f a ≡ g (k + v)) → sum_by f xs ≡ count g k (length xs)
+pub list_count : {A : Type 0} (f : A → ℕ) (g : ℕ → ℕ) (k : ℕ) (xs : List A) → ((v : ℕ) (a : A) → slice_get xs v ≡ Some a → f a ≡ g (k + v)) → sum_by f xs ≡ count g k (length xs)
 list_count f g k [] same = refl
 list_count f g k (x ∷ xs) same =
     let s : k + 1 ≡ suc k = omega arith in
@@ -136,7 +136,7 @@ module _ (m : Setup) (st : State) (rules : IsSetup m) (w : Walk) (walks : Walks 
   pub few_firings : (k : ℕ) (now : Walk) → Walks m (sweeps (plan m) st k) now → firings_between (plan m) st (sweeps (plan m) st k) < 2 ^ 64
   few_firings k now then_ =
       let most = count_most (λ v. (sweeps (plan m) st k v).fired - (st v).fired) 1000000 0 (actors_of (plan m))
-          (λ v low high. let capped = (then_.sound.actors v (omega (arith, high))).capped in let c = cap_most m v rules in omega (arith, capped, c)) in
+      (λ v low high. let capped = (then_.sound.actors v (omega (arith, high))).capped in let c = cap_most m v rules in omega (arith, capped, c)) in
       let few = few_actors m rules in
       let less : actors_of (plan m) * 1000000 ≤ 69634 * 1000000 = mul-le-mul_right 1000000 few in
       omega (arith, most, less)
@@ -149,9 +149,9 @@ module _ (m : Setup) (st : State) (rules : IsSetup m) (w : Walk) (walks : Walks 
       let mid = sweeps (plan m) st s.count in
       let swept = has_swept m rules mid so.walks.sound so.rest in
       let parts = count_add (λ v. cap (plan m) v - (sweep (plan m) mid v).fired) (λ v. (sweep (plan m) mid v).fired - (mid v).fired) (λ v. cap (plan m) v - (mid v).fired) 0 (actors_of (plan m))
-          (λ v low high.
-          let h : v < actors_of (plan m) = omega (arith, high) in
-          let t = swept.goes_on v h in
-          let capped = (swept.sound.actors v h).capped in
-          omega (arith, t, capped)) in
+      (λ v low high.
+      let h : v < actors_of (plan m) = omega (arith, high) in
+      let t = swept.goes_on v h in
+      let capped = (swept.sound.actors v h).capped in
+      omega (arith, t, capped)) in
       omega (arith, parts, left_at m mid now so.walks, left_at m (sweep (plan m) mid) then_ after, is, some)

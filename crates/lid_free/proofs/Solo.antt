@@ -71,10 +71,16 @@ module _ (m : Setup) (board : Board) (workers : ℕ) (owners : List ℕ) (before
       let no_take = early (takes_from (length (ins_of (plan m) w)) (length (outs_of (plan m) w)) + place_in (ins_of (plan m) w) station) 0 0 (omega arith) in
       let zero_more : start_of (plan m) station + 0 ≡ start_of (plan m) station = omega arith in
       record {
-        filled = (facts f, ap (option_map facts) (held_here m board workers owners before olds c 0 p.old p.at_old (fill station) f (holds (fill station)) at_f),
-            start_f.passed_is ∙ sym zero_more ∙ ap (λ (n : ℕ). start_of (plan m) station + n) (sym no_put));
-        drained = (facts d, ap (option_map facts) (held_here m board workers owners before olds c 0 p.old p.at_old (drain station) d (holds (drain station)) at_d),
-            start_d.passed_is ∙ sym no_take);
+        filled = (
+          facts f,
+          ap (option_map facts) (held_here m board workers owners before olds c 0 p.old p.at_old (fill station) f (holds (fill station)) at_f),
+          start_f.passed_is ∙ sym zero_more ∙ ap (λ (n : ℕ). start_of (plan m) station + n) (sym no_put),
+        );
+        drained = (
+          facts d,
+          ap (option_map facts) (held_here m board workers owners before olds c 0 p.old p.at_old (drain station) d (holds (drain station)) at_d),
+          start_d.passed_is ∙ sym no_take,
+        );
       }
 
   all_old : p.old.actors.items ≡ before

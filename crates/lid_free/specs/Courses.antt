@@ -54,10 +54,11 @@ one_stream s p rows well fits b b' table table' station there =
 
 streams_some : (s : System) (p : Placement) (rows : List (List Bool)) → Fits s p → IsWellFormed s → HasStreams s p rows
 streams_some s p rows fits well =
-    let t = table_of s rows well in
-    (streams_by s p rows t.0,
-    λ b table. each_same (stream (plan (record { system = s; placement = p; input = rows; table = t.0 }))) (stream (plan (record { system = s; placement = p; input = rows; table = b }))) 0 (station_count p.relays)
-        (λ station low. one_stream s p rows well fits t.0 b t.1 table station (omega (arith, low))))
+    let t = table_of s rows well in (
+      streams_by s p rows t.0,
+      λ b table. each_same (stream (plan (record { system = s; placement = p; input = rows; table = t.0 }))) (stream (plan (record { system = s; placement = p; input = rows; table = b }))) 0 (station_count p.relays)
+          (λ station low. one_stream s p rows well fits t.0 b t.1 table station (omega (arith, low))),
+    )
 
 -- and no others, so that they are those of the system
 the_streams : (s : System) (p : Placement) (rows : List (List Bool)) → Fits s p → ∥ IsWellFormed s ∥₁ → HasStreams s p rows

@@ -53,8 +53,12 @@ fn start_boards(
         rows,
     };
     let plain = PlainBoard::start(alloc, firsts.as_slice(), placement.caps.as_slice())?;
-    let (board, keeper) =
-        Board::start(alloc, firsts.as_slice(), placement.caps.as_slice(), &course)?;
+    let (board, keeper) = Board::start(
+        alloc,
+        firsts.as_slice(),
+        placement.caps.as_slice(),
+        &course,
+    )?;
     Ok(Boards {
         board,
         keeper,
@@ -73,11 +77,7 @@ fn from_at(edges: &[Edge], number: usize) -> u32
 }
 
 /// The actor that owns each end of a station: the one that fills it, and the one that drains it.
-fn owners_of(
-    alloc: Global,
-    system: &System,
-    placement: &Placement,
-) -> Result<Vec<u32>, AllocError>
+fn owners_of(alloc: Global, system: &System, placement: &Placement) -> Result<Vec<u32>, AllocError>
     requires system { IsWellFormed system.now }
     requires fits { Fits system.now placement.now }
     ensures { IfOk result (λ owners. AreOwners system.now placement.now (2 * length placement.now.caps) owners.items) }
@@ -104,12 +104,7 @@ pub(crate) struct Room {
 
 impl Room {
     /// Room for so many workers, actors and stations.
-    fn make(
-        alloc: Global,
-        workers: u32,
-        actors: usize,
-        stations: usize,
-    ) -> Result<Room, AllocError>
+    fn make(alloc: Global, workers: u32, actors: usize, stations: usize) -> Result<Room, AllocError>
         ensures { IfOk result (IsRoom workers actors stations) }
     {
         let none = Tally {
