@@ -6,7 +6,7 @@ tables, on random designs, placements and rows.
 
 The slow run has no stations and no pearls: how often an actor has fired is the least that its edges allow, and a
 token is packed from the strict table. `strict` and `clock` must give the same rows, and `clock` the cycles, the
-firings and the trace of the slow run, with and without stalls. What `wave` writes shows this trace, to waves.py and
+firings and the trace of the slow run, with and without stalls, on one worker or more. What `wave` writes shows this trace, to waves.py and
 to `unwave`. It stops at the first difference.
 """
 
@@ -96,6 +96,8 @@ def compare_run(session: Session, judge: Judge, whole, chans: list, named: list[
     words += [] if trace is None else ["--trace", str(trace)]
     wanted = outs + "".join(line + "\n" for line in run.told(trace))
     session.want(session.run(*words), (wanted, "", 0), " ".join(map(str, words)))
+    workers = str(session.dice.choice([1, 2, 3, 5, 64]))
+    session.want(session.run(*words, "--workers", workers), (wanted, "", 0), f"clock on {workers} workers")
     if trace is not None:
         compare_wave(session, words[1:], run.told(trace)[run.nodes + 1 :])
     stalls = draw_stalls(session)

@@ -67,6 +67,9 @@ def compare_design(session: Session, seed: int, shells: int, count: int):
     placed = ["--stations", session.files["stations"]]
     came = session.run("clock", session.files["net"], session.files["rows"], *placed)
     session.want(came, (told + "".join(line + "\n" for line in clocked), "", 0), "clock")
+    workers = [1, 2, 3, 5, 64][seed % 5]
+    came = session.run("clock", session.files["net"], session.files["rows"], *placed, "--workers", str(workers))
+    session.want(came, (told + "".join(line + "\n" for line in clocked), "", 0), f"clock on {workers} workers")
     ratio = compare_ratios(session, nodes, marking(nodes, chans, relays, caps), placed)
     ones = sum(map(sum, outs))
     sizes = [f"shells {shells}", f"channels {len(chans)}", f"stations {len(caps)}", f"rows {count}", f"ones {ones}"]
