@@ -4,5 +4,8 @@ pub mod Stepping
 pub mod Turning
 pub mod Sweeping
 pub mod Numbers
+pub mod Counting
 pub mod Prefixing
+pub mod Sounding
 pub mod Started
+pub mod Settling

@@ -1,5 +1,5 @@
 -- A walk that has not begun.
-use Rattle.std.proofs.Common.{◌≡◌, ℕ, ◌+◌, ◌<◌, ◌≤◌, List, length, sym, ◌∙◌, ap, subst}
+use Rattle.std.proofs.Common.{◌≡◌, ℕ, List, sym, ◌∙◌, subst}
 use Rattle.lid_station.specs.declared.pair.Pair.{Pair}
 use Rattle.lid_station.specs.Starts.{AreStarts, Begin}
 use Rattle.lid_station.specs.Plain.{PlainStands}

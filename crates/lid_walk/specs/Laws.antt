@@ -1,9 +1,12 @@
 -- What a walk has at its stations.
-use Rattle.std.specs.Prelude.{◌≡◌, ℕ, ◌+◌, ◌%◌, ◌<◌, ◌≤◌, length, get_or, Some, slice_get}
+use Rattle.std.specs.Prelude.{◌≡◌, ℕ, ◌+◌, ◌*◌, ◌%◌, ◌<◌, ◌≤◌, length, get_or, Some, slice_get}
+use Rattle.lid_graph.specs.Firings.{no_hold}
+use Rattle.lid_runs.specs.Runs.{fired_in}
 use Rattle.lid_station.specs.declared.pair.Pair.{Pair}
-use Rattle.lid_machine.specs.Plans.{stream, room_of}
-use Rattle.lid_machine.specs.Setups.{Setup, plan}
+use Rattle.lid_machine.specs.Plans.{actors_of, cap, stream, room_of}
+use Rattle.lid_machine.specs.Setups.{Setup, IsSetup, plan}
 use Rattle.lid_machine.specs.Machine.{State, in_count, out_count}
+use Rattle.lid_machine.specs.Laws.{AllRest, IsSettled, sweeps}
 use Rattle.lid_walk.specs.declared.walk.Walk.{Walk}
 use Rattle.lid_walk.specs.Walks.{Walks}
 
@@ -23,3 +26,16 @@ abbrev pub StationsHoldPrefixes : Type 0
 StationsHoldPrefixes =
     (m : Setup) (st : State) (w : Walk) (station : ℕ) (p : Pair)
     → Walks m st w → slice_get w.board.pairs.items station ≡ Some p → HoldsPrefix m st station p
+
+-- the clocked run in which nobody is held brings each actor to its cap, in at most a cycle for each actor and each row
+abbrev pub RunsReachCaps : Type 0
+RunsReachCaps =
+    (m : Setup) (k v : ℕ)
+    → IsSetup m → actors_of (plan m) * length m.input ≤ k → v < actors_of (plan m)
+    → fired_in (plan m).links (plan m).placement (plan m).rows no_hold k v ≡ cap (plan m) v
+
+-- so as many sweeps settle a walk, from whatever state in which all actors are at rest
+abbrev pub SweepsSettleWalks : Type 0
+SweepsSettleWalks =
+    (m : Setup) (st : State) (w : Walk) (k : ℕ)
+    → Walks m st w → AllRest (plan m) st → actors_of (plan m) * length m.input ≤ k → IsSettled (plan m) (sweeps (plan m) st k)

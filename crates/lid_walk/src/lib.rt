@@ -5,5 +5,5 @@ mod laws;
 mod starting;
 mod walk;
 
-pub use laws::stations_hold_prefixes;
+pub use laws::{stations_hold_prefixes, sweeps_settle_walks};
 pub use walk::Walk;

@@ -7,7 +7,7 @@ ghost use Rattle.lid_stations.specs.Placements.{Fits};
 ghost use Rattle.lid_machine.specs.Plans.{actors_of, sink};
 ghost use Rattle.lid_machine.specs.Setups.{Setup, IsSetup, IsInputRow, plan, output_rows};
 ghost use Rattle.lid_machine.specs.Machine.{State, begun, answer_of, next, turn, sweep};
-ghost use Rattle.lid_machine.specs.Laws.{IsSound, AllRest, IsSettled};
+ghost use Rattle.lid_machine.specs.Laws.{AllRest, IsSettled};
 ghost use Rattle.lid_shell.specs.Parts.{AreColumns};
 ghost use Rattle.lid_actors.specs.Setups.{IsSetupOf};
 ghost use Rattle.lid_actors.specs.Actors.{AreActors};
@@ -65,8 +65,8 @@ impl<'r> Walk<'r> {
     /// Goes on from a board and the actors of one system over its rows, in the order of their numbers, which agree with
     /// the board.
     pub fn adopt(board: PlainBoard, actors: Vec<Actor<'r>>) -> Walk<'r>
-        requires { (m : Setup) × (st : State) × IsSetup m × IsSound (plan m) st × AreActors m st actors.items × IsBoard m st board.pairs.items }
-        ensures { (m : Setup) (st : State) → IsSetup m → IsSound (plan m) st → AreActors m st actors.entry.items → IsBoard m st board.pairs.items → Walks m st result }
+        requires { (m : Setup) × (st : State) × IsSetup m × AreActors m st actors.items × IsBoard m st board.pairs.items }
+        ensures { (m : Setup) (st : State) → IsSetup m → AreActors m st actors.entry.items → IsBoard m st board.pairs.items → Walks m st result }
     {
         Walk { board, actors }
     }

@@ -1,5 +1,5 @@
 -- The board starts with the start tokens of a setup.
-use Rattle.std.proofs.Common.{◌≡◌, length, sym, ◌∙◌, ap, subst}
+use Rattle.std.proofs.Common.{length, sym, ◌∙◌, ap, subst}
 use Rattle.lid_base.proofs.Results.{if_both_ok}
 use Rattle.std.specs.Prelude.{ℕ, ◌^◌, ◌<◌, List, Option, IfSome}
 use Rattle.std.specs.List.{All}

@@ -1,6 +1,5 @@
 -- The board and the actors are those of a setup in which no actor has begun.
 use Rattle.lid_machine.specs.Machine.{begun}
-use Rattle.lid_machine.proofs.Sound.{sound_begun}
 use Rattle.lid_actors.proofs.Starting.{setup_of}
 use Rattle.lid_walk.proofs.walk.Walk.start.Goals as goal
 
@@ -11,10 +10,9 @@ adopt-requires c =
       own.0,
       begun,
       own.1.rules,
-      sound_begun own.0 own.1.rules,
       c.in_ok-actors.ensures own.0 own.1,
       c.in_ok-board.ensures own.0 own.1,
     )
 
 pub returns : goal.returns
-returns c = λ m of. c.adopt.ensures m begun of.rules (sound_begun m of.rules) (c.in_ok-actors.ensures m of) (c.in_ok-board.ensures m of)
+returns c = λ m of. c.adopt.ensures m begun of.rules (c.in_ok-actors.ensures m of) (c.in_ok-board.ensures m of)
