@@ -13,6 +13,8 @@ mod check_tests;
 #[cfg(test)]
 mod clock_tests;
 #[cfg(test)]
+mod free_tests;
+#[cfg(test)]
 mod net_tests;
 #[cfg(test)]
 mod rate_tests;

@@ -1,7 +1,7 @@
 -- Some words, and the jobs that they are by the definitions alone.
-use Rattle.std.proofs.Common.{◌≡◌, refl, [], ◌∷◌, Some, None, codes}
+use Rattle.std.proofs.Common.{◌≡◌, refl, [], ◌∷◌, true, Some, None, codes}
 use Rattle.clap.proofs.OnLiterals.{clap_on_literals}
-use Rattle.lid_cli.specs.declared.job.Job.TheVariants.{Check, Clock, Gen, Place, Rate, Strict, Verify, Walk}
+use Rattle.lid_cli.specs.declared.job.Job.TheVariants.{Check, Clock, Free, Gen, Place, Rate, Strict, Verify, Walk}
 use Rattle.lid_base.specs.Numbers.{number_below}
 use Rattle.lid_cli.specs.Reading.{lid_app, given_in}
 use Rattle.lid_cli.specs.Jobs.{is_given, is_tallied, files_in, file_at, name_in, seed_in, number_if, number_or, is_allowed, has_only, has_each, is_within, fits, option_fits, has_both, has_form, job_made, job_formed, form_in, job_given, job_of}
@@ -44,6 +44,11 @@ place_with_reach = refl
 walk_with_schedule : job_of (codes "walk" ∷ codes "a" ∷ codes "b" ∷ codes "--schedule" ∷ codes "s" ∷ []) ≡ Some (Walk (codes "a") (codes "b") (codes "s") None None)
 unfolding words_on_literals
 walk_with_schedule = refl
+
+-- `free a b --rounds 7 --tally`
+free_with_tally : job_of (codes "free" ∷ codes "a" ∷ codes "b" ∷ codes "--rounds" ∷ codes "7" ∷ codes "--tally" ∷ []) ≡ Some (Free (codes "a") (codes "b") None 1 7 true None)
+unfolding words_on_literals
+free_with_tally = refl
 
 -- `gen 2 --shells 3`
 gen_with_shells : job_of (codes "gen" ∷ codes "2" ∷ codes "--shells" ∷ codes "3" ∷ []) ≡ Some (Gen 2 3 None)

@@ -61,6 +61,10 @@ workers_range : (text : List ℕ) → fits (codes "workers") text ≡ is_within 
 unfolding fits
 workers_range text = refl
 
+rounds_range : (text : List ℕ) → fits (codes "rounds") text ≡ is_within 0 1000000 text
+unfolding fits
+rounds_range text = refl
+
 reach_range : (text : List ℕ) → fits (codes "reach") text ≡ is_within 1 9223372036854775807 text
 unfolding fits
 reach_range text = refl
@@ -90,6 +94,12 @@ module _ (found : List Row) (all : list_all (option_fits found) option_names ≡
   workers_few =
       other_in_range 1 64 1 (number_if (codes "workers") found) (omega arith) (omega arith)
       (number_in_range (codes "workers") 1 64 workers_range found (fits_at 3 (codes "workers") (omega arith) refl))
+
+  pub rounds_few : number_or 1000 (codes "rounds") found ≤ 1000000
+  unfolding number_or
+  rounds_few =
+      (other_in_range 0 1000000 1000 (number_if (codes "rounds") found) (omega arith) (omega arith)
+      (number_in_range (codes "rounds") 0 1000000 rounds_range found (fits_at 6 (codes "rounds") (omega arith) refl))).1
 
   pub reach_positive : 1 ≤ number_or 1 (codes "reach") found
   unfolding number_or

@@ -6,11 +6,11 @@ use Rattle.std.specs.List.{list_all, list_any}
 use Rattle.std.specs.Str.{bytes_eq}
 use Rattle.clap.specs.Walk.{Row, first_of, all_of}
 use Rattle.lid_base.specs.Numbers.{number}
-use Rattle.lid_cli.specs.declared.table.TheConstants.{COMMAND, FILES, TALLY, ROOT, STATIONS, STALLS, SCHEDULE, WIRES, WORKERS, REACH, TRACE, SHELLS, RUN}
+use Rattle.lid_cli.specs.declared.table.TheConstants.{COMMAND, FILES, TALLY, ROOT, STATIONS, STALLS, SCHEDULE, WIRES, WORKERS, ROUNDS, REACH, TRACE, SHELLS, RUN}
 use Rattle.lid_cli.specs.declared.table.Command.{Command}
 use Rattle.lid_cli.specs.declared.table.Command.TheVariants as command
 use Rattle.lid_cli.specs.declared.job.Job.{Job}
-use Rattle.lid_cli.specs.declared.job.Job.TheVariants.{Check, Clock, Gen, Place, Rate, Strict, Unwave, Verify, Walk, Wave}
+use Rattle.lid_cli.specs.declared.job.Job.TheVariants.{Check, Clock, Free, Gen, Place, Rate, Strict, Unwave, Verify, Walk, Wave}
 use Rattle.lid_cli.specs.Table.{Form, form, table, Range, range, ranges}
 use Rattle.lid_cli.specs.Reading.{option_names, given_in}
 
@@ -117,6 +117,10 @@ number_or other option found = unwrap_or (number_if option found) other
 abbrev pub clock_job : List Row → Option Job
 clock_job found = Some (Clock (file_at 0 found) (file_at 1 found) (first_of STATIONS.now found) (first_of STALLS.now found) (number_or 1 WORKERS.now found) (number_if TRACE.now found) (root_in found))
 
+-- the job of `free`
+abbrev pub free_job : List Row → Option Job
+free_job found = Some (Free (file_at 0 found) (file_at 1 found) (first_of STATIONS.now found) (number_or 1 WORKERS.now found) (number_or 1000 ROUNDS.now found) (is_tallied found) (root_in found))
+
 -- the seed that stands in the first place
 unfoldable pub seed_in : List Row → ℕ
 seed_in found = unwrap_or (number (file_at 0 found)) 0
@@ -161,6 +165,7 @@ job_made command.Clock found = clock_job found
 job_made command.Rate found = rate_job found
 job_made command.Verify found = verify_job found
 job_made command.Place found = place_job found
+job_made command.Free found = free_job found
 job_made command.Gen found = gen_job found
 job_made command.Walk found = walk_job found
 job_made command.Wave found = wave_job found
@@ -198,6 +203,7 @@ AreFew workers = (1 ≤ workers) × (workers ≤ 64)
 -- numbers are in their ranges
 abbrev pub IsSound : Job → Type 0
 IsSound (Clock net vec stations stalls workers trace root) = AreFew workers × IfSome trace IsTraceLong
+IsSound (Free net vec stations workers rounds tally root) = AreFew workers × (rounds ≤ 1000000)
 IsSound (Gen seed shells run) = (shells ≤ 4294967295) × IfSome run (λ rows. (1 ≤ rows) × (rows ≤ 1000000))
 IsSound (Place net wires reach root) = 1 ≤ reach
 IsSound (Wave net vec stations trace root) = IsTraceLong trace

@@ -2,11 +2,11 @@
 
 ghost use Rattle.std.specs.Prelude.{◌≡◌, IfOk};
 ghost use Rattle.lid_cli.specs.Reading.{matches_in};
-ghost use Rattle.lid_cli.specs.Jobs.{file_at, root_in, seed_in, number_if, number_or, check_job, gen_job, place_job, rate_job, strict_job, unwave_job, verify_job, walk_job, wave_job, clock_job};
+ghost use Rattle.lid_cli.specs.Jobs.{file_at, root_in, seed_in, number_if, number_or, check_job, gen_job, place_job, rate_job, strict_job, unwave_job, verify_job, walk_job, wave_job, clock_job, free_job};
 
-use crate::given::{file_at, file_text, root_of, text_if_given, text_of, value_of};
+use crate::given::{file_at, file_text, is_tallied, root_of, text_if_given, text_of, value_of};
 use crate::job::Job;
-use crate::table::{REACH, RUN, SCHEDULE, SHELLS, STALLS, STATIONS, TRACE, WIRES, WORKERS};
+use crate::table::{REACH, ROUNDS, RUN, SCHEDULE, SHELLS, STALLS, STATIONS, TRACE, WIRES, WORKERS};
 use clap::ArgMatches;
 use lid_base::{Name, Text, number};
 use std::alloc::{AllocError, Global};
@@ -63,6 +63,24 @@ pub fn clock_job(alloc: Global, given: &ArgMatches<'_>) -> Result<Option<Job>, A
         stalls,
         workers: number_or(given, WORKERS, 1),
         trace: number_if(given, TRACE),
+        root,
+    }))
+}
+
+/// The job of `free`.
+pub fn free_job(alloc: Global, given: &ArgMatches<'_>) -> Result<Option<Job>, AllocError>
+    ensures { IfOk result (λ job. job ≡ free_job (matches_in given.now)) }
+{
+    let (net, root) = netlist_of(alloc, given)?;
+    let vec = file_text(alloc, given, 1)?;
+    let stations = text_if_given(alloc, given, STATIONS)?;
+    Ok(Some(Job::Free {
+        net,
+        vec,
+        stations,
+        workers: number_or(given, WORKERS, 1),
+        rounds: number_or(given, ROUNDS, 1_000),
+        tally: is_tallied(given),
         root,
     }))
 }

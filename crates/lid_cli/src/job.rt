@@ -6,8 +6,8 @@ ghost use Rattle.lid_cli.specs.Reading.{matches_in, option_names};
 ghost use Rattle.lid_cli.specs.Jobs.{IsSound, option_fits, form_shown, job_made, job_formed, job_given, job_of};
 
 use crate::commands::{
-    check_job, clock_job, gen_job, place_job, rate_job, strict_job, unwave_job, verify_job,
-    walk_job, wave_job,
+    check_job, clock_job, free_job, gen_job, place_job, rate_job, strict_job, unwave_job,
+    verify_job, walk_job, wave_job,
 };
 use crate::form::{form_of, has_form};
 use crate::reader::parse;
@@ -40,6 +40,23 @@ pub enum Job {
         workers: u64,
         /// The number of cycles of the trace, 1 to 1,048,576, where one is asked for.
         trace: Option<u64>,
+        /// The name of the model that is to be the root, as for `strict`.
+        root: Option<Name>,
+    },
+    /// `free NET VEC`: the outputs of the wrapped design, whose actors threads turn at shared stations.
+    Free {
+        /// The name of the file with the netlist.
+        net: Text,
+        /// The name of the file with the rows.
+        vec: Text,
+        /// The name of the file with the stations, as for `rate`.
+        stations: Option<Text>,
+        /// The number of workers, 1 to 64.
+        workers: u64,
+        /// The number of rounds of each worker, at most 1,000,000.
+        rounds: u64,
+        /// Whether it is told how the turns of the workers ended.
+        tally: bool,
         /// The name of the model that is to be the root, as for `strict`.
         root: Option<Name>,
     },
@@ -140,6 +157,7 @@ fn make_job(
     match command {
         Command::Check => check_job(alloc, given),
         Command::Clock => clock_job(alloc, given),
+        Command::Free => free_job(alloc, given),
         Command::Gen => Ok(gen_job(given)),
         Command::Place => place_job(alloc, given),
         Command::Rate => rate_job(alloc, given),
@@ -149,7 +167,7 @@ fn make_job(
         Command::Walk => walk_job(alloc, given),
         Command::Wave => wave_job(alloc, given),
         // not built yet
-        Command::Free | Command::Emit | Command::Slack | Command::Size => Ok(None),
+        Command::Emit | Command::Slack | Command::Size => Ok(None),
     }
 }
 

@@ -20,6 +20,8 @@ pub const WIRES: &str = "wires";
 pub const REACH: &str = "reach";
 /// The option with the number of workers.
 pub const WORKERS: &str = "workers";
+/// The option with the number of rounds.
+pub const ROUNDS: &str = "rounds";
 /// The option with the number of cycles of the trace.
 pub const TRACE: &str = "trace";
 /// The option with the number of shells.
@@ -31,7 +33,7 @@ pub const TALLY: &str = "tally";
 
 /// The options of all commands; each has one value.
 pub static OPTIONS: [&str; 11] = [
-    ROOT, STATIONS, STALLS, WORKERS, TRACE, SCHEDULE, "rounds", WIRES, REACH, SHELLS, RUN,
+    ROOT, STATIONS, STALLS, WORKERS, TRACE, SCHEDULE, ROUNDS, WIRES, REACH, SHELLS, RUN,
 ];
 
 /// A command of the table.
@@ -97,7 +99,7 @@ pub static FORMS: [Form; 14] = [
         "free",
         &["NET", "VEC"],
         &[],
-        &[ROOT, STATIONS, WORKERS, "rounds"],
+        &[ROOT, STATIONS, WORKERS, ROUNDS],
         true,
     ),
     (
@@ -167,7 +169,7 @@ pub type Range = (&'static str, u64, u64);
 /// The options and the place that are numbers.
 pub static RANGES: [Range; 7] = [
     (WORKERS, 1, 64),
-    ("rounds", 0, 1_000_000),
+    (ROUNDS, 0, 1_000_000),
     (TRACE, 1, 1_048_576),
     (REACH, 1, 9_223_372_036_854_775_807),
     (SHELLS, 0, 4_294_967_295),

@@ -3,16 +3,18 @@ use Rattle.std.specs.Prelude.{⊤, ◌≤◌, Bool, List}
 use Rattle.lid_design.specs.declared.Design.{Design}
 use Rattle.lid_stations.specs.declared.placement.Placement.{Placement}
 use Rattle.lid_stations.specs.Placements.{Links}
-use Rattle.lid_script.specs.Scripts.{Script, schedule_script, waving_script}
+use Rattle.lid_script.specs.Scripts.{Script, freeing_script, schedule_script, waving_script}
 use Rattle.lid_heldruns.specs.declared.run.HeldRun.{HeldRun}
-use Rattle.lid_heldruns.specs.declared.run.HeldRun.TheVariants.{Walk, Wave}
+use Rattle.lid_heldruns.specs.declared.run.HeldRun.TheVariants.{Free, Walk, Wave}
 
 -- the steps that are left
 abbrev pub script_for : HeldRun → Design → Links → Placement → List (List Bool) → Script
+script_for (Free workers rounds tally) d l p rows = freeing_script d l p workers rounds tally rows
 script_for (Walk schedule) d l p rows = schedule_script d l p schedule.now rows
 script_for (Wave cycles) d l p rows = waving_script d l p cycles rows
 
 -- a trace has some cycles and not too many
 abbrev pub IsSoundRun : HeldRun → Type 0
+IsSoundRun (Free workers rounds tally) = (1 ≤ workers) × (workers ≤ 64) × (rounds ≤ 1000000)
 IsSoundRun (Walk schedule) = ⊤
 IsSoundRun (Wave cycles) = (1 ≤ cycles) × (cycles ≤ 1048576)

@@ -6,27 +6,29 @@ ghost use Rattle.lid_agree.specs.Agreement.{IsSystemOf};
 ghost use Rattle.lid_design.specs.Columns.{root_inputs};
 ghost use Rattle.lid_design.specs.WellFormed.{IsWellFormed};
 ghost use Rattle.lid_script.specs.Causes.{IsCause};
-ghost use Rattle.lid_script.specs.Scripts.{rows_step, placement_step, built_step, check_step, held_step, walk_script, wave_script};
+ghost use Rattle.lid_script.specs.Scripts.{rows_step, placement_step, built_step, check_step, held_step, free_script, walk_script, wave_script};
 ghost use Rattle.lid_script.specs.Statuses.{HasText};
 ghost use Rattle.lid_stations.specs.Placements.{links_of, Fits};
 ghost use Rattle.lid_system.specs.Systems.{IsWellFormed as IsSystem};
 ghost use Rattle.lid_heldruns.specs.Runs.{script_for, IsSoundRun};
 
+use crate::freeing::freed_text;
 use crate::run::HeldRun;
 use crate::walking::walked_text;
 use crate::waving::waved_text;
-use lid_base::{Name, Shelf, Text};
+use lid_base::{Gate, Name, Shelf, Text};
 use lid_check::Checked;
 use lid_design::Design;
 use lid_script::{Stop, accept, build_system, read_net, read_placement, read_vec};
 use lid_stations::Placement;
 use lid_system::System;
 use lid_texts::Rows;
-use std::alloc::Global;
+use std::thread::Threads;
 
 /// What is written once the rows are read.
-fn run_text<'a, S: Shelf>(
-    alloc: Global,
+fn run_text<'a, R: Threads + AllocGlobal + Sync, S: Shelf, G: Gate>(
+    rt: &R,
+    gate: &G,
     shelf: &mut S,
     checked: &Checked,
     system: &System,
@@ -47,15 +49,31 @@ fn run_text<'a, S: Shelf>(
 {
     match run {
         HeldRun::Walk(schedule) => {
-            walked_text(alloc, shelf, checked, system, placement, rows, schedule)
+            walked_text(
+                rt.alloc(),
+                shelf,
+                checked,
+                system,
+                placement,
+                rows,
+                schedule,
+            )
         }
-        HeldRun::Wave(cycles) => waved_text(alloc, checked, system, placement, rows, cycles),
+        HeldRun::Free {
+            workers,
+            rounds,
+            tally,
+        } => freed_text(
+            rt, gate, checked, system, placement, rows, workers, rounds, tally,
+        ),
+        HeldRun::Wave(cycles) => waved_text(rt.alloc(), checked, system, placement, rows, cycles),
     }
 }
 
 /// What is written of a system with its stations.
-fn placed_text<'a, S: Shelf>(
-    alloc: Global,
+fn placed_text<'a, R: Threads + AllocGlobal + Sync, S: Shelf, G: Gate>(
+    rt: &R,
+    gate: &G,
     shelf: &mut S,
     checked: &Checked,
     system: &System,
@@ -72,15 +90,16 @@ fn placed_text<'a, S: Shelf>(
     ensures kept { S.held shelf.new ≡ S.held shelf.old }
     ensures grows { (q : List ℕ) → S.faults shelf.old q ≤ S.faults shelf.new q }
 {
-    match read_vec(alloc, shelf, checked, vec) {
-        Ok(rows) => run_text(alloc, shelf, checked, system, placement, &rows, run),
+    match read_vec(rt.alloc(), shelf, checked, vec) {
+        Ok(rows) => run_text(rt, gate, shelf, checked, system, placement, &rows, run),
         Err(stop) => Err(stop),
     }
 }
 
 /// What is written of a system.
-fn built_text<'a, S: Shelf>(
-    alloc: Global,
+fn built_text<'a, R: Threads + AllocGlobal + Sync, S: Shelf, G: Gate>(
+    rt: &R,
+    gate: &G,
     shelf: &mut S,
     checked: &Checked,
     system: &System,
@@ -96,15 +115,16 @@ fn built_text<'a, S: Shelf>(
     ensures kept { S.held shelf.new ≡ S.held shelf.old }
     ensures grows { (q : List ℕ) → S.faults shelf.old q ≤ S.faults shelf.new q }
 {
-    match read_placement(alloc, shelf, system, stations) {
-        Ok(placement) => placed_text(alloc, shelf, checked, system, &placement, vec, run),
+    match read_placement(rt.alloc(), shelf, system, stations) {
+        Ok(placement) => placed_text(rt, gate, shelf, checked, system, &placement, vec, run),
         Err(stop) => Err(stop),
     }
 }
 
 /// What is written of an accepted design.
-fn checked_text<'a, S: Shelf>(
-    alloc: Global,
+fn checked_text<'a, R: Threads + AllocGlobal + Sync, S: Shelf, G: Gate>(
+    rt: &R,
+    gate: &G,
     shelf: &mut S,
     checked: &Checked,
     vec: &'a str,
@@ -117,15 +137,16 @@ fn checked_text<'a, S: Shelf>(
     ensures kept { S.held shelf.new ≡ S.held shelf.old }
     ensures grows { (q : List ℕ) → S.faults shelf.old q ≤ S.faults shelf.new q }
 {
-    match build_system(alloc, checked) {
-        Ok(system) => built_text(alloc, shelf, checked, &system, vec, stations, run),
+    match build_system(rt.alloc(), checked) {
+        Ok(system) => built_text(rt, gate, shelf, checked, &system, vec, stations, run),
         Err(stop) => Err(stop),
     }
 }
 
 /// What is written of a design that was read.
-fn read_text<'a, S: Shelf>(
-    alloc: Global,
+fn read_text<'a, R: Threads + AllocGlobal + Sync, S: Shelf, G: Gate>(
+    rt: &R,
+    gate: &G,
     shelf: &mut S,
     design: Design,
     vec: &'a str,
@@ -140,15 +161,16 @@ fn read_text<'a, S: Shelf>(
     ensures kept { S.held shelf.new ≡ S.held shelf.old }
     ensures grows { (q : List ℕ) → S.faults shelf.old q ≤ S.faults shelf.new q }
 {
-    match accept(alloc, design, root) {
-        Ok(checked) => checked_text(alloc, shelf, &checked, vec, stations, run),
+    match accept(rt.alloc(), design, root) {
+        Ok(checked) => checked_text(rt, gate, shelf, &checked, vec, stations, run),
         Err(stop) => Err(stop),
     }
 }
 
 /// What a run writes.
-fn held_text<'a, S: Shelf>(
-    alloc: Global,
+fn held_text<'a, R: Threads + AllocGlobal + Sync, S: Shelf, G: Gate>(
+    rt: &R,
+    gate: &G,
     shelf: &mut S,
     net: &'a str,
     vec: &'a str,
@@ -162,15 +184,53 @@ fn held_text<'a, S: Shelf>(
     ensures kept { S.held shelf.new ≡ S.held shelf.old }
     ensures grows { (q : List ℕ) → S.faults shelf.old q ≤ S.faults shelf.new q }
 {
-    match read_net(alloc, shelf, net) {
-        Ok(design) => read_text(alloc, shelf, design, vec, stations, root, run),
+    match read_net(rt.alloc(), shelf, net) {
+        Ok(design) => read_text(rt, gate, shelf, design, vec, stations, root, run),
         Err(stop) => Err(stop),
     }
 }
 
+/// What `free` writes, of 1 to 64 workers and at most 1,000,000 rounds.
+pub fn free_text<'a, R: Threads + AllocGlobal + Sync, S: Shelf, G: Gate>(
+    rt: &R,
+    gate: &G,
+    shelf: &mut S,
+    net: &'a str,
+    vec: &'a str,
+    stations: &'a Option<Text>,
+    workers: u32,
+    rounds: u64,
+    tally: bool,
+    root: &Option<Name>,
+) -> Result<Vec<u8>, Stop<'a>>
+    requires some { 1 ≤ workers }
+    requires most { workers ≤ 64 }
+    requires few { rounds ≤ 1000000 }
+    ensures ok { IfOk result (λ text. HasText (S.held shelf.old) (free_script net.now vec.now stations.now workers rounds tally root.now) text.items) }
+    ensures err { IfErr result (IsCause (S.held shelf.old) (free_script net.now vec.now stations.now workers rounds tally root.now) (S.faults shelf.old) (S.faults shelf.new)) }
+    ensures kept { S.held shelf.new ≡ S.held shelf.old }
+    ensures grows { (q : List ℕ) → S.faults shelf.old q ≤ S.faults shelf.new q }
+{
+    held_text(
+        rt,
+        gate,
+        shelf,
+        net,
+        vec,
+        stations,
+        root,
+        HeldRun::Free {
+            workers,
+            rounds,
+            tally,
+        },
+    )
+}
+
 /// What `walk` writes.
-pub fn walk_text<'a, S: Shelf>(
-    alloc: Global,
+pub fn walk_text<'a, R: Threads + AllocGlobal + Sync, S: Shelf, G: Gate>(
+    rt: &R,
+    gate: &G,
     shelf: &mut S,
     net: &'a str,
     vec: &'a str,
@@ -184,7 +244,8 @@ pub fn walk_text<'a, S: Shelf>(
     ensures grows { (q : List ℕ) → S.faults shelf.old q ≤ S.faults shelf.new q }
 {
     held_text(
-        alloc,
+        rt,
+        gate,
         shelf,
         net,
         vec,
@@ -195,8 +256,9 @@ pub fn walk_text<'a, S: Shelf>(
 }
 
 /// What `wave` writes, of a trace of 1 to 1,048,576 cycles.
-pub fn wave_text<'a, S: Shelf>(
-    alloc: Global,
+pub fn wave_text<'a, R: Threads + AllocGlobal + Sync, S: Shelf, G: Gate>(
+    rt: &R,
+    gate: &G,
     shelf: &mut S,
     net: &'a str,
     vec: &'a str,
@@ -212,7 +274,8 @@ pub fn wave_text<'a, S: Shelf>(
     ensures grows { (q : List ℕ) → S.faults shelf.old q ≤ S.faults shelf.new q }
 {
     held_text(
-        alloc,
+        rt,
+        gate,
         shelf,
         net,
         vec,

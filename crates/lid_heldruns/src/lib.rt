@@ -1,9 +1,10 @@
-//! The commands whose runs hold their rows at hand: `walk` and `wave`.
+//! The commands whose runs hold their rows at hand: `free`, `walk` and `wave`.
 #![tactic(auto)]
 
+mod freeing;
 mod held;
 mod run;
 mod walking;
 mod waving;
 
-pub use held::{walk_text, wave_text};
+pub use held::{free_text, walk_text, wave_text};

@@ -2,6 +2,7 @@ pub mod Causes
 pub mod Clocked
 pub mod Walked
 pub mod Waved
+pub mod Freed
 pub mod Generated
 pub mod Early
 pub mod Outputs

@@ -23,6 +23,7 @@ use Rattle.lid_stalltext.specs.declared.stalls.Stall.{Stall}
 use Rattle.lid_script.specs.Clocked.{IsClockText}
 use Rattle.lid_script.specs.Walked.{IsWalkText}
 use Rattle.lid_script.specs.Waved.{IsWaveText}
+use Rattle.lid_script.specs.Freed.{IsFreeText}
 use Rattle.lid_script.specs.Generated.{IsSummaryText}
 
 -- what a command tells
@@ -34,6 +35,7 @@ pub data Output : Type 0 where
   verdict : Links → Cert → Output  -- what a certificate shows
   clocked : Design → Links → Placement → List (List Bool) → Option (List Stall) → Option ℕ → Output  -- the clocked run for rows, under stalls where they are given, with its trace where one is asked for
   walked : Design → Links → Placement → List (List Bool) → List ℕ → Output  -- the walk along a schedule for rows
+  freed : Design → Links → Placement → List (List Bool) → ℕ → ℕ → Bool → Output  -- the free run for rows, by so many workers of so many rounds, with its tallies where they are asked for
   waved : Design → Links → Placement → List (List Bool) → ℕ → Output  -- the trace of the clocked run for rows, of so many cycles, as a dump
   unwaved : Trace → Output  -- the trace that a dump shows
   design_of_seed : ℕ → ℕ → Output  -- the design of a seed with so many shells
@@ -74,6 +76,7 @@ IsTextOf (throughput l p) text = IsRateText (marking l p) text
 IsTextOf (verdict l cert) text = text ≡ verdict_text cert (l.nodes - 1)
 IsTextOf (clocked d l p rows stalls trace) text = IsClockText d l p rows stalls trace text
 IsTextOf (walked d l p rows schedule) text = IsWalkText d l p rows schedule text
+IsTextOf (freed d l p rows workers rounds tally) text = IsFreeText d l p rows workers rounds tally text
 IsTextOf (waved d l p rows most) text = IsWaveText d l p rows most text
 IsTextOf (unwaved trace) text = text ≡ trace_text trace
 IsTextOf (design_of_seed seed shells) text = text ≡ canonical_text (generated seed shells)

@@ -41,9 +41,9 @@ use Rattle.lid_vcd.specs.Reading.{wave_reading}
 use Rattle.lid_gen.specs.declared.fault.GenFault.{GenFault}
 use Rattle.lid_gen.specs.Designs.{size_fault}
 use Rattle.lid_cli.specs.declared.job.Job.{Job}
-use Rattle.lid_cli.specs.declared.job.Job.TheVariants.{Check, Clock, Gen, Place, Rate, Strict, Unwave, Verify, Walk, Wave}
+use Rattle.lid_cli.specs.declared.job.Job.TheVariants.{Check, Clock, Free, Gen, Place, Rate, Strict, Unwave, Verify, Walk, Wave}
 use Rattle.lid_refusals.specs.Faults.{blif_line, rows_line, check_line, net_line, stations_line, cert_line, trace_line, stalls_line, schedule_line, vcd_line, gen_line}
-use Rattle.lid_script.specs.Outputs.{Output, report, strict_output, placed, throughput, verdict, clocked, walked, waved, unwaved, design_of_seed, run_of_seed}
+use Rattle.lid_script.specs.Outputs.{Output, report, strict_output, placed, throughput, verdict, clocked, walked, freed, waved, unwaved, design_of_seed, run_of_seed}
 
 -- what a reading makes of a value
 pub data Reading (A : Type 0) : Type 0 where
@@ -345,6 +345,14 @@ held_step net vec stations root next = read_step net net_limit net_reading (λ d
 unfoldable pub walk_script : List ℕ → List ℕ → List ℕ → Option (List ℕ) → Option (List ℕ) → Script
 walk_script net vec schedule stations root = held_step net vec stations root (λ d l p rows. schedule_script d l p schedule rows)
 
+-- `free` of a system with such a placement for these rows
+unfoldable pub freeing_script : Design → Links → Placement → ℕ → ℕ → Bool → List (List Bool) → Script
+freeing_script d l p workers rounds tally rows = end (gives (freed d l p rows workers rounds tally))
+
+-- `free`: the run, once the rows are read
+unfoldable pub free_script : List ℕ → List ℕ → Option (List ℕ) → ℕ → ℕ → Bool → Option (List ℕ) → Script
+free_script net vec stations workers rounds tally root = held_step net vec stations root (λ d l p rows. freeing_script d l p workers rounds tally rows)
+
 -- `wave` of a system with such a placement whose rows were read: the trace is judged
 unfoldable pub waving_script : Design → Links → Placement → ℕ → List (List Bool) → Script
 waving_script d l p cycles rows = step (trace_read p (Some cycles)) (λ _. end (gives (waved d l p rows cycles)))
@@ -395,6 +403,7 @@ script_of (Rate net stations root) = rate_script net stations root
 script_of (Strict net vec root) = strict_script net vec root
 script_of (Verify net cert stations root) = verify_script net cert stations root
 script_of (Walk net vec schedule stations root) = walk_script net vec schedule stations root
+script_of (Free net vec stations workers rounds tally root) = free_script net vec stations workers rounds tally root
 script_of (Wave net vec stations trace root) = wave_script net vec stations trace root
 script_of (Unwave file) = unwave_script file
 script_of (Gen seed shells run) = gen_script seed shells run

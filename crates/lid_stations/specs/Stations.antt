@@ -67,7 +67,7 @@ pub record IsPlace (s : System) (p : Placement) (c place start : ℕ) : Type 0 w
   pub within : place ≤ slice_index_or p.relays c 0
   pub first : start ≡ mover (links_of s) p c 0
 
--- the first station of a channel starts with the token of row 0
+-- the first station of a channel starts with the token of its first row
 abbrev pub starts : ℕ → ℕ
 starts zero = 1
 starts (suc place) = 0

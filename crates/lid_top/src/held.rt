@@ -7,18 +7,19 @@ ghost use Rattle.lid_script.specs.Causes.{IsCause};
 ghost use Rattle.lid_script.specs.Statuses.{HasText};
 ghost use Rattle.lid_top.specs.Held.{is_held};
 
-use lid_base::Shelf;
+use lid_base::{Gate, Shelf};
 use lid_cli::Job;
 use lid_generating::gen_text;
-use lid_heldruns::{walk_text, wave_text};
+use lid_heldruns::{free_text, walk_text, wave_text};
 use lid_script::Stop;
 use lid_waving::unwave_text;
-use std::alloc::Global;
 use std::convert::AsStr;
+use std::thread::Threads;
 
-/// What `gen`, `unwave`, `walk` or `wave` writes.
-pub fn held_text<'a, S: Shelf>(
-    alloc: Global,
+/// What `free`, `gen`, `unwave`, `walk` or `wave` writes.
+pub fn held_text<'a, R: Threads + AllocGlobal + Sync, S: Shelf, G: Gate>(
+    rt: &R,
+    gate: &G,
     shelf: &mut S,
     job: &'a Job,
 ) -> Result<Vec<u8>, Stop<'a>>
@@ -30,8 +31,28 @@ pub fn held_text<'a, S: Shelf>(
     ensures grows { (q : List ℕ) → S.faults shelf.old q ≤ S.faults shelf.new q }
 {
     match job {
-        Job::Gen { seed, shells, run } => gen_text(alloc, *seed, *shells, run),
-        Job::Unwave { file } => unwave_text(alloc, shelf, file.as_str()),
+        Job::Free {
+            net,
+            vec,
+            stations,
+            workers,
+            rounds,
+            tally,
+            root,
+        } => free_text(
+            rt,
+            gate,
+            shelf,
+            net.as_str(),
+            vec.as_str(),
+            stations,
+            *workers as u32,
+            *rounds,
+            *tally,
+            root,
+        ),
+        Job::Gen { seed, shells, run } => gen_text(rt.alloc(), *seed, *shells, run),
+        Job::Unwave { file } => unwave_text(rt.alloc(), shelf, file.as_str()),
         Job::Walk {
             net,
             vec,
@@ -39,7 +60,8 @@ pub fn held_text<'a, S: Shelf>(
             stations,
             root,
         } => walk_text(
-            alloc,
+            rt,
+            gate,
             shelf,
             net.as_str(),
             vec.as_str(),
@@ -54,7 +76,8 @@ pub fn held_text<'a, S: Shelf>(
             trace,
             root,
         } => wave_text(
-            alloc,
+            rt,
+            gate,
             shelf,
             net.as_str(),
             vec.as_str(),

@@ -19,7 +19,12 @@ use std::convert::AsStr;
 use std::thread::Threads;
 
 /// What a job writes that writes nothing before its output is whole.
-fn text_of<'a, S: Shelf>(alloc: Global, shelf: &mut S, job: &'a Job) -> Result<Vec<u8>, Stop<'a>>
+fn text_of<'a, R: Threads + AllocGlobal + Sync, S: Shelf, G: Gate>(
+    rt: &R,
+    gate: &G,
+    shelf: &mut S,
+    job: &'a Job,
+) -> Result<Vec<u8>, Stop<'a>>
     requires whole { writes_early job.now ≡ false }
     requires sound { IsSound job.now }
     ensures ok { IfOk result (λ text. HasText (S.held shelf.old) (script_of job.now) text.items) }
@@ -28,31 +33,47 @@ fn text_of<'a, S: Shelf>(alloc: Global, shelf: &mut S, job: &'a Job) -> Result<V
     ensures grows { (q : List ℕ) → S.faults shelf.old q ≤ S.faults shelf.new q }
 {
     match job {
-        Job::Check { net, root } => check_text(alloc, shelf, net.as_str(), root),
+        Job::Check { net, root } => check_text(rt.alloc(), shelf, net.as_str(), root),
         Job::Clock { .. } => unreachable!(),
-        Job::Gen { .. } | Job::Unwave { .. } | Job::Walk { .. } | Job::Wave { .. } => {
-            held_text(alloc, shelf, job)
-        }
+        Job::Free { .. }
+        | Job::Gen { .. }
+        | Job::Unwave { .. }
+        | Job::Walk { .. }
+        | Job::Wave { .. } => held_text(rt, gate, shelf, job),
         Job::Place {
             net,
             wires,
             reach,
             root,
-        } => place_text(alloc, shelf, net.as_str(), wires.as_str(), *reach, root),
+        } => place_text(
+            rt.alloc(),
+            shelf,
+            net.as_str(),
+            wires.as_str(),
+            *reach,
+            root,
+        ),
         Job::Rate {
             net,
             stations,
             root,
-        } => rate_text(alloc, shelf, net.as_str(), stations, root),
+        } => rate_text(rt.alloc(), shelf, net.as_str(), stations, root),
         Job::Strict { net, vec, root } => {
-            strict_text(alloc, shelf, net.as_str(), vec.as_str(), root)
+            strict_text(rt.alloc(), shelf, net.as_str(), vec.as_str(), root)
         }
         Job::Verify {
             net,
             cert,
             stations,
             root,
-        } => verify_text(alloc, shelf, net.as_str(), cert.as_str(), stations, root),
+        } => verify_text(
+            rt.alloc(),
+            shelf,
+            net.as_str(),
+            cert.as_str(),
+            stations,
+            root,
+        ),
     }
 }
 
@@ -89,8 +110,9 @@ fn write_pieces<O: Sink>(
 }
 
 /// Runs a job that writes nothing before its output is whole.
-fn run_whole<'a, S: Shelf, O: Sink>(
-    alloc: Global,
+fn run_whole<'a, R: Threads + AllocGlobal + Sync, S: Shelf, O: Sink, G: Gate>(
+    rt: &R,
+    gate: &G,
     job: &'a Job,
     shelf: &mut S,
     out: &mut O,
@@ -103,8 +125,8 @@ fn run_whole<'a, S: Shelf, O: Sink>(
     ensures left { IfErr result (λ end. IsStopped end → out.new ≡ out.old) }
     ensures kept { S.held shelf.new ≡ S.held shelf.old }
 {
-    match text_of(alloc, shelf, job) {
-        Ok(text) => write_text(alloc, out, &text),
+    match text_of(rt, gate, shelf, job) {
+        Ok(text) => write_text(rt.alloc(), out, &text),
         Err(stop) => Err(End::Stopped(stop)),
     }
 }
@@ -155,6 +177,7 @@ where
             root,
         ),
         Job::Check { .. }
+        | Job::Free { .. }
         | Job::Gen { .. }
         | Job::Place { .. }
         | Job::Rate { .. }
@@ -162,6 +185,6 @@ where
         | Job::Unwave { .. }
         | Job::Verify { .. }
         | Job::Walk { .. }
-        | Job::Wave { .. } => run_whole(rt.alloc(), job, shelf, out),
+        | Job::Wave { .. } => run_whole(rt, gate, job, shelf, out),
     }
 }

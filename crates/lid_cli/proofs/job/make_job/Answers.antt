@@ -3,7 +3,7 @@ use Rattle.std.specs.Option.{IfSome}
 use Rattle.lid_base.proofs.Results.{if_ok}
 use Rattle.lid_cli.specs.declared.job.Job.{Job}
 use Rattle.lid_cli.specs.Jobs.{IsSound}
-use Rattle.lid_cli.proofs.Reaches.{reach_positive, workers_few, trace_sound, trace_long, shells_few, run_sound}
+use Rattle.lid_cli.proofs.Reaches.{reach_positive, workers_few, rounds_few, trace_sound, trace_long, shells_few, run_sound}
 use Rattle.lid_cli.proofs.job.make_job.Goals as goal
 
 same_job : (a b : Option Job) → IfSome b IsSound → a ≡ b → IfSome a IsSound
@@ -14,6 +14,9 @@ returns-in-Check-clause-sound c = if_ok c.check_job.result (λ job e. same_job j
 
 pub returns-in-Clock-clause-sound : goal.returns-in-Clock-clause-sound
 returns-in-Clock-clause-sound c = if_ok c.clock_job.result (λ job e. same_job job _ (workers_few _ c.requires, trace_sound _ c.requires) e) c.clock_job.ensures
+
+pub returns-in-Free-clause-sound : goal.returns-in-Free-clause-sound
+returns-in-Free-clause-sound c = if_ok c.free_job.result (λ job e. same_job job _ (workers_few _ c.requires, rounds_few _ c.requires) e) c.free_job.ensures
 
 pub returns-in-Gen-clause-sound : goal.returns-in-Gen-clause-sound
 returns-in-Gen-clause-sound c = same_job c.gen_job.result _ (shells_few _ c.requires, run_sound _ c.requires) c.gen_job.ensures

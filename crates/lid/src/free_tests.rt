@@ -1,0 +1,126 @@
+//! Free runs, through the top call. What is expected is worked out by hand: the strict outputs, and the tallies of one
+//! worker from the sweeps of the interleaving machine.
+
+use crate::net_tests::RING;
+use crate::report_tests::DIAMOND;
+use crate::tests::{NONE_FAILS, done, ended, expect_left, expect_run, run_gated};
+use lid_base::MeetGate;
+use std::alloc::AllocError;
+use std::process::Abort;
+use std::test::Fail;
+use std::thread::Threads;
+
+/// Further words, and what the ring with a relay station prints over four rows.
+static RINGS: &[(&[&str], &str)] = &[
+    // without rounds the sweeps do all: the first sweeps of the machine are its last four
+    (
+        &["--workers", "2", "--rounds", "0", "--tally"],
+        "y\n1\n0\n1\n0\nworker 0 turns 0 fired 0 voids 0 stops 0 dones 0\n\
+worker 1 turns 0 fired 0 voids 0 stops 0 dones 0\nfinish 4 fired 17\n",
+    ),
+    // one worker makes sweeps alone: the same four, and 60 in which all are at their caps
+    (
+        &["--workers", "1", "--rounds", "64", "--tally"],
+        "y\n1\n0\n1\n0\nworker 0 turns 320 fired 17 voids 2 stops 0 dones 301\nfinish 0 fired 0\n",
+    ),
+    (&["--workers", "2", "--rounds", "64"], "y\n1\n0\n1\n0\n"),
+    (&["--workers", "64"], "y\n1\n0\n1\n0\n"),
+    (&["--rounds", "1000000"], "y\n1\n0\n1\n0\n"),
+    (&[], "y\n1\n0\n1\n0\n"),
+];
+
+/// The stations of the ring's runs.
+const ONE_RELAY: &str = "lid-stations 1\nu0 u1 0 1\n";
+
+/// Its rows.
+const FOUR: &str = "-\n-\n-\n-\n-\n";
+
+/// Runs the ring with these further words.
+fn expect_ring<R: Threads + AllocGlobal + Sync + Abort>(
+    rt: &R,
+    further: &[&str],
+    told: &str,
+) -> Result<(), AllocError> {
+    let files = [("n.blif", RING), ("r.vec", FOUR), ("s", ONE_RELAY)];
+    let mut words = Vec::new(rt.alloc());
+    for word in ["free", "n.blif", "r.vec", "--stations", "s"] {
+        words.push(word)?;
+    }
+    for word in further {
+        words.push(*word)?;
+    }
+    expect_run(rt, words.as_slice(), &files, NONE_FAILS, done(told))
+}
+
+#[test]
+fn the_rows_are_strict_whatever_the_workers_do(rt: HostRuntime) -> Result<(), Fail> {
+    for (further, told) in RINGS {
+        expect_ring(&rt, further, told)?;
+    }
+    Ok(())
+}
+
+#[test]
+fn two_ways_of_unlike_length_are_run(rt: HostRuntime) -> Result<(), Fail> {
+    let files = [
+        ("n.blif", DIAMOND),
+        ("r.vec", "x\n1\n1\n0\n1\n"),
+        ("s", "lid-stations 2\nu0 u1 0 3 2 2 2 2\nu0 u2 0 0 3\n"),
+    ];
+    let words = [
+        "free",
+        "n.blif",
+        "r.vec",
+        "--stations",
+        "s",
+        "--workers",
+        "3",
+        "--rounds",
+        "50",
+    ];
+    expect_run(&rt, &words, &files, NONE_FAILS, done("y\n0\n0\n1\n0\n"))?;
+    Ok(())
+}
+
+/// Words of `free` that are no job.
+static NO_JOBS: &[&[&str]] = &[
+    &["free", "n.blif", "r.vec", "--workers", "65"],
+    &["free", "n.blif", "r.vec", "--workers", "0"],
+    &["free", "n.blif", "r.vec", "--rounds", "1000001"],
+    &["free", "n.blif", "r.vec", "--trace", "1"],
+];
+
+#[test]
+fn other_words_of_free_are_no_job(rt: HostRuntime) -> Result<(), Fail> {
+    for words in NO_JOBS {
+        expect_run(&rt, words, &[], NONE_FAILS, ended(2, "lid: usage\n"))?;
+    }
+    Ok(())
+}
+
+/// Runs the ring by two workers, who must meet at the gate before their first round.
+fn expect_meeting<R: Threads + AllocGlobal + Sync + Abort>(rt: &R) -> Result<(), AllocError> {
+    let gate = MeetGate::new(2, 2_000_000_000);
+    let files = [("n.blif", RING), ("r.vec", FOUR), ("s", ONE_RELAY)];
+    let words = [
+        "free",
+        "n.blif",
+        "r.vec",
+        "--stations",
+        "s",
+        "--workers",
+        "2",
+        "--rounds",
+        "1",
+    ];
+    let ran = run_gated(rt, &words, &files, &gate)?;
+    expect_left(rt, &ran, done("y\n1\n0\n1\n0\n"), "two workers");
+    assert!(rt; gate.met());
+    Ok(())
+}
+
+#[test]
+fn two_workers_run_at_once(rt: HostRuntime) -> Result<(), Fail> {
+    expect_meeting(&rt)?;
+    Ok(())
+}

@@ -1,0 +1,14 @@
+use Rattle.std.proofs.Common.{refl}
+use Rattle.lid_stations.specs.Placements.{links_of}
+use Rattle.lid_script.specs.Outputs.{freed}
+use Rattle.lid_script.specs.Scripts.{freeing_script}
+use Rattle.lid_heldruns.proofs.freeing.freed_text.Goals as goal
+
+pub returns-in-Ok-clause-ok : goal.returns-in-Ok-clause-ok
+unfolding freeing_script
+returns-in-Ok-clause-ok g c = λ held.
+    record {
+      output = freed c.args.checked.now (links_of c.args.system.now) c.args.placement.now c.args.rows.now.bits c.args.workers c.args.rounds c.args.tally;
+      ends = refl;
+      text_of = c.in-Ok.ensures;
+    }
