@@ -1,4 +1,4 @@
-"""An independent reading of docs/ACCEPTANCE.md, docs/STRICT.md and docs/SYSTEM.md, slow and plain.
+"""An independent reading of docs/ACCEPTANCE.md, docs/MANUAL.md and docs/SYSTEM.md, slow and plain.
 
 It shares no code with the crates. `judge` tells the line of the first condition that applies (all but
 the limits), or elaborates; `simulate` gives the strict outputs of what was elaborated; `channels` and
