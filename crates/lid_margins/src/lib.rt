@@ -1,0 +1,9 @@
+//! What is told of stations and channels: the sizes that keep the throughput, and the slack that is left.
+#![tactic(auto)]
+
+mod ratio;
+mod sizes;
+mod slacks;
+
+pub use sizes::size_text;
+pub use slacks::slack_text;

@@ -1,0 +1,80 @@
+//! The text of the slack of all channels.
+
+ghost use Rattle.std.specs.Prelude.{◌≡◌, ◌++◌, ◌<◌, length, IfOk, OnOk};
+ghost use Rattle.lid_lines.specs.Texts.{line_text};
+ghost use Rattle.lid_margins.specs.Slacks.{channel_name, slack_words, next_word, IsSlackText};
+ghost use Rattle.lid_stations.specs.Placements.{links_of, Fits};
+ghost use Rattle.lid_system.specs.Systems.{IsWellFormed};
+
+use crate::ratio::append_ratio;
+use lid_lines::append_number_word;
+use lid_reports::append_node;
+use lid_slack::{Against, Slack, slack};
+use lid_stations::Placement;
+use lid_system::System;
+use std::alloc::{AllocError, Global};
+
+/// Appends what stands against one more: a line where there is no room, else the ratio then.
+fn append_next(against: &Option<Against>, into: &mut Vec<u8>) -> Result<(), AllocError>
+    ensures { OnOk result (into.new.items ≡ into.old.items ++ next_word against.now) }
+{
+    match against {
+        Some(against) => append_ratio(against.ratio.p, against.ratio.q, into),
+        None => into.extend_from_slice(b"-"),
+    }
+}
+
+/// Appends the words that name a channel.
+fn append_channel(system: &System, channel: u32, into: &mut Vec<u8>) -> Result<(), AllocError>
+    requires { channel < length system.now.channels }
+    ensures { OnOk result (into.new.items ≡ into.old.items ++ channel_name (links_of system.now) channel) }
+{
+    let count = system.nodes.as_slice().len() as u64;
+    let named = &system.channels.as_slice()[channel as usize];
+    append_node(count, u64::from(named.from), into)?;
+    into.push(b' ')?;
+    append_node(count, u64::from(named.to), into)?;
+    append_number_word(u64::from(named.piece), into)
+}
+
+/// Appends the line of a channel with such slack.
+#[tactic(auto, unfolding(lid_lines::specs::Texts::line_text))]
+fn append_slack(
+    system: &System,
+    channel: u32,
+    slack: &Slack,
+    into: &mut Vec<u8>,
+) -> Result<(), AllocError>
+    requires { channel < length system.now.channels }
+    ensures { OnOk result (into.new.items ≡ into.old.items ++ line_text (slack_words (links_of system.now) channel slack.now.added (next_word slack.now.against))) }
+{
+    into.extend_from_slice(b"slack ")?;
+    append_channel(system, channel, into)?;
+    append_number_word(u64::from(slack.added), into)?;
+    into.extend_from_slice(b" next ")?;
+    append_next(&slack.against, into)?;
+    into.push(b'\n')?;
+    Ok(())
+}
+
+/// The slack of each channel of a system, in order: a line with the channel, how many further relay stations it takes,
+/// and the ratio of its component with one more.
+///
+/// # Errors
+/// Where there is no memory.
+pub fn slack_text(
+    alloc: Global,
+    system: &System,
+    placement: &Placement,
+) -> Result<Vec<u8>, AllocError>
+    requires system { IsWellFormed system.now }
+    requires fits { Fits system.now placement.now }
+    ensures { IfOk result (λ text. IsSlackText (links_of system.now) placement.now text.items) }
+{
+    let mut text = Vec::new(alloc);
+    for channel in 0..system.channels.len() {
+        let slack = slack(alloc, system, placement, channel as u32)?;
+        append_slack(system, channel as u32, &slack, &mut text)?;
+    }
+    Ok(text)
+}
