@@ -3,12 +3,12 @@
 
 mod check;
 mod place;
-mod rate;
 mod strict;
+mod telling;
 mod verify;
 
 pub use check::check_text;
 pub use place::place_text;
-pub use rate::rate_text;
 pub use strict::strict_text;
+pub use telling::{rate_text, size_text, slack_text};
 pub use verify::verify_text;

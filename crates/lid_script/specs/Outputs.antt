@@ -20,6 +20,8 @@ use Rattle.lid_reports.specs.declared.trace.Trace.{Trace}
 use Rattle.lid_blifout.specs.Canonical.{canonical_text}
 use Rattle.lid_gen.specs.Designs.{generated}
 use Rattle.lid_stalltext.specs.declared.stalls.Stall.{Stall}
+use Rattle.lid_margins.specs.Sizes.{IsSizeText}
+use Rattle.lid_margins.specs.Slacks.{IsSlackText}
 use Rattle.lid_script.specs.Clocked.{IsClockText}
 use Rattle.lid_script.specs.Walked.{IsWalkText}
 use Rattle.lid_script.specs.Waved.{IsWaveText}
@@ -32,6 +34,8 @@ pub data Output : Type 0 where
   strict_output : Design → List (List Bool) → Output  -- the strict outputs of a design for rows
   placed : Links → Placement → Output  -- the relay stations of a placement
   throughput : Links → Placement → Output  -- the throughput of a placement
+  sized : Links → Placement → Output  -- the capacities that keep the throughput of a placement's relay stations
+  slacks : Links → Placement → Output  -- the slack of each channel
   verdict : Links → Cert → Output  -- what a certificate shows
   clocked : Design → Links → Placement → List (List Bool) → Option (List Stall) → Option ℕ → Output  -- the clocked run for rows, under stalls where they are given, with its trace where one is asked for
   walked : Design → Links → Placement → List (List Bool) → List ℕ → Output  -- the walk along a schedule for rows
@@ -73,6 +77,8 @@ IsTextOf (report d channels) text = text ≡ report_text (report_of d channels)
 IsTextOf (strict_output d rows) text = IsStrictText d rows text
 IsTextOf (placed l p) text = text ≡ stations_text l p
 IsTextOf (throughput l p) text = IsRateText (marking l p) text
+IsTextOf (sized l p) text = IsSizeText l p text
+IsTextOf (slacks l p) text = IsSlackText l p text
 IsTextOf (verdict l cert) text = text ≡ verdict_text cert (l.nodes - 1)
 IsTextOf (clocked d l p rows stalls trace) text = IsClockText d l p rows stalls trace text
 IsTextOf (walked d l p rows schedule) text = IsWalkText d l p rows schedule text

@@ -41,9 +41,9 @@ use Rattle.lid_vcd.specs.Reading.{wave_reading}
 use Rattle.lid_gen.specs.declared.fault.GenFault.{GenFault}
 use Rattle.lid_gen.specs.Designs.{size_fault}
 use Rattle.lid_cli.specs.declared.job.Job.{Job}
-use Rattle.lid_cli.specs.declared.job.Job.TheVariants.{Check, Clock, Free, Gen, Place, Rate, Strict, Unwave, Verify, Walk, Wave}
+use Rattle.lid_cli.specs.declared.job.Job.TheVariants.{Check, Clock, Free, Gen, Place, Rate, Size, Slack, Strict, Unwave, Verify, Walk, Wave}
 use Rattle.lid_refusals.specs.Faults.{blif_line, rows_line, check_line, net_line, stations_line, cert_line, trace_line, stalls_line, schedule_line, vcd_line, gen_line}
-use Rattle.lid_script.specs.Outputs.{Output, report, strict_output, placed, throughput, verdict, clocked, walked, freed, waved, unwaved, design_of_seed, run_of_seed}
+use Rattle.lid_script.specs.Outputs.{Output, report, strict_output, placed, throughput, sized, slacks, verdict, clocked, walked, freed, waved, unwaved, design_of_seed, run_of_seed}
 
 -- what a reading makes of a value
 pub data Reading (A : Type 0) : Type 0 where
@@ -224,9 +224,9 @@ cert_read bytes = cert_unless (cert_fault bytes) (cert_of bytes)
 unfoldable pub wires_script : Links → List ℕ → ℕ → Script
 wires_script l wires reach = read_step wires text_limit (wires_read reach l) (λ p. end (gives (placed l p)))
 
--- `rate` of a system with such a placement
-unfoldable pub rated_script : Links → Placement → Script
-rated_script l p = end (gives (throughput l p))
+-- what is told of a system with such a placement
+unfoldable pub told_script : (Links → Placement → Output) → Links → Placement → Script
+told_script output l p = end (gives (output l p))
 
 -- how `verify` ends, by whether the certificate is one of the graph
 abbrev pub judged_script : Links → Cert → Bool → Script
@@ -253,9 +253,9 @@ cert_script l p cert = read_step cert text_limit cert_read (judging_script l p)
 unfoldable pub place_script : List ℕ → List ℕ → ℕ → Option (List ℕ) → Script
 place_script net wires reach root = system_step net root (λ l. wires_script l wires reach)
 
--- `rate`: the netlist is read and its system built, then the stations are read
-unfoldable pub rate_script : List ℕ → Option (List ℕ) → Option (List ℕ) → Script
-rate_script net stations root = system_step net root (λ l. placement_step l stations (rated_script l))
+-- `rate`, `size` and `slack`: the netlist is read and its system built, then the stations are read
+unfoldable pub telling_script : (Links → Placement → Output) → List ℕ → Option (List ℕ) → Option (List ℕ) → Script
+telling_script output net stations root = system_step net root (λ l. placement_step l stations (told_script output l))
 
 -- `verify`: as `rate`, and then the certificate is read and judged
 unfoldable pub verify_script : List ℕ → List ℕ → Option (List ℕ) → Option (List ℕ) → Script
@@ -399,7 +399,9 @@ abbrev pub script_of : Job → Script
 script_of (Check net root) = check_script net root
 script_of (Clock net vec stations stalls workers trace root) = clock_script net vec stations stalls trace root
 script_of (Place net wires reach root) = place_script net wires reach root
-script_of (Rate net stations root) = rate_script net stations root
+script_of (Rate net stations root) = telling_script throughput net stations root
+script_of (Size net stations root) = telling_script sized net stations root
+script_of (Slack net stations root) = telling_script slacks net stations root
 script_of (Strict net vec root) = strict_script net vec root
 script_of (Verify net cert stations root) = verify_script net cert stations root
 script_of (Walk net vec schedule stations root) = walk_script net vec schedule stations root

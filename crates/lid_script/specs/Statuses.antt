@@ -2,7 +2,7 @@
 use Rattle.std.specs.Prelude.{◌≡◌, ◌≢◌, ℕ, ◌≤◌, Bool, true, false, List, Option, None, IsSome, IfSome, ◌⊎◌}
 use Rattle.lid_base.specs.Outside.{Rose, Appended, AppendedPrefix}
 use Rattle.lid_cli.specs.declared.job.Job.{Job}
-use Rattle.lid_cli.specs.declared.job.Job.TheVariants.{Check, Clock, Free, Gen, Place, Rate, Strict, Unwave, Verify, Walk, Wave}
+use Rattle.lid_cli.specs.declared.job.Job.TheVariants.{Check, Clock, Free, Gen, Place, Rate, Size, Slack, Strict, Unwave, Verify, Walk, Wave}
 use Rattle.lid_refusals.specs.Saying.{Says}
 use Rattle.lid_refusals.specs.Faults.{usage_line, read_line, write_line, memory_line, denied_line}
 use Rattle.lid_script.specs.Outputs.{Output, IsTextOf}
@@ -65,6 +65,8 @@ writes_early (Check net root) = false
 writes_early (Clock net vec stations stalls workers trace root) = true
 writes_early (Place net wires reach root) = false
 writes_early (Rate net stations root) = false
+writes_early (Size net stations root) = false
+writes_early (Slack net stations root) = false
 writes_early (Strict net vec root) = false
 writes_early (Verify net cert stations root) = false
 writes_early (Walk net vec schedule stations root) = false

@@ -8,15 +8,15 @@ use Rattle.lid_system.specs.declared.Channel.{Channel}
 use Rattle.lid_channels.specs.declared.fault.NetFault.TheVariants.{TooManyChannels}
 use Rattle.lid_net.specs.Graphs.{IsGraphOf}
 use Rattle.lid_cli.specs.declared.job.Job.{Job}
-use Rattle.lid_cli.specs.declared.job.Job.TheVariants.{Check, Clock, Free, Gen, Place, Rate, Strict, Unwave, Verify, Walk, Wave}
+use Rattle.lid_cli.specs.declared.job.Job.TheVariants.{Check, Clock, Free, Gen, Place, Rate, Size, Slack, Strict, Unwave, Verify, Walk, Wave}
 use Rattle.lid_refusals.specs.Faults.{check_line, net_line}
-use Rattle.lid_script.specs.Outputs.{strict_output, report, placed, walked, waved, unwaved}
+use Rattle.lid_script.specs.Outputs.{Output, strict_output, report, placed, throughput, sized, slacks, walked, waved, unwaved}
 use Rattle.lid_cert.specs.declared.cert.Cert.{Cert}
 use Rattle.lid_stalltext.specs.declared.stalls.Stall.{Stall}
 use Rattle.lid_stations.specs.declared.placement.Placement.{Placement}
 use Rattle.lid_stations.specs.Placements.{Links, no_relays}
 use Rattle.lid_stations.specs.Stations.{actor_count}
-use Rattle.lid_script.specs.Scripts.{Ending, refuses, gives, Script, fetch, again, decide, end, Reading, good, bad, step, net_reading, vec_reading, check_step, net_step, report_script, check_script, rows_script, checked_script, strict_script, links, system_step, placement_step, stalls_read, stalls_step, stations_read, wires_read, cert_read, wires_script, rated_script, judged_script, judging_script, cert_script, place_script, rate_script, verify_script, trace_read, rerun_script, traced_script, vec_script, stalled_script, placed_script, built_script, clock_script, rows_step, built_step, held_step, schedule_read, schedule_script, walk_script, freeing_script, free_script, waving_script, wave_script, dump_read, unwave_script, size_read, generating, gen_script, script_of, IsFetched, IsReread, IsChecked, IsUnchecked, EndsIn}
+use Rattle.lid_script.specs.Scripts.{Ending, refuses, gives, Script, fetch, again, decide, end, Reading, good, bad, step, net_reading, vec_reading, check_step, net_step, report_script, check_script, rows_script, checked_script, strict_script, links, system_step, placement_step, stalls_read, stalls_step, stations_read, wires_read, cert_read, wires_script, told_script, judged_script, judging_script, cert_script, place_script, telling_script, verify_script, trace_read, rerun_script, traced_script, vec_script, stalled_script, placed_script, built_script, clock_script, rows_step, built_step, held_step, schedule_read, schedule_script, walk_script, freeing_script, free_script, waving_script, wave_script, dump_read, unwave_script, size_read, generating, gen_script, script_of, IsFetched, IsReread, IsChecked, IsUnchecked, EndsIn}
 use Rattle.lid_script.specs.Statuses.{TellsAll}
 
 -- each step of the script without a fetch has one outcome
@@ -159,8 +159,13 @@ module _ (apart : (d : Design) (fault : CheckFault) → IsAccepted d → IsRefus
   unfolding freeing_script
   freed_once held d l p workers rounds tally rows = tt
 
+  told_once : (held : List ℕ → Option (List ℕ)) (output : Links → Placement → Output) (net : List ℕ) (stations root : Option (List ℕ)) → IsSettled held (telling_script output net stations root)
+  unfolding telling_script told_script
+  told_once held output net stations root =
+      system_once held net root (λ l. placement_step l stations (told_script output l)) (λ l. placed_once held l stations (told_script output l) (λ _. tt))
+
   settled_job : (held : List ℕ → Option (List ℕ)) (job : Job) → IsSettled held (script_of job)
-  unfolding free_script walk_script wave_script unwave_script gen_script clock_script check_script report_script strict_script checked_script rows_script place_script wires_script rate_script rated_script verify_script cert_script
+  unfolding free_script walk_script wave_script unwave_script gen_script clock_script check_script report_script strict_script checked_script rows_script place_script wires_script verify_script cert_script
   settled_job held (Check net root) = λ bytes _.
       let reported : (d : Design) → IsSettled held (report_script d) = λ d. built_once held d (λ channels. end (gives (report d channels))) (λ _. tt) in
       settled_step held (net_reading bytes) (λ d. check_step root d report_script) (λ d. checked_once held root d report_script reported)
@@ -169,8 +174,9 @@ module _ (apart : (d : Design) (fault : CheckFault) → IsAccepted d → IsRefus
       settled_step held (net_reading bytes) (λ d. check_step root d built) (λ d. checked_once held root d built (λ checked. clocked_once held checked vec stations stalls trace))
   settled_job held (Place net wires reach root) =
       system_once held net root (λ l. wires_script l wires reach) (λ l bytes _. settled_step held (wires_read reach l bytes) (λ p. end (gives (placed l p))) (λ _. tt))
-  settled_job held (Rate net stations root) =
-      system_once held net root (λ l. placement_step l stations (rated_script l)) (λ l. placed_once held l stations (rated_script l) (λ _. tt))
+  settled_job held (Rate net stations root) = told_once held throughput net stations root
+  settled_job held (Size net stations root) = told_once held sized net stations root
+  settled_job held (Slack net stations root) = told_once held slacks net stations root
   settled_job held (Verify net cert stations root) =
       system_once held net root (λ l. placement_step l stations (λ p. cert_script l p cert))
       (λ l. placed_once held l stations (λ p. cert_script l p cert) (λ p bytes _. settled_step held (cert_read bytes) (judging_script l p) (λ c. judged_once held l p c)))

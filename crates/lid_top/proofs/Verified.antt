@@ -13,7 +13,7 @@ use Rattle.lid_stations.specs.Placements.{Links, no_relays}
 use Rattle.lid_stations.specs.Markings.{marking}
 use Rattle.lid_throughput.specs.Throughput.{IsRateText}
 use Rattle.lid_script.specs.Outputs.{Output, throughput, verdict, IsTextOf}
-use Rattle.lid_script.specs.Scripts.{Ending, refuses, denies, gives, Script, end, Reading, good, bad, step, net_limit, net_reading, text_limit, links, check_step, net_step, system_step, stations_read, placement_step, cert_unless, cert_read, rated_script, IsJudged, NoLine, judged_script, judging_script, cert_script, rate_script, verify_script, IsFetched, EndsIn}
+use Rattle.lid_script.specs.Scripts.{Ending, refuses, denies, gives, Script, end, Reading, good, bad, step, net_limit, net_reading, text_limit, links, check_step, net_step, system_step, stations_read, placement_step, cert_unless, cert_read, told_script, IsJudged, NoLine, judged_script, judging_script, cert_script, telling_script, verify_script, IsFetched, EndsIn}
 use Rattle.lid_script.specs.Statuses.{HasText}
 use Rattle.lid_top.specs.Verified.{RatesAreVerified}
 
@@ -91,11 +91,11 @@ module _ (held : List ℕ → Option (List ℕ)) (cert text : List ℕ) (told : 
         (text, fetched, subst (λ read. EndsIn held (step read (judging_script l p)) (gives (verdict l c))) (sym reads) (inl (true, (λ _. r.certifies, λ _. refl), refl))),
       )
 
-  verified : (net : List ℕ) (stations root : Option (List ℕ)) → HasText held (rate_script net stations root) text → HasEnding held (IsVerdict text) (verify_script net cert stations root)
-  unfolding rate_script verify_script rated_script
+  verified : (net : List ℕ) (stations root : Option (List ℕ)) → HasText held (telling_script throughput net stations root) text → HasEnding held (IsVerdict text) (verify_script net cert stations root)
+  unfolding telling_script verify_script told_script
   verified net stations root h =
-      after_system held (IsVerdict text) h.output (λ l. placement_step l stations (rated_script l)) (λ l. placement_step l stations (λ p. cert_script l p cert))
-      (λ l e. after_placement held (IsVerdict text) h.output l stations (rated_script l) (λ p. cert_script l p cert)
+      after_system held (IsVerdict text) h.output (λ l. placement_step l stations (told_script throughput l)) (λ l. placement_step l stations (λ p. cert_script l p cert))
+      (λ l e. after_placement held (IsVerdict text) h.output l stations (told_script throughput l) (λ p. cert_script l p cert)
       (λ p f. judged l p (subst (λ o. IsTextOf o text) (sym (ap (given_of h.output) f)) h.text_of)) e)
       net root h.ends
 

@@ -11,7 +11,9 @@ use crate::held::held_text;
 use lid_base::{Gate, Shelf, Sink, SinkFailed};
 use lid_cli::Job;
 use lid_clocking::{Workers, run_clock};
-use lid_commands::{check_text, place_text, rate_text, strict_text, verify_text};
+use lid_commands::{
+    check_text, place_text, rate_text, size_text, slack_text, strict_text, verify_text,
+};
 use lid_io::PieceWriter;
 use lid_script::{End, Stop};
 use std::alloc::Global;
@@ -58,6 +60,16 @@ fn text_of<'a, R: Threads + AllocGlobal + Sync, S: Shelf, G: Gate>(
             stations,
             root,
         } => rate_text(rt.alloc(), shelf, net.as_str(), stations, root),
+        Job::Size {
+            net,
+            stations,
+            root,
+        } => size_text(rt.alloc(), shelf, net.as_str(), stations, root),
+        Job::Slack {
+            net,
+            stations,
+            root,
+        } => slack_text(rt.alloc(), shelf, net.as_str(), stations, root),
         Job::Strict { net, vec, root } => {
             strict_text(rt.alloc(), shelf, net.as_str(), vec.as_str(), root)
         }
@@ -181,6 +193,8 @@ where
         | Job::Gen { .. }
         | Job::Place { .. }
         | Job::Rate { .. }
+        | Job::Size { .. }
+        | Job::Slack { .. }
         | Job::Strict { .. }
         | Job::Unwave { .. }
         | Job::Verify { .. }

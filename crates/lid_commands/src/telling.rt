@@ -1,0 +1,167 @@
+//! `rate`, `size` and `slack`: what is told of a system and its stations.
+
+ghost use Rattle.std.specs.Prelude.{◌≡◌, ℕ, ◌≤◌, List, IfOk, IfErr};
+ghost use Rattle.lid_commands.specs.Telling.{output_of};
+ghost use Rattle.lid_script.specs.Causes.{IsCause, IsWant};
+ghost use Rattle.lid_script.specs.Outputs.{throughput, sized, slacks, IsTextOf};
+ghost use Rattle.lid_script.specs.Scripts.{placement_step, told_script, telling_script};
+ghost use Rattle.lid_script.specs.Statuses.{HasText};
+ghost use Rattle.lid_stations.specs.Markings.{marking};
+ghost use Rattle.lid_stations.specs.Placements.{links_of, Fits};
+ghost use Rattle.lid_system.specs.Systems.{IsWellFormed as IsSystem};
+ghost use Rattle.lid_throughput.specs.Throughput.{IsRateText};
+
+use lid_base::{Name, Shelf, Text};
+use lid_script::{Stop, read_placement, read_system};
+use lid_stations::{Placement, marking};
+use lid_system::System;
+use std::alloc::{AllocError, Global};
+
+/// What is asked of a system and its stations.
+#[derive(Clone, Copy)]
+pub(crate) enum Asked {
+    /// A certificate of the throughput.
+    Rate,
+    /// The least capacities that keep it.
+    Size,
+    /// The slack of each channel.
+    Slack,
+}
+
+/// The text of a certificate of the throughput of a placement.
+fn certified_text(
+    alloc: Global,
+    system: &System,
+    placement: &Placement,
+) -> Result<Vec<u8>, AllocError>
+    requires system { IsSystem system.now }
+    requires fits { Fits system.now placement.now }
+    ensures { IfOk result (λ text. IsRateText (marking (links_of system.now) placement.now) text.items) }
+{
+    let graph = marking(alloc, system, placement)?;
+    lid_throughput::rate_text(alloc, &graph)
+}
+
+/// What is told of a system and its stations.
+fn told_of(
+    alloc: Global,
+    asked: Asked,
+    system: &System,
+    placement: &Placement,
+) -> Result<Vec<u8>, AllocError>
+    requires system { IsSystem system.now }
+    requires fits { Fits system.now placement.now }
+    ensures { IfOk result (λ text. IsTextOf (output_of asked (links_of system.now) placement.now) text.items) }
+{
+    match asked {
+        Asked::Rate => certified_text(alloc, system, placement),
+        Asked::Size => lid_margins::size_text(alloc, system, placement),
+        Asked::Slack => lid_margins::slack_text(alloc, system, placement),
+    }
+}
+
+/// The same, with want of memory as a reason to stop.
+fn told_text<'a>(
+    alloc: Global,
+    asked: Asked,
+    system: &System,
+    placement: &Placement,
+) -> Result<Vec<u8>, Stop<'a>>
+    requires system { IsSystem system.now }
+    requires fits { Fits system.now placement.now }
+    ensures ok { IfOk result (λ text. IsTextOf (output_of asked (links_of system.now) placement.now) text.items) }
+    ensures err { IfErr result IsWant }
+{
+    match told_of(alloc, asked, system, placement) {
+        Ok(text) => Ok(text),
+        Err(_) => Err(Stop::Memory),
+    }
+}
+
+/// What is told of a system, once its stations are read.
+fn placed_text<'a, S: Shelf>(
+    alloc: Global,
+    asked: Asked,
+    shelf: &mut S,
+    system: &System,
+    stations: &'a Option<Text>,
+) -> Result<Vec<u8>, Stop<'a>>
+    requires { IsSystem system.now }
+    ensures ok { IfOk result (λ text. HasText (S.held shelf.old) (placement_step (links_of system.now) stations.now (told_script (output_of asked) (links_of system.now))) text.items) }
+    ensures err { IfErr result (IsCause (S.held shelf.old) (placement_step (links_of system.now) stations.now (told_script (output_of asked) (links_of system.now))) (S.faults shelf.old) (S.faults shelf.new)) }
+    ensures kept { S.held shelf.new ≡ S.held shelf.old }
+    ensures grows { (q : List ℕ) → S.faults shelf.old q ≤ S.faults shelf.new q }
+{
+    match read_placement(alloc, shelf, system, stations) {
+        Ok(placement) => told_text(alloc, asked, system, &placement),
+        Err(stop) => Err(stop),
+    }
+}
+
+/// What is told of the system of a netlist and its stations.
+fn telling_text<'a, S: Shelf>(
+    alloc: Global,
+    asked: Asked,
+    shelf: &mut S,
+    net: &'a str,
+    stations: &'a Option<Text>,
+    root: &Option<Name>,
+) -> Result<Vec<u8>, Stop<'a>>
+    ensures ok { IfOk result (λ text. HasText (S.held shelf.old) (telling_script (output_of asked) net.now stations.now root.now) text.items) }
+    ensures err { IfErr result (IsCause (S.held shelf.old) (telling_script (output_of asked) net.now stations.now root.now) (S.faults shelf.old) (S.faults shelf.new)) }
+    ensures kept { S.held shelf.new ≡ S.held shelf.old }
+    ensures grows { (q : List ℕ) → S.faults shelf.old q ≤ S.faults shelf.new q }
+{
+    match read_system(alloc, shelf, net, root) {
+        Ok(system) => placed_text(alloc, asked, shelf, &system, stations),
+        Err(stop) => Err(stop),
+    }
+}
+
+/// What `rate` writes.
+pub fn rate_text<'a, S: Shelf>(
+    alloc: Global,
+    shelf: &mut S,
+    net: &'a str,
+    stations: &'a Option<Text>,
+    root: &Option<Name>,
+) -> Result<Vec<u8>, Stop<'a>>
+    ensures ok { IfOk result (λ text. HasText (S.held shelf.old) (telling_script throughput net.now stations.now root.now) text.items) }
+    ensures err { IfErr result (IsCause (S.held shelf.old) (telling_script throughput net.now stations.now root.now) (S.faults shelf.old) (S.faults shelf.new)) }
+    ensures kept { S.held shelf.new ≡ S.held shelf.old }
+    ensures grows { (q : List ℕ) → S.faults shelf.old q ≤ S.faults shelf.new q }
+{
+    telling_text(alloc, Asked::Rate, shelf, net, stations, root)
+}
+
+/// What `size` writes.
+pub fn size_text<'a, S: Shelf>(
+    alloc: Global,
+    shelf: &mut S,
+    net: &'a str,
+    stations: &'a Option<Text>,
+    root: &Option<Name>,
+) -> Result<Vec<u8>, Stop<'a>>
+    ensures ok { IfOk result (λ text. HasText (S.held shelf.old) (telling_script sized net.now stations.now root.now) text.items) }
+    ensures err { IfErr result (IsCause (S.held shelf.old) (telling_script sized net.now stations.now root.now) (S.faults shelf.old) (S.faults shelf.new)) }
+    ensures kept { S.held shelf.new ≡ S.held shelf.old }
+    ensures grows { (q : List ℕ) → S.faults shelf.old q ≤ S.faults shelf.new q }
+{
+    telling_text(alloc, Asked::Size, shelf, net, stations, root)
+}
+
+/// What `slack` writes.
+pub fn slack_text<'a, S: Shelf>(
+    alloc: Global,
+    shelf: &mut S,
+    net: &'a str,
+    stations: &'a Option<Text>,
+    root: &Option<Name>,
+) -> Result<Vec<u8>, Stop<'a>>
+    ensures ok { IfOk result (λ text. HasText (S.held shelf.old) (telling_script slacks net.now stations.now root.now) text.items) }
+    ensures err { IfErr result (IsCause (S.held shelf.old) (telling_script slacks net.now stations.now root.now) (S.faults shelf.old) (S.faults shelf.new)) }
+    ensures kept { S.held shelf.new ≡ S.held shelf.old }
+    ensures grows { (q : List ℕ) → S.faults shelf.old q ≤ S.faults shelf.new q }
+{
+    telling_text(alloc, Asked::Slack, shelf, net, stations, root)
+}
