@@ -16,9 +16,22 @@ from fractions import Fraction
 from compare import Maker, text_of
 from gen import Draws
 from generated import design
-from rates import Session, components, least_ratio, marking
+from rates import Session, components, marking
 from reference import Judge, Refused, channels, pearls
 from walks import diamond, pipeline, ring
+
+
+def least_mean(nodes: list[int], edges: list) -> Fraction:
+    """The least ratio of closed walks, by Karp's theorem, of walks that begin anywhere."""
+    walks = [dict.fromkeys(nodes, 0)]
+    for _ in nodes:
+        step: dict[int, int] = {}
+        for a, b, tokens in edges:
+            if a in walks[-1]:
+                step[b] = min(step.get(b, 1 << 60), walks[-1][a] + tokens)
+        walks.append(step)
+    n = len(nodes)
+    return min(max(Fraction(walks[n][v] - walks[k][v], n - k) for k in range(n) if v in walks[k]) for v in walks[n])
 
 
 class System:
@@ -34,7 +47,7 @@ class System:
         used = [edge for k, edge in enumerate(edges) if not forward or k >= 2 * stations or k % 2 == 0]
         found = [Fraction(0)] * count
         for inside in components(count, edges):
-            ratio = least_ratio(inside, [edge for edge in used if edge[0] in inside])
+            ratio = least_mean(inside, [edge for edge in used if edge[0] in inside])
             for v in inside:
                 found[v] = ratio
         return found
