@@ -1,5 +1,5 @@
 -- The graph of a component's edges forth and self edges: its walks are the forward walks of the component.
-use Rattle.std.proofs.Common.{◌≡◌, ℕ, zero, suc, ◌+◌, ◌-◌, ◌*◌, ◌^◌, ◌<◌, ◌≤◌, ◌⊎◌, inl, inr, true, List, [], ◌∷◌, ◌++◌, length, get_or, map, refl, sym, ◌∙◌, ap, subst, arith}
+use Rattle.std.proofs.Common.{◌≡◌, ℕ, suc, ◌+◌, ◌-◌, ◌*◌, ◌^◌, ◌<◌, ◌≤◌, ◌⊎◌, inl, inr, List, [], ◌∷◌, ◌++◌, length, get_or, refl, sym, ◌∙◌, ap, subst, arith}
 use Rattle.std.specs.List.{All}
 use Rattle.std.proofs.lemmas.Bool.{cases_lt, eq-eqb, eqb-true}
 use Rattle.std.proofs.lemmas.List.{length-append, length-map, get_or-map, get_or_append_left, get_or-append-add, get_or_default}
@@ -7,8 +7,7 @@ use Rattle.std.proofs.lemmas.List.Elements.{All-nil, All-cons}
 use Rattle.lid_graph.specs.declared.graph.Edge.{Edge}
 use Rattle.lid_graph.specs.declared.graph.Graph.{Graph}
 use Rattle.lid_graph.specs.Walks.{no_edge, edge_at, walk_start, walk_tokens, IsWalk, IsClosedWalk, IsJoined}
-use Rattle.lid_graph.specs.Ratios.{IsClosedWalkNear}
-use Rattle.lid_graph.proofs.Journeys.{joined_step, joined_back}
+use Rattle.lid_graph.proofs.Journeys.{joined_back}
 use Rattle.lid_ratio.specs.Bounds.{MeetRule}
 use Rattle.lid_ratio.specs.Components.{IsSmallGraph, IsLoop, HasRate}
 use Rattle.lid_ratio.proofs.Searched.{keeps}
@@ -63,25 +62,29 @@ module _ (g : Graph) (n : ℕ) (has : HasStations g n) (least : List ℕ) (label
       let v = get_or selfs i 0 in
       let c = labels.count in
       let low : get_or selfs i 0 < g.nodes = omega (arith, only.0) in
-      let edge = has.selves v low in
-      (2 * n + v, record {
-        within = (let l = has.count in omega arith);
-        forward = inr (omega arith);
-        inside = ap (λ (e : Edge). get_or least e.from 0) edge ∙ eqb-true (get_or least (get_or selfs i 0) 0) r only.1;
-        is = self_at i h ∙ sym edge;
-      })
+      let edge = has.selves v low in (
+        2 * n + v,
+        record {
+          within = (let l = has.count in omega arith);
+          forward = inr (omega arith);
+          inside = ap (λ (e : Edge). get_or least e.from 0) edge ∙ eqb-true (get_or least (get_or selfs i 0) 0) r only.1;
+          is = self_at i h ∙ sym edge;
+        },
+      )
 
   image_forth : (j : ℕ) → j < length forths → (k : ℕ) × IsImage (length selfs + j) k
   image_forth j h =
       let only = those_only (λ s. is_labelled least r (edge_at g (2 * s)).from) n j h in
       let s = get_or forths j 0 in
-      let low = only.0 in
-      (2 * s, record {
-        within = (let l = has.count in omega arith);
-        forward = inl (s, low, refl);
-        inside = eqb-true (get_or least (edge_at g (2 * get_or forths j 0)).from 0) r only.1;
-        is = forth_at j h;
-      })
+      let low = only.0 in (
+        2 * s,
+        record {
+          within = (let l = has.count in omega arith);
+          forward = inl (s, low, refl);
+          inside = eqb-true (get_or least (edge_at g (2 * get_or forths j 0)).from 0) r only.1;
+          is = forth_at j h;
+        },
+      )
 
   image : (i : ℕ) → i < length part.edges → (k : ℕ) × IsImage i k
   image i h = by_order (cases_lt i (length selfs))

@@ -1,5 +1,5 @@
 -- What the comparison of a certificate with forward ratios says of capacities.
-use Rattle.std.proofs.Common.{◌≡◌, ℕ, ◌*◌, ◌<◌, ◌≤◌, ◌⊎◌, inl, inr, ◌↔◌, Bool, true, false, IsTrue, List, length, get_or, replicate, Option, Some, None, is_some, not, refl, sym, ◌∙◌, ap, subst, arith}
+use Rattle.std.proofs.Common.{◌≡◌, ℕ, ◌*◌, ◌<◌, ◌≤◌, ◌⊎◌, inl, inr, ◌↔◌, Bool, true, false, IsTrue, List, length, get_or, Option, Some, None, is_some, not, refl, sym, ◌∙◌, subst, arith}
 use Rattle.std.specs.Option.{MatchOption}
 use Rattle.std.proofs.lemmas.Bool.{cases_lt}
 use Rattle.std.proofs.lemmas.List.{get_or-replicate, get_or_past, length-replicate}
@@ -14,13 +14,12 @@ use Rattle.lid_rate.specs.Rates.{IsShort}
 use Rattle.lid_system.specs.declared.System.{System}
 use Rattle.lid_system.specs.Systems.{IsWellFormed}
 use Rattle.lid_stations.specs.Placements.{station_count, IsCapacity, Fits}
-use Rattle.lid_capacities.specs.Capacities.{HasForwardRatio}
 use Rattle.lid_capacities.proofs.Scaling.{compared}
 use Rattle.lid_ratio.specs.declared.lowest_terms.Ratio.{Ratio}
 use Rattle.lid_size.specs.Comparing.{AreAllKept, IsFirstLow, AreCompared, want_of}
 use Rattle.lid_size.specs.ForwardParts.{HasStations, AreForwardRatios}
 use Rattle.lid_size.specs.Sizing.{with_capacities, sized, greatest, AreCapacities, Reaches}
-use Rattle.lid_size.specs.Sizes.{IsFirstBelow, FallsShort}
+use Rattle.lid_size.specs.Sizes.{FallsShort}
 use Rattle.lid_size.proofs.Joins.{least_within}
 use Rattle.lid_size.proofs.Kept.{part_met, want_is, kept_has, all_kept, low_lacks}
 use Rattle.lid_size.proofs.Sized.{reach_up, wants_stay, has_stations}

@@ -1,18 +1,16 @@
 -- Markings that differ in their capacities alone.
-use Rattle.std.proofs.Common.{◌≡◌, ℕ, zero, suc, ◌+◌, ◌-◌, ◌*◌, ◌<◌, ◌≤◌, ◌⊎◌, inl, inr, List, length, get_or, refl, sym, ◌∙◌, ap, subst, arith}
-use Rattle.std.specs.List.{All}
+use Rattle.std.proofs.Common.{◌≡◌, ℕ, zero, suc, ◌+◌, ◌<◌, ◌≤◌, inl, inr, List, length, get_or, refl, sym, ◌∙◌, ap, arith}
 use Rattle.lid_graph.specs.declared.graph.Edge.{Edge}
-use Rattle.lid_graph.specs.declared.graph.Graph.{Graph}
 use Rattle.lid_graph.specs.Walks.{edge_at}
 use Rattle.lid_system.specs.declared.System.{System}
 use Rattle.lid_system.specs.Systems.{IsWellFormed}
 use Rattle.lid_stations.specs.declared.placement.Placement.{Placement}
-use Rattle.lid_stations.specs.Placements.{links_of, station_count, IsCapacity, Fits}
-use Rattle.lid_stations.specs.Stations.{Spot, spot_at, actor_count, fills, drains, filler, drainer, start_count, capacity}
-use Rattle.lid_stations.specs.Markings.{forth, back, self_edge, marking}
+use Rattle.lid_stations.specs.Placements.{links_of, station_count, Fits}
+use Rattle.lid_stations.specs.Stations.{spot_at, fills, filler, drainer, start_count}
+use Rattle.lid_stations.specs.Markings.{forth}
 use Rattle.lid_stations.proofs.Edges.{by_edge, forth_at, back_at, self_at, node_count, edges_long, no_others, selves_there}
 use Rattle.lid_stations.proofs.Alive.{rateable}
-use Rattle.lid_capacities.specs.Capacities.{IsForward, AreAlike, HasNoMore, DifferInCapacities, HasForwardRatio}
+use Rattle.lid_capacities.specs.Capacities.{IsForward, AreAlike, HasNoMore, DifferInCapacities}
 use Rattle.lid_capacities.proofs.Forward.{ratios_stay, greater_keep}
 use Rattle.lid_ratio.specs.declared.lowest_terms.Ratio.{Ratio}
 use Rattle.lid_size.specs.Sizing.{with_capacities, sized, AreCapacities, Reaches}
@@ -99,9 +97,9 @@ module _ (s : System) (relays xs ys : List ℕ) where
     no_more = record {
       alike = alike;
       tokens = by_edge s old Fewer
-      (λ station l. few_of (station + station) (forth_at s old station l ∙ (forth_same station ∙ sym (forth_at s new station l))))
-      few_back
-      (λ v l. few_of ((count + count) + v) (self_at s old v l ∙ sym (self_at s new v l)));
+          (λ station l. few_of (station + station) (forth_at s old station l ∙ (forth_same station ∙ sym (forth_at s new station l))))
+          few_back
+          (λ v l. few_of ((count + count) + v) (self_at s old v l ∙ sym (self_at s new v l)));
     }
 
     pub reach_up : Reaches s relays xs → Reaches s relays ys

@@ -1,11 +1,11 @@
 -- Edges and ratios that are taken one after the other.
-use Rattle.std.proofs.Common.{◌≡◌, ℕ, suc, ◌+◌, ◌*◌, ◌^◌, ◌<◌, ◌≤◌, ◌≢◌, ◌⊎◌, inl, inr, Bool, true, false, cond, List, [], ◌∷◌, ◌++◌, length, get_or, map, refl, sym, ◌∙◌, ap, subst, append_assoc, add-one, arith}
+use Rattle.std.proofs.Common.{◌≡◌, ℕ, ◌+◌, ◌*◌, ◌^◌, ◌<◌, ◌≤◌, ◌≢◌, ◌⊎◌, inl, inr, Bool, true, false, cond, List, [], ◌∷◌, ◌++◌, length, get_or, map, refl, sym, ◌∙◌, ap, subst, append_assoc, add-one, arith}
 use Rattle.std.proofs.lemmas.Bool.{cases_lt, eq-eqb, ne_eqb}
 use Rattle.std.proofs.lemmas.List.{length-append, map-append, get_or_append_left}
 use Rattle.std.proofs.Math.Seq.{get_or-append_seam}
 use Rattle.lid_graph.specs.declared.graph.Edge.{Edge}
 use Rattle.lid_graph.specs.declared.graph.Graph.{Graph}
-use Rattle.lid_graph.specs.Walks.{edge_at, IsPaired, IsJoined}
+use Rattle.lid_graph.specs.Walks.{edge_at}
 use Rattle.lid_graph.proofs.Journeys.{joined_back}
 use Rattle.lid_ratio.specs.declared.lowest_terms.Ratio.{Ratio}
 use Rattle.lid_rate.specs.Rates.{numbers_where, AreLabels, is_labelled}

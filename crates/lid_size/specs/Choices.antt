@@ -1,5 +1,5 @@
 -- For the search: capacities that are chosen one after the other, with 16 for all later stations.
-use Rattle.std.specs.Prelude.{◌≡◌, ℕ, ◌+◌, ◌-◌, ◌<◌, ◌≤◌, List, [], ◌∷◌, ◌++◌, length, take, replicate, slice_index}
+use Rattle.std.specs.Prelude.{ℕ, ◌+◌, ◌-◌, ◌<◌, ◌≤◌, List, ◌∷◌, ◌++◌, length, take, replicate, slice_index}
 use Rattle.std.specs.List.{All}
 use Rattle.lid_stations.specs.Placements.{IsCapacity}
 

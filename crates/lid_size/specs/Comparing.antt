@@ -1,5 +1,5 @@
 -- For the search: the parts of a certificate, compared with the forward ratios of their components.
-use Rattle.std.specs.Prelude.{◌≡◌, ℕ, ◌*◌, ◌<◌, ◌≤◌, List, length, slice_index_or}
+use Rattle.std.specs.Prelude.{ℕ, ◌*◌, ◌<◌, ◌≤◌, List, length, slice_index_or}
 use Rattle.lid_graph.specs.declared.graph.Graph.{Graph}
 use Rattle.lid_graph.specs.Rateable.{IsRateable}
 use Rattle.lid_cert.specs.declared.cert.Part.{Part}

@@ -1,4 +1,4 @@
-use Rattle.std.proofs.Common.{◌≡◌, List, length, sym, ◌∙◌, ap, subst, arith}
+use Rattle.std.proofs.Common.{List, sym, subst, arith}
 use Rattle.lid_stations.specs.Placements.{station_count}
 use Rattle.lid_size.specs.Choices.{followed}
 use Rattle.lid_size.specs.Sizing.{Reaches}

@@ -9,8 +9,13 @@ use Rattle.lid_size.proofs.comparing.reaches.Goals as goal
 pub find_low-requires : goal.find_low-requires
 find_low-requires c =
     let p = c.args.placement.now in
-    record { compared = (sized c.args.system.now p.relays p.caps, station_count p.relays,
-      compared_with c.args.system.now p.relays p.caps c.in_ok-graph.graph (station_count p.relays) c.in_ok-cert.cert c.args.wants.now c.args.wants.now c.in_ok-graph.ensures.is refl c.in_ok-graph.ensures.rateable c.in_ok-cert.ensures.certifies c.in_ok-cert.ensures.in_range c.in_ok-cert.ensures.short refl (subst (λ (g : Graph). AreForwardRatios g (station_count c.args.placement.now.relays) c.args.wants.now) (sym c.in_ok-graph.ensures.is) c.requires.wants)) }
+    record {
+      compared = (
+        sized c.args.system.now p.relays p.caps,
+        station_count p.relays,
+        compared_with c.args.system.now p.relays p.caps c.in_ok-graph.graph (station_count p.relays) c.in_ok-cert.cert c.args.wants.now c.args.wants.now c.in_ok-graph.ensures.is refl c.in_ok-graph.ensures.rateable c.in_ok-cert.ensures.certifies c.in_ok-cert.ensures.in_range c.in_ok-cert.ensures.short refl (subst (λ (g : Graph). AreForwardRatios g (station_count c.args.placement.now.relays) c.args.wants.now) (sym c.in_ok-graph.ensures.is) c.requires.wants),
+      );
+    }
 
 pub returns : goal.returns
 returns c =

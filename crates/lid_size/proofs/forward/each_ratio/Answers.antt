@@ -1,4 +1,4 @@
-use Rattle.std.proofs.Common.{◌≡◌, ◌+◌, ◌<◌, length, List, ◌++◌, ◌∷◌, [], get_or, refl, sym, ◌∙◌, subst, arith}
+use Rattle.std.proofs.Common.{◌≡◌, ◌+◌, ◌<◌, length, ◌++◌, ◌∷◌, [], get_or, refl, sym, ◌∙◌, subst, arith}
 use Rattle.std.proofs.lemmas.List.{get_or_default}
 use Rattle.lid_ratio.specs.declared.lowest_terms.Ratio.{Ratio}
 use Rattle.lid_size.specs.ForwardParts.{AreRatiosBelow, no_ratio}
