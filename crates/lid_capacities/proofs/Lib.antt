@@ -1,0 +1,3 @@
+pub mod Scaling
+pub mod Alike
+pub mod Forward

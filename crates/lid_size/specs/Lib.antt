@@ -1,0 +1,5 @@
+pub mod Sizing
+pub mod Sizes
+pub mod Choices
+pub mod ForwardParts
+pub mod Comparing

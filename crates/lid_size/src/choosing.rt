@@ -1,0 +1,122 @@
+//! Capacities that are chosen station by station: each the least that reaches with 16 for all later
+//! stations.
+
+ghost use Rattle.std.specs.Prelude.{◌≡◌, ℕ, ◌<◌, ◌≤◌, ◌↔◌, length, replicate, IsTrue, IfOk};
+ghost use Rattle.std.specs.List.{All};
+ghost use Rattle.lid_stations.specs.Placements.{links_of, Fits, station_count, IsCapacity};
+ghost use Rattle.lid_system.specs.Systems.{IsWellFormed};
+ghost use Rattle.lid_size.specs.Choices.{followed, AreChosen, IsNext};
+ghost use Rattle.lid_size.specs.ForwardParts.{AreForwardRatios};
+ghost use Rattle.lid_size.specs.Sizing.{sized, greatest, Reaches, IsFirst};
+
+use crate::comparing::reaches;
+use lid_base::Items;
+use lid_ratio::Ratio;
+use lid_stations::Placement;
+use lid_system::System;
+use std::alloc::{AllocError, Global};
+
+/// So many capacities of 16.
+pub(crate) fn greatest(alloc: Global, count: usize) -> Result<Vec<u32>, AllocError>
+    ensures { IfOk result (λ caps. caps.items ≡ replicate count 16) }
+{
+    Vec::from_elem(alloc, 16, count)
+}
+
+/// Some capacities, then one, then 16 for all later stations.
+fn followed(alloc: Global, count: usize, done: &[u32], next: u32) -> Result<Vec<u32>, AllocError>
+    requires { length done.now < count }
+    ensures { IfOk result (λ caps. caps.items ≡ followed count done.now next) }
+{
+    let later = greatest(alloc, count - (done.len() + 1))?;
+    let mut caps = Vec::from_slice(alloc, done)?;
+    caps.push(next)?;
+    caps.extend_from_slice(&later)?;
+    Ok(caps)
+}
+
+/// A placement with these capacities.
+pub(crate) fn placement_of(
+    alloc: Global,
+    relays: &[u32],
+    caps: Vec<u32>,
+) -> Result<Placement, AllocError>
+    ensures relays { IfOk result (λ p. p.relays ≡ relays.now) }
+    ensures caps { IfOk result (λ p. p.caps ≡ caps.items) }
+{
+    let relays = Vec::from_slice(alloc, relays)?;
+    Ok(Placement {
+        relays: Items::from_vec(relays),
+        caps: Items::from_vec(caps),
+    })
+}
+
+/// Whether these capacities, then one, then 16 for all later stations reach.
+fn reaches_with(
+    alloc: Global,
+    system: &System,
+    placement: &Placement,
+    wants: &[Ratio],
+    done: &[u32],
+    next: u32,
+) -> Result<bool, AllocError>
+    requires system { IsWellFormed system.now }
+    requires fits { Fits system.now placement.now }
+    requires wants { AreForwardRatios (sized (links_of system.now) placement.now.relays placement.now.caps) (station_count placement.now.relays) wants.now }
+    requires few { length done.now < station_count placement.now.relays }
+    requires range { All IsCapacity done.now }
+    requires next { IsCapacity next }
+    ensures { IfOk result (λ all. IsTrue all ↔ Reaches (links_of system.now) placement.now.relays (followed (station_count placement.now.relays) done.now next)) }
+{
+    let caps = followed(alloc, placement.caps.len(), done, next)?;
+    let trial = placement_of(alloc, placement.relays.as_slice(), caps)?;
+    reaches(alloc, system, &trial, wants)
+}
+
+/// The least capacity of the next station that reaches with 16 for all later ones.
+fn next_capacity(
+    alloc: Global,
+    system: &System,
+    placement: &Placement,
+    wants: &[Ratio],
+    done: &[u32],
+) -> Result<u32, AllocError>
+    requires system { IsWellFormed system.now }
+    requires fits { Fits system.now placement.now }
+    requires wants { AreForwardRatios (sized (links_of system.now) placement.now.relays placement.now.caps) (station_count placement.now.relays) wants.now }
+    requires few { length done.now < station_count placement.now.relays }
+    requires range { All IsCapacity done.now }
+    requires greatest { Reaches (links_of system.now) placement.now.relays (followed (station_count placement.now.relays) done.now 16) }
+    ensures { IfOk result (IsNext (Reaches (links_of system.now) placement.now.relays) (station_count placement.now.relays) done.now) }
+{
+    for next in 2..16u32 {
+        if reaches_with(alloc, system, placement, wants, done, next)? {
+            return Ok(next);
+        }
+    }
+    Ok(16)
+}
+
+/// The first capacities that reach.
+///
+/// # Errors
+/// Where there is no memory.
+pub(crate) fn choose(
+    alloc: Global,
+    system: &System,
+    placement: &Placement,
+    wants: &[Ratio],
+) -> Result<Vec<u32>, AllocError>
+    requires system { IsWellFormed system.now }
+    requires fits { Fits system.now placement.now }
+    requires wants { AreForwardRatios (sized (links_of system.now) placement.now.relays placement.now.caps) (station_count placement.now.relays) wants.now }
+    requires greatest { Reaches (links_of system.now) placement.now.relays (greatest placement.now.relays) }
+    ensures { IfOk result (λ caps. IsFirst (Reaches (links_of system.now) placement.now.relays) (station_count placement.now.relays) caps.items) }
+{
+    let mut done = Vec::new(alloc);
+    for _ in 0..placement.caps.len() {
+        let next = next_capacity(alloc, system, placement, wants, &done)?;
+        done.push(next)?;
+    }
+    Ok(done)
+}

@@ -1,0 +1,9 @@
+//! Sizing of stations: the least capacities with which relay stations cost no throughput.
+#![tactic(auto)]
+
+mod choosing;
+mod comparing;
+mod forward;
+mod sizing;
+
+pub use sizing::{SizeEnd, size};
