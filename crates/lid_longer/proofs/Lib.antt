@@ -1,0 +1,3 @@
+pub mod Reading
+pub mod Rounds
+pub mod Renumbering
