@@ -161,7 +161,7 @@ module _ (s : System) (p : Placement) (c : ℕ) (well : IsWellFormed s) (fits : 
       cap_is = cap_is;
     }
 
-    abbrev SameEnds : ℕ → ℕ → Type 0
+    abbrev pub SameEnds : ℕ → ℕ → Type 0
     SameEnds station now = HasEnds now (shift (filler (links_of s) p station)) (shift (drainer (links_of s) p station)) (start_count p station) (capacity p station)
 
     -- a station that stands where it stood, but for the last one of the channel
