@@ -1,6 +1,6 @@
 -- The marking of a placement with further relay stations: its edges are those of the marking before, but for
 -- those of the last station of the channel, and a chain of stations in its place.
-use Rattle.std.proofs.Common.{◌≡◌, ℕ, zero, suc, ◌+◌, ◌-◌, ◌*◌, ◌<◌, ◌≤◌, nat_lt, ◌⊎◌, inl, inr, Bool, true, false, cond, List, [], ◌∷◌, ◌++◌, length, take, get_or, refl, sym, ◌∙◌, ap, subst, lt-ltb, le-ltb, arith, length-append}
+use Rattle.std.proofs.Common.{◌≡◌, ℕ, zero, suc, ◌+◌, ◌-◌, ◌*◌, ◌<◌, ◌≤◌, nat_lt, ◌⊎◌, inl, inr, Bool, cond, List, [], ◌∷◌, ◌++◌, length, refl, sym, ◌∙◌, ap, subst, lt-ltb, le-ltb, arith, length-append}
 use Rattle.std.proofs.lemmas.Bool.{cases_lt}
 use Rattle.std.proofs.lemmas.List.Sums.{sum_by_more_le}
 use Rattle.lid_graph.specs.declared.graph.Edge.{Edge}
@@ -11,14 +11,13 @@ use Rattle.lid_firings.proofs.Walking.{tokens_append}
 use Rattle.lid_system.specs.declared.System.{System}
 use Rattle.lid_system.specs.Systems.{IsWellFormed}
 use Rattle.lid_stations.specs.declared.placement.Placement.{Placement}
-use Rattle.lid_stations.specs.Placements.{Links, links_of, station_count, Fits}
-use Rattle.lid_stations.specs.Stations.{relay_count, actor_count, filler, drainer, start_count, capacity}
+use Rattle.lid_stations.specs.Placements.{links_of, station_count, Fits}
+use Rattle.lid_stations.specs.Stations.{actor_count, filler, drainer, start_count, capacity}
 use Rattle.lid_stations.specs.Markings.{forth, back, self_edge, marking}
 use Rattle.lid_stations.proofs.Spots.{starts_small, cap_range}
 use Rattle.lid_stations.proofs.Edges.{edges_long, forth_at, back_at, self_at, by_edge}
-use Rattle.lid_longer.specs.Longer.{longer}
 use Rattle.lid_longer.proofs.Reading.{AreWalks, Where, stays, further, IsStep}
-use Rattle.lid_longer.proofs.Renumbering.{here, last_station, first_mover, last_below, then, count_is, actors_are, shift, shift_low, shift_high, shift_node, HasEnds, SameEnds, station_before, station_after, consumer_below, chain_first, chain_further}
+use Rattle.lid_longer.proofs.Renumbering.{last_station, first_mover, last_below, then, count_is, actors_are, shift, shift_low, shift_high, shift_node, HasEnds, SameEnds, station_before, station_after, consumer_below, chain_first, chain_further}
 
 -- a walk by where it begins and ends, its edges and its tokens
 pub record Run (g : Graph) (a b l t : ℕ) : Type 0 where
@@ -158,8 +157,7 @@ module _ (s : System) (p : Placement) (c : ℕ) (well : IsWellFormed s) (fits : 
         let from_is = ends.from_is in
         let to_is = ends.to_is in
         let tokens_is = ends.tokens_is in
-        let cap_is = ends.cap_is in
-        (
+        let cap_is = ends.cap_is in (
           step_of (filler (links_of s) now station) (drainer (links_of s) now station) (start_count now station) f e tokens (ap place from_is ∙ f_is) (ap place to_is ∙ e_is) tokens_is along,
           step_of (drainer (links_of s) now station) (filler (links_of s) now station) (capacity now station - start_count now station) e f (cap - tokens) (ap place to_is ∙ e_is) (ap place from_is ∙ f_is) (omega (arith, tokens_is, cap_is)) backward,
         )

@@ -2,3 +2,4 @@ pub mod Reading
 pub mod Rounds
 pub mod Renumbering
 pub mod Chains
+pub mod Kept

@@ -1,6 +1,6 @@
 -- A walk that passes a chain of stations, read edge by edge, beside two walks that pass a shorter and a longer
 -- chain.
-use Rattle.std.proofs.Common.{◌≡◌, ℕ, zero, suc, ◌+◌, ◌-◌, ◌*◌, ◌<◌, ◌≤◌, ◌⊎◌, inl, inr, List, [], ◌∷◌, length, refl, sym, ◌∙◌, ap, subst, arith}
+use Rattle.std.proofs.Common.{◌≡◌, ℕ, suc, ◌+◌, ◌-◌, ◌*◌, ◌<◌, ◌≤◌, ◌⊎◌, inl, inr, List, [], ◌∷◌, length, refl, sym, ◌∙◌, ap, subst, arith}
 use Rattle.std.proofs.Math.Nat.{mul-le-mul_left, le_of_mul-le-mul_left}
 use Rattle.lid_graph.specs.declared.graph.Graph.{Graph}
 use Rattle.lid_graph.specs.Walks.{edge_at, IsWalk, walk_tokens}
@@ -192,7 +192,13 @@ module _ (p q x z : ℕ) (le : p ≤ q) (Near Far : ℕ → ℕ → ℕ → ℕ 
     module _ (g : Graph) (place : ℕ → Where) (steps : (k : ℕ) → k < length g.edges → IsStep Base u w forth back x (place (edge_at g k).from) (place (edge_at g k).to) (edge_at g k).tokens) where
       read : (ks : List ℕ) (n e b : ℕ) → place e ≡ stays b → IsWalk g n ks e → Read (place n) b (length ks) (walk_tokens g ks)
       read [] n e b is walk = subst (λ (f : Where). Read f b 0 0) (sym (ap place walk ∙ is)) (record {
-        near_edges = 0; near_tokens = 0; far_edges = 0; far_tokens = 0; near = nears.nil b; far = fars.nil b; bound = omega arith
+        near_edges = 0;
+        near_tokens = 0;
+        far_edges = 0;
+        far_tokens = 0;
+        near = nears.nil b;
+        far = fars.nil b;
+        bound = omega arith;
       })
       read (k ∷ ks) n e b is walk =
           let later : Read (place (edge_at g k).to) b (length ks) (walk_tokens g ks) = read ks (edge_at g k).to e b is walk.2 in

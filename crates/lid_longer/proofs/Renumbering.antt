@@ -1,18 +1,17 @@
 -- Which actors fill and drain the stations of a placement with further relay stations: those after the last
 -- station of its channel, and the movers after its last, have higher numbers, and all others the same.
-use Rattle.std.proofs.Common.{◌≡◌, ℕ, zero, suc, ◌+◌, ◌-◌, ◌*◌, ◌<◌, ◌≤◌, ◌==◌, nat_lt, ◌⊎◌, inl, inr, Bool, true, false, cond, List, [], ◌∷◌, ◌++◌, length, take, drop, replicate, get_or, refl, sym, ◌∙◌, ap, subst, lt-ltb, le-ltb, arith, length-append}
+use Rattle.std.proofs.Common.{◌≡◌, ℕ, zero, suc, ◌+◌, ◌-◌, ◌<◌, ◌≤◌, ◌==◌, nat_lt, ◌⊎◌, inl, inr, Bool, true, false, cond, List, ◌++◌, length, take, drop, replicate, get_or, refl, sym, ◌∙◌, ap, subst, lt-ltb, le-ltb, arith}
 use Rattle.std.specs.List.{sum_by}
 use Rattle.std.proofs.Math.ListN.{set}
 use Rattle.std.proofs.Math.Seq.{take-set-lt}
 use Rattle.std.proofs.lemmas.Bool.{cases_lt, cases_eq, eqb-false, ne_eqb, eq-eqb}
-use Rattle.std.proofs.lemmas.List.{length-set, get_or-set_same, get_or-set_other, take-set-le, take-take, get_or-take, length-take-le, get_or_append_left, get_or-append-add, get_or-replicate, get_or-drop, length-replicate, set-get_or, take-append-drop}
+use Rattle.std.proofs.lemmas.List.{length-set, get_or-set_same, get_or-set_other, take-set-le, take-take, get_or-take, length-take-le, get_or_append_left, get_or-append-add, get_or-replicate, get_or-drop, length-replicate}
 use Rattle.std.proofs.lemmas.List.Sums.{sum_by-set, sum_by_more, sum_by_more_le}
 use Rattle.lid_system.specs.declared.System.{System}
 use Rattle.lid_system.specs.Systems.{IsWellFormed}
 use Rattle.lid_stations.specs.declared.placement.Placement.{Placement}
-use Rattle.lid_stations.specs.Placements.{Links, links_of, station_count, Fits}
+use Rattle.lid_stations.specs.Placements.{links_of, station_count, Fits}
 use Rattle.lid_stations.specs.Stations.{Spot, spot_at, relay_count, actor_count, mover, channel_at, fills, drains, starts, filler, drainer, start_count, capacity}
-use Rattle.lid_stations.specs.Laws.{StandsAt}
 use Rattle.lid_stations.proofs.Spots.{Stands, stands, spot_is, channel_there}
 use Rattle.lid_longer.specs.Longer.{stations_through, longer}
 
@@ -35,7 +34,7 @@ module _ (s : System) (p : Placement) (c : ℕ) (well : IsWellFormed s) (fits : 
   abbrev pub first_mover : ℕ
   first_mover = length s.nodes + (relay_count (take c p.relays) + here)
 
-  through_is : stations_through p.relays c ≡ last_station + 1
+  pub through_is : stations_through p.relays c ≡ last_station + 1
   through_is = omega (arith, sum_by_more (λ (k : ℕ). k + 1) p.relays c 0 there)
 
   pub last_below : last_station < station_count p.relays

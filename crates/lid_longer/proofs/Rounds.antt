@@ -1,9 +1,9 @@
 -- Closed walks of a component that begin elsewhere: many rounds of one, with the way there and back.
-use Rattle.std.proofs.Common.{◌≡◌, ℕ, zero, suc, ◌+◌, ◌*◌, ◌<◌, ◌≤◌, ◌⊎◌, inl, inr, List, [], ◌∷◌, ◌++◌, length, refl, sym, ◌∙◌, ap, subst, arith, length-append}
+use Rattle.std.proofs.Common.{◌≡◌, ℕ, zero, suc, ◌+◌, ◌*◌, ◌<◌, ◌≤◌, ◌⊎◌, inl, inr, List, ◌++◌, length, subst, arith, length-append}
 use Rattle.std.proofs.lemmas.Bool.{cases_lt}
 use Rattle.std.proofs.Math.Nat.{mul-le-mul_left}
 use Rattle.lid_graph.specs.declared.graph.Graph.{Graph}
-use Rattle.lid_graph.specs.Walks.{edge_at, IsPaired, IsWalk, IsJoined, walk_start, walk_tokens}
+use Rattle.lid_graph.specs.Walks.{IsPaired, IsWalk, IsJoined, walk_start, walk_tokens}
 use Rattle.lid_graph.specs.Ratios.{IsClosedWalkNear}
 use Rattle.lid_graph.proofs.Journeys.{walk_append, joined_back}
 use Rattle.lid_firings.proofs.Walking.{tokens_append}

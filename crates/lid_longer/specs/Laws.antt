@@ -6,7 +6,7 @@ use Rattle.lid_system.specs.Systems.{IsWellFormed}
 use Rattle.lid_stations.specs.declared.placement.Placement.{Placement}
 use Rattle.lid_stations.specs.Placements.{links_of, Fits}
 use Rattle.lid_stations.specs.Markings.{marking}
-use Rattle.lid_longer.specs.Longer.{longer, room, producer, KeepsAt, KeepsRatio}
+use Rattle.lid_longer.specs.Longer.{longer, room, producer, KeepsAt}
 
 -- as many further relay stations as there is room for fit
 abbrev pub LongerFits : Type 0

@@ -1,5 +1,5 @@
 -- Placements with further relay stations on a channel, and whether its component keeps its ratio.
-use Rattle.std.specs.Prelude.{◌≡◌, ℕ, ◌+◌, ◌-◌, ◌*◌, ◌≤◌, min, List, ◌++◌, length, take, drop, replicate, slice_index_or, slice_set}
+use Rattle.std.specs.Prelude.{ℕ, ◌+◌, ◌-◌, ◌*◌, ◌≤◌, min, List, ◌++◌, length, take, drop, replicate, slice_index_or, slice_set}
 use Rattle.lid_graph.specs.declared.graph.Graph.{Graph}
 use Rattle.lid_graph.specs.Walks.{walk_tokens}
 use Rattle.lid_graph.specs.Ratios.{IsClosedWalkNear, IsRatio}

@@ -2,6 +2,8 @@
 //! the channel's component.
 #![tactic(auto)]
 
+mod further;
 mod laws;
 
-pub use laws::none_are_none;
+pub use further::{longer, room};
+pub use laws::{fewer_keep, further_stations_fit, none_are_none};
