@@ -71,7 +71,7 @@ module _ (s : System) (p : Placement) (c a b : ℕ) (well : IsWellFormed s) (fit
       let one : b * ((edge_at (marking (links_of s) p) ((station_count p.relays + station_count p.relays) + v)).tokens + 0) ≡ b * (1 + 0) = ap (λ (n : ℕ). b * (n + 0)) tokens in
       omega arith
 
-  none_keep : IsRatio (marking (links_of s) p) v a b → KeepsAt (links_of s) p c 0 a b
+  pub none_keep : IsRatio (marking (links_of s) p) v a b → KeepsAt (links_of s) p c 0 a b
   none_keep ratio = subst (λ (q : Placement). (ks : List ℕ) → IsClosedWalkNear (marking (links_of s) q) v ks → a * length ks ≤ b * walk_tokens (marking (links_of s) q) ks) (sym (none_are_none p c)) ratio.all
 
 -- one list of stations more

@@ -1,5 +1,5 @@
 -- What a trial shows: that a ratio is kept, or a closed walk that lowers it.
-use Rattle.std.proofs.Common.{◌≡◌, ℕ, zero, suc, ◌+◌, ◌*◌, ◌<◌, ◌≤◌, ◌⊎◌, inl, inr, Bool, true, false, List, [], ◌∷◌, length, take, IsTrue, Option, Some, None, refl, sym, ◌∙◌, ap, subst, arith}
+use Rattle.std.proofs.Common.{◌≡◌, ℕ, zero, suc, ◌+◌, ◌-◌, ◌*◌, ◌<◌, ◌≤◌, ◌⊎◌, inl, inr, Bool, true, false, [], ◌∷◌, length, take, IsTrue, Option, Some, None, refl, sym, ◌∙◌, ap, subst, arith}
 use Rattle.std.specs.List.{All, sum_by}
 use Rattle.std.specs.Option.{MatchOption}
 use Rattle.std.proofs.lemmas.Bool.{cases_eq, cases_lt}
@@ -26,10 +26,10 @@ use Rattle.lid_cert.specs.Certificates.{Certifies, has_node, depth_of, via_of, I
 use Rattle.lid_cert.specs.Owners.{no_part, part_at}
 use Rattle.lid_cert.proofs.Parts.{node_met}
 use Rattle.lid_longer.specs.Longer.{longer, longer_marking, producer, room, KeepsAt, KeepsRatio}
-use Rattle.lid_longer.proofs.Kept.{longer_fits, fewer_keep}
+use Rattle.lid_longer.proofs.Kept.{longer_fits, none_are_none, none_keep, fewer_keep}
 use Rattle.lid_slack.specs.Slack.{IsSlack, IsAgainst}
-use Rattle.lid_slack.specs.Trials.{CanTry, IsTrial, IsPresent, IsMost}
-use Rattle.lid_slack.proofs.Ratios.{exact_keeps, keeps_lower, exact_below, below_higher, ratio_keeps, keeps_ratio, one_ratio}
+use Rattle.lid_slack.specs.Trials.{CanTry, IsTrial, IsPresent, IsMost, IsBetween}
+use Rattle.lid_slack.proofs.Ratios.{keeps_lower, exact_below, below_higher, ratio_keeps, keeps_ratio, one_ratio}
 
 -- a walk leads from where the closed walk of a part starts to each of its transitions
 module _ (g : Graph) (part : Part) (meets : IsPart g part) where
@@ -83,29 +83,61 @@ trial_is s p c x g cert part is rateable certifies exact short within stands = r
   stands = stands;
   exact = subst (λ (h : Graph). IsExact h (part_at cert.parts part)) is (exact part no_part within);
   short = (let walk : length (part_at cert.parts part).cycle ≤ length (part_at cert.parts part).nodes = short.walks part no_part within in
-    let one : sum_by (λ (part : Part). length part.nodes) (take part cert.parts) + length (part_at cert.parts part).nodes ≤ sum_by (λ (part : Part). length part.nodes) cert.parts = sum_by_more_le (λ (part : Part). length part.nodes) cert.parts part no_part within in
-    let all = short.nodes in let most = rateable.nodes in omega arith);
+      let one : sum_by (λ (part : Part). length part.nodes) (take part cert.parts) + length (part_at cert.parts part).nodes ≤ sum_by (λ (part : Part). length part.nodes) cert.parts = sum_by_more_le (λ (part : Part). length part.nodes) cert.parts part no_part within in
+      let all = short.nodes in let most = rateable.nodes in omega arith);
 }
+
+-- with no further relay stations the ratio is the present one
+pub present_is : (s : System) (p : Placement) (c a b : ℕ) (cert : Cert) (part : ℕ) → IsTrial s p c 0 cert part → a ≡ (part_at cert.parts part).p → b ≡ (part_at cert.parts part).q → IsPresent s p c a b
+present_is s p c a b cert part trial a_is b_is =
+    let here : IsPresent s p c (part_at cert.parts part).p (part_at cert.parts part).q = record {
+      ratio = subst (λ (q : Placement). IsRatio (marking (links_of s) q) (producer (links_of s) c) (part_at cert.parts part).p (part_at cert.parts part).q) (none_are_none p c) (trial.exact.ratio (producer (links_of s) c) trial.stands);
+      small_a = trial.exact.in_range.p;
+      small_b = trial.exact.in_range.q;
+    } in
+    subst (λ (n : ℕ). IsPresent s p c n b) (sym a_is) (subst (λ (n : ℕ). IsPresent s p c (part_at cert.parts part).p n) (sym b_is) here)
+
+-- no answer is both
+pub not_true : (answer : Bool) → IsTrue answer → answer ≡ false → ⊥
+not_true answer holds fails = (let never : true ≡ false = sym holds ∙ fails in cc)
 
 -- an answer that is false exactly where it is not the case
 pub not_below : (answer : Bool) (m n : ℕ) → (m < n → IsTrue answer) → answer ≡ false → n ≤ m
 not_below answer m n holds fails = by_order (cases_lt m n)
   where
     by_order : (m < n) ⊎ (n ≤ m) → n ≤ m
-    by_order (inl less) = (let is : answer ≡ true = holds less in absurd (let never : true ≡ false = sym is ∙ fails in cc))
+    by_order (inl less) = absurd (not_true answer (holds less) fails)
     by_order (inr more) = more
 
 module _ (s : System) (p : Placement) (c a b : ℕ) (present : IsPresent s p c a b) where
-  abbrev l : Links
+  abbrev pub l : Links
   l = links_of s
 
-  abbrev v : ℕ
+  abbrev pub v : ℕ
   v = producer (links_of s) c
 
   -- the present ratio in other terms
   same_ratio : (x d e : ℕ) → IsRatio (marking l p) v d e → KeepsAt l p c x a b → KeepsAt l p c x d e
   same_ratio x d e other keeps ks near =
       keeps_lower a b d e (length ks) (walk_tokens (longer_marking l p c x) ks) present.ratio.positive (one_ratio (marking l p) v a b d e present.ratio other) (keeps ks near)
+
+  -- a bisection begins, and ends
+  pub between : (most : ℕ) → CanTry s p c most → (KeepsAt l p c most a b → ⊥) → IsBetween s p c a b 0 most
+  between most can lower = record { less = by_number (cases_lt 0 most); enough = can.enough; keeps = none; lowers = lower }
+    where
+      none : KeepsAt l p c 0 a b
+      none = none_keep s p c a b can.system can.fits (omega (arith, can.there, can.fits.counts)) present.ratio
+
+      by_number : (0 < most) ⊎ (most ≤ 0) → 0 < most
+      by_number (inl some) = some
+      by_number (inr none_are) = (let is : 0 ≡ most = omega arith in absurd (lower (subst (λ (n : ℕ). KeepsAt l p c n a b) is none)))
+
+  pub most_is : (low high : ℕ) → IsBetween s p c a b low high → high - low ≤ 1 → IsMost s p c a b low
+  most_is low high h close = record {
+    within = (let less = h.less in let enough = h.enough in omega arith);
+    keeps = h.keeps;
+    next = λ room keeps. (let less = h.less in let is : low + 1 ≡ high = omega arith in h.lowers (subst (λ (n : ℕ). KeepsAt l p c n a b) is keeps));
+  }
 
   module _ (x : ℕ) (can : CanTry s p c x) (cert : Cert) (part : ℕ) (trial : IsTrial s p c x cert part) where
     abbrev g : Graph

@@ -1,5 +1,5 @@
 -- The slack of a channel: how many further relay stations it takes before the ratio of its component falls.
-use Rattle.std.specs.Prelude.{◌≡◌, ℕ, ◌+◌, ◌*◌, ◌<◌, ◌≤◌, ◌^◌, List, length}
+use Rattle.std.specs.Prelude.{ℕ, ◌*◌, ◌<◌, ◌≤◌, ◌^◌, List, length}
 use Rattle.lid_graph.specs.Walks.{walk_tokens}
 use Rattle.lid_graph.specs.Ratios.{IsClosedWalkNear, IsRatio}
 use Rattle.lid_stations.specs.declared.placement.Placement.{Placement}

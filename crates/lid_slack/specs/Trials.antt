@@ -1,20 +1,19 @@
 -- For the search: what is found with some further relay stations.
-use Rattle.std.specs.Prelude.{◌≡◌, ℕ, ◌+◌, ◌*◌, ◌<◌, ◌≤◌, ◌^◌, true, List, length, Option, Some, None}
+use Rattle.std.specs.Prelude.{◌≡◌, ℕ, ◌+◌, ◌<◌, ◌≤◌, ◌^◌, true, List, length, Option}
 use Rattle.std.specs.Option.{MatchOption}
 use Rattle.lid_graph.specs.Ratios.{IsRatio}
 use Rattle.lid_stations.specs.declared.placement.Placement.{Placement}
-use Rattle.lid_stations.specs.Placements.{Links, links_of, Fits}
+use Rattle.lid_stations.specs.Placements.{links_of, Fits}
 use Rattle.lid_stations.specs.Markings.{marking}
 use Rattle.lid_system.specs.declared.System.{System}
 use Rattle.lid_system.specs.Systems.{IsWellFormed}
 use Rattle.lid_cert.specs.declared.cert.Cert.{Cert}
-use Rattle.lid_cert.specs.declared.cert.Part.{Part}
 use Rattle.lid_cert.specs.Certificates.{Certifies, has_node}
 use Rattle.lid_cert.specs.Owners.{part_at}
 use Rattle.lid_rate.specs.Rates.{IsExact}
 use Rattle.lid_longer.specs.Longer.{longer_marking, producer, room, KeepsAt}
 use Rattle.lid_slack.specs.declared.answer.Slack.{Slack}
-use Rattle.lid_slack.specs.Slack.{HasRatio, IsSlack, IsAgainst}
+use Rattle.lid_slack.specs.Slack.{IsAgainst}
 
 -- a channel of a system with stations, and as many further relay stations there as there is room for
 pub record CanTry (s : System) (p : Placement) (c x : ℕ) : Type 0 where
@@ -52,3 +51,10 @@ pub record IsFound (s : System) (p : Placement) (c a b : ℕ) (slack : Slack) : 
   pub most : IsMost s p c a b slack.added
   pub certifies : Certifies (longer_marking (links_of s) p c slack.added) slack.cert
   pub ends : IsEnd s p c slack.added slack.against
+
+-- for the loop: a ratio is kept with the low number, and not with the high one
+pub record IsBetween (s : System) (p : Placement) (c a b low high : ℕ) : Type 0 where
+  pub less : low < high
+  pub enough : high ≤ room p c
+  pub keeps : KeepsAt (links_of s) p c low a b
+  pub lowers : KeepsAt (links_of s) p c high a b → ⊥

@@ -1,10 +1,9 @@
-use Rattle.std.proofs.Common.{◌≡◌, ℕ, ◌+◌, ◌-◌, ◌<◌, ◌≤◌}
-use Rattle.lid_stations.specs.Placements.{links_of}
-use Rattle.lid_longer.specs.Longer.{KeepsAt}
+use Rattle.std.proofs.Common.{◌-◌}
+use Rattle.lid_slack.specs.Trials.{IsBetween}
 use Rattle.lid_slack.proofs.bisection.bisect.Given as goal
 
-pub measure-loop : goal.measure-loop
-measure-loop l = ?
+abbrev pub decreases-loop-high : goal.decreases-loop-high
+decreases-loop-high l = l.high - l.low
 
-abbrev pub invariant-loop : goal.invariant-loop
-invariant-loop l = ?
+abbrev pub invariant-loop-high : goal.invariant-loop-high
+invariant-loop-high l = IsBetween l.system l.placement l.channel l.present.p l.present.q l.low l.high
