@@ -1,0 +1,5 @@
+pub mod Reading
+pub mod Rounds
+pub mod Renumbering
+pub mod Chains
+pub mod Kept

@@ -1,0 +1,9 @@
+//! Placements with further relay stations on a channel: how they are made, and what they do to the ratio of
+//! the channel's component.
+#![tactic(auto)]
+
+mod further;
+mod laws;
+
+pub use further::{longer, room};
+pub use laws::{fewer_keep, further_stations_fit, none_are_none};

@@ -1,0 +1,201 @@
+-- What a trial shows: that a ratio is kept, or a closed walk that lowers it.
+use Rattle.std.proofs.Common.{◌≡◌, ℕ, zero, suc, ◌+◌, ◌-◌, ◌*◌, ◌<◌, ◌≤◌, ◌⊎◌, inl, inr, Bool, true, false, [], ◌∷◌, length, take, IsTrue, Option, Some, None, refl, sym, ◌∙◌, ap, subst, arith}
+use Rattle.std.specs.List.{All, sum_by}
+use Rattle.std.specs.Option.{MatchOption}
+use Rattle.std.proofs.lemmas.Bool.{cases_eq, cases_lt}
+use Rattle.std.proofs.lemmas.List.{get_or_default}
+use Rattle.std.proofs.lemmas.List.Sums.{sum_by_more_le}
+use Rattle.lid_graph.specs.Rateable.{IsRateable}
+use Rattle.lid_graph.specs.declared.graph.Graph.{Graph}
+use Rattle.lid_graph.specs.Walks.{edge_at, IsPaired, IsWalk, IsJoined, walk_start, walk_tokens}
+use Rattle.lid_graph.specs.Ratios.{IsClosedWalkNear, IsRatio}
+use Rattle.lid_graph.proofs.Journeys.{joined_step, joined_back}
+use Rattle.lid_system.specs.declared.System.{System}
+use Rattle.lid_stations.specs.declared.placement.Placement.{Placement}
+use Rattle.lid_stations.specs.Placements.{Links, links_of}
+use Rattle.lid_stations.specs.Markings.{marking}
+use Rattle.lid_stations.proofs.Spots.{channel_there}
+use Rattle.lid_stations.proofs.Edges.{node_count}
+use Rattle.lid_stations.proofs.Alive.{rateable}
+use Rattle.lid_cert.specs.declared.cert.Part.{Part}
+use Rattle.lid_cert.specs.declared.cert.Cert.{Cert}
+use Rattle.lid_cert.specs.Laws.{Shows}
+use Rattle.lid_cert.proofs.Consequences.{each_is_shown}
+use Rattle.lid_rate.specs.Rates.{IsExact, IsShort}
+use Rattle.lid_cert.specs.Certificates.{Certifies, has_node, depth_of, via_of, IsPart, IsVia}
+use Rattle.lid_cert.specs.Owners.{no_part, part_at}
+use Rattle.lid_cert.proofs.Parts.{node_met}
+use Rattle.lid_longer.specs.Longer.{longer, longer_marking, producer, room, KeepsAt, KeepsRatio}
+use Rattle.lid_longer.proofs.Kept.{longer_fits, none_are_none, none_keep, fewer_keep}
+use Rattle.lid_slack.specs.Slack.{IsSlack, IsAgainst}
+use Rattle.lid_slack.specs.Trials.{CanTry, IsTrial, IsPresent, IsMost, IsBetween}
+use Rattle.lid_slack.proofs.Ratios.{keeps_lower, exact_below, below_higher, ratio_keeps, keeps_ratio, one_ratio}
+
+-- a walk leads from where the closed walk of a part starts to each of its transitions
+module _ (g : Graph) (part : Part) (meets : IsPart g part) where
+  abbrev JoinsBelow : ℕ → Type 0
+  JoinsBelow d = (u : ℕ) → depth_of part u < d → has_node part u ≡ true → IsJoined g (walk_start g part.cycle) u
+
+  joins_below : (d v : ℕ) → depth_of part v < d → has_node part v ≡ true → IsJoined g (walk_start g part.cycle) v
+  joins_below zero v h inside = absurd (omega arith)
+  joins_below (suc d) v h inside = by_start (λ u deep begins. joins_below d u deep begins) (cases_eq v (walk_start g part.cycle))
+    where
+      by_via : JoinsBelow d → (o : Option ℕ) → MatchOption o ⊥ (IsVia g part v) → IsJoined g (walk_start g part.cycle) v
+      by_via earlier None none = absurd none
+      by_via earlier (Some i) via =
+          let deep : depth_of part (edge_at g i).from < d = omega (arith, via.depth) in
+          let edge : IsWalk g (edge_at g i).from (i ∷ []) v = (via.within, refl, via.ends) in
+          joined_step g (walk_start g part.cycle) (edge_at g i).from v (earlier (edge_at g i).from deep via.begins) (i ∷ [], edge)
+
+      by_start : JoinsBelow d → (v ≡ walk_start g part.cycle) ⊎ (v ≡ walk_start g part.cycle → ⊥) → IsJoined g (walk_start g part.cycle) v
+      by_start earlier (inl is) = ([], sym is)
+      by_start earlier (inr other) = by_via earlier (via_of part v) (node_met g part meets v (walk_start g part.cycle) refl inside other)
+
+  -- so the closed walk is one of the component
+  part_walk_near : IsPaired g → (v : ℕ) → has_node part v ≡ true → IsClosedWalkNear g v part.cycle
+  part_walk_near paired v inside =
+      let there = joins_below (suc (depth_of part v)) v (omega arith) inside in
+      (meets.inside.walk, joined_back g paired there.0 (walk_start g part.cycle) v there.1)
+
+-- some part has each transition
+pub some_part : (g : Graph) (cert : Cert) (v : ℕ) → IsPaired g → Certifies g cert → v < g.nodes → ((k : ℕ) → k < length cert.parts → has_node (part_at cert.parts k) v ≡ false) → ⊥
+some_part g cert v paired certifies within none = from_part (each_is_shown g cert v paired certifies within)
+  where
+    from_part : (part : Part) × Shows g cert part v → ⊥
+    from_part h =
+        let stands = h.1.stands in
+        let same : part_at cert.parts stands.0 ≡ h.0 = get_or_default cert.parts stands.0 no_part h.0 stands.1 ∙ stands.2 in
+        let out : has_node h.0 v ≡ false = sym (ap (λ (part : Part). has_node part v) same) ∙ none stands.0 stands.1 in
+        let inside : has_node h.0 v ≡ true = h.1.inside in
+        cc
+
+-- the producer of a channel is a transition
+pub producer_within : (s : System) (p : Placement) (c x : ℕ) → CanTry s p c x → producer (links_of s) c < (longer_marking (links_of s) p c x).nodes
+producer_within s p c x can =
+    let comes = (channel_there s p can.system can.fits c (omega (arith, can.there, can.fits.counts))).comes in
+    omega (arith, node_count s (longer p c x))
+
+-- what is found with further relay stations
+pub trial_is : (s : System) (p : Placement) (c x : ℕ) (g : Graph) (cert : Cert) (part : ℕ) → g ≡ longer_marking (links_of s) p c x → IsRateable g → Certifies g cert → All (IsExact g) cert.parts → IsShort g cert → part < length cert.parts → has_node (part_at cert.parts part) (producer (links_of s) c) ≡ true → IsTrial s p c x cert part
+trial_is s p c x g cert part is rateable certifies exact short within stands = record {
+  certifies = subst (λ (h : Graph). Certifies h cert) is certifies;
+  within = within;
+  stands = stands;
+  exact = subst (λ (h : Graph). IsExact h (part_at cert.parts part)) is (exact part no_part within);
+  short = (let walk : length (part_at cert.parts part).cycle ≤ length (part_at cert.parts part).nodes = short.walks part no_part within in
+      let one : sum_by (λ (part : Part). length part.nodes) (take part cert.parts) + length (part_at cert.parts part).nodes ≤ sum_by (λ (part : Part). length part.nodes) cert.parts = sum_by_more_le (λ (part : Part). length part.nodes) cert.parts part no_part within in
+      let all = short.nodes in let most = rateable.nodes in omega arith);
+}
+
+-- with no further relay stations the ratio is the present one
+pub present_is : (s : System) (p : Placement) (c a b : ℕ) (cert : Cert) (part : ℕ) → IsTrial s p c 0 cert part → a ≡ (part_at cert.parts part).p → b ≡ (part_at cert.parts part).q → IsPresent s p c a b
+present_is s p c a b cert part trial a_is b_is =
+    let here : IsPresent s p c (part_at cert.parts part).p (part_at cert.parts part).q = record {
+      ratio = subst (λ (q : Placement). IsRatio (marking (links_of s) q) (producer (links_of s) c) (part_at cert.parts part).p (part_at cert.parts part).q) (none_are_none p c) (trial.exact.ratio (producer (links_of s) c) trial.stands);
+      small_a = trial.exact.in_range.p;
+      small_b = trial.exact.in_range.q;
+    } in
+    subst (λ (n : ℕ). IsPresent s p c n b) (sym a_is) (subst (λ (n : ℕ). IsPresent s p c (part_at cert.parts part).p n) (sym b_is) here)
+
+-- no answer is both
+pub not_true : (answer : Bool) → IsTrue answer → answer ≡ false → ⊥
+not_true answer holds fails = (let never : true ≡ false = sym holds ∙ fails in cc)
+
+-- an answer that is false exactly where it is not the case
+pub not_below : (answer : Bool) (m n : ℕ) → (m < n → IsTrue answer) → answer ≡ false → n ≤ m
+not_below answer m n holds fails = by_order (cases_lt m n)
+  where
+    by_order : (m < n) ⊎ (n ≤ m) → n ≤ m
+    by_order (inl less) = absurd (not_true answer (holds less) fails)
+    by_order (inr more) = more
+
+module _ (s : System) (p : Placement) (c a b : ℕ) (present : IsPresent s p c a b) where
+  abbrev pub l : Links
+  l = links_of s
+
+  abbrev pub v : ℕ
+  v = producer (links_of s) c
+
+  -- the present ratio in other terms
+  same_ratio : (x d e : ℕ) → IsRatio (marking l p) v d e → KeepsAt l p c x a b → KeepsAt l p c x d e
+  same_ratio x d e other keeps ks near =
+      keeps_lower a b d e (length ks) (walk_tokens (longer_marking l p c x) ks) present.ratio.positive (one_ratio (marking l p) v a b d e present.ratio other) (keeps ks near)
+
+  -- a bisection begins, and ends
+  pub between : (most : ℕ) → CanTry s p c most → (KeepsAt l p c most a b → ⊥) → IsBetween s p c a b 0 most
+  between most can lower = record { less = by_number (cases_lt 0 most); enough = can.enough; keeps = none; lowers = lower }
+    where
+      none : KeepsAt l p c 0 a b
+      none = none_keep s p c a b can.system can.fits (omega (arith, can.there, can.fits.counts)) present.ratio
+
+      by_number : (0 < most) ⊎ (most ≤ 0) → 0 < most
+      by_number (inl some) = some
+      by_number (inr none_are) = (let is : 0 ≡ most = omega arith in absurd (lower (subst (λ (n : ℕ). KeepsAt l p c n a b) is none)))
+
+  pub most_is : (low high : ℕ) → IsBetween s p c a b low high → high - low ≤ 1 → IsMost s p c a b low
+  most_is low high h close = record {
+    within = (let less = h.less in let enough = h.enough in omega arith);
+    keeps = h.keeps;
+    next = λ room keeps. (let less = h.less in let is : low + 1 ≡ high = omega arith in h.lowers (subst (λ (n : ℕ). KeepsAt l p c n a b) is keeps));
+  }
+
+  module _ (x : ℕ) (can : CanTry s p c x) (cert : Cert) (part : ℕ) (trial : IsTrial s p c x cert part) where
+    abbrev g : Graph
+    g = longer_marking l p c x
+
+    abbrev here : Part
+    here = part_at cert.parts part
+
+    ratio_here : IsRatio g v here.p here.q
+    ratio_here = trial.exact.ratio v trial.stands
+
+    -- a ratio that is no lower is kept, and a lower one is not
+    pub kept : a * here.q ≤ here.p * b → KeepsAt l p c x a b
+    kept less = keeps_ratio g v here.p here.q a b ratio_here less
+
+    pub not_kept : here.p * b < a * here.q → KeepsAt l p c x a b → ⊥
+    not_kept less keeps = let most = ratio_keeps g v here.p here.q a b ratio_here keeps in omega arith
+
+    paired : IsPaired g
+    paired = (rateable s (longer p c x) can.system (longer_fits s p c x can.fits can.there can.enough)).paired
+
+    meets : IsPart g here
+    meets = trial.certifies.parts part no_part trial.within
+
+    -- the closed walk of the part
+    pub against : here.p * b < a * here.q → IsAgainst l p c x here.cycle
+    against less =
+        let tokens : here.q * walk_tokens g here.cycle ≡ here.p * length here.cycle = (let e = meets.inside.ratio in omega arith) in
+        let some : 0 < length here.cycle = meets.inside.walk.some in
+        record {
+          near = part_walk_near g here meets paired v trial.stands;
+          least = λ ks near. (let bound = ratio_here.all ks near in let h = keeps_lower here.p here.q (walk_tokens g here.cycle) (length here.cycle) (length ks) (walk_tokens g ks) ratio_here.positive (omega arith) bound in omega arith);
+          below = λ d e other.
+              (let lower : b * walk_tokens g here.cycle < a * length here.cycle = exact_below here.p here.q a b (length here.cycle) (walk_tokens g here.cycle) tokens some less in
+              below_higher a b d e (length here.cycle) (walk_tokens g here.cycle) other.positive (one_ratio (marking l p) v d e a b other present.ratio) lower);
+          short = trial.short;
+        }
+
+  -- with the greatest number that keeps the ratio
+  module _ (x : ℕ) (can : CanTry s p c x) (most : IsMost s p c a b x) where
+    fewer : (y : ℕ) → y ≤ x → KeepsAt l p c y a b
+    fewer y h = fewer_keep s p c y x a b can.system can.fits can.there can.enough h present.ratio most.keeps
+
+    pub fewer_keep_ratio : (y : ℕ) → y ≤ x → KeepsRatio l p c y
+    fewer_keep_ratio y h d e other = same_ratio y d e other (fewer y h)
+
+    pub is_slack : IsSlack l p c x
+    is_slack = record {
+      rated = (a, b, present.ratio);
+      within = most.within;
+      keeps = fewer_keep_ratio x (omega arith);
+      greatest = greatest;
+    }
+      where
+        greatest : (y : ℕ) → y ≤ room p c → KeepsRatio l p c y → y ≤ x
+        greatest y enough keeps = by_order (cases_lt x y)
+          where
+            by_order : (x < y) ⊎ (y ≤ x) → y ≤ x
+            by_order (inr h) = h
+            by_order (inl less) =
+                absurd (most.next (omega arith) (fewer_keep s p c (x + 1) y a b can.system can.fits can.there enough (omega arith) present.ratio (keeps a b present.ratio)))

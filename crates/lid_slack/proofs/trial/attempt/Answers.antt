@@ -1,0 +1,19 @@
+use Rattle.std.proofs.Common.{◌≡◌, ℕ, ◌<◌, true, sym, subst}
+use Rattle.lid_graph.specs.declared.graph.Graph.{Graph}
+use Rattle.lid_cert.specs.Certificates.{has_node}
+use Rattle.lid_cert.specs.Owners.{part_at}
+use Rattle.lid_stations.specs.Placements.{links_of}
+use Rattle.lid_longer.specs.Longer.{producer}
+use Rattle.lid_slack.proofs.Tried.{producer_within, trial_is}
+use Rattle.lid_slack.proofs.trial.attempt.Goals as goal
+
+pub part_of-part-requires-clause-within : goal.part_of-part-requires-clause-within
+part_of-part-requires-clause-within c =
+    subst (λ (v : ℕ). v < c.in_ok-graph.graph.nodes) (sym c.producer.ensures)
+    (subst (λ (g : Graph). producer (links_of c.args.system.now) c.args.channel < g.nodes) (sym c.in_ok-graph.ensures.is) (producer_within c.args.system.now c.args.placement.now c.args.channel c.args.more c.requires))
+
+pub returns : goal.returns
+returns c =
+    trial_is c.args.system.now c.args.placement.now c.args.channel c.args.more c.in_ok-graph.graph c.in_ok-cert.cert c.part_of-part.result
+    c.in_ok-graph.ensures.is c.in_ok-graph.ensures.rateable c.in_ok-cert.ensures.certifies c.in_ok-cert.ensures.exact c.in_ok-cert.ensures.short c.part_of-part.ensures.within
+    (subst (λ (v : ℕ). has_node (part_at c.in_ok-cert.cert.parts c.part_of-part.result) v ≡ true) c.producer.ensures c.part_of-part.ensures.stands)

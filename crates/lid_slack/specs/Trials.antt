@@ -1,0 +1,60 @@
+-- For the search: what is found with some further relay stations.
+use Rattle.std.specs.Prelude.{◌≡◌, ℕ, ◌+◌, ◌<◌, ◌≤◌, ◌^◌, true, List, length, Option}
+use Rattle.std.specs.Option.{MatchOption}
+use Rattle.lid_graph.specs.Ratios.{IsRatio}
+use Rattle.lid_stations.specs.declared.placement.Placement.{Placement}
+use Rattle.lid_stations.specs.Placements.{links_of, Fits}
+use Rattle.lid_stations.specs.Markings.{marking}
+use Rattle.lid_system.specs.declared.System.{System}
+use Rattle.lid_system.specs.Systems.{IsWellFormed}
+use Rattle.lid_cert.specs.declared.cert.Cert.{Cert}
+use Rattle.lid_cert.specs.Certificates.{Certifies, has_node}
+use Rattle.lid_cert.specs.Owners.{part_at}
+use Rattle.lid_rate.specs.Rates.{IsExact}
+use Rattle.lid_longer.specs.Longer.{longer_marking, producer, room, KeepsAt}
+use Rattle.lid_slack.specs.declared.answer.Slack.{Slack}
+use Rattle.lid_slack.specs.Slack.{IsAgainst}
+
+-- a channel of a system with stations, and as many further relay stations there as there is room for
+pub record CanTry (s : System) (p : Placement) (c x : ℕ) : Type 0 where
+  pub system : IsWellFormed s
+  pub fits : Fits s p
+  pub there : c < length s.channels
+  pub enough : x ≤ room p c
+
+-- a certificate with x further relay stations, and its part of the channel's component
+pub record IsTrial (s : System) (p : Placement) (c x : ℕ) (cert : Cert) (part : ℕ) : Type 0 where
+  pub certifies : Certifies (longer_marking (links_of s) p c x) cert
+  pub within : part < length cert.parts
+  pub stands : has_node (part_at cert.parts part) (producer (links_of s) c) ≡ true
+  pub exact : IsExact (longer_marking (links_of s) p c x) (part_at cert.parts part)
+  pub short : length (part_at cert.parts part).cycle ≤ 2 ^ 18
+
+-- a/b is the present ratio of the channel's component
+pub record IsPresent (s : System) (p : Placement) (c a b : ℕ) : Type 0 where
+  pub ratio : IsRatio (marking (links_of s) p) (producer (links_of s) c) a b
+  pub small_a : a < 2 ^ 31
+  pub small_b : b < 2 ^ 31
+
+-- with x further relay stations a ratio is kept, and not with one more, if there is room for it
+pub record IsMost (s : System) (p : Placement) (c a b x : ℕ) : Type 0 where
+  pub within : x ≤ room p c
+  pub keeps : KeepsAt (links_of s) p c x a b
+  pub next : x < room p c → KeepsAt (links_of s) p c (x + 1) a b → ⊥
+
+-- a walk is told where there is room for one more, and it lowers the ratio
+abbrev pub IsEnd : System → Placement → ℕ → ℕ → Option (List ℕ) → Type 0
+IsEnd s p c x against = MatchOption against (x ≡ room p c) (λ walk. (x < room p c) × IsAgainst (links_of s) p c (x + 1) walk)
+
+-- the slack that is told, by the present ratio a/b
+pub record IsFound (s : System) (p : Placement) (c a b : ℕ) (slack : Slack) : Type 0 where
+  pub most : IsMost s p c a b slack.added
+  pub certifies : Certifies (longer_marking (links_of s) p c slack.added) slack.cert
+  pub ends : IsEnd s p c slack.added slack.against
+
+-- for the loop: a ratio is kept with the low number, and not with the high one
+pub record IsBetween (s : System) (p : Placement) (c a b low high : ℕ) : Type 0 where
+  pub less : low < high
+  pub enough : high ≤ room p c
+  pub keeps : KeepsAt (links_of s) p c low a b
+  pub lowers : KeepsAt (links_of s) p c high a b → ⊥

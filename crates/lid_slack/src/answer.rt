@@ -1,0 +1,17 @@
+//! The slack of a channel.
+
+use lid_base::Items;
+use lid_cert::Cert;
+
+/// How many further relay stations a channel takes.
+#[derive(Drop)]
+pub struct Slack {
+    /// The greatest number of further relay stations of capacity 2 after the last station of the channel, as
+    /// far as there is room, with which the ratio of its component is not below the present one.
+    pub added: u32,
+    /// A certificate of the marked graph with so many more.
+    pub cert: Cert,
+    /// Where there is room for one more, a closed walk of the component in the marked graph with one more than
+    /// `added`, by its edges, whose ratio is the least there, and below the present one.
+    pub against: Option<Items<u32>>,
+}

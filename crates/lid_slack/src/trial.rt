@@ -1,0 +1,150 @@
+//! What is found with some further relay stations on a channel.
+
+ghost use Rattle.std.specs.Prelude.{◌≡◌, ◌<◌, ◌≤◌, ◌*◌, ◌^◌, ◌↔◌, true, false, length, IfOk, IsTrue};
+ghost use Rattle.lid_cert.specs.Certificates.{Certifies, has_node};
+ghost use Rattle.lid_cert.specs.Owners.{part_at};
+ghost use Rattle.lid_graph.specs.Rateable.{IsRateable};
+ghost use Rattle.lid_stations.specs.Placements.{links_of};
+ghost use Rattle.lid_stations.specs.Stations.{channel_at};
+ghost use Rattle.lid_longer.specs.Longer.{longer_marking, producer, KeepsAt};
+ghost use Rattle.lid_slack.specs.Slack.{IsAgainst};
+ghost use Rattle.lid_slack.specs.Trials.{CanTry, IsTrial, IsPresent};
+
+use lid_base::Items;
+use lid_cert::{Cert, part_with};
+use lid_graph::Graph;
+use lid_longer::longer;
+use lid_rate::find;
+use lid_ratio::Ratio;
+use lid_stations::{Placement, marking};
+use lid_system::System;
+use std::alloc::{AllocError, Global};
+
+/// A certificate with some further relay stations, and the number of its part of the channel's component.
+#[derive(Drop)]
+pub(crate) struct Trial {
+    pub(crate) cert: Cert,
+    pub(crate) part: usize,
+}
+
+/// The number of the part that a transition stands in.
+fn part_of(graph: &Graph, cert: &Cert, v: u32) -> usize
+    requires graph { IsRateable graph.now }
+    requires cert { Certifies graph.now cert.now }
+    requires within { v < graph.now.nodes }
+    ensures within { result < length cert.now.parts }
+    ensures stands { has_node (part_at cert.now.parts result) v ≡ true }
+{
+    let _ = graph;
+    match part_with(cert, v) {
+        Some(part) => part,
+        None => 0,
+    }
+}
+
+/// The node that a channel comes from.
+fn producer(system: &System, channel: u32) -> u32
+    requires { channel < length system.now.channels }
+    ensures { result ≡ producer (links_of system.now) channel }
+{
+    system.channels.as_slice()[channel as usize].from
+}
+
+/// The marked graph with so many further relay stations.
+fn longer_marking(
+    alloc: Global,
+    system: &System,
+    placement: &Placement,
+    channel: u32,
+    more: u32,
+) -> Result<Graph, AllocError>
+    requires { CanTry system.now placement.now channel more }
+    ensures is { IfOk result (λ g. g ≡ longer_marking (links_of system.now) placement.now channel more) }
+    ensures rateable { IfOk result IsRateable }
+    ensures few { IfOk result (λ g. g.nodes ≤ 69634) }
+{
+    let longer = longer(alloc, placement, channel, more)?;
+    marking(alloc, system, &longer)
+}
+
+/// What is found with so many further relay stations.
+pub(crate) fn attempt(
+    alloc: Global,
+    system: &System,
+    placement: &Placement,
+    channel: u32,
+    more: u32,
+) -> Result<Trial, AllocError>
+    requires { CanTry system.now placement.now channel more }
+    ensures { IfOk result (λ trial. IsTrial system.now placement.now channel more trial.cert trial.part) }
+{
+    let graph = longer_marking(alloc, system, placement, channel, more)?;
+    let cert = find(alloc, &graph)?;
+    let part = part_of(&graph, &cert, producer(system, channel));
+    Ok(Trial { cert, part })
+}
+
+/// The ratio of the channel's component.
+pub(crate) fn ratio_of(trial: &Trial) -> Ratio
+    requires { trial.now.part < length trial.now.cert.parts }
+    ensures p { result.p ≡ (part_at trial.now.cert.parts trial.now.part).p }
+    ensures q { result.q ≡ (part_at trial.now.cert.parts trial.now.part).q }
+{
+    let part = &trial.cert.parts.as_slice()[trial.part];
+    Ratio {
+        p: part.p,
+        q: part.q,
+    }
+}
+
+/// Whether a ratio is below another.
+fn is_below(ratio: Ratio, other: Ratio) -> bool
+    requires p { ratio.p < 2 ^ 31 }
+    requires q { ratio.q < 2 ^ 31 }
+    requires other_p { other.p < 2 ^ 31 }
+    requires other_q { other.q < 2 ^ 31 }
+    ensures { IsTrue result ↔ ratio.p * other.q < other.p * ratio.q }
+{
+    ratio.p * other.q < other.p * ratio.q
+}
+
+/// Whether so many further relay stations lower the present ratio. Then the closed walk of the trial's part
+/// shows it.
+pub(crate) fn lowers(
+    system: &System,
+    placement: &Placement,
+    channel: u32,
+    more: u32,
+    trial: &Trial,
+    present: Ratio,
+) -> bool
+    requires can { CanTry system.now placement.now channel more }
+    requires trial { IsTrial system.now placement.now channel more trial.now.cert trial.now.part }
+    requires present { IsPresent system.now placement.now channel present.p present.q }
+    ensures kept { result ≡ false → KeepsAt (links_of system.now) placement.now channel more present.p present.q }
+    ensures lower { IsTrue result → KeepsAt (links_of system.now) placement.now channel more present.p present.q → ⊥ }
+    ensures walk { IsTrue result → IsAgainst (links_of system.now) placement.now channel more (part_at trial.now.cert.parts trial.now.part).cycle }
+{
+    let _ = system;
+    let _ = placement;
+    let _ = channel;
+    let _ = more;
+    is_below(ratio_of(trial), present)
+}
+
+/// Whether the present ratio is kept with so many further relay stations.
+pub(crate) fn keeps(
+    alloc: Global,
+    system: &System,
+    placement: &Placement,
+    channel: u32,
+    more: u32,
+    present: Ratio,
+) -> Result<bool, AllocError>
+    requires can { CanTry system.now placement.now channel more }
+    requires present { IsPresent system.now placement.now channel present.p present.q }
+    ensures { IfOk result (λ kept. IsTrue kept ↔ KeepsAt (links_of system.now) placement.now channel more present.p present.q) }
+{
+    let trial = attempt(alloc, system, placement, channel, more)?;
+    Ok(!lowers(system, placement, channel, more, &trial, present))
+}
