@@ -1,5 +1,5 @@
 -- What a trial shows: that a ratio is kept, or a closed walk that lowers it.
-use Rattle.std.proofs.Common.{◌≡◌, ℕ, zero, suc, ◌+◌, ◌-◌, ◌*◌, ◌<◌, ◌≤◌, ◌⊎◌, inl, inr, Bool, true, false, [], ◌∷◌, length, take, IsTrue, Option, Some, None, refl, sym, ◌∙◌, ap, subst, arith}
+use Rattle.std.proofs.Common.{◌≡◌, ℕ, zero, suc, ◌+◌, ◌-◌, ◌*◌, ◌<◌, ◌≤◌, ◌⊎◌, inl, inr, Bool, true, false, List, [], ◌∷◌, length, take, IsTrue, Option, Some, None, refl, sym, ◌∙◌, ap, subst, arith}
 use Rattle.std.specs.List.{All, sum_by}
 use Rattle.std.specs.Option.{MatchOption}
 use Rattle.std.proofs.lemmas.Bool.{cases_eq, cases_lt}
@@ -27,7 +27,8 @@ use Rattle.lid_cert.specs.Owners.{no_part, part_at}
 use Rattle.lid_cert.proofs.Parts.{node_met}
 use Rattle.lid_longer.specs.Longer.{longer, longer_marking, producer, room, KeepsAt, KeepsRatio}
 use Rattle.lid_longer.proofs.Kept.{longer_fits, none_are_none, none_keep, fewer_keep}
-use Rattle.lid_slack.specs.Slack.{IsSlack, IsAgainst}
+use Rattle.lid_ratio.specs.declared.lowest_terms.Ratio.{Ratio}
+use Rattle.lid_slack.specs.Slack.{IsSlack, IsAgainst, IsLower}
 use Rattle.lid_slack.specs.Trials.{CanTry, IsTrial, IsPresent, IsMost, IsBetween}
 use Rattle.lid_slack.proofs.Ratios.{keeps_lower, exact_below, below_higher, ratio_keeps, keeps_ratio, one_ratio}
 
@@ -100,6 +101,17 @@ present_is s p c a b cert part trial a_is b_is =
 -- no answer is both
 pub not_true : (answer : Bool) → IsTrue answer → answer ≡ false → ⊥
 not_true answer holds fails = (let never : true ≡ false = sym holds ∙ fails in cc)
+
+-- a closed walk that lowers a ratio, with its own ratio
+pub lower_is : (s : System) (p : Placement) (c x : ℕ) (cert : Cert) (part : ℕ) (walk : List ℕ) (ratio : Ratio) → IsTrial s p c x cert part → IsAgainst (links_of s) p c x walk
+    → ratio.p ≡ (part_at cert.parts part).p → ratio.q ≡ (part_at cert.parts part).q → IsLower (links_of s) p c x (record { walk = walk; ratio = ratio })
+lower_is s p c x cert part walk ratio trial is p_is q_is = record {
+  walk = is;
+  ratio =
+      (let g : Graph = longer_marking (links_of s) p c x in
+      let v : ℕ = producer (links_of s) c in
+      subst (λ (n : ℕ). IsRatio g v n ratio.q) (sym p_is) (subst (λ (n : ℕ). IsRatio g v (part_at cert.parts part).p n) (sym q_is) (trial.exact.ratio v trial.stands)));
+}
 
 -- an answer that is false exactly where it is not the case
 pub not_below : (answer : Bool) (m n : ℕ) → (m < n → IsTrue answer) → answer ≡ false → n ≤ m

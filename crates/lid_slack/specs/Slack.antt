@@ -6,6 +6,7 @@ use Rattle.lid_stations.specs.declared.placement.Placement.{Placement}
 use Rattle.lid_stations.specs.Placements.{Links}
 use Rattle.lid_stations.specs.Markings.{marking}
 use Rattle.lid_longer.specs.Longer.{longer_marking, producer, room, KeepsRatio}
+use Rattle.lid_slack.specs.declared.answer.Against.{Against}
 
 -- the component of channel c has a ratio
 abbrev pub HasRatio : Links → Placement → ℕ → Type 0
@@ -29,3 +30,8 @@ pub record IsAgainst (l : Links) (p : Placement) (c x : ℕ) (walk : List ℕ) :
       → walk_tokens (longer_marking l p c x) walk * length ks ≤ walk_tokens (longer_marking l p c x) ks * length walk
   pub below : (a b : ℕ) → IsRatio (marking l p) (producer l c) a b → b * walk_tokens (longer_marking l p c x) walk < a * length walk
   pub short : length walk ≤ 2 ^ 18
+
+-- the walk and its ratio
+pub record IsLower (l : Links) (p : Placement) (c x : ℕ) (against : Against) : Type 0 where
+  pub walk : IsAgainst l p c x against.walk
+  pub ratio : IsRatio (longer_marking l p c x) (producer l c) against.ratio.p against.ratio.q

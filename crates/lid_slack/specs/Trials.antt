@@ -13,7 +13,8 @@ use Rattle.lid_cert.specs.Owners.{part_at}
 use Rattle.lid_rate.specs.Rates.{IsExact}
 use Rattle.lid_longer.specs.Longer.{longer_marking, producer, room, KeepsAt}
 use Rattle.lid_slack.specs.declared.answer.Slack.{Slack}
-use Rattle.lid_slack.specs.Slack.{IsAgainst}
+use Rattle.lid_slack.specs.declared.answer.Against.{Against}
+use Rattle.lid_slack.specs.Slack.{IsLower}
 
 -- a channel of a system with stations, and as many further relay stations there as there is room for
 pub record CanTry (s : System) (p : Placement) (c x : ℕ) : Type 0 where
@@ -43,8 +44,8 @@ pub record IsMost (s : System) (p : Placement) (c a b x : ℕ) : Type 0 where
   pub next : x < room p c → KeepsAt (links_of s) p c (x + 1) a b → ⊥
 
 -- a walk is told where there is room for one more, and it lowers the ratio
-abbrev pub IsEnd : System → Placement → ℕ → ℕ → Option (List ℕ) → Type 0
-IsEnd s p c x against = MatchOption against (x ≡ room p c) (λ walk. (x < room p c) × IsAgainst (links_of s) p c (x + 1) walk)
+abbrev pub IsEnd : System → Placement → ℕ → ℕ → Option Against → Type 0
+IsEnd s p c x against = MatchOption against (x ≡ room p c) (λ lower. (x < room p c) × IsLower (links_of s) p c (x + 1) lower)
 
 -- the slack that is told, by the present ratio a/b
 pub record IsFound (s : System) (p : Placement) (c a b : ℕ) (slack : Slack) : Type 0 where

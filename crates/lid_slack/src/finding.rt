@@ -6,13 +6,12 @@ ghost use Rattle.lid_cert.specs.Certificates.{Certifies};
 ghost use Rattle.lid_system.specs.Systems.{IsWellFormed};
 ghost use Rattle.lid_stations.specs.Placements.{links_of, Fits};
 ghost use Rattle.lid_longer.specs.Longer.{longer_marking, room, KeepsAt, KeepsRatio};
-ghost use Rattle.lid_slack.specs.Slack.{IsSlack, IsAgainst};
+ghost use Rattle.lid_slack.specs.Slack.{IsSlack, IsLower};
 ghost use Rattle.lid_slack.specs.Trials.{CanTry, IsPresent, IsMost, IsEnd, IsFound};
 
-use crate::answer::Slack;
+use crate::answer::{Against, Slack};
 use crate::bisection::bisect;
-use crate::trial::{attempt, lowers, ratio_of};
-use lid_base::Items;
+use crate::trial::{attempt, lowers, ratio_of, walk_of};
 use lid_cert::Cert;
 use lid_longer::room;
 use lid_ratio::Ratio;
@@ -56,7 +55,7 @@ fn kept_cert(
     Ok(Some(trial.cert))
 }
 
-/// A closed walk with so many further relay stations that lowers the present ratio, if there is one.
+/// What stands against so many further relay stations: a closed walk that lowers the present ratio, if there is one.
 fn lower_walk(
     alloc: Global,
     system: &System,
@@ -64,22 +63,22 @@ fn lower_walk(
     channel: u32,
     more: u32,
     present: Ratio,
-) -> Result<Option<Items<u32>>, AllocError>
+) -> Result<Option<Against>, AllocError>
     requires can { CanTry system.now placement.now channel more }
     requires present { IsPresent system.now placement.now channel present.p present.q }
-    ensures some { IfOk result (λ found. IfSome found (IsAgainst (links_of system.now) placement.now channel more)) }
-    ensures lowers { IfOk result (λ found. IfSome found (λ walk. KeepsAt (links_of system.now) placement.now channel more present.p present.q → ⊥)) }
+    ensures some { IfOk result (λ found. IfSome found (IsLower (links_of system.now) placement.now channel more)) }
+    ensures lowers { IfOk result (λ found. IfSome found (λ against. KeepsAt (links_of system.now) placement.now channel more present.p present.q → ⊥)) }
     ensures none { IfOk result (λ found. IsNone found → KeepsAt (links_of system.now) placement.now channel more present.p present.q) }
 {
     let trial = attempt(alloc, system, placement, channel, more)?;
     if !lowers(system, placement, channel, more, &trial, present) {
         return Ok(None);
     }
-    let walk = Vec::from_slice(
-        alloc,
-        trial.cert.parts.as_slice()[trial.part].cycle.as_slice(),
-    )?;
-    Ok(Some(Items::from_vec(walk)))
+    let walk = walk_of(alloc, &trial)?;
+    Ok(Some(Against {
+        walk,
+        ratio: ratio_of(&trial),
+    }))
 }
 
 /// The slack, if it is so many further relay stations, of `most` at most.
@@ -108,13 +107,13 @@ fn settle(
             against: None,
         }));
     }
-    let Some(walk) = lower_walk(alloc, system, placement, channel, added + 1, present)? else {
+    let Some(against) = lower_walk(alloc, system, placement, channel, added + 1, present)? else {
         return Ok(None);
     };
     Ok(Some(Slack {
         added,
         cert,
-        against: Some(walk),
+        against: Some(against),
     }))
 }
 
@@ -138,7 +137,7 @@ pub fn slack(
     ensures added { IfOk result (λ slack. IsSlack (links_of system.now) placement.now channel slack.added) }
     ensures fewer { IfOk result (λ slack. (y : ℕ) → y ≤ slack.added → KeepsRatio (links_of system.now) placement.now channel y) }
     ensures cert { IfOk result (λ slack. Certifies (longer_marking (links_of system.now) placement.now channel slack.added) slack.cert) }
-    ensures against { IfOk result (λ slack. MatchOption slack.against (slack.added ≡ room placement.now channel) (λ walk. (slack.added < room placement.now channel) × IsAgainst (links_of system.now) placement.now channel (slack.added + 1) walk)) }
+    ensures against { IfOk result (λ slack. MatchOption slack.against (slack.added ≡ room placement.now channel) (λ against. (slack.added < room placement.now channel) × IsLower (links_of system.now) placement.now channel (slack.added + 1) against)) }
 {
     let most = room(placement, channel);
     let present = present_ratio(alloc, system, placement, channel)?;

@@ -7,5 +7,5 @@ mod bisection;
 mod finding;
 mod trial;
 
-pub use answer::Slack;
+pub use answer::{Against, Slack};
 pub use finding::slack;
