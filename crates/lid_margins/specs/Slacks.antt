@@ -19,9 +19,7 @@ channel_name l c =
 
 -- the line of channel c with so much slack, and what comes next
 abbrev pub slack_words : Links → ℕ → ℕ → List ℕ → Words
-slack_words l c added next =
-    codes "slack" ∷ node_name l.nodes (channel_at l c).from ∷ node_name l.nodes (channel_at l c).to ∷ decimal (channel_at l c).piece
-    ∷ decimal added ∷ codes "next" ∷ next ∷ []
+slack_words l c added next = codes "slack" ∷ channel_name l c ∷ decimal added ∷ codes "next" ∷ next ∷ []
 
 -- what comes next: a line where there is no room for more, else the ratio of the channel's component with one more
 abbrev pub IsNext : Links → Placement → ℕ → ℕ → List ℕ → Type 0

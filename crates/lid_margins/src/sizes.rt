@@ -2,7 +2,7 @@
 
 ghost use Rattle.std.specs.Prelude.{◌≡◌, ◌++◌, IfOk, OnOk};
 ghost use Rattle.lid_lines.specs.Texts.{line_text};
-ghost use Rattle.lid_margins.specs.Sizes.{short_words, end_text, IsSizeText};
+ghost use Rattle.lid_margins.specs.Sizes.{short_words, end_text, FitsEnd, IsSizeText};
 ghost use Rattle.lid_size.specs.Sizes.{Sizes};
 ghost use Rattle.lid_stations.specs.Placements.{links_of, Fits};
 ghost use Rattle.lid_system.specs.Systems.{IsWellFormed};
@@ -39,7 +39,7 @@ fn append_short(
 
 /// Appends the text of an answer.
 fn append_end(system: &System, end: &SizeEnd, into: &mut Vec<u8>) -> Result<(), AllocError>
-    requires { IsWellFormed system.now }
+    requires { FitsEnd system.now end.now }
     ensures { OnOk result (into.new.items ≡ into.old.items ++ end_text (links_of system.now) end.now) }
 {
     match end {

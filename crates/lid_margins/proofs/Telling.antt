@@ -1,0 +1,58 @@
+-- What answers say, as they are told.
+use Rattle.std.proofs.Common.{◌≡◌, ◌⊎◌, inl, inr, ℕ, ◌+◌, ◌<◌, ◌≤◌, List, [], ◌∷◌, ◌++◌, length, slice_index_or, Option, Some, None, refl, sym, ◌∙◌, ap, subst, append-nil, arith}
+use Rattle.std.specs.Option.{MatchOption}
+use Rattle.std.proofs.lemmas.Bool.{cases_lt}
+use Rattle.std.proofs.lemmas.List.{length-append, get_or_append_left, get_or_push}
+use Rattle.lid_lines.specs.Texts.{Words, line_text, lines_text}
+use Rattle.lid_lines.proofs.Pieces.{lines_text_append}
+use Rattle.lid_longer.specs.Longer.{room}
+use Rattle.lid_size.specs.declared.sizing.SizeEnd.{SizeEnd}
+use Rattle.lid_size.specs.declared.sizing.SizeEnd.TheVariants.{Reached, Short}
+use Rattle.lid_size.specs.Sizing.{with_capacities}
+use Rattle.lid_size.specs.Sizes.{Sizes}
+use Rattle.lid_size.proofs.Sized.{fits_with}
+use Rattle.lid_slack.specs.declared.answer.Against.{Against}
+use Rattle.lid_slack.specs.Slack.{IsSlack, IsLower}
+use Rattle.lid_stations.specs.declared.placement.Placement.{Placement}
+use Rattle.lid_stations.specs.Placements.{Links, links_of, Fits}
+use Rattle.lid_system.specs.declared.System.{System}
+use Rattle.lid_margins.specs.Sizes.{FitsEnd}
+use Rattle.lid_margins.specs.Slacks.{slack_words, next_word, IsNext, IsSlackLine, AreSlackLines}
+
+-- what sizing answers fits as what it was asked of
+pub fits_end : (s : System) (p : Placement) (end : SizeEnd) → Fits s p → Sizes (links_of s) p.relays end → FitsEnd s end
+fits_end s p (Reached sized) fits is =
+    subst (λ (relays : List ℕ). Fits s (with_capacities relays sized.caps)) (sym is.relays_are) (fits_with s p sized.caps fits is.caps.are_capacities)
+fits_end s p (Short part have_p have_q want_p want_q cert) fits is = tt
+
+module _ (l : Links) (p : Placement) where
+  next_is : (c added : ℕ) (against : Option Against) → MatchOption against (added ≡ room p c) (λ lower. (added < room p c) × IsLower l p c (added + 1) lower) → IsNext l p c added (next_word against)
+  next_is c added None full = inl (full, refl)
+  next_is c added (Some against) h = inr (against.ratio.p, against.ratio.q, h.0, h.1.ratio, refl)
+
+  -- the line of a channel's slack
+  pub line_is : (c added : ℕ) (against : Option Against) → IsSlack l p c added → MatchOption against (added ≡ room p c) (λ lower. (added < room p c) × IsLower l p c (added + 1) lower)
+      → IsSlackLine l p c (slack_words l c added (next_word against))
+  line_is c added against slack ends = record { added = added; slack = slack; next = next_word against; is_next = next_is c added against ends; are = refl }
+
+  -- no line yet
+  pub none_yet : (text : List ℕ) → text ≡ [] → AreSlackLines l p 0 text
+  none_yet text is = record { lines = []; many = refl; each = λ c h. absurd (omega arith); written = is }
+
+  -- and one more
+  pub one_more : (count : ℕ) (text new : List ℕ) (words : Words) → AreSlackLines l p count text → IsSlackLine l p count words → new ≡ text ++ line_text words → AreSlackLines l p (count + 1) new
+  one_more count text new words are line is = record {
+    lines = are.lines ++ words ∷ [];
+    many = (let long = length-append are.lines (words ∷ []) in let many = are.many in omega arith);
+    each = λ c h. by_order c h (cases_lt c count);
+    written = is ∙ ap (λ (xs : List ℕ). xs ++ line_text words) are.written ∙ last;
+  }
+    where
+      last : lines_text are.lines ++ line_text words ≡ lines_text (are.lines ++ words ∷ [])
+      last = sym (lines_text_append are.lines (words ∷ []) ∙ ap (λ (xs : List ℕ). lines_text are.lines ++ xs) (append-nil (line_text words)))
+
+      by_order : (c : ℕ) → c < count + 1 → (c < count) ⊎ (count ≤ c) → IsSlackLine l p c (slice_index_or (are.lines ++ words ∷ []) c [])
+      by_order c h (inl less) = subst (IsSlackLine l p c) (sym (get_or_append_left are.lines (words ∷ []) [] c (let many = are.many in omega arith))) (are.each c less)
+      by_order c h (inr more) =
+          let is : count ≡ c = omega arith in
+          subst (IsSlackLine l p c) (sym (get_or_push are.lines words [] c (are.many ∙ is))) (subst (λ (n : ℕ). IsSlackLine l p n words) is line)
