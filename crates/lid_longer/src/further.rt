@@ -48,7 +48,7 @@ pub fn longer(
 }
 
 /// How many stations the channels up to and with this one have.
-fn stations_through(placement: &Placement, channel: u32) -> usize
+pub fn stations_through(placement: &Placement, channel: u32) -> usize
     requires placement { IsPlacement placement.now }
     requires there { channel < length placement.now.relays }
     ensures is { result ≡ stations_through placement.now.relays channel }

@@ -5,5 +5,5 @@
 mod further;
 mod laws;
 
-pub use further::{longer, room};
+pub use further::{longer, room, stations_through};
 pub use laws::{fewer_keep, further_stations_fit, none_are_none};

@@ -1,18 +1,20 @@
 -- What answers say, as they are told.
 use Rattle.std.proofs.Common.{◌≡◌, ◌⊎◌, inl, inr, ℕ, ◌+◌, ◌<◌, ◌≤◌, List, [], ◌∷◌, ◌++◌, length, slice_index_or, Option, Some, None, refl, sym, ◌∙◌, ap, subst, append-nil, arith}
-use Rattle.std.specs.Option.{MatchOption}
+use Rattle.std.specs.Option.{MatchOption, IsNone}
 use Rattle.std.proofs.lemmas.Bool.{cases_lt}
 use Rattle.std.proofs.lemmas.List.{length-append, get_or_append_left, get_or_push}
 use Rattle.lid_lines.specs.Texts.{Words, line_text, lines_text}
 use Rattle.lid_lines.proofs.Pieces.{lines_text_append}
-use Rattle.lid_longer.specs.Longer.{room}
+use Rattle.lid_graph.specs.Ratios.{IsRatio}
+use Rattle.lid_longer.specs.Longer.{longer_marking, producer, room}
+use Rattle.lid_ratio.specs.declared.lowest_terms.Ratio.{Ratio}
 use Rattle.lid_size.specs.declared.sizing.SizeEnd.{SizeEnd}
 use Rattle.lid_size.specs.declared.sizing.SizeEnd.TheVariants.{Reached, Short}
 use Rattle.lid_size.specs.Sizing.{with_capacities}
 use Rattle.lid_size.specs.Sizes.{Sizes}
 use Rattle.lid_size.proofs.Sized.{fits_with}
-use Rattle.lid_slack.specs.declared.answer.Against.{Against}
-use Rattle.lid_slack.specs.Slack.{IsSlack, IsLower}
+use Rattle.lid_slack.specs.declared.answer.Slack.{Slack}
+use Rattle.lid_slack.specs.Slack.{IsEnd, IsTold, IsNextRatio}
 use Rattle.lid_stations.specs.declared.placement.Placement.{Placement}
 use Rattle.lid_stations.specs.Placements.{Links, links_of, Fits}
 use Rattle.lid_system.specs.declared.System.{System}
@@ -26,14 +28,24 @@ fits_end s p (Reached sized) fits is =
 fits_end s p (Short part have_p have_q want_p want_q cert) fits is = tt
 
 module _ (l : Links) (p : Placement) where
-  next_is : (c added : ℕ) (against : Option Against) → MatchOption against (added ≡ room p c) (λ lower. (added < room p c) × IsLower l p c (added + 1) lower) → IsNext l p c added (next_word against)
-  next_is c added None full = inl (full, refl)
-  next_is c added (Some against) h = inr (against.ratio.p, against.ratio.q, h.0, h.1.ratio, refl)
+  next_is : (c : ℕ) (slack : Slack) (next : Option Ratio) → IsEnd l p c slack.added slack.against → IsNextRatio l p c slack next → IsNext l p c slack.added (next_word next)
+  next_is c slack next ends is = by_end slack.against ends is
+    where
+      by_next : (walk : List ℕ) → slack.added < room p c → (o : Option Ratio) → MatchOption o ⊥ (λ ratio. IsRatio (longer_marking l p c (slack.added + 1)) (producer l c) ratio.p ratio.q) → IsNext l p c slack.added (next_word o)
+      by_next walk less None none = absurd none
+      by_next walk less (Some ratio) h = inr (ratio.p, ratio.q, less, h, refl)
+
+      by_none : slack.added ≡ room p c → (o : Option Ratio) → IsNone o → IsNext l p c slack.added (next_word o)
+      by_none full None none = inl (full, refl)
+      by_none full (Some ratio) none = absurd none
+
+      by_end : (o : Option (List ℕ)) → IsEnd l p c slack.added o → MatchOption o (IsNone next) (λ walk. MatchOption next ⊥ (λ ratio. IsRatio (longer_marking l p c (slack.added + 1)) (producer l c) ratio.p ratio.q)) → IsNext l p c slack.added (next_word next)
+      by_end None full none = by_none full next none
+      by_end (Some walk) h told = by_next walk h.0 next told
 
   -- the line of a channel's slack
-  pub line_is : (c added : ℕ) (against : Option Against) → IsSlack l p c added → MatchOption against (added ≡ room p c) (λ lower. (added < room p c) × IsLower l p c (added + 1) lower)
-      → IsSlackLine l p c (slack_words l c added (next_word against))
-  line_is c added against slack ends = record { added = added; slack = slack; next = next_word against; is_next = next_is c added against ends; are = refl }
+  pub line_is : (c : ℕ) (slack : Slack) (next : Option Ratio) → IsTold l p c slack → IsNextRatio l p c slack next → IsSlackLine l p c (slack_words l c slack.added (next_word next))
+  line_is c slack next told is = record { added = slack.added; slack = told.added; next = next_word next; is_next = next_is c slack next told.against is; are = refl }
 
   -- no line yet
   pub none_yet : (text : List ℕ) → text ≡ [] → AreSlackLines l p 0 text

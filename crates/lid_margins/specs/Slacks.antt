@@ -4,8 +4,8 @@ use Rattle.std.specs.Fmt.{decimal}
 use Rattle.lid_graph.specs.Ratios.{IsRatio}
 use Rattle.lid_lines.specs.Texts.{Words, lines_text}
 use Rattle.lid_longer.specs.Longer.{longer_marking, producer, room}
+use Rattle.lid_ratio.specs.declared.lowest_terms.Ratio.{Ratio}
 use Rattle.lid_reports.specs.Pieces.{node_name}
-use Rattle.lid_slack.specs.declared.answer.Against.{Against}
 use Rattle.lid_slack.specs.Slack.{IsSlack}
 use Rattle.lid_stations.specs.declared.placement.Placement.{Placement}
 use Rattle.lid_stations.specs.Placements.{Links}
@@ -27,10 +27,10 @@ IsNext l p c added word =
     ((added ≡ room p c) × (word ≡ codes "-"))
     ⊎ ((a : ℕ) × (b : ℕ) × (added < room p c) × IsRatio (longer_marking l p c (added + 1)) (producer l c) a b × (word ≡ ratio_word a b))
 
--- the word of what stands against one more
-abbrev pub next_word : Option Against → List ℕ
+-- the word of the ratio with one more, where there is room for it
+abbrev pub next_word : Option Ratio → List ℕ
 next_word None = codes "-"
-next_word (Some against) = ratio_word against.ratio.p against.ratio.q
+next_word (Some ratio) = ratio_word ratio.p ratio.q
 
 -- how the slack of channel c is told
 pub record IsSlackLine (l : Links) (p : Placement) (c : ℕ) (words : Words) : Type 0 where

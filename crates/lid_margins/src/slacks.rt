@@ -8,18 +8,19 @@ ghost use Rattle.lid_system.specs.Systems.{IsWellFormed};
 
 use crate::ratio::append_ratio;
 use lid_lines::append_number_word;
+use lid_ratio::Ratio;
 use lid_reports::append_node;
-use lid_slack::{Against, Slack, slack};
+use lid_slack::{SlackAndNext, slack_and_next};
 use lid_stations::Placement;
 use lid_system::System;
 use std::alloc::{AllocError, Global};
 
-/// Appends what stands against one more: a line where there is no room, else the ratio then.
-fn append_next(against: &Option<Against>, into: &mut Vec<u8>) -> Result<(), AllocError>
-    ensures { OnOk result (into.new.items ≡ into.old.items ++ next_word against.now) }
+/// Appends the ratio with one more: a line where there is no room for it.
+fn append_next(next: Option<Ratio>, into: &mut Vec<u8>) -> Result<(), AllocError>
+    ensures { OnOk result (into.new.items ≡ into.old.items ++ next_word next) }
 {
-    match against {
-        Some(against) => append_ratio(against.ratio.p, against.ratio.q, into),
+    match next {
+        Some(ratio) => append_ratio(ratio.p, ratio.q, into),
         None => into.extend_from_slice(b"-"),
     }
 }
@@ -42,17 +43,17 @@ fn append_channel(system: &System, channel: u32, into: &mut Vec<u8>) -> Result<(
 fn append_slack(
     system: &System,
     channel: u32,
-    slack: &Slack,
+    found: &SlackAndNext,
     into: &mut Vec<u8>,
 ) -> Result<(), AllocError>
     requires { channel < length system.now.channels }
-    ensures { OnOk result (into.new.items ≡ into.old.items ++ line_text (slack_words (links_of system.now) channel slack.now.added (next_word slack.now.against))) }
+    ensures { OnOk result (into.new.items ≡ into.old.items ++ line_text (slack_words (links_of system.now) channel found.now.slack.added (next_word found.now.next))) }
 {
     into.extend_from_slice(b"slack ")?;
     append_channel(system, channel, into)?;
-    append_number_word(u64::from(slack.added), into)?;
+    append_number_word(u64::from(found.slack.added), into)?;
     into.extend_from_slice(b" next ")?;
-    append_next(&slack.against, into)?;
+    append_next(found.next, into)?;
     into.push(b'\n')?;
     Ok(())
 }
@@ -73,8 +74,8 @@ pub fn slack_text(
 {
     let mut text = Vec::new(alloc);
     for channel in 0..system.channels.len() {
-        let slack = slack(alloc, system, placement, channel as u32)?;
-        append_slack(system, channel as u32, &slack, &mut text)?;
+        let found = slack_and_next(alloc, system, placement, channel as u32)?;
+        append_slack(system, channel as u32, &found, &mut text)?;
     }
     Ok(text)
 }

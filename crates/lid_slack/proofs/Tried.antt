@@ -11,8 +11,10 @@ use Rattle.lid_graph.specs.Walks.{edge_at, IsPaired, IsWalk, IsJoined, walk_star
 use Rattle.lid_graph.specs.Ratios.{IsClosedWalkNear, IsRatio}
 use Rattle.lid_graph.proofs.Journeys.{joined_step, joined_back}
 use Rattle.lid_system.specs.declared.System.{System}
+use Rattle.lid_system.specs.Systems.{IsWellFormed}
+use Rattle.lid_ratio.specs.declared.lowest_terms.Ratio.{Ratio}
 use Rattle.lid_stations.specs.declared.placement.Placement.{Placement}
-use Rattle.lid_stations.specs.Placements.{Links, links_of}
+use Rattle.lid_stations.specs.Placements.{Links, links_of, Fits}
 use Rattle.lid_stations.specs.Markings.{marking}
 use Rattle.lid_stations.proofs.Spots.{channel_there}
 use Rattle.lid_stations.proofs.Edges.{node_count}
@@ -27,9 +29,9 @@ use Rattle.lid_cert.specs.Owners.{no_part, part_at}
 use Rattle.lid_cert.proofs.Parts.{node_met}
 use Rattle.lid_longer.specs.Longer.{longer, longer_marking, producer, room, KeepsAt, KeepsRatio}
 use Rattle.lid_longer.proofs.Kept.{longer_fits, none_are_none, none_keep, fewer_keep}
-use Rattle.lid_ratio.specs.declared.lowest_terms.Ratio.{Ratio}
-use Rattle.lid_slack.specs.Slack.{IsSlack, IsAgainst, IsLower}
-use Rattle.lid_slack.specs.Trials.{CanTry, IsTrial, IsPresent, IsMost, IsBetween}
+use Rattle.lid_slack.specs.declared.answer.Slack.{Slack}
+use Rattle.lid_slack.specs.Slack.{IsSlack, IsAgainst, IsTold}
+use Rattle.lid_slack.specs.Trials.{CanTry, IsTrial, IsPresent, IsMost, IsBetween, IsFound}
 use Rattle.lid_slack.proofs.Ratios.{keeps_lower, exact_below, below_higher, ratio_keeps, keeps_ratio, one_ratio}
 
 -- a walk leads from where the closed walk of a part starts to each of its transitions
@@ -88,6 +90,12 @@ trial_is s p c x g cert part is rateable certifies exact short within stands = r
       let all = short.nodes in let most = rateable.nodes in omega arith);
 }
 
+-- the ratio of a trial's part
+pub ratio_here_is : (s : System) (p : Placement) (c x a b : ℕ) (cert : Cert) (part : ℕ) → IsTrial s p c x cert part → a ≡ (part_at cert.parts part).p → b ≡ (part_at cert.parts part).q → IsRatio (longer_marking (links_of s) p c x) (producer (links_of s) c) a b
+ratio_here_is s p c x a b cert part trial a_is b_is =
+    subst (λ (n : ℕ). IsRatio (longer_marking (links_of s) p c x) (producer (links_of s) c) n b) (sym a_is)
+    (subst (λ (n : ℕ). IsRatio (longer_marking (links_of s) p c x) (producer (links_of s) c) (part_at cert.parts part).p n) (sym b_is) (trial.exact.ratio (producer (links_of s) c) trial.stands))
+
 -- with no further relay stations the ratio is the present one
 pub present_is : (s : System) (p : Placement) (c a b : ℕ) (cert : Cert) (part : ℕ) → IsTrial s p c 0 cert part → a ≡ (part_at cert.parts part).p → b ≡ (part_at cert.parts part).q → IsPresent s p c a b
 present_is s p c a b cert part trial a_is b_is =
@@ -101,17 +109,6 @@ present_is s p c a b cert part trial a_is b_is =
 -- no answer is both
 pub not_true : (answer : Bool) → IsTrue answer → answer ≡ false → ⊥
 not_true answer holds fails = (let never : true ≡ false = sym holds ∙ fails in cc)
-
--- a closed walk that lowers a ratio, with its own ratio
-pub lower_is : (s : System) (p : Placement) (c x : ℕ) (cert : Cert) (part : ℕ) (walk : List ℕ) (ratio : Ratio) → IsTrial s p c x cert part → IsAgainst (links_of s) p c x walk
-    → ratio.p ≡ (part_at cert.parts part).p → ratio.q ≡ (part_at cert.parts part).q → IsLower (links_of s) p c x (record { walk = walk; ratio = ratio })
-lower_is s p c x cert part walk ratio trial is p_is q_is = record {
-  walk = is;
-  ratio =
-      (let g : Graph = longer_marking (links_of s) p c x in
-      let v : ℕ = producer (links_of s) c in
-      subst (λ (n : ℕ). IsRatio g v n ratio.q) (sym p_is) (subst (λ (n : ℕ). IsRatio g v (part_at cert.parts part).p n) (sym q_is) (trial.exact.ratio v trial.stands)));
-}
 
 -- an answer that is false exactly where it is not the case
 pub not_below : (answer : Bool) (m n : ℕ) → (m < n → IsTrue answer) → answer ≡ false → n ≤ m
@@ -211,3 +208,34 @@ module _ (s : System) (p : Placement) (c a b : ℕ) (present : IsPresent s p c a
             by_order (inr h) = h
             by_order (inl less) =
                 absurd (most.next (omega arith) (fewer_keep s p c (x + 1) y a b can.system can.fits can.there enough (omega arith) present.ratio (keeps a b present.ratio)))
+
+-- what is found is the slack
+pub told_is : (s : System) (p : Placement) (c a b : ℕ) → IsPresent s p c a b → IsWellFormed s → Fits s p → c < length s.channels → (slack : Slack) (next : Option Ratio) → IsFound s p c a b slack next → IsTold (links_of s) p c slack
+told_is s p c a b present well fits there slack next found =
+    let can : CanTry s p c slack.added = record { system = well; fits = fits; there = there; enough = found.most.within } in
+    record {
+      added = is_slack s p c a b present slack.added can found.most;
+      fewer = fewer_keep_ratio s p c a b present slack.added can found.most;
+      cert = found.certifies;
+      against = found.ends;
+    }
+
+-- what is found with a walk that lowers the ratio with one more
+pub lower_found : (s : System) (p : Placement) (c a b x : ℕ) (cert : Cert) (walk : List ℕ) (ratio : Ratio) (slack : Slack) (next : Option Ratio)
+    → slack ≡ record { added = x; cert = cert; against = Some walk }
+    → next ≡ Some ratio
+    → x < room p c
+    → Certifies (longer_marking (links_of s) p c x) cert
+    → KeepsAt (links_of s) p c x a b
+    → (KeepsAt (links_of s) p c (x + 1) a b → ⊥)
+    → IsAgainst (links_of s) p c (x + 1) walk
+    → IsRatio (longer_marking (links_of s) p c (x + 1)) (producer (links_of s) c) ratio.p ratio.q
+    → IsFound s p c a b slack next
+lower_found s p c a b x cert walk ratio slack next slack_is next_is less certifies keeps lower against is_ratio =
+    let all : IsFound s p c a b (record { added = x; cert = cert; against = Some walk }) (Some ratio) = record {
+      most = record { within = omega arith; keeps = keeps; next = λ room. lower };
+      certifies = certifies;
+      ends = (less, against);
+      next_is = is_ratio;
+    } in
+    subst (λ (k : Slack). IsFound s p c a b k next) (sym slack_is) (subst (λ (o : Option Ratio). IsFound s p c a b (record { added = x; cert = cert; against = Some walk }) o) (sym next_is) all)

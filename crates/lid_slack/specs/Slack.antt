@@ -1,12 +1,15 @@
 -- The slack of a channel: how many further relay stations it takes before the ratio of its component falls.
-use Rattle.std.specs.Prelude.{ℕ, ◌*◌, ◌<◌, ◌≤◌, ◌^◌, List, length}
+use Rattle.std.specs.Prelude.{◌≡◌, ℕ, ◌+◌, ◌*◌, ◌<◌, ◌≤◌, ◌^◌, List, length, Option}
+use Rattle.std.specs.Option.{MatchOption, IsNone}
 use Rattle.lid_graph.specs.Walks.{walk_tokens}
 use Rattle.lid_graph.specs.Ratios.{IsClosedWalkNear, IsRatio}
 use Rattle.lid_stations.specs.declared.placement.Placement.{Placement}
 use Rattle.lid_stations.specs.Placements.{Links}
 use Rattle.lid_stations.specs.Markings.{marking}
+use Rattle.lid_ratio.specs.declared.lowest_terms.Ratio.{Ratio}
+use Rattle.lid_cert.specs.Certificates.{Certifies}
+use Rattle.lid_slack.specs.declared.answer.Slack.{Slack}
 use Rattle.lid_longer.specs.Longer.{longer_marking, producer, room, KeepsRatio}
-use Rattle.lid_slack.specs.declared.answer.Against.{Against}
 
 -- the component of channel c has a ratio
 abbrev pub HasRatio : Links → Placement → ℕ → Type 0
@@ -31,7 +34,19 @@ pub record IsAgainst (l : Links) (p : Placement) (c x : ℕ) (walk : List ℕ) :
   pub below : (a b : ℕ) → IsRatio (marking l p) (producer l c) a b → b * walk_tokens (longer_marking l p c x) walk < a * length walk
   pub short : length walk ≤ 2 ^ 18
 
--- the walk and its ratio
-pub record IsLower (l : Links) (p : Placement) (c x : ℕ) (against : Against) : Type 0 where
-  pub walk : IsAgainst l p c x against.walk
-  pub ratio : IsRatio (longer_marking l p c x) (producer l c) against.ratio.p against.ratio.q
+-- a walk is told exactly where there is room for one more than x, and it lowers the ratio
+abbrev pub IsEnd : Links → Placement → ℕ → ℕ → Option (List ℕ) → Type 0
+IsEnd l p c x against = MatchOption against (x ≡ room p c) (λ walk. (x < room p c) × IsAgainst l p c (x + 1) walk)
+
+-- what is told of the slack of channel c
+pub record IsTold (l : Links) (p : Placement) (c : ℕ) (slack : Slack) : Type 0 where
+  pub added : IsSlack l p c slack.added
+  pub fewer : (y : ℕ) → y ≤ slack.added → KeepsRatio l p c y
+  pub cert : Certifies (longer_marking l p c slack.added) slack.cert
+  pub against : IsEnd l p c slack.added slack.against
+
+-- the ratio of the component with one more than the slack is told exactly where a walk is
+abbrev pub IsNextRatio : Links → Placement → ℕ → Slack → Option Ratio → Type 0
+IsNextRatio l p c slack next =
+    MatchOption slack.against (IsNone next)
+    (λ walk. MatchOption next ⊥ (λ ratio. IsRatio (longer_marking l p c (slack.added + 1)) (producer l c) ratio.p ratio.q))

@@ -1,6 +1,5 @@
 -- For the search: what is found with some further relay stations.
-use Rattle.std.specs.Prelude.{◌≡◌, ℕ, ◌+◌, ◌<◌, ◌≤◌, ◌^◌, true, List, length, Option}
-use Rattle.std.specs.Option.{MatchOption}
+use Rattle.std.specs.Prelude.{◌≡◌, ℕ, ◌+◌, ◌<◌, ◌≤◌, ◌^◌, true, length, Option}
 use Rattle.lid_graph.specs.Ratios.{IsRatio}
 use Rattle.lid_stations.specs.declared.placement.Placement.{Placement}
 use Rattle.lid_stations.specs.Placements.{links_of, Fits}
@@ -10,11 +9,11 @@ use Rattle.lid_system.specs.Systems.{IsWellFormed}
 use Rattle.lid_cert.specs.declared.cert.Cert.{Cert}
 use Rattle.lid_cert.specs.Certificates.{Certifies, has_node}
 use Rattle.lid_cert.specs.Owners.{part_at}
+use Rattle.lid_ratio.specs.declared.lowest_terms.Ratio.{Ratio}
 use Rattle.lid_rate.specs.Rates.{IsExact}
 use Rattle.lid_longer.specs.Longer.{longer_marking, producer, room, KeepsAt}
 use Rattle.lid_slack.specs.declared.answer.Slack.{Slack}
-use Rattle.lid_slack.specs.declared.answer.Against.{Against}
-use Rattle.lid_slack.specs.Slack.{IsLower}
+use Rattle.lid_slack.specs.Slack.{IsEnd, IsNextRatio}
 
 -- a channel of a system with stations, and as many further relay stations there as there is room for
 pub record CanTry (s : System) (p : Placement) (c x : ℕ) : Type 0 where
@@ -43,15 +42,12 @@ pub record IsMost (s : System) (p : Placement) (c a b x : ℕ) : Type 0 where
   pub keeps : KeepsAt (links_of s) p c x a b
   pub next : x < room p c → KeepsAt (links_of s) p c (x + 1) a b → ⊥
 
--- a walk is told where there is room for one more, and it lowers the ratio
-abbrev pub IsEnd : System → Placement → ℕ → ℕ → Option Against → Type 0
-IsEnd s p c x against = MatchOption against (x ≡ room p c) (λ lower. (x < room p c) × IsLower (links_of s) p c (x + 1) lower)
-
--- the slack that is told, by the present ratio a/b
-pub record IsFound (s : System) (p : Placement) (c a b : ℕ) (slack : Slack) : Type 0 where
+-- the slack that is told, by the present ratio a/b, and the ratio with one more
+pub record IsFound (s : System) (p : Placement) (c a b : ℕ) (slack : Slack) (next : Option Ratio) : Type 0 where
   pub most : IsMost s p c a b slack.added
   pub certifies : Certifies (longer_marking (links_of s) p c slack.added) slack.cert
-  pub ends : IsEnd s p c slack.added slack.against
+  pub ends : IsEnd (links_of s) p c slack.added slack.against
+  pub next_is : IsNextRatio (links_of s) p c slack next
 
 -- for the loop: a ratio is kept with the low number, and not with the high one
 pub record IsBetween (s : System) (p : Placement) (c a b low high : ℕ) : Type 0 where

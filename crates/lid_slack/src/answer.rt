@@ -4,15 +4,6 @@ use lid_base::Items;
 use lid_cert::Cert;
 use lid_ratio::Ratio;
 
-/// What stands against one more relay station.
-#[derive(Drop)]
-pub struct Against {
-    /// A closed walk of the component, by its edges, whose ratio is the least there.
-    pub walk: Items<u32>,
-    /// That ratio, in lowest terms.
-    pub ratio: Ratio,
-}
-
 /// How many further relay stations a channel takes.
 #[derive(Drop)]
 pub struct Slack {
@@ -21,7 +12,16 @@ pub struct Slack {
     pub added: u32,
     /// A certificate of the marked graph with so many more.
     pub cert: Cert,
-    /// Where there is room for one more, what stands against it in the marked graph with one more than `added`: a
-    /// ratio below the present one.
-    pub against: Option<Against>,
+    /// Where there is room for one more, a closed walk of the component in the marked graph with one more than
+    /// `added`, by its edges, whose ratio is the least there, and below the present one.
+    pub against: Option<Items<u32>>,
+}
+
+/// The slack of a channel, and the ratio with one more.
+#[derive(Drop)]
+pub struct SlackAndNext {
+    pub slack: Slack,
+    /// Where there is room for one more, the ratio of the component with one more than `added`, which is that
+    /// of the walk `against`.
+    pub next: Option<Ratio>,
 }

@@ -1,17 +1,19 @@
 //! The slack of a channel, found.
 
-ghost use Rattle.std.specs.Prelude.{◌≡◌, ℕ, ◌+◌, ◌<◌, ◌≤◌, length, IfOk, IfSome, IsNone};
-ghost use Rattle.std.specs.Option.{MatchOption};
+ghost use Rattle.std.specs.Prelude.{◌≡◌, ℕ, ◌+◌, ◌<◌, ◌≤◌, length, IfOk, IfSome, IsNone, Some};
 ghost use Rattle.lid_cert.specs.Certificates.{Certifies};
+ghost use Rattle.lid_graph.specs.Ratios.{IsRatio};
 ghost use Rattle.lid_system.specs.Systems.{IsWellFormed};
 ghost use Rattle.lid_stations.specs.Placements.{links_of, Fits};
-ghost use Rattle.lid_longer.specs.Longer.{longer_marking, room, KeepsAt, KeepsRatio};
-ghost use Rattle.lid_slack.specs.Slack.{IsSlack, IsLower};
-ghost use Rattle.lid_slack.specs.Trials.{CanTry, IsPresent, IsMost, IsEnd, IsFound};
+ghost use Rattle.lid_longer.specs.Longer.{longer_marking, producer, room, KeepsAt, KeepsRatio};
+ghost use Rattle.lid_slack.specs.Slack.{IsSlack, IsAgainst, IsEnd, IsTold, IsNextRatio};
+ghost use Rattle.lid_slack.specs.Trials.{CanTry, IsPresent, IsMost, IsFound};
 
-use crate::answer::{Against, Slack};
+use crate::answer::{Slack, SlackAndNext};
 use crate::bisection::bisect;
-use crate::trial::{attempt, lowers, ratio_of, walk_of};
+use crate::proposal::propose;
+use crate::trial::{attempt, lowers, ratio_of};
+use lid_base::Items;
 use lid_cert::Cert;
 use lid_longer::room;
 use lid_ratio::Ratio;
@@ -19,18 +21,31 @@ use lid_stations::Placement;
 use lid_system::System;
 use std::alloc::{AllocError, Global};
 
-/// The present ratio of the channel's component.
-fn present_ratio(
+/// The present ratio of the channel's component, and a guess of the slack, of `most` at most.
+#[derive(Clone, Copy)]
+struct Opening {
+    present: Ratio,
+    guess: u32,
+}
+
+/// The present ratio, and a guess.
+fn open(
     alloc: Global,
     system: &System,
     placement: &Placement,
     channel: u32,
-) -> Result<Ratio, AllocError>
+    most: u32,
+) -> Result<Opening, AllocError>
     requires { CanTry system.now placement.now channel 0 }
-    ensures { IfOk result (λ ratio. IsPresent system.now placement.now channel ratio.p ratio.q) }
+    ensures present { IfOk result (λ opening. IsPresent system.now placement.now channel opening.present.p opening.present.q) }
+    ensures guess { IfOk result (λ opening. opening.guess ≤ most) }
 {
     let trial = attempt(alloc, system, placement, channel, 0)?;
-    Ok(ratio_of(&trial))
+    let guess = propose(alloc, system, placement, channel, most, &trial)?;
+    Ok(Opening {
+        present: ratio_of(&trial),
+        guess,
+    })
 }
 
 /// A certificate with so many further relay stations, if they keep the present ratio.
@@ -55,7 +70,14 @@ fn kept_cert(
     Ok(Some(trial.cert))
 }
 
-/// What stands against so many further relay stations: a closed walk that lowers the present ratio, if there is one.
+/// A closed walk with so many further relay stations that lowers the present ratio, and its ratio.
+#[derive(Drop)]
+struct Lower {
+    walk: Items<u32>,
+    ratio: Ratio,
+}
+
+/// A closed walk with so many further relay stations that lowers the present ratio, if there is one.
 fn lower_walk(
     alloc: Global,
     system: &System,
@@ -63,20 +85,24 @@ fn lower_walk(
     channel: u32,
     more: u32,
     present: Ratio,
-) -> Result<Option<Against>, AllocError>
+) -> Result<Option<Lower>, AllocError>
     requires can { CanTry system.now placement.now channel more }
     requires present { IsPresent system.now placement.now channel present.p present.q }
-    ensures some { IfOk result (λ found. IfSome found (IsLower (links_of system.now) placement.now channel more)) }
-    ensures lowers { IfOk result (λ found. IfSome found (λ against. KeepsAt (links_of system.now) placement.now channel more present.p present.q → ⊥)) }
+    ensures some { IfOk result (λ found. IfSome found (λ lower. IsAgainst (links_of system.now) placement.now channel more lower.walk)) }
+    ensures ratio { IfOk result (λ found. IfSome found (λ lower. IsRatio (longer_marking (links_of system.now) placement.now channel more) (producer (links_of system.now) channel) lower.ratio.p lower.ratio.q)) }
+    ensures lowers { IfOk result (λ found. IfSome found (λ lower. KeepsAt (links_of system.now) placement.now channel more present.p present.q → ⊥)) }
     ensures none { IfOk result (λ found. IsNone found → KeepsAt (links_of system.now) placement.now channel more present.p present.q) }
 {
     let trial = attempt(alloc, system, placement, channel, more)?;
     if !lowers(system, placement, channel, more, &trial, present) {
         return Ok(None);
     }
-    let walk = walk_of(alloc, &trial)?;
-    Ok(Some(Against {
-        walk,
+    let walk = Vec::from_slice(
+        alloc,
+        trial.cert.parts.as_slice()[trial.part].cycle.as_slice(),
+    )?;
+    Ok(Some(Lower {
+        walk: Items::from_vec(walk),
         ratio: ratio_of(&trial),
     }))
 }
@@ -90,31 +116,97 @@ fn settle(
     added: u32,
     most: u32,
     present: Ratio,
-) -> Result<Option<Slack>, AllocError>
+) -> Result<Option<SlackAndNext>, AllocError>
     requires can { CanTry system.now placement.now channel added }
     requires room { most ≡ room placement.now channel }
     requires present { IsPresent system.now placement.now channel present.p present.q }
-    ensures some { IfOk result (λ found. IfSome found (IsFound system.now placement.now channel present.p present.q)) }
+    ensures some { IfOk result (λ found. IfSome found (λ all. IsFound system.now placement.now channel present.p present.q all.slack all.next)) }
     ensures none { IfOk result (λ found. IsNone found → IsMost system.now placement.now channel present.p present.q added → ⊥) }
 {
     let Some(cert) = kept_cert(alloc, system, placement, channel, added, present)? else {
         return Ok(None);
     };
     if added == most {
-        return Ok(Some(Slack {
+        let slack = Slack {
             added,
             cert,
             against: None,
-        }));
+        };
+        return Ok(Some(SlackAndNext { slack, next: None }));
     }
-    let Some(against) = lower_walk(alloc, system, placement, channel, added + 1, present)? else {
+    let Some(lower) = lower_walk(alloc, system, placement, channel, added + 1, present)? else {
         return Ok(None);
     };
-    Ok(Some(Slack {
-        added,
-        cert,
-        against: Some(against),
-    }))
+    Ok(Some(told(added, cert, lower)))
+}
+
+/// The slack, with a walk that lowers the ratio with one more.
+fn told(added: u32, cert: Cert, lower: Lower) -> SlackAndNext
+    ensures slack { result.slack ≡ record { added = added; cert = cert; against = Some lower.walk } }
+    ensures next { result.next ≡ Some lower.ratio }
+{
+    let Lower { walk, ratio } = lower;
+    SlackAndNext {
+        slack: Slack {
+            added,
+            cert,
+            against: Some(walk),
+        },
+        next: Some(ratio),
+    }
+}
+
+/// The slack by bisection.
+fn search(
+    alloc: Global,
+    system: &System,
+    placement: &Placement,
+    channel: u32,
+    most: u32,
+    present: Ratio,
+) -> Result<SlackAndNext, AllocError>
+    requires can { CanTry system.now placement.now channel most }
+    requires room { most ≡ room placement.now channel }
+    requires present { IsPresent system.now placement.now channel present.p present.q }
+    ensures { IfOk result (λ all. IsFound system.now placement.now channel present.p present.q all.slack all.next) }
+{
+    let added = bisect(alloc, system, placement, channel, present, most)?;
+    match settle(alloc, system, placement, channel, added, most, present)? {
+        Some(found) => Ok(found),
+        None => unreachable!(),
+    }
+}
+
+/// The slack of a channel, as `slack`, and the ratio with one more, where there is room for it.
+///
+/// # Errors
+/// Where there is no memory.
+pub fn slack_and_next(
+    alloc: Global,
+    system: &System,
+    placement: &Placement,
+    channel: u32,
+) -> Result<SlackAndNext, AllocError>
+    requires system { IsWellFormed system.now }
+    requires fits { Fits system.now placement.now }
+    requires channel { channel < length system.now.channels }
+    ensures slack { IfOk result (λ all. IsTold (links_of system.now) placement.now channel all.slack) }
+    ensures next { IfOk result (λ all. IsNextRatio (links_of system.now) placement.now channel all.slack all.next) }
+{
+    let most = room(placement, channel);
+    let opening = open(alloc, system, placement, channel, most)?;
+    match settle(
+        alloc,
+        system,
+        placement,
+        channel,
+        opening.guess,
+        most,
+        opening.present,
+    )? {
+        Some(found) => Ok(found),
+        None => search(alloc, system, placement, channel, most, opening.present),
+    }
 }
 
 /// The slack of a channel: the greatest number of further relay stations of capacity 2 after its last station,
@@ -137,13 +229,8 @@ pub fn slack(
     ensures added { IfOk result (λ slack. IsSlack (links_of system.now) placement.now channel slack.added) }
     ensures fewer { IfOk result (λ slack. (y : ℕ) → y ≤ slack.added → KeepsRatio (links_of system.now) placement.now channel y) }
     ensures cert { IfOk result (λ slack. Certifies (longer_marking (links_of system.now) placement.now channel slack.added) slack.cert) }
-    ensures against { IfOk result (λ slack. MatchOption slack.against (slack.added ≡ room placement.now channel) (λ against. (slack.added < room placement.now channel) × IsLower (links_of system.now) placement.now channel (slack.added + 1) against)) }
+    ensures against { IfOk result (λ slack. IsEnd (links_of system.now) placement.now channel slack.added slack.against) }
 {
-    let most = room(placement, channel);
-    let present = present_ratio(alloc, system, placement, channel)?;
-    let added = bisect(alloc, system, placement, channel, present, most)?;
-    match settle(alloc, system, placement, channel, added, most, present)? {
-        Some(slack) => Ok(slack),
-        None => unreachable!(),
-    }
+    let SlackAndNext { slack, .. } = slack_and_next(alloc, system, placement, channel)?;
+    Ok(slack)
 }

@@ -5,7 +5,8 @@
 mod answer;
 mod bisection;
 mod finding;
+mod proposal;
 mod trial;
 
-pub use answer::{Against, Slack};
-pub use finding::slack;
+pub use answer::{Slack, SlackAndNext};
+pub use finding::{slack, slack_and_next};

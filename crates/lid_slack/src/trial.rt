@@ -97,16 +97,6 @@ pub(crate) fn ratio_of(trial: &Trial) -> Ratio
     }
 }
 
-/// The closed walk of the channel's component.
-pub(crate) fn walk_of(alloc: Global, trial: &Trial) -> Result<Items<u32>, AllocError>
-    requires { trial.now.part < length trial.now.cert.parts }
-    ensures { IfOk result (λ walk. walk ≡ (part_at trial.now.cert.parts trial.now.part).cycle) }
-{
-    let part = &trial.cert.parts.as_slice()[trial.part];
-    let walk = Vec::from_slice(alloc, part.cycle.as_slice())?;
-    Ok(Items::from_vec(walk))
-}
-
 /// Whether a ratio is below another.
 fn is_below(ratio: Ratio, other: Ratio) -> bool
     requires p { ratio.p < 2 ^ 31 }

@@ -6,6 +6,6 @@ use Rattle.lid_margins.proofs.slacks.slack_text.Goals as goal
 pub loop-channel-preserved : goal.loop-channel-preserved
 loop-channel-preserved c =
     let l = links_of c.args.system.now in
-    let slack = c.in_ok-slack.slack in
-    one_more l c.args.placement.now c.loop-channel.channel c.loop-channel.text.items c.append_slack.new.into.items (slack_words l c.loop-channel.channel slack.added (next_word slack.against)) c.loop-channel.invariant
-    (line_is l c.args.placement.now c.loop-channel.channel slack.added slack.against c.in_ok-slack.ensures.added c.in_ok-slack.ensures.against) c.in_ok-append_slack.ensures
+    let found = c.in_ok-found.found in
+    one_more l c.args.placement.now c.loop-channel.channel c.loop-channel.text.items c.append_slack.new.into.items (slack_words l c.loop-channel.channel found.slack.added (next_word found.next)) c.loop-channel.invariant
+    (line_is l c.args.placement.now c.loop-channel.channel found.slack found.next c.in_ok-found.ensures.slack c.in_ok-found.ensures.next) c.in_ok-append_slack.ensures
