@@ -1,5 +1,5 @@
 -- What answers say, as they are told.
-use Rattle.std.proofs.Common.{◌≡◌, ◌⊎◌, inl, inr, ℕ, ◌+◌, ◌<◌, ◌≤◌, List, [], ◌∷◌, ◌++◌, length, slice_index_or, Option, Some, None, refl, sym, ◌∙◌, ap, subst, append-nil, arith}
+use Rattle.std.proofs.Common.{◌≡◌, ◌⊎◌, inl, inr, ℕ, ◌+◌, ◌<◌, ◌≤◌, List, [], ◌∷◌, ◌++◌, length, slice_index_or, Option, Some, None, refl, sym, ◌∙◌, ap, subst, append-nil, true≢false, arith}
 use Rattle.std.specs.Option.{MatchOption, IsNone}
 use Rattle.std.proofs.lemmas.Bool.{cases_lt}
 use Rattle.std.proofs.lemmas.List.{length-append, get_or_append_left, get_or_push}
@@ -37,7 +37,7 @@ module _ (l : Links) (p : Placement) where
 
       by_none : slack.added ≡ room p c → (o : Option Ratio) → IsNone o → IsNext l p c slack.added (next_word o)
       by_none full None none = inl (full, refl)
-      by_none full (Some ratio) none = absurd none
+      by_none full (Some ratio) none = absurd (true≢false none)
 
       by_end : (o : Option (List ℕ)) → IsEnd l p c slack.added o → MatchOption o (IsNone next) (λ walk. MatchOption next ⊥ (λ ratio. IsRatio (longer_marking l p c (slack.added + 1)) (producer l c) ratio.p ratio.q)) → IsNext l p c slack.added (next_word next)
       by_end None full none = by_none full next none

@@ -5,3 +5,4 @@ pub mod Kept
 pub mod Chosen
 pub mod Taken
 pub mod Reaching
+pub mod Refuted

@@ -1,15 +1,17 @@
 -- Markings that differ in their capacities alone.
-use Rattle.std.proofs.Common.{◌≡◌, ℕ, zero, suc, ◌+◌, ◌<◌, ◌≤◌, inl, inr, List, length, get_or, refl, sym, ◌∙◌, ap, arith}
+use Rattle.std.proofs.Common.{◌≡◌, ℕ, zero, suc, ◌+◌, ◌<◌, ◌≤◌, inl, inr, List, length, get_or, refl, sym, ◌∙◌, ap, subst, arith}
+use Rattle.std.specs.List.{All}
 use Rattle.lid_graph.specs.declared.graph.Edge.{Edge}
 use Rattle.lid_graph.specs.Walks.{edge_at}
 use Rattle.lid_system.specs.declared.System.{System}
 use Rattle.lid_system.specs.Systems.{IsWellFormed}
 use Rattle.lid_stations.specs.declared.placement.Placement.{Placement}
-use Rattle.lid_stations.specs.Placements.{links_of, station_count, Fits}
+use Rattle.lid_stations.specs.Placements.{links_of, station_count, IsCapacity, Fits}
 use Rattle.lid_stations.specs.Stations.{spot_at, fills, filler, drainer, start_count}
 use Rattle.lid_stations.specs.Markings.{forth}
 use Rattle.lid_stations.proofs.Edges.{by_edge, forth_at, back_at, self_at, node_count, edges_long, no_others, selves_there}
 use Rattle.lid_stations.proofs.Alive.{rateable}
+use Rattle.lid_stations.proofs.Spots.{starts_small}
 use Rattle.lid_capacities.specs.Capacities.{IsForward, AreAlike, HasNoMore, DifferInCapacities}
 use Rattle.lid_capacities.proofs.Forward.{ratios_stay, greater_keep}
 use Rattle.lid_ratio.specs.declared.lowest_terms.Ratio.{Ratio}
@@ -114,6 +116,15 @@ module _ (s : System) (relays xs ys : List ℕ) where
     small_q = λ v h. are.small_q v (let n = alike.nodes in omega arith);
   }
 
+-- the edge back of a station has as many tokens more as its capacity is greater
+module _ (s : System) (relays xs ys : List ℕ) (station : ℕ) (h : station < station_count relays) (some : 1 ≤ get_or xs station 2) (all : 1 ≤ get_or ys station 2) where
+  pub back_tokens : (edge_at (sized (links_of s) relays xs) (suc (station + station))).tokens + get_or ys station 2 ≡ get_or xs station 2 + (edge_at (sized (links_of s) relays ys) (suc (station + station))).tokens
+  back_tokens =
+      let a = ap (λ (e : Edge). e.tokens) (back_at s (with_capacities relays xs) station h) in
+      let b = ap (λ (e : Edge). e.tokens) (back_at s (with_capacities relays ys) station h) in
+      let low = starts_small (spot_at relays station).place in
+      omega arith
+
 -- a placement with other capacities fits too
 pub fits_with : (s : System) (p : Placement) (caps : List ℕ) → Fits s p → AreCapacities (station_count p.relays) caps → Fits s (with_capacities p.relays caps)
 fits_with s p caps fits are = record {
@@ -126,4 +137,16 @@ has_stations s relays caps well fits = record {
   rateable = rateable s (with_capacities relays caps) well fits;
   count = (let a = no_others s (with_capacities relays caps) in let b = node_count s (with_capacities relays caps) in omega arith);
   selves = λ v h. selves_there s (with_capacities relays caps) v (let b = node_count s (with_capacities relays caps) in omega arith);
+}
+
+-- so does one that has them
+pub fits_trial : (s : System) (p q : Placement) (caps : List ℕ) → q.relays ≡ p.relays → q.caps ≡ caps → AreCapacities (station_count p.relays) caps → Fits s p → Fits s q
+fits_trial s p q caps relays_are caps_are are fits = record {
+  rules = record {
+    few = subst (All (λ k. k ≤ 64)) (sym relays_are) fits.rules.few;
+    most = subst (λ (l : List ℕ). station_count l ≤ 65536) (sym relays_are) fits.rules.most;
+    caps = ap length caps_are ∙ (are.count ∙ ap station_count (sym relays_are));
+    range = subst (All IsCapacity) (sym caps_are) are.range;
+  };
+  counts = ap length relays_are ∙ fits.counts;
 }

@@ -28,7 +28,7 @@ abbrev pub forward_part : Graph → ℕ → List ℕ → ℕ → Graph
 forward_part g n least r = record { nodes = g.nodes; edges = selves_of least r ++ forths_of g n least r }
 
 abbrev pub no_ratio : Ratio
-no_ratio = record { p = 0; q = 1 }
+no_ratio = record { p = 0; q = 0 }
 
 -- the forward ratios of the components of the first transitions
 pub record AreRatiosBelow (g : Graph) (n most : ℕ) (wants : List Ratio) : Type 0 where

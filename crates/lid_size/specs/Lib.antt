@@ -3,3 +3,4 @@ pub mod Sizes
 pub mod Choices
 pub mod ForwardParts
 pub mod Comparing
+pub mod Testing

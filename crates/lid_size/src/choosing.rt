@@ -1,17 +1,21 @@
 //! Capacities that are chosen station by station: each the least that reaches with 16 for all later
 //! stations.
 
-ghost use Rattle.std.specs.Prelude.{◌≡◌, ℕ, ◌<◌, ◌≤◌, ◌↔◌, length, replicate, IsTrue, IfOk};
+ghost use Rattle.std.specs.Prelude.{◌≡◌, ℕ, ◌<◌, ◌≤◌, ◌↔◌, length, replicate, IsTrue, IfOk, IfSome};
 ghost use Rattle.std.specs.List.{All};
 ghost use Rattle.lid_stations.specs.Placements.{links_of, Fits, station_count, IsCapacity};
 ghost use Rattle.lid_system.specs.Systems.{IsWellFormed};
 ghost use Rattle.lid_size.specs.Choices.{followed, AreChosen, IsNext};
 ghost use Rattle.lid_size.specs.ForwardParts.{AreForwardRatios};
+ghost use Rattle.lid_size.specs.Sizes.{IsReached};
 ghost use Rattle.lid_size.specs.Sizing.{sized, greatest, Reaches, IsFirst};
 
 use crate::comparing::reaches;
+use crate::testing::are_tight;
 use lid_base::Items;
+use lid_graph::Graph;
 use lid_ratio::Ratio;
+use lid_sizeguess::Sizes;
 use lid_stations::Placement;
 use lid_system::System;
 use std::alloc::{AllocError, Global};
@@ -95,6 +99,38 @@ fn next_capacity(
         }
     }
     Ok(16)
+}
+
+/// The placement of a guess, where its walks and a certificate show that its capacities are the first that
+/// reach.
+///
+/// # Errors
+/// Where there is no memory.
+pub(crate) fn tested(
+    alloc: Global,
+    system: &System,
+    widest: &Placement,
+    graph: &Graph,
+    wants: &[Ratio],
+    sizes: Sizes,
+) -> Result<Option<Placement>, AllocError>
+    requires system { IsWellFormed system.now }
+    requires fits { Fits system.now widest.now }
+    requires widest { widest.now.caps ≡ greatest widest.now.relays }
+    requires graph { graph.now ≡ sized (links_of system.now) widest.now.relays widest.now.caps }
+    requires wants { AreForwardRatios (sized (links_of system.now) widest.now.relays widest.now.caps) (station_count widest.now.relays) wants.now }
+    ensures { IfOk result (λ found. IfSome found (IsReached (links_of system.now) widest.now.relays)) }
+{
+    if sizes.caps.len() != widest.caps.len() || !are_tight(graph, wants, &sizes) {
+        return Ok(None);
+    }
+    let Sizes { caps, .. } = sizes;
+    let trial = placement_of(alloc, widest.relays.as_slice(), caps.into_vec())?;
+    if reaches(alloc, system, &trial, wants)? {
+        Ok(Some(trial))
+    } else {
+        Ok(None)
+    }
 }
 
 /// The first capacities that reach.

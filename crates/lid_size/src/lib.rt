@@ -5,5 +5,6 @@ mod choosing;
 mod comparing;
 mod forward;
 mod sizing;
+mod testing;
 
 pub use sizing::{SizeEnd, size};

@@ -9,13 +9,14 @@ ghost use Rattle.lid_size.specs.ForwardParts.{AreForwardRatios};
 ghost use Rattle.lid_size.specs.Sizing.{sized, greatest, Reaches};
 ghost use Rattle.lid_size.specs.Sizes.{Sizes, short_end};
 
-use crate::choosing::{choose, greatest, placement_of};
+use crate::choosing::{choose, greatest, placement_of, tested};
 use crate::comparing::{find_low, want_of};
 use crate::forward::forward_ratios;
 use lid_cert::Cert;
 use lid_graph::Graph;
 use lid_rate::find;
 use lid_ratio::Ratio;
+use lid_sizeguess::propose_sizes;
 use lid_stations::{Placement, marking};
 use lid_system::System;
 use std::alloc::{AllocError, Global};
@@ -43,8 +44,8 @@ pub enum SizeEnd {
     },
 }
 
-/// The answer where capacities reach.
-fn reached(
+/// The answer where capacities reach, by tests of all of them.
+fn searched(
     alloc: Global,
     system: &System,
     widest: &Placement,
@@ -60,6 +61,30 @@ fn reached(
     let caps = choose(alloc, system, widest, wants)?;
     let sized = placement_of(alloc, widest.relays.as_slice(), caps)?;
     Ok(SizeEnd::Reached(sized))
+}
+
+/// The answer where capacities reach: those of a guess, where its test succeeds.
+fn reached(
+    alloc: Global,
+    system: &System,
+    widest: &Placement,
+    graph: &Graph,
+    wants: &[Ratio],
+    cert: &Cert,
+) -> Result<SizeEnd, AllocError>
+    requires system { IsWellFormed system.now }
+    requires fits { Fits system.now widest.now }
+    requires widest { widest.now.caps ≡ greatest widest.now.relays }
+    requires graph { graph.now ≡ sized (links_of system.now) widest.now.relays widest.now.caps }
+    requires wants { AreForwardRatios (sized (links_of system.now) widest.now.relays widest.now.caps) (station_count widest.now.relays) wants.now }
+    requires greatest { Reaches (links_of system.now) widest.now.relays (greatest widest.now.relays) }
+    ensures { IfOk result (Sizes (links_of system.now) widest.now.relays) }
+{
+    let sizes = propose_sizes(alloc, graph, widest.caps.len() as u32, wants, cert)?;
+    match tested(alloc, system, widest, graph, wants, sizes)? {
+        Some(sized) => Ok(SizeEnd::Reached(sized)),
+        None => searched(alloc, system, widest, wants),
+    }
 }
 
 /// The answer where no capacities reach, with the first part whose ratio is below its forward ratio.
@@ -98,7 +123,7 @@ fn size_from(
     let cert = find(alloc, graph)?;
     match find_low(&cert, &wants) {
         Some(low) => Ok(short(cert, &wants, low)),
-        None => reached(alloc, system, widest, &wants),
+        None => reached(alloc, system, widest, graph, &wants, &cert),
     }
 }
 
