@@ -19,7 +19,8 @@ use Rattle.lid_machine.specs.Plans.{stations_of, outs_of, filler_of}
 use Rattle.lid_machine.specs.Setups.{Setup, IsSetup, plan}
 use Rattle.lid_actors.specs.Setups.{IsSetupOf}
 use Rattle.lid_actors.specs.Firsts.{first_token, first_tokens}
-use Rattle.lid_actors.specs.Inside.{ActorsGoByRules, AreTokensOf, AreWritten, HasFirsts, BeginsWith}
+use Rattle.lid_shell.specs.Inside.{ActorsGoByRules}
+use Rattle.lid_actors.specs.Inside.{AreTokensOf, AreWritten, HasFirsts, BeginsWith}
 use Rattle.lid_actors.proofs.Setting.{outs_are, stations_are}
 use Rattle.lid_actors.proofs.Starting.{first_at, firsts_many, some_first, no_first}
 

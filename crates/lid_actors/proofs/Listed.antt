@@ -5,13 +5,16 @@ use Rattle.std.proofs.lemmas.List.Elements.{filter-append}
 use Rattle.std.proofs.lemmas.List.Sums.{sum_by_more, sum_by_more_le}
 use Rattle.lid_design.specs.Network.{from_each}
 use Rattle.lid_system.specs.declared.System.{System}
+use Rattle.lid_system.specs.declared.Channel.{Channel}
+use Rattle.lid_station.specs.declared.looks.Side.{Side}
+use Rattle.lid_station.specs.declared.looks.Side.TheVariants.{Drain, Fill}
 use Rattle.lid_stations.specs.declared.placement.Placement.{Placement}
 use Rattle.lid_stations.specs.Placements.{links_of, station_count, Fits}
 use Rattle.lid_stations.specs.Stations.{Spot, mover, channel_at, fills, drains, filler, drainer}
 use Rattle.lid_stations.proofs.Parts.{each_more}
 use Rattle.lid_stations.proofs.Spots.{spot_is}
 use Rattle.lid_runs.proofs.Passing.{last_alone, first_alone}
-use Rattle.lid_actors.specs.Inside.{drained_below, filled_below}
+use Rattle.lid_actors.specs.Inside.{drained_below, filled_below, ends_below, end_of}
 
 -- what passes of the stations of a channel comes after what passes of those before
 joined : (f : ℕ → Bool) (n k : ℕ) → filter f (from_each (λ j. j) 0 (n + k)) ≡ filter f (from_each (λ j. j) 0 n) ++ filter f (from_each (λ j. j) n k)
@@ -79,7 +82,7 @@ module _ (s : System) (p : Placement) (fits : Fits s p) (c : ℕ) (there : c < l
         others j least most = by_place j (j - (first + 1)) (omega arith) (omega arith)
 
     -- the stations that it drains, with the last of this channel where that leads to it
-    pub drained_next : (number k to : ℕ) (old new : List ℕ) → number ≡ first → k ≡ more → to ≡ (channel_at (links_of s) c).to → old ≡ drained_below (links_of s) p v number → new ≡ old ++ cond (to == v) ((number + k) ∷ []) []
+    drained_next : (number k to : ℕ) (old new : List ℕ) → number ≡ first → k ≡ more → to ≡ (channel_at (links_of s) c).to → old ≡ drained_below (links_of s) p v number → new ≡ old ++ cond (to == v) ((number + k) ∷ []) []
         → new ≡ drained_below (links_of s) p v (number + k + 1)
     drained_next number k to old new is many leads was pushed =
         let all : first + (more + 1) ≡ number + k + 1 = omega arith in
@@ -93,10 +96,10 @@ module _ (s : System) (p : Placement) (fits : Fits s p) (c : ℕ) (there : c < l
         ∙ ap (drained_below (links_of s) p v) all
 
     -- those that it fills, with the first of this channel where that comes from it
-    pub filled_next : (number k from : ℕ) (old new : List ℕ) → number ≡ first → k ≡ more → from ≡ (channel_at (links_of s) c).from → old ≡ filled_below (links_of s) p v number → new ≡ old ++ cond (from == v) (number ∷ []) []
-        → new ≡ filled_below (links_of s) p v (number + (k + 1))
+    filled_next : (number k from : ℕ) (old new : List ℕ) → number ≡ first → k ≡ more → from ≡ (channel_at (links_of s) c).from → old ≡ filled_below (links_of s) p v number → new ≡ old ++ cond (from == v) (number ∷ []) []
+        → new ≡ filled_below (links_of s) p v (number + k + 1)
     filled_next number k from old new is many comes was pushed =
-        let all : first + (more + 1) ≡ number + (k + 1) = omega arith in
+        let all : first + (more + 1) ≡ number + k + 1 = omega arith in
         pushed
         ∙ ap (λ (xs : List ℕ). xs ++ cond (from == v) (number ∷ []) []) (was ∙ ap (filled_below (links_of s) p v) is)
         ∙ ap (λ (n : ℕ). filled_below (links_of s) p v first ++ cond (n == v) (number ∷ []) []) comes
@@ -104,3 +107,9 @@ module _ (s : System) (p : Placement) (fits : Fits s p) (c : ℕ) (there : c < l
         ∙ ap (λ (xs : List ℕ). filled_below (links_of s) p v first ++ xs) (sym filled_on)
         ∙ sym (joined (λ n. filler (links_of s) p n == v) first (more + 1))
         ∙ ap (filled_below (links_of s) p v) all
+
+    -- those of which it has one side, with that of this channel
+    pub ends_next : (side : Side) (number k : ℕ) (d : Channel) (old new : List ℕ) → number ≡ first → k ≡ more → d ≡ channel_at (links_of s) c → old ≡ ends_below side (links_of s) p v number → new ≡ old ++ end_of side d v number (number + k)
+        → new ≡ ends_below side (links_of s) p v (number + k + 1)
+    ends_next Drain number k d old new is many same was pushed = drained_next number k d.to old new is many (ap (λ (e : Channel). e.to) same) was pushed
+    ends_next Fill number k d old new is many same was pushed = filled_next number k d.from old new is many (ap (λ (e : Channel). e.from) same) was pushed

@@ -15,7 +15,8 @@ use Rattle.lid_machine.specs.Setups.{Setup, IsSetup, plan}
 use Rattle.lid_machine.specs.Machine.{begun}
 use Rattle.lid_shell.specs.declared.actor.Actor.{Actor}
 use Rattle.lid_shell.specs.Actors.{IsActor}
-use Rattle.lid_actors.specs.Inside.{ActorsGoByRules, IsActorOf}
+use Rattle.lid_shell.specs.Inside.{ActorsGoByRules}
+use Rattle.lid_actors.specs.Inside.{IsActorOf}
 use Rattle.lid_actors.proofs.Listed.{mover_drains, within}
 use Rattle.lid_actors.proofs.Setting.{ins_are, outs_are, nodes_are, actors_are}
 

@@ -32,7 +32,7 @@ use Rattle.lid_actors.specs.Setups.{IsSetupOf}
 use Rattle.lid_actors.specs.Firsts.{first_token, first_tokens}
 
 -- a place for each token that a station holds at most
-places_many : (first : Option ℕ) (cap : ℕ) → length (start_places first cap) ≡ cap
+pub places_many : (first : Option ℕ) (cap : ℕ) → length (start_places first cap) ≡ cap
 places_many None cap = length-replicate cap 0
 places_many (Some token) cap = length-set (replicate cap 0) 0 token ∙ length-replicate cap 0
 
@@ -104,7 +104,7 @@ no_first m station none = ap (λ (b : Bool). cond b (Some ((plan m).token statio
 
 module _ (m : Setup) (setup : IsSetup m) where
   -- as many tokens as the station starts with
-  counted : (station : ℕ) → begin_count (first_token (plan m) station) ≡ start_of (plan m) station
+  pub counted : (station : ℕ) → begin_count (first_token (plan m) station) ≡ start_of (plan m) station
   counted station =
       elim (cases_eq (start_of (plan m) station) 1) [
         | inl one ↦ ap begin_count (some_first m station one) ∙ sym one
@@ -143,16 +143,17 @@ module _ (m : Setup) (setup : IsSetup m) where
         ];
   }
 
+  -- the capacity of a station, by its place
+  pub rooms : (caps : List ℕ) → caps ≡ m.placement.caps → (station : ℕ) → station < stations_of (plan m) → get_or caps station 0 ≡ room_of (plan m) station
+  rooms caps same station there =
+      let long : length m.placement.caps ≡ stations_of (plan m) = setup.fits.rules.caps in
+      ap (λ (xs : List ℕ). get_or xs station 0) same ∙ get_or_default m.placement.caps station 0 2 (omega arith)
+
   -- a board that starts with them agrees with each actor
   pub all_agree : (caps : List ℕ) (pairs : List Pair) → caps ≡ m.placement.caps → AreStarts (first_tokens (plan m)) caps pairs → (v : ℕ) → Agrees m v rest (plain_ends pairs)
   all_agree caps pairs same starts v =
-      starts_agree m v (first_tokens (plan m)) caps pairs starts (starts.many ∙ firsts_many m) rooms
+      starts_agree m v (first_tokens (plan m)) caps pairs starts (starts.many ∙ firsts_many m) (rooms caps same)
       (λ j station at. ap begin_count (first_at m station None (filled_is m v j station at).0) ∙ counted station)
-    where
-      rooms : (station : ℕ) → station < stations_of (plan m) → get_or caps station 0 ≡ room_of (plan m) station
-      rooms station there =
-          let long : length m.placement.caps ≡ stations_of (plan m) = setup.fits.rules.caps in
-          ap (λ (xs : List ℕ). get_or xs station 0) same ∙ get_or_default m.placement.caps station 0 2 (omega arith)
 
 module _ (s : System) (p : Placement) (rows : List (List Bool)) (formed : IsWellFormed s) (fits : Fits s p) (few : length rows ≤ 1000000) (wide : AllByRecursion (IsInputRow s) rows) (tables : HasTable (system_drivers s)) (firsts : List (Option ℕ)) (are : (m : Setup) → IsSetupOf m s p rows → firsts ≡ first_tokens (plan m)) where
   -- there is a start token, or none, for each capacity
@@ -161,9 +162,6 @@ module _ (s : System) (p : Placement) (rows : List (List Bool)) (formed : IsWell
       let own = setup_of s p rows formed fits few wide tables in
       let on : stations_of (plan own.0) ≡ station_count p.relays = ap (λ (q : Placement). station_count q.relays) own.1.placement in
       ap length (are own.0 own.1) ∙ firsts_many own.0 ∙ on ∙ sym fits.rules.caps
-
-  pub few_firsts : length firsts < 2 ^ 32
-  few_firsts = let many = as_many_firsts in let caps = fits.rules.caps in let most = fits.rules.most in omega arith
 
   pub small_firsts : All (λ first. IfSome first (λ token. token < 2 ^ 31)) firsts
   small_firsts =

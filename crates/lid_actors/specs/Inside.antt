@@ -1,15 +1,17 @@
 -- Serves the bodies: stations as they are listed, actors as they are made, and start tokens as they are written.
-use Rattle.std.specs.Prelude.{◌≡◌, ℕ, ◌<◌, ◌≤◌, ◌==◌, Bool, List, length, filter, Option, Some, None, slice_get}
+use Rattle.std.specs.Prelude.{◌≡◌, ℕ, ◌<◌, ◌≤◌, ◌==◌, Bool, if◌then◌else◌, List, [], ◌∷◌, length, filter, Option, Some, None, slice_get}
 use Rattle.lid_design.specs.Network.{Table, from_each}
 use Rattle.lid_system.specs.declared.System.{System}
+use Rattle.lid_system.specs.declared.Channel.{Channel}
 use Rattle.lid_system.specs.Systems.{Point}
 use Rattle.lid_system.specs.Tables.{IsTable}
 use Rattle.lid_nodes.specs.Nodes.{tokens_from}
+use Rattle.lid_station.specs.declared.looks.Side.{Side}
+use Rattle.lid_station.specs.declared.looks.Side.TheVariants.{Drain, Fill}
 use Rattle.lid_stations.specs.declared.placement.Placement.{Placement}
 use Rattle.lid_stations.specs.Placements.{Links}
 use Rattle.lid_stations.specs.Stations.{filler, drainer}
-use Rattle.lid_stations.specs.Laws.{StationsStandBetweenActors}
-use Rattle.lid_runs.specs.Laws.{NodesDrainTheirChannels, NodesFillTheirChannels, StationsOfNodesStartWithAToken, MoversMoveTokensOn}
+use Rattle.lid_runs.specs.Runs.{drained_by, filled_by}
 use Rattle.lid_machine.specs.Plans.{stations_of, filler_of}
 use Rattle.lid_machine.specs.Setups.{Setup, IsSetup, plan}
 use Rattle.lid_machine.specs.Machine.{begun}
@@ -17,20 +19,26 @@ use Rattle.lid_shell.specs.declared.actor.Actor.{Actor}
 use Rattle.lid_shell.specs.Actors.{IsActor}
 use Rattle.lid_actors.specs.Setups.{IsSetupOf}
 
--- what laws say of the stations of actors
-pub record ActorsGoByRules : Type 0 where
-  pub between : StationsStandBetweenActors
-  pub drained : NodesDrainTheirChannels
-  pub filled : NodesFillTheirChannels
-  pub starts : StationsOfNodesStartWithAToken
-  pub moves : MoversMoveTokensOn
-
 -- the stations below a number that an actor drains, and those that it fills
 abbrev pub drained_below : Links → Placement → ℕ → ℕ → List ℕ
 drained_below l p v n = filter (λ station. drainer l p station == v) (from_each (λ station. station) 0 n)
 
 abbrev pub filled_below : Links → Placement → ℕ → ℕ → List ℕ
 filled_below l p v n = filter (λ station. filler l p station == v) (from_each (λ station. station) 0 n)
+
+-- those of which it has one of both sides
+abbrev pub ends_by : Side → Links → Placement → ℕ → List ℕ
+ends_by Drain l p v = drained_by l p v
+ends_by Fill l p v = filled_by l p v
+
+abbrev pub ends_below : Side → Links → Placement → ℕ → ℕ → List ℕ
+ends_below Drain l p v n = drained_below l p v n
+ends_below Fill l p v n = filled_below l p v n
+
+-- that of a channel, whose first and last stations are these, where it leads to the node or comes from it
+abbrev pub end_of : Side → Channel → ℕ → ℕ → ℕ → List ℕ
+end_of Drain d v first last = if d.to == v then last ∷ [] else []
+end_of Fill d v first last = if d.from == v then first ∷ [] else []
 
 -- actor v of each setup of a system, its stations and its rows, which has not fired
 abbrev pub IsActorOf : System → Placement → List (List Bool) → ℕ → Actor → Type 0

@@ -1,6 +1,6 @@
 //! The tokens with which stations start.
 
-ghost use Rattle.std.specs.Prelude.{◌≡◌, ◌≤◌, ◌<◌, ◌+◌, ◌-◌, ℕ, length, map, replicate, None, IfOk, OnOk};
+ghost use Rattle.std.specs.Prelude.{◌≡◌, ◌≤◌, ◌<◌, ◌+◌, ◌-◌, ◌^◌, ℕ, length, map, replicate, None, IfOk, IfSome, OnOk};
 ghost use Rattle.std.specs.List.{All, AllByRecursion};
 ghost use Rattle.lid_system.specs.Systems.{IsWellFormed};
 ghost use Rattle.lid_stations.specs.Placements.{station_count, Fits};
@@ -9,11 +9,12 @@ ghost use Rattle.lid_actors.specs.Setups.{IsSetupOf};
 ghost use Rattle.lid_actors.specs.Firsts.{first_tokens};
 ghost use Rattle.lid_actors.specs.Inside.{AreWritten, HasFirsts, BeginsWith};
 
-use crate::ends::stations_filled;
+use crate::ends::stations_of;
 use crate::rules::actors_go_by_rules;
 use crate::tokens::node_tokens;
+use lid_station::Side;
 use lid_stations::Placement;
-use lid_system::System;
+use lid_system::{System, systems_have_one_table};
 use lid_texts::Rows;
 use std::alloc::{AllocError, Global};
 
@@ -47,7 +48,7 @@ fn write_node(
     ensures firsts { OnOk result ((m : Setup) → BeginsWith m system.now placement.now row.now → HasFirsts m node firsts.old → HasFirsts m (node + 1) firsts.new) }
 {
     actors_go_by_rules();
-    let stations = stations_filled(alloc, system, placement, node)?;
+    let stations = stations_of(alloc, system, placement, node, Side::Fill)?;
     let listed = stations.as_slice();
     let tokens = node_tokens(alloc, system, node, row, listed.len())?;
     write_tokens(listed, tokens.as_slice(), firsts);
@@ -100,6 +101,24 @@ fn tokens_of(
     Ok(firsts)
 }
 
+/// The same of a run over rows.
+fn tokens_at_start(
+    alloc: Global,
+    system: &System,
+    placement: &Placement,
+    rows: &Rows,
+) -> Result<Vec<Option<u32>>, AllocError>
+    requires system { IsWellFormed system.now }
+    requires fits { Fits system.now placement.now }
+    requires wide { AllByRecursion (IsInputRow system.now) rows.now.bits }
+    ensures { IfOk result (λ firsts. (m : Setup) → IsSetupOf m system.now placement.now rows.now.bits → firsts.items ≡ first_tokens (plan m)) }
+{
+    let Some(row) = rows.bits.as_slice().first() else {
+        return no_tokens(alloc, placement.caps.len());
+    };
+    tokens_of(alloc, system, placement, row.as_slice())
+}
+
 /// The tokens with which the stations of a run start, in order: where there are rows, a station that a node fills
 /// starts with the token of the first row, and a station that a mover fills with none. Without rows none starts with
 /// one. There are at most 1,000,000 rows, each as wide as the source.
@@ -116,10 +135,10 @@ pub fn first_tokens(
     requires fits { Fits system.now placement.now }
     requires few { length rows.now.bits ≤ 1000000 }
     requires wide { AllByRecursion (IsInputRow system.now) rows.now.bits }
-    ensures { IfOk result (λ firsts. (m : Setup) → IsSetupOf m system.now placement.now rows.now.bits → firsts.items ≡ first_tokens (plan m)) }
+    ensures are { IfOk result (λ firsts. (m : Setup) → IsSetupOf m system.now placement.now rows.now.bits → firsts.items ≡ first_tokens (plan m)) }
+    ensures many { IfOk result (λ firsts. length firsts.items ≡ length placement.now.caps) }
+    ensures small { IfOk result (λ firsts. All (λ first. IfSome first (λ token. token < 2 ^ 31)) firsts.items) }
 {
-    let Some(row) = rows.bits.as_slice().first() else {
-        return no_tokens(alloc, placement.caps.len());
-    };
-    tokens_of(alloc, system, placement, row.as_slice())
+    systems_have_one_table();
+    tokens_at_start(alloc, system, placement, rows)
 }

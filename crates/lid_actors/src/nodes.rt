@@ -5,8 +5,9 @@ ghost use Rattle.lid_system.specs.Systems.{IsWellFormed};
 ghost use Rattle.lid_stations.specs.Placements.{Fits};
 ghost use Rattle.lid_actors.specs.Inside.{IsActorOf, AreFirst};
 
-use crate::ends::{stations_drained, stations_filled};
+use crate::ends::stations_of;
 use lid_shell::Actor;
+use lid_station::Side;
 use lid_stations::Placement;
 use lid_system::System;
 use lid_texts::Rows;
@@ -23,7 +24,7 @@ fn source_of<'r>(
     requires fits { Fits system.now placement.now }
     ensures { IfOk result (IsActorOf system.now placement.now rows.now.bits 0) }
 {
-    let outs = stations_filled(alloc, system, placement, 0)?;
+    let outs = stations_of(alloc, system, placement, 0, Side::Fill)?;
     Actor::source(alloc, system, rows, outs.as_slice())
 }
 
@@ -40,8 +41,8 @@ fn shell_of<'r>(
     requires shell { (0 < node) × (node + 1 < length system.now.nodes) }
     ensures { IfOk result (IsActorOf system.now placement.now rows.now.bits node) }
 {
-    let ins = stations_drained(alloc, system, placement, node)?;
-    let outs = stations_filled(alloc, system, placement, node)?;
+    let ins = stations_of(alloc, system, placement, node, Side::Drain)?;
+    let outs = stations_of(alloc, system, placement, node, Side::Fill)?;
     let count = rows.bits.len() as u64;
     Actor::shell(alloc, system, node, ins.as_slice(), outs.as_slice(), count)
 }
@@ -58,7 +59,7 @@ fn sink_of<'r>(
     ensures { IfOk result (IsActorOf system.now placement.now rows.now.bits (length system.now.nodes - 1)) }
 {
     let last = system.nodes.len() - 1;
-    let ins = stations_drained(alloc, system, placement, last as u32)?;
+    let ins = stations_of(alloc, system, placement, last as u32, Side::Drain)?;
     Actor::sink(alloc, system, ins.as_slice(), rows.bits.len() as u64)
 }
 

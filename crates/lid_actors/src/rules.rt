@@ -1,6 +1,6 @@
 //! The laws that actors rest on.
 
-ghost use Rattle.lid_actors.specs.Inside.{ActorsGoByRules};
+ghost use Rattle.lid_shell.specs.Inside.{ActorsGoByRules};
 
 use lid_runs::{movers_move_tokens_on, nodes_pass_the_tokens_of_channels};
 use lid_stations::stations_stand_between_actors;

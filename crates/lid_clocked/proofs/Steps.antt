@@ -1,10 +1,10 @@
 -- A run is given its next row, and makes a cycle.
-use Rattle.std.proofs.Common.{◌≡◌, ℕ, suc, ◌+◌, ◌<◌, ◌≤◌, ◌⊎◌, inl, inr, Bool, List, length, get_or, Some, slice_get, refl, ◌∙◌, ap, subst, arith}
+use Rattle.std.proofs.Common.{◌≡◌, ◌↔◌, ℕ, suc, ◌+◌, ◌<◌, ◌≤◌, ◌⊎◌, inl, inr, Bool, true, List, length, get_or, Some, slice_get, refl, ◌∙◌, ap, subst, arith}
 use Rattle.std.proofs.lemmas.Bool.{cases_lt}
 use Rattle.std.proofs.lemmas.Option.{slice_get_read}
 use Rattle.lid_base.proofs.Lists.{all_at}
 use Rattle.lid_clock.specs.declared.stream.ClockStream.{ClockStream}
-use Rattle.lid_clock.specs.Lives.{Life, IsWide, NeedsRow, IsBelow}
+use Rattle.lid_clock.specs.Lives.{Life, IsWide, NeedsRow, IsBelow, HoldsNobody}
 use Rattle.lid_clock.specs.Ran.{Ran}
 use Rattle.lid_clocked.specs.declared.clocked.Clocked.{Clocked}
 use Rattle.lid_clocked.specs.Clocks.{IsFreeLife, Goes}
@@ -25,7 +25,7 @@ pub fed : (l : Life) (k g : ℕ) → NeedsRow l k g → NeedsRow l k (g + 1) →
 fed l k g needs again = omega (arith, needs.lacks, again.lacks)
 
 -- a run whose stream made a cycle that was needed
-pub cycled : (l : Life) (k : ℕ) (x : Clocked) (stream : ClockStream)
+cycled : (l : Life) (k : ℕ) (x : Clocked) (stream : ClockStream)
     → Goes l k k x → IsBelow l k → Ran l (suc k) x.given stream
     → Goes l k (suc k) (record { stream = stream; input = x.input; given = x.given; outs = x.outs; done = x.done; made = x.made })
 cycled l k x stream goes below ran = record {
@@ -39,3 +39,10 @@ cycled l k x stream goes below ran = record {
     by_order : (j : ℕ) → j < suc k → (j < k) ⊎ (k ≤ j) → IsBelow l j
     by_order j less (inl before) = goes.needed j before
     by_order j less (inr past) = let last : k ≡ j = omega arith in subst (IsBelow l) last below
+
+-- a run that is ready, whose stream then makes a cycle
+pub one_cycled : (l : Life) (k : ℕ) (x : Clocked) (stream : ClockStream) (did : Bool) → Goes l k k x → IsBelow l k
+    → ((m : Life) (j g : ℕ) → Ran m j g x.stream → (did ≡ true) ↔ IsBelow m j)
+    → ((m : Life) (j g : ℕ) → Ran m j g x.stream → HoldsNobody m j → did ≡ true → Ran m (suc j) g stream)
+    → Goes l k (suc k) (record { stream = stream; input = x.input; given = x.given; outs = x.outs; done = x.done; made = x.made })
+one_cycled l k x stream did goes below made ran = cycled l k x stream goes below (ran l k x.given goes.ran (goes.free.nobody k) ((made l k x.given goes.ran).1 below))

@@ -17,23 +17,14 @@ use Rattle.lid_stations.specs.declared.placement.Placement.{Placement}
 use Rattle.lid_stations.specs.Placements.{links_of, station_count, Fits}
 use Rattle.lid_runs.specs.Runs.{sink_of, token_of, fired_in, in_count, out_count}
 use Rattle.lid_stations.specs.Stations.{capacity}
-use Rattle.lid_runs.specs.Views.{shown_as, shown_at}
+use Rattle.lid_runs.specs.Views.{shown_at}
 use Rattle.lid_clock.specs.Lives.{Life, IsWide, shown_after}
 use Rattle.lid_texts.specs.RowsText.{rows_text}
 use Rattle.lid_reports.specs.Runs.{cycles_text, trace_text}
 use Rattle.lid_clockrun.specs.RunTexts.{IsLifeOf, IsRunText, cells_after, end_text}
 use Rattle.lid_clockrun.specs.RunTexts as run
 use Rattle.lid_script.specs.Clocked.{station_token, cells_under, nodes_fired, traced, IsClockText}
-use Rattle.lid_script.proofs.Tokens.{all_so, token_same, are_outputs}
-
-flat_same : {A B : Type 0} (f g : A → List B) (xs : List A) → ((x : A) → f x ≡ g x) → flat_map f xs ≡ flat_map g xs
-flat_same f g [] same = refl
-flat_same f g (x ∷ xs) same = ap (λ ys. ys ++ flat_map f xs) (same x) ∙ ap (λ ys. g x ++ ys) (flat_same f g xs same)
-
-shown_same : (cap put taken : ℕ) (f g : ℕ → ℕ) → f taken ≡ g taken → shown_as cap put taken f ≡ shown_as cap put taken g
-shown_same cap put taken f g same =
-    let with_token : ℕ → Shown = λ token. record { valid = nat_lt taken put; stop = put - taken == cap; token = if nat_lt taken put then token else 0 } in
-    ap with_token same
+use Rattle.lid_script.proofs.Tokens.{all_so, flat_same, shown_same, token_same, are_outputs}
 
 module _ (d : Design) (s : System) (p : Placement) (of : IsSystemOf d s) (well : IsWellFormed s) (rows : List (List Bool)) (b : Table Column) (strict : IsStrict (drivers d) rows b) (stalls : Option (List Stall)) where
   abbrev held : Hold

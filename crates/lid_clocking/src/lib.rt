@@ -1,6 +1,7 @@
 //! The command `clock`: the clocked run of a netlist for rows that are read twice, told as it goes.
 #![tactic(auto)]
 
+mod asked;
 mod clock;
 mod counting;
 mod rerun;

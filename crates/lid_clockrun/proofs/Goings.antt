@@ -9,6 +9,7 @@ use Rattle.lid_stations.specs.Placements.{station_count, Fits}
 use Rattle.lid_clock.specs.Lives.{Life, NeedsRow, IsBelow, sink}
 use Rattle.lid_stalltext.specs.declared.stalls.Stall.{Stall}
 use Rattle.lid_stalltext.specs.Holds.{Ascend, listed, hold_of}
+use Rattle.lid_clockrun.specs.declared.course.Course.{Course}
 use Rattle.lid_clockrun.specs.Courses.{RanBy}
 use Rattle.lid_reports.specs.Runs.{trace_text}
 use Rattle.lid_feed.specs.declared.feed.RowFeed.{RowFeed}
@@ -35,6 +36,10 @@ module _ (r : Run) (run : Running) (given : List (List Bool)) (at : IsRunning r 
   -- a run of the stream of this life
   pub the_ran : (l : Life) × (k : ℕ) × (g : ℕ) × RanBy l k g run.stream × Begins r given l
   the_ran = (the_life.0, run.made, length given, (at.lives the_life.0 the_life.1).ran, the_life.1)
+
+  -- the same of a stream that is equal
+  pub ran_on : (s : Course) → s ≡ run.stream → RanBy the_life.0 run.made (length given) s
+  ran_on s same = subst (RanBy the_life.0 run.made (length given)) (sym same) (at.lives the_life.0 the_life.1).ran
 
   -- where a row is needed, not all were given
   pub below_all : ((l : Life) (k g : ℕ) → RanBy l k g run.stream → NeedsRow l k g) → length given < r.rows

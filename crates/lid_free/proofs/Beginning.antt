@@ -27,7 +27,7 @@ use Rattle.lid_machine.specs.Plans.{stations_of, start_of, room_of, stream}
 use Rattle.lid_machine.specs.Setups.{Setup, IsSetup, plan}
 use Rattle.lid_actors.specs.Setups.{IsSetupOf}
 use Rattle.lid_actors.specs.Firsts.{first_token, first_tokens}
-use Rattle.lid_actors.proofs.Starting.{first_at, firsts_many, some_first, no_first, begins}
+use Rattle.lid_actors.proofs.Starting.{places_many, first_at, firsts_many, counted, begins, rooms}
 use Rattle.lid_free.specs.Courses.{streams_of, are_streams}
 use Rattle.lid_free.specs.Settings.{IsStart, IsStarted, IsPlain, AreBoards}
 use Rattle.lid_free.specs.declared.setting.Boards.{Boards}
@@ -71,28 +71,9 @@ module _ (m : Setup) (rules : IsSetup m) where
           }
 
   -- as many tokens as the station starts with
-  counted : (station : ℕ) → begin_count (first_token (plan m) station) ≡ start_of (plan m) station
-  counted station =
-      elim (cases_eq (start_of (plan m) station) 1) [
-        | inl one ↦ ap begin_count (some_first m station one) ∙ sym one
-        | inr none ↦
-            (let small : start_count m.placement station ≤ 1 = starts_small (spot_at m.placement.relays station).place in
-            let zero_is : start_of (plan m) station ≡ 0 = omega (arith, none) in
-            ap begin_count (no_first m station none) ∙ sym zero_is)
-      ]
-
   starts_with : (firsts : List (Option ℕ)) → firsts ≡ first_tokens (plan m) → (station : ℕ) → station < stations_of (plan m) → begin_count (get_or firsts station None) ≡ start_of (plan m) station
   starts_with firsts are station there =
-      ap (λ (fs : List (Option ℕ)). begin_count (get_or fs station None)) are ∙ ap begin_count (first_at m station None there) ∙ counted station
-
-  rooms : (caps : List ℕ) → caps ≡ m.placement.caps → (station : ℕ) → station < stations_of (plan m) → get_or caps station 0 ≡ room_of (plan m) station
-  rooms caps same station there =
-      let long : length m.placement.caps ≡ stations_of (plan m) = rules.fits.rules.caps in
-      ap (λ (xs : List ℕ). get_or xs station 0) same ∙ get_or_default m.placement.caps station 0 2 (omega arith)
-
-  places_many : (first : Option ℕ) (cap : ℕ) → length (start_places first cap) ≡ cap
-  places_many None cap = length-replicate cap 0
-  places_many (Some token) cap = length-set (replicate cap 0) 0 token ∙ length-replicate cap 0
+      ap (λ (fs : List (Option ℕ)). begin_count (get_or fs station None)) are ∙ ap begin_count (first_at m station None there) ∙ counted m rules station
 
   pub plain_so : (firsts : List (Option ℕ)) (caps : List ℕ) (pairs : List Pair) → firsts ≡ first_tokens (plan m) → caps ≡ m.placement.caps → AreStarts firsts caps pairs → IsPlain m pairs
   plain_so firsts caps pairs are same starts =
@@ -101,7 +82,7 @@ module _ (m : Setup) (rules : IsSetup m) where
         many = many;
         caps = λ station p at_p.
             let within = slice_get_within pairs station p at_p in
-            ap length (starts.each station p at_p).places ∙ places_many (get_or firsts station None) (get_or caps station 0) ∙ rooms caps same station (omega (arith, within, many));
+            ap length (starts.each station p at_p).places ∙ places_many (get_or firsts station None) (get_or caps station 0) ∙ rooms m rules caps same station (omega (arith, within, many));
       }
 
   -- a board that was started for the streams
@@ -120,11 +101,11 @@ module _ (m : Setup) (rules : IsSetup m) where
         fills = λ station there. (
           start_fill firsts caps streams station,
           ap (λ (e : Ends). at e (fill station)) (sym all) ∙ fills station (omega (arith, there, long)),
-          record { cap = rooms caps same station there; start = starts_with firsts are station there; passed_is = starts_with firsts are station there; mark = refl; misses = refl },
+          record { cap = rooms m rules caps same station there; start = starts_with firsts are station there; passed_is = starts_with firsts are station there; mark = refl; misses = refl },
         );
         drains = λ station there. (
           start_drain firsts caps streams station,
           ap (λ (e : Ends). at e (drain station)) (sym all) ∙ drains station (omega (arith, there, long)),
-          record { cap = rooms caps same station there; start = starts_with firsts are station there; passed_is = refl; mark = refl; misses = refl },
+          record { cap = rooms m rules caps same station there; start = starts_with firsts are station there; passed_is = refl; mark = refl; misses = refl },
         );
       }

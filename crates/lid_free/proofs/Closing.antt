@@ -22,7 +22,7 @@ use Rattle.lid_machine.specs.Plans.{actors_of, stations_of, ins_of, outs_of, cap
 use Rattle.lid_machine.specs.Setups.{Setup, IsSetup, plan}
 use Rattle.lid_machine.specs.Machine.{Progress, State}
 use Rattle.lid_shell.specs.declared.actor.Actor.{Actor}
-use Rattle.lid_shell.specs.Boards.{Agrees}
+use Rattle.lid_shell.specs.Boards.{HasEnd, IsDrainedBy, IsFilledBy, Agrees}
 use Rattle.lid_walk.specs.Walks.{IsBoard}
 use Rattle.lid_walk.proofs.Elements.{there_is}
 use Rattle.lid_walk.proofs.Serving.{drains_by, fills_by}
@@ -78,49 +78,38 @@ module _ (m : Setup) (board : Board) (workers : ℕ) (owners : List ℕ) (before
     pub all_kept : (end : ℕ) → end < length (plan_of board) → IsOwned (ends_of keeper) end
     all_kept end within = let k = kept_at end within in k.1 ∙ ap (λ (o : Option Held). Some (held_of o)) (sym k.1)
 
-    -- what an actor's worker knew of an end, the keeper knows
-    kept_as : (end : ℕ) (i : ℕ) (p : Pair_ i) (x : Held) → holder workers owners end ≡ i → at (ends_of p.new.hand) end ≡ Some x → at (ends_of keeper) end ≡ Some (unseen x)
-    kept_as end i p x mine at_x =
-        joined end p.new (ap (slice_get news) mine ∙ p.at_new) ∙ ap (option_map unseen) at_x
-
     -- and the plain board tells it
     module _ (pairs : List Pair) (plain_many : length pairs ≡ stations_of (plan m))
         (closed : (end : ℕ) → end < length (plan_of board) → plain_ends pairs end ≡ Some (closed_facts (held (ends_of keeper) end)))
         (stands : PlainStands pairs (stream (plan m))) where
+      -- what the worker of an actor knew of an end, it tells, but for what was seen there
+      tells : (i : ℕ) (p : Pair_ i) (end : ℕ) → end < length (plan_of board) → holder workers owners end ≡ i → (P : Facts → Type 0)
+          → ((f : Facts) → P f → P (record { cap = f.cap; start = 0; passed = f.passed; mark = false; misses = None })) → HasEnd (known p.new.hand) end P → HasEnd (plain_ends pairs) end P
+      tells i p end within mine P unseen_too (f, at_f, is) =
+          let (x, at_x, is_x) = held_there (at (ends_of p.new.hand) end) f at_f in
+          let here : at (ends_of keeper) end ≡ Some (unseen x) = joined end p.new (ap (slice_get news) mine ∙ p.at_new) ∙ ap (option_map unseen) at_x in (
+            closed_facts (unseen x),
+            closed end within ∙ ap (λ (o : Option Held). Some (closed_facts (held_of o))) here,
+            unseen_too (facts x) (subst P (sym is_x) is),
+          )
+
       agrees_closed : (v : ℕ) (b : Actor) → slice_get actors v ≡ Some b → Agrees m v (state_at (fired_of actors) v) (plain_ends pairs)
       agrees_closed v b at_b =
+          let q = state_at (fired_of actors) v in
           let p = pair (v % workers) (mod_low m board workers owners before olds news made actors c worked long shares v) in
           let w = works_after m board workers owners before olds news made actors c worked long shares v b at_b p in
           let many = c.started.many in
           record {
             drains = λ i station h.
-                let (f, at_f, is) = w.agrees.drains i station h in
-                let (x, at_x, is_x) = held_there (at (ends_of p.new.hand) (drain station)) f at_f in
-                let here = kept_as (drain station) (v % workers) p x (drain_holder m board workers owners before olds c v i station h) at_x in
                 let there = (drains_by (plan m) v i station h).there in
-                let tells = closed (drain station) (omega (arith, there, many)) ∙ ap (λ (o : Option Held). Some (closed_facts (held_of o))) here in (
-                  closed_facts (unseen x),
-                  tells,
-                  record {
-                    capacity = ap (λ (g : Facts). g.cap) is_x ∙ is.capacity;
-                    passed = ap (λ (g : Facts). g.passed) is_x ∙ is.passed;
-                    seen = λ lower higher. absurd (omega (arith, lower));
-                  },
-                );
+                tells (v % workers) p (drain station) (omega (arith, there, many)) (drain_holder m board workers owners before olds c v i station h) (IsDrainedBy m v q i station)
+                (λ f is. record { capacity = is.capacity; passed = is.passed; seen = λ lower higher. absurd (omega (arith, lower)) })
+                (w.agrees.drains i station h);
             fills = λ j station h.
-                let (f, at_f, is) = w.agrees.fills j station h in
-                let (x, at_x, is_x) = held_there (at (ends_of p.new.hand) (fill station)) f at_f in
-                let here = kept_as (fill station) (v % workers) p x (fill_holder m board workers owners before olds c v j station h) at_x in
                 let there = (fills_by (plan m) v j station h).there in
-                let tells = closed (fill station) (omega (arith, there, many)) ∙ ap (λ (o : Option Held). Some (closed_facts (held_of o))) here in (
-                  closed_facts (unseen x),
-                  tells,
-                  record {
-                    capacity = ap (λ (g : Facts). g.cap) is_x ∙ is.capacity;
-                    passed = ap (λ (g : Facts). g.passed) is_x ∙ is.passed;
-                    seen = λ lower higher. absurd (omega (arith, lower));
-                  },
-                );
+                tells (v % workers) p (fill station) (omega (arith, there, many)) (fill_holder m board workers owners before olds c v j station h) (IsFilledBy m v q j station)
+                (λ f is. record { capacity = is.capacity; passed = is.passed; seen = λ lower higher. absurd (omega (arith, lower)) })
+                (w.agrees.fills j station h);
           }
 
       pub board_closed : IsBoard m (state_at (fired_of actors)) pairs

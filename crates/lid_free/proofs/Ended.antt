@@ -25,6 +25,7 @@ use Rattle.lid_walk.specs.declared.walk.Walk.{Walk}
 use Rattle.lid_walk.specs.Walks.{Walks, firings_between}
 use Rattle.lid_walk.proofs.Elements.{there_is}
 use Rattle.lid_walk.proofs.Numbers.{sink_there}
+use Rattle.lid_walk.proofs.Sweeping.{count, count_more}
 use Rattle.lid_work.specs.Posts.{no_turns}
 use Rattle.lid_work.specs.Tallies.{AddsUp, sum_below}
 use Rattle.lid_crew.specs.Shares.{numbers_of}
@@ -35,16 +36,8 @@ use Rattle.lid_free.specs.Sweeps.{HasSettled}
 use Rattle.lid_free.specs.declared.ending.Sweeps.{Sweeps}
 use Rattle.lid_free.specs.declared.run.FreeEnd.{FreeEnd}
 use Rattle.lid_free.proofs.Resting.{counted_at}
-use Rattle.lid_free.proofs.Settling.{count, count_add, list_count}
+use Rattle.lid_free.proofs.Settling.{count_add, list_count}
 use Rattle.lid_free.proofs.Shares.{whole_sum}
-
-count_more : (f : ℕ → ℕ) (k n : ℕ) → count f k (suc n) ≡ count f k n + f (k + n)
-count_more f k zero = let e : k ≡ k + 0 = omega arith in sum_by-cons f k [] ∙ ap (λ (x : ℕ). x + 0) (ap f e) ∙ (let e : f (k + 0) + 0 ≡ 0 + f (k + 0) = omega arith in e)
-count_more f k (suc n) =
-    let e : (k + 1) + n ≡ k + suc n = omega arith in
-    let later = count_more f (k + 1) n in
-    let same = ap f e in
-    omega (arith, sum_by-cons f k (from_each (λ v. v) (k + 1) (suc n)), sum_by-cons f k (from_each (λ v. v) (k + 1) n), later, same)
 
 count_below : (f : ℕ → ℕ) (n : ℕ) → count f 0 n ≡ sum_below f n
 count_below f zero = refl

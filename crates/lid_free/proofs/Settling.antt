@@ -12,15 +12,12 @@ use Rattle.lid_machine.specs.Machine.{State, sweep}
 use Rattle.lid_machine.specs.Laws.{AllRest, IsSettled, HasSwept as MachineSwept, sweeps}
 use Rattle.lid_machine.proofs.Sweeps.{has_swept, many}
 use Rattle.lid_walk.proofs.Numbers.{few_actors}
+use Rattle.lid_walk.proofs.Sweeping.{count}
 use Rattle.lid_shell.specs.declared.actor.Actor.{Actor}
 use Rattle.lid_walk.specs.declared.walk.Walk.{Walk}
 use Rattle.lid_walk.specs.Walks.{Walks, firings_between}
 use Rattle.lid_free.specs.Sweeps.{HasSwept, HasSettled}
 use Rattle.lid_free.specs.declared.ending.Sweeps.{Sweeps}
-
--- sums over all actors
-abbrev pub count : (ℕ → ℕ) → ℕ → ℕ → ℕ
-count f k n = sum_by f (from_each (λ v. v) k n)
 
 pub count_add : (f g h : ℕ → ℕ) (k n : ℕ) → ((v : ℕ) → k ≤ v → v < k + n → h v ≡ f v + g v) → count h k n ≡ count f k n + count g k n
 count_add f g h k zero same = refl

@@ -1,1 +1,2 @@
 pub mod InShares
+mod Decided

@@ -1,11 +1,12 @@
 -- The tokens and the output rows of a system are those of its design.
-use Rattle.std.proofs.Common.{◌≡◌, ℕ, zero, suc, ◌+◌, ◌-◌, ◌<◌, Bool, List, [], ◌∷◌, length, get_or, map, Some, slice_get, refl, sym, ◌∙◌, ap, subst, arith}
-use Rattle.std.specs.List.{AllByRecursion}
+use Rattle.std.proofs.Common.{◌≡◌, ℕ, zero, suc, ◌+◌, ◌-◌, ◌<◌, ◌==◌, nat_lt, Bool, if◌then◌else◌, List, [], ◌∷◌, ◌++◌, length, get_or, map, Some, slice_get, refl, sym, ◌∙◌, ap, subst, arith}
+use Rattle.std.specs.List.{AllByRecursion, flat_map}
 use Rattle.std.specs.Option.{option_map_or}
 use Rattle.std.proofs.lemmas.List.{get_or-map}
 use Rattle.std.proofs.lemmas.Option.{slice_get-get_or}
 use Rattle.std.proofs.lemmas.Simd.{map-map}
 use Rattle.lid_base.proofs.Lists.{all_among}
+use Rattle.lid_base.specs.declared.runs.Shown.{Shown}
 use Rattle.lid_cover.specs.Masks.{packed}
 use Rattle.lid_design.specs.declared.Design.{Design}
 use Rattle.lid_design.specs.declared.Model.{Model}
@@ -24,6 +25,7 @@ use Rattle.lid_stations.specs.declared.placement.Placement.{Placement}
 use Rattle.lid_stations.specs.Placements.{links_of}
 use Rattle.lid_stations.specs.Stations.{spot_at, no_channel}
 use Rattle.lid_runs.specs.Runs.{token_of}
+use Rattle.lid_runs.specs.Views.{shown_as}
 use Rattle.lid_agree.specs.Agreement.{column_of, seen, IsSystemOf}
 use Rattle.lid_agree.proofs.Agreeing.{source_ports, shell_ports, table_is, rows_are, output_back}
 use Rattle.lid_net.specs.Graphs.{ports_of, outputs_at}
@@ -39,6 +41,17 @@ item_or P [] zero d all past = past
 item_or P [] (suc i) d all past = past
 item_or P (x ∷ xs) zero d all past = all.0
 item_or P (x ∷ xs) (suc i) d all past = item_or P xs i d all.1 past
+
+-- a list made of lists, by the lists of each item
+pub flat_same : {A B : Type 0} (f g : A → List B) (xs : List A) → ((x : A) → f x ≡ g x) → flat_map f xs ≡ flat_map g xs
+flat_same f g [] same = refl
+flat_same f g (x ∷ xs) same = ap (λ ys. ys ++ flat_map f xs) (same x) ∙ ap (λ ys. g x ++ ys) (flat_same f g xs same)
+
+-- what a station shows, by its next token
+pub shown_same : (cap put taken : ℕ) (f g : ℕ → ℕ) → f taken ≡ g taken → shown_as cap put taken f ≡ shown_as cap put taken g
+shown_same cap put taken f g same =
+    let with_token : ℕ → Shown = λ token. record { valid = nat_lt taken put; stop = put - taken == cap; token = if nat_lt taken put then token else 0 } in
+    ap with_token same
 
 module _ (d : Design) where
   ports_of_shell : (n : ℕ) (path : List ℕ) (model : Model) → slice_get (pearls d) n ≡ Some path → model_at d path ≡ Some model → ports_of d (suc n) ≡ map (column path) model.outputs

@@ -13,5 +13,5 @@ pub use fault::{End, Stop, dump_stop, gen_stop, rows_stop};
 pub use placing::{read_cert, read_placement, read_system, read_wires};
 pub use scheduling::read_schedule_file;
 pub use stalling::read_job_stalls;
-pub use steps::{accept, build_system, read_net, read_vec};
+pub use steps::{accept, build_system, fetch_file, read_net, read_vec};
 pub use tracing::judge_trace;

@@ -27,7 +27,10 @@ const NET_LIMIT: usize = 16_777_216;
 const ROWS_LIMIT: usize = 67_108_864;
 
 /// Fetches a file, up to one byte more than its limit.
-pub(crate) fn fetch_file<'a, S: Shelf>(
+///
+/// # Errors
+/// The file cannot be read; and want of memory.
+pub fn fetch_file<'a, S: Shelf>(
     alloc: Global,
     shelf: &mut S,
     name: &'a str,

@@ -14,10 +14,11 @@ use Rattle.lid_machine.proofs.Sweeps.{has_swept, idle_settled}
 use Rattle.lid_walk.specs.declared.walk.Walk.{Walk}
 use Rattle.lid_walk.specs.Walks.{Walks, IsAtRest, HasActorAtRest, firings_between}
 
-abbrev count : (ℕ → ℕ) → ℕ → ℕ → ℕ
+-- sums over all actors
+abbrev pub count : (ℕ → ℕ) → ℕ → ℕ → ℕ
 count f k n = sum_by f (from_each (λ v. v) k n)
 
-count_more : (f : ℕ → ℕ) (k n : ℕ) → count f k (suc n) ≡ count f k n + f (k + n)
+pub count_more : (f : ℕ → ℕ) (k n : ℕ) → count f k (suc n) ≡ count f k n + f (k + n)
 count_more f k zero = let e : k ≡ k + 0 = omega arith in sum_by-cons f k [] ∙ ap (λ (x : ℕ). x + 0) (ap f e) ∙ (let e : f (k + 0) + 0 ≡ 0 + f (k + 0) = omega arith in e)
 count_more f k (suc n) =
     let e : (k + 1) + n ≡ k + suc n = omega arith in

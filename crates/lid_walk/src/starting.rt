@@ -12,7 +12,7 @@ ghost use Rattle.lid_walk.specs.Walks.{IsBoard};
 use lid_actors::first_tokens;
 use lid_station::PlainBoard;
 use lid_stations::Placement;
-use lid_system::{System, systems_have_one_table};
+use lid_system::System;
 use lid_texts::Rows;
 use std::alloc::{AllocError, Global};
 
@@ -29,7 +29,6 @@ pub(crate) fn board_of(
     requires wide { AllByRecursion (IsInputRow system.now) rows.now.bits }
     ensures { IfOk result (λ board. (m : Setup) → IsSetupOf m system.now placement.now rows.now.bits → IsBoard m begun board.pairs.items) }
 {
-    systems_have_one_table();
     let firsts = first_tokens(alloc, system, placement, rows)?;
     PlainBoard::start(alloc, firsts.as_slice(), placement.caps.as_slice())
 }

@@ -6,6 +6,7 @@ use Rattle.lid_base.specs.declared.runs.Shown.{Shown}
 use Rattle.lid_design.specs.declared.Design.{Design}
 use Rattle.lid_design.specs.Network.{Table, IsStrict, from_each}
 use Rattle.lid_design.specs.Columns.{Column, drivers, root_inputs}
+use Rattle.lid_design.specs.Walks.{HasTable}
 use Rattle.lid_graph.specs.declared.graph.Graph.{Graph}
 use Rattle.lid_graph.specs.Firings.{Counts, no_hold, IsFirstAtCap}
 use Rattle.lid_firings.proofs.Rising.{first_at_cap}
@@ -20,36 +21,29 @@ use Rattle.lid_stations.specs.Placements.{links_of, station_count, Fits}
 use Rattle.lid_stations.specs.Stations.{actor_count, capacity}
 use Rattle.lid_stations.specs.Markings.{marking}
 use Rattle.lid_runs.specs.Runs.{cap_of, token_of, fired_in, in_count, out_count}
-use Rattle.lid_runs.specs.Views.{shown_as, shown_at}
+use Rattle.lid_runs.specs.Views.{shown_at}
 use Rattle.lid_runs.proofs.Caps.{cap_of_sink}
 use Rattle.lid_runs.proofs.Ending.{ends}
 use Rattle.lid_wave.specs.Text.{wave_text}
+use Rattle.lid_wave.specs.Writable.{IsWritable}
 use Rattle.lid_clock.specs.Lives.{Life, IsWide, fired_after, shown_after, sink}
 use Rattle.lid_clocked.specs.Clocks.{IsFreeLife}
 use Rattle.lid_clocked.proofs.FreeLives.{sinks_few}
 use Rattle.lid_script.specs.Clocked.{station_token, cells_of, trace_of}
 use Rattle.lid_script.specs.Waved.{IsWaveText}
 use Rattle.lid_waving.specs.Traces.{cells_at, cells_before, IsTraceOf}
-use Rattle.lid_script.proofs.Tokens.{all_so, token_same}
-
-flat_same : {A B : Type 0} (f g : A → List B) (xs : List A) → ((x : A) → f x ≡ g x) → flat_map f xs ≡ flat_map g xs
-flat_same f g [] same = refl
-flat_same f g (x ∷ xs) same = ap (λ ys. ys ++ flat_map f xs) (same x) ∙ ap (λ ys. g x ++ ys) (flat_same f g xs same)
-
-shown_same : (cap put taken : ℕ) (f g : ℕ → ℕ) → f taken ≡ g taken → shown_as cap put taken f ≡ shown_as cap put taken g
-shown_same cap put taken f g same =
-    let with_token : ℕ → Shown = λ token. record { valid = nat_lt taken put; stop = put - taken == cap; token = if nat_lt taken put then token else 0 } in
-    ap with_token same
+use Rattle.lid_script.proofs.Tokens.{all_so, flat_same, shown_same, token_same}
+use Rattle.lid_waving.proofs.Cells.{writable}
 
 -- rows as wide as the inputs of a design have the width of the source
 pub wide_rows : (d : Design) (s : System) → IsSystemOf d s → (rows : List (List Bool)) → AllByRecursion (λ row. length row ≡ length (root_inputs d)) rows → AllByRecursion (IsWide s) rows
 wide_rows d s of rows wide = all_so (λ row. length row ≡ length (root_inputs d)) (IsWide s) rows (λ row is columns here. is ∙ ap length (sym (of.source 0 columns here))) wide
 
 module _ (d : Design) (s : System) (p : Placement) (of : IsSystemOf d s) (well : IsWellFormed s) (rows : List (List Bool)) (b : Table Column) (strict : IsStrict (drivers d) rows b) (fits : Fits s p) where
-  abbrev pub life : Life
+  abbrev life : Life
   life = record { system = s; placement = p; input = rows; table = seen d of.columns b; hold = no_hold }
 
-  pub lives : length rows ≤ 1000000 → AllByRecursion (λ row. length row ≡ length (root_inputs d)) rows → IsFreeLife life rows
+  lives : length rows ≤ 1000000 → AllByRecursion (λ row. length row ≡ length (root_inputs d)) rows → IsFreeLife life rows
   lives few wide = record {
     rules = record {
       system = well;
@@ -125,7 +119,7 @@ module _ (d : Design) (s : System) (p : Placement) (of : IsSystemOf d s) (well :
         ∙ ap (told (station_count p.relays) t.cycles) (is.shown ∙ cells_before_same t.cycles)
         ∙ ap (λ (n : ℕ). told (station_count p.relays) n (flat_map (cells_of d b (links_of s) p count) (from_each (λ j. j) 0 n))) cycles_are
 
-  pub dump_is : (most : ℕ) (t : Trace) (text : List ℕ) → IsFreeLife life rows → IsTraceOf life most t → text ≡ wave_text t → IsWaveText d (links_of s) p rows most text
+  dump_is : (most : ℕ) (t : Trace) (text : List ℕ) → IsFreeLife life rows → IsTraceOf life most t → text ≡ wave_text t → IsWaveText d (links_of s) p rows most text
   dump_is most t text free is written = record {
     table = b;
     strict = strict;
@@ -133,3 +127,22 @@ module _ (d : Design) (s : System) (p : Placement) (of : IsSystemOf d s) (well :
     ends = ended.1;
     written = written ∙ ap wave_text (trace_is free most t is ended.0 ended.1);
   }
+
+-- a design whose columns have a table: its system has such a life, and what is told of each is told of it
+module _ (d : Design) (s : System) (p : Placement) (of : IsSystemOf d s) (well : IsWellFormed s) (fits : Fits s p) (rows : List (List Bool)) (few : length rows ≤ 1000000) (wide : AllByRecursion (λ row. length row ≡ length (root_inputs d)) rows)
+    (has : HasTable (drivers d)) where
+  abbrev one : Life
+  one = life d s p of well rows (has rows).0 (has rows).1 fits
+
+  free : IsFreeLife one rows
+  free = lives d s p of well rows (has rows).0 (has rows).1 fits few wide
+
+  pub alive : (l : Life) × IsFreeLife l rows × (l.system ≡ s) × (l.placement ≡ p)
+  alive = (one, free, refl, refl)
+
+  module _ (most : ℕ) (t : Trace) (told : (l : Life) → IsFreeLife l rows → l.system ≡ s → l.placement ≡ p → IsTraceOf l most t) where
+    pub trace_writable : most ≤ 1048576 → station_count p.relays * most ≤ 1048576 → IsWritable t
+    trace_writable small cells = writable one free.rules most t (told one free refl refl) small cells
+
+    pub dumped : (text : List ℕ) → text ≡ wave_text t → IsWaveText d (links_of s) p rows most text
+    dumped text is = dump_is d s p of well rows (has rows).0 (has rows).1 fits most t text free (told one free refl refl) is

@@ -2,38 +2,19 @@
 
 ghost use Rattle.std.specs.Prelude.{◌≡◌, ℕ, ◌≤◌, List, IfOk, IfErr};
 ghost use Rattle.lid_reports.specs.Runs.{trace_text};
-ghost use Rattle.lid_script.specs.Causes.{Declines, Got, IsCause, IsWant, Misses, MissesFile};
-ghost use Rattle.lid_script.specs.Scripts.{IsFetched, good, dump_limit, dump_read, unwave_script};
+ghost use Rattle.lid_script.specs.Causes.{Declines, Got, IsCause, IsWant, Misses};
+ghost use Rattle.lid_script.specs.Scripts.{good, dump_limit, dump_read, unwave_script};
 ghost use Rattle.lid_script.specs.Statuses.{HasText};
 ghost use Rattle.lid_wave.specs.Writable.{IsWritable};
 
 use lid_base::Shelf;
-use lid_io::{FetchFault, fetch_all};
-use lid_script::{Stop, dump_stop};
+use lid_script::{Stop, dump_stop, fetch_file};
 use lid_texts::{Trace, print_trace};
 use lid_vcd::read;
 use std::alloc::Global;
 
 /// The greatest size of a value change dump, in bytes.
 const DUMP_LIMIT: usize = 67_108_864;
-
-/// Fetches a dump, up to one byte more than its limit.
-fn fetch_dump<'a, S: Shelf>(
-    alloc: Global,
-    shelf: &mut S,
-    file: &'a str,
-) -> Result<Vec<u8>, Stop<'a>>
-    ensures ok { IfOk result (λ bytes. IsFetched (S.held shelf.old) file.now dump_limit bytes.items) }
-    ensures err { IfErr result (MissesFile file.now (S.faults shelf.old) (S.faults shelf.new)) }
-    ensures kept { S.held shelf.new ≡ S.held shelf.old }
-    ensures grows { (q : List ℕ) → S.faults shelf.old q ≤ S.faults shelf.new q }
-{
-    match fetch_all(alloc, shelf, file, DUMP_LIMIT) {
-        Ok(bytes) => Ok(bytes),
-        Err(FetchFault::Read) => Err(Stop::Read(file)),
-        Err(FetchFault::Memory) => Err(Stop::Memory),
-    }
-}
 
 /// The trace of a dump.
 fn trace_of<'a>(alloc: Global, bytes: &[u8]) -> Result<Trace, Stop<'a>>
@@ -68,7 +49,7 @@ fn read_dump<'a, S: Shelf>(alloc: Global, shelf: &mut S, file: &'a str) -> Resul
     ensures kept { S.held shelf.new ≡ S.held shelf.old }
     ensures grows { (q : List ℕ) → S.faults shelf.old q ≤ S.faults shelf.new q }
 {
-    match fetch_dump(alloc, shelf, file) {
+    match fetch_file(alloc, shelf, file, DUMP_LIMIT) {
         Ok(bytes) => trace_of(alloc, &bytes),
         Err(stop) => Err(stop),
     }

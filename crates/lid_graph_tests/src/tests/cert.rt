@@ -3,25 +3,10 @@
 ghost use Rattle.std.specs.List.{All};
 ghost use Rattle.lid_cert.specs.Certificates.{AreLists};
 
-use crate::tests::designs::{DIAMOND, RING, Station, are, are_large, graph_of};
+use crate::tests::designs::{DIAMOND, RING, RING_CERT, Station, are, are_large, graph_of};
 use lid_cert::{Cert, Part, check, check_by_owners};
 use lid_certtext::{CertFault, print_cert, read_cert};
 use std::alloc::{AllocError, Global};
-
-/// A ring of two registers, with a relay station on the way from the first to the second.
-const RING_CERT: &[u8] = b"lid-cert 1
-part 1
-ratio 1 1
-cycle 8
-node 0 0 0 0 -
-part 4
-ratio 2 3
-cycle 0 2 4
-node 1 1 2 0 -
-node 2 2 5 1 5
-node 3 1 8 2 6
-node 4 0 5 1 0
-";
 
 /// Two ways that join again, with three relay stations on one of them.
 const DIAMOND_CERT: &[u8] = b"lid-cert 1

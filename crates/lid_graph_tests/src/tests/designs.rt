@@ -11,6 +11,21 @@ pub(crate) type Station = (u32, u32, u32, u32);
 /// source, 0, stands alone.
 pub(crate) const RING: [Station; 4] = [(1, 4, 1, 2), (4, 2, 0, 2), (2, 1, 1, 2), (2, 3, 1, 2)];
 
+/// A certificate of the ring.
+pub(crate) const RING_CERT: &[u8] = b"lid-cert 1
+part 1
+ratio 1 1
+cycle 8
+node 0 0 0 0 -
+part 4
+ratio 2 3
+cycle 0 2 4
+node 1 1 2 0 -
+node 2 2 5 1 5
+node 3 1 8 2 6
+node 4 0 5 1 0
+";
+
 /// The actors of two ways that join again: the source, three shells, the sink and three movers.
 pub(crate) const DIAMOND: [Station; 8] = [
     (0, 1, 1, 2),

@@ -4,7 +4,7 @@
 ghost use Rattle.std.specs.Prelude.{IfSome};
 ghost use Rattle.lid_cert.specs.Certificates.{Certifies};
 
-use crate::tests::designs::{RING, are_large, graph_of};
+use crate::tests::designs::{RING, RING_CERT, are_large, graph_of};
 use lid_cert::{Cert, Part, check};
 use lid_certtext::read_cert;
 use lid_graph::Graph;
@@ -12,22 +12,7 @@ use lid_rate::is_rateable;
 use lid_throughput::{rate_text, verdict_text};
 use std::alloc::Global;
 
-/// A certificate of the ring.
-const RING_CERT: &[u8] = b"lid-cert 1
-part 1
-ratio 1 1
-cycle 8
-node 0 0 0 0 -
-part 4
-ratio 2 3
-cycle 0 2 4
-node 1 1 2 0 -
-node 2 2 5 1 5
-node 3 1 8 2 6
-node 4 0 5 1 0
-";
-
-/// What is told of it.
+/// What is told of the certificate of the ring.
 const RING_VERDICT: &[u8] = b"certificate ok
 part 0 ratio 1/1
 part 1 ratio 2/3

@@ -1,15 +1,20 @@
--- Without rows no station starts with a token.
-use Rattle.std.proofs.Common.{List, Bool, sym, ◌∙◌, ap}
-use Rattle.std.specs.Prelude.{slice_get}
-use Rattle.std.specs.Option.{option_copied}
+-- There is a token or none for each station.
 use Rattle.lid_base.proofs.Results.{if_ok}
-use Rattle.lid_actors.proofs.Begun.{none_begin}
+use Rattle.lid_actors.proofs.Starting.{as_many_firsts, small_firsts}
 use Rattle.lid_actors.proofs.firsts.first_tokens.Goals as goal
 
-pub returns-in_default : goal.returns-in_default
-returns-in_default c =
-    if_ok c.no_tokens.result
-    (λ firsts is. λ m of.
-    none_begin m c.args.system.now c.args.placement.now c.args.rows.now.bits c.len.result firsts.items c.requires.fits of
-    (ap (λ (xs : List (List Bool)). slice_get xs 0) (sym c.as_slice.ensures) ∙ sym c.first.ensures.value ∙ ap option_copied c.in_default.is) c.len.ensures is)
-    c.no_tokens.ensures
+pub returns-clause-many : goal.returns-clause-many
+returns-clause-many c =
+    let s = c.args.system.now in
+    let q = c.requires in
+    if_ok c.tokens_at_start.result
+    (λ firsts are. as_many_firsts s c.args.placement.now c.args.rows.now.bits q.system q.fits q.few q.wide (c.systems_have_one_table.ensures.some s q.system) firsts.items are)
+    c.tokens_at_start.ensures
+
+pub returns-clause-small : goal.returns-clause-small
+returns-clause-small c =
+    let s = c.args.system.now in
+    let q = c.requires in
+    if_ok c.tokens_at_start.result
+    (λ firsts are. small_firsts s c.args.placement.now c.args.rows.now.bits q.system q.fits q.few q.wide (c.systems_have_one_table.ensures.some s q.system) firsts.items are)
+    c.tokens_at_start.ensures

@@ -10,7 +10,7 @@ returns-in-Ok-clause-ran g c =
     let held = g.S.Shelf.held c.args.shelf.now in
     let root = c.args.root.now in
     let d = c.args.design in
-    let next : Design → Script = λ checked. built_script checked c.args.vec.now c.args.stations.now c.args.stalls.now c.args.trace.now in
+    let next : Design → Script = λ checked. built_script checked c.args.asked.now.vec.now c.args.asked.now.stations.now c.args.asked.now.stalls.now c.args.asked.now.trace in
     let before = g.S.Shelf.faults c.args.shelf.now in
     runs_within held (next c.in-Ok.checked) (check_step root d next) (within_decided held (IsChecked root d) (IsUnchecked root d) next c.in-Ok.checked c.in-Ok.ensures.ok) g.O.Sink.written g.O.Sink.faults
     held before before (g.S.Shelf.faults c.run_checked.new.shelf) c.args.out.now c.run_checked.new.out c.run_checked.result refl (λ q. omega arith) c.run_checked.ensures.ran
@@ -20,7 +20,7 @@ returns-in-Err-clause-ran g c =
     let held = g.S.Shelf.held c.args.shelf.now in
     let root = c.args.root.now in
     let d = c.args.design in
-    let next : Design → Script = λ checked. built_script checked c.args.vec.now c.args.stations.now c.args.stalls.now c.args.trace.now in
+    let next : Design → Script = λ checked. built_script checked c.args.asked.now.vec.now c.args.asked.now.stations.now c.args.asked.now.stalls.now c.args.asked.now.trace in
     let before = g.S.Shelf.faults c.args.shelf.now in
     runs_stopped held (check_step root d next) before before g.O.Sink.written g.O.Sink.faults c.args.out.now c.in-Err.stop
     (cause_unchecked held root d next before before c.in-Err.stop c.in-Err.ensures.err)

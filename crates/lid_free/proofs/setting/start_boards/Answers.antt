@@ -1,61 +1,24 @@
-use Rattle.std.proofs.Common.{◌≡◌, ℕ, ◌^◌, ◌<◌, List, length, sym, ◌∙◌, ap, subst}
-use Rattle.std.specs.Prelude.{Option, IfSome}
-use Rattle.std.specs.List.{All}
+use Rattle.std.proofs.Common.{◌≡◌, ℕ, List, sym, ◌∙◌, ap}
+use Rattle.std.specs.Prelude.{Option}
 use Rattle.lid_machine.specs.Setups.{Setup}
 use Rattle.lid_machine.specs.Setups.{plan}
 use Rattle.lid_actors.specs.Firsts.{first_tokens}
 use Rattle.lid_actors.specs.Setups.{IsSetupOf}
-use Rattle.lid_actors.proofs.Starting.{as_many_firsts, few_firsts, small_firsts, setup_of}
+use Rattle.lid_actors.proofs.Starting.{setup_of}
 use Rattle.lid_free.proofs.Beginning.{streams_are, begins_so, plain_so, started_so}
 use Rattle.lid_free.proofs.setting.start_boards.Goals as goal
-
-pub start-requires-clause-many : goal.start-requires-clause-many
-start-requires-clause-many c =
-    let q = c.requires in
-    subst (λ (xs : List (Option ℕ)). length xs < 2 ^ 32) (sym c.as_slice.ensures.value)
-    (few_firsts c.args.system.now c.args.placement.now c.args.rows.now.bits q.system q.fits q.few q.wide (c.runs_go_by_rules.ensures.some c.args.system.now q.system) c.in_ok-firsts.firsts.items c.in_ok-firsts.ensures)
-
-pub start-requires-clause-same : goal.start-requires-clause-same
-start-requires-clause-same c =
-    let q = c.requires in
-    let long = as_many_firsts c.args.system.now c.args.placement.now c.args.rows.now.bits q.system q.fits q.few q.wide (c.runs_go_by_rules.ensures.some c.args.system.now q.system) c.in_ok-firsts.firsts.items c.in_ok-firsts.ensures in
-    ap length c.as_slice-2.ensures ∙ sym long ∙ ap length (sym c.as_slice.ensures.value)
-
-pub start-requires-clause-small : goal.start-requires-clause-small
-start-requires-clause-small c =
-    let q = c.requires in
-    subst (λ (xs : List (Option ℕ)). All (λ first. IfSome first (λ token. token < 2 ^ 31)) xs) (sym c.as_slice.ensures.value)
-    (small_firsts c.args.system.now c.args.placement.now c.args.rows.now.bits q.system q.fits q.few q.wide (c.runs_go_by_rules.ensures.some c.args.system.now q.system) c.in_ok-firsts.firsts.items c.in_ok-firsts.ensures)
-
-pub start-requires-2-clause-many : goal.start-requires-2-clause-many
-start-requires-2-clause-many c =
-    let q = c.requires in
-    subst (λ (xs : List (Option ℕ)). length xs < 2 ^ 32) (sym c.as_slice-3.ensures.value)
-    (few_firsts c.args.system.now c.args.placement.now c.args.rows.now.bits q.system q.fits q.few q.wide (c.runs_go_by_rules.ensures.some c.args.system.now q.system) c.in_ok-firsts.firsts.items c.in_ok-firsts.ensures)
-
-pub start-requires-2-clause-same : goal.start-requires-2-clause-same
-start-requires-2-clause-same c =
-    let q = c.requires in
-    let long = as_many_firsts c.args.system.now c.args.placement.now c.args.rows.now.bits q.system q.fits q.few q.wide (c.runs_go_by_rules.ensures.some c.args.system.now q.system) c.in_ok-firsts.firsts.items c.in_ok-firsts.ensures in
-    ap length c.as_slice-4.ensures ∙ sym long ∙ ap length (sym c.as_slice-3.ensures.value)
-
-pub start-requires-2-clause-small : goal.start-requires-2-clause-small
-start-requires-2-clause-small c =
-    let q = c.requires in
-    subst (λ (xs : List (Option ℕ)). All (λ first. IfSome first (λ token. token < 2 ^ 31)) xs) (sym c.as_slice-3.ensures.value)
-    (small_firsts c.args.system.now c.args.placement.now c.args.rows.now.bits q.system q.fits q.few q.wide (c.runs_go_by_rules.ensures.some c.args.system.now q.system) c.in_ok-firsts.firsts.items c.in_ok-firsts.ensures)
 
 pub start-requires-2-clause-course : goal.start-requires-2-clause-course
 start-requires-2-clause-course c =
     let q = c.requires in
     let m = setup_of c.args.system.now c.args.placement.now c.args.rows.now.bits q.system q.fits q.few q.wide (c.runs_go_by_rules.ensures.some c.args.system.now q.system) in
-    begins_so m.0 m.1.rules c.as_slice-3.result.now _ (c.as_slice-3.ensures.value ∙ c.in_ok-firsts.ensures m.0 m.1)
+    begins_so m.0 m.1.rules c.as_slice-3.result.now _ (c.as_slice-3.ensures.value ∙ c.in_ok-firsts.ensures.are m.0 m.1)
     (streams_are m.0 c.args.system.now c.args.placement.now c.args.rows.now.bits m.1 _ _)
 
 pub returns : goal.returns
 returns c = λ m of.
-    let firsts : c.as_slice.result.now ≡ first_tokens (plan m) = c.as_slice.ensures.value ∙ c.in_ok-firsts.ensures m of in
-    let firsts_too : c.as_slice-3.result.now ≡ first_tokens (plan m) = c.as_slice-3.ensures.value ∙ c.in_ok-firsts.ensures m of in
+    let firsts : c.as_slice.result.now ≡ first_tokens (plan m) = c.as_slice.ensures.value ∙ c.in_ok-firsts.ensures.are m of in
+    let firsts_too : c.as_slice-3.result.now ≡ first_tokens (plan m) = c.as_slice-3.ensures.value ∙ c.in_ok-firsts.ensures.are m of in
     let caps : c.args.placement.now.caps ≡ m.placement.caps = ap (λ p. p.caps) (sym of.placement) in
     record {
       board = started_so m of.rules c.as_slice-3.result.now c.as_slice-4.result.now _ c.in_ok-board.board c.in_ok-board.keeper firsts_too (c.as_slice-4.ensures ∙ caps)

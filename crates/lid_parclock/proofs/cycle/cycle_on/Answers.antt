@@ -3,8 +3,9 @@ use Rattle.std.proofs.Common.{◌≡◌, false, List, length, refl, sym, ◌∙�
 use Rattle.std.proofs.lemmas.List.{with_items_is}
 use Rattle.lid_clock.specs.declared.actor.ClockActor.{ClockActor}
 use Rattle.lid_clock.specs.declared.station.ClockStation.{ClockStation}
-use Rattle.lid_clock.specs.Cycles.{CanDecideAll, AllDecide, CanSettleAll, AllSettle}
+use Rattle.lid_clock.specs.Cycles.{CanDecideAll, CanSettleAll, AllSettle}
 use Rattle.lid_clock.proofs.Cycling.{needs_too, ran_on, can_decide, can_settle, nobody_held}
+use Rattle.lid_parclock.proofs.Decided.{decided}
 use Rattle.lid_parclock.proofs.cycle.cycle_on.Goals as goal
 
 pub decide_on-requires-clause-can : goal.decide_on-requires-clause-can
@@ -18,11 +19,8 @@ pub settle_on-requires-clause-can : goal.settle_on-requires-clause-can
 settle_on-requires-clause-can g c κs within =
     let q = c.requires.can in
     let x = c.args.stream.now in
-    let decides : AllDecide x.actors.items x.stations.items x.sink false false c.decide_on.new.actors =
-    subst (λ (xs : List ClockActor). AllDecide xs x.stations.items x.sink false false c.decide_on.new.actors) c.deref_mut.ensures.value
-    (subst (λ (ys : List ClockStation). AllDecide c.deref_mut.result.now ys x.sink false false c.decide_on.new.actors) c.deref.ensures.value (c.decide_on.ensures x.sink)) in
-    let many : length c.decide_on.new.actors ≡ x.actors.len = c.decide_on.auto.actors ∙ c.deref_mut.ensures.len in
-    let items = with_items_is x.actors c.decide_on.new.actors many in
+    let decides = decided x c.deref_mut.result.now c.decide_on.new.actors c.deref.result.now c.deref_mut.ensures.value c.deref.ensures.value (c.decide_on.ensures x.sink) in
+    let items = with_items_is x.actors c.decide_on.new.actors (c.decide_on.auto.actors ∙ c.deref_mut.ensures.len) in
     subst (λ (ys : List ClockStation). CanSettleAll ys c.deref-2.result.now) (sym c.deref_mut-2.ensures.value)
     (subst (λ (xs : List ClockActor). CanSettleAll x.stations.items xs) (sym (c.deref-2.ensures.value ∙ items))
     (can_settle q.0 q.1 q.2 x false false c.decide_on.new.actors q.3 q.4 decides))
@@ -31,11 +29,8 @@ pub returns-clause-ran : goal.returns-clause-ran
 returns-clause-ran g c = λ l k n ran nobody _.
     let q = c.requires.can in
     let x = c.args.stream.now in
-    let decides : AllDecide x.actors.items x.stations.items x.sink false false c.decide_on.new.actors =
-    subst (λ (xs : List ClockActor). AllDecide xs x.stations.items x.sink false false c.decide_on.new.actors) c.deref_mut.ensures.value
-    (subst (λ (ys : List ClockStation). AllDecide c.deref_mut.result.now ys x.sink false false c.decide_on.new.actors) c.deref.ensures.value (c.decide_on.ensures x.sink)) in
-    let many : length c.decide_on.new.actors ≡ x.actors.len = c.decide_on.auto.actors ∙ c.deref_mut.ensures.len in
-    let items = with_items_is x.actors c.decide_on.new.actors many in
+    let decides = decided x c.deref_mut.result.now c.decide_on.new.actors c.deref.result.now c.deref_mut.ensures.value c.deref.ensures.value (c.decide_on.ensures x.sink) in
+    let items = with_items_is x.actors c.decide_on.new.actors (c.decide_on.auto.actors ∙ c.deref_mut.ensures.len) in
     let settles : AllSettle x.stations.items c.decide_on.new.actors c.settle_on.new.stations =
     subst (λ (xs : List ClockActor). AllSettle x.stations.items xs c.settle_on.new.stations) (c.deref-2.ensures.value ∙ items)
     (subst (λ (ys : List ClockStation). AllSettle ys c.deref-2.result.now c.settle_on.new.stations) c.deref_mut-2.ensures.value c.settle_on.ensures) in

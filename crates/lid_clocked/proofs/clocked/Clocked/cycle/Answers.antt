@@ -1,20 +1,15 @@
-use Rattle.lid_clocked.proofs.Steps.{cycled}
+use Rattle.lid_clocked.proofs.Steps.{one_cycled}
 use Rattle.lid_clocked.proofs.clocked.Clocked.cycle.Goals as goal
 
 pub keep-requires : goal.keep-requires
 keep-requires c =
-    let l = c.requires.0 in
-    let k = c.requires.1 in
-    let x = c.ready.new.self in
-    let goes = (c.ready.ensures.ran l k c.requires.2).0 in
-    let below = (c.ready.ensures.below l k c.requires.2).0 c.if-not-ready.false in
-    let made = (c.cycle.ensures.made l k x.given goes.ran).1 below in
-    (l, k, cycled l k x c.cycle.new.self goes below (c.cycle.ensures.ran l k x.given goes.ran (goes.free.nobody k) made))
+    let (l, k, start) = c.requires in
+    let goes = (c.ready.ensures.ran l k start).0 in
+    let below = (c.ready.ensures.below l k start).0 c.if-not-ready.false in
+    (l, k, one_cycled l k c.ready.new.self c.cycle.new.self _ goes below c.cycle.ensures.made c.cycle.ensures.ran)
 
 pub returns-clause-made : goal.returns-clause-made
 returns-clause-made c l k start _ =
-    let x = c.ready.new.self in
     let goes = (c.ready.ensures.ran l k start).0 in
     let below = (c.ready.ensures.below l k start).0 c.if-not-ready.false in
-    let made = (c.cycle.ensures.made l k x.given goes.ran).1 below in
-    c.keep.ensures l k (cycled l k x c.cycle.new.self goes below (c.cycle.ensures.ran l k x.given goes.ran (goes.free.nobody k) made))
+    c.keep.ensures l k (one_cycled l k c.ready.new.self c.cycle.new.self _ goes below c.cycle.ensures.made c.cycle.ensures.ran)

@@ -1,6 +1,6 @@
 use Rattle.std.proofs.Common.{◌+◌, length, sym, ap, subst, arith}
 use Rattle.lid_clockrun.specs.Courses.{RanBy}
-use Rattle.lid_clockrun.proofs.Goings.{the_life, stepped}
+use Rattle.lid_clockrun.proofs.Goings.{the_life, ran_on, stepped}
 use Rattle.lid_clockrun.proofs.steps.Running.step.Goals as goal
 
 pub cycle-requires-clause-can : goal.cycle-requires-clause-can
@@ -12,34 +12,26 @@ cycle-requires-clause-can g c κs within =
       life.0,
       c.args.self.now.made,
       length given,
-      subst (λ s. RanBy life.0 c.args.self.now.made (length given) s) (sym (ap (λ run. run.stream) c.show.ensures.rest)) (at.lives life.0 life.1).ran,
+      ran_on r c.args.self.now given at _ (ap (λ run. run.stream) c.show.ensures.rest),
       c.requires.ready.3 life.0 life.1,
     )
 
 -- a cycle more can be counted
 pub overflow_add-self : goal.overflow_add-self
 overflow_add-self g c =
-    let r = c.requires.ready.0 in
-    let given = c.requires.ready.1 in
-    let at = c.requires.ready.2 in
-    let life = the_life r c.args.self.now given at in
-    let l = life.0 in
-    let made = c.args.self.now.made in
-    let before = subst (λ s. RanBy l made (length given) s) (sym (ap (λ run. run.stream) c.show.ensures.rest)) (at.lives l life.1).ran in
-    let few = c.cycle.ensures.counts l made (length given) before ((c.cycle.ensures.made l made (length given) before).1 (c.requires.ready.4 l life.1)) in
+    let (r, given, at, can, busy) = c.requires.ready in
+    let (l, begins) = the_life r c.args.self.now given at in
+    let before = ran_on r c.args.self.now given at _ (ap (λ run. run.stream) c.show.ensures.rest) in
+    let few = c.cycle.ensures.counts l _ _ before ((c.cycle.ensures.made l _ _ before).1 (busy l begins)) in
     let same = ap (λ run. run.made) c.show.ensures.rest in
     omega (arith, few, same)
 
 pub returns-clause-few : goal.returns-clause-few
 returns-clause-few g c =
-    let r = c.requires.ready.0 in
-    let given = c.requires.ready.1 in
-    let at = c.requires.ready.2 in
-    let life = the_life r c.args.self.now given at in
-    let l = life.0 in
-    let made = c.args.self.now.made in
-    let before = subst (λ s. RanBy l made (length given) s) (sym (ap (λ run. run.stream) c.show.ensures.rest)) (at.lives l life.1).ran in
-    let few = c.cycle.ensures.counts l made (length given) before ((c.cycle.ensures.made l made (length given) before).1 (c.requires.ready.4 l life.1)) in
+    let (r, given, at, can, busy) = c.requires.ready in
+    let (l, begins) = the_life r c.args.self.now given at in
+    let before = ran_on r c.args.self.now given at _ (ap (λ run. run.stream) c.show.ensures.rest) in
+    let few = c.cycle.ensures.counts l _ _ before ((c.cycle.ensures.made l _ _ before).1 (busy l begins)) in
     let same = ap (λ run. run.made) c.show.ensures.rest in
     omega (arith, few, same)
 
