@@ -1,7 +1,7 @@
 //! Words and the jobs that they are: the expected values are those of the table of commands and of
 //! what `clap` says of options, their values and `--`.
 
-use Asked::{Check, Nothing, Place, Rate, Strict, Verify};
+use Asked::{Check, Free, Nothing, Place, Rate, Strict, Verify};
 use lid_base::{Name, Text};
 use lid_cli::{Job, read_words};
 use std::alloc::{AllocError, Global};
@@ -17,6 +17,8 @@ enum Asked {
     Place(&'static str, &'static str, u64, Option<&'static str>),
     Rate(&'static str, Option<&'static str>, Option<&'static str>),
     Verify(&'static str, &'static str, Option<&'static str>, Option<&'static str>),
+    /// The file of stations, workers, rounds, and whether tallies are asked for, of the files `a` and `b`.
+    Free(Option<&'static str>, u64, u64, bool),
 }
 
 /// The job of `strict a b`.
@@ -188,6 +190,37 @@ static ONE_FILE: [(&[&str], Asked); 24] = [
     (&["verify", "a"], Nothing),
 ];
 
+/// Words of the command that runs threads.
+static FREE: [(&[&str], Asked); 13] = [
+    (&["free", "a", "b"], Free(None, 1, 1_000, false)),
+    (&["--tally", "free", "a", "b"], Free(None, 1, 1_000, true)),
+    (
+        &["free", "a", "b", "--workers=64", "--rounds=0"],
+        Free(None, 64, 0, false),
+    ),
+    (
+        &[
+            "free",
+            "a",
+            "--stations",
+            "s",
+            "b",
+            "--rounds=1000000",
+            "--tally",
+        ],
+        Free(Some("s"), 1, 1_000_000, true),
+    ),
+    (&["free", "a"], Nothing),
+    (&["free", "a", "b", "--workers=0"], Nothing),
+    (&["free", "a", "b", "--workers=65"], Nothing),
+    (&["free", "a", "b", "--rounds=1000001"], Nothing),
+    (&["free", "a", "b", "--rounds=-1"], Nothing),
+    (&["free", "a", "b", "--tally=yes"], Nothing),
+    (&["free", "a", "b", "--tally", "--tally"], Nothing),
+    (&["free", "a", "b", "--stalls=h"], Nothing),
+    (&["free", "a", "b", "--trace=1"], Nothing),
+];
+
 /// Options with a value that other commands have.
 static OTHERS: [&str; 10] = [
     "--stations=c",
@@ -275,9 +308,34 @@ fn is_placed(job: &Job, asked: Asked) -> bool {
     }
 }
 
+/// Whether a job of threads is this one, on the files `a` and `b`.
+fn is_free(job: &Job, asked: Asked) -> bool {
+    match (job, asked) {
+        (
+            Job::Free {
+                net,
+                vec,
+                stations,
+                workers,
+                rounds,
+                tally,
+                root,
+            },
+            Free(s, w, r, t),
+        ) => {
+            net.as_str() == "a"
+                && vec.as_str() == "b"
+                && is_file(stations.as_ref(), s)
+                && (*workers, *rounds, *tally) == (w, r, t)
+                && root.is_none()
+        }
+        _ => false,
+    }
+}
+
 fn is_asked(job: Option<&Job>, asked: Asked) -> bool {
     match (job, asked) {
-        (Some(job), asked) => is_plain(job, asked) || is_placed(job, asked),
+        (Some(job), asked) => is_plain(job, asked) || is_placed(job, asked) || is_free(job, asked),
         (None, Nothing) => true,
         (None, _) => false,
     }
@@ -307,6 +365,9 @@ fn words_are_the_jobs_of_the_table(rt: HostRuntime) {
         assert!(rt; are_words_of(rt.alloc(), words, *asked), "{words:?}");
     }
     for (words, asked) in &ONE_FILE {
+        assert!(rt; are_words_of(rt.alloc(), words, *asked), "{words:?}");
+    }
+    for (words, asked) in &FREE {
         assert!(rt; are_words_of(rt.alloc(), words, *asked), "{words:?}");
     }
     for option in &OTHERS {
