@@ -1,17 +1,15 @@
 //! The slack of the channels of netlists, with stations as texts.
 
-ghost use Rattle.std.specs.Prelude.{◌≤◌, ◌<◌, IfSome, IfOk, length};
+ghost use Rattle.std.specs.Prelude.{IfSome};
 ghost use Rattle.lid_system.specs.Systems.{IsWellFormed};
 ghost use Rattle.lid_stations.specs.Placements.{Fits};
-ghost use Rattle.lid_longer.specs.Longer.{room};
 
 use lid_check::{Checked, check};
-use lid_graph::Graph;
-use lid_longer::longer;
 use lid_net::build;
 use lid_placetext::read_stations;
-use lid_slack::{Slack, slack};
-use lid_stations::{Placement, marking};
+use lid_ratio::Ratio;
+use lid_slack::{slack, slack_and_next};
+use lid_stations::{Placement, none};
 use lid_system::System;
 use std::alloc::Global;
 
@@ -38,8 +36,9 @@ static TWO_WAYS_CASES: [Case; 5] = [
     (4, 12, 9, 19),
 ];
 
-/// With 64 relay stations on `u0 u1 0` there is no room there.
-static FULL_CASES: [Case; 1] = [(0, 0, 0, 0)];
+/// With 64 relay stations on `u0 u1 0` and `u1 out 0` there is no room there. On `u1 u0 0` each further one adds
+/// an edge to the ring of 66 edges and 2 tokens.
+static FULL_CASES: [Case; 3] = [(0, 0, 0, 0), (1, 0, 2, 67), (2, 0, 0, 0)];
 
 /// The system of an accepted design.
 fn built(alloc: Global, checked: &Checked) -> Option<System>
@@ -64,36 +63,88 @@ fn system_of(alloc: Global, netlist: &[u8]) -> Option<System>
     }
 }
 
-/// The tokens on edges, by their numbers.
-fn tokens_on(graph: &Graph, walk: &[u32]) -> u64 {
-    let edges = graph.edges.as_slice();
-    let mut tokens: u64 = 0;
-    for k in walk {
-        if let Some(edge) = edges.get(*k as usize) {
-            tokens = tokens.wrapping_add(u64::from(edge.tokens));
-        }
+/// Whether the ratio with one more is this, where 0/0 stands for none.
+fn is_next(next: Option<Ratio>, p: u64, q: u64) -> bool {
+    match next {
+        Some(ratio) => ratio.p == p && ratio.q == q,
+        None => p == 0 && q == 0,
     }
-    tokens
 }
 
-/// The marked graph with so many further relay stations, where there is room.
-fn longer_graph(
-    alloc: Global,
-    system: &System,
-    placement: &Placement,
-    channel: u32,
-    more: u32,
-) -> Option<Graph>
+/// Whether a channel has such a slack, with a walk where there is a ratio with one more.
+fn has_slack(alloc: Global, system: &System, placement: &Placement, case: Case) -> bool
     requires system { IsWellFormed system.now }
     requires fits { Fits system.now placement.now }
-    requires channel { channel < length system.now.channels }
-    requires enough { more ≤ room placement.now channel }
 {
-    let Ok(longer) = longer(alloc, placement, channel, more) else {
+    let (channel, added, p, q) = case;
+    if channel as usize >= system.channels.len() {
+        return false;
+    }
+    match slack_and_next(alloc, system, placement, channel) {
+        Ok(all) => {
+            all.slack.added == added
+                && all.slack.against.is_some() == all.next.is_some()
+                && is_next(all.next, p, q)
+        }
+        Err(_) => false,
+    }
+}
+
+/// Whether each of some channels has such a slack.
+fn have_slacks(alloc: Global, system: &System, placement: &Placement, cases: &[Case]) -> bool
+    requires system { IsWellFormed system.now }
+    requires fits { Fits system.now placement.now }
+{
+    for case in cases {
+        if !has_slack(alloc, system, placement, *case) {
+            return false;
+        }
+    }
+    true
+}
+
+/// The same of a netlist with stations as a text.
+fn are_slacks(alloc: Global, netlist: &[u8], stations: &[u8], cases: &[Case]) -> bool {
+    let Some(system) = system_of(alloc, netlist) else {
+        return false;
+    };
+    match read_stations(alloc, stations, &system) {
+        Ok(placement) => have_slacks(alloc, &system, &placement, cases),
+        Err(_) => false,
+    }
+}
+
+/// The slack of the first channel of a netlist without relay stations, where it is found.
+fn first_slack(alloc: Global, netlist: &[u8]) -> Option<u32> {
+    let system = system_of(alloc, netlist)?;
+    let Ok(placement) = none(alloc, &system) else {
         return None;
     };
-    match marking(alloc, system, &longer) {
-        Ok(graph) => Some(graph),
+    if system.channels.len() == 0 {
+        return None;
+    }
+    match slack(alloc, &system, &placement, 0) {
+        Ok(slack) => Some(slack.added),
         Err(_) => None,
     }
+}
+
+#[test]
+fn a_ring_has_no_slack(rt: HostRuntime) {
+    assert!(rt; are_slacks(rt.alloc(), RING, b"lid-stations 1\nu0 u1 0 1\n", &RING_CASES));
+}
+
+#[test]
+fn the_shorter_of_two_ways_has_slack(rt: HostRuntime) {
+    assert!(rt; are_slacks(rt.alloc(), TWO_WAYS, b"lid-stations 1\nu0 u1 0 3\n", &TWO_WAYS_CASES));
+}
+
+#[test]
+fn a_full_channel_has_no_slack(rt: HostRuntime) {
+    assert!(rt; are_slacks(rt.alloc(), RING, b"lid-stations 1\nu0 u1 0 64\nu1 out 0 64\n", &FULL_CASES));
+}
+
+#[test]
+fn the_first_channel_of_a_ring_has_no_slack(rt: HostRuntime) {
+    assert!(rt; first_slack(rt.alloc(), RING) == Some(0));
 }
