@@ -19,7 +19,8 @@ const RING: &[u8] = b".model ring\n.outputs y\n.subckt reg0 d=y q=w\n.subckt reg
 .model reg1\n.inputs d\n.outputs q\n.latch d q 1\n.end\n";
 
 /// Two ways from `u0` to `u1`, with the channels `in u0 0`, `u0 u1 0`, `u0 u2 0`, `u1 out 0` and `u2 u1 0`.
-const TWO_WAYS: &[u8] = b".model dia\n.inputs x\n.outputs y\n.subckt reg d=x q=a\n.subckt xr a=a b=b q=y\n.subckt reg d=a q=b\n.end\n\
+const TWO_WAYS: &[u8] =
+    b".model dia\n.inputs x\n.outputs y\n.subckt reg d=x q=a\n.subckt xr a=a b=b q=y\n.subckt reg d=a q=b\n.end\n\
 .model reg\n.inputs d\n.outputs q\n.latch d q 0\n.end\n\
 .model xr\n.inputs a b\n.outputs q\n.names a b n\n10 1\n01 1\n.latch n q 0\n.end\n";
 
@@ -131,17 +132,38 @@ fn first_slack(alloc: Global, netlist: &[u8]) -> Option<u32> {
 
 #[test]
 fn a_ring_has_no_slack(rt: HostRuntime) {
-    assert!(rt; are_slacks(rt.alloc(), RING, b"lid-stations 1\nu0 u1 0 1\n", &RING_CASES));
+    assert!(rt;
+        are_slacks(
+            rt.alloc(),
+            RING,
+            b"lid-stations 1\nu0 u1 0 1\n",
+            &RING_CASES
+        )
+    );
 }
 
 #[test]
 fn the_shorter_of_two_ways_has_slack(rt: HostRuntime) {
-    assert!(rt; are_slacks(rt.alloc(), TWO_WAYS, b"lid-stations 1\nu0 u1 0 3\n", &TWO_WAYS_CASES));
+    assert!(rt;
+        are_slacks(
+            rt.alloc(),
+            TWO_WAYS,
+            b"lid-stations 1\nu0 u1 0 3\n",
+            &TWO_WAYS_CASES
+        )
+    );
 }
 
 #[test]
 fn a_full_channel_has_no_slack(rt: HostRuntime) {
-    assert!(rt; are_slacks(rt.alloc(), RING, b"lid-stations 1\nu0 u1 0 64\nu1 out 0 64\n", &FULL_CASES));
+    assert!(rt;
+        are_slacks(
+            rt.alloc(),
+            RING,
+            b"lid-stations 1\nu0 u1 0 64\nu1 out 0 64\n",
+            &FULL_CASES
+        )
+    );
 }
 
 #[test]
