@@ -5,8 +5,9 @@
 //! `lid walk NET VEC --schedule FILE` what its actors answer step by step, `lid wave NET VEC --trace K` what
 //! its stations show as a value change dump, `lid unwave FILE` what a dump shows, `lid place NET --wires FILE
 //! --reach L` the relay stations that long wires need, `lid rate NET` a certificate of the throughput,
-//! `lid verify NET CERT` what a certificate shows, `lid slack NET` how many relay stations more each channel takes,
-//! `lid size NET` which capacities stations need, `lid free NET VEC` the outputs by free-running threads, and `lid gen SEED --shells M` a netlist made from a seed.
+//! `lid verify NET CERT` what a certificate shows, `lid slack NET` how many relay stations more each channel
+//! takes, `lid size NET` which capacities stations need, `lid free NET VEC` the outputs by free-running
+//! threads, and `lid gen SEED --shells M` a netlist made from a seed.
 #![tactic(auto)]
 
 #[cfg(test)]
