@@ -8,6 +8,8 @@ use Rattle.lid_system.specs.Tables.{system_drivers}
 use Rattle.lid_stations.specs.declared.placement.Placement.{Placement}
 use Rattle.lid_stations.specs.Placements.{Fits}
 use Rattle.lid_clock.specs.Lives.{Life, IsLife, IsWide, Holds}
+use Rattle.lid_clocked.specs.declared.clocked.Clocked.{Clocked}
+use Rattle.lid_clocked.specs.Clocks.{IsFreeLife, Clocks, IsRun}
 use Rattle.lid_clock_tests.specs.Runs.{IsFreeFrom}
 
 abbrev hold_of : System → Bool → ℕ → ℕ → Bool
@@ -37,3 +39,15 @@ module _ (s : System) (p : Placement) (rows : List (List Bool)) (held : Bool)
   pub free : IsFreeFrom life 1
   free zero late = absurd (omega (arith, late))
   free (suc k) late = λ v. refl
+
+-- a run over these rows that has started is one of a life in which nobody is held
+pub starts : (s : System) (p : Placement) (rows : List (List Bool)) (formed : IsWellFormed s) (fits : Fits s p) (few : length rows ≤ 1000000) (wide : AllByRecursion (IsWide s) rows) (tables : HasTable (system_drivers s))
+    (c : Clocked) → ((l : Life) → IsFreeLife l rows → l.system ≡ s → l.placement ≡ p → Clocks l 0 c) → IsRun c
+starts s p rows formed fits few wide tables c started =
+    let l = life s p rows false formed fits few wide tables in
+    let free : IsFreeLife l rows = record {
+      rules = rules s p rows false formed fits few wide tables;
+      input = refl;
+      nobody = λ k v. nobody s k v;
+    } in
+    (l, 0, started l free refl refl)

@@ -7,11 +7,9 @@ ghost use Rattle.lid_stations.specs.Placements.{Fits};
 ghost use Rattle.lid_clock.specs.Lives.{IsWide};
 ghost use Rattle.lid_clocked.specs.Clocks.{IsRun};
 
-use crate::setting::{
-    ONE, are_rows, bit_letter, digit, letter, rows_of, shown_letter, system_of, two_relays,
-};
-use lid_base::Items;
+use crate::letters::{bit_letter, digit, letter, shown_letter};
 use lid_clocked::Clocked;
+use lid_settings::{ONE, are_rows, placement_of, rows_of, system_of};
 use lid_stations::{Placement, none};
 use lid_system::{System, systems_have_one_table};
 use lid_texts::Rows;
@@ -141,20 +139,9 @@ fn is_relayed(
     if system.channels.len() != 2 || !are_rows(system, rows.bits.as_slice()) {
         return false;
     }
-    match two_relays(alloc) {
+    match placement_of(alloc, &[0, 2], &[2, 2, 2, 2]) {
         Some(placement) => runs(alloc, system, &placement, rows, cycles, ends),
         None => false,
-    }
-}
-
-/// Rows of one column.
-fn column(alloc: Global, bits: &[u8]) -> Option<Rows> {
-    match rows_of(alloc, bits, 1) {
-        Some(rows) => Some(Rows {
-            columns: Items::from_vec(Vec::new(alloc)),
-            bits: Items::from_vec(rows),
-        }),
-        None => None,
     }
 }
 
@@ -169,7 +156,7 @@ fn register_runs(
     let Some(system) = system_of(alloc, ONE) else {
         return false;
     };
-    let Some(rows) = column(alloc, bits) else {
+    let Some(rows) = rows_of(alloc, bits, 1) else {
         return false;
     };
     if relayed {

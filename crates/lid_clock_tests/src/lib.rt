@@ -4,8 +4,8 @@
 #[cfg(test)]
 mod at_hand;
 #[cfg(test)]
-mod on_workers;
+mod letters;
 #[cfg(test)]
-mod setting;
+mod on_workers;
 #[cfg(test)]
 mod streams;

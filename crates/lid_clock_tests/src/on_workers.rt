@@ -8,10 +8,10 @@ ghost use Rattle.lid_clock.specs.Lives.{IsWide};
 ghost use Rattle.lid_clocked.specs.Clocks.{IsRun};
 
 use crate::at_hand::{are_bits, fired_so, show_so};
-use crate::setting::{RING, are_rows, nine_relays, one_relay, rows_of, system_of};
-use lid_base::{Gate, Items, MeetGate};
+use lid_base::{Gate, MeetGate};
 use lid_clocked::Clocked;
 use lid_parclock::run_on;
+use lid_settings::{RING, are_rows, placement_of, rows_of, system_of};
 use lid_stations::Placement;
 use lid_system::{System, systems_have_one_table};
 use lid_texts::Rows;
@@ -159,9 +159,9 @@ fn is_ring_on<R: Threads + AllocGlobal + Sync, G: Gate>(
         return false;
     }
     let placement = if long {
-        nine_relays(rt.alloc())
+        placement_of(rt.alloc(), &[1, 0, 8], &[2; 12])
     } else {
-        one_relay(rt.alloc())
+        placement_of(rt.alloc(), &[1, 0, 0], &[2, 2, 2, 2])
     };
     match placement {
         Some(placement) => runs_on(rt, system, &placement, rows, workers, gate, outcome),
@@ -182,18 +182,7 @@ fn ring_runs_on<R: Threads + AllocGlobal + Sync, G: Gate>(
         return false;
     };
     match rows_of(rt.alloc(), rows, 0) {
-        Some(bits) => is_ring_on(
-            rt,
-            &system,
-            long,
-            &Rows {
-                columns: Items::from_vec(Vec::new(rt.alloc())),
-                bits: Items::from_vec(bits),
-            },
-            workers,
-            gate,
-            outcome,
-        ),
+        Some(rows) => is_ring_on(rt, &system, long, &rows, workers, gate, outcome),
         None => false,
     }
 }

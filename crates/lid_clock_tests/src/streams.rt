@@ -7,11 +7,10 @@ ghost use Rattle.lid_stations.specs.Placements.{Fits};
 ghost use Rattle.lid_clock.specs.Lives.{IsWide};
 ghost use Rattle.lid_clock_tests.specs.Runs.{IsAlive, IsFed, Feeds, Begins, Goes};
 
-use crate::setting::{
-    ONE, RING, are_rows, digit, letter, one_relay, row_letter, rows_of, shown_letter, system_of,
-};
+use crate::letters::{digit, letter, row_letter, shown_letter};
 use lid_base::Items;
 use lid_clock::ClockStream;
+use lid_settings::{ONE, RING, are_rows, placement_of, rows_of, system_of};
 use lid_stations::{Placement, none};
 use lid_system::{System, systems_have_one_table};
 use std::alloc::Global;
@@ -196,7 +195,7 @@ fn is_ring(alloc: Global, system: &System, rows: &[Items<bool>]) -> bool
     if system.channels.len() != 3 || !are_rows(system, rows) {
         return false;
     }
-    match one_relay(alloc) {
+    match placement_of(alloc, &[1, 0, 0], &[2, 2, 2, 2]) {
         Some(placement) => runs(alloc, system, &placement, rows, false, RING_TRACE),
         None => false,
     }
@@ -221,7 +220,7 @@ fn ring_goes(alloc: Global) -> bool {
         return false;
     };
     match rows_of(alloc, b"0000", 0) {
-        Some(rows) => is_ring(alloc, &system, rows.as_slice()),
+        Some(rows) => is_ring(alloc, &system, rows.bits.as_slice()),
         None => false,
     }
 }
@@ -232,7 +231,7 @@ fn register_goes(alloc: Global) -> bool {
         return false;
     };
     match rows_of(alloc, b"101", 1) {
-        Some(rows) => is_held(alloc, &system, rows.as_slice()),
+        Some(rows) => is_held(alloc, &system, rows.bits.as_slice()),
         None => false,
     }
 }

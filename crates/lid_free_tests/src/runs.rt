@@ -1,13 +1,26 @@
 //! Free runs: what workers count, and what a run gives, whatever the order of threads.
 
-ghost use Rattle.lid_free_tests.specs.Runs.{IsRun};
+ghost use Rattle.lid_settings.specs.Runs.{IsRun};
 
-use crate::setting::{DIAMOND, RELAYED, RING, ROOMY, Run, run_of};
 use lid_base::{Gate, Items, MeetGate, OpenGate, Tally};
 use lid_free::{FreeEnd, free_run};
+use lid_settings::{RING, Run, run_of};
 use std::alloc::Global;
 use std::sync::atomic::{AtomicU64, Ordering};
 use std::thread::Threads;
+
+/// A relay station between the first register of the ring and the second. Stations 0 and 1 lead from node 1 to node 2, 2
+/// back, and 3 from node 2 to node 3; node 0, the source, has none, and actor 4 moves tokens from station 0 to station 1.
+const RELAYED: &[u8] = b"lid-stations 1\nu0 u1 0 1\n";
+
+/// Two ways from one register to another, which turns up where the bits of both differ.
+const DIAMOND: &[u8] = b".model dia\n.inputs x\n.outputs y\n.subckt reg d=x q=a\n\
+.subckt xr a=a b=b q=y\n.subckt reg d=a q=b\n.end\n.model reg\n.inputs d\n.outputs q\n\
+.latch d q 0\n.end\n.model xr\n.inputs a b\n.outputs q\n.names a b n\n10 1\n01 1\n\
+.latch n q 0\n.end\n";
+
+/// Three relay stations on one of the ways, and another capacity on the other.
+const ROOMY: &[u8] = b"lid-stations 2\nu0 u1 0 3 2 2 2 2\nu0 u2 0 0 3\n";
 
 /// A gate that counts how often it is passed, and by how many in each of the first rounds.
 #[derive(Drop)]

@@ -1,43 +1,14 @@
 //! Texts of stations and wires, with what the format says of them, worked out by hand.
 
-ghost use Rattle.std.specs.Prelude.{◌≤◌, IfSome};
+ghost use Rattle.std.specs.Prelude.{◌≤◌};
 ghost use Rattle.lid_system.specs.Systems.{IsWellFormed};
 
 use lid_base::{Which, append_number};
-use lid_check::{Checked, check};
-use lid_net::build;
 use lid_placetext::{PlaceFault, place, print_stations, read_stations};
+use lid_settings::{RING, system_of};
 use lid_stations::Placement;
 use lid_system::System;
 use std::alloc::{AllocError, Global};
-
-/// A ring of two registers, with the channels `u0 u1 0`, `u1 u0 0` and `u1 out 0`.
-const RING: &[u8] = b".model ring\n.outputs y\n.subckt reg0 d=y q=w\n.subckt reg1 d=w q=y\n.end\n\
-.model reg0\n.inputs d\n.outputs q\n.latch d q 0\n.end\n\
-.model reg1\n.inputs d\n.outputs q\n.latch d q 1\n.end\n";
-
-/// The system of an accepted design.
-fn built(alloc: Global, checked: &Checked) -> Option<System>
-    ensures { IfSome result IsWellFormed }
-{
-    match build(alloc, checked) {
-        Ok(system) => Some(system),
-        Err(_) => None,
-    }
-}
-
-/// The system of a netlist.
-fn system_of(alloc: Global, netlist: &[u8]) -> Option<System>
-    ensures { IfSome result IsWellFormed }
-{
-    let Ok(design) = lid_blif::read(alloc, netlist) else {
-        return None;
-    };
-    match check(alloc, design, None) {
-        Ok(checked) => built(alloc, &checked),
-        Err(_) => None,
-    }
-}
 
 /// A fault by its name, with its line or count.
 type Told = (&'static str, u64);

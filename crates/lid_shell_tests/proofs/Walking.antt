@@ -14,7 +14,8 @@ use Rattle.lid_actors.proofs.Setting.{actors_are}
 use Rattle.lid_actors.proofs.Starting.{setup_of}
 use Rattle.lid_walk.specs.declared.walk.Walk.{Walk}
 use Rattle.lid_walk.specs.Walks.{Walks, IsAtRest}
-use Rattle.lid_shell_tests.specs.Runs.{IsRun, HasActors}
+use Rattle.lid_settings.specs.Runs.{IsRun}
+use Rattle.lid_shell_tests.specs.Runs.{HasActors}
 
 module _ (s : System) (p : Placement) (rows : List (List Bool)) (run : IsRun s p rows) (tables : HasTable (system_drivers s)) (w : Walk) (walks : (m : Setup) → IsSetupOf m s p rows → Walks m begun w) where
   abbrev own : (m : Setup) × IsSetupOf m s p rows

@@ -1,22 +1,10 @@
--- Runs, and walks that go on.
-use Rattle.std.specs.Prelude.{◌≡◌, ℕ, ◌≤◌, Bool, List, length}
-use Rattle.std.specs.List.{AllByRecursion}
-use Rattle.lid_system.specs.declared.System.{System}
-use Rattle.lid_system.specs.Systems.{IsWellFormed}
-use Rattle.lid_stations.specs.declared.placement.Placement.{Placement}
-use Rattle.lid_stations.specs.Placements.{Fits}
+-- Walks that go on.
+use Rattle.std.specs.Prelude.{ℕ, ◌≤◌}
 use Rattle.lid_machine.specs.Plans.{actors_of}
-use Rattle.lid_machine.specs.Setups.{Setup, IsInputRow, plan}
+use Rattle.lid_machine.specs.Setups.{Setup, plan}
 use Rattle.lid_machine.specs.Machine.{State}
 use Rattle.lid_walk.specs.declared.walk.Walk.{Walk}
 use Rattle.lid_walk.specs.Walks.{Walks}
-
--- a system with stations that fit it, and few rows as wide as its source
-pub record IsRun (s : System) (p : Placement) (rows : List (List Bool)) : Type 0 where
-  pub system : IsWellFormed s
-  pub fits : Fits s p
-  pub few : length rows ≤ 1000000
-  pub wide : AllByRecursion (IsInputRow s) rows
 
 -- a walk that has so many actors
 abbrev pub HasActors : Walk → ℕ → Type 0

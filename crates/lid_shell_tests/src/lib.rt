@@ -5,6 +5,4 @@
 #[cfg(test)]
 mod movers;
 #[cfg(test)]
-mod setting;
-#[cfg(test)]
 mod walks;

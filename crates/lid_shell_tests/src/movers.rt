@@ -7,9 +7,9 @@ ghost use Rattle.lid_stations.specs.Placements.{Fits};
 ghost use Rattle.lid_machine.specs.Setups.{IsInputRow, plan};
 ghost use Rattle.lid_shell.specs.Steps.{CanTurn};
 
-use crate::setting::{ONE, are_rows, rows_of, system_of, two_relays};
 use lid_base::{Answer, Items};
 use lid_runs::movers_move_tokens_on;
+use lid_settings::{ONE, are_rows, placement_of, rows_of, system_of};
 use lid_shell::{Actor, TurnEnd};
 use lid_station::{PlainBoard, Stations};
 use lid_stations::Placement;
@@ -61,7 +61,7 @@ fn register_mover_waits(alloc: Global) -> bool {
     let Some(rows) = rows_of(alloc, b"10", 1) else {
         return false;
     };
-    let Some(placement) = two_relays(alloc) else {
+    let Some(placement) = placement_of(alloc, &[0, 2], &[2, 2, 2, 2]) else {
         return false;
     };
     system.channels.len() == 2

@@ -5,396 +5,183 @@ ghost use Rattle.lid_system.specs.Systems.{IsWellFormed};
 ghost use Rattle.lid_stations.specs.Placements.{links_of, Fits};
 ghost use Rattle.lid_stations.specs.Stations.{actor_count};
 ghost use Rattle.lid_walk.specs.Walks.{IsWalk, IsAtRest};
-ghost use Rattle.lid_shell_tests.specs.Runs.{IsRun, HasActors};
+ghost use Rattle.lid_settings.specs.Runs.{IsRun};
+ghost use Rattle.lid_shell_tests.specs.Runs.{HasActors};
 
-use crate::setting::{ONE, RING, Run, SELF, run_of};
 use lid_base::{Answer, Items};
+use lid_settings::{ONE, RING, Run, run_of};
 use lid_stations::Placement;
 use lid_system::{System, systems_have_one_table};
 use lid_walk::Walk;
 use std::alloc::Global;
 
+/// A shell that feeds itself, and turns its output about in each row. Its channels lead from node 1 to itself, and from
+/// node 1 to node 2; node 0, the source, has none.
+const SELF: &[u8] = b".model self\n.outputs y\n.subckt turn d=y q=y\n.end\n\
+.model turn\n.inputs d\n.outputs q\n.names d n\n0 1\n.latch n q 0\n.end\n";
+
+/// No relay stations.
+const NONE: &[u8] = b"lid-stations 1\n";
+
+/// Two relay stations between the one register and the sink.
+const TWO: &[u8] = b"lid-stations 1\nu0 out 0 2\n";
+
+/// What an actor answers: of which station, and the token or the word that is told; of a token that was taken or put,
+/// whether this was the last step of a firing.
+#[derive(Clone, Copy)]
+enum Told {
+    Token(u32, u32),
+    Void(u32, u64),
+    Room(u32),
+    Stop(u32, u64),
+    Took(u32, u32, bool),
+    Put(u32, u32, bool),
+    Fired,
+    Done,
+}
+
+/// The answer that is told so.
+fn answer_of(told: Told) -> Answer {
+    match told {
+        Told::Token(station, token) => Answer::Token { station, token },
+        Told::Void(station, word) => Answer::Void { station, word },
+        Told::Room(station) => Answer::Room { station },
+        Told::Stop(station, word) => Answer::Stop { station, word },
+        Told::Took(station, token, fired) => Answer::Took {
+            station,
+            token,
+            fired,
+        },
+        Told::Put(station, token, fired) => Answer::Put {
+            station,
+            token,
+            fired,
+        },
+        Told::Fired => Answer::Fired,
+        Told::Done => Answer::Done,
+    }
+}
+
 /// A step of an actor, by its number, and what it answers.
-type Step = (u32, Answer);
+type Step = (u32, Told);
 
 /// A run, and what its actors answer to steps from its start.
 struct Case {
     net: &'static [u8],
-    bits: &'static [u8],
-    relayed: bool,
+    stations: &'static [u8],
+    letters: &'static [u8],
     steps: &'static [Step],
 }
 
 static CASES: [Case; 6] = [
     Case {
         net: ONE,
-        bits: b"10",
-        relayed: false,
+        stations: NONE,
+        letters: b"10",
         steps: &[
-            (0, Answer::Room { station: 0 }),
-            (
-                0,
-                Answer::Put {
-                    station: 0,
-                    token: 0,
-                    fired: true,
-                },
-            ),
-            (0, Answer::Done),
-            (
-                1,
-                Answer::Token {
-                    station: 0,
-                    token: 1,
-                },
-            ),
-            (1, Answer::Room { station: 1 }),
-            (
-                1,
-                Answer::Took {
-                    station: 0,
-                    token: 1,
-                    fired: false,
-                },
-            ),
-            (
-                1,
-                Answer::Put {
-                    station: 1,
-                    token: 1,
-                    fired: true,
-                },
-            ),
-            (1, Answer::Done),
-            (
-                2,
-                Answer::Token {
-                    station: 1,
-                    token: 0,
-                },
-            ),
-            (
-                2,
-                Answer::Took {
-                    station: 1,
-                    token: 0,
-                    fired: true,
-                },
-            ),
-            (
-                2,
-                Answer::Token {
-                    station: 1,
-                    token: 1,
-                },
-            ),
-            (
-                2,
-                Answer::Took {
-                    station: 1,
-                    token: 1,
-                    fired: true,
-                },
-            ),
-            (2, Answer::Done),
+            (0, Told::Room(0)),
+            (0, Told::Put(0, 0, true)),
+            (0, Told::Done),
+            (1, Told::Token(0, 1)),
+            (1, Told::Room(1)),
+            (1, Told::Took(0, 1, false)),
+            (1, Told::Put(1, 1, true)),
+            (1, Told::Done),
+            (2, Told::Token(1, 0)),
+            (2, Told::Took(1, 0, true)),
+            (2, Told::Token(1, 1)),
+            (2, Told::Took(1, 1, true)),
+            (2, Told::Done),
         ],
     },
     Case {
         net: ONE,
-        bits: b"101",
-        relayed: true,
+        stations: TWO,
+        letters: b"101",
         steps: &[
-            (
-                4,
-                Answer::Void {
-                    station: 2,
-                    word: 0,
-                },
-            ),
-            (
-                3,
-                Answer::Token {
-                    station: 1,
-                    token: 0,
-                },
-            ),
-            (3, Answer::Room { station: 2 }),
-            (
-                3,
-                Answer::Took {
-                    station: 1,
-                    token: 0,
-                    fired: false,
-                },
-            ),
-            (
-                3,
-                Answer::Put {
-                    station: 2,
-                    token: 0,
-                    fired: true,
-                },
-            ),
-            (
-                4,
-                Answer::Token {
-                    station: 2,
-                    token: 0,
-                },
-            ),
-            (4, Answer::Room { station: 3 }),
-            (
-                4,
-                Answer::Took {
-                    station: 2,
-                    token: 0,
-                    fired: false,
-                },
-            ),
-            (
-                4,
-                Answer::Put {
-                    station: 3,
-                    token: 0,
-                    fired: true,
-                },
-            ),
-            (
-                2,
-                Answer::Token {
-                    station: 3,
-                    token: 0,
-                },
-            ),
-            (
-                2,
-                Answer::Took {
-                    station: 3,
-                    token: 0,
-                    fired: true,
-                },
-            ),
-            (
-                2,
-                Answer::Void {
-                    station: 3,
-                    word: 0,
-                },
-            ),
-            (0, Answer::Room { station: 0 }),
-            (
-                0,
-                Answer::Put {
-                    station: 0,
-                    token: 0,
-                    fired: true,
-                },
-            ),
-            (
-                0,
-                Answer::Stop {
-                    station: 0,
-                    word: 0x8000_0000_8000_0001,
-                },
-            ),
+            (4, Told::Void(2, 0)),
+            (3, Told::Token(1, 0)),
+            (3, Told::Room(2)),
+            (3, Told::Took(1, 0, false)),
+            (3, Told::Put(2, 0, true)),
+            (4, Told::Token(2, 0)),
+            (4, Told::Room(3)),
+            (4, Told::Took(2, 0, false)),
+            (4, Told::Put(3, 0, true)),
+            (2, Told::Token(3, 0)),
+            (2, Told::Took(3, 0, true)),
+            (2, Told::Void(3, 0)),
+            (0, Told::Room(0)),
+            (0, Told::Put(0, 0, true)),
+            (0, Told::Stop(0, 0x8000_0000_8000_0001)),
         ],
     },
     Case {
         net: RING,
-        bits: b"0000",
-        relayed: false,
+        stations: NONE,
+        letters: b"0000",
         steps: &[
-            (0, Answer::Fired),
-            (0, Answer::Fired),
-            (0, Answer::Fired),
-            (0, Answer::Done),
-            (
-                1,
-                Answer::Token {
-                    station: 1,
-                    token: 1,
-                },
-            ),
-            (1, Answer::Room { station: 0 }),
-            (
-                1,
-                Answer::Took {
-                    station: 1,
-                    token: 1,
-                    fired: false,
-                },
-            ),
-            (
-                1,
-                Answer::Put {
-                    station: 0,
-                    token: 1,
-                    fired: true,
-                },
-            ),
-            (
-                1,
-                Answer::Void {
-                    station: 1,
-                    word: 0,
-                },
-            ),
-            (
-                2,
-                Answer::Token {
-                    station: 0,
-                    token: 0,
-                },
-            ),
-            (2, Answer::Room { station: 1 }),
-            (2, Answer::Room { station: 2 }),
-            (
-                2,
-                Answer::Took {
-                    station: 0,
-                    token: 0,
-                    fired: false,
-                },
-            ),
-            (
-                2,
-                Answer::Put {
-                    station: 1,
-                    token: 0,
-                    fired: false,
-                },
-            ),
-            (
-                2,
-                Answer::Put {
-                    station: 2,
-                    token: 0,
-                    fired: true,
-                },
-            ),
-            (
-                2,
-                Answer::Token {
-                    station: 0,
-                    token: 1,
-                },
-            ),
-            (2, Answer::Room { station: 1 }),
-            (
-                2,
-                Answer::Stop {
-                    station: 2,
-                    word: 0x8000_0000_8000_0001,
-                },
-            ),
-            (
-                3,
-                Answer::Token {
-                    station: 2,
-                    token: 1,
-                },
-            ),
-            (
-                3,
-                Answer::Took {
-                    station: 2,
-                    token: 1,
-                    fired: true,
-                },
-            ),
+            (0, Told::Fired),
+            (0, Told::Fired),
+            (0, Told::Fired),
+            (0, Told::Done),
+            (1, Told::Token(1, 1)),
+            (1, Told::Room(0)),
+            (1, Told::Took(1, 1, false)),
+            (1, Told::Put(0, 1, true)),
+            (1, Told::Void(1, 0)),
+            (2, Told::Token(0, 0)),
+            (2, Told::Room(1)),
+            (2, Told::Room(2)),
+            (2, Told::Took(0, 0, false)),
+            (2, Told::Put(1, 0, false)),
+            (2, Told::Put(2, 0, true)),
+            (2, Told::Token(0, 1)),
+            (2, Told::Room(1)),
+            (2, Told::Stop(2, 0x8000_0000_8000_0001)),
+            (3, Told::Token(2, 1)),
+            (3, Told::Took(2, 1, true)),
         ],
     },
     Case {
         net: SELF,
-        bits: b"0000",
-        relayed: false,
+        stations: NONE,
+        letters: b"0000",
         steps: &[
-            (
-                1,
-                Answer::Token {
-                    station: 0,
-                    token: 0,
-                },
-            ),
-            (1, Answer::Room { station: 0 }),
-            (1, Answer::Room { station: 1 }),
-            (
-                1,
-                Answer::Took {
-                    station: 0,
-                    token: 0,
-                    fired: false,
-                },
-            ),
-            (
-                1,
-                Answer::Put {
-                    station: 0,
-                    token: 1,
-                    fired: false,
-                },
-            ),
-            (
-                1,
-                Answer::Put {
-                    station: 1,
-                    token: 1,
-                    fired: true,
-                },
-            ),
-            (
-                1,
-                Answer::Token {
-                    station: 0,
-                    token: 1,
-                },
-            ),
-            (1, Answer::Room { station: 0 }),
-            (
-                1,
-                Answer::Stop {
-                    station: 1,
-                    word: 0x8000_0001_8000_0000,
-                },
-            ),
-            (
-                2,
-                Answer::Token {
-                    station: 1,
-                    token: 0,
-                },
-            ),
-            (
-                2,
-                Answer::Took {
-                    station: 1,
-                    token: 0,
-                    fired: true,
-                },
-            ),
+            (1, Told::Token(0, 0)),
+            (1, Told::Room(0)),
+            (1, Told::Room(1)),
+            (1, Told::Took(0, 0, false)),
+            (1, Told::Put(0, 1, false)),
+            (1, Told::Put(1, 1, true)),
+            (1, Told::Token(0, 1)),
+            (1, Told::Room(0)),
+            (1, Told::Stop(1, 0x8000_0001_8000_0000)),
+            (2, Told::Token(1, 0)),
+            (2, Told::Took(1, 0, true)),
         ],
     },
     Case {
         net: ONE,
-        bits: b"",
-        relayed: true,
+        stations: TWO,
+        letters: b"",
         steps: &[
-            (0, Answer::Done),
-            (1, Answer::Done),
-            (2, Answer::Done),
-            (3, Answer::Done),
-            (4, Answer::Done),
+            (0, Told::Done),
+            (1, Told::Done),
+            (2, Told::Done),
+            (3, Told::Done),
+            (4, Told::Done),
         ],
     },
     Case {
         net: RING,
-        bits: b"",
-        relayed: false,
+        stations: NONE,
+        letters: b"",
         steps: &[
-            (0, Answer::Done),
-            (1, Answer::Done),
-            (2, Answer::Done),
-            (3, Answer::Done),
+            (0, Told::Done),
+            (1, Told::Done),
+            (2, Told::Done),
+            (3, Told::Done),
         ],
     },
 ];
@@ -412,8 +199,8 @@ fn count_of(system: &System, placement: &Placement) -> u32
 fn steps_so(walk: &mut Walk, many: u32, steps: &[Step]) -> bool
     requires { HasActors walk.old many }
 {
-    for (actor, answer) in steps {
-        if *actor >= many || walk.step(*actor) != *answer {
+    for (actor, told) in steps {
+        if *actor >= many || walk.step(*actor) != answer_of(*told) {
             return false;
         }
     }
@@ -434,7 +221,7 @@ fn starts_so(alloc: Global, run: &Run, steps: &[Step]) -> bool
 
 /// Whether a case goes as it says.
 fn goes(alloc: Global, case: &Case) -> bool {
-    match run_of(alloc, case.net, case.bits, case.relayed) {
+    match run_of(alloc, case.net, case.stations, case.letters) {
         Some(run) => starts_so(alloc, &run, case.steps),
         None => false,
     }
@@ -486,8 +273,8 @@ fn ends_with(alloc: Global, run: &Run, bits: &[u8]) -> bool
 }
 
 /// Whether a run of a netlist settles with these rows.
-fn gives(alloc: Global, net: &[u8], bits: &[u8], relayed: bool, out: &[u8]) -> bool {
-    match run_of(alloc, net, bits, relayed) {
+fn gives(alloc: Global, net: &[u8], stations: &[u8], letters: &[u8], out: &[u8]) -> bool {
+    match run_of(alloc, net, stations, letters) {
         Some(run) => ends_with(alloc, &run, out),
         None => false,
     }
@@ -495,7 +282,7 @@ fn gives(alloc: Global, net: &[u8], bits: &[u8], relayed: bool, out: &[u8]) -> b
 
 #[test]
 fn sweeps_give_the_strict_rows(rt: HostRuntime) {
-    assert!(rt; gives(rt.alloc(), ONE, b"1011", true, b"0101"));
-    assert!(rt; gives(rt.alloc(), RING, b"0000", false, b"1010"));
-    assert!(rt; gives(rt.alloc(), SELF, b"00000", false, b"01010"));
+    assert!(rt; gives(rt.alloc(), ONE, TWO, b"1011", b"0101"));
+    assert!(rt; gives(rt.alloc(), RING, NONE, b"0000", b"1010"));
+    assert!(rt; gives(rt.alloc(), SELF, NONE, b"00000", b"01010"));
 }

@@ -1,20 +1,14 @@
 //! Placements on a ring of two shells, the second of which gives the output. Its channels lead from node 1
 //! to node 2, back, and from node 2 to node 3, the sink; node 0, the source, has none.
 
-ghost use Rattle.std.specs.Prelude.{◌≡◌, ℕ, List, [], ◌∷◌, length, IfSome};
 ghost use Rattle.lid_system.specs.Systems.{IsWellFormed};
 ghost use Rattle.lid_stations.specs.Placements.{IsCapacity, Fits};
 
-use lid_base::Items;
-use lid_check::check;
 use lid_graph::{Edge, Graph};
+use lid_settings::{RING, placement_of, system_of};
 use lid_stations::{Placement, marking, none};
 use lid_system::System;
 use std::alloc::Global;
-
-const RING: &[u8] = b".model ring\n.outputs y\n.subckt reg0 d=y q=w\n.subckt reg1 d=w q=y\n.end\n\
-.model reg0\n.inputs d\n.outputs q\n.latch d q 0\n.end\n\
-.model reg1\n.inputs d\n.outputs q\n.latch d q 1\n.end\n";
 
 /// From where an edge leads, and to where.
 type Ends = (u32, u32);
@@ -33,22 +27,6 @@ static RELAYED: [Ends; 8] = [
     (2, 3),
     (3, 2),
 ];
-
-/// The system of the ring.
-fn ring(alloc: Global) -> Option<System>
-    ensures { IfSome result IsWellFormed }
-{
-    let Ok(design) = lid_blif::read(alloc, RING) else {
-        return None;
-    };
-    let Ok(checked) = check(alloc, design, None) else {
-        return None;
-    };
-    match lid_net::build(alloc, &checked) {
-        Ok(system) => Some(system),
-        Err(_) => None,
-    }
-}
 
 /// Whether an edge has these ends and tokens.
 fn is_edge(edge: &Edge, ends: Ends, tokens: u32) -> bool {
@@ -98,41 +76,21 @@ fn is_marked(
     }
 }
 
-/// A placement with a relay station on the first of three channels.
-fn relayed(alloc: Global, a: u32, b: u32, c: u32, d: u32) -> Option<Placement>
-    requires a { IsCapacity a }
-    requires b { IsCapacity b }
-    requires c { IsCapacity c }
-    requires d { IsCapacity d }
-    ensures relays { IfSome result (λ p. p.relays ≡ 1 ∷ 0 ∷ 0 ∷ []) }
-    ensures caps { IfSome result (λ p. p.caps ≡ a ∷ b ∷ c ∷ d ∷ []) }
-{
-    let Ok(relays) = vec![in alloc; 1, 0, 0] else {
-        return None;
-    };
-    let Ok(caps) = vec![in alloc; a, b, c, d] else {
-        return None;
-    };
-    Some(Placement {
-        relays: Items::from_vec(relays),
-        caps: Items::from_vec(caps),
-    })
-}
-
-/// Whether the ring with such a placement has five transitions and edges with these tokens.
+/// Whether the ring with a relay station on the first of its three channels, and stations of these capacities, has five
+/// transitions and edges with these tokens.
 fn is_relayed(alloc: Global, a: u32, b: u32, c: u32, d: u32, tokens: &[u32]) -> bool
     requires a { IsCapacity a }
     requires b { IsCapacity b }
     requires c { IsCapacity c }
     requires d { IsCapacity d }
 {
-    let Some(system) = ring(alloc) else {
+    let Some(system) = system_of(alloc, RING) else {
         return false;
     };
     if system.channels.len() != 3 {
         return false;
     }
-    match relayed(alloc, a, b, c, d) {
+    match placement_of(alloc, &[1, 0, 0], &[a, b, c, d]) {
         Some(placement) => is_marked(alloc, &system, &placement, 5, &RELAYED, tokens),
         None => false,
     }
@@ -142,7 +100,7 @@ fn is_relayed(alloc: Global, a: u32, b: u32, c: u32, d: u32, tokens: &[u32]) -> 
 fn is_plain(alloc: Global, tokens: &[u32]) -> bool {
     let relays: &[u32] = &[0, 0, 0];
     let caps: &[u32] = &[2, 2, 2];
-    let Some(system) = ring(alloc) else {
+    let Some(system) = system_of(alloc, RING) else {
         return false;
     };
     let Ok(placement) = none(alloc, &system) else {

@@ -1,0 +1,47 @@
+//! What a run is made of.
+
+ghost use Rattle.std.specs.Prelude.{IfSome};
+ghost use Rattle.lid_settings.specs.Runs.{IsRun};
+
+use crate::netlists::system_of;
+use crate::rows::{are_rows, rows_of, width_of};
+use lid_placetext::read_stations;
+use lid_stations::Placement;
+use lid_system::System;
+use lid_texts::Rows;
+use std::alloc::Global;
+
+/// A system, its stations, and rows for its source.
+#[derive(Drop)]
+pub struct Run {
+    /// The system.
+    pub system: System,
+    /// Its stations.
+    pub placement: Placement,
+    /// The rows.
+    pub rows: Rows,
+}
+
+/// The run of a netlist with its stations over some rows, each of whose columns has the bit of a letter. None where one
+/// of the texts is refused, where there are more than a million rows, and for want of memory.
+pub fn run_of(alloc: Global, netlist: &[u8], stations: &[u8], letters: &[u8]) -> Option<Run>
+    ensures { IfSome result (λ run. IsRun run.system run.placement run.rows.bits) }
+{
+    let Some(system) = system_of(alloc, netlist) else {
+        return None;
+    };
+    let Ok(placement) = read_stations(alloc, stations, &system) else {
+        return None;
+    };
+    let Some(rows) = rows_of(alloc, letters, width_of(&system)) else {
+        return None;
+    };
+    if !are_rows(&system, rows.bits.as_slice()) {
+        return None;
+    }
+    Some(Run {
+        system,
+        placement,
+        rows,
+    })
+}
