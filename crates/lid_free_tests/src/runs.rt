@@ -22,6 +22,14 @@ const DIAMOND: &[u8] = b".model dia\n.inputs x\n.outputs y\n.subckt reg d=x q=a\
 /// Three relay stations on one of the ways, and another capacity on the other.
 const ROOMY: &[u8] = b"lid-stations 2\nu0 u1 0 3 2 2 2 2\nu0 u2 0 0 3\n";
 
+/// A shell that feeds itself, and turns its output about in each row. Station 0 leads from node 1 to itself, and station 1
+/// to node 2, the sink; node 0, the source, has none.
+const SELF: &[u8] = b".model self\n.outputs y\n.subckt turn d=y q=y\n.end\n\
+.model turn\n.inputs d\n.outputs q\n.names d n\n0 1\n.latch n q 0\n.end\n";
+
+/// A relay station between the shell and itself.
+const SELF_RELAYED: &[u8] = b"lid-stations 1\nu0 u0 0 1\n";
+
 /// A gate that counts how often it is passed, and by how many in each of the first rounds.
 #[derive(Drop)]
 struct CountGate {
@@ -100,8 +108,10 @@ fn are_tallies(tallies: &[Tally], numbers: &[[u64; 5]]) -> bool {
     true
 }
 
-/// What a run of the ring gives, whatever the order of threads.
+/// What a run gives, whatever the order of threads.
 struct Case {
+    netlist: &'static [u8],
+    stations: &'static [u8],
     letters: &'static [u8],
     workers: u32,
     rounds: u64,
@@ -113,8 +123,10 @@ struct Case {
     finish_fired: u64,
 }
 
-static CASES: [Case; 3] = [
+static CASES: [Case; 6] = [
     Case {
+        netlist: RING,
+        stations: RELAYED,
         letters: b"0000",
         workers: 2,
         rounds: 0,
@@ -126,6 +138,8 @@ static CASES: [Case; 3] = [
         finish_fired: 17,
     },
     Case {
+        netlist: RING,
+        stations: RELAYED,
         letters: b"0000",
         workers: 1,
         rounds: 64,
@@ -137,6 +151,8 @@ static CASES: [Case; 3] = [
         finish_fired: 0,
     },
     Case {
+        netlist: RING,
+        stations: RELAYED,
         letters: b"",
         workers: 3,
         rounds: 5,
@@ -146,6 +162,46 @@ static CASES: [Case; 3] = [
         passed: &[0, 0, 0, 0],
         finish: 0,
         finish_fired: 0,
+    },
+    // one worker: each kind of actor turns at the shared board by one hand, as the machine has it at a plain one
+    Case {
+        netlist: DIAMOND,
+        stations: ROOMY,
+        letters: b"1101",
+        workers: 1,
+        rounds: 3,
+        bits: &[false, false, true, false],
+        tallies: &[[24, 23, 1, 0, 0]],
+        fired: &[3, 3, 2, 3, 3, 3, 3, 3],
+        passed: &[3, 3, 3, 3, 2, 3, 3, 2],
+        finish: 1,
+        finish_fired: 5,
+    },
+    Case {
+        netlist: DIAMOND,
+        stations: ROOMY,
+        letters: b"1101",
+        workers: 1,
+        rounds: 50,
+        bits: &[false, false, true, false],
+        tallies: &[[400, 28, 1, 0, 371]],
+        fired: &[3, 3, 3, 3, 4, 4, 4, 4],
+        passed: &[3, 4, 4, 4, 3, 3, 4, 3],
+        finish: 0,
+        finish_fired: 0,
+    },
+    Case {
+        netlist: SELF,
+        stations: SELF_RELAYED,
+        letters: b"000",
+        workers: 1,
+        rounds: 2,
+        bits: &[false, true, false],
+        tallies: &[[8, 7, 1, 0, 0]],
+        fired: &[2, 1, 2, 2],
+        passed: &[2, 1, 2],
+        finish: 1,
+        finish_fired: 3,
     },
 ];
 
@@ -163,7 +219,7 @@ fn is_end(end: &FreeEnd, case: &Case) -> bool {
 fn first_other<R: Threads + Sync>(rt: &R, alloc: Global) -> usize {
     for number in 0..CASES.len() {
         let case = &CASES[number];
-        let Some(run) = run_of(alloc, RING, RELAYED, case.letters) else {
+        let Some(run) = run_of(alloc, case.netlist, case.stations, case.letters) else {
             return number;
         };
         let Some(end) = end_of(rt, alloc, &run, case.workers, case.rounds, &OpenGate) else {
