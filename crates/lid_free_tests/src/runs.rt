@@ -22,12 +22,12 @@ const DIAMOND: &[u8] = b".model dia\n.inputs x\n.outputs y\n.subckt reg d=x q=a\
 /// Three relay stations on one of the ways, and another capacity on the other.
 const ROOMY: &[u8] = b"lid-stations 2\nu0 u1 0 3 2 2 2 2\nu0 u2 0 0 3\n";
 
-/// A shell that feeds itself, and turns its output about in each row. Station 0 leads from node 1 to itself, and station 1
-/// to node 2, the sink; node 0, the source, has none.
+/// A shell that feeds itself, and turns its output about in each row.
 const SELF: &[u8] = b".model self\n.outputs y\n.subckt turn d=y q=y\n.end\n\
 .model turn\n.inputs d\n.outputs q\n.names d n\n0 1\n.latch n q 0\n.end\n";
 
-/// A relay station between the shell and itself.
+/// A relay station between the shell and itself. Stations 0 and 1 lead from node 1 to itself by actor 3, and station 2 to
+/// node 2, the sink; node 0, the source, has none.
 const SELF_RELAYED: &[u8] = b"lid-stations 1\nu0 u0 0 1\n";
 
 /// A gate that counts how often it is passed, and by how many in each of the first rounds.

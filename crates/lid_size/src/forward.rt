@@ -8,7 +8,8 @@ ghost use Rattle.lid_size.specs.ForwardParts.{HasStations, selves_of, forths_of,
 
 use lid_base::Items;
 use lid_graph::{Edge, Graph, components};
-use lid_ratio::{Ratio, edge, rate_of};
+use lid_guess::{Guess, propose};
+use lid_ratio::{Ratio, edge, rate_by};
 use std::alloc::{AllocError, Global};
 
 /// The self edges of the transitions with a label.
@@ -70,6 +71,38 @@ fn forward_part(
     })
 }
 
+/// More tokens than any walk has edges that meets no transition twice.
+const MANY: u32 = 1 << 18;
+
+/// A graph with further edges, to and from each transition, of so many tokens that none of them stands on a
+/// closed walk of least ratio or asks for a lag. All its transitions are joined, which a guess of its ratio
+/// wants.
+fn joined(alloc: Global, part: &Graph, label: u32) -> Result<Graph, AllocError> {
+    let mut edges = Vec::from_slice(alloc, part.edges.as_slice())?;
+    for v in 0..part.nodes {
+        edges.push(Edge {
+            from: label,
+            to: v,
+            tokens: MANY,
+        })?;
+        edges.push(Edge {
+            from: v,
+            to: label,
+            tokens: MANY,
+        })?;
+    }
+    Ok(Graph {
+        nodes: part.nodes,
+        edges: Items::from_vec(edges),
+    })
+}
+
+/// A guess of the ratio of a part, in which `label` stands.
+fn guess_of(alloc: Global, part: &Graph, label: u32) -> Result<Guess, AllocError> {
+    let all = joined(alloc, part, label)?;
+    propose(alloc, &all)
+}
+
 /// The forward ratio of the component whose least transition is `label`.
 fn forward_ratio(
     alloc: Global,
@@ -87,7 +120,8 @@ fn forward_ratio(
     ensures small_q { IfOk result (λ ratio. ratio.q ≤ 2 ^ 18) }
 {
     let part = forward_part(alloc, graph, stations, least, label)?;
-    let rate = rate_of(alloc, &part, 0)?;
+    let guess = guess_of(alloc, &part, label)?;
+    let rate = rate_by(alloc, &part, 0, guess)?;
     Ok(rate.ratio)
 }
 
