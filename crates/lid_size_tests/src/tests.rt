@@ -24,6 +24,14 @@ const DIAMOND: &[u8] =
 .model reg\n.inputs d\n.outputs q\n.latch d q 0\n.end\n\
 .model xr\n.inputs a b\n.outputs q\n.names a b n\n10 1\n01 1\n.latch n q 0\n.end\n";
 
+/// The same two ways, from a register that keeps its bit. The source has no channel, so it is a component
+/// of its own, and the first one.
+const APART: &[u8] =
+    b".model dia\n.inputs x\n.outputs y\n.subckt reg d=a q=a\n.subckt xr a=a b=b q=y\n\
+.subckt reg d=a q=b\n.end\n\
+.model reg\n.inputs d\n.outputs q\n.latch d q 0\n.end\n\
+.model xr\n.inputs a b\n.outputs q\n.names a b n\n10 1\n01 1\n.latch n q 0\n.end\n";
+
 /// A netlist, its stations as a text, and the relay stations and capacities that are answered.
 type Reached = (&'static [u8], &'static [u8], &'static [u32], &'static [u32]);
 
@@ -145,4 +153,10 @@ fn the_first_capacities_that_reach(rt: HostRuntime) {
 fn a_long_way_falls_short(rt: HostRuntime) {
     let told = falls(rt.alloc(), DIAMOND, b"lid-stations 1\nu0 u1 0 29\n");
     assert!(rt; told == Some((0, 31, 32, 1, 1)));
+}
+
+#[test]
+fn the_second_part_falls_short(rt: HostRuntime) {
+    let told = falls(rt.alloc(), APART, b"lid-stations 1\nu0 u1 0 29\n");
+    assert!(rt; told == Some((1, 31, 32, 1, 1)));
 }
