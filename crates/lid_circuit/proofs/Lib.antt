@@ -1,0 +1,10 @@
+pub mod Values
+pub mod Counts
+pub mod Edges
+pub mod Holding
+pub mod Firing
+pub mod Levels
+pub mod Agreeing
+pub mod Pearls
+pub mod Tokens
+pub mod Outside

@@ -1,0 +1,4 @@
+pub mod Ports
+pub mod Flats
+pub mod Runs
+pub mod Laws

@@ -1,0 +1,4 @@
+pub mod Written
+pub mod Cells
+pub mod Plain
+pub mod Tables

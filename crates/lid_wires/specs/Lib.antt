@@ -1,0 +1,5 @@
+pub mod Known
+pub mod Heights
+pub mod Connected
+pub mod Lists
+pub mod Laws

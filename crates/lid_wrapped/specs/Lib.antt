@@ -1,0 +1,4 @@
+pub mod Nets
+pub mod Wrapping
+pub mod Faces
+pub mod Laws
