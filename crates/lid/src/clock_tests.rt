@@ -3,17 +3,14 @@
 
 ghost use Rattle.std.specs.Prelude.{None};
 
-use crate::net_tests::{PIPE, RING, counted_rows, late_rows};
+use crate::net_tests::{ONE_RELAY, PIPE, RING, counted_rows, late_rows};
 use crate::report_tests::DIAMOND;
 use crate::tests::{
-    Failing, Left, NONE_FAILS, REGISTER, Ran, done, ended, expect_left, expect_run, run_failing,
-    run_over, zeros,
+    Call, Failing, NONE_FAILS, REGISTER, Ran, done, ended, expect_calls, expect_further,
+    expect_left, expect_run, left_by, run_failing, run_over, zeros,
 };
 use lid_base::{Shelf, ShelfFailed};
-use std::alloc::AllocError;
-use std::process::Abort;
 use std::test::Fail;
-use std::thread::Threads;
 
 /// Clocked runs: netlist, rows, stations, cycles of the trace, and what is printed.
 pub type Case = (
@@ -77,20 +74,14 @@ trace 8 4\n1 0 . . . 0 0 0\n1 1 0 . . 1 . 0!\n0 1 1 0 . 1 . 0!\n1 0 1 1 0 1! . 0
     ),
 ];
 
+/// The words of a clocked run with stations.
+pub static STATIONED: &[&str] = &["clock", "n.blif", "r.vec", "--stations", "s"];
+
 #[test]
 fn stations_show_the_strict_streams(rt: HostRuntime) -> Result<(), Fail> {
     for (net, rows, stations, trace, told) in RUNS {
         let files = [("n.blif", *net), ("r.vec", *rows), ("s", *stations)];
-        let words = [
-            "clock",
-            "n.blif",
-            "r.vec",
-            "--stations",
-            "s",
-            "--trace",
-            trace,
-        ];
-        expect_run(&rt, &words, &files, NONE_FAILS, done(told))?;
+        expect_further(&rt, STATIONED, &["--trace", trace], &files, done(told))?;
     }
     Ok(())
 }
@@ -108,17 +99,8 @@ static LONG_WORDS: &[&str] = &["clock", "one.blif", "one.vec", "--stations", "tw
 /// What it prints.
 const LONG_OUT: &str = "q\n0\n1\n0\ncycles 5\nfired in 2\nfired u0 2\nfired out 3\n";
 
-/// The calls that fail in this run (fetches, writes of the output, writes of the line), and what is left: the
-/// status, the output and the line. The rows are fetched twice, the second time only as far as they are needed.
-type Call = (
-    &'static [u64],
-    &'static [u64],
-    &'static [u64],
-    u8,
-    &'static str,
-    &'static str,
-);
-
+/// The calls that fail in this run, and what is left. The rows are fetched twice, the second time only as far as they are
+/// needed.
 static CALLS: &[Call] = &[
     (&[1], &[], &[], 3, "", "lid: read one.blif\n"),
     (&[2], &[], &[], 3, "", "lid: read one.blif\n"),
@@ -133,25 +115,9 @@ static CALLS: &[Call] = &[
     (&[], &[1], &[1], 4, "", ""),
 ];
 
-/// Runs it with calls that fail.
-fn expect_call<R: Threads + AllocGlobal + Sync + Abort>(
-    rt: &R,
-    call: Call,
-) -> Result<(), AllocError> {
-    let (fetches, writes, says, status, out, err) = call;
-    let failing = Failing {
-        fetches,
-        writes,
-        says,
-    };
-    expect_run(rt, LONG_WORDS, LONG, failing, Left { status, out, err })
-}
-
 #[test]
 fn each_failing_call_of_a_clocked_run_is_told(rt: HostRuntime) -> Result<(), Fail> {
-    for call in CALLS {
-        expect_call(&rt, *call)?;
-    }
+    expect_calls(&rt, LONG_WORDS, LONG, CALLS)?;
     Ok(())
 }
 
@@ -182,12 +148,7 @@ fn stations_are_read_before_the_run(rt: HostRuntime) -> Result<(), Fail> {
             ("two.sta", *stations),
             ("one.vec", "d\n1\n0\n1\n"),
         ];
-        let left = if *status == 0 {
-            done(told)
-        } else {
-            ended(*status, told)
-        };
-        expect_run(&rt, LONG_WORDS, &files, NONE_FAILS, left)?;
+        expect_run(&rt, LONG_WORDS, &files, NONE_FAILS, left_by(*status, told))?;
     }
     Ok(())
 }
@@ -214,26 +175,9 @@ static TRACES: &[(&str, &str, u8, &str)] = &[
 #[test]
 fn the_size_of_a_trace_is_judged_before_the_run(rt: HostRuntime) -> Result<(), Fail> {
     for (trace, rows, status, told) in TRACES {
-        let files = [
-            ("n.blif", RING),
-            ("r.vec", *rows),
-            ("s", "lid-stations 1\nu0 u1 0 1\n"),
-        ];
-        let words = [
-            "clock",
-            "n.blif",
-            "r.vec",
-            "--stations",
-            "s",
-            "--trace",
-            trace,
-        ];
-        let left = if *status == 0 {
-            done(told)
-        } else {
-            ended(*status, told)
-        };
-        expect_run(&rt, &words, &files, NONE_FAILS, left)?;
+        let files = [("n.blif", RING), ("r.vec", *rows), ("s", ONE_RELAY)];
+        let left = left_by(*status, told);
+        expect_further(&rt, STATIONED, &["--trace", trace], &files, left)?;
     }
     Ok(())
 }
@@ -341,7 +285,6 @@ fn a_pipeline_is_clocked(rt: HostRuntime) -> Result<(), Fail> {
         ("r.vec", rows.as_str()),
         ("s", "lid-stations 1\nu0 u1 0 2\nu3 u0 0 1\n"),
     ];
-    let words = ["clock", "n.blif", "r.vec", "--stations", "s"];
-    expect_run(&rt, &words, &files, NONE_FAILS, done(outs.as_str()))?;
+    expect_run(&rt, STATIONED, &files, NONE_FAILS, done(outs.as_str()))?;
     Ok(())
 }

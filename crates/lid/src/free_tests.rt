@@ -1,14 +1,10 @@
 //! Free runs, through the top call. What is expected is worked out by hand: the strict outputs, and the tallies of one
 //! worker from the sweeps of the interleaving machine.
 
-use crate::net_tests::RING;
+use crate::net_tests::{ONE_RELAY, RING};
 use crate::report_tests::DIAMOND;
-use crate::tests::{NONE_FAILS, done, ended, expect_left, expect_run, run_gated};
-use lid_base::MeetGate;
-use std::alloc::AllocError;
-use std::process::Abort;
+use crate::tests::{NONE_FAILS, done, ended, expect_further, expect_meeting, expect_run};
 use std::test::Fail;
-use std::thread::Threads;
 
 /// Further words, and what the ring with a relay station prints over four rows.
 static RINGS: &[(&[&str], &str)] = &[
@@ -29,33 +25,17 @@ worker 1 turns 0 fired 0 voids 0 stops 0 dones 0\nfinish 4 fired 17\n",
     (&[], "y\n1\n0\n1\n0\n"),
 ];
 
-/// The stations of the ring's runs.
-const ONE_RELAY: &str = "lid-stations 1\nu0 u1 0 1\n";
-
-/// Its rows.
+/// Rows of the ring.
 const FOUR: &str = "-\n-\n-\n-\n-\n";
 
-/// Runs the ring with these further words.
-fn expect_ring<R: Threads + AllocGlobal + Sync + Abort>(
-    rt: &R,
-    further: &[&str],
-    told: &str,
-) -> Result<(), AllocError> {
-    let files = [("n.blif", RING), ("r.vec", FOUR), ("s", ONE_RELAY)];
-    let mut words = Vec::new(rt.alloc());
-    for word in ["free", "n.blif", "r.vec", "--stations", "s"] {
-        words.push(word)?;
-    }
-    for word in further {
-        words.push(*word)?;
-    }
-    expect_run(rt, words.as_slice(), &files, NONE_FAILS, done(told))
-}
+/// The words of a free run with stations.
+static STATIONED: &[&str] = &["free", "n.blif", "r.vec", "--stations", "s"];
 
 #[test]
 fn the_rows_are_strict_whatever_the_workers_do(rt: HostRuntime) -> Result<(), Fail> {
+    let files = [("n.blif", RING), ("r.vec", FOUR), ("s", ONE_RELAY)];
     for (further, told) in RINGS {
-        expect_ring(&rt, further, told)?;
+        expect_further(&rt, STATIONED, further, &files, done(told))?;
     }
     Ok(())
 }
@@ -67,18 +47,8 @@ fn two_ways_of_unlike_length_are_run(rt: HostRuntime) -> Result<(), Fail> {
         ("r.vec", "x\n1\n1\n0\n1\n"),
         ("s", "lid-stations 2\nu0 u1 0 3 2 2 2 2\nu0 u2 0 0 3\n"),
     ];
-    let words = [
-        "free",
-        "n.blif",
-        "r.vec",
-        "--stations",
-        "s",
-        "--workers",
-        "3",
-        "--rounds",
-        "50",
-    ];
-    expect_run(&rt, &words, &files, NONE_FAILS, done("y\n0\n0\n1\n0\n"))?;
+    let further = ["--workers", "3", "--rounds", "50"];
+    expect_further(&rt, STATIONED, &further, &files, done("y\n0\n0\n1\n0\n"))?;
     Ok(())
 }
 
@@ -98,9 +68,8 @@ fn other_words_of_free_are_no_job(rt: HostRuntime) -> Result<(), Fail> {
     Ok(())
 }
 
-/// Runs the ring by two workers, who must meet at the gate before their first round.
-fn expect_meeting<R: Threads + AllocGlobal + Sync + Abort>(rt: &R) -> Result<(), AllocError> {
-    let gate = MeetGate::new(2, 2_000_000_000);
+#[test]
+fn two_workers_run_at_once(rt: HostRuntime) -> Result<(), Fail> {
     let files = [("n.blif", RING), ("r.vec", FOUR), ("s", ONE_RELAY)];
     let words = [
         "free",
@@ -113,14 +82,6 @@ fn expect_meeting<R: Threads + AllocGlobal + Sync + Abort>(rt: &R) -> Result<(),
         "--rounds",
         "1",
     ];
-    let ran = run_gated(rt, &words, &files, &gate)?;
-    expect_left(rt, &ran, done("y\n1\n0\n1\n0\n"), "two workers");
-    assert!(rt; gate.met());
-    Ok(())
-}
-
-#[test]
-fn two_workers_run_at_once(rt: HostRuntime) -> Result<(), Fail> {
-    expect_meeting(&rt)?;
+    expect_meeting(&rt, &words, &files, done("y\n1\n0\n1\n0\n"))?;
     Ok(())
 }

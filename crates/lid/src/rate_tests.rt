@@ -1,26 +1,11 @@
 //! Placements, their rates and certificates, through the top call. What is expected is worked out by hand
 //! from the definition of a marking, its closed walks and lags.
 
-use crate::net_tests::{PIPE, RING};
+use crate::net_tests::{ONE_RELAY, PIPE, RING};
 use crate::report_tests::DIAMOND;
-use crate::tests::{Failing, Left, NONE_FAILS, done, ended, expect_run, run_failing};
+use crate::tests::{Failing, NONE_FAILS, REGISTER, done, ended, expect_run, left_by, run_failing};
 use std::str::from_utf8;
 use std::test::Fail;
-
-/// One register.
-const ONE: &str = ".model one\n.inputs d\n.outputs q\n.latch d q 0\n.end\n";
-
-/// One relay station between the two registers of a ring.
-const ONE_RELAY: &str = "lid-stations 1\nu0 u1 0 1\n";
-
-/// What is left: what is told stands on the output at status 0, and else on the error.
-fn left_by(status: u8, told: &str) -> Left<'_> {
-    if status == 0 {
-        done(told)
-    } else {
-        ended(status, told)
-    }
-}
 
 /// Wires, and how they end `place` with a reach of 1,000: its status, and what it prints or says.
 static WIRES: &[(&str, &str, u8, &str)] = &[
@@ -157,7 +142,7 @@ fn certificates_are_judged(rt: HostRuntime) -> Result<(), Fail> {
 /// of that begin: the ratios, and the least lags of transitions.
 static RATES: &[(&str, &str, &str, &[&str])] = &[
     (
-        ONE,
+        REGISTER,
         "lid-stations 1\nu0 out 0 2\n",
         "certificate ok\npart 0 ratio 1/1\nsink lag 2\n",
         &["ratio 1 1", "node 2 2 "],

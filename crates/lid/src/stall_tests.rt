@@ -1,7 +1,8 @@
 //! Clocked runs under stalls, through the top call. What is expected is worked out by hand: a table of the firings
 //! cycle by cycle, and what each station then holds of the strict streams.
 
-use crate::tests::{NONE_FAILS, REGISTER, done, ended, expect_run};
+use crate::clock_tests::STATIONED;
+use crate::tests::{NONE_FAILS, REGISTER, done, ended, expect_further, expect_run};
 use std::test::Fail;
 
 /// Rows, stalls, and what a register prints under them, with a trace of at most ten cycles. It has a station
@@ -107,16 +108,7 @@ fn stalls_are_judged_between_stations_and_rows(rt: HostRuntime) -> Result<(), Fa
             ("f", *stalls),
             ("r.vec", *rows),
         ];
-        let words = [
-            "clock",
-            "n.blif",
-            "r.vec",
-            "--stations",
-            "s",
-            "--stalls",
-            "f",
-        ];
-        expect_run(&rt, &words, &files, NONE_FAILS, ended(1, told))?;
+        expect_further(&rt, STATIONED, &["--stalls", "f"], &files, ended(1, told))?;
     }
     Ok(())
 }

@@ -2,7 +2,9 @@
 
 ghost use Rattle.std.specs.Prelude.{None};
 
-use lid_base::{File, Gate, Items, MemShelf, MemSink, OpenGate, Shelf, ShelfFailed, Text};
+use lid_base::{
+    File, Gate, Items, MeetGate, MemShelf, MemSink, OpenGate, Shelf, ShelfFailed, Text,
+};
 use lid_top::lid_run;
 use std::alloc::{AllocError, Global};
 use std::process::Abort;
@@ -60,6 +62,15 @@ pub fn ended(status: u8, err: &str) -> Left<'_> {
     }
 }
 
+/// What is left of a run that ended with a status: its output where that is 0, and its line otherwise.
+pub fn left_by(status: u8, told: &str) -> Left<'_> {
+    if status == 0 {
+        done(told)
+    } else {
+        ended(status, told)
+    }
+}
+
 fn words_of(alloc: Global, words: &[&str]) -> Result<Vec<Text>, AllocError> {
     let mut texts = Vec::new(alloc);
     for word in words {
@@ -110,7 +121,7 @@ pub fn run_over<R: Threads + AllocGlobal + Sync, S: Shelf>(
 }
 
 /// Runs the words over files in memory, on workers that pass a gate.
-pub fn run_gated<R: Threads + AllocGlobal + Sync, G: Gate>(
+fn run_gated<R: Threads + AllocGlobal + Sync, G: Gate>(
     rt: &R,
     words: &[&str],
     files: &[(&str, &str)],
@@ -173,6 +184,33 @@ pub fn expect_run<R: Threads + AllocGlobal + Sync + Abort>(
         None => "",
     };
     expect_left(rt, &ran, left, case);
+    Ok(())
+}
+
+/// Runs words and further ones behind them over files in memory, and compares all that is left.
+pub fn expect_further<'w, R: Threads + AllocGlobal + Sync + Abort>(
+    rt: &R,
+    words: &[&'w str],
+    further: &[&'w str],
+    files: &[(&str, &str)],
+    left: Left<'_>,
+) -> Result<(), AllocError> {
+    let mut all = Vec::from_slice(rt.alloc(), words)?;
+    all.extend_from_slice(further)?;
+    expect_run(rt, all.as_slice(), files, NONE_FAILS, left)
+}
+
+/// Runs words on two workers, who must meet at the gate, and compares all that is left.
+pub fn expect_meeting<R: Threads + AllocGlobal + Sync + Abort>(
+    rt: &R,
+    words: &[&str],
+    files: &[(&str, &str)],
+    left: Left<'_>,
+) -> Result<(), AllocError> {
+    let gate = MeetGate::new(2, 2_000_000_000);
+    let ran = run_gated(rt, words, files, &gate)?;
+    expect_left(rt, &ran, left, "two workers");
+    assert!(rt; gate.met());
     Ok(())
 }
 
@@ -361,9 +399,9 @@ fn a_root_that_no_model_has_is_refused(rt: HostRuntime) -> Result<(), Fail> {
 /// The files of the example's run.
 static EXAMPLE: &[(&str, &str)] = &[("one.blif", REGISTER), ("one.vec", "d\n1\n0\n1\n")];
 
-/// The calls that fail in a run of the example (fetches, writes of the output, writes of the line), and
-/// what is left: the status, the output and the line.
-type Call = (
+/// The calls that fail in a run (fetches, writes of the output, writes of the line), and what is left: the status, the
+/// output and the line.
+pub type Call = (
     &'static [u64],
     &'static [u64],
     &'static [u64],
@@ -372,6 +410,7 @@ type Call = (
     &'static str,
 );
 
+/// Those of a run of the example.
 static CALLS: &[Call] = &[
     (&[1], &[], &[], 3, "", "lid: read one.blif\n"),
     (&[2], &[], &[], 3, "", "lid: read one.blif\n"),
@@ -385,9 +424,11 @@ static CALLS: &[Call] = &[
     (&[], &[1], &[3], 4, "", "lid: "),
 ];
 
-/// Runs the example with calls that fail.
+/// Runs words with calls that fail.
 fn expect_call<R: Threads + AllocGlobal + Sync + Abort>(
     rt: &R,
+    words: &[&str],
+    files: &[(&str, &str)],
     call: Call,
 ) -> Result<(), AllocError> {
     let (fetches, writes, says, status, out, err) = call;
@@ -396,21 +437,25 @@ fn expect_call<R: Threads + AllocGlobal + Sync + Abort>(
         writes,
         says,
     };
-    let left = Left { status, out, err };
-    expect_run(
-        rt,
-        &["strict", "one.blif", "one.vec"],
-        EXAMPLE,
-        failing,
-        left,
-    )
+    expect_run(rt, words, files, failing, Left { status, out, err })
+}
+
+/// Runs words with each of these calls that fail.
+pub fn expect_calls<R: Threads + AllocGlobal + Sync + Abort>(
+    rt: &R,
+    words: &[&str],
+    files: &[(&str, &str)],
+    calls: &[Call],
+) -> Result<(), AllocError> {
+    for call in calls {
+        expect_call(rt, words, files, *call)?;
+    }
+    Ok(())
 }
 
 #[test]
 fn each_failing_call_is_told(rt: HostRuntime) -> Result<(), Fail> {
-    for call in CALLS {
-        expect_call(&rt, *call)?;
-    }
+    expect_calls(&rt, &["strict", "one.blif", "one.vec"], EXAMPLE, CALLS)?;
     Ok(())
 }
 
