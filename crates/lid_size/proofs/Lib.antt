@@ -6,3 +6,4 @@ pub mod Chosen
 pub mod Taken
 pub mod Reaching
 pub mod Refuted
+pub mod ForwardShown

@@ -4,3 +4,4 @@ pub mod Choices
 pub mod ForwardParts
 pub mod Comparing
 pub mod Testing
+pub mod ForwardWalks

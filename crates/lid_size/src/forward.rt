@@ -6,10 +6,11 @@ ghost use Rattle.lid_rate.specs.Rates.{AreLabels, numbers_where, is_labelled};
 ghost use Rattle.lid_capacities.specs.Capacities.{IsForwardRatio};
 ghost use Rattle.lid_size.specs.ForwardParts.{HasStations, selves_of, forths_of, forward_part, AreForwardRatios};
 
+use crate::ratios::shown_ratios;
 use lid_base::Items;
 use lid_graph::{Edge, Graph, components};
-use lid_guess::{Guess, propose};
-use lid_ratio::{Ratio, edge, rate_by};
+use lid_ratio::{Ratio, edge, rate_of};
+use lid_sizeguess::propose_forwards;
 use std::alloc::{AllocError, Global};
 
 /// The self edges of the transitions with a label.
@@ -71,38 +72,6 @@ fn forward_part(
     })
 }
 
-/// More tokens than any walk has edges that meets no transition twice.
-const MANY: u32 = 1 << 18;
-
-/// A graph with further edges, to and from each transition, of so many tokens that none of them stands on a
-/// closed walk of least ratio or asks for a lag. All its transitions are joined, which a guess of its ratio
-/// wants.
-fn joined(alloc: Global, part: &Graph, label: u32) -> Result<Graph, AllocError> {
-    let mut edges = Vec::from_slice(alloc, part.edges.as_slice())?;
-    for v in 0..part.nodes {
-        edges.push(Edge {
-            from: label,
-            to: v,
-            tokens: MANY,
-        })?;
-        edges.push(Edge {
-            from: v,
-            to: label,
-            tokens: MANY,
-        })?;
-    }
-    Ok(Graph {
-        nodes: part.nodes,
-        edges: Items::from_vec(edges),
-    })
-}
-
-/// A guess of the ratio of a part, in which `label` stands.
-fn guess_of(alloc: Global, part: &Graph, label: u32) -> Result<Guess, AllocError> {
-    let all = joined(alloc, part, label)?;
-    propose(alloc, &all)
-}
-
 /// The forward ratio of the component whose least transition is `label`.
 fn forward_ratio(
     alloc: Global,
@@ -120,8 +89,7 @@ fn forward_ratio(
     ensures small_q { IfOk result (λ ratio. ratio.q ≤ 2 ^ 18) }
 {
     let part = forward_part(alloc, graph, stations, least, label)?;
-    let guess = guess_of(alloc, &part, label)?;
-    let rate = rate_by(alloc, &part, 0, guess)?;
+    let rate = rate_of(alloc, &part, 0)?;
     Ok(rate.ratio)
 }
 
@@ -149,6 +117,25 @@ fn each_ratio(
     Ok(wants)
 }
 
+/// The forward ratio of the component of each transition: by a guess for all components, or, where its test
+/// fails, one component after the other.
+fn ratios_by(
+    alloc: Global,
+    graph: &Graph,
+    stations: u32,
+    least: &[u32],
+) -> Result<Vec<Ratio>, AllocError>
+    requires graph { HasStations graph.now stations }
+    requires labels { AreLabels graph.now least.now }
+    ensures { IfOk result (λ wants. AreForwardRatios graph.now stations wants.items) }
+{
+    let forwards = propose_forwards(alloc, graph, stations, least)?;
+    match shown_ratios(alloc, graph, stations, least, &forwards)? {
+        Some(wants) => Ok(wants),
+        None => each_ratio(alloc, graph, stations, least),
+    }
+}
+
 /// The forward ratio of the component of each transition of a marking with so many stations.
 ///
 /// # Errors
@@ -162,5 +149,5 @@ pub(crate) fn forward_ratios(
     ensures { IfOk result (λ wants. AreForwardRatios graph.now stations wants.items) }
 {
     let least = components(alloc, graph)?;
-    each_ratio(alloc, graph, stations, least.as_slice())
+    ratios_by(alloc, graph, stations, least.as_slice())
 }

@@ -4,7 +4,9 @@
 mod choosing;
 mod comparing;
 mod forward;
+mod ratios;
 mod sizing;
 mod testing;
+mod walks;
 
 pub use sizing::{SizeEnd, size};

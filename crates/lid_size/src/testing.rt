@@ -4,13 +4,14 @@
 ghost use Rattle.std.specs.Prelude.{◌≡◌, ℕ, ◌*◌, ◌<◌, ◌≤◌, ◌^◌, List, length, slice_index, slice_index_or, IsTrue};
 ghost use Rattle.std.specs.List.{All};
 ghost use Rattle.lid_graph.specs.Rateable.{IsRateable};
-ghost use Rattle.lid_graph.specs.Walks.{edge_at, walk_start, walk_tokens, IsClosedWalk};
+ghost use Rattle.lid_graph.specs.Walks.{edge_at, walk_tokens};
 ghost use Rattle.lid_system.specs.declared.System.{System};
 ghost use Rattle.lid_stations.specs.Placements.{links_of, IsCapacity};
 ghost use Rattle.lid_size.specs.ForwardParts.{AreForwardRatios};
 ghost use Rattle.lid_size.specs.Sizing.{sized};
 ghost use Rattle.lid_size.specs.Testing.{lessened, IsWidest, IsRefuted, AreTight};
 
+use crate::walks::{is_closed, walk_at, walk_start};
 use lid_graph::Graph;
 use lid_ratio::{Ratio, edge};
 use lid_sizeguess::Sizes;
@@ -69,39 +70,6 @@ fn sum_with(graph: &Graph, caps: &[u32], station: u32, walk: &[u32]) -> u64
     sum
 }
 
-/// Where the first edge of a walk begins, or 0 where there is no edge of this number.
-fn walk_start(graph: &Graph, walk: &[u32]) -> u32
-    ensures { result ≡ walk_start graph.now walk.now }
-{
-    let edges = graph.edges.as_slice();
-    match walk {
-        [first, ..] if (*first as usize) < edges.len() => edges[*first as usize].from,
-        _ => 0,
-    }
-}
-
-/// Whether edges make a closed walk.
-fn is_closed(graph: &Graph, walk: &[u32]) -> bool
-    ensures { IsTrue result → IsClosedWalk graph.now walk.now }
-{
-    if walk.len() == 0 {
-        return false;
-    }
-    let start = walk_start(graph, walk);
-    let mut at = start;
-    for k in walk {
-        if *k as usize >= graph.edges.len() {
-            return false;
-        }
-        let along = edge(graph, *k);
-        if along.from != at {
-            return false;
-        }
-        at = along.to;
-    }
-    at == start
-}
-
 /// Whether a closed walk shows that a station with one place less does not reach.
 fn refutes(graph: &Graph, wants: &[Ratio], caps: &[u32], station: u32, walk: &[u32]) -> bool
     requires graph { IsRateable graph.now }
@@ -120,22 +88,6 @@ fn refutes(graph: &Graph, wants: &[Ratio], caps: &[u32], station: u32, walk: &[u
     want.q * tokens < want.p * walk.len() as u64
 }
 
-/// The walk of a station in a guess, or none where its ends are wrong.
-fn walk_of(sizes: &Sizes, station: u32) -> &[u32] {
-    let walks = sizes.walks.as_slice();
-    let ends = sizes.ends.as_slice();
-    let end = ends.get(station as usize).copied().unwrap_or(0) as usize;
-    let first = match station.checked_sub(1) {
-        Some(before) => ends.get(before as usize).copied().unwrap_or(0) as usize,
-        None => 0,
-    };
-    if first <= end && end <= walks.len() {
-        &walks[first..end]
-    } else {
-        &walks[..0]
-    }
-}
-
 /// Whether the capacities of a guess are in their range, and its walks show that one less at any station
 /// does not reach.
 pub(crate) fn are_tight(graph: &Graph, wants: &[Ratio], sizes: &Sizes) -> bool
@@ -151,7 +103,8 @@ pub(crate) fn are_tight(graph: &Graph, wants: &[Ratio], sizes: &Sizes) -> bool
             return false;
         }
         let station = i as u32;
-        if capacity > 2 && !refutes(graph, wants, caps, station, walk_of(sizes, station)) {
+        let walk = walk_at(sizes.walks.as_slice(), sizes.ends.as_slice(), station);
+        if capacity > 2 && !refutes(graph, wants, caps, station, walk) {
             return false;
         }
     }

@@ -1,13 +1,16 @@
-//! A guess for the sizing of stations: the first capacities that reach, and a closed walk for each that
-//! shows that one less does not do. Nothing is promised of it but that it ends, so whoever takes it tests
-//! it.
+//! Guesses for the sizing of stations: the forward ratio of each component, and the first capacities that
+//! reach, with a closed walk for each that shows that one less does not do. Nothing is promised of them but
+//! that they end, so whoever takes one tests it.
 #![tactic(auto)]
 
 mod fans;
+mod forwards;
+mod groups;
 mod heap;
 mod lengthening;
 mod search;
 mod sizes;
 mod tables;
 
+pub use forwards::{Forwards, propose_forwards};
 pub use sizes::{Sizes, propose_sizes};

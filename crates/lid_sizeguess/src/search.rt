@@ -1,6 +1,6 @@
 //! A search for the nearest way from one transition to another, over what edges cost by labels.
 
-use crate::fans::Fans;
+use crate::groups::Groups;
 use crate::heap::{Reach, add, is_nearer, take};
 use crate::tables::{edge_at, get, put, want_at};
 use lid_graph::{Edge, Graph};
@@ -81,7 +81,7 @@ fn go_on(
     state: &State,
     wants: &[Ratio],
     graph: &Graph,
-    fans: &Fans,
+    fans: &Groups,
     from: Reach,
     need: u64,
 ) -> Result<(), AllocError> {
@@ -134,7 +134,7 @@ pub(crate) fn distance(
     state: &State,
     wants: &[Ratio],
     graph: &Graph,
-    fans: &Fans,
+    fans: &Groups,
     ends: (u32, u32),
     need: u64,
 ) -> Result<Option<u64>, AllocError> {

@@ -1,6 +1,7 @@
 //! A guess of the first capacities that reach.
 
-use crate::fans::{Fans, fans_of};
+use crate::fans::fans_of;
+use crate::groups::Groups;
 use crate::lengthening::{Station, lack, least_capacity, push_walk, raise, station_at};
 use crate::search::{Search, State, distance, new_search};
 use crate::tables::{get, put};
@@ -70,7 +71,7 @@ fn first_state(alloc: Global, graph: &Graph, cert: &Cert) -> Result<State, Alloc
 fn widen(
     alloc: Global,
     graph: &Graph,
-    fans: &Fans,
+    fans: &Groups,
     wants: &[Ratio],
     state: &mut State,
     search: &mut Search,
