@@ -5,8 +5,10 @@
 mod answer;
 mod bisection;
 mod finding;
+mod laws;
 mod proposal;
 mod trial;
 
 pub use answer::{Slack, SlackAndNext};
 pub use finding::{slack, slack_and_next};
+pub use laws::keeping_is_not_lowering;

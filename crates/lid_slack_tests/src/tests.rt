@@ -1,6 +1,6 @@
 //! The slack of the channels of netlists, with stations as texts.
 
-ghost use Rattle.std.specs.Prelude.{IfSome};
+ghost use Rattle.std.specs.Prelude.{◌<◌, length, IfSome};
 ghost use Rattle.lid_system.specs.Systems.{IsWellFormed};
 ghost use Rattle.lid_stations.specs.Placements.{Fits};
 
@@ -9,7 +9,7 @@ use lid_net::build;
 use lid_placetext::read_stations;
 use lid_ratio::Ratio;
 use lid_slack::{slack, slack_and_next};
-use lid_stations::{Placement, none};
+use lid_stations::Placement;
 use lid_system::System;
 use std::alloc::Global;
 
@@ -72,6 +72,18 @@ fn is_next(next: Option<Ratio>, p: u64, q: u64) -> bool {
     }
 }
 
+/// Whether `slack` tells so many further relay stations.
+fn is_slack(alloc: Global, system: &System, placement: &Placement, channel: u32, added: u32) -> bool
+    requires system { IsWellFormed system.now }
+    requires fits { Fits system.now placement.now }
+    requires channel { channel < length system.now.channels }
+{
+    match slack(alloc, system, placement, channel) {
+        Ok(slack) => slack.added == added,
+        Err(_) => false,
+    }
+}
+
 /// Whether a channel has such a slack, with a walk where there is a ratio with one more.
 fn has_slack(alloc: Global, system: &System, placement: &Placement, case: Case) -> bool
     requires system { IsWellFormed system.now }
@@ -79,6 +91,9 @@ fn has_slack(alloc: Global, system: &System, placement: &Placement, case: Case) 
 {
     let (channel, added, p, q) = case;
     if channel as usize >= system.channels.len() {
+        return false;
+    }
+    if !is_slack(alloc, system, placement, channel, added) {
         return false;
     }
     match slack_and_next(alloc, system, placement, channel) {
@@ -112,21 +127,6 @@ fn are_slacks(alloc: Global, netlist: &[u8], stations: &[u8], cases: &[Case]) ->
     match read_stations(alloc, stations, &system) {
         Ok(placement) => have_slacks(alloc, &system, &placement, cases),
         Err(_) => false,
-    }
-}
-
-/// The slack of the first channel of a netlist without relay stations, where it is found.
-fn first_slack(alloc: Global, netlist: &[u8]) -> Option<u32> {
-    let system = system_of(alloc, netlist)?;
-    let Ok(placement) = none(alloc, &system) else {
-        return None;
-    };
-    if system.channels.len() == 0 {
-        return None;
-    }
-    match slack(alloc, &system, &placement, 0) {
-        Ok(slack) => Some(slack.added),
-        Err(_) => None,
     }
 }
 
@@ -164,9 +164,4 @@ fn a_full_channel_has_no_slack(rt: HostRuntime) {
             &FULL_CASES
         )
     );
-}
-
-#[test]
-fn the_first_channel_of_a_ring_has_no_slack(rt: HostRuntime) {
-    assert!(rt; first_slack(rt.alloc(), RING) == Some(0));
 }

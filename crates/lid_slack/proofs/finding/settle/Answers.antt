@@ -1,4 +1,4 @@
-use Rattle.std.proofs.Common.{◌≡◌, ℕ, ◌+◌, ◌<◌, Option, IfSome, subst, arith}
+use Rattle.std.proofs.Common.{◌+◌, Option, IfSome, subst, arith}
 use Rattle.lid_cert.specs.declared.cert.Cert.{Cert}
 use Rattle.lid_cert.specs.Certificates.{Certifies}
 use Rattle.lid_graph.specs.Ratios.{IsRatio}
