@@ -159,9 +159,9 @@ module _ (apart : (d : Design) (fault : CheckFault) → IsAccepted d → IsRefus
   unfolding freeing_script
   freed_once held d l p workers rounds tally rows = tt
 
-  told_once : (held : List ℕ → Option (List ℕ)) (output : Links → Placement → Output) (net : List ℕ) (stations root : Option (List ℕ)) → IsSettled held (telling_script output net stations root)
+  output_once : (held : List ℕ → Option (List ℕ)) (output : Links → Placement → Output) (net : List ℕ) (stations root : Option (List ℕ)) → IsSettled held (telling_script output net stations root)
   unfolding telling_script told_script
-  told_once held output net stations root =
+  output_once held output net stations root =
       system_once held net root (λ l. placement_step l stations (told_script output l)) (λ l. placed_once held l stations (told_script output l) (λ _. tt))
 
   settled_job : (held : List ℕ → Option (List ℕ)) (job : Job) → IsSettled held (script_of job)
@@ -174,9 +174,9 @@ module _ (apart : (d : Design) (fault : CheckFault) → IsAccepted d → IsRefus
       settled_step held (net_reading bytes) (λ d. check_step root d built) (λ d. checked_once held root d built (λ checked. clocked_once held checked vec stations stalls trace))
   settled_job held (Place net wires reach root) =
       system_once held net root (λ l. wires_script l wires reach) (λ l bytes _. settled_step held (wires_read reach l bytes) (λ p. end (gives (placed l p))) (λ _. tt))
-  settled_job held (Rate net stations root) = told_once held throughput net stations root
-  settled_job held (Size net stations root) = told_once held sized net stations root
-  settled_job held (Slack net stations root) = told_once held slacks net stations root
+  settled_job held (Rate net stations root) = output_once held throughput net stations root
+  settled_job held (Size net stations root) = output_once held sized net stations root
+  settled_job held (Slack net stations root) = output_once held slacks net stations root
   settled_job held (Verify net cert stations root) =
       system_once held net root (λ l. placement_step l stations (λ p. cert_script l p cert))
       (λ l. placed_once held l stations (λ p. cert_script l p cert) (λ p bytes _. settled_step held (cert_read bytes) (judging_script l p) (λ c. judged_once held l p c)))
