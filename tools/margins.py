@@ -110,10 +110,21 @@ def compare_size(session: Session, system: System, relays, count: int):
     session.came["size"] += 1
 
 
+def compare_short(session: Session):
+    """One way of the diamond with 28 relay stations, which is as many as 16 places on the other hold, and with 29."""
+    session.files["net"].write_text(text_of(diamond()))
+    for relays, wanted in ((28, "lid-stations 2"), (29, "short 0 31/32 of 1/1")):
+        session.files["stations"].write_text(f"lid-stations 1\nu0 u1 0 {relays}\n")
+        told, _, _ = session.run("size", session.files["net"], "--stations", session.files["stations"])
+        session.want(told.split("\n")[0], wanted, f"size with {relays}")
+    session.came["short"] += 1
+
+
 def main():
     maker, count = Maker(int(sys.argv[1])), int(sys.argv[2])
     with tempfile.TemporaryDirectory() as folder:
         session = Session(folder, maker.dice)
+        compare_short(session)
         known = [ring(), diamond(), pipeline()]
         made = [maker.design() for _ in range(count)] + [design(Draws(n), 1 + n % 5) for n in range(count)]
         for models in [*known, *made]:
