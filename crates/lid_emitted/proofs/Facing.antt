@@ -1,5 +1,5 @@
 -- What an emitted design shows is what the network shows.
-use Rattle.std.proofs.Common.{◌≡◌, ℕ, zero, suc, ◌+◌, ◌-◌, ◌<◌, ◌≤◌, Bool, true, false, cond, List, [], ◌∷◌, ◌++◌, length, map, Some, refl, sym, ◌∙◌, ap, subst, arith}
+use Rattle.std.proofs.Common.{◌≡◌, ℕ, zero, suc, ◌+◌, ◌-◌, Bool, true, false, cond, List, [], ◌∷◌, ◌++◌, length, map, refl, sym, ◌∙◌, ap, subst}
 use Rattle.std.specs.Prelude.{Option, ◌↔◌}
 use Rattle.std.specs.Option.{option_map_or}
 use Rattle.std.specs.List.{AllByRecursion}
@@ -12,7 +12,6 @@ use Rattle.lid_design.specs.Walks.{HasTable}
 use Rattle.lid_system.specs.declared.System.{System}
 use Rattle.lid_system.specs.declared.Node.{Node}
 use Rattle.lid_system.specs.declared.Node.TheVariants.{Sink}
-use Rattle.lid_system.specs.declared.InBit.{InBit}
 use Rattle.lid_system.specs.Systems as system
 use Rattle.lid_system.specs.Tables.{source_width, ins_of}
 use Rattle.lid_system.proofs.Points.{first_node, last_node}
@@ -21,10 +20,10 @@ use Rattle.lid_agree.proofs.Agreeing.{output_there}
 use Rattle.lid_stations.specs.declared.placement.Placement.{Placement}
 use Rattle.lid_stations.specs.Placements.{links_of, Fits}
 use Rattle.lid_runs.specs.Runs.{sink_of}
-use Rattle.lid_circuit.specs.Wires.{Wire, entry, shown, valid, stop}
+use Rattle.lid_circuit.specs.Wires.{Wire, shown}
 use Rattle.lid_circuit.specs.Plans.{Plan}
 use Rattle.lid_circuit.specs.Runs.{rises, rows_where}
-use Rattle.lid_wrapped.specs.Nets.{Nets, AreNets, FollowTables}
+use Rattle.lid_wrapped.specs.Nets.{Nets, AreNets}
 use Rattle.lid_wrapped.specs.Wrapping.{sink_reads, input_count, plan_of, wrapped, face_of}
 use Rattle.lid_wrapped.specs.Faces.{fired_by, Face, IsStopped, IsServed, TellsItsState, accepted_rows, delivered_rows, AreInStep, Delivers}
 use Rattle.lid_wrapped.proofs.Telling.{tells}
@@ -32,7 +31,6 @@ use Rattle.lid_wrapped.proofs.Delivering.{delivers}
 use Rattle.lid_wrapped.proofs.Connecting.{connected}
 use Rattle.lid_named.specs.Named.{named_design, IsNaming, seen_at}
 use Rattle.lid_named.proofs.Tables.{runs}
-use Rattle.lid_emitted.specs.Ports.{valid_name, stop_name}
 use Rattle.lid_emitted.specs.Flats.{AreFlatsOf, ArePortNames}
 use Rattle.lid_emitted.specs.Runs as emitted
 use Rattle.lid_emitted.proofs.Following.{flats_follow}

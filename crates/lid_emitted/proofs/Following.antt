@@ -1,11 +1,10 @@
 -- The flat part of a pearl, whose nets stand for columns, follows a table of the system.
-use Rattle.std.proofs.Common.{◌≡◌, ℕ, zero, suc, ◌+◌, ◌<◌, ◌≤◌, ◌==◌, ◌⊎◌, inl, inr, Bool, true, false, cond, List, [], ◌∷◌, ◌++◌, length, get_or, map, Some, None, slice_get, refl, sym, ◌∙◌, ap, subst, arith}
+use Rattle.std.proofs.Common.{◌≡◌, ℕ, zero, suc, ◌+◌, ◌<◌, ◌==◌, ◌⊎◌, inl, inr, Bool, true, false, cond, List, [], ◌∷◌, ◌++◌, length, get_or, map, Some, None, slice_get, refl, sym, ◌∙◌, ap, subst, arith}
 use Rattle.std.specs.Prelude.{Option, flat_map, option_map}
 use Rattle.std.specs.Option.{option_map_or}
-use Rattle.std.specs.List.{AllByRecursion}
 use Rattle.std.proofs.lemmas.Bool.{eqb-true}
 use Rattle.std.proofs.lemmas.List.{length-map, get_or-map}
-use Rattle.std.proofs.lemmas.Option.{slice_get-map, slice_get_within, get_or_from_slice_get, slice_get-get_or}
+use Rattle.std.proofs.lemmas.Option.{slice_get-map, slice_get_within, get_or_from_slice_get}
 use Rattle.std.proofs.lemmas.Simd.{map-map}
 use Rattle.lid_base.specs.Lists.{Among}
 use Rattle.lid_base.proofs.Lists.{all_among, among_append, flat_among}
@@ -19,10 +18,9 @@ use Rattle.lid_design.specs.declared.Flat.{Flat}
 use Rattle.lid_design.specs.Network.{Driver, from_input, from_latch, from_cover, from_connection, Table, bit_of, latch_bit, IsStrict, from_each}
 use Rattle.lid_design.specs.Columns.{Column, column, drivers, model_at, data_inputs}
 use Rattle.lid_design.specs.Flat.{inputs_at, latch_at, cover_at, flat_drivers}
-use Rattle.lid_design.specs.Walks.{HasTable, IsDriven}
+use Rattle.lid_design.specs.Walks.{HasTable}
 use Rattle.lid_design.specs.Loops.{pearls}
-use Rattle.lid_design.proofs.Parts.{driver_is}
-use Rattle.lid_flatten.specs.Standing.{StandsFor, IsInput, StandsForAll}
+use Rattle.lid_flatten.specs.Standing.{StandsFor, IsInput}
 use Rattle.lid_check.specs.Flats.{IsFlatOf}
 use Rattle.lid_pearl.specs.Pearls.{View}
 use Rattle.lid_pearl.proofs.Reordering.{all_from_each}
@@ -30,10 +28,9 @@ use Rattle.lid_system.specs.declared.System.{System}
 use Rattle.lid_system.specs.declared.Node.{Node}
 use Rattle.lid_system.specs.declared.Node.TheVariants.{Source, Shell, Sink}
 use Rattle.lid_system.specs.declared.InBit.{InBit}
-use Rattle.lid_system.specs.declared.InBit.TheVariants.{Const}
 use Rattle.lid_system.specs.Systems as system
 use Rattle.lid_system.specs.Systems.{Point, ports_at}
-use Rattle.lid_system.specs.Tables.{IsTable, in_bit, input_bits, ins_of, port_bits}
+use Rattle.lid_system.specs.Tables.{IsTable, in_bit, input_bits, ins_of}
 use Rattle.lid_system.proofs.Points.{ports_driven}
 use Rattle.lid_system.proofs.Shelling.{each_length, each_at}
 use Rattle.lid_system.proofs.Streaming.{inputs_agree}

@@ -1,5 +1,5 @@
 -- The ports of an emitted design, and names of ports that are taken.
-use Rattle.std.specs.Prelude.{◌||◌, ℕ, Bool, List, [], ◌∷◌, ◌++◌, find, codes, Option, Some, None}
+use Rattle.std.specs.Prelude.{◌||◌, ℕ, List, [], ◌∷◌, ◌++◌, find, codes, Option, Some, None}
 use Rattle.lid_design.specs.declared.Design.{Design}
 use Rattle.lid_design.specs.Columns.{is_among, root_inputs, root_outputs}
 

@@ -37,12 +37,12 @@ all_pass : {A : Type 0} (p : A → Bool) (xs : List A) → ((x : A) → p x ≡ 
 all_pass p [] each = refl
 all_pass {A} p (x ∷ xs) each = ap (λ (b : Bool). cond b (x ∷ filter p xs) (filter p xs)) (each x) ∙ ap (λ (ys : List A). x ∷ ys) (all_pass p xs each)
 
-get_left : {A : Type 0} (xs ys : List A) (i : ℕ) (x : A) → slice_get xs i ≡ Some x → slice_get (xs ++ ys) i ≡ Some x
+pub get_left : {A : Type 0} (xs ys : List A) (i : ℕ) (x : A) → slice_get xs i ≡ Some x → slice_get (xs ++ ys) i ≡ Some x
 get_left [] ys i x h = absurd (let e : None ≡ Some x = h in cc)
 get_left (y ∷ xs) ys zero x h = h
 get_left (y ∷ xs) ys (suc i) x h = get_left xs ys i x h
 
-get_right : {A : Type 0} (xs ys : List A) (i : ℕ) (x : A) → slice_get ys i ≡ Some x → (j : ℕ) → j ≡ length xs + i → slice_get (xs ++ ys) j ≡ Some x
+pub get_right : {A : Type 0} (xs ys : List A) (i : ℕ) (x : A) → slice_get ys i ≡ Some x → (j : ℕ) → j ≡ length xs + i → slice_get (xs ++ ys) j ≡ Some x
 get_right [] ys i x h j is = let e : j ≡ i = omega arith in ap (slice_get ys) e ∙ h
 get_right (y ∷ xs) ys i x h zero is = absurd (omega arith)
 get_right (y ∷ xs) ys i x h (suc j) is = get_right xs ys i x h j (omega arith)
