@@ -4,8 +4,8 @@
     tools/margins.py SEED COUNT
 
 The slack of a channel is found by trying each number of further relay stations, and the sizes of at most six stations
-by trying all lists of capacities up to 4, by the ratios of rates.py. Where no such list reaches, the sizes that are
-printed must reach, and no capacity of them can be lowered by one. It stops at the first difference.
+by trying all lists of capacities up to 4, by the ratios of rates.py. The sizes that are printed must reach, none of them
+can be lowered by one, and they are the first of those lists, or come before it where one of them is above 4. It stops at the first difference.
 """
 
 import itertools
@@ -100,9 +100,11 @@ def compare_size(session: Session, system: System, relays, count: int):
     if count <= 6:
         lists = map(list, itertools.product(range(2, 5), repeat=count))
         first = next((tried for tried in lists if system.reaches(relays, tried, wanted)), None)
-    if first is not None:
+    if first is not None and max(caps, default=2) <= 4:
         session.want(caps, first, "size " + told)
         session.came["size, all lists"] += 1
+    elif first is not None:
+        session.want(caps < first, True, "size " + told)
     for s in range(count):
         if caps[s] > 2:
             lower = caps[:s] + [caps[s] - 1] + [16] * (count - s - 1)
