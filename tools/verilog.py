@@ -17,7 +17,8 @@ import tempfile
 from pathlib import Path
 
 TOOLS = Path(__file__).resolve().parent
-LID = TOOLS.parent / "crates" / "lid" / "out" / "lid"
+BUILT = TOOLS.parent / "crates" / "lid" / "out" / "lid"
+LID = BUILT if BUILT.exists() else TOOLS.parent / "release" / "lid"
 
 
 def listed(text: str, word: str) -> list[str]:
