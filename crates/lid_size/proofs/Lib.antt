@@ -1,9 +1,8 @@
 pub mod Sized
 pub mod Joins
-pub mod Forwards
 pub mod Kept
 pub mod Chosen
-pub mod Taken
 pub mod Reaching
 pub mod Refuted
-pub mod ForwardShown
+pub mod Spare
+pub mod Fitting

@@ -17,7 +17,7 @@ use Rattle.lid_stations.specs.Placements.{links_of, station_count, IsCapacity, F
 use Rattle.lid_capacities.proofs.Scaling.{compared}
 use Rattle.lid_ratio.specs.declared.lowest_terms.Ratio.{Ratio}
 use Rattle.lid_size.specs.Comparing.{AreAllKept, IsFirstLow, AreCompared, want_of}
-use Rattle.lid_size.specs.ForwardParts.{HasStations, AreForwardRatios}
+use Rattle.lid_forward.specs.ForwardParts.{HasStations, AreForwardRatios}
 use Rattle.lid_size.specs.Sizing.{with_capacities, sized, greatest, AreCapacities, Reaches}
 use Rattle.lid_size.specs.Sizes.{FallsShort}
 use Rattle.lid_size.proofs.Joins.{least_within}

@@ -1,12 +1,10 @@
 -- Closed walks that show that a station with one place less does not reach.
-use Rattle.std.proofs.Common.{◌≡◌, ℕ, suc, ◌+◌, ◌-◌, ◌*◌, ◌/◌, ◌%◌, ◌<◌, ◌≤◌, ◌≢◌, ◌⊎◌, inl, inr, List, [], ◌∷◌, ◌++◌, length, take, get_or, replicate, refl, sym, ◌∙◌, ap, subst, append-nil, arith}
-use Rattle.std.specs.List.{All}
-use Rattle.std.proofs.lemmas.Bool.{cases_lt}
+use Rattle.std.proofs.Common.{◌≡◌, ℕ, suc, ◌+◌, ◌-◌, ◌*◌, ◌/◌, ◌%◌, ◌<◌, ◌≤◌, ◌≢◌, List, [], ◌++◌, length, take, get_or, replicate, refl, sym, ◌∙◌, ap, subst, append-nil, arith}
 use Rattle.std.proofs.lemmas.List.{length-take-le, get_or-take, get_or-replicate}
-use Rattle.std.proofs.lemmas.List.Elements.{All-nil, All-cons, All-get_or, All-from_get_or}
+use Rattle.std.proofs.lemmas.List.Elements.{All-get_or, All-from_get_or}
 use Rattle.lid_graph.specs.declared.graph.Graph.{Graph}
 use Rattle.lid_graph.specs.Rateable.{IsRateable}
-use Rattle.lid_graph.specs.Walks.{edge_at, walk_start, walk_tokens, IsPaired, IsWalk, IsClosedWalk}
+use Rattle.lid_graph.specs.Walks.{edge_at, walk_start, walk_tokens, IsClosedWalk}
 use Rattle.lid_graph.specs.Ratios.{IsClosedWalkNear}
 use Rattle.lid_system.specs.declared.System.{System}
 use Rattle.lid_stations.specs.declared.placement.Placement.{Placement}
@@ -14,24 +12,14 @@ use Rattle.lid_stations.specs.Placements.{links_of, station_count, IsCapacity}
 use Rattle.lid_capacities.specs.Capacities.{IsForward}
 use Rattle.lid_capacities.proofs.Alike.{closed_alike}
 use Rattle.lid_capacities.proofs.Forward.{has_kept}
+use Rattle.lid_forward.proofs.Closed.{closed_start}
 use Rattle.lid_ratio.specs.declared.lowest_terms.Ratio.{Ratio}
-use Rattle.lid_size.specs.ForwardParts.{AreForwardRatios, no_ratio}
+use Rattle.lid_forward.specs.ForwardParts.{AreForwardRatios, no_ratio}
 use Rattle.lid_size.specs.Sizes.{IsReached}
 use Rattle.lid_size.specs.Sizing.{sized, greatest, AreCapacities, Reaches, IsFirst}
 use Rattle.lid_size.specs.Testing.{lessened, IsWidest, IsRefuted, AreTight}
 use Rattle.lid_size.proofs.Chosen.{followed_capacities, chosen_first}
 use Rattle.lid_size.proofs.Sized.{differ, back_tokens, reach_up, wants_stay}
-
--- an even number is that of an edge forth, or stands after those of the stations
-pub even_forward : (n k : ℕ) → k % 2 ≡ 0 → IsForward n k
-even_forward n k even = by_order (cases_lt (k / 2) n)
-  where
-    by_order : (k / 2 < n) ⊎ (n ≤ k / 2) → IsForward n k
-    by_order (inl h) = inl (k / 2, h, omega arith)
-    by_order (inr h) = inr (omega arith)
-
-pub late_forward : (n k : ℕ) → n ≤ k / 2 → IsForward n k
-late_forward n k late = inr (omega arith)
 
 module _ (caps : List ℕ) (station : ℕ) (within : station < length caps) (range : (i : ℕ) → i < station → IsCapacity (get_or caps i 0)) (wide : 2 < get_or caps station 0) (narrow : get_or caps station 0 ≤ 16) where
   pub lessened_capacities : AreCapacities (length caps) (lessened caps station)
@@ -63,14 +51,6 @@ module _ (caps : List ℕ) (station : ℕ) (within : station < length caps) (ran
       let here : (edge_at g k).tokens ≡ (edge_at (sized (links_of s) relays (greatest relays)) (suc (k / 2 + k / 2))).tokens = ap (λ (x : Graph). (edge_at x k).tokens) widest.is ∙ ap (λ (m : ℕ). (edge_at (sized (links_of s) relays (greatest relays)) m).tokens) (sym number) in
       let there : (edge_at (sized (links_of s) relays (lessened caps station)) (suc (k / 2 + k / 2))).tokens ≡ (edge_at (sized (links_of s) relays (lessened caps station)) k).tokens = ap (λ (m : ℕ). (edge_at (sized (links_of s) relays (lessened caps station)) m).tokens) number in
       omega arith
-
-pub walk_within : (g : Graph) (ks : List ℕ) (u v : ℕ) → IsWalk g u ks v → All (λ k. k < length g.edges) ks
-walk_within g [] u v walk = All-nil (λ k. k < length g.edges)
-walk_within g (k ∷ ks) u v walk = All-cons (λ k. k < length g.edges) k ks walk.0 (walk_within g ks (edge_at g k).to v walk.2)
-
-pub closed_start : (g : Graph) (ks : List ℕ) → IsPaired g → IsClosedWalk g ks → walk_start g ks < g.nodes
-closed_start g [] paired closed = absurd (let s = closed.some in omega arith)
-closed_start g (k ∷ ks) paired closed = (paired.ends k (closed.closed).0).from
 
 -- a closed walk below the forward ratio
 pub refuted : (g : Graph) (wants : List Ratio) (caps : List ℕ) (station : ℕ) (walk : List ℕ) (tokens : ℕ) → IsRateable g → IsClosedWalk g walk → ((s : System) (relays : List ℕ) → IsWidest g (length caps) s relays → tokens ≡ walk_tokens (sized (links_of s) relays (lessened caps station)) walk) → (get_or wants (walk_start g walk) no_ratio).q * tokens < (get_or wants (walk_start g walk) no_ratio).p * length walk → IsRefuted g wants caps station

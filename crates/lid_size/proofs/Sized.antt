@@ -16,7 +16,7 @@ use Rattle.lid_capacities.specs.Capacities.{IsForward, AreAlike, HasNoMore, Diff
 use Rattle.lid_capacities.proofs.Forward.{ratios_stay, greater_keep}
 use Rattle.lid_ratio.specs.declared.lowest_terms.Ratio.{Ratio}
 use Rattle.lid_size.specs.Sizing.{with_capacities, sized, AreCapacities, Reaches}
-use Rattle.lid_size.specs.ForwardParts.{HasStations, AreForwardRatios}
+use Rattle.lid_forward.specs.ForwardParts.{HasStations, AreForwardRatios}
 
 module _ (s : System) (relays xs ys : List ℕ) where
   abbrev old : Placement

@@ -8,7 +8,7 @@ use Rattle.lid_cert.specs.Certificates.{least_node, Certifies, IsInRange}
 use Rattle.lid_cert.specs.Owners.{part_at}
 use Rattle.lid_ratio.specs.declared.lowest_terms.Ratio.{Ratio}
 use Rattle.lid_rate.specs.Rates.{IsShort}
-use Rattle.lid_size.specs.ForwardParts.{AreForwardRatios, no_ratio}
+use Rattle.lid_forward.specs.ForwardParts.{AreForwardRatios, no_ratio}
 
 -- the ratio of the part is not below this one
 abbrev pub IsKept : Ratio → Part → Type 0

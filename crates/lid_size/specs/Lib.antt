@@ -1,7 +1,6 @@
 pub mod Sizing
 pub mod Sizes
 pub mod Choices
-pub mod ForwardParts
 pub mod Comparing
+pub mod Laws
 pub mod Testing
-pub mod ForwardWalks

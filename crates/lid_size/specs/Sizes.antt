@@ -1,12 +1,12 @@
 -- What sizing answers.
-use Rattle.std.specs.Prelude.{◌≡◌, ℕ, ◌*◌, ◌<◌, List, length}
+use Rattle.std.specs.Prelude.{◌≡◌, ℕ, ◌*◌, ◌<◌, List, length, ⊤}
 use Rattle.lid_graph.specs.declared.graph.Graph.{Graph}
 use Rattle.lid_graph.specs.Walks.{walk_tokens}
 use Rattle.lid_cert.specs.declared.cert.Cert.{Cert}
 use Rattle.lid_cert.specs.Certificates.{Certifies, least_node}
 use Rattle.lid_cert.specs.Owners.{part_at}
 use Rattle.lid_stations.specs.declared.placement.Placement.{Placement}
-use Rattle.lid_stations.specs.Placements.{Links, station_count}
+use Rattle.lid_stations.specs.Placements.{Links, station_count, Fits}
 use Rattle.lid_capacities.specs.Capacities.{IsForwardRatio, HasForwardRatio}
 use Rattle.lid_size.specs.declared.sizing.SizeEnd.{SizeEnd}
 use Rattle.lid_size.specs.declared.sizing.SizeEnd.TheVariants.{Reached, Short}
@@ -45,3 +45,8 @@ Sizes l relays (Short part have_p have_q want_p want_q cert) = FallsShort l rela
 abbrev pub short_end : List Ratio → ℕ → Cert → SizeEnd
 short_end wants low cert =
     Short low (part_at cert.parts low).p (part_at cert.parts low).q (want_of wants (part_at cert.parts low)).p (want_of wants (part_at cert.parts low)).q cert
+
+-- a placement that is answered fits the system
+abbrev pub FitsIfReached : Links → SizeEnd → Type 0
+FitsIfReached s (Reached p) = Fits s p
+FitsIfReached s (Short part have_p have_q want_p want_q cert) = ⊤

@@ -5,7 +5,7 @@ use Rattle.lid_ratio.specs.declared.lowest_terms.Ratio.{Ratio}
 use Rattle.lid_system.specs.declared.System.{System}
 use Rattle.lid_stations.specs.Placements.{links_of, station_count, IsCapacity}
 use Rattle.lid_size.specs.Choices.{followed}
-use Rattle.lid_size.specs.ForwardParts.{AreForwardRatios}
+use Rattle.lid_forward.specs.ForwardParts.{AreForwardRatios}
 use Rattle.lid_size.specs.Sizing.{sized, greatest, Reaches}
 
 -- the capacities before a station, one less than its own there, and 16 for all later ones

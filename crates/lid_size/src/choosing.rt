@@ -6,7 +6,7 @@ ghost use Rattle.std.specs.List.{All};
 ghost use Rattle.lid_stations.specs.Placements.{links_of, Fits, station_count, IsCapacity};
 ghost use Rattle.lid_system.specs.Systems.{IsWellFormed};
 ghost use Rattle.lid_size.specs.Choices.{followed, AreChosen, IsNext};
-ghost use Rattle.lid_size.specs.ForwardParts.{AreForwardRatios};
+ghost use Rattle.lid_forward.specs.ForwardParts.{AreForwardRatios};
 ghost use Rattle.lid_size.specs.Sizes.{IsReached};
 ghost use Rattle.lid_size.specs.Sizing.{sized, greatest, Reaches, IsFirst};
 

@@ -7,7 +7,7 @@ ghost use Rattle.lid_cert.specs.Certificates.{least_node, Certifies, IsInRange};
 ghost use Rattle.lid_rate.specs.Rates.{IsShort};
 ghost use Rattle.lid_system.specs.Systems.{IsWellFormed};
 ghost use Rattle.lid_stations.specs.Placements.{links_of, Fits, station_count};
-ghost use Rattle.lid_size.specs.ForwardParts.{AreForwardRatios, no_ratio};
+ghost use Rattle.lid_forward.specs.ForwardParts.{AreForwardRatios, no_ratio};
 ghost use Rattle.lid_size.specs.Sizing.{sized, Reaches};
 ghost use Rattle.lid_size.specs.Comparing.{IsKept, AreAllKept, IsFirstLow, AreCompared};
 

@@ -3,10 +3,9 @@
 
 mod choosing;
 mod comparing;
-mod forward;
-mod ratios;
+mod laws;
 mod sizing;
 mod testing;
-mod walks;
 
+pub use laws::{greater_capacities_reach, no_place_is_spare};
 pub use sizing::{SizeEnd, size};

@@ -5,14 +5,14 @@ ghost use Rattle.lid_graph.specs.declared.graph.Graph.{Graph};
 ghost use Rattle.lid_stations.specs.Placements.{links_of, Fits, station_count};
 ghost use Rattle.lid_system.specs.Systems.{IsWellFormed};
 ghost use Rattle.lid_size.specs.Comparing.{AreCompared, IsFirstLow};
-ghost use Rattle.lid_size.specs.ForwardParts.{AreForwardRatios};
+ghost use Rattle.lid_forward.specs.ForwardParts.{AreForwardRatios};
 ghost use Rattle.lid_size.specs.Sizing.{sized, greatest, Reaches};
-ghost use Rattle.lid_size.specs.Sizes.{Sizes, short_end};
+ghost use Rattle.lid_size.specs.Sizes.{Sizes, FitsIfReached, short_end};
 
 use crate::choosing::{choose, greatest, placement_of, tested};
 use crate::comparing::{find_low, want_of};
-use crate::forward::forward_ratios;
 use lid_cert::Cert;
+use lid_forward::forward_ratios;
 use lid_graph::Graph;
 use lid_rate::find;
 use lid_ratio::Ratio;
@@ -148,7 +148,8 @@ fn widest(alloc: Global, placement: &Placement) -> Result<Placement, AllocError>
 pub fn size(alloc: Global, system: &System, placement: &Placement) -> Result<SizeEnd, AllocError>
     requires system { IsWellFormed system.now }
     requires fits { Fits system.now placement.now }
-    ensures { IfOk result (Sizes (links_of system.now) placement.now.relays) }
+    ensures is { IfOk result (Sizes (links_of system.now) placement.now.relays) }
+    ensures fits { IfOk result (FitsIfReached system.now) }
 {
     let widest = widest(alloc, placement)?;
     let graph = marking(alloc, system, &widest)?;

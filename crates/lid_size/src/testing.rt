@@ -7,11 +7,11 @@ ghost use Rattle.lid_graph.specs.Rateable.{IsRateable};
 ghost use Rattle.lid_graph.specs.Walks.{edge_at, walk_tokens};
 ghost use Rattle.lid_system.specs.declared.System.{System};
 ghost use Rattle.lid_stations.specs.Placements.{links_of, IsCapacity};
-ghost use Rattle.lid_size.specs.ForwardParts.{AreForwardRatios};
+ghost use Rattle.lid_forward.specs.ForwardParts.{AreForwardRatios};
 ghost use Rattle.lid_size.specs.Sizing.{sized};
 ghost use Rattle.lid_size.specs.Testing.{lessened, IsWidest, IsRefuted, AreTight};
 
-use crate::walks::{is_closed, walk_at, walk_start};
+use lid_forward::{is_closed, walk_at, walk_start};
 use lid_graph::Graph;
 use lid_ratio::{Ratio, edge};
 use lid_sizeguess::Sizes;

@@ -1,0 +1,4 @@
+pub mod Closed
+pub mod Forwards
+pub mod Taken
+pub mod ForwardShown

@@ -1,0 +1,2 @@
+pub mod ForwardParts
+pub mod ForwardWalks

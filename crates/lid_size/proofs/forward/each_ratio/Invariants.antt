@@ -1,5 +1,0 @@
-use Rattle.lid_size.specs.ForwardParts.{AreRatiosBelow}
-use Rattle.lid_size.proofs.forward.each_ratio.Given as goal
-
-abbrev pub invariant-loop-v : goal.invariant-loop-v
-invariant-loop-v l = AreRatiosBelow l.graph l.stations l.v l.wants.items
