@@ -1,7 +1,7 @@
 -- Some words, and the jobs that they are by the definitions alone.
 use Rattle.std.proofs.Common.{◌≡◌, refl, [], ◌∷◌, true, Some, None, codes}
 use Rattle.clap.proofs.OnLiterals.{clap_on_literals}
-use Rattle.lid_cli.specs.declared.job.Job.TheVariants.{Check, Clock, Free, Gen, Place, Rate, Size, Slack, Strict, Verify, Walk}
+use Rattle.lid_cli.specs.declared.job.Job.TheVariants.{Check, Clock, Emit, Free, Gen, Place, Rate, Size, Slack, Strict, Verify, Walk}
 use Rattle.lid_base.specs.Numbers.{number_below}
 use Rattle.lid_cli.specs.Reading.{lid_app, given_in}
 use Rattle.lid_cli.specs.Jobs.{is_given, is_tallied, files_in, file_at, name_in, seed_in, number_if, number_or, is_allowed, has_only, has_each, is_within, fits, option_fits, has_both, has_form, job_made, job_formed, form_in, job_given, job_of}
@@ -86,6 +86,11 @@ words_are_not_given :
     × (given_in (codes "free" ∷ codes "a" ∷ codes "b" ∷ codes "--tally=x" ∷ []) ≡ None)
 unfolding words_on_literals
 words_are_not_given = (refl, refl, refl, refl)
+
+-- `emit a --stations s --root m`
+emit_with_stations : job_of (codes "emit" ∷ codes "a" ∷ codes "--stations" ∷ codes "s" ∷ codes "--root" ∷ codes "m" ∷ []) ≡ Some (Emit (codes "a") (Some (codes "s")) (Some (codes "m")))
+unfolding words_on_literals
+emit_with_stations = refl
 
 -- `slack a`
 slack_alone : job_of (codes "slack" ∷ codes "a" ∷ []) ≡ Some (Slack (codes "a") None None)

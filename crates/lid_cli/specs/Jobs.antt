@@ -10,7 +10,7 @@ use Rattle.lid_cli.specs.declared.table.TheConstants.{COMMAND, FILES, TALLY, ROO
 use Rattle.lid_cli.specs.declared.table.Command.{Command}
 use Rattle.lid_cli.specs.declared.table.Command.TheVariants as command
 use Rattle.lid_cli.specs.declared.job.Job.{Job}
-use Rattle.lid_cli.specs.declared.job.Job.TheVariants.{Check, Clock, Free, Gen, Place, Rate, Size, Slack, Strict, Unwave, Verify, Walk, Wave}
+use Rattle.lid_cli.specs.declared.job.Job.TheVariants.{Check, Clock, Emit, Free, Gen, Place, Rate, Size, Slack, Strict, Unwave, Verify, Walk, Wave}
 use Rattle.lid_cli.specs.Table.{Form, form, table, Range, range, ranges}
 use Rattle.lid_cli.specs.Reading.{option_names, given_in}
 
@@ -117,6 +117,10 @@ number_or other option found = unwrap_or (number_if option found) other
 abbrev pub clock_job : List Row → Option Job
 clock_job found = Some (Clock (file_at 0 found) (file_at 1 found) (first_of STATIONS.now found) (first_of STALLS.now found) (number_or 1 WORKERS.now found) (number_if TRACE.now found) (root_in found))
 
+-- the job of `emit`
+abbrev pub emit_job : List Row → Option Job
+emit_job found = Some (Emit (file_at 0 found) (first_of STATIONS.now found) (root_in found))
+
 -- the job of `free`
 abbrev pub free_job : List Row → Option Job
 free_job found = Some (Free (file_at 0 found) (file_at 1 found) (first_of STATIONS.now found) (number_or 1 WORKERS.now found) (number_or 1000 ROUNDS.now found) (is_tallied found) (root_in found))
@@ -165,7 +169,7 @@ walk_job found = Some (Walk (file_at 0 found) (file_at 1 found) (name_in SCHEDUL
 abbrev pub wave_job : List Row → Option Job
 wave_job found = Some (Wave (file_at 0 found) (file_at 1 found) (first_of STATIONS.now found) (number_or 1 TRACE.now found) (root_in found))
 
--- the job of a command whose form the words have; a command that is not built yet has none
+-- the job of a command whose form the words have
 unfoldable pub job_made : Command → List Row → Option Job
 job_made command.Check found = check_job found
 job_made command.Strict found = strict_job found
@@ -178,9 +182,9 @@ job_made command.Gen found = gen_job found
 job_made command.Walk found = walk_job found
 job_made command.Wave found = wave_job found
 job_made command.Unwave found = unwave_job found
+job_made command.Emit found = emit_job found
 job_made command.Slack found = slack_job found
 job_made command.Size found = size_job found
-job_made unbuilt found = None
 
 -- the job of a form, where the words have it
 unfoldable pub job_formed : List Row → Form → Option Job

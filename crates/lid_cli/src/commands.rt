@@ -2,7 +2,7 @@
 
 ghost use Rattle.std.specs.Prelude.{◌≡◌, IfOk};
 ghost use Rattle.lid_cli.specs.Reading.{matches_in};
-ghost use Rattle.lid_cli.specs.Jobs.{file_at, root_in, seed_in, number_if, number_or, check_job, gen_job, place_job, rate_job, strict_job, unwave_job, verify_job, walk_job, wave_job, clock_job, free_job, size_job, slack_job};
+ghost use Rattle.lid_cli.specs.Jobs.{file_at, root_in, seed_in, number_if, number_or, check_job, gen_job, place_job, rate_job, strict_job, unwave_job, verify_job, walk_job, wave_job, clock_job, free_job, emit_job, size_job, slack_job};
 
 use crate::given::{file_at, file_text, is_tallied, root_of, text_if_given, text_of, value_of};
 use crate::job::Job;
@@ -63,6 +63,19 @@ pub fn clock_job(alloc: Global, given: &ArgMatches<'_>) -> Result<Option<Job>, A
         stalls,
         workers: number_or(given, WORKERS, 1),
         trace: number_if(given, TRACE),
+        root,
+    }))
+}
+
+/// The job of `emit`.
+pub fn emit_job(alloc: Global, given: &ArgMatches<'_>) -> Result<Option<Job>, AllocError>
+    ensures { IfOk result (λ job. job ≡ emit_job (matches_in given.now)) }
+{
+    let (net, root) = netlist_of(alloc, given)?;
+    let stations = text_if_given(alloc, given, STATIONS)?;
+    Ok(Some(Job::Emit {
+        net,
+        stations,
         root,
     }))
 }

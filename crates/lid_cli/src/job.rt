@@ -6,8 +6,8 @@ ghost use Rattle.lid_cli.specs.Reading.{matches_in, option_names};
 ghost use Rattle.lid_cli.specs.Jobs.{IsSound, option_fits, form_shown, job_made, job_formed, job_given, job_of};
 
 use crate::commands::{
-    check_job, clock_job, free_job, gen_job, place_job, rate_job, size_job, slack_job, strict_job,
-    unwave_job, verify_job, walk_job, wave_job,
+    check_job, clock_job, emit_job, free_job, gen_job, place_job, rate_job, size_job, slack_job,
+    strict_job, unwave_job, verify_job, walk_job, wave_job,
 };
 use crate::form::{form_of, has_form};
 use crate::reader::parse;
@@ -40,6 +40,15 @@ pub enum Job {
         workers: u64,
         /// The number of cycles of the trace, 1 to 1,048,576, where one is asked for.
         trace: Option<u64>,
+        /// The name of the model that is to be the root, as for `strict`.
+        root: Option<Name>,
+    },
+    /// `emit NET`: the wrapped design as a netlist.
+    Emit {
+        /// The name of the file with the netlist.
+        net: Text,
+        /// The name of the file with the stations, as for `rate`.
+        stations: Option<Text>,
         /// The name of the model that is to be the root, as for `strict`.
         root: Option<Name>,
     },
@@ -161,7 +170,7 @@ pub enum Job {
     },
 }
 
-/// The job of a command whose form the words have; a command that is not built yet has none.
+/// The job of a command whose form the words have.
 #[tactic(auto, unfolding(crate::specs::Jobs::job_made))]
 fn make_job(
     alloc: Global,
@@ -175,6 +184,7 @@ fn make_job(
     match command {
         Command::Check => check_job(alloc, given),
         Command::Clock => clock_job(alloc, given),
+        Command::Emit => emit_job(alloc, given),
         Command::Free => free_job(alloc, given),
         Command::Gen => Ok(gen_job(given)),
         Command::Place => place_job(alloc, given),
@@ -186,8 +196,6 @@ fn make_job(
         Command::Verify => verify_job(alloc, given),
         Command::Walk => walk_job(alloc, given),
         Command::Wave => wave_job(alloc, given),
-        // not built yet
-        Command::Emit => Ok(None),
     }
 }
 

@@ -39,6 +39,9 @@ returns-in-Unwave-clause-sound c = if_ok c.unwave_job.result (λ job e. same_job
 pub returns-in-Wave-clause-sound : goal.returns-in-Wave-clause-sound
 returns-in-Wave-clause-sound c = if_ok c.wave_job.result (λ job e. same_job job _ (trace_long _ c.requires) e) c.wave_job.ensures
 
+pub returns-in-Emit-clause-sound : goal.returns-in-Emit-clause-sound
+returns-in-Emit-clause-sound c = if_ok c.emit_job.result (λ job e. same_job job _ tt e) c.emit_job.ensures
+
 pub returns-in-Size-clause-sound : goal.returns-in-Size-clause-sound
 returns-in-Size-clause-sound c = if_ok c.size_job.result (λ job e. same_job job _ tt e) c.size_job.ensures
 

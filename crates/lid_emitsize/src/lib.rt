@@ -1,0 +1,10 @@
+//! What a wrapped design asks of names and of room: the size, names that are taken, and a prefix for new names.
+#![tactic(auto)]
+
+mod prefix;
+mod size;
+mod taken;
+
+pub use prefix::free_prefix;
+pub use size::emitted_size;
+pub use taken::find_taken;

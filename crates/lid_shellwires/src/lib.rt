@@ -1,0 +1,6 @@
+//! The wires that stand for the nets of shells in a wrapped system.
+#![tactic(auto)]
+
+mod shells;
+
+pub use shells::{Shells, make_shells};
