@@ -1,10 +1,11 @@
 //! The emitted design.
 
 ghost use Rattle.std.specs.Prelude.{◌≡◌, ◌⊎◌, Some, None, IfOk, IfErr};
-ghost use Rattle.lid_emit.specs.declared.fault.EmitFault.TheVariants.{Memory};
-ghost use Rattle.lid_emit.specs.Emitted.{CanBeEmitted, emit_fault, IsEmitted};
+ghost use Rattle.lid_emitsize.specs.declared.fault.EmitFault.TheVariants.{Memory};
+ghost use Rattle.lid_stations.specs.Placements.{links_of};
+ghost use Rattle.lid_emitsize.specs.Emitted.{CanBeEmitted, emit_fault, IsEmitted};
 
-use crate::fault::EmitFault;
+use lid_emitsize::EmitFault;
 use lid_check::Checked;
 use lid_design::Design;
 use lid_stations::Placement;
@@ -19,8 +20,8 @@ pub fn emit(
     placement: &Placement,
 ) -> Result<Design, EmitFault>
     requires { CanBeEmitted checked.now system.now placement.now }
-    ensures ok { IfOk result (λ e. (emit_fault checked.now system.now placement.now ≡ None) × IsEmitted checked.now system.now placement.now e) }
-    ensures err { IfErr result (λ fault. (emit_fault checked.now system.now placement.now ≡ Some fault) ⊎ (fault ≡ Memory)) }
+    ensures ok { IfOk result (λ e. (emit_fault checked.now (links_of system.now) placement.now ≡ None) × IsEmitted checked.now (links_of system.now) placement.now e) }
+    ensures err { IfErr result (λ fault. (emit_fault checked.now (links_of system.now) placement.now ≡ Some fault) ⊎ (fault ≡ Memory)) }
 {
     Err(EmitFault::Memory)
 }

@@ -9,9 +9,8 @@ use Rattle.lid_design.specs.Network.{from_each}
 use Rattle.lid_design.specs.Models.{number_from}
 use Rattle.lid_design.specs.Loops.{pearls}
 use Rattle.lid_design.specs.Elaboration.{instances_in}
-use Rattle.lid_system.specs.declared.System.{System}
 use Rattle.lid_stations.specs.declared.placement.Placement.{Placement}
-use Rattle.lid_stations.specs.Placements.{links_of, station_count}
+use Rattle.lid_stations.specs.Placements.{Links, station_count}
 use Rattle.lid_stations.specs.Stations.{spot_at, channel_at, capacity}
 
 -- for each data input and output of the root, 1 and the length of its name
@@ -19,11 +18,11 @@ abbrev pub ports_size : Design → ℕ
 ports_size d = sum_by (λ name. 1 + length name) (root_inputs d ++ root_outputs d)
 
 -- for a station its capacity, times 1 and the ports of its channel
-abbrev pub station_size : System → Placement → ℕ → ℕ
-station_size s p station = capacity p station * (1 + length (channel_at (links_of s) (spot_at p.relays station).channel).ports)
+abbrev pub station_size : Links → Placement → ℕ → ℕ
+station_size l p station = capacity p station * (1 + length (channel_at l (spot_at p.relays station).channel).ports)
 
-abbrev pub stations_size : System → Placement → ℕ
-stations_size s p = sum_by (station_size s p) (from_each (λ station. station) 0 (station_count p.relays))
+abbrev pub stations_size : Links → Placement → ℕ
+stations_size l p = sum_by (station_size l p) (from_each (λ station. station) 0 (station_count p.relays))
 
 -- 1 for a latch, and for a cover 1, its inputs and its rows
 abbrev pub cell_size : Cell → ℕ
@@ -40,5 +39,5 @@ pearl_size d k = 1 + sum_by (λ i. cells_size d i.model) (instances_in (length d
 abbrev pub pearls_size : Design → ℕ
 pearls_size d = sum_by (λ path. option_map_or (pearl_size d) (number_from d d.root path) 0) (pearls d)
 
-unfoldable pub size : Design → System → Placement → ℕ
-size d s p = ports_size d + stations_size s p + pearls_size d
+unfoldable pub size : Design → Links → Placement → ℕ
+size d l p = ports_size d + stations_size l p + pearls_size d

@@ -1,10 +1,12 @@
 //! What a wrapped design asks of names and of room: the size, names that are taken, and a prefix for new names.
 #![tactic(auto)]
 
+mod fault;
 mod prefix;
 mod size;
 mod taken;
 
+pub use fault::EmitFault;
 pub use prefix::free_prefix;
 pub use size::emitted_size;
 pub use taken::find_taken;

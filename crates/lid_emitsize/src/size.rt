@@ -1,7 +1,7 @@
 //! The size of a wrapped design.
 
 ghost use Rattle.std.specs.Prelude.{◌≡◌, IfOk};
-ghost use Rattle.lid_stations.specs.Placements.{Fits};
+ghost use Rattle.lid_stations.specs.Placements.{links_of, Fits};
 ghost use Rattle.lid_system.specs.Systems.{IsWellFormed};
 ghost use Rattle.lid_emitsize.specs.Sizes.{size};
 
@@ -22,7 +22,7 @@ pub fn emitted_size(
 ) -> Result<u64, AllocError>
     requires system { IsWellFormed system.now }
     requires fits { Fits system.now placement.now }
-    ensures { IfOk result (λ count. count ≡ size checked.now system.now placement.now) }
+    ensures { IfOk result (λ count. count ≡ size checked.now (links_of system.now) placement.now) }
 {
     Err(AllocError)
 }

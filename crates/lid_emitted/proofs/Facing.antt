@@ -106,5 +106,5 @@ module _ (d : Design) (s : System) (p : Placement) (n : Nets) (name : Wire → L
       (λ first. delivers s p n well fits nets (flats_follow d s n has of well flats) rows seen network given outs first (output_there d s given outs of well output))
       begins)
 
-  pub runs_as : emitted.RunsAs d s p rows face
+  pub runs_as : emitted.RunsAs d (links_of s) p rows face
   runs_as = record { tells = tells_state; delivers = delivers_outputs }

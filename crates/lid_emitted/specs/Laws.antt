@@ -9,7 +9,7 @@ use Rattle.lid_system.specs.declared.System.{System}
 use Rattle.lid_system.specs.Systems as system
 use Rattle.lid_agree.specs.Agreement.{IsSystemOf}
 use Rattle.lid_stations.specs.declared.placement.Placement.{Placement}
-use Rattle.lid_stations.specs.Placements.{Fits}
+use Rattle.lid_stations.specs.Placements.{links_of, Fits}
 use Rattle.lid_circuit.specs.Wires.{Wire}
 use Rattle.lid_wrapped.specs.Nets.{Nets, AreNets, FollowTables}
 use Rattle.lid_wrapped.specs.Wrapping.{plan_of}
@@ -31,4 +31,4 @@ EmittedDesignsRun =
     → IsWellFormed d → IsAccepted d → IsSystemOf d s → system.IsWellFormed s → Fits s p
     → AreNets s p n → AreFlatsOf d s n → IsNaming (plan_of s p n) name → ArePortNames d name
     → (rows : List (List Bool)) (b : Table Column) → IsStrict (drivers (named_design (plan_of s p n) name root)) rows b
-    → RunsAs d s p rows (face_of (root_outputs d) b)
+    → RunsAs d (links_of s) p rows (face_of (root_outputs d) b)

@@ -3,9 +3,8 @@ use Rattle.std.specs.Prelude.{ℕ, Bool, List, [], length, map}
 use Rattle.lid_design.specs.declared.Design.{Design}
 use Rattle.lid_design.specs.Network.{Table}
 use Rattle.lid_design.specs.Columns.{Column, column, root_inputs, IsStrictOutput}
-use Rattle.lid_system.specs.declared.System.{System}
 use Rattle.lid_stations.specs.declared.placement.Placement.{Placement}
-use Rattle.lid_stations.specs.Placements.{links_of}
+use Rattle.lid_stations.specs.Placements.{Links}
 use Rattle.lid_wrapped.specs.Faces.{Face, TellsItsState, Delivers}
 use Rattle.lid_emitted.specs.Ports.{valid_name, stop_name}
 
@@ -18,6 +17,6 @@ face_of outputs b = record {
 }
 
 -- in each cycle it tells its state, and it delivers the strict outputs of the design for the rows that it accepts
-pub record RunsAs (d : Design) (s : System) (p : Placement) (rows : List (List Bool)) (face : Face) : Type 0 where
-  pub tells : TellsItsState (links_of s) p (length (root_inputs d)) rows face
-  pub delivers : Delivers (links_of s) p (length (root_inputs d)) rows face (IsStrictOutput d)
+pub record RunsAs (d : Design) (l : Links) (p : Placement) (rows : List (List Bool)) (face : Face) : Type 0 where
+  pub tells : TellsItsState l p (length (root_inputs d)) rows face
+  pub delivers : Delivers l p (length (root_inputs d)) rows face (IsStrictOutput d)

@@ -25,6 +25,8 @@ use Rattle.lid_stalltext.specs.declared.stalls.StallFault.{StallFault}
 use Rattle.lid_stalltext.specs.declared.stalls.StallFault.TheVariants as stalls
 use Rattle.lid_vcd.specs.declared.reader.VcdFault.{VcdFault}
 use Rattle.lid_vcd.specs.declared.reader.VcdFault.TheVariants as vcd
+use Rattle.lid_emitsize.specs.declared.fault.EmitFault.{EmitFault}
+use Rattle.lid_emitsize.specs.declared.fault.EmitFault.TheVariants as emit
 use Rattle.lid_gen.specs.declared.fault.GenFault.{GenFault}
 use Rattle.lid_gen.specs.declared.fault.GenFault.TheVariants as gen
 use Rattle.lid_io.specs.Telling.{fault_line, path_text}
@@ -157,6 +159,11 @@ abbrev pub gen_words : GenFault → List (List ℕ)
 gen_words (gen.Size shells) = codes "Size" ∷ decimal shells ∷ []
 gen_words gen.Memory = []
 
+abbrev pub emit_words : EmitFault → List (List ℕ)
+emit_words (emit.NameTaken name) = codes "NameTaken" ∷ name ∷ []
+emit_words (emit.TooBig count) = codes "TooBig" ∷ decimal count ∷ []
+emit_words emit.Memory = []
+
 abbrev pub trace_words : TraceFault → List (List ℕ)
 trace_words (trace.Limit which count) = over_limit which count
 
@@ -194,6 +201,9 @@ vcd_line fault = fault_line (codes "vcd" ∷ vcd_words fault)
 
 abbrev pub gen_line : GenFault → List ℕ
 gen_line fault = fault_line (codes "gen" ∷ gen_words fault)
+
+abbrev pub emit_line : EmitFault → List ℕ
+emit_line fault = fault_line (codes "emit" ∷ emit_words fault)
 
 -- status 2
 abbrev pub usage_line : List ℕ

@@ -1,8 +1,8 @@
 -- The line of each refusal.
 use Rattle.std.specs.Prelude.{ℕ, List}
 use Rattle.lid_refusals.specs.declared.refusal.Refusal.{Refusal}
-use Rattle.lid_refusals.specs.declared.refusal.Refusal.TheVariants.{Blif, Check, Net, Rows, Stations, Cert, Trace, Stalls, Schedule, Vcd, Gen}
-use Rattle.lid_refusals.specs.Faults.{blif_line, rows_line, check_line, net_line, stations_line, cert_line, trace_line, stalls_line, schedule_line, vcd_line, gen_line}
+use Rattle.lid_refusals.specs.declared.refusal.Refusal.TheVariants.{Blif, Check, Net, Rows, Stations, Cert, Trace, Stalls, Schedule, Vcd, Gen, Emit}
+use Rattle.lid_refusals.specs.Faults.{blif_line, rows_line, check_line, net_line, stations_line, cert_line, trace_line, stalls_line, schedule_line, vcd_line, gen_line, emit_line}
 
 abbrev pub refusal_line : Refusal → List ℕ
 refusal_line (Blif fault) = blif_line fault
@@ -16,3 +16,4 @@ refusal_line (Stalls fault) = stalls_line fault
 refusal_line (Schedule fault) = schedule_line fault
 refusal_line (Vcd fault) = vcd_line fault
 refusal_line (Gen fault) = gen_line fault
+refusal_line (Emit fault) = emit_line fault

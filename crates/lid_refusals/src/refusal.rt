@@ -7,13 +7,14 @@ ghost use Rattle.lid_refusals.specs.Saying.{Says};
 
 use crate::saying::{say, say_told};
 use crate::told::{
-    told_of_blif, told_of_cert, told_of_check, told_of_dump, told_of_gen, told_of_net,
-    told_of_place, told_of_rows, told_of_schedule, told_of_stalls, told_of_trace,
+    told_of_blif, told_of_cert, told_of_check, told_of_dump, told_of_emit, told_of_gen,
+    told_of_net, told_of_place, told_of_rows, told_of_schedule, told_of_stalls, told_of_trace,
 };
 use lid_base::Sink;
 use lid_blif::BlifFault;
 use lid_certtext::CertFault;
 use lid_channels::NetFault;
+use lid_emitsize::EmitFault;
 use lid_gen::GenFault;
 use lid_io::Word;
 use lid_placetext::PlaceFault;
@@ -37,6 +38,7 @@ pub enum Refusal {
     Schedule(SchedFault),
     Vcd(VcdFault),
     Gen(GenFault),
+    Emit(EmitFault),
 }
 
 /// Says the line of a refusal.
@@ -55,6 +57,7 @@ pub fn say_refusal<E: Sink>(err: &mut E, refusal: &Refusal)
         Refusal::Schedule(fault) => say_told(err, "schedule", told_of_schedule(*fault)),
         Refusal::Vcd(fault) => say_told(err, "vcd", told_of_dump(*fault)),
         Refusal::Gen(fault) => say_told(err, "gen", told_of_gen(*fault)),
+        Refusal::Emit(fault) => say_told(err, "emit", told_of_emit(fault)),
     }
 }
 

@@ -1,13 +1,14 @@
 //! What a refusal tells: its name and its fields, as the words of one line.
 
 ghost use Rattle.std.specs.Prelude.{◌≡◌, true};
-ghost use Rattle.lid_refusals.specs.Faults.{text_words, blif_words, rows_words, net_words, place_words, cert_words, trace_words, stalls_words, schedule_words, vcd_words, gen_words, is_at_inst, check_words};
+ghost use Rattle.lid_refusals.specs.Faults.{text_words, blif_words, rows_words, net_words, place_words, cert_words, trace_words, stalls_words, schedule_words, vcd_words, gen_words, emit_words, is_at_inst, check_words};
 ghost use Rattle.lid_refusals.specs.Told.{told_words};
 
 use lid_base::{Items, Name, TextFault, Which};
 use lid_blif::BlifFault;
 use lid_certtext::CertFault;
 use lid_channels::NetFault;
+use lid_emitsize::EmitFault;
 use lid_gen::GenFault;
 use lid_placetext::PlaceFault;
 use lid_reports::{SchedFault, TraceFault};
@@ -170,6 +171,17 @@ pub fn told_of_gen(fault: GenFault) -> Told<'static>
     match fault {
         GenFault::Size { shells } => Told::Many("Size", u64::from(shells)),
         GenFault::Memory => Told::Nothing,
+    }
+}
+
+/// What a refusal of an emitted design tells.
+pub fn told_of_emit(fault: &EmitFault) -> Told<'_>
+    ensures { told_words result ≡ emit_words fault.now }
+{
+    match fault {
+        EmitFault::NameTaken { name } => Told::One("NameTaken", name),
+        EmitFault::TooBig { count } => Told::Many("TooBig", *count),
+        EmitFault::Memory => Told::Nothing,
     }
 }
 

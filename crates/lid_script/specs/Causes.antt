@@ -1,7 +1,7 @@
 -- Why a run does not end with its whole output: the cause that a value of the program tells.
 use Rattle.std.specs.Prelude.{◌≡◌, ◌⊎◌, ℕ, List, Option, Some, None}
 use Rattle.lid_base.specs.Outside.{Rose}
-use Rattle.lid_refusals.specs.declared.refusal.Refusal.TheVariants.{Blif, Check, Net, Rows, Stations, Cert, Stalls, Schedule, Vcd, Gen}
+use Rattle.lid_refusals.specs.declared.refusal.Refusal.TheVariants.{Blif, Check, Net, Rows, Stations, Cert, Stalls, Schedule, Vcd, Gen, Emit}
 use Rattle.lid_script.specs.declared.fault.Stop.{Stop}
 use Rattle.lid_script.specs.declared.fault.Stop.TheVariants.{Refused, Read, Memory, Denied}
 use Rattle.lid_script.specs.declared.fault.End.{End}
@@ -29,6 +29,8 @@ use Rattle.lid_stalltext.specs.declared.stalls.StallFault.{StallFault}
 use Rattle.lid_stalltext.specs.declared.stalls.StallFault.TheVariants as stalls
 use Rattle.lid_vcd.specs.declared.reader.VcdFault.{VcdFault}
 use Rattle.lid_vcd.specs.declared.reader.VcdFault.TheVariants as vcd
+use Rattle.lid_emitsize.specs.declared.fault.EmitFault.{EmitFault}
+use Rattle.lid_emitsize.specs.declared.fault.EmitFault.TheVariants as emit
 use Rattle.lid_gen.specs.declared.fault.GenFault.{GenFault}
 use Rattle.lid_gen.specs.declared.fault.GenFault.TheVariants as gen
 use Rattle.lid_refusals.specs.Faults.{read_line, write_line, memory_line, denied_line}
@@ -75,6 +77,10 @@ stop_of_dump fault = Refused (Vcd fault)
 abbrev pub stop_of_gen : GenFault → Stop
 stop_of_gen gen.Memory = Memory
 stop_of_gen fault = Refused (Gen fault)
+
+abbrev pub stop_of_emit : EmitFault → Stop
+stop_of_emit emit.Memory = Memory
+stop_of_emit fault = Refused (Emit fault)
 
 -- only memory was wanting
 abbrev pub IsWant : Stop → Type 0

@@ -4,6 +4,7 @@ pub mod Walked
 pub mod Waved
 pub mod Freed
 pub mod Generated
+pub mod Emitting
 pub mod Early
 pub mod Outputs
 pub mod Scripts

@@ -26,6 +26,7 @@ use Rattle.lid_script.specs.Clocked.{IsClockText}
 use Rattle.lid_script.specs.Walked.{IsWalkText}
 use Rattle.lid_script.specs.Waved.{IsWaveText}
 use Rattle.lid_script.specs.Freed.{IsFreeText}
+use Rattle.lid_script.specs.Emitting.{IsEmitText}
 use Rattle.lid_script.specs.Generated.{IsSummaryText}
 
 -- what a command tells
@@ -42,6 +43,7 @@ pub data Output : Type 0 where
   freed : Design → Links → Placement → List (List Bool) → ℕ → ℕ → Bool → Output  -- the free run for rows, by so many workers of so many rounds, with its tallies where they are asked for
   waved : Design → Links → Placement → List (List Bool) → ℕ → Output  -- the trace of the clocked run for rows, of so many cycles, as a dump
   unwaved : Trace → Output  -- the trace that a dump shows
+  emitted : Design → Links → Placement → Output  -- the wrapped design as a netlist
   design_of_seed : ℕ → ℕ → Output  -- the design of a seed with so many shells
   run_of_seed : ℕ → ℕ → ℕ → Output  -- what its clocked run of so many rows shows
 
@@ -85,5 +87,6 @@ IsTextOf (walked d l p rows schedule) text = IsWalkText d l p rows schedule text
 IsTextOf (freed d l p rows workers rounds tally) text = IsFreeText d l p rows workers rounds tally text
 IsTextOf (waved d l p rows most) text = IsWaveText d l p rows most text
 IsTextOf (unwaved trace) text = text ≡ trace_text trace
+IsTextOf (emitted d l p) text = IsEmitText d l p text
 IsTextOf (design_of_seed seed shells) text = text ≡ canonical_text (generated seed shells)
 IsTextOf (run_of_seed seed shells rows) text = IsSummaryText seed shells rows text

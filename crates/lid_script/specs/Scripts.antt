@@ -38,12 +38,14 @@ use Rattle.lid_texts.specs.Rows.{rows_reading}
 use Rattle.lid_reports.specs.declared.trace.Trace.{Trace}
 use Rattle.lid_vcd.specs.declared.reader.VcdFault.{VcdFault}
 use Rattle.lid_vcd.specs.Reading.{wave_reading}
+use Rattle.lid_emitsize.specs.declared.fault.EmitFault.{EmitFault}
+use Rattle.lid_emitsize.specs.Emitted.{emit_fault}
 use Rattle.lid_gen.specs.declared.fault.GenFault.{GenFault}
 use Rattle.lid_gen.specs.Designs.{size_fault}
 use Rattle.lid_cli.specs.declared.job.Job.{Job}
-use Rattle.lid_cli.specs.declared.job.Job.TheVariants.{Check, Clock, Free, Gen, Place, Rate, Size, Slack, Strict, Unwave, Verify, Walk, Wave}
-use Rattle.lid_refusals.specs.Faults.{blif_line, rows_line, check_line, net_line, stations_line, cert_line, trace_line, stalls_line, schedule_line, vcd_line, gen_line}
-use Rattle.lid_script.specs.Outputs.{Output, report, strict_output, placed, throughput, sized, slacks, verdict, clocked, walked, freed, waved, unwaved, design_of_seed, run_of_seed}
+use Rattle.lid_cli.specs.declared.job.Job.TheVariants.{Check, Clock, Emit, Free, Gen, Place, Rate, Size, Slack, Strict, Unwave, Verify, Walk, Wave}
+use Rattle.lid_refusals.specs.Faults.{blif_line, rows_line, check_line, net_line, stations_line, cert_line, trace_line, stalls_line, schedule_line, vcd_line, gen_line, emit_line}
+use Rattle.lid_script.specs.Outputs.{Output, report, strict_output, placed, throughput, sized, slacks, verdict, clocked, walked, freed, waved, unwaved, emitted, design_of_seed, run_of_seed}
 
 -- what a reading makes of a value
 pub data Reading (A : Type 0) : Type 0 where
@@ -377,6 +379,26 @@ dump_limit = 67108864
 unfoldable pub unwave_script : List ℕ → Script
 unwave_script file = read_step file dump_limit dump_read (λ trace. end (gives (unwaved trace)))
 
+abbrev pub emit_good : Option EmitFault → Reading (Unit {0})
+emit_good None = good tt
+emit_good (Some fault) = bad (emit_line fault)
+
+-- whether the wrapped design is emitted: its names and its size are judged
+unfoldable pub emit_read : Design → Links → Placement → Reading (Unit {0})
+emit_read d l p = emit_good (emit_fault d l p)
+
+-- `emit` of a system with such a placement
+unfoldable pub wrapping_script : Design → Links → Placement → Script
+wrapping_script d l p = step (emit_read d l p) (λ _. end (gives (emitted d l p)))
+
+-- `emit` of an accepted design: its system is built, then the stations are read
+unfoldable pub wrapped_script : Design → Option (List ℕ) → Script
+wrapped_script d stations = net_step d (λ channels. placement_step (links d channels) stations (wrapping_script d (links d channels)))
+
+-- `emit`: the netlist is fetched, read and checked
+unfoldable pub emit_script : List ℕ → Option (List ℕ) → Option (List ℕ) → Script
+emit_script net stations root = read_step net net_limit net_reading (λ d. check_step root d (λ checked. wrapped_script checked stations))
+
 abbrev pub size_good : Option GenFault → Reading (Unit {0})
 size_good None = good tt
 size_good (Some fault) = bad (gen_line fault)
@@ -408,6 +430,7 @@ script_of (Walk net vec schedule stations root) = walk_script net vec schedule s
 script_of (Free net vec stations workers rounds tally root) = free_script net vec stations workers rounds tally root
 script_of (Wave net vec stations trace root) = wave_script net vec stations trace root
 script_of (Unwave file) = unwave_script file
+script_of (Emit net stations root) = emit_script net stations root
 script_of (Gen seed shells run) = gen_script seed shells run
 
 -- the script ends so for some bytes of its files, those told where they are told

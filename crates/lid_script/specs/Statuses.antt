@@ -2,7 +2,7 @@
 use Rattle.std.specs.Prelude.{◌≡◌, ◌≢◌, ℕ, ◌≤◌, Bool, true, false, List, Option, None, IsSome, IfSome, ◌⊎◌}
 use Rattle.lid_base.specs.Outside.{Rose, Appended, AppendedPrefix}
 use Rattle.lid_cli.specs.declared.job.Job.{Job}
-use Rattle.lid_cli.specs.declared.job.Job.TheVariants.{Check, Clock, Free, Gen, Place, Rate, Size, Slack, Strict, Unwave, Verify, Walk, Wave}
+use Rattle.lid_cli.specs.declared.job.Job.TheVariants.{Check, Clock, Emit, Free, Gen, Place, Rate, Size, Slack, Strict, Unwave, Verify, Walk, Wave}
 use Rattle.lid_refusals.specs.Saying.{Says}
 use Rattle.lid_refusals.specs.Faults.{usage_line, read_line, write_line, memory_line, denied_line}
 use Rattle.lid_script.specs.Outputs.{Output, IsTextOf}
@@ -73,6 +73,7 @@ writes_early (Walk net vec schedule stations root) = false
 writes_early (Free net vec stations workers rounds tally root) = false
 writes_early (Wave net vec stations trace root) = false
 writes_early (Unwave file) = false
+writes_early (Emit net stations root) = false
 writes_early (Gen seed shells run) = false
 
 -- what stands in the output where it is not whole: what stood there before, but for a job that writes

@@ -1,11 +1,12 @@
 //! Why a job does not end with its whole output.
 
 ghost use Rattle.std.specs.Prelude.{◌≡◌};
-ghost use Rattle.lid_script.specs.Causes.{stop_of_blif, stop_of_rows, stop_of_check, stop_of_net, stop_of_place, stop_of_cert, stop_of_stalls, stop_of_schedule, stop_of_dump, stop_of_gen};
+ghost use Rattle.lid_script.specs.Causes.{stop_of_blif, stop_of_rows, stop_of_check, stop_of_net, stop_of_place, stop_of_cert, stop_of_stalls, stop_of_schedule, stop_of_dump, stop_of_gen, stop_of_emit};
 
 use lid_blif::BlifFault;
 use lid_certtext::CertFault;
 use lid_check::CheckFault;
+use lid_emitsize::EmitFault;
 use lid_gen::GenFault;
 use lid_net::NetFault;
 use lid_placetext::PlaceFault;
@@ -131,5 +132,15 @@ pub fn gen_stop<'a>(fault: GenFault) -> Stop<'a>
     match fault {
         GenFault::Memory => Stop::Memory,
         _ => Stop::Refused(Refusal::Gen(fault)),
+    }
+}
+
+/// Why there is no emitted design.
+pub fn emit_stop<'a>(fault: EmitFault) -> Stop<'a>
+    ensures { result ≡ stop_of_emit fault }
+{
+    match fault {
+        EmitFault::Memory => Stop::Memory,
+        _ => Stop::Refused(Refusal::Emit(fault)),
     }
 }

@@ -9,7 +9,7 @@ mod stalling;
 mod steps;
 mod tracing;
 
-pub use fault::{End, Stop, dump_stop, gen_stop, rows_stop};
+pub use fault::{End, Stop, dump_stop, emit_stop, gen_stop, rows_stop};
 pub use placing::{read_cert, read_placement, read_system, read_wires};
 pub use scheduling::read_schedule_file;
 pub use stalling::read_job_stalls;

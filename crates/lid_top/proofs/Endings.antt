@@ -8,15 +8,15 @@ use Rattle.lid_system.specs.declared.Channel.{Channel}
 use Rattle.lid_channels.specs.declared.fault.NetFault.TheVariants.{TooManyChannels}
 use Rattle.lid_net.specs.Graphs.{IsGraphOf}
 use Rattle.lid_cli.specs.declared.job.Job.{Job}
-use Rattle.lid_cli.specs.declared.job.Job.TheVariants.{Check, Clock, Free, Gen, Place, Rate, Size, Slack, Strict, Unwave, Verify, Walk, Wave}
+use Rattle.lid_cli.specs.declared.job.Job.TheVariants.{Check, Clock, Emit, Free, Gen, Place, Rate, Size, Slack, Strict, Unwave, Verify, Walk, Wave}
 use Rattle.lid_refusals.specs.Faults.{check_line, net_line}
-use Rattle.lid_script.specs.Outputs.{Output, strict_output, report, placed, throughput, sized, slacks, walked, waved, unwaved}
+use Rattle.lid_script.specs.Outputs.{Output, strict_output, report, placed, throughput, sized, slacks, walked, waved, unwaved, emitted}
 use Rattle.lid_cert.specs.declared.cert.Cert.{Cert}
 use Rattle.lid_stalltext.specs.declared.stalls.Stall.{Stall}
 use Rattle.lid_stations.specs.declared.placement.Placement.{Placement}
 use Rattle.lid_stations.specs.Placements.{Links, no_relays}
 use Rattle.lid_stations.specs.Stations.{actor_count}
-use Rattle.lid_script.specs.Scripts.{Ending, refuses, gives, Script, fetch, again, decide, end, Reading, good, bad, step, net_reading, vec_reading, check_step, net_step, report_script, check_script, rows_script, checked_script, strict_script, links, system_step, placement_step, stalls_read, stalls_step, stations_read, wires_read, cert_read, wires_script, told_script, judged_script, judging_script, cert_script, place_script, telling_script, verify_script, trace_read, rerun_script, traced_script, vec_script, stalled_script, placed_script, built_script, clock_script, rows_step, built_step, held_step, schedule_read, schedule_script, walk_script, freeing_script, free_script, waving_script, wave_script, dump_read, unwave_script, size_read, generating, gen_script, script_of, IsFetched, IsReread, IsChecked, IsUnchecked, EndsIn}
+use Rattle.lid_script.specs.Scripts.{Ending, refuses, gives, Script, fetch, again, decide, end, Reading, good, bad, step, net_reading, vec_reading, check_step, net_step, report_script, check_script, rows_script, checked_script, strict_script, links, system_step, placement_step, stalls_read, stalls_step, stations_read, wires_read, cert_read, wires_script, told_script, judged_script, judging_script, cert_script, place_script, telling_script, verify_script, trace_read, rerun_script, traced_script, vec_script, stalled_script, placed_script, built_script, clock_script, rows_step, built_step, held_step, schedule_read, schedule_script, walk_script, freeing_script, free_script, waving_script, wave_script, dump_read, unwave_script, emit_read, wrapping_script, wrapped_script, emit_script, size_read, generating, gen_script, script_of, IsFetched, IsReread, IsChecked, IsUnchecked, EndsIn}
 use Rattle.lid_script.specs.Statuses.{TellsAll}
 
 -- each step of the script without a fetch has one outcome
@@ -159,13 +159,22 @@ module _ (apart : (d : Design) (fault : CheckFault) → IsAccepted d → IsRefus
   unfolding freeing_script
   freed_once held d l p workers rounds tally rows = tt
 
+  wrapping_once : (held : List ℕ → Option (List ℕ)) (d : Design) (l : Links) (p : Placement) → IsSettled held (wrapping_script d l p)
+  unfolding wrapping_script
+  wrapping_once held d l p = settled_step held (emit_read d l p) (λ _. end (gives (emitted d l p))) (λ _. tt)
+
+  wrapped_once : (held : List ℕ → Option (List ℕ)) (d : Design) (stations : Option (List ℕ)) → IsSettled held (wrapped_script d stations)
+  unfolding wrapped_script
+  wrapped_once held d stations = built_once held d (λ channels. placement_step (links d channels) stations (wrapping_script d (links d channels))) (λ channels.
+      placed_once held (links d channels) stations (wrapping_script d (links d channels)) (λ p. wrapping_once held d (links d channels) p))
+
   output_once : (held : List ℕ → Option (List ℕ)) (output : Links → Placement → Output) (net : List ℕ) (stations root : Option (List ℕ)) → IsSettled held (telling_script output net stations root)
   unfolding telling_script told_script
   output_once held output net stations root =
       system_once held net root (λ l. placement_step l stations (told_script output l)) (λ l. placed_once held l stations (told_script output l) (λ _. tt))
 
   settled_job : (held : List ℕ → Option (List ℕ)) (job : Job) → IsSettled held (script_of job)
-  unfolding free_script walk_script wave_script unwave_script gen_script clock_script check_script report_script strict_script checked_script rows_script place_script wires_script verify_script cert_script
+  unfolding emit_script free_script walk_script wave_script unwave_script gen_script clock_script check_script report_script strict_script checked_script rows_script place_script wires_script verify_script cert_script
   settled_job held (Check net root) = λ bytes _.
       let reported : (d : Design) → IsSettled held (report_script d) = λ d. built_once held d (λ channels. end (gives (report d channels))) (λ _. tt) in
       settled_step held (net_reading bytes) (λ d. check_step root d report_script) (λ d. checked_once held root d report_script reported)
@@ -186,6 +195,9 @@ module _ (apart : (d : Design) (fault : CheckFault) → IsAccepted d → IsRefus
       held_once held net vec stations root (λ d l p rows. schedule_script d l p schedule rows) (λ d l p rows. walked_once held d l p schedule rows)
   settled_job held (Wave net vec stations cycles root) =
       held_once held net vec stations root (λ d l p rows. waving_script d l p cycles rows) (λ d l p rows. waved_once held d l p cycles rows)
+  settled_job held (Emit net stations root) = λ bytes _.
+      let wrapped : Design → Script = λ checked. wrapped_script checked stations in
+      settled_step held (net_reading bytes) (λ d. check_step root d wrapped) (λ d. checked_once held root d wrapped (λ checked. wrapped_once held checked stations))
   settled_job held (Unwave file) = λ bytes _. settled_step held (dump_read bytes) (λ trace. end (gives (unwaved trace))) (λ _. tt)
   settled_job held (Gen seed shells run) = settled_step held (size_read shells) (λ _. end (gives (generating seed shells run))) (λ _. tt)
   settled_job held (Strict net vec root) = λ bytes _.

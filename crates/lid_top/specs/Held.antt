@@ -1,9 +1,10 @@
 -- Jobs whose output is told by what their runs hold.
 use Rattle.std.specs.Prelude.{Bool, true, false}
 use Rattle.lid_cli.specs.declared.job.Job.{Job}
-use Rattle.lid_cli.specs.declared.job.Job.TheVariants.{Free, Gen, Unwave, Walk, Wave}
+use Rattle.lid_cli.specs.declared.job.Job.TheVariants.{Emit, Free, Gen, Unwave, Walk, Wave}
 
 abbrev pub is_held : Job → Bool
+is_held (Emit net stations root) = true
 is_held (Free net vec stations workers rounds tally root) = true
 is_held (Gen seed shells run) = true
 is_held (Unwave file) = true

@@ -9,6 +9,7 @@ ghost use Rattle.lid_top.specs.Held.{is_held};
 
 use lid_base::{Gate, Shelf};
 use lid_cli::Job;
+use lid_emitting::emit_text;
 use lid_generating::gen_text;
 use lid_heldruns::{free_text, walk_text, wave_text};
 use lid_script::Stop;
@@ -16,7 +17,7 @@ use lid_waving::unwave_text;
 use std::convert::AsStr;
 use std::thread::Threads;
 
-/// What `free`, `gen`, `unwave`, `walk` or `wave` writes.
+/// What `emit`, `free`, `gen`, `unwave`, `walk` or `wave` writes.
 pub fn held_text<'a, R: Threads + AllocGlobal + Sync, S: Shelf, G: Gate>(
     rt: &R,
     gate: &G,
@@ -31,6 +32,11 @@ pub fn held_text<'a, R: Threads + AllocGlobal + Sync, S: Shelf, G: Gate>(
     ensures grows { (q : List ℕ) → S.faults shelf.old q ≤ S.faults shelf.new q }
 {
     match job {
+        Job::Emit {
+            net,
+            stations,
+            root,
+        } => emit_text(rt.alloc(), shelf, net.as_str(), stations, root),
         Job::Free {
             net,
             vec,

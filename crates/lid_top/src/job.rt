@@ -37,7 +37,8 @@ fn text_of<'a, R: Threads + AllocGlobal + Sync, S: Shelf, G: Gate>(
     match job {
         Job::Check { net, root } => check_text(rt.alloc(), shelf, net.as_str(), root),
         Job::Clock { .. } => unreachable!(),
-        Job::Free { .. }
+        Job::Emit { .. }
+        | Job::Free { .. }
         | Job::Gen { .. }
         | Job::Unwave { .. }
         | Job::Walk { .. }
@@ -189,6 +190,7 @@ where
             root,
         ),
         Job::Check { .. }
+        | Job::Emit { .. }
         | Job::Free { .. }
         | Job::Gen { .. }
         | Job::Place { .. }

@@ -15,9 +15,9 @@ use Rattle.lid_system.specs.declared.System.{System}
 use Rattle.lid_system.specs.Systems as system
 use Rattle.lid_agree.specs.Agreement.{IsSystemOf}
 use Rattle.lid_stations.specs.declared.placement.Placement.{Placement}
-use Rattle.lid_stations.specs.Placements.{links_of, Fits}
-use Rattle.lid_emit.specs.declared.fault.EmitFault.{EmitFault}
-use Rattle.lid_emit.specs.declared.fault.EmitFault.TheVariants.{NameTaken, TooBig}
+use Rattle.lid_stations.specs.Placements.{Links, Fits}
+use Rattle.lid_emitsize.specs.declared.fault.EmitFault.{EmitFault}
+use Rattle.lid_emitsize.specs.declared.fault.EmitFault.TheVariants.{NameTaken, TooBig}
 use Rattle.lid_emitted.specs.Ports.{input_names, output_names, taken_name}
 use Rattle.lid_emitted.specs.Runs.{face_of, RunsAs}
 use Rattle.lid_emitsize.specs.Sizes.{size}
@@ -36,12 +36,12 @@ abbrev pub fault_of : Option (List ℕ) → ℕ → Option EmitFault
 fault_of (Some name) count = Some (NameTaken name)
 fault_of None count = if nat_lt 16384 count then Some (TooBig count) else None
 
-abbrev pub emit_fault : Design → System → Placement → Option EmitFault
-emit_fault d s p = fault_of (taken_name d) (size d s p)
+abbrev pub emit_fault : Design → Links → Placement → Option EmitFault
+emit_fault d l p = fault_of (taken_name d) (size d l p)
 
 -- a design of one model with the root's name and ports, and the two inputs and two outputs of its environment, without
 -- clocks and instances. It is accepted, and can be written
-pub record IsEmitted (d : Design) (s : System) (p : Placement) (e : Design) : Type 0 where
+pub record IsEmitted (d : Design) (l : Links) (p : Placement) (e : Design) : Type 0 where
   pub model : Model
   pub one : e.models ≡ model ∷ []
   pub root : e.root ≡ 0
@@ -53,4 +53,4 @@ pub record IsEmitted (d : Design) (s : System) (p : Placement) (e : Design) : Ty
   pub formed : IsWellFormed e
   pub accepted : IsAccepted e
   pub writable : IsWritable e
-  pub runs : (rows : List (List Bool)) (b : Table Column) → IsStrict (drivers e) rows b → RunsAs d s p rows (face_of (root_outputs d) b)
+  pub runs : (rows : List (List Bool)) (b : Table Column) → IsStrict (drivers e) rows b → RunsAs d l p rows (face_of (root_outputs d) b)

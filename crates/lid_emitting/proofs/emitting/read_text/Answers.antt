@@ -1,0 +1,32 @@
+use Rattle.lid_design.specs.declared.Design.{Design}
+use Rattle.lid_base.proofs.Results.{if_ok, if_err}
+use Rattle.lid_script.specs.Scripts.{Script, wrapped_script}
+use Rattle.lid_script.proofs.Composition.{text_checked, cause_checked, cause_unchecked}
+use Rattle.lid_emitting.proofs.Spelled.{rooted_spelled}
+use Rattle.lid_emitting.proofs.emitting.read_text.Goals as goal
+
+pub before-built_text-clause : goal.before-built_text-clause
+before-built_text-clause g c =
+    let is = c.in-Ok.ensures.ok in
+    rooted_spelled c.args.design c.in-Ok.checked c.args.root.now is.rooted c.requires.spelled
+
+pub returns-in-Ok-clause-ok : goal.returns-in-Ok-clause-ok
+returns-in-Ok-clause-ok g c =
+    let next : Design → Script = λ checked. wrapped_script checked c.args.stations.now in
+    if_ok c.built_text.result
+    (λ text h. text_checked (g.S.Shelf.held c.args.shelf.now) c.args.root.now c.args.design next c.in-Ok.checked text.items c.in-Ok.ensures.ok h)
+    c.built_text.ensures.ok
+
+pub returns-in-Ok-clause-err : goal.returns-in-Ok-clause-err
+returns-in-Ok-clause-err g c =
+    let next : Design → Script = λ checked. wrapped_script checked c.args.stations.now in
+    let before = g.S.Shelf.faults c.args.shelf.now in
+    let after = g.S.Shelf.faults c.built_text.new.shelf in
+    if_err c.built_text.result
+    (λ stop h. cause_checked (g.S.Shelf.held c.args.shelf.now) c.args.root.now c.args.design next c.in-Ok.checked before after stop c.in-Ok.ensures.ok h)
+    c.built_text.ensures.err
+
+pub returns-in-Err-clause-err : goal.returns-in-Err-clause-err
+returns-in-Err-clause-err g c =
+    cause_unchecked (g.S.Shelf.held c.args.shelf.now) c.args.root.now c.args.design (λ checked. wrapped_script checked c.args.stations.now) (g.S.Shelf.faults c.args.shelf.now)
+    (g.S.Shelf.faults c.args.shelf.now) c.in-Err.stop c.in-Err.ensures.err

@@ -1,0 +1,39 @@
+use Rattle.std.proofs.Common.{sym, subst}
+use Rattle.lid_base.proofs.Results.{if_ok, if_err}
+use Rattle.lid_stations.specs.Placements.{links_of}
+use Rattle.lid_script.specs.Causes.{IsCause}
+use Rattle.lid_script.specs.Scripts.{wrapping_script}
+use Rattle.lid_script.proofs.Composition.{want_anywhere}
+use Rattle.lid_emitting.proofs.Endings.{emit_has_text, emit_has_cause}
+use Rattle.lid_emitting.proofs.Spelled.{root_spelled, inputs_spelled, outputs_spelled}
+use Rattle.lid_emitting.proofs.emitting.wrapped_text.Goals as goal
+
+pub before-emit-clause : goal.before-emit-clause
+before-emit-clause c = record {
+  of = c.requires.of;
+  system = c.requires.system;
+  fits = c.requires.fits;
+  name = root_spelled c.args.checked.now c.requires.spelled;
+  inputs = inputs_spelled c.args.checked.now c.requires.spelled;
+  outputs = outputs_spelled c.args.checked.now c.requires.spelled;
+}
+
+pub before-design_text-clause : goal.before-design_text-clause
+before-design_text-clause c = let is = c.in-Ok.ensures.ok.1 in is.writable
+
+pub returns-in-Ok-clause-ok : goal.returns-in-Ok-clause-ok
+returns-in-Ok-clause-ok c =
+    if_ok c.design_text.result
+    (λ text h held. emit_has_text held c.args.checked.now (links_of c.args.system.now) c.args.placement.now c.in-Ok.design text.items c.in-Ok.ensures.ok.0 c.in-Ok.ensures.ok.1 h)
+    c.design_text.ensures.ok
+
+pub returns-in-Ok-clause-err : goal.returns-in-Ok-clause-err
+returns-in-Ok-clause-err c =
+    if_err c.design_text.result
+    (λ stop h held before after. want_anywhere held (wrapping_script c.args.checked.now (links_of c.args.system.now) c.args.placement.now) before after stop h)
+    c.design_text.ensures.err
+
+pub returns-in-Err-clause-err : goal.returns-in-Err-clause-err
+returns-in-Err-clause-err c = λ held before after.
+    subst (IsCause held (wrapping_script c.args.checked.now (links_of c.args.system.now) c.args.placement.now) before after) (sym c.emit_stop.ensures)
+    (emit_has_cause held c.args.checked.now (links_of c.args.system.now) c.args.placement.now before after c.in-Err.fault c.in-Err.ensures.err)
