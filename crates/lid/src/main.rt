@@ -7,13 +7,16 @@
 //! --reach L` the relay stations that long wires need, `lid rate NET` a certificate of the throughput,
 //! `lid verify NET CERT` what a certificate shows, `lid slack NET` how many relay stations more each channel
 //! takes, `lid size NET` which capacities stations need, `lid free NET VEC` the outputs by free-running
-//! threads, and `lid gen SEED --shells M` a netlist made from a seed.
+//! threads, `lid emit NET` the wrapped design as a netlist, and `lid gen SEED --shells M` a netlist made from a
+//! seed.
 #![tactic(auto)]
 
 #[cfg(test)]
 mod check_tests;
 #[cfg(test)]
 mod clock_tests;
+#[cfg(test)]
+mod emit_tests;
 #[cfg(test)]
 mod free_tests;
 #[cfg(test)]
