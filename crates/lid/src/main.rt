@@ -16,6 +16,8 @@ mod check_tests;
 #[cfg(test)]
 mod clock_tests;
 #[cfg(test)]
+mod device_tests;
+#[cfg(test)]
 mod emit_tests;
 #[cfg(test)]
 mod free_tests;

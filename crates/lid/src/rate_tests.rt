@@ -3,7 +3,7 @@
 
 use crate::net_tests::{ONE_RELAY, PIPE, RING};
 use crate::report_tests::DIAMOND;
-use crate::tests::{Failing, NONE_FAILS, REGISTER, done, ended, expect_run, left_by, run_failing};
+use crate::tests::{NONE_FAILS, REGISTER, done, ended, expect_run, left_by, run_failing};
 use std::str::from_utf8;
 use std::test::Fail;
 
@@ -253,52 +253,5 @@ fn without_stations_no_channel_has_a_relay_station(rt: HostRuntime) -> Result<()
     let words = ["verify", "n.blif", "c", "--root", "none"];
     let left = ended(1, "lid: check NoRoot\n");
     expect_run(&rt, &words, &files, NONE_FAILS, left)?;
-    Ok(())
-}
-
-/// Which fetch of `verify` with stations fails, and how that ends: each file is fetched to a fetch of no
-/// bytes.
-static FETCHES: &[(&[u64], u8, &str)] = &[
-    (&[1], 3, "lid: read n.blif\n"),
-    (&[2], 3, "lid: read n.blif\n"),
-    (&[3], 3, "lid: read s\n"),
-    (&[4], 3, "lid: read s\n"),
-    (&[5], 3, "lid: read c\n"),
-    (&[6], 3, "lid: read c\n"),
-    (&[7], 0, RING_VERDICT),
-];
-
-#[test]
-fn files_are_fetched_in_their_order(rt: HostRuntime) -> Result<(), Fail> {
-    let files = [("n.blif", RING), ("s", ONE_RELAY), ("c", RING_CERT)];
-    let words = ["verify", "n.blif", "c", "--stations", "s"];
-    for (fetches, status, told) in FETCHES {
-        let failing = Failing {
-            fetches,
-            writes: &[],
-            says: &[],
-        };
-        expect_run(&rt, &words, &files, failing, left_by(*status, told))?;
-    }
-    Ok(())
-}
-
-#[test]
-fn wires_are_fetched_once(rt: HostRuntime) -> Result<(), Fail> {
-    let files = [("n.blif", RING), ("w", "lid-wires 1\n")];
-    let words = ["place", "n.blif", "--wires", "w", "--reach", "1"];
-    let failing = Failing {
-        fetches: &[3],
-        writes: &[],
-        says: &[],
-    };
-    expect_run(&rt, &words, &files, failing, ended(3, "lid: read w\n"))?;
-    let failing = Failing {
-        fetches: &[5],
-        writes: &[],
-        says: &[],
-    };
-    let text = "lid-stations 1\nu0 u1 0 0\nu1 u0 0 0\nu1 out 0 0\n";
-    expect_run(&rt, &words, &files, failing, done(text))?;
     Ok(())
 }
