@@ -8,24 +8,11 @@ use Rattle.lid_lines.proofs.Pieces.{lines_text_append}
 use Rattle.lid_graph.specs.Ratios.{IsRatio}
 use Rattle.lid_longer.specs.Longer.{longer_marking, producer, room}
 use Rattle.lid_ratio.specs.declared.lowest_terms.Ratio.{Ratio}
-use Rattle.lid_size.specs.declared.sizing.SizeEnd.{SizeEnd}
-use Rattle.lid_size.specs.declared.sizing.SizeEnd.TheVariants.{Reached, Short}
-use Rattle.lid_size.specs.Sizing.{with_capacities}
-use Rattle.lid_size.specs.Sizes.{Sizes}
-use Rattle.lid_size.proofs.Sized.{fits_with}
 use Rattle.lid_slack.specs.declared.answer.Slack.{Slack}
 use Rattle.lid_slack.specs.Slack.{IsEnd, IsTold, IsNextRatio}
 use Rattle.lid_stations.specs.declared.placement.Placement.{Placement}
-use Rattle.lid_stations.specs.Placements.{Links, links_of, Fits}
-use Rattle.lid_system.specs.declared.System.{System}
-use Rattle.lid_margins.specs.Sizes.{FitsEnd}
+use Rattle.lid_stations.specs.Placements.{Links}
 use Rattle.lid_margins.specs.Slacks.{slack_words, next_word, IsNext, IsSlackLine, AreSlackLines}
-
--- what sizing answers fits as what it was asked of
-pub fits_end : (s : System) (p : Placement) (end : SizeEnd) → Fits s p → Sizes (links_of s) p.relays end → FitsEnd s end
-fits_end s p (Reached sized) fits is =
-    subst (λ (relays : List ℕ). Fits s (with_capacities relays sized.caps)) (sym is.relays_are) (fits_with s p sized.caps fits is.caps.are_capacities)
-fits_end s p (Short part have_p have_q want_p want_q cert) fits is = tt
 
 module _ (l : Links) (p : Placement) where
   next_is : (c : ℕ) (slack : Slack) (next : Option Ratio) → IsEnd l p c slack.added slack.against → IsNextRatio l p c slack next → IsNext l p c slack.added (next_word next)

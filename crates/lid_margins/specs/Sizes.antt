@@ -1,5 +1,5 @@
 -- What is told of the sizes of stations.
-use Rattle.std.specs.Prelude.{⊤, ◌≡◌, ℕ, List, [], ◌∷◌, ◌++◌, codes}
+use Rattle.std.specs.Prelude.{◌≡◌, ℕ, List, [], ◌∷◌, ◌++◌, codes}
 use Rattle.std.specs.Fmt.{decimal}
 use Rattle.lid_lines.specs.Texts.{Words, line_text}
 use Rattle.lid_placetext.specs.Written.{stations_text}
@@ -7,8 +7,7 @@ use Rattle.lid_size.specs.declared.sizing.SizeEnd.{SizeEnd}
 use Rattle.lid_size.specs.declared.sizing.SizeEnd.TheVariants.{Reached, Short}
 use Rattle.lid_size.specs.Sizes.{Sizes}
 use Rattle.lid_stations.specs.declared.placement.Placement.{Placement}
-use Rattle.lid_stations.specs.Placements.{Links, Fits}
-use Rattle.lid_system.specs.declared.System.{System}
+use Rattle.lid_stations.specs.Placements.{Links}
 
 -- a ratio as one word: p, a slash, q
 abbrev pub ratio_word : ℕ → ℕ → List ℕ
@@ -29,8 +28,3 @@ pub record IsSizeText (l : Links) (p : Placement) (text : List ℕ) : Type 0 whe
   pub end : SizeEnd
   pub sizes : Sizes l p.relays end
   pub written : text ≡ end_text l end
-
--- the stations of an answer fit the system
-abbrev pub FitsEnd : System → SizeEnd → Type 0
-FitsEnd s (Reached p) = Fits s p
-FitsEnd s (Short part have_p have_q want_p want_q cert) = ⊤

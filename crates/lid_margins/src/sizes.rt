@@ -2,8 +2,8 @@
 
 ghost use Rattle.std.specs.Prelude.{◌≡◌, ◌++◌, IfOk, OnOk};
 ghost use Rattle.lid_lines.specs.Texts.{line_text};
-ghost use Rattle.lid_margins.specs.Sizes.{short_words, end_text, FitsEnd, IsSizeText};
-ghost use Rattle.lid_size.specs.Sizes.{Sizes};
+ghost use Rattle.lid_margins.specs.Sizes.{short_words, end_text, IsSizeText};
+ghost use Rattle.lid_size.specs.Sizes.{FitsIfReached};
 ghost use Rattle.lid_stations.specs.Placements.{links_of, Fits};
 ghost use Rattle.lid_system.specs.Systems.{IsWellFormed};
 
@@ -39,7 +39,7 @@ fn append_short(
 
 /// Appends the text of an answer.
 fn append_end(system: &System, end: &SizeEnd, into: &mut Vec<u8>) -> Result<(), AllocError>
-    requires { FitsEnd system.now end.now }
+    requires { FitsIfReached system.now end.now }
     ensures { OnOk result (into.new.items ≡ into.old.items ++ end_text (links_of system.now) end.now) }
 {
     match end {
@@ -55,7 +55,7 @@ fn append_end(system: &System, end: &SizeEnd, into: &mut Vec<u8>) -> Result<(), 
     }
 }
 
-/// The least capacities with which the relay stations of a placement cost no throughput, as a text of stations; or
+/// The least capacities with which the relay stations of a placement cost no throughput that they need not, as a text of stations; or
 /// where there are none, a line that says where it falls short.
 ///
 /// # Errors

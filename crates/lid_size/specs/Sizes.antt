@@ -5,6 +5,7 @@ use Rattle.lid_graph.specs.Walks.{walk_tokens}
 use Rattle.lid_cert.specs.declared.cert.Cert.{Cert}
 use Rattle.lid_cert.specs.Certificates.{Certifies, least_node}
 use Rattle.lid_cert.specs.Owners.{part_at}
+use Rattle.lid_system.specs.declared.System.{System}
 use Rattle.lid_stations.specs.declared.placement.Placement.{Placement}
 use Rattle.lid_stations.specs.Placements.{Links, station_count, Fits}
 use Rattle.lid_capacities.specs.Capacities.{IsForwardRatio, HasForwardRatio}
@@ -47,6 +48,6 @@ short_end wants low cert =
     Short low (part_at cert.parts low).p (part_at cert.parts low).q (want_of wants (part_at cert.parts low)).p (want_of wants (part_at cert.parts low)).q cert
 
 -- a placement that is answered fits the system
-abbrev pub FitsIfReached : Links → SizeEnd → Type 0
+abbrev pub FitsIfReached : System → SizeEnd → Type 0
 FitsIfReached s (Reached p) = Fits s p
 FitsIfReached s (Short part have_p have_q want_p want_q cert) = ⊤
