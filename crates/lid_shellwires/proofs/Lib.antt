@@ -1,1 +1,8 @@
-
+pub mod Apart
+pub mod Filled
+pub mod Inside
+pub mod Standing
+pub mod Lasting
+pub mod Pushing
+pub mod Widths
+pub mod Wiring

@@ -1,1 +1,4 @@
 pub mod Shells
+pub mod Reading
+pub mod Filling
+pub mod Making

@@ -1,6 +1,9 @@
 //! The wires that stand for the nets of shells in a wrapped system.
 #![tactic(auto)]
 
+mod lasts;
+mod nets;
+mod reads;
 mod shells;
 
 pub use shells::{Shells, make_shells};
