@@ -18,7 +18,8 @@ from pathlib import Path
 
 from reference import Cover, Judge, Latch, Model, Refused, firsts, report, simulate
 
-LID = Path(__file__).parent.parent / "lid"
+BUILT = Path(__file__).parent.parent / "crates" / "lid" / "out" / "lid"
+LID = BUILT if BUILT.exists() else Path(__file__).parent.parent / "lid"
 
 
 class Maker:
