@@ -1,1 +1,3 @@
-
+pub mod Pushing
+pub mod Places
+pub mod Making

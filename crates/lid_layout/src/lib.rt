@@ -1,6 +1,9 @@
 //! The stations, actors and outside of a wrapped system, by their numbers.
 #![tactic(auto)]
 
+mod bits;
 mod layout;
+mod sites;
+mod stations;
 
 pub use layout::lay_out;
