@@ -1,3 +1,5 @@
 pub mod Pushing
 pub mod Places
 pub mod Making
+pub mod Joining
+pub mod Acting

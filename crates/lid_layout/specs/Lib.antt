@@ -1,3 +1,5 @@
 pub mod Sites
 pub mod Bits
 pub mod Stations
+pub mod Ends
+pub mod Actors

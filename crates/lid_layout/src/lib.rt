@@ -1,7 +1,9 @@
 //! The stations, actors and outside of a wrapped system, by their numbers.
 #![tactic(auto)]
 
+mod actors;
 mod bits;
+mod ends;
 mod layout;
 mod sites;
 mod stations;

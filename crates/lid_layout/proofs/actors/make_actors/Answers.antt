@@ -1,0 +1,14 @@
+-- The actors have the stations of the plan.
+use Rattle.std.proofs.Common.{List, length, subst, ◌∙◌}
+use Rattle.lid_wrapped.specs.Wrapping.{plan_of}
+use Rattle.lid_layout.specs.declared.ends.Ends.{Ends}
+use Rattle.lid_layout.specs.Actors.{HaveEnds}
+use Rattle.lid_layout.proofs.Acting.{actors_are}
+use Rattle.lid_layout.proofs.actors.make_actors.Goals as goal
+
+pub returns : goal.returns
+returns c = λ n are.
+    let ends = c.in_ok-ends.ends.items in
+    actors_are c.args.system.now c.args.placement.now n c.args.stations.now are ends c.in_ok-actors.actors.items c.requires.few
+    (c.in_ok-ends.ensures.many ∙ c.actor_count.ensures) (c.in_ok-ends.ensures.joined (plan_of c.args.system.now c.args.placement.now n) are)
+    (subst (λ (xs : List Ends). HaveEnds (length xs) xs c.in_ok-actors.actors.items) c.as_slice.ensures.value c.in_ok-actors.ensures)
