@@ -3,3 +3,4 @@ pub mod Places
 pub mod Making
 pub mod Joining
 pub mod Acting
+pub mod Reading

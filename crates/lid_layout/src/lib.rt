@@ -5,6 +5,7 @@ mod actors;
 mod bits;
 mod ends;
 mod layout;
+mod outer;
 mod sites;
 mod stations;
 
