@@ -4,3 +4,4 @@ pub mod Making
 pub mod Joining
 pub mod Acting
 pub mod Reading
+pub mod Framing

@@ -1,12 +1,12 @@
 //! The actors of a wrapped system.
 
-ghost use Rattle.std.specs.Prelude.{◌≡◌, ◌≤◌, IfOk, length};
+ghost use Rattle.std.specs.Prelude.{◌≡◌, IfOk, length};
 ghost use Rattle.lid_system.specs.Systems.{IsWellFormed};
 ghost use Rattle.lid_stations.specs.Placements.{Fits, links_of};
 ghost use Rattle.lid_stations.specs.Stations.{actor_count};
 ghost use Rattle.lid_wrapped.specs.Nets.{Nets};
 ghost use Rattle.lid_wrapped.specs.Wrapping.{plan_of};
-ghost use Rattle.lid_layout.specs.Stations.{AreStationsOf, AreBetween};
+ghost use Rattle.lid_layout.specs.Stations.{AreStationsOf};
 ghost use Rattle.lid_layout.specs.Actors.{AreActorsOf, HasEnds, HaveEnds};
 
 use crate::ends::{Ends, make_ends};
@@ -57,8 +57,7 @@ pub(crate) fn make_actors(
 ) -> Result<Vec<Actor>, AllocError>
     requires system { IsWellFormed system.now }
     requires fits { Fits system.now placement.now }
-    requires few { length stations.now ≤ 65536 }
-    requires between { AreBetween (actor_count (links_of system.now) placement.now) stations.now }
+    requires stations { (n : Nets) × AreStationsOf (plan_of system.now placement.now n) stations.now }
     ensures { IfOk result (λ actors. (n : Nets) → AreStationsOf (plan_of system.now placement.now n) stations.now → AreActorsOf (plan_of system.now placement.now n) actors.items) }
 {
     let ends = make_ends(alloc, actor_count(system, placement), stations)?;

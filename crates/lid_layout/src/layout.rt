@@ -1,15 +1,14 @@
 //! All that the cells of a wrapped system are made from.
 
-ghost use Rattle.std.specs.Prelude.{IfOk, length, ◌≡◌, ◌+◌, ◌≤◌, ℕ, slice_get, Some};
-ghost use Rattle.lid_stations.specs.Placements.{Fits, links_of};
-ghost use Rattle.lid_stations.specs.Stations.{actor_count};
+ghost use Rattle.std.specs.Prelude.{IfOk, length, ◌≡◌, ◌+◌, ℕ, slice_get, Some};
+ghost use Rattle.lid_stations.specs.Placements.{Fits};
 ghost use Rattle.lid_system.specs.Systems.{IsWellFormed};
 ghost use Rattle.lid_wrapped.specs.Nets.{Nets, AreNets};
 ghost use Rattle.lid_wrapped.specs.Wrapping.{plan_of};
 ghost use Rattle.lid_cells.specs.declared.shell.Shell.{Shell};
 ghost use Rattle.lid_cells.specs.Matches.{IsAllOf, IsSound, IsWhole};
 ghost use Rattle.lid_shellwires.specs.Shells.{nets_of};
-ghost use Rattle.lid_layout.specs.Stations.{AreStationsOf, AreBetween};
+ghost use Rattle.lid_layout.specs.Stations.{AreStationsOf};
 ghost use Rattle.lid_layout.specs.Frames.{IsFrame};
 
 use crate::actors::make_actors;
@@ -39,8 +38,6 @@ fn make_frame(
 ) -> Result<Frame, AllocError>
     requires system { IsWellFormed system.now }
     requires fits { Fits system.now placement.now }
-    requires few { length stations.items ≤ 65536 }
-    requires between { AreBetween (actor_count (links_of system.now) placement.now) stations.items }
     requires stations { (n : Nets) × AreStationsOf (plan_of system.now placement.now n) stations.items }
     ensures { IfOk result (λ frame. (n : Nets) → AreStationsOf (plan_of system.now placement.now n) stations.items → IsFrame (plan_of system.now placement.now n) frame) }
 {
