@@ -1,5 +1,5 @@
 -- Actors of a plan, by the stations that were joined to them.
-use Rattle.std.proofs.Common.{◌≡◌, ℕ, ◌+◌, ◌<◌, ◌≤◌, ◌==◌, ◌^◌, List, [], ◌∷◌, ◌++◌, length, map, refl, sym, ◌∙◌, ap, subst, arith}
+use Rattle.std.proofs.Common.{◌≡◌, ℕ, ◌+◌, ◌<◌, ◌≤◌, ◌==◌, List, [], ◌∷◌, ◌++◌, length, map, sym, ◌∙◌, ap, subst, arith}
 use Rattle.std.specs.Prelude.{Some, slice_get}
 use Rattle.std.proofs.lemmas.Option.{slice_get_within}
 use Rattle.std.proofs.lemmas.List.{length-map}
@@ -20,7 +20,7 @@ use Rattle.lid_layout.specs.declared.ends.Ends.{Ends}
 use Rattle.lid_layout.specs.Stations.{AreStationsOf}
 use Rattle.lid_layout.specs.Ends.{stations_at, IsJoined, AreJoined}
 use Rattle.lid_layout.specs.Actors.{HasEnds, HaveEnds, AreActorsOf}
-use Rattle.lid_layout.proofs.Pushing.{length_pushed, each_pushed}
+use Rattle.lid_clock.proofs.Pushing.{length_pushed, each_pushed}
 
 -- another actor has its stations
 pub next_has : (n : ℕ) (ends : List Ends) (actors : List Actor) (e : Ends) (actor : Actor) → HaveEnds n ends actors → slice_get ends n ≡ Some e → HasEnds e actor → HaveEnds (n + 1) ends (actors ++ actor ∷ [])

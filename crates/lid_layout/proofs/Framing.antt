@@ -1,5 +1,5 @@
 -- The stations, actors and shells of a plan, put together.
-use Rattle.std.proofs.Common.{◌≡◌, ℕ, suc, ◌+◌, ◌-◌, ◌<◌, ◌≤◌, false, List, length, get_or, refl, sym, ◌∙◌, ap, subst, add-one, arith}
+use Rattle.std.proofs.Common.{◌≡◌, ℕ, ◌+◌, ◌-◌, ◌<◌, ◌≤◌, false, List, length, refl, sym, ◌∙◌, ap, subst, add-one, arith}
 use Rattle.std.specs.Prelude.{Some, slice_get, slice_index_or}
 use Rattle.std.specs.Option.{option_map_or}
 use Rattle.std.proofs.lemmas.Option.{get_or_from_slice_get, slice_get_within}
@@ -8,7 +8,7 @@ use Rattle.lid_system.specs.Systems.{IsWellFormed}
 use Rattle.lid_system.proofs.Points.{first_node, last_node, inner_node}
 use Rattle.lid_stations.specs.declared.placement.Placement.{Placement}
 use Rattle.lid_stations.specs.Placements.{Fits, links_of}
-use Rattle.lid_stations.specs.Stations.{filler, drainer, actor_count}
+use Rattle.lid_stations.specs.Stations.{actor_count}
 use Rattle.lid_stations.proofs.Spots.{stands_between, few_actors}
 use Rattle.lid_circuit.specs.Wires as circuit
 use Rattle.lid_wrapped.specs.Nets.{Nets}
@@ -16,7 +16,6 @@ use Rattle.lid_wrapped.specs.Wrapping.{plan_of, flat_in, no_flat}
 use Rattle.lid_cells.specs.declared.wire.Wire.TheVariants.{Offer}
 use Rattle.lid_cells.specs.declared.shell.Shell.{Shell}
 use Rattle.lid_cells.specs.declared.station.Station.{Station}
-use Rattle.lid_cells.specs.declared.all.All.{All}
 use Rattle.lid_cells.specs.Shown.{wire_of}
 use Rattle.lid_cells.specs.Matches.{IsShellOf, IsWhole, IsBare, IsAllOf, IsSound}
 use Rattle.lid_shellwires.specs.declared.shells.Shells.{Shells}

@@ -1,7 +1,7 @@
 -- The stations that actors drain and fill, as they are joined one by one.
-use Rattle.std.proofs.Common.{◌≡◌, ℕ, ◌+◌, ◌<◌, ◌==◌, Bool, true, false, cond, List, [], ◌∷◌, ◌++◌, length, get_or, set, filter, map, refl, sym, ◌∙◌, ap, subst, zero-add, arith}
+use Rattle.std.proofs.Common.{◌≡◌, ℕ, ◌+◌, ◌==◌, Bool, true, false, cond, List, [], ◌∷◌, ◌++◌, set, filter, map, refl, sym, ◌∙◌, ap, subst, zero-add}
 use Rattle.std.specs.Prelude.{Some, slice_get}
-use Rattle.std.proofs.lemmas.Option.{slice_get-get_or, none-some}
+use Rattle.std.proofs.lemmas.Option.{none-some}
 use Rattle.std.proofs.lemmas.Bool.{eq-eqb, ne_eqb}
 use Rattle.std.proofs.lemmas.List.{append-nil, length-set, map-append}
 use Rattle.std.proofs.lemmas.List.Elements.{filter-append}
@@ -13,7 +13,7 @@ use Rattle.lid_cells.specs.declared.station.Station.{Station}
 use Rattle.lid_cells.specs.Matches.{IsStationOf, station_of}
 use Rattle.lid_layout.specs.declared.ends.Ends.{Ends}
 use Rattle.lid_layout.specs.Ends.{AreAlone, stations_at, IsJoined, AreJoined, IsJoinedBy, Joins}
-use Rattle.lid_layout.proofs.Pushing.{each_pushed, each_set}
+use Rattle.lid_clock.proofs.Pushing.{each_pushed, each_set}
 
 abbrev fill_of : ℕ → Station → Fill
 fill_of s x = record { station = s; capacity = x.capacity }
@@ -78,9 +78,9 @@ one_more f n =
 at_side : (side : ℕ → ℕ) (n v w : ℕ) → side n ≡ w → stations_at side (n + 1) v ≡ stations_at side n v ++ cond (w == v) (n ∷ []) []
 at_side side n v w is = one_more (λ s. side s == v) n ∙ ap (λ (u : ℕ). stations_at side n v ++ cond (u == v) (n ∷ []) []) is
 
-stations_of : (fills : Bool) (n : ℕ) (x : Station) → map station_of (cond fills (fill_of n x ∷ []) []) ≡ cond fills (n ∷ []) []
-stations_of true n x = refl
-stations_of false n x = refl
+filled_stations : (fills : Bool) (n : ℕ) (x : Station) → map station_of (cond fills (fill_of n x ∷ []) []) ≡ cond fills (n ∷ []) []
+filled_stations true n x = refl
+filled_stations false n x = refl
 
 -- what holds of the stations filled holds where another was added or not
 caps_kept : (q : Plan) (n : ℕ) (x : Station) (fills : Bool) (outs : List Fill) → q.capacity n ≡ x.capacity
@@ -98,7 +98,7 @@ joined_next q n v x a b is was by = record {
   outs =
       at_side q.filler n v x.filler is.filler
       ∙ ap (λ (xs : List ℕ). xs ++ cond (x.filler == v) (n ∷ []) []) was.outs
-      ∙ ap (λ (xs : List ℕ). map station_of a.outs.items ++ xs) (sym (stations_of (x.filler == v) n x))
+      ∙ ap (λ (xs : List ℕ). map station_of a.outs.items ++ xs) (sym (filled_stations (x.filler == v) n x))
       ∙ sym (map-append station_of a.outs.items (cond (x.filler == v) (fill_of n x ∷ []) []))
       ∙ ap (map station_of) (sym by.outs);
   capacities = λ i f at. caps_kept q n x (x.filler == v) a.outs.items is.capacity was.capacities i f (subst (λ (xs : List Fill). slice_get xs i ≡ Some f) by.outs at);
@@ -117,7 +117,3 @@ none_yet q actors ends are v e at =
       outs = ap (map station_of) (sym own.1);
       capacities = λ i f there. absurd (none-some f (subst (λ (fs : List Fill). slice_get fs i ≡ Some f) own.1 there));
     }
-
--- what was read at a place stands there
-pub read_at : {X : Type 0} (xs : List X) (i : ℕ) (x : X) → i < length xs → x ≡ get_or xs i x → slice_get xs i ≡ Some x
-read_at xs i x within is = slice_get-get_or xs i x within ∙ ap Some (sym is)

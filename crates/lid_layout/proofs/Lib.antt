@@ -1,4 +1,3 @@
-pub mod Pushing
 pub mod Places
 pub mod Making
 pub mod Joining

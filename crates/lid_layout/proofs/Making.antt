@@ -1,12 +1,11 @@
 -- A station that is made is the plan's.
-use Rattle.std.proofs.Common.{◌≡◌, ℕ, zero, suc, ◌==◌, Bool, false, List, length, get_or, cond, refl, sym, ◌∙◌, ap}
+use Rattle.std.proofs.Common.{◌≡◌, ℕ, zero, suc, ◌==◌, false, length, cond, refl, sym, ◌∙◌, ap}
 use Rattle.std.specs.Prelude.{slice_index_or}
 use Rattle.lid_system.specs.declared.System.{System}
 use Rattle.lid_system.specs.declared.Channel.{Channel}
 use Rattle.lid_stations.specs.declared.placement.Placement.{Placement}
 use Rattle.lid_stations.specs.Placements.{links_of}
-use Rattle.lid_stations.specs.Stations.{Spot, spot_at, channel_at, filler, starts, capacity}
-use Rattle.lid_circuit.specs.Wires as circuit
+use Rattle.lid_stations.specs.Stations.{Spot, spot_at, channel_at, starts, capacity}
 use Rattle.lid_wrapped.specs.Nets.{Nets}
 use Rattle.lid_wrapped.specs.Wrapping.{channel_of, put_wire, plan_of}
 use Rattle.lid_cells.specs.declared.station.Station.{Station}
@@ -36,12 +35,13 @@ module _ (s : System) (p : Placement) (n : Nets) (site : Site) (c : Channel) (is
     capacity = sym cap;
     first = first_is ∙ sym first;
     width = ap (λ (d : Channel). length d.ports) channel_is ∙ bits.width;
-    bits = λ j bit at. let b = bits.each j bit at in
-        ( ap (λ (v : ℕ). slice_index_or (n.begins v) (slice_index_or (channel_of s p site.station).ports j 0) false) is.filled
+    bits = λ j bit at. let b = bits.each j bit at in (
+      ap (λ (v : ℕ). slice_index_or (n.begins v) (slice_index_or (channel_of s p site.station).ports j 0) false) is.filled
           ∙ ap (λ (d : Channel). slice_index_or (n.begins site.filler) (slice_index_or d.ports j 0) false) channel_is
-          ∙ b.begins
-        , put_is s p n site.station (spot_at p.relays site.station).place j
+          ∙ b.begins,
+      put_is s p n site.station (spot_at p.relays site.station).place j
           ∙ ap (λ (d : Channel). put_on s n d site.station (spot_at p.relays site.station).place j) channel_is
           ∙ ap (λ (spot : Spot). put_on s n c site.station spot.place j) is.stands.spot
-          ∙ b.put );
+          ∙ b.put,
+    );
   }

@@ -1,19 +1,17 @@
 -- Stations where they stand, by the edges of a marking.
-use Rattle.std.proofs.Common.{◌≡◌, ℕ, ◌+◌, ◌<◌, ◌≤◌, List, ◌∷◌, [], ◌++◌, length, take, get_or, refl, sym, ◌∙◌, ap, subst, arith}
-use Rattle.std.specs.Prelude.{Some, slice_get}
+use Rattle.std.proofs.Common.{◌≡◌, ℕ, ◌+◌, ◌<◌, List, ◌∷◌, [], ◌++◌, sym, ◌∙◌, ap}
 use Rattle.lid_graph.specs.declared.graph.Edge.{Edge}
 use Rattle.lid_graph.specs.declared.graph.Graph.{Graph}
 use Rattle.lid_graph.specs.Walks.{edge_at}
 use Rattle.lid_system.specs.declared.System.{System}
 use Rattle.lid_stations.specs.declared.placement.Placement.{Placement}
 use Rattle.lid_stations.specs.Placements.{links_of, station_count}
-use Rattle.lid_stations.specs.Stations.{filler, drainer}
 use Rattle.lid_stations.specs.Markings.{forth, marking}
 use Rattle.lid_stations.specs.Laws.{StandsAt}
 use Rattle.lid_stations.proofs.Edges.{forth_at}
 use Rattle.lid_layout.specs.declared.sites.Site.{Site}
 use Rattle.lid_layout.specs.Sites.{IsSite, AreSites}
-use Rattle.lid_layout.proofs.Pushing.{length_pushed, each_pushed}
+use Rattle.lid_clock.proofs.Pushing.{length_pushed, each_pushed}
 
 -- a station, by the edge along it
 pub site_there : (s : System) (p : Placement) (g : Graph) (station channel place : ℕ) (along : Edge)

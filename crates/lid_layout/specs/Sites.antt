@@ -1,5 +1,5 @@
 -- Where the stations of a wrapped system stand.
-use Rattle.std.specs.Prelude.{◌≡◌, ℕ, ◌+◌, ◌<◌, ◌≤◌, List, length, Some, slice_get, slice_index_or}
+use Rattle.std.specs.Prelude.{◌≡◌, ℕ, ◌+◌, ◌<◌, ◌≤◌, List, length, Some, slice_get}
 use Rattle.lid_system.specs.declared.System.{System}
 use Rattle.lid_graph.specs.declared.graph.Graph.{Graph}
 use Rattle.lid_stations.specs.declared.placement.Placement.{Placement}

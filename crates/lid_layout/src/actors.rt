@@ -37,7 +37,7 @@ fn make_actor(alloc: Global, ends: &Ends) -> Result<Actor, AllocError>
     })
 }
 
-/// The actors of all these stations, in order.
+/// The actors that drain and fill these stations, in order.
 fn make_each(alloc: Global, ends: &[Ends]) -> Result<Vec<Actor>, AllocError>
     ensures { IfOk result (λ actors. HaveEnds (length ends.now) ends.now actors.items) }
 {

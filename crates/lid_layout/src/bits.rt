@@ -1,6 +1,6 @@
 //! The bits of the tokens of a station.
 
-ghost use Rattle.std.specs.Prelude.{◌≡◌, ◌≤◌, ◌<◌, IfOk, length, slice_index_or, false};
+ghost use Rattle.std.specs.Prelude.{◌≡◌, ◌≤◌, IfOk, length, slice_index_or, false};
 ghost use Rattle.lid_shellwires.specs.Shells.{nets_of, begins_before, wire_in};
 ghost use Rattle.lid_cells.specs.Shown.{wire_of};
 ghost use Rattle.lid_wrapped.specs.Wrapping.{first_put};
@@ -30,14 +30,25 @@ fn begins_at(shells: &Shells, v: u32, port: u32) -> bool
 fn net_of(shell: &Shell, port: u32) -> u32
     ensures { result ≡ slice_index_or shell.now.flat.outs port 0 }
 {
-    shell.flat.outs.as_slice().get(port as usize).copied().unwrap_or(0)
+    shell
+        .flat
+        .outs
+        .as_slice()
+        .get(port as usize)
+        .copied()
+        .unwrap_or(0)
 }
 
 /// The wire that has a net of a shell after a firing.
 fn wire_after(shell: &Shell, net: u32) -> Wire
     ensures { wire_of result ≡ wire_in shell.now.after net }
 {
-    shell.after.as_slice().get(net as usize).copied().unwrap_or(Wire::Offer)
+    shell
+        .after
+        .as_slice()
+        .get(net as usize)
+        .copied()
+        .unwrap_or(Wire::Offer)
 }
 
 /// The wire of an output of shell v after a firing.
@@ -57,7 +68,12 @@ fn output_of(shells: &Shells, v: u32, port: u32) -> Wire
 fn put_first(system: &System, shells: &Shells, channel: &Channel, j: u32) -> Wire
     ensures { wire_of result ≡ first_put system.now (nets_of shells.now) channel.now j }
 {
-    let port = channel.ports.as_slice().get(j as usize).copied().unwrap_or(0);
+    let port = channel
+        .ports
+        .as_slice()
+        .get(j as usize)
+        .copied()
+        .unwrap_or(0);
     match system.nodes.as_slice().get(channel.from as usize) {
         Some(Node::Shell { .. }) => output_of(shells, channel.from, port),
         Some(_) => Wire::Given(port),
@@ -70,7 +86,12 @@ fn bit_at(system: &System, shells: &Shells, channel: &Channel, site: Site, j: u3
     requires { site.place ≤ site.station }
     ensures { IsBit system.now (nets_of shells.now) channel.now site j result }
 {
-    let port = channel.ports.as_slice().get(j as usize).copied().unwrap_or(0);
+    let port = channel
+        .ports
+        .as_slice()
+        .get(j as usize)
+        .copied()
+        .unwrap_or(0);
     let begins = begins_at(shells, site.filler, port);
     let put = if site.place == 0 {
         put_first(system, shells, channel, j)

@@ -53,7 +53,7 @@ fn make_frame(
 /// The wrapped system of a system, its stations and its shells.
 ///
 /// # Errors
-/// Where there is no memory.
+/// Where there is no memory, or there are more than 2,147,483,648 data inputs or data outputs.
 pub fn lay_out(
     alloc: Global,
     system: &System,

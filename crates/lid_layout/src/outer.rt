@@ -20,7 +20,7 @@ use lid_stations::Placement;
 use lid_system::{InBit, Node, System, shells_stand_between_source_and_sink};
 use std::alloc::{AllocError, Global};
 
-/// So many data inputs, and so many data outputs, at most.
+/// How many data inputs, and how many data outputs, there may be.
 const MOST: usize = 2147483648;
 
 /// How many data inputs there are.

@@ -68,11 +68,7 @@ fn push_sites(
 }
 
 /// Appends all stations in order.
-fn push_all(
-    placement: &Placement,
-    graph: &Graph,
-    sites: &mut Vec<Site>,
-) -> Result<(), AllocError>
+fn push_all(placement: &Placement, graph: &Graph, sites: &mut Vec<Site>) -> Result<(), AllocError>
     requires edges { HasEdges placement.now graph.now }
     requires few { length placement.now.relays ≤ 16384 }
     ensures { OnOk result ((s : System) → graph.now ≡ marking (links_of s) placement.now → AreSites s placement.now 0 sites.old.items → AreSites s placement.now (station_count placement.now.relays) sites.new.items) }

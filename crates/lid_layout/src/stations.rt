@@ -1,13 +1,13 @@
 //! The stations of a wrapped system.
 
-ghost use Rattle.std.specs.Prelude.{◌≡◌, ◌==◌, if◌then◌else◌, IfOk, length};
+ghost use Rattle.std.specs.Prelude.{◌≡◌, ◌==◌, if◌then◌else◌, IfOk};
 ghost use Rattle.lid_system.specs.Systems.{IsWellFormed};
 ghost use Rattle.lid_stations.specs.Stations.{starts};
-ghost use Rattle.lid_stations.specs.Placements.{Fits, station_count};
+ghost use Rattle.lid_stations.specs.Placements.{Fits};
 ghost use Rattle.lid_wrapped.specs.Wrapping.{plan_of};
 ghost use Rattle.lid_shellwires.specs.Shells.{nets_of};
 ghost use Rattle.lid_cells.specs.Matches.{IsStationOf, IsSmallStation};
-ghost use Rattle.lid_layout.specs.Sites.{IsSite, AreSites};
+ghost use Rattle.lid_layout.specs.Sites.{IsSite};
 ghost use Rattle.lid_layout.specs.Stations.{AreStationsOf};
 
 use crate::bits::make_bits;

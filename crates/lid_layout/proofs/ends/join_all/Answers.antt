@@ -1,21 +1,19 @@
 -- Another station is joined.
-use Rattle.std.proofs.Common.{◌≡◌, ◌<◌, ◌≤◌, ℕ, List, length, get_or, slice_get, Some, sym, subst, ◌∙◌, arith}
-use Rattle.std.proofs.lemmas.Option.{slice_get-get_or}
-use Rattle.lid_circuit.specs.Plans.{Plan}
-use Rattle.lid_cells.specs.declared.station.Station.{Station}
+use Rattle.std.proofs.Common.{refl, ◌≡◌, ◌≤◌, ℕ, length, subst, ◌∙◌, arith}
+use Rattle.std.proofs.lemmas.Option.{slice_get_read}
 use Rattle.lid_layout.specs.Ends.{AreJoined}
-use Rattle.lid_layout.proofs.Joining.{all_joined, read_at}
+use Rattle.lid_layout.proofs.Joining.{all_joined}
 use Rattle.lid_layout.proofs.ends.join_all.Goals as goal
 
 pub join-requires-clause-filled : goal.join-requires-clause-filled
 join-requires-clause-filled c =
-    let below = (c.requires.between c.loop-s.s c.index-stations-s.result (read_at c.args.stations.now c.loop-s.s c.index-stations-s.result c.loop-s-test.true c.index-stations-s.is)).0 in
+    let below = (c.requires.between c.loop-s.s c.index-stations-s.result (slice_get_read c.args.stations.now _ c.loop-s.s c.index-stations-s.result refl c.loop-s-test.true c.index-stations-s.is)).0 in
     let many = c.loop-s.invariant.many in
     omega arith
 
 pub join-requires-clause-drained : goal.join-requires-clause-drained
 join-requires-clause-drained c =
-    let below = (c.requires.between c.loop-s.s c.index-stations-s.result (read_at c.args.stations.now c.loop-s.s c.index-stations-s.result c.loop-s-test.true c.index-stations-s.is)).1 in
+    let below = (c.requires.between c.loop-s.s c.index-stations-s.result (slice_get_read c.args.stations.now _ c.loop-s.s c.index-stations-s.result refl c.loop-s-test.true c.index-stations-s.is)).1 in
     let many = c.loop-s.invariant.many in
     omega arith
 
@@ -24,7 +22,7 @@ loop-s-preserved c = record {
   many = c.in_ok-join.ensures.many ∙ c.loop-s.invariant.many;
   joined = λ q are none.
       all_joined q c.loop-s.s c.index-stations-s.result c.loop-s.ends.items c.join.new.ends.items
-      (are.each c.loop-s.s c.index-stations-s.result (read_at c.args.stations.now c.loop-s.s c.index-stations-s.result c.loop-s-test.true c.index-stations-s.is))
+      (are.each c.loop-s.s c.index-stations-s.result (slice_get_read c.args.stations.now _ c.loop-s.s c.index-stations-s.result refl c.loop-s-test.true c.index-stations-s.is))
       (c.loop-s.invariant.joined q are none) c.in_ok-join.ensures;
 }
 

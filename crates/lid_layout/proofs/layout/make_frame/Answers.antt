@@ -1,12 +1,10 @@
 -- The actors and the outside are those of the plan.
-use Rattle.std.proofs.Common.{◌≡◌, ◌≤◌, ◌+◌, ℕ, List, length, slice_get, Some, sym, subst, ap, ◌∙◌, arith}
+use Rattle.std.proofs.Common.{◌≡◌, List, length, slice_get, Some, sym, subst, ap, ◌∙◌, arith}
 use Rattle.lid_stations.specs.Placements.{links_of}
 use Rattle.lid_stations.specs.Stations.{actor_count}
-use Rattle.lid_wrapped.specs.Nets.{Nets}
 use Rattle.lid_wrapped.specs.Wrapping.{plan_of}
 use Rattle.lid_cells.specs.declared.actor.Actor.{Actor}
 use Rattle.lid_cells.specs.declared.station.Station.{Station}
-use Rattle.lid_cells.specs.Matches.{IsSmallActor}
 use Rattle.lid_layout.specs.Stations.{AreStationsOf}
 use Rattle.lid_layout.specs.Actors.{AreActorsOf}
 use Rattle.lid_layout.proofs.layout.make_frame.Goals as goal

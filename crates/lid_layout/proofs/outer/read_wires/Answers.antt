@@ -1,7 +1,6 @@
 -- Another wire is what its input reads, and all are.
-use Rattle.std.proofs.Common.{List, map, ap, ◌∙◌}
+use Rattle.std.proofs.Common.{map, ap, ◌∙◌}
 use Rattle.lid_wrapped.specs.Nets.{read_wire}
-use Rattle.lid_cells.specs.declared.wire.Wire.{Wire}
 use Rattle.lid_cells.specs.Shown.{wire_of}
 use Rattle.lid_layout.proofs.Reading.{mapped_next, mapped_all}
 use Rattle.lid_layout.proofs.outer.read_wires.Goals as goal

@@ -1,4 +1,4 @@
-use Rattle.std.proofs.Common.{◌≡◌, ◌+◌, take}
+use Rattle.std.proofs.Common.{◌≡◌, take}
 use Rattle.lid_system.specs.declared.System.{System}
 use Rattle.lid_stations.specs.Placements.{links_of, station_count}
 use Rattle.lid_stations.specs.Markings.{marking}

@@ -1,5 +1,5 @@
 -- Another station of the channel stands where it is numbered.
-use Rattle.std.proofs.Common.{◌≡◌, ◌≤◌, ◌<◌, ◌+◌, ℕ, List, get_or, refl, sym, ap, subst, arith}
+use Rattle.std.proofs.Common.{◌≡◌, ◌≤◌, ◌<◌, ◌+◌, ℕ, List, get_or, sym, ap, subst, arith}
 use Rattle.lid_stations.specs.Placements.{station_count}
 use Rattle.lid_stations.specs.Laws.{StandsAt}
 use Rattle.lid_stations.proofs.Spots.{station_at_spot}

@@ -1,5 +1,5 @@
 -- Another station is made where it stands.
-use Rattle.std.proofs.Common.{◌≡◌, ◌<◌, ◌+◌, ℕ, List, length, get_or, slice_get, Some, sym, subst, ap, ◌∙◌, arith}
+use Rattle.std.proofs.Common.{◌≡◌, ◌+◌, ℕ, List, length, slice_get, Some, sym, subst, ap, ◌∙◌, arith}
 use Rattle.std.proofs.lemmas.Option.{slice_get-get_or}
 use Rattle.lid_stations.specs.Placements.{station_count}
 use Rattle.lid_cells.specs.declared.station.Station.{Station}
@@ -7,8 +7,8 @@ use Rattle.lid_cells.specs.Matches.{IsStationOf, IsSmallStation}
 use Rattle.lid_wrapped.specs.Wrapping.{plan_of}
 use Rattle.lid_shellwires.specs.Shells.{nets_of}
 use Rattle.lid_layout.specs.declared.sites.Site.{Site}
-use Rattle.lid_layout.specs.Sites.{AreSites, IsSite}
-use Rattle.lid_layout.proofs.Pushing.{length_pushed, each_pushed}
+use Rattle.lid_layout.specs.Sites.{AreSites}
+use Rattle.lid_clock.proofs.Pushing.{length_pushed, each_pushed}
 use Rattle.lid_layout.proofs.stations.make_stations.Goals as goal
 
 pub make_station-requires-clause-site : goal.make_station-requires-clause-site
