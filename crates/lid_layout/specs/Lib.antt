@@ -1,0 +1,7 @@
+pub mod Sites
+pub mod Bits
+pub mod Stations
+pub mod Ends
+pub mod Actors
+pub mod Outside
+pub mod Frames

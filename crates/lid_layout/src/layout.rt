@@ -3,22 +3,57 @@
 ghost use Rattle.std.specs.Prelude.{IfOk, length, ◌≡◌, ◌+◌, ℕ, slice_get, Some};
 ghost use Rattle.lid_stations.specs.Placements.{Fits};
 ghost use Rattle.lid_system.specs.Systems.{IsWellFormed};
-ghost use Rattle.lid_wrapped.specs.Nets.{AreNets};
+ghost use Rattle.lid_wrapped.specs.Nets.{Nets, AreNets};
 ghost use Rattle.lid_wrapped.specs.Wrapping.{plan_of};
 ghost use Rattle.lid_cells.specs.declared.shell.Shell.{Shell};
 ghost use Rattle.lid_cells.specs.Matches.{IsAllOf, IsSound, IsWhole};
 ghost use Rattle.lid_shellwires.specs.Shells.{nets_of};
+ghost use Rattle.lid_layout.specs.Stations.{AreStationsOf};
+ghost use Rattle.lid_layout.specs.Frames.{IsFrame};
 
-use lid_cells::All;
+use crate::actors::make_actors;
+use crate::outer::make_outer;
+use crate::stations::make_stations;
+use lid_base::Items;
+use lid_cells::{Actor, All, Outer, Station};
 use lid_shellwires::Shells;
 use lid_stations::Placement;
 use lid_system::System;
 use std::alloc::{AllocError, Global};
 
+/// All parts of a wrapped system but its shells.
+#[derive(Drop)]
+struct Frame {
+    outer: Outer,
+    stations: Items<Station>,
+    actors: Items<Actor>,
+}
+
+/// The frame of a system with these stations.
+fn make_frame(
+    alloc: Global,
+    system: &System,
+    placement: &Placement,
+    stations: Vec<Station>,
+) -> Result<Frame, AllocError>
+    requires system { IsWellFormed system.now }
+    requires fits { Fits system.now placement.now }
+    requires stations { (n : Nets) × AreStationsOf (plan_of system.now placement.now n) stations.items }
+    ensures { IfOk result (λ frame. (n : Nets) → AreStationsOf (plan_of system.now placement.now n) stations.items → IsFrame (plan_of system.now placement.now n) frame) }
+{
+    let actors = make_actors(alloc, system, placement, stations.as_slice())?;
+    let outer = make_outer(alloc, system, placement, actors.as_slice())?;
+    Ok(Frame {
+        outer,
+        stations: Items::from_vec(stations),
+        actors: Items::from_vec(actors),
+    })
+}
+
 /// The wrapped system of a system, its stations and its shells.
 ///
 /// # Errors
-/// Where there is no memory.
+/// Where there is no memory, or there are more than 2,147,483,648 data inputs or data outputs.
 pub fn lay_out(
     alloc: Global,
     system: &System,
@@ -27,11 +62,23 @@ pub fn lay_out(
 ) -> Result<All, AllocError>
     requires system { IsWellFormed system.now }
     requires fits { Fits system.now placement.now }
-    requires count { length system.now.nodes ≡ length shells.entry.shells + 2 }
-    requires whole { (i : ℕ) (shell : Shell) → slice_get shells.entry.shells i ≡ Some shell → IsWhole shell }
-    requires nets { AreNets system.now placement.now (nets_of shells.entry) }
-    ensures all { IfOk result (IsAllOf (plan_of system.now placement.now (nets_of shells.entry))) }
+    requires count { length system.now.nodes ≡ length shells.shells + 2 }
+    requires whole { (i : ℕ) (shell : Shell) → slice_get shells.shells i ≡ Some shell → IsWhole shell }
+    requires nets { AreNets system.now placement.now (nets_of shells) }
+    ensures all { IfOk result (IsAllOf (plan_of system.now placement.now (nets_of shells))) }
     ensures sound { IfOk result IsSound }
 {
-    Err(AllocError)
+    let stations = make_stations(alloc, system, placement, &shells)?;
+    let Frame {
+        outer,
+        stations,
+        actors,
+    } = make_frame(alloc, system, placement, stations)?;
+    let Shells { shells, .. } = shells;
+    Ok(All {
+        outer,
+        stations,
+        actors,
+        shells,
+    })
 }

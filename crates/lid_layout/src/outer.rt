@@ -1,0 +1,142 @@
+//! The outside of a wrapped system.
+
+ghost use Rattle.std.specs.Prelude.{◌≡◌, ◌≤◌, ◌<◌, ◌^◌, ◌+◌, ℕ, IfOk, length, map, slice_get, Some};
+ghost use Rattle.std.specs.List.{AllByRecursion};
+ghost use Rattle.lid_system.specs.Systems.{IsWellFormed};
+ghost use Rattle.lid_stations.specs.declared.placement.Placement.{Placement};
+ghost use Rattle.lid_stations.specs.Placements.{Fits, IsPlacement};
+ghost use Rattle.lid_circuit.specs.Plans.{Plan, ends};
+ghost use Rattle.lid_wrapped.specs.Nets.{Nets, read_wire};
+ghost use Rattle.lid_wrapped.specs.Wrapping.{plan_of, input_count, sink_reads};
+ghost use Rattle.lid_cells.specs.declared.actor.Actor.{Actor};
+ghost use Rattle.lid_cells.specs.Shown.{wire_of};
+ghost use Rattle.lid_cells.specs.Matches.{IsActorOf, IsSmallActor, IsOuterOf};
+ghost use Rattle.lid_layout.specs.Actors.{AreActorsOf};
+ghost use Rattle.lid_layout.specs.Outside.{AreLasts, IsWithin};
+
+use lid_base::Items;
+use lid_cells::{Actor, Outer, Wire};
+use lid_stations::Placement;
+use lid_system::{InBit, Node, System, shells_stand_between_source_and_sink};
+use std::alloc::{AllocError, Global};
+
+/// How many data inputs, and how many data outputs, there may be.
+const MOST: usize = 2147483648;
+
+/// How many data inputs there are.
+fn input_count(system: &System) -> usize
+    ensures { result ≡ input_count system.now }
+{
+    match system.nodes.as_slice().get(0) {
+        Some(Node::Source { columns }) => columns.len(),
+        Some(_) => 0,
+        None => 0,
+    }
+}
+
+/// What the columns of the sink read.
+fn sink_reads(system: &System) -> &[InBit]
+    requires { IsWellFormed system.now }
+    ensures { result.now ≡ sink_reads system.now }
+{
+    shells_stand_between_source_and_sink();
+    let last = system.nodes.len() - 1;
+    match &system.nodes.as_slice()[last] {
+        Node::Sink { ins, .. } => ins.as_slice(),
+        _ => unreachable!(),
+    }
+}
+
+/// The last station of each channel.
+fn last_stations(alloc: Global, placement: &Placement) -> Result<Vec<u32>, AllocError>
+    requires { IsPlacement placement.now }
+    ensures { IfOk result (λ lasts. AreLasts placement.now (length placement.now.relays) lasts.items) }
+{
+    let mut lasts = Vec::new(alloc);
+    let mut first = 0u32;
+    for relays in placement.relays.as_slice() {
+        lasts.push(first + *relays)?;
+        first += *relays + 1;
+    }
+    Ok(lasts)
+}
+
+/// The wire that an input reads, by the last stations of channels.
+fn read_wire(lasts: &[u32], input: InBit) -> Wire
+    requires { IsWithin (length lasts.now) input }
+    ensures { (p : Placement) → AreLasts p (length lasts.now) lasts.now → wire_of result ≡ read_wire p input }
+{
+    match input {
+        InBit::Const(bit) => Wire::Steady(bit),
+        InBit::Port { chan, bit } => Wire::Place(lasts[chan as usize], 0, bit),
+    }
+}
+
+/// The wires that these inputs read.
+fn read_wires(alloc: Global, lasts: &[u32], inputs: &[InBit]) -> Result<Items<Wire>, AllocError>
+    requires { AllByRecursion (IsWithin (length lasts.now)) inputs.now }
+    ensures { IfOk result (λ wires. (p : Placement) → AreLasts p (length lasts.now) lasts.now → map wire_of wires ≡ map (read_wire p) inputs.now) }
+{
+    let mut wires = Vec::new(alloc);
+    for input in inputs {
+        wires.push(read_wire(lasts, *input))?;
+    }
+    Ok(Items::from_vec(wires))
+}
+
+/// What the data outputs show.
+fn make_shows(
+    alloc: Global,
+    system: &System,
+    placement: &Placement,
+) -> Result<Items<Wire>, AllocError>
+    requires system { IsWellFormed system.now }
+    requires fits { Fits system.now placement.now }
+    ensures is { IfOk result (λ shows. map wire_of shows ≡ map (read_wire placement.now) (sink_reads system.now)) }
+    ensures few { IfOk result (λ shows. length shows < 2 ^ 32) }
+{
+    let reads = sink_reads(system);
+    if reads.len() > MOST {
+        return Err(AllocError);
+    }
+    let lasts = last_stations(alloc, placement)?;
+    let shows = read_wires(alloc, lasts.as_slice(), reads)?;
+    Ok(shows)
+}
+
+/// How many ends an actor has.
+fn end_count(actor: &Actor) -> u32
+    requires { IsSmallActor actor.now }
+    ensures { (q : Plan) (v : ℕ) → IsActorOf q v actor.now → length (ends q v) ≡ result }
+{
+    (actor.ins.len() + actor.outs.len()) as u32
+}
+
+/// The outside of a system, by its actors.
+pub(crate) fn make_outer(
+    alloc: Global,
+    system: &System,
+    placement: &Placement,
+    actors: &[Actor],
+) -> Result<Outer, AllocError>
+    requires system { IsWellFormed system.now }
+    requires fits { Fits system.now placement.now }
+    requires nodes { length system.now.nodes ≤ length actors.now }
+    requires small { (v : ℕ) (actor : Actor) → slice_get actors.now v ≡ Some actor → IsSmallActor actor }
+    ensures is { IfOk result (λ outer. (n : Nets) → AreActorsOf (plan_of system.now placement.now n) actors.now → IsOuterOf (plan_of system.now placement.now n) outer) }
+    ensures few { IfOk result (λ outer. length outer.shows < 2 ^ 32) }
+{
+    let inputs = input_count(system);
+    if inputs > MOST {
+        return Err(AllocError);
+    }
+    let shows = make_shows(alloc, system, placement)?;
+    let last = system.nodes.len() - 1;
+    Ok(Outer {
+        inputs: inputs as u32,
+        last: last as u32,
+        first_ends: end_count(&actors[0]),
+        last_ends: end_count(&actors[last]),
+        shows,
+    })
+}
