@@ -2,9 +2,9 @@
 #![tactic(auto)]
 
 mod prefix;
-mod size;
-mod taken;
+mod stations;
+mod pearls;
 
 pub use prefix::free_prefix;
-pub use size::emitted_size;
-pub use taken::find_taken;
+pub use stations::stations_size;
+pub use pearls::cells_of_pearls;
