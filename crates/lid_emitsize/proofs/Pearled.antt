@@ -4,8 +4,7 @@ use Rattle.std.specs.Option.{option_map_or}
 use Rattle.std.specs.List.{range_with_len, count_by}
 use Rattle.std.specs.Prelude.{IsSome}
 use Rattle.std.proofs.lemmas.Bool.{eqb-true, eqb-false, eq-eqb, ne_eqb}
-use Rattle.std.proofs.lemmas.List.{map-append}
-use Rattle.std.proofs.lemmas.List.Sums.{sum_by-cons, sum_by_push}
+use Rattle.std.proofs.lemmas.List.Sums.{sum_by-cons}
 use Rattle.lid_base.specs.Lists.{Among}
 use Rattle.lid_base.proofs.Lists.{map_among}
 use Rattle.lid_design.specs.declared.Design.{Design}
@@ -45,17 +44,6 @@ inst_count d f counts i k are names =
 -- of no instance
 pub no_count : (d : Design) (f : ℕ → ℕ) (i : ℕ) → instance_number d i d.root ≡ None → 0 ≡ min (at_path d f (i ∷ [])) 18446744073709551615
 no_count d f i none = sym (ap (λ (o : Option ℕ). min (option_map_or f o 0) 18446744073709551615) (inst_number d i ∙ none))
-
--- an instance more
-range_more : (a n : ℕ) → range_with_len a (n + 1) ≡ range_with_len a n ++ (a + n) ∷ []
-range_more a zero = let e : a ≡ a + 0 = omega arith in ap (λ (k : ℕ). k ∷ []) e
-range_more a (suc n) = ap (λ (ks : List ℕ). a ∷ ks) (range_more (a + 1) n ∙ (let e : (a + 1) + n ≡ a + suc n = omega arith in ap (λ (k : ℕ). range_with_len (a + 1) n ++ k ∷ []) e))
-
-pub insts_more : (g : List ℕ → ℕ) (i : ℕ) → sum_by g (map (λ i. i ∷ []) (range_with_len 0 (i + 1))) ≡ sum_by g (map (λ i. i ∷ []) (range_with_len 0 i)) + g (i ∷ [])
-insts_more g i =
-    ap (λ (ks : List ℕ). sum_by g (map (λ i. i ∷ []) ks)) (range_more 0 i ∙ (ap (λ (k : ℕ). range_with_len 0 i ++ k ∷ []) (zero-add i)))
-    ∙ ap (sum_by g) (map-append (λ i. i ∷ []) (range_with_len 0 i) (i ∷ []))
-    ∙ sum_by_push g (map (λ i. i ∷ []) (range_with_len 0 i)) (i ∷ [])
 
 -- the pearls of a root without instances, and with some
 pub one_pearl : (d : Design) (f : ℕ → ℕ) → length (insts_of d d.root) ≡ 0 → over_pearls d f ≡ at_path d f []
@@ -117,7 +105,7 @@ module _ (d : Design) (known : AreKnown d) where
   leads path among = by (length (insts_of d d.root) == 0) among
     where
       by : (b : Bool) → Among path (cond b ([] ∷ []) (map (λ i. i ∷ []) (range_with_len 0 (length (insts_of d d.root))))) → IsSome (number_from d d.root path)
-      by true (inl same) = subst (λ (path : List ℕ). IsSome (number_from d d.root path)) (sym same) (subst IsSome (sym (root_number d)) tt)
+      by true (inl same) = subst (λ (path : List ℕ). IsSome (number_from d d.root path)) (sym same) (subst IsSome (sym (root_number d)) refl)
       by true (inr none) = absurd none
       by false among =
           let found = map_among (λ (i : ℕ). i ∷ []) path (range_with_len 0 (length (insts_of d d.root))) among in
@@ -130,7 +118,7 @@ module _ (d : Design) (known : AreKnown d) where
   one_more path some = by (number_from d d.root path) some
     where
       by : (o : Option ℕ) → IsSome o → option_map_or (pearl_size d) o 0 ≡ 1 + option_map_or (cells_in d) o 0
-      by None some = absurd some
+      by None some = cc
       by (Some k) some = refl
 
   -- for each pearl 1, and its latches and covers
