@@ -1,10 +1,12 @@
 //! What a wrapped design asks of names and of room: the size, names that are taken, and a prefix for new names.
 #![tactic(auto)]
 
-mod prefix;
-mod stations;
 mod pearls;
+mod prefix;
+mod size;
+mod stations;
+mod taken;
 
 pub use prefix::free_prefix;
-pub use stations::stations_size;
-pub use pearls::cells_of_pearls;
+pub use size::emitted_size;
+pub use taken::first_taken;

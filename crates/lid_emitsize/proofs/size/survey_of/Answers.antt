@@ -1,0 +1,10 @@
+use Rattle.std.proofs.Common.{sym, ◌∙◌, subst}
+use Rattle.lid_hierarchy.specs.Surveys.{AreKnown}
+use Rattle.lid_check.proofs.Sound.{judged_of}
+use Rattle.lid_emitsize.proofs.size.survey_of.Goals as goal
+
+pub survey_models-requires : goal.survey_models-requires
+survey_models-requires c = subst AreKnown (sym (c.in_ok-uses.ensures ∙ c.design.ensures.same)) (judged_of c.args.checked.now c.design.ensures.formed c.design.ensures.accepted.models).known
+
+pub returns-in-Ok-clause-known : goal.returns-in-Ok-clause-known
+returns-in-Ok-clause-known c = (judged_of c.args.checked.now c.design.ensures.formed c.design.ensures.accepted.models).known
