@@ -39,3 +39,9 @@ is_taken inputs name = is_among name own_names || is_among name inputs
 -- serves the body: the name that is taken first among data inputs and outputs
 abbrev pub taken_in : List (List ℕ) → List (List ℕ) → Option (List ℕ)
 taken_in inputs outputs = or_else (find (λ name. is_among name own_names) inputs) (find (is_taken inputs) outputs)
+
+unfoldable pub taken_name : Design → Option (List ℕ)
+taken_name d =
+    or_else
+    (find (λ name. is_among name own_names) (root_inputs d))
+    (find (λ name. is_among name own_names || is_among name (root_inputs d)) (root_outputs d))

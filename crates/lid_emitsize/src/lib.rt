@@ -9,4 +9,4 @@ mod taken;
 
 pub use prefix::free_prefix;
 pub use size::emitted_size;
-pub use taken::first_taken;
+pub use taken::find_taken;

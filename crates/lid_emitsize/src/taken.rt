@@ -3,15 +3,39 @@
 ghost use Rattle.std.specs.Prelude.{◌≡◌, ◌||◌, ℕ, List, find, option_map, IfOk};
 ghost use denote.Ref.{Bor};
 ghost use Rattle.lid_design.specs.Columns.{is_among};
-ghost use Rattle.lid_emitsize.specs.Taken.{own_names, is_taken, taken_in};
+ghost use Rattle.lid_emitsize.specs.Taken.{own_names, is_taken, taken_in, taken_name};
 
-use lid_base::Name;
+use lid_base::{Name, copy_name};
+use lid_check::Checked;
 use lid_names::{NameSet, set_of};
 use std::alloc::{AllocError, Global};
 
+/// The first name of a data input or output of the root that the emitted design needs for itself, or that an
+/// output shares with a data input.
+///
+/// # Errors
+/// Where there is no memory.
+#[tactic(auto, unfolding(crate::specs::Taken::taken_name))]
+pub fn find_taken(alloc: Global, checked: &Checked) -> Result<Option<Name>, AllocError>
+    ensures { IfOk result (λ name. name ≡ taken_name checked.now) }
+{
+    let name = first_taken(alloc, checked.inputs(), checked.outputs())?;
+    copy_found(alloc, name)
+}
+
+/// A copy of a name, where one was found.
+fn copy_found(alloc: Global, name: Option<&[u8]>) -> Result<Option<Name>, AllocError>
+    ensures { IfOk result (λ copy. copy ≡ option_map (λ (r : Bor (List ℕ)). r.now) name.entry) }
+{
+    match name {
+        Some(name) => Ok(Some(copy_name(alloc, name)?)),
+        None => Ok(None),
+    }
+}
+
 /// The first name of a data input or output that the emitted design needs for itself, or that an output
 /// shares with a data input.
-pub fn first_taken<'n>(
+fn first_taken<'n>(
     alloc: Global,
     inputs: &'n [Name],
     outputs: &'n [Name],
