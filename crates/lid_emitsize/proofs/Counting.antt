@@ -6,7 +6,8 @@ use Rattle.std.proofs.lemmas.List.Sums.{sum_by-cons, count_by-le-length}
 use Rattle.std.proofs.lemmas.List.{length-append}
 use Rattle.std.proofs.Math.Nat.{pow-succ'}
 use Rattle.lid_base.specs.Lists.{Among}
-use Rattle.lid_emitsize.specs.Prefixes.{IsFree, IsShort, IsLonger, begins, count_with}
+use Rattle.lid_wirenames.specs.Spelling.{IsFree}
+use Rattle.lid_emitsize.specs.Prefixes.{IsShort, IsLonger, begins, count_with}
 
 -- what a slice begins with
 pub starts_is : (prefix name : List ℕ) → starts_with nat_eq name prefix ≡ begins prefix name

@@ -1,11 +1,6 @@
 -- Prefixes of names.
-use Rattle.std.specs.Prelude.{◌≡◌, ◌⊎◌, ℕ, ◌+◌, ◌≤◌, ◌<◌, ◌&&◌, ◌==◌, Bool, true, false, List, [], ◌∷◌, length, count_by}
+use Rattle.std.specs.Prelude.{◌≡◌, ◌⊎◌, ℕ, ◌+◌, ◌≤◌, ◌<◌, ◌&&◌, ◌==◌, Bool, true, false, List, [], ◌∷◌, ◌++◌, length, count_by}
 use Rattle.std.specs.List.{AllByRecursion}
-
-use Rattle.std.specs.Prelude.{◌++◌}
-use Rattle.lid_base.specs.Lists.{Among}
-abbrev pub IsFree : List ℕ → List (List ℕ) → Type 0
-IsFree prefix names = (name rest : List ℕ) → Among name names → ¬ (name ≡ prefix ++ rest)
 
 -- letters a and b alone, from 1 to 15 of them
 pub record IsShort (prefix : List ℕ) : Type 0 where

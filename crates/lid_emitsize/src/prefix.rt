@@ -1,7 +1,8 @@
 //! A prefix with which no name begins.
 
 ghost use Rattle.std.specs.Prelude.{◌≡◌, IfOk, length, [], ◌∷◌, ◌++◌, ◌+◌, ◌<◌};
-ghost use Rattle.lid_emitsize.specs.Prefixes.{IsFree, IsShort, IsLonger, begins, count_with};
+ghost use Rattle.lid_wirenames.specs.Spelling.{IsFree};
+ghost use Rattle.lid_emitsize.specs.Prefixes.{IsShort, IsLonger, begins, count_with};
 
 use lid_base::Name;
 use std::alloc::{AllocError, Global};

@@ -2,7 +2,8 @@ use Rattle.std.proofs.Common.{◌≡◌, ◌||◌, ℕ, Bool, List, find, ◌∙
 use Rattle.lid_design.specs.Columns.{is_among}
 use Rattle.lid_names.proofs.Lists.{is_among_firsts}
 use Rattle.lid_ports.proofs.Sets.{find_same}
-use Rattle.lid_emitsize.specs.Taken.{own_names, is_taken}
+use Rattle.lid_emitted.specs.Ports.{own_names}
+use Rattle.lid_emitsize.specs.Taken.{is_taken}
 use Rattle.lid_emitsize.proofs.taken.first_shared.Goals as goal
 
 pub returns : goal.returns
