@@ -1,9 +1,9 @@
 -- What is counted in the models of pearls, in all.
-use Rattle.std.proofs.Common.{◌≡◌, ℕ, zero, suc, ◌+◌, ◌<◌, ◌==◌, Bool, true, false, cond, List, [], ◌∷◌, ◌++◌, length, map, min, sum_by, get_or, slice_get, Option, Some, None, refl, sym, ◌∙◌, ap, subst, zero-add, add-zero, inl, inr, arith}
+use Rattle.std.proofs.Common.{◌≡◌, ℕ, zero, suc, ◌+◌, ◌<◌, ◌==◌, Bool, true, false, cond, List, [], ◌∷◌, length, map, min, sum_by, get_or, slice_get, Option, Some, None, refl, sym, ◌∙◌, ap, subst, add-zero, inl, inr, arith}
 use Rattle.std.specs.Option.{option_map_or}
 use Rattle.std.specs.List.{range_with_len, count_by}
 use Rattle.std.specs.Prelude.{IsSome}
-use Rattle.std.proofs.lemmas.Bool.{eqb-true, eqb-false, eq-eqb, ne_eqb}
+use Rattle.std.proofs.lemmas.Bool.{eq-eqb, ne_eqb}
 use Rattle.std.proofs.lemmas.List.Sums.{sum_by-cons}
 use Rattle.lid_base.specs.Lists.{Among}
 use Rattle.lid_base.proofs.Lists.{map_among}
@@ -11,7 +11,7 @@ use Rattle.lid_design.specs.declared.Design.{Design}
 use Rattle.lid_design.specs.declared.Model.{Model}
 use Rattle.lid_design.specs.declared.Cell.{Cell}
 use Rattle.lid_design.specs.declared.Cell.TheVariants.{Names, Latch}
-use Rattle.lid_design.specs.Models.{number_from, instance_number, insts_of, IsReached}
+use Rattle.lid_design.specs.Models.{number_from, instance_number, insts_of}
 use Rattle.lid_design.specs.Loops.{pearls}
 use Rattle.lid_design.specs.Elaboration.{Instance, instances_in, is_latch}
 use Rattle.lid_hierarchy.specs.Surveys.{AreKnown}

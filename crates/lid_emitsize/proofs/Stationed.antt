@@ -1,5 +1,5 @@
 -- The sizes of stations, added up in their order.
-use Rattle.std.proofs.Common.{◌≡◌, ℕ, ◌+◌, ◌*◌, ◌<◌, ◌≤◌, List, [], ◌∷◌, length, take, get_or, sum_by, refl, sym, ◌∙◌, ap, zero-add, add-zero, arith}
+use Rattle.std.proofs.Common.{◌≡◌, ℕ, ◌+◌, ◌*◌, ◌<◌, ◌≤◌, [], length, take, get_or, sum_by, sym, ◌∙◌, ap, add-zero, arith}
 use Rattle.std.proofs.lemmas.List.{get_or_default}
 use Rattle.std.proofs.lemmas.List.Sums.{sum_by-cons, sum_by-append}
 use Rattle.lid_design.specs.Network.{from_each}
@@ -30,5 +30,5 @@ size_at s p fits c place station cap ports x below within number is_cap is_x is_
     let there : c < length s.channels = (let e = fits.counts in omega arith) in
     let channel : channel_at (links_of s) c ≡ x = get_or_default s.channels c no_channel x there ∙ sym is_x in
     let its_ports : length (channel_at (links_of s) (spot_at p.relays station).channel).ports ≡ ports =
-        ap (λ (spot : Spot). length (channel_at (links_of s) spot.channel).ports) spot ∙ ap (λ (x : Channel). length x.ports) channel ∙ sym is_ports in
+    ap (λ (spot : Spot). length (channel_at (links_of s) spot.channel).ports) spot ∙ ap (λ (x : Channel). length x.ports) channel ∙ sym is_ports in
     ap (λ (n : ℕ). capacity p station * (1 + n)) its_ports ∙ ap (λ (n : ℕ). n * (1 + ports)) (sym is_cap)

@@ -8,13 +8,13 @@ pub record IsShort (prefix : List ℕ) : Type 0 where
   pub some : 0 < length prefix
   pub few : length prefix ≤ 15
 
--- whether a name begins with a prefix
+-- serves the body: whether a name begins with a prefix
 abbrev pub begins : List ℕ → List ℕ → Bool
 begins [] name = true
 begins (b ∷ prefix) [] = false
 begins (b ∷ prefix) (c ∷ name) = (b == c) && begins prefix name
 
--- how many names begin with a prefix
+-- serves the body: how many names begin with a prefix
 abbrev pub count_with : List ℕ → List (List ℕ) → ℕ
 count_with prefix names = count_by (begins prefix) names
 

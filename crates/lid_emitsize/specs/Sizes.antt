@@ -1,5 +1,5 @@
 -- The size of a wrapped design.
-use Rattle.std.specs.Prelude.{◌≡◌, ℕ, ◌+◌, ◌*◌, List, [], ◌∷◌, ◌++◌, length, min, sum_by, slice_get, slice_index_or}
+use Rattle.std.specs.Prelude.{◌≡◌, ℕ, ◌+◌, ◌*◌, List, [], ◌++◌, length, min, sum_by, slice_get, slice_index_or}
 use Rattle.std.specs.Option.{option_map_or}
 use Rattle.lid_design.specs.declared.Design.{Design}
 use Rattle.lid_design.specs.declared.Cell.{Cell}
@@ -38,6 +38,7 @@ abbrev pub cell_size : Cell → ℕ
 cell_size (Names inputs out cover) = 1 + length inputs + length cover.cubes
 cell_size (Latch input out kind control init) = 1
 
+-- the latches and covers of a model itself
 abbrev pub cells_size : Design → ℕ → ℕ
 cells_size d k = option_map_or (λ m. sum_by cell_size m.cells) (slice_get d.models k) 0
 
@@ -63,6 +64,6 @@ pearls_size d = over_pearls d (pearl_size d)
 unfoldable pub size : Design → System → Placement → ℕ
 size d s p = ports_size d + stations_size s p + pearls_size d
 
--- numbers for the models that are reached, each cut at the greatest that is counted
+-- serves the body: what a function gives for each reached model, at most 18,446,744,073,709,551,615
 abbrev pub AreCounts : Design → (ℕ → ℕ) → List ℕ → Type 0
 AreCounts d f counts = (k : ℕ) → IsReached d k → slice_index_or counts k 0 ≡ min (f k) 18446744073709551615

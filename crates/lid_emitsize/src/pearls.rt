@@ -1,10 +1,10 @@
 //! The size of the pearls.
 
-ghost use Rattle.std.specs.Prelude.{◌≡◌, ◌<◌, ◌^◌, ℕ, [], ◌∷◌, length, map, min, sum_by, slice_index_or, IfOk};
+ghost use Rattle.std.specs.Prelude.{◌≡◌, ℕ, [], ◌∷◌, length, map, min, sum_by, slice_index_or, IfOk};
 ghost use Rattle.std.specs.List.{range_with_len};
-ghost use Rattle.lid_design.specs.Models.{IsReached, insts_of};
+ghost use Rattle.lid_design.specs.Models.{insts_of};
 ghost use Rattle.lid_counts.specs.Counts.{count_of};
-ghost use Rattle.lid_emitsize.specs.Sizes.{at_path, over_pearls, cells_in, pearls_size, AreCounts};
+ghost use Rattle.lid_emitsize.specs.Sizes.{at_path, over_pearls, cells_in, AreCounts};
 
 use lid_counts::{Measure, count_each, counts_are_sums};
 use lid_hierarchy::Survey;
@@ -20,18 +20,16 @@ pub fn cells_of_pearls(alloc: Global, survey: &Survey<'_>) -> Result<u64, AllocE
     let covers = count_in_pearls(alloc, survey, Measure::Covers)?;
     let inputs = count_in_pearls(alloc, survey, Measure::CoverInputs)?;
     let rows = count_in_pearls(alloc, survey, Measure::CoverRows)?;
-    Ok(latches
-        .saturating_add(covers)
-        .saturating_add(inputs)
-        .saturating_add(rows))
+    Ok(
+        latches
+            .saturating_add(covers)
+            .saturating_add(inputs)
+            .saturating_add(rows),
+    )
 }
 
 /// What is counted in all pearls, at most 18,446,744,073,709,551,615.
-fn count_in_pearls(
-    alloc: Global,
-    survey: &Survey<'_>,
-    what: Measure,
-) -> Result<u64, AllocError>
+fn count_in_pearls(alloc: Global, survey: &Survey<'_>, what: Measure) -> Result<u64, AllocError>
     ensures { IfOk result (λ n. n ≡ min (over_pearls survey.now (count_of what survey.now)) 18446744073709551615) }
 {
     let counts = count_each(alloc, survey, what)?;

@@ -1,6 +1,6 @@
 //! The size of a wrapped design.
 
-ghost use Rattle.std.specs.Prelude.{◌≡◌, ◌<◌, ◌+◌, length, min, sum_by, IfOk, OnOk};
+ghost use Rattle.std.specs.Prelude.{◌≡◌, min, sum_by, IfOk, OnOk};
 ghost use Rattle.lid_hierarchy.specs.Surveys.{AreKnown};
 ghost use Rattle.lid_stations.specs.Placements.{Fits};
 ghost use Rattle.lid_system.specs.Systems.{IsWellFormed};

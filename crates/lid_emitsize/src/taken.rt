@@ -1,6 +1,6 @@
 //! Names of ports that are taken.
 
-ghost use Rattle.std.specs.Prelude.{◌≡◌, ◌||◌, ℕ, List, find, option_map, IfOk};
+ghost use Rattle.std.specs.Prelude.{◌≡◌, ℕ, List, find, option_map, IfOk};
 ghost use denote.Ref.{Bor};
 ghost use Rattle.lid_design.specs.Columns.{is_among};
 ghost use Rattle.lid_emitted.specs.Ports.{own_names, taken_name};

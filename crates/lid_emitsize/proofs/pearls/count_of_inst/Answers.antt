@@ -1,4 +1,4 @@
-use Rattle.std.proofs.Common.{◌≡◌, ℕ, Option, Some, None, sym, ◌∙◌, ap}
+use Rattle.std.proofs.Common.{◌≡◌, Some, sym, ◌∙◌, ap}
 use Rattle.lid_design.specs.declared.Design.{Design}
 use Rattle.lid_design.specs.Models.{instance_number}
 use Rattle.lid_emitsize.proofs.Pearled.{inst_count, no_count}

@@ -1,4 +1,4 @@
-use Rattle.std.proofs.Common.{◌≡◌, ℕ, get_or, min, sym, ◌∙◌, ap, arith}
+use Rattle.std.proofs.Common.{ℕ, get_or, min, sym, ◌∙◌, ap, arith}
 use Rattle.lid_design.specs.declared.Design.{Design}
 use Rattle.lid_emitsize.proofs.Pearled.{root_count, one_pearl, inst_pearls}
 use Rattle.lid_emitsize.proofs.pearls.sum_over_pearls.Goals as goal

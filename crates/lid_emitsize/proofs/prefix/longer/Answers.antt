@@ -1,4 +1,4 @@
-use Rattle.std.proofs.Common.{◌≡◌, ◌≤◌, ◌<◌, ◌++◌, ℕ, List, ap, ◌∙◌, arith}
+use Rattle.std.proofs.Common.{◌++◌, ℕ, List, ap, ◌∙◌, arith}
 use Rattle.lid_emitsize.specs.Prefixes.{count_with}
 use Rattle.lid_emitsize.proofs.Counting.{fewer_a, fewer_b}
 use Rattle.lid_emitsize.proofs.prefix.longer.Goals as goal

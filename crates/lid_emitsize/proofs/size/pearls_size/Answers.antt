@@ -1,4 +1,4 @@
-use Rattle.std.proofs.Common.{◌≡◌, ◌+◌, length, min, ap, ◌∙◌, arith}
+use Rattle.std.proofs.Common.{min, ap, ◌∙◌, arith}
 use Rattle.lid_design.specs.declared.Design.{Design}
 use Rattle.lid_emitsize.specs.Sizes.{over_pearls, cells_in}
 use Rattle.lid_emitsize.proofs.Pearled.{sizes_are}

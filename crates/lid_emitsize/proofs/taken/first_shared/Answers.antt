@@ -1,4 +1,4 @@
-use Rattle.std.proofs.Common.{◌≡◌, ◌||◌, ℕ, Bool, List, find, ◌∙◌, ap}
+use Rattle.std.proofs.Common.{◌||◌, Bool, ◌∙◌, ap}
 use Rattle.lid_design.specs.Columns.{is_among}
 use Rattle.lid_names.proofs.Lists.{is_among_firsts}
 use Rattle.lid_ports.proofs.Sets.{find_same}
