@@ -10,7 +10,7 @@ use crate::pearls::cells_of_pearls;
 use crate::stations::stations_size;
 use lid_base::Name;
 use lid_check::Checked;
-use lid_hierarchy::{Survey, find_uses, survey_models};
+use lid_hierarchy::{Survey, SurveyFault, find_uses, survey_models};
 use lid_stations::Placement;
 use lid_system::System;
 use std::alloc::{AllocError, Global};
@@ -82,6 +82,7 @@ fn survey_of<'d>(alloc: Global, checked: &'d Checked) -> Result<Survey<'d>, Allo
     let uses = find_uses(alloc, checked.design())?;
     match survey_models(alloc, uses) {
         Ok(survey) => Ok(survey),
-        Err(_) => Err(AllocError),
+        Err(SurveyFault::Memory) => Err(AllocError),
+        Err(SurveyFault::Recursive { .. }) => unreachable!(),
     }
 }
