@@ -1,12 +1,11 @@
 -- What is counted in the models of pearls, in all.
-use Rattle.std.proofs.Common.{◌≡◌, ℕ, zero, suc, ◌+◌, ◌<◌, ◌==◌, Bool, true, false, cond, List, [], ◌∷◌, length, map, min, sum_by, get_or, slice_get, Option, Some, None, refl, sym, ◌∙◌, ap, subst, add-zero, inl, inr, arith}
+use Rattle.std.proofs.Common.{◌≡◌, ℕ, ◌+◌, ◌<◌, ◌==◌, Bool, true, false, cond, List, [], ◌∷◌, length, map, min, sum_by, get_or, slice_get, Option, Some, None, refl, sym, ◌∙◌, ap, subst, add-zero, inl, inr, arith}
 use Rattle.std.specs.Option.{option_map_or}
 use Rattle.std.specs.List.{range_with_len, count_by}
 use Rattle.std.specs.Prelude.{IsSome}
-use Rattle.std.proofs.lemmas.Bool.{eq-eqb, ne_eqb}
 use Rattle.std.proofs.lemmas.List.Sums.{sum_by-cons}
 use Rattle.lid_base.specs.Lists.{Among}
-use Rattle.lid_base.proofs.Lists.{map_among}
+use Rattle.lid_base.proofs.Lists.{all_among, map_among}
 use Rattle.lid_design.specs.declared.Design.{Design}
 use Rattle.lid_design.specs.declared.Model.{Model}
 use Rattle.lid_design.specs.declared.Cell.{Cell}
@@ -14,6 +13,8 @@ use Rattle.lid_design.specs.declared.Cell.TheVariants.{Names, Latch}
 use Rattle.lid_design.specs.Models.{number_from, instance_number, insts_of}
 use Rattle.lid_design.specs.Loops.{pearls}
 use Rattle.lid_design.specs.Elaboration.{Instance, instances_in, is_latch}
+use Rattle.lid_flatten.proofs.Lists.{all_range}
+use Rattle.lid_parts.proofs.Finding.{whole_pearls, inst_pearls}
 use Rattle.lid_hierarchy.specs.Surveys.{AreKnown}
 use Rattle.lid_counts.specs.declared.counts.Measure.{Measure}
 use Rattle.lid_counts.specs.declared.counts.Measure.TheVariants.{Depth, Latches, Covers, CoverInputs, CoverRows}
@@ -46,15 +47,12 @@ pub no_count : (d : Design) (f : ℕ → ℕ) (i : ℕ) → instance_number d i 
 no_count d f i none = sym (ap (λ (o : Option ℕ). min (option_map_or f o 0) 18446744073709551615) (inst_number d i ∙ none))
 
 -- the pearls of a root without instances, and with some
-pub one_pearl : (d : Design) (f : ℕ → ℕ) → length (insts_of d d.root) ≡ 0 → over_pearls d f ≡ at_path d f []
-one_pearl d f none =
-    ap (λ (b : Bool). sum_by (at_path d f) (cond b ([] ∷ []) (map (λ i. i ∷ []) (range_with_len 0 (length (insts_of d d.root)))))) (eq-eqb (length (insts_of d d.root)) 0 none)
-    ∙ sum_by-cons (at_path d f) [] []
-    ∙ add-zero (at_path d f [])
+pub over_root : (d : Design) (f : ℕ → ℕ) → length (insts_of d d.root) ≡ 0 → over_pearls d f ≡ at_path d f []
+over_root d f none = ap (sum_by (at_path d f)) (whole_pearls d none) ∙ sum_by-cons (at_path d f) [] [] ∙ add-zero (at_path d f [])
 
-pub inst_pearls : (d : Design) (f : ℕ → ℕ) (n : ℕ) → n ≡ length (insts_of d d.root) → (n ≡ 0 → ⊥) → over_pearls d f ≡ sum_by (at_path d f) (map (λ i. i ∷ []) (range_with_len 0 n))
-inst_pearls d f n is some =
-    ap (λ (b : Bool). sum_by (at_path d f) (cond b ([] ∷ []) (map (λ i. i ∷ []) (range_with_len 0 (length (insts_of d d.root)))))) (ne_eqb (length (insts_of d d.root)) 0 (λ e. some (is ∙ e)))
+pub over_insts : (d : Design) (f : ℕ → ℕ) (n : ℕ) → n ≡ length (insts_of d d.root) → 0 < n → over_pearls d f ≡ sum_by (at_path d f) (map (λ i. i ∷ []) (range_with_len 0 n))
+over_insts d f n is some =
+    ap (sum_by (at_path d f)) (inst_pearls d (omega arith))
     ∙ ap (λ (n : ℕ). sum_by (at_path d f) (map (λ i. i ∷ []) (range_with_len 0 n))) (sym is)
 
 -- a cell counts as a latch, or as a cover with its inputs and rows
@@ -95,11 +93,6 @@ module _ (sums : AreSums) (d : Design) where
   pearls_parts = four_parts (at_path d (cells_in d)) (at_path d (count_of Latches d)) (at_path d (count_of Covers d)) (at_path d (count_of CoverInputs d)) (at_path d (count_of CoverRows d)) path_parts (pearls d)
 
 -- the path of each pearl leads to a model
-range_below : (k a n : ℕ) → Among k (range_with_len a n) → k < a + n
-range_below k a zero among = absurd among
-range_below k a (suc n) (inl same) = omega arith
-range_below k a (suc n) (inr later) = let less = range_below k (a + 1) n later in omega arith
-
 module _ (d : Design) (known : AreKnown d) where
   leads : (path : List ℕ) → Among path (pearls d) → IsSome (number_from d d.root path)
   leads path among = by (length (insts_of d d.root) == 0) among
@@ -110,7 +103,8 @@ module _ (d : Design) (known : AreKnown d) where
       by false among =
           let found = map_among (λ (i : ℕ). i ∷ []) path (range_with_len 0 (length (insts_of d d.root))) among in
           let i = found.0 in
-          let less : i < length (insts_of d d.root) = (let l = range_below i 0 (length (insts_of d d.root)) found.1 in omega arith) in
+          let n = length (insts_of d d.root) in
+          let less : i < n = all_among (λ (k : ℕ). k < n) (range_with_len 0 n) i (all_range (λ (k : ℕ). k < n) 0 n (λ k least less. omega arith)) found.1 in
           subst (λ (path : List ℕ). IsSome (number_from d d.root path)) (sym found.2)
           (subst IsSome (sym (inst_number d i)) (known d.root i ([], root_number d) less))
 
