@@ -1,5 +1,6 @@
 -- Sums that are cut at the greatest number that is counted.
-use Rattle.std.proofs.Common.{◌≡◌, ℕ, ◌+◌, List, [], ◌∷◌, min, sum_by, refl, arith}
+use Rattle.std.proofs.Common.{◌≡◌, ℕ, ◌+◌, List, [], ◌∷◌, min, sum_by, Option, Some, None, refl, arith}
+use Rattle.std.specs.Option.{option_map_or}
 use Rattle.std.proofs.lemmas.List.Sums.{sum_by-cons}
 
 -- a cut sum of cut numbers is the cut sum
@@ -13,3 +14,8 @@ four_parts f a b c d parts (x ∷ xs) =
     let first = parts x in
     let later = four_parts f a b c d parts xs in
     omega (arith, sum_by-cons f x xs, sum_by-cons a x xs, sum_by-cons b x xs, sum_by-cons c x xs, sum_by-cons d x xs)
+
+-- or a number of four parts, where there is one
+pub maybe_parts : {X : Type 0} (f a b c d : X → ℕ) → ((x : X) → f x ≡ a x + b x + c x + d x) → (o : Option X) → option_map_or f o 0 ≡ option_map_or a o 0 + option_map_or b o 0 + option_map_or c o 0 + option_map_or d o 0
+maybe_parts f a b c d parts None = refl
+maybe_parts f a b c d parts (Some x) = parts x

@@ -22,6 +22,10 @@ begins_so (b ∷ prefix) rest = ap (λ (first : Bool). first && begins prefix (p
 abbrev pub bit : Bool → ℕ
 bit b = cond b 1 0
 
+with_test : (test a b all : Bool) → bit a + bit b ≤ bit all → bit (test && a) + bit (test && b) ≤ bit (test && all)
+with_test true a b all h = h
+with_test false a b all h = omega arith
+
 -- a name goes on with one of two letters at most
 one_letter : (prefix name : List ℕ) → bit (begins (prefix ++ 97 ∷ []) name) + bit (begins (prefix ++ 98 ∷ []) name) ≤ bit (begins prefix name)
 one_letter [] [] = omega arith
@@ -33,11 +37,7 @@ one_letter [] (c ∷ name) = by (97 == c) refl (98 == c) refl
     by false e true f = omega arith
     by false e false f = omega arith
 one_letter (b ∷ prefix) [] = omega arith
-one_letter (b ∷ prefix) (c ∷ name) = by (b == c) (one_letter prefix name)
-  where
-    by : (same : Bool) → bit (begins (prefix ++ 97 ∷ []) name) + bit (begins (prefix ++ 98 ∷ []) name) ≤ bit (begins prefix name) → bit (same && begins (prefix ++ 97 ∷ []) name) + bit (same && begins (prefix ++ 98 ∷ []) name) ≤ bit (same && begins prefix name)
-    by true later = later
-    by false later = omega arith
+one_letter (b ∷ prefix) (c ∷ name) = with_test (b == c) (begins (prefix ++ 97 ∷ []) name) (begins (prefix ++ 98 ∷ []) name) (begins prefix name) (one_letter prefix name)
 
 both_letters : (prefix : List ℕ) (names : List (List ℕ)) → count_with (prefix ++ 97 ∷ []) names + count_with (prefix ++ 98 ∷ []) names ≤ count_with prefix names
 both_letters prefix [] = omega arith

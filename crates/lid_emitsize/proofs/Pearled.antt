@@ -20,7 +20,7 @@ use Rattle.lid_counts.specs.declared.counts.Measure.{Measure}
 use Rattle.lid_counts.specs.declared.counts.Measure.TheVariants.{Depth, Latches, Covers, CoverInputs, CoverRows}
 use Rattle.lid_counts.specs.Counts.{own, in_cell, count_of}
 use Rattle.lid_emitsize.specs.Sizes.{cell_size, cells_size, cells_in, pearl_size, at_path, over_pearls, pearls_size, AreCounts}
-use Rattle.lid_emitsize.proofs.Adding.{four_parts}
+use Rattle.lid_emitsize.proofs.Adding.{four_parts, maybe_parts}
 
 -- the path of the root, and of an instance of it
 root_number : (d : Design) → number_from d d.root [] ≡ Some d.root
@@ -61,36 +61,37 @@ cell_parts (Names inputs out cover) = omega arith
 cell_parts (Latch input out kind control init) = omega arith
 
 model_parts : (d : Design) (k : ℕ) → cells_size d k ≡ own Latches d k + own Covers d k + own CoverInputs d k + own CoverRows d k
-model_parts d k = by (slice_get d.models k)
-  where
-    by : (o : Option Model) → option_map_or (λ m. sum_by cell_size m.cells) o 0 ≡ option_map_or (λ m. count_by is_latch m.cells) o 0 + option_map_or (λ m. sum_by (in_cell Covers) m.cells) o 0 + option_map_or (λ m. sum_by (in_cell CoverInputs) m.cells) o 0 + option_map_or (λ m. sum_by (in_cell CoverRows) m.cells) o 0
-    by None = refl
-    by (Some m) = four_parts cell_size (λ cell. cond (is_latch cell) 1 0) (in_cell Covers) (in_cell CoverInputs) (in_cell CoverRows) cell_parts m.cells
+model_parts d k =
+    maybe_parts (λ (m : Model). sum_by cell_size m.cells) (λ (m : Model). count_by is_latch m.cells) (λ (m : Model). sum_by (in_cell Covers) m.cells)
+    (λ (m : Model). sum_by (in_cell CoverInputs) m.cells) (λ (m : Model). sum_by (in_cell CoverRows) m.cells)
+    (λ (m : Model). four_parts cell_size (λ cell. cond (is_latch cell) 1 0) (in_cell Covers) (in_cell CoverInputs) (in_cell CoverRows) cell_parts m.cells)
+    (slice_get d.models k)
 
 -- what is counted in a model is a sum over its instances
 abbrev pub AreSums : Type 0
 AreSums = (what : Measure) (d : Design) (k : ℕ) → (what ≡ Depth → ⊥) → count_of what d k ≡ sum_by (λ p. own what d p.model) (instances_in (length d.models) d [] k)
 
 module _ (sums : AreSums) (d : Design) where
+  abbrev own_at : Measure → Instance → ℕ
+  own_at what i = own what d i.model
+
   cells_parts : (k : ℕ) → cells_in d k ≡ count_of Latches d k + count_of Covers d k + count_of CoverInputs d k + count_of CoverRows d k
   cells_parts k =
-      let all = four_parts (λ (i : Instance). cells_size d i.model) (λ (i : Instance). own Latches d i.model) (λ (i : Instance). own Covers d i.model) (λ (i : Instance). own CoverInputs d i.model) (λ (i : Instance). own CoverRows d i.model) (λ (i : Instance). model_parts d i.model) (instances_in (length d.models) d [] k) in
+      let all =
+      four_parts (λ (i : Instance). cells_size d i.model) (own_at Latches) (own_at Covers) (own_at CoverInputs) (own_at CoverRows)
+      (λ i. model_parts d i.model) (instances_in (length d.models) d [] k) in
       let latches = sums Latches d k (λ e. cc) in
       let covers = sums Covers d k (λ e. cc) in
       let inputs = sums CoverInputs d k (λ e. cc) in
       let rows = sums CoverRows d k (λ e. cc) in
       omega arith
 
-  path_parts : (path : List ℕ) → at_path d (cells_in d) path ≡ at_path d (count_of Latches d) path + at_path d (count_of Covers d) path + at_path d (count_of CoverInputs d) path + at_path d (count_of CoverRows d) path
-  path_parts path = by (number_from d d.root path)
-    where
-      by : (o : Option ℕ) → option_map_or (cells_in d) o 0 ≡ option_map_or (count_of Latches d) o 0 + option_map_or (count_of Covers d) o 0 + option_map_or (count_of CoverInputs d) o 0 + option_map_or (count_of CoverRows d) o 0
-      by None = refl
-      by (Some k) = cells_parts k
-
   -- the latches and covers of all pearls
   pub pearls_parts : over_pearls d (cells_in d) ≡ over_pearls d (count_of Latches d) + over_pearls d (count_of Covers d) + over_pearls d (count_of CoverInputs d) + over_pearls d (count_of CoverRows d)
-  pearls_parts = four_parts (at_path d (cells_in d)) (at_path d (count_of Latches d)) (at_path d (count_of Covers d)) (at_path d (count_of CoverInputs d)) (at_path d (count_of CoverRows d)) path_parts (pearls d)
+  pearls_parts =
+      four_parts (at_path d (cells_in d)) (at_path d (count_of Latches d)) (at_path d (count_of Covers d)) (at_path d (count_of CoverInputs d)) (at_path d (count_of CoverRows d))
+      (λ path. maybe_parts (cells_in d) (count_of Latches d) (count_of Covers d) (count_of CoverInputs d) (count_of CoverRows d) cells_parts (number_from d d.root path))
+      (pearls d)
 
 -- the path of each pearl leads to a model
 module _ (d : Design) (known : AreKnown d) where
