@@ -8,7 +8,8 @@ use std::test::Fail;
 use std::thread::Threads;
 
 /// A certificate of the register without relay stations.
-const CERT: &str = "lid-cert 1\npart 3\nratio 1 1\ncycle 0 1\nnode 0 0 0 0 -\nnode 1 0 1 1 0\nnode 2 0 2 2 2\n";
+const CERT: &str =
+    "lid-cert 1\npart 3\nratio 1 1\ncycle 0 1\nnode 0 0 0 0 -\nnode 1 0 1 1 0\nnode 2 0 2 2 2\n";
 
 /// The files of all jobs.
 static FILES: &[(&str, &str)] = &[
@@ -19,7 +20,10 @@ static FILES: &[(&str, &str)] = &[
     ("schedule", "0 1\n"),
     ("wires", "lid-wires 1\nu0 out 0 2500\n"),
     ("cert", CERT),
-    ("dump", "$timescale 1 ns $end\n$scope module lid $end\n$upscope $end\n$enddefinitions $end\n#0\n"),
+    (
+        "dump",
+        "$timescale 1 ns $end\n$scope module lid $end\n$upscope $end\n$enddefinitions $end\n#0\n",
+    ),
 ];
 
 /// A job, and the file of each of its fetches in order.
@@ -33,23 +37,52 @@ static JOBS: &[Job] = &[
     ),
     // the rows are fetched a second time as the run needs them: here in one piece
     (
-        &["clock", "n.blif", "r.vec", "--stations", "stations", "--stalls", "stalls"],
-        &["n.blif", "n.blif", "stations", "stations", "stalls", "stalls", "r.vec", "r.vec", "r.vec"],
+        &[
+            "clock",
+            "n.blif",
+            "r.vec",
+            "--stations",
+            "stations",
+            "--stalls",
+            "stalls",
+        ],
+        &[
+            "n.blif", "n.blif", "stations", "stations", "stalls", "stalls", "r.vec", "r.vec",
+            "r.vec",
+        ],
     ),
     (
         &["clock", "n.blif", "r.vec", "--workers", "2"],
         &["n.blif", "n.blif", "r.vec", "r.vec", "r.vec"],
     ),
     (
-        &["walk", "n.blif", "r.vec", "--schedule", "schedule", "--stations", "stations"],
-        &["n.blif", "n.blif", "stations", "stations", "r.vec", "r.vec", "schedule", "schedule"],
+        &[
+            "walk",
+            "n.blif",
+            "r.vec",
+            "--schedule",
+            "schedule",
+            "--stations",
+            "stations",
+        ],
+        &[
+            "n.blif", "n.blif", "stations", "stations", "r.vec", "r.vec", "schedule", "schedule",
+        ],
     ),
     (
         &["free", "n.blif", "r.vec", "--stations", "stations"],
         &["n.blif", "n.blif", "stations", "stations", "r.vec", "r.vec"],
     ),
     (
-        &["wave", "n.blif", "r.vec", "--trace", "3", "--stations", "stations"],
+        &[
+            "wave",
+            "n.blif",
+            "r.vec",
+            "--trace",
+            "3",
+            "--stations",
+            "stations",
+        ],
         &["n.blif", "n.blif", "stations", "stations", "r.vec", "r.vec"],
     ),
     (&["unwave", "dump"], &["dump", "dump"]),

@@ -45,7 +45,10 @@ fn expect_emitted<R: Threads + AllocGlobal + Sync + Abort>(
     let files = [("n.blif", net), ("s", stations)];
     let words = ["emit", "n.blif", "--stations", "s"];
     let ran = run_failing(rt, &words, &files, NONE_FAILS)?;
-    assert!(rt; ran.status == 0 && ran.err.written().is_empty(), "not emitted: {told}");
+    assert!(rt;
+        ran.status == 0 && ran.err.written().is_empty(),
+        "not emitted: {told}"
+    );
     let text = match from_utf8(ran.out.written()) {
         Ok(text) => text,
         Err(_) => "",

@@ -3,5 +3,4 @@
 
 mod wrapping;
 
-
 pub use wrapping::emit;

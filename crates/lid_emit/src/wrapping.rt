@@ -5,9 +5,9 @@ ghost use Rattle.lid_emitsize.specs.declared.fault.EmitFault.TheVariants.{Memory
 ghost use Rattle.lid_stations.specs.Placements.{links_of};
 ghost use Rattle.lid_emitsize.specs.Emitted.{CanBeEmitted, emit_fault, IsEmitted};
 
-use lid_emitsize::EmitFault;
 use lid_check::Checked;
 use lid_design::Design;
+use lid_emitsize::EmitFault;
 use lid_stations::Placement;
 use lid_system::System;
 use std::alloc::Global;

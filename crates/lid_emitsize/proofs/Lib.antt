@@ -1,1 +1,4 @@
-
+pub mod Counting
+pub mod Adding
+pub mod Stationed
+pub mod Pearled

@@ -1,3 +1,4 @@
 pub mod Sizes
 pub mod Prefixes
 pub mod Emitted
+pub mod Taken

@@ -2,8 +2,10 @@
 #![tactic(auto)]
 
 mod fault;
+mod pearls;
 mod prefix;
 mod size;
+mod stations;
 mod taken;
 
 pub use fault::EmitFault;

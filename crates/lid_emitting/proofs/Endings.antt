@@ -10,7 +10,6 @@ use Rattle.lid_emitsize.specs.Emitted.{emit_fault, IsEmitted}
 use Rattle.lid_refusals.specs.declared.refusal.Refusal.TheVariants.{Emit}
 use Rattle.lid_refusals.specs.Refusals.{refusal_line}
 use Rattle.lid_script.specs.Causes.{stop_of_emit, IsCause}
-use Rattle.lid_script.specs.Emitting.{IsEmitText}
 use Rattle.lid_script.specs.Outputs.{emitted}
 use Rattle.lid_script.specs.Scripts.{Ending, refuses, gives, end, step, emit_good, emit_read, wrapping_script, EndsIn}
 use Rattle.lid_script.specs.Statuses.{HasText}

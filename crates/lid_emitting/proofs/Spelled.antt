@@ -1,5 +1,5 @@
 -- The ports of a design that was read have names that can be written.
-use Rattle.std.proofs.Common.{◌≡◌, ℕ, zero, suc, ◌<◌, Bool, true, false, cond, List, [], ◌∷◌, length, drop, filter, Option, Some, None, refl, sym, ◌∙◌, ap, subst, arith}
+use Rattle.std.proofs.Common.{◌≡◌, ℕ, zero, suc, ◌<◌, Bool, true, false, cond, List, [], ◌∷◌, length, drop, filter, Option, Some, None, refl, ap, subst, arith}
 use Rattle.std.specs.Prelude.{not, nat_lt, option_map, slice_get}
 use Rattle.std.specs.Option.{option_map_or}
 use Rattle.std.specs.List.{AllByRecursion, flat_map}
@@ -96,6 +96,7 @@ good_none None a b h = (refl, same h)
     value : Reading Design → Design
     value (good x) = x
     value (bad line) = a
+
     same : good a ≡ good b → a ≡ b
     same e = ap value e
 good_none (Some fault) a b h = absurd (let e : unless_faulty (Some fault) a ≡ good b = h in cc)
@@ -134,10 +135,10 @@ module _ (d : Design) (h : HasSpelledPorts d) where
   root_spelled m e = let s = found_spelled d.models d.root m e h in s.name
 
   pub inputs_spelled : AllByRecursion (IsSpelled 1024) (root_inputs d)
+  unfolding data_inputs
   inputs_spelled = by (slice_get d.models d.root) refl
     where
       by : (o : Option ModelOf) → slice_get d.models d.root ≡ o → AllByRecursion (IsSpelled 1024) (option_map_or (data_inputs d) o [])
-      unfolding data_inputs
       by None e = tt
       by (Some m) e = let s = found_spelled d.models d.root m e h in kept_all (IsSpelled 1024) (λ net. not (is_clock d m net)) m.inputs s.inputs
 

@@ -8,8 +8,8 @@ use Rattle.lid_script.proofs.Composition.{text_after, cause_after, cause_here}
 use Rattle.lid_emitting.proofs.Spelled.{read_spelled}
 use Rattle.lid_emitting.proofs.emitting.emit_text.Goals as goal
 
-pub before-read_text-clause-spelled : goal.before-read_text-clause-spelled
-before-read_text-clause-spelled g c =
+pub read_text-requires-clause-spelled : goal.read_text-requires-clause-spelled
+read_text-requires-clause-spelled g c =
     let got = c.in-Ok.ensures.ok in
     read_spelled got.bytes c.in-Ok.design got.stands
 

@@ -5,8 +5,8 @@ use Rattle.lid_script.proofs.Composition.{text_checked, cause_checked, cause_unc
 use Rattle.lid_emitting.proofs.Spelled.{rooted_spelled}
 use Rattle.lid_emitting.proofs.emitting.read_text.Goals as goal
 
-pub before-built_text-clause : goal.before-built_text-clause
-before-built_text-clause g c =
+pub built_text-requires : goal.built_text-requires
+built_text-requires g c =
     let is = c.in-Ok.ensures.ok in
     rooted_spelled c.args.design c.in-Ok.checked c.args.root.now is.rooted c.requires.spelled
 

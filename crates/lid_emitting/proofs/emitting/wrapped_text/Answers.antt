@@ -8,8 +8,8 @@ use Rattle.lid_emitting.proofs.Endings.{emit_has_text, emit_has_cause}
 use Rattle.lid_emitting.proofs.Spelled.{root_spelled, inputs_spelled, outputs_spelled}
 use Rattle.lid_emitting.proofs.emitting.wrapped_text.Goals as goal
 
-pub before-emit-clause : goal.before-emit-clause
-before-emit-clause c = record {
+pub emit-requires : goal.emit-requires
+emit-requires c = record {
   of = c.requires.of;
   system = c.requires.system;
   fits = c.requires.fits;
@@ -18,8 +18,8 @@ before-emit-clause c = record {
   outputs = outputs_spelled c.args.checked.now c.requires.spelled;
 }
 
-pub before-design_text-clause : goal.before-design_text-clause
-before-design_text-clause c = let is = c.in-Ok.ensures.ok.1 in is.writable
+pub design_text-requires : goal.design_text-requires
+design_text-requires c = let is = c.in-Ok.ensures.ok.1 in is.writable
 
 pub returns-in-Ok-clause-ok : goal.returns-in-Ok-clause-ok
 returns-in-Ok-clause-ok c =

@@ -1,0 +1,6 @@
+use Rattle.std.proofs.Common.{◌≡◌, find, drop}
+use Rattle.lid_emitsize.specs.Taken.{is_taken}
+use Rattle.lid_emitsize.proofs.taken.first_of.Given as goal
+
+abbrev pub invariant-loop-name : goal.invariant-loop-name
+invariant-loop-name l = find (is_taken l.inputs) (drop l.name-index l.outputs) ≡ find (is_taken l.inputs) l.outputs

@@ -1,0 +1,12 @@
+-- Names that are taken, of lists of names.
+use Rattle.std.specs.Prelude.{◌||◌, ℕ, Bool, List, find, Option}
+use Rattle.lid_design.specs.Columns.{is_among}
+use Rattle.lid_emitted.specs.Ports.{own_names, or_else}
+
+-- serves the body: an output that the emitted design needs for itself, or that is among the inputs
+abbrev pub is_taken : List (List ℕ) → List ℕ → Bool
+is_taken inputs name = is_among name own_names || is_among name inputs
+
+-- serves the body: the name that is taken first among data inputs and outputs
+abbrev pub taken_in : List (List ℕ) → List (List ℕ) → Option (List ℕ)
+taken_in inputs outputs = or_else (find (λ name. is_among name own_names) inputs) (find (is_taken inputs) outputs)
