@@ -1,0 +1,84 @@
+#!/usr/bin/env python3
+"""Gives what `lid emit` prints to Yosys, Icarus Verilog and ABC, and says what they make of it.
+
+    tools/emits_others.py NET [STATIONS] [--rows N] [--seed S]
+
+Yosys reads the netlist, checks it (`check -assert`) and writes it as Verilog, which Icarus Verilog simulates for random
+rows, offered and taken at random: each output must be that of `lid strict`. ABC reads the netlist too, and proves that
+what Yosys makes of it by `opt` and `abc` does the same (`dsec`), where it ends within a minute. It prints a line.
+"""
+
+import random
+import re
+import subprocess
+import sys
+import tempfile
+import time
+from pathlib import Path
+
+from compare import LID, rows_text
+from verilog import bench, listed
+
+
+def option(name: str, default: int) -> int:
+    return int(sys.argv[sys.argv.index(name) + 1]) if name in sys.argv else default
+
+
+def yosys(script: str) -> str:
+    return subprocess.run(["yosys", "-p", script], capture_output=True, text=True, check=True).stdout
+
+
+def by_icarus(place: Path, text: str, rows: list[list[int]]) -> list[str]:
+    yosys(f"read_blif {place}/e.blif; hierarchy -auto-top -check; check -assert; rename -top dut; write_verilog -noattr {place}/e.v")
+    clock = next((w for line in (place / "e.v").read_text().splitlines() for w in re.findall(r"posedge (\S+?)\)", line)), "clock")
+    outs = listed(text, ".outputs")
+    (place / "b.v").write_text(bench("dut", clock, listed(text, ".inputs"), outs, rows))
+    source = (place / "e.v").read_text()
+    if clock not in source.split(");")[0]:
+        # latches without a clock follow that of the netlist around them
+        source = source.replace("module dut(", f"module dut({clock}, ", 1).replace(");", f");\n  input {clock};", 1)
+    (place / "e.v").write_text(source)
+    subprocess.run(["iverilog", "-g2012", "-s", "bench", "-o", place / "b", place / "b.v", place / "e.v"], check=True)
+    told = subprocess.run([place / "b"], capture_output=True, text=True, check=True).stdout
+    return [line for line in told.splitlines() if re.fullmatch(r"[01xz]+", line)]
+
+
+def by_abc(place: Path) -> str:
+    yosys(f"read_blif {place}/e.blif; hierarchy -auto-top; opt; abc; opt_clean; write_blif {place}/o.blif")
+    began = time.monotonic()
+    try:
+        ran = subprocess.run(
+            ["yosys-abc", "-c", f"read_blif {place}/e.blif; print_stats; dsec {place}/e.blif {place}/o.blif"],
+            capture_output=True, text=True, timeout=60, check=False,
+        )
+    except subprocess.TimeoutExpired:
+        return "not ended in 60 s"
+    verdict = [line for line in ran.stdout.splitlines() if "quivalent" in line or "UNDECIDED" in line or "rror" in line]
+    return f"{(verdict or ['nothing'])[-1].strip()} ({time.monotonic() - began:.1f} s)"
+
+
+def main():
+    files = [word for word in sys.argv[1:] if not word.startswith("--") and not word.isdigit()]
+    dice = random.Random(option("--seed", 1))
+    placed = ["--stations", files[1]] if len(files) > 1 else []
+    began = time.monotonic()
+    text = subprocess.run([LID, "emit", files[0], *placed], capture_output=True, text=True, check=True).stdout
+    took = time.monotonic() - began
+    with tempfile.TemporaryDirectory() as folder:
+        place = Path(folder)
+        (place / "e.blif").write_text(text)
+        ins = listed(text, ".inputs")
+        rows = [[dice.randint(0, 1) for _ in ins] for _ in range(option("--rows", 200))]
+        (place / "r.vec").write_text(rows_text(ins, rows))
+        strict = subprocess.run([LID, "strict", place / "e.blif", place / "r.vec"], capture_output=True, text=True, check=True).stdout.splitlines()[1:]
+        told = by_icarus(place, text, rows)
+        differs = [t for t, (a, b) in enumerate(zip(strict, told, strict=True)) if a != b]
+        if differs:
+            sys.exit(f"row {differs[0]}: {strict[differs[0]]}, and {told[differs[0]]} by Icarus Verilog")
+        cells = sum(line.startswith((".names", ".latch")) for line in text.splitlines())
+        latches = sum(line.startswith(".latch") for line in text.splitlines())
+        print(f"{Path(files[0]).stem}: {cells} cells ({latches} latches), {len(text)} bytes, {took:.2f} s; {len(rows)} rows by Yosys and Icarus Verilog: no difference; ABC dsec: {by_abc(place)}")
+
+
+if __name__ == "__main__":
+    main()
