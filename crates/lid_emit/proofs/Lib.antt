@@ -1,1 +1,5 @@
-
+mod Words
+mod Written
+mod Ports
+mod Numbers
+mod Emitting

@@ -2,8 +2,11 @@
 #![tactic(auto)]
 
 mod fault;
+mod limits;
+mod model;
+mod naming;
+mod refusals;
 mod wrapping;
-
 
 pub use fault::EmitFault;
 pub use wrapping::emit;
