@@ -1,3 +1,4 @@
+mod Faults
 mod Words
 mod Written
 mod Ports
