@@ -4,6 +4,7 @@ use Rattle.std.specs.Prelude.{Option, Some, None, slice_get, sum_by, bytes_eq}
 use Rattle.std.specs.List.{AllByRecursion, IsDistinct}
 use Rattle.std.specs.Option.{option_map_or}
 use Rattle.std.proofs.lemmas.List.{length-map, map-append}
+use Rattle.std.proofs.lemmas.List.Sums.{sum_by-cons}
 use Rattle.lid_base.proofs.Lists.{all_append}
 use Rattle.lid_design.specs.declared.Design.{Design}
 use Rattle.lid_design.specs.declared.Model.{Model}
@@ -51,13 +52,16 @@ use Rattle.lid_emit.proofs.Numbers.{nets_few, are_small}
 
 counted : (names : List (List ℕ)) → length names ≤ sum_by (λ name. 1 + length name) names
 counted [] = omega arith
-counted (name ∷ names) = let rest = counted names in omega (arith, rest)
+counted (name ∷ names) =
+    let rest = counted names in
+    let whole = sum_by-cons (λ name. 1 + length name) name names in
+    omega (arith, rest, whole)
 
 -- a size counts each port
 pub few_ports : (d : Design) (s : System) (p : Placement) → size d s p ≤ 16384 → length (root_inputs d) + length (root_outputs d) ≤ 16384
 unfolding size
 few_ports d s p few =
-    let all = counted (root_inputs d ++ root_outputs d) in
+    let all : length (root_inputs d ++ root_outputs d) ≤ ports_size d = counted (root_inputs d ++ root_outputs d) in
     let both = length-append (root_inputs d) (root_outputs d) in
     omega (arith, all, both, few)
 

@@ -3,4 +3,5 @@ mod Words
 mod Written
 mod Ports
 mod Numbers
+mod Named
 mod Emitting

@@ -10,8 +10,11 @@ use lid_blifout::append_models;
 use lid_design::{Cell, Design, Model};
 use std::alloc::{AllocError, Global};
 
-/// The design of one model, where it is within the limits. No design of a size up to 16,384 comes near
-/// them; this is counted here and not proved, and where it is otherwise, that is told as no memory.
+/// The design of one model, where it is within the limits.
+///
+/// # Errors
+/// Where there is no memory, and where a limit is exceeded. By estimate no design of a size up to 16,384
+/// exceeds one; that is not proved, and so it is tested here.
 pub(crate) fn finish(alloc: Global, model: Model) -> Result<Design, AllocError>
     ensures is { IfOk result (λ design. design ≡ design_with model) }
     ensures within { OnOk result (IsWithin model) }
