@@ -28,7 +28,7 @@ use Rattle.lid_circuit.specs.Plans.{Plan}
 use Rattle.lid_wires.specs.Connected.{IsConnected}
 use Rattle.lid_wires.specs.Known.{IsKnown}
 use Rattle.lid_wires.specs.Lists.{wires}
-use Rattle.lid_wrapped.specs.Nets.{Nets, read_wire}
+use Rattle.lid_wrapped.specs.Nets.{read_wire}
 use Rattle.lid_wrapped.specs.Wrapping.{sink_reads, plan_of}
 use Rattle.lid_wrapped.proofs.Connecting.{connected}
 use Rattle.lid_named.specs.Named.{cells_at, input_wires, output_wires, named_design, IsNaming}
@@ -42,7 +42,7 @@ use Rattle.lid_wirenames.specs.Spelling.{AreSmall}
 use Rattle.lid_wirenames.proofs.Naming.{all_named, is_naming}
 use Rattle.lid_cells.specs.declared.all.All.{All}
 use Rattle.lid_cells.specs.Shown.{ports_of}
-use Rattle.lid_emitsize.specs.Sizes.{ports_size, stations_size, pearls_size, size}
+use Rattle.lid_emitsize.specs.Sizes.{ports_size, size}
 use Rattle.lid_emit.specs.Emitted.{CanBeEmitted, IsEmitted}
 use Rattle.lid_emit.specs.Steps.{root_name, name_with, IsLaidOut, AreCells, model_with, design_with, IsWithin}
 use Rattle.lid_emit.proofs.Words.{two_inputs, two_outputs, wire_word}
@@ -158,14 +158,17 @@ module _ (d : Design) (s : System) (p : Placement) (can : CanBeEmitted d s p) (f
       rooted = refl;
       some = omega arith;
       distinct = alone (root_name d);
-      models = (record {
-        name = root_word;
-        inputs = all_append (IsSpelled 1024) (root_inputs d) (offer_name ∷ block_name ∷ []) can.inputs two_inputs;
-        outputs = all_append (IsSpelled 1024) (root_outputs d) (valid_name ∷ stop_name ∷ []) can.outputs two_outputs;
-        clocks = tt;
-        cells = subst (AllByRecursion IsWritableCell) (sym cells_same) (cells_written q con name words);
-        insts = tt;
-      }, tt);
+      models = (
+        record {
+          name = root_word;
+          inputs = all_append (IsSpelled 1024) (root_inputs d) (offer_name ∷ block_name ∷ []) can.inputs two_inputs;
+          outputs = all_append (IsSpelled 1024) (root_outputs d) (valid_name ∷ stop_name ∷ []) can.outputs two_outputs;
+          clocks = tt;
+          cells = subst (AllByRecursion IsWritableCell) (sym cells_same) (cells_written q con name words);
+          insts = tt;
+        },
+        tt,
+      );
       few_models = omega arith;
       few_rows = omega (arith, within.rows);
       short = within.text;

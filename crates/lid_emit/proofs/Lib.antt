@@ -1,4 +1,3 @@
-mod Faults
 mod Words
 mod Written
 mod Ports

@@ -1,7 +1,7 @@
 -- The numbers of the wires of a plan are small.
-use Rattle.std.proofs.Common.{◌≡◌, ◌⊎◌, ℕ, zero, suc, ◌+◌, ◌^◌, ◌<◌, ◌≤◌, Bool, true, false, List, [], ◌∷◌, ◌++◌, length, map, inl, inr, refl, sym, ◌∙◌, ap, subst, arith, length-append}
+use Rattle.std.proofs.Common.{◌≡◌, ℕ, zero, suc, ◌^◌, ◌<◌, ◌≤◌, true, false, List, [], ◌∷◌, length, map, inl, inr, refl, sym, ◌∙◌, ap, subst, arith, length-append}
 use Rattle.std.specs.Prelude.{Option, Some, None, slice_get}
-use Rattle.std.specs.List.{AllByRecursion, range_with_len}
+use Rattle.std.specs.List.{AllByRecursion}
 use Rattle.std.specs.Option.{option_map_or}
 use Rattle.std.proofs.lemmas.List.{length-map}
 use Rattle.std.proofs.lemmas.List.FromFn.{length-map-range_with_len}
@@ -21,9 +21,9 @@ use Rattle.lid_system.specs.declared.System.{System}
 use Rattle.lid_system.specs.declared.Node.{Node}
 use Rattle.lid_system.specs.declared.Node.TheVariants.{Source, Shell, Sink}
 use Rattle.lid_stations.specs.declared.placement.Placement.{Placement}
-use Rattle.lid_circuit.specs.Wires.{Wire, entry, given, offer, block, steady, may, fire, level, grown, place, moved, now, kept, later, shown, valid, stop, drains, fills}
+use Rattle.lid_circuit.specs.Wires.{entry, given, offer, block, steady, may, fire, level, grown, place, moved, now, kept, later, shown, valid, stop, drains, fills}
 use Rattle.lid_circuit.specs.Plans.{Plan, ends}
-use Rattle.lid_wires.specs.Known.{IsKnown, IsLatchNet, IsCoverNet}
+use Rattle.lid_wires.specs.Known.{IsLatchNet, IsCoverNet}
 use Rattle.lid_wires.specs.Connected.{IsConnected}
 use Rattle.lid_wrapped.specs.Nets.{Nets}
 use Rattle.lid_wrapped.specs.Wrapping.{flat_in, no_flat, plan_of}

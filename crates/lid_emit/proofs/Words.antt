@@ -1,5 +1,5 @@
 -- The names of wires are words.
-use Rattle.std.proofs.Common.{◌≡◌, ◌⊎◌, ℕ, zero, suc, ◌+◌, ◌*◌, ◌^◌, ◌<◌, ◌≤◌, ◌==◌, ◌&&◌, true, false, List, [], ◌∷◌, ◌++◌, length, inl, inr, refl, ap, arith, length-append}
+use Rattle.std.proofs.Common.{◌≡◌, ◌⊎◌, ℕ, ◌*◌, ◌^◌, ◌<◌, ◌≤◌, ◌==◌, ◌&&◌, true, false, List, [], ◌∷◌, ◌++◌, length, inl, inr, refl, arith, length-append}
 use Rattle.std.specs.Prelude.{not, nat_le, codes, slice_index_or}
 use Rattle.std.specs.Fmt.{decimal}
 use Rattle.std.specs.List.{AllByRecursion}
@@ -8,7 +8,6 @@ use Rattle.std.proofs.lemmas.Bool.{le-leb, ne_eqb, and_from, not_from_false}
 use Rattle.std.proofs.lemmas.Fmt.{decimal_is_IsNumeral}
 use Rattle.std.proofs.lemmas.Str.Parse.{digit_from_value}
 use Rattle.lid_base.specs.Lines.{is_hash}
-use Rattle.lid_base.specs.Lists.{Among}
 use Rattle.lid_base.proofs.Lists.{all_among, all_append, among_at}
 use Rattle.lid_lines.specs.Spelled.{is_word_byte, IsSpelled}
 use Rattle.lid_lines.proofs.Spelled.{all_map}
@@ -16,7 +15,7 @@ use Rattle.lid_lines.proofs.Numbers.{spelled_word, spelled_number, no_mark}
 use Rattle.lid_circuit.specs.Wires.{Wire, entry, given, offer, block, steady, may, fire, level, grown, place, moved, now, kept, later, shown, valid, stop}
 use Rattle.lid_circuit.specs.Plans.{Plan}
 use Rattle.lid_wires.specs.Known.{IsKnown}
-use Rattle.lid_wirenames.specs.Spelling.{numbers, joined, bit_number, inner_name, name_of, AreSmall}
+use Rattle.lid_wirenames.specs.Spelling.{joined, bit_number, inner_name, name_of, AreSmall}
 use Rattle.lid_cells.specs.Shown.{ports_of}
 use Rattle.lid_emitsize.specs.Prefixes.{IsShort}
 

@@ -1,10 +1,9 @@
 -- The cells of named wires can be written.
-use Rattle.std.proofs.Common.{◌≡◌, ℕ, ◌⊎◌, inl, inr, Bool, true, false, List, [], ◌∷◌, ◌++◌, length, map, None, refl, sym, ◌∙◌, subst}
+use Rattle.std.proofs.Common.{◌≡◌, ℕ, inl, inr, Bool, true, false, List, [], ◌∷◌, map, refl, sym, ◌∙◌, subst}
 use Rattle.std.specs.List.{AllByRecursion}
 use Rattle.std.proofs.lemmas.List.{length-map}
 use Rattle.lid_base.specs.Lists.{Among}
 use Rattle.lid_base.proofs.Lists.{among_left}
-use Rattle.lid_cover.specs.declared.Cover.{Cover}
 use Rattle.lid_cover.specs.declared.Cube.{Cube}
 use Rattle.lid_design.specs.declared.Cell.{Cell}
 use Rattle.lid_design.specs.Network.{Driver, from_input, from_latch, from_cover, from_connection}
@@ -16,7 +15,7 @@ use Rattle.lid_circuit.specs.Plans.{Plan}
 use Rattle.lid_circuit.specs.Network.{emitted}
 use Rattle.lid_wires.specs.Known.{IsKnown}
 use Rattle.lid_wires.specs.Connected.{IsConnected, IsFormed}
-use Rattle.lid_named.specs.Named.{with_rows, written, cell_of}
+use Rattle.lid_named.specs.Named.{with_rows, cell_of}
 use Rattle.lid_named.proofs.Written.{written_formed, written_inputs}
 use Rattle.lid_named.proofs.Cells.{cells, listed_known, listed_cell, from_where, same_source, reads_known}
 

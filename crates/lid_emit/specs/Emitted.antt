@@ -1,12 +1,11 @@
 -- What an emitted design is to the design that it was made from, and why there is none.
-use Rattle.std.specs.Prelude.{◌≡◌, ℕ, nat_lt, if◌then◌else◌, Bool, List, [], ◌∷◌, length, map, Option, Some, None}
+use Rattle.std.specs.Prelude.{◌≡◌, ℕ, nat_lt, if◌then◌else◌, Bool, List, [], ◌∷◌, Option, Some, None}
 use Rattle.std.specs.List.{AllByRecursion}
-use Rattle.std.specs.Option.{option_map_or}
 use Rattle.lid_design.specs.declared.Design.{Design}
 use Rattle.lid_design.specs.declared.Model.{Model}
 use Rattle.std.specs.Prelude.{slice_get}
 use Rattle.lid_design.specs.Network.{Table, IsStrict}
-use Rattle.lid_design.specs.Columns.{Column, column, drivers, root_inputs, root_outputs, IsStrictOutput}
+use Rattle.lid_design.specs.Columns.{Column, drivers, root_inputs, root_outputs}
 use Rattle.lid_design.specs.WellFormed.{IsWellFormed}
 use Rattle.lid_lines.specs.Spelled.{IsSpelled}
 use Rattle.lid_blifout.specs.Writable.{IsWritable}
@@ -15,7 +14,7 @@ use Rattle.lid_system.specs.declared.System.{System}
 use Rattle.lid_system.specs.Systems as system
 use Rattle.lid_agree.specs.Agreement.{IsSystemOf}
 use Rattle.lid_stations.specs.declared.placement.Placement.{Placement}
-use Rattle.lid_stations.specs.Placements.{links_of, Fits}
+use Rattle.lid_stations.specs.Placements.{Fits}
 use Rattle.lid_emit.specs.declared.fault.EmitFault.{EmitFault}
 use Rattle.lid_emit.specs.declared.fault.EmitFault.TheVariants.{NameTaken, TooBig}
 use Rattle.lid_emitted.specs.Ports.{input_names, output_names, taken_name}

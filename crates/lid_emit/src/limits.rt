@@ -1,6 +1,6 @@
 //! The limits of designs that are accepted, and of texts that are read.
 
-ghost use Rattle.std.specs.Prelude.{◌≡◌, ◌≤◌, ◌↔◌, ◌+◌, length, IfOk, OnOk, IsTrue};
+ghost use Rattle.std.specs.Prelude.{◌≡◌, ◌≤◌, ◌↔◌, length, IfOk, OnOk, IsTrue};
 ghost use Rattle.lid_blifout.specs.Canonical.{canonical_text};
 ghost use Rattle.lid_blifout.specs.Writable.{cell_rows, cells_rows};
 ghost use Rattle.lid_emit.specs.Steps.{design_with, IsWithin};

@@ -1,6 +1,6 @@
 //! The cells of what was laid out, under names.
 
-ghost use Rattle.std.specs.Prelude.{◌++◌, ◌+◌, ◌<◌, length, IfOk};
+ghost use Rattle.std.specs.Prelude.{◌+◌, ◌<◌, length, IfOk};
 ghost use Rattle.lid_cells.specs.Matches.{IsSound};
 ghost use Rattle.lid_design.specs.Columns.{root_inputs, root_outputs};
 ghost use Rattle.lid_emit.specs.Steps.{AreCells, IsLaidOut};

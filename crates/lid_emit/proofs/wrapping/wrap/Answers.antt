@@ -1,4 +1,4 @@
-use Rattle.std.proofs.Common.{◌≡◌, ◌<◌, arith, sym, ◌∙◌, ap, subst}
+use Rattle.std.proofs.Common.{arith, sym, ◌∙◌, ap, subst}
 use Rattle.lid_base.proofs.Results.{if_both_ok}
 use Rattle.lid_emit.specs.Emitted.{IsEmitted}
 use Rattle.lid_emit.specs.Steps.{design_with, IsWithin}
