@@ -50,6 +50,7 @@ use Rattle.lid_emit.proofs.Written.{cells_written}
 use Rattle.lid_emit.proofs.Ports.{ports_distinct, ports_free}
 use Rattle.lid_emit.proofs.Numbers.{nets_few, are_small}
 
+-- the sizes of names count each of them
 counted : (names : List (List ℕ)) → length names ≤ sum_by (λ name. 1 + length name) names
 counted [] = omega arith
 counted (name ∷ names) =
@@ -65,7 +66,7 @@ few_ports d s p few =
     let both = length-append (root_inputs d) (root_outputs d) in
     omega (arith, all, both, few)
 
--- a name with a first design, and one of its designs
+-- one name is distinct
 alone : (name : List ℕ) → IsDistinct bytes_eq (name ∷ [])
 unfolding IsDistinct
 alone name = (tt, tt)

@@ -14,6 +14,8 @@ use lid_stations::Placement;
 use lid_system::System;
 use std::alloc::Global;
 
+const GREATEST_SIZE: u64 = 16_384;
+
 /// Refuses a design with a name that is taken, and else one whose size is too big.
 ///
 /// # Errors
@@ -59,7 +61,7 @@ fn judge_size(count: u64) -> Result<(), EmitFault>
     ensures ok { OnOk result (fault_of None count ≡ None) }
     ensures err { IfErr result (λ fault. fault_of None count ≡ Some fault) }
 {
-    if count > 16384 {
+    if count > GREATEST_SIZE {
         Err(EmitFault::TooBig { count })
     } else {
         Ok(())
