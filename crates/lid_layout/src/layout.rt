@@ -27,10 +27,10 @@ pub fn lay_out(
 ) -> Result<All, AllocError>
     requires system { IsWellFormed system.now }
     requires fits { Fits system.now placement.now }
-    requires count { length system.now.nodes ≡ length shells.shells + 2 }
-    requires whole { (i : ℕ) (shell : Shell) → slice_get shells.shells i ≡ Some shell → IsWhole shell }
-    requires nets { AreNets system.now placement.now (nets_of shells) }
-    ensures all { IfOk result (IsAllOf (plan_of system.now placement.now (nets_of shells))) }
+    requires count { length system.now.nodes ≡ length shells.entry.shells + 2 }
+    requires whole { (i : ℕ) (shell : Shell) → slice_get shells.entry.shells i ≡ Some shell → IsWhole shell }
+    requires nets { AreNets system.now placement.now (nets_of shells.entry) }
+    ensures all { IfOk result (IsAllOf (plan_of system.now placement.now (nets_of shells.entry))) }
     ensures sound { IfOk result IsSound }
 {
     Err(AllocError)

@@ -35,5 +35,6 @@ pub fn make_shells(
     requires fits { Fits system.now placement.now }
     ensures { IfOk result (AreShells checked.now system.now placement.now) }
 {
+    let _ = (checked, system, placement);
     Err(AllocError)
 }
