@@ -1,0 +1,6 @@
+mod Words
+mod Written
+mod Ports
+mod Numbers
+mod Named
+mod Emitting

@@ -1,6 +1,10 @@
 //! The wrapped design of a system and its stations, as one flat netlist.
 #![tactic(auto)]
 
+mod limits;
+mod model;
+mod naming;
+mod refusals;
 mod wrapping;
 
 pub use wrapping::emit;

@@ -1,18 +1,30 @@
 //! The emitted design.
 
-ghost use Rattle.std.specs.Prelude.{◌≡◌, ◌⊎◌, Some, None, IfOk, IfErr};
+ghost use Rattle.std.specs.Prelude.{◌≡◌, ◌⊎◌, ◌≤◌, Some, None, IfOk, IfErr};
 ghost use Rattle.lid_emitsize.specs.declared.fault.EmitFault.TheVariants.{Memory};
-ghost use Rattle.lid_stations.specs.Placements.{links_of};
 ghost use Rattle.lid_emitsize.specs.Emitted.{CanBeEmitted, emit_fault, IsEmitted};
+ghost use Rattle.lid_emitsize.specs.Sizes.{size};
+ghost use Rattle.lid_stations.specs.Placements.{links_of};
+ghost use Rattle.lid_emitted.specs.Ports.{taken_name};
 
+use crate::limits::finish;
+use crate::model::make_model;
+use crate::naming::{lay_out_all, name_cells};
+use crate::refusals::refuse;
 use lid_check::Checked;
 use lid_design::Design;
 use lid_emitsize::EmitFault;
+use lid_emitted::emitted_designs_run;
+use lid_named::named_designs_are_accepted;
 use lid_stations::Placement;
 use lid_system::System;
-use std::alloc::Global;
+use std::alloc::{AllocError, Global};
 
-/// The wrapped design of a system and its stations.
+/// The wrapped design of a system and its stations: one model with the name of the root, its ports, and
+/// those of its environment.
+///
+/// # Errors
+/// The first name that is taken, and else a size over 16,384. `Memory` where there is no memory.
 pub fn emit(
     alloc: Global,
     checked: &Checked,
@@ -23,5 +35,32 @@ pub fn emit(
     ensures ok { IfOk result (λ e. (emit_fault checked.now (links_of system.now) placement.now ≡ None) × IsEmitted checked.now (links_of system.now) placement.now e) }
     ensures err { IfErr result (λ fault. (emit_fault checked.now (links_of system.now) placement.now ≡ Some fault) ⊎ (fault ≡ Memory)) }
 {
-    Err(EmitFault::Memory)
+    if let Err(fault) = refuse(alloc, checked, system, placement) {
+        return Err(fault);
+    }
+    match wrap(alloc, checked, system, placement) {
+        Ok(design) => Ok(design),
+        Err(_) => Err(EmitFault::Memory),
+    }
+}
+
+/// The wrapped design, where no name is taken and the size is not too big.
+fn wrap(
+    alloc: Global,
+    checked: &Checked,
+    system: &System,
+    placement: &Placement,
+) -> Result<Design, AllocError>
+    requires can { CanBeEmitted checked.now system.now placement.now }
+    requires free { taken_name checked.now ≡ None }
+    requires small { size checked.now (links_of system.now) placement.now ≤ 16384 }
+    ensures { IfOk result (IsEmitted checked.now (links_of system.now) placement.now) }
+{
+    let _ = checked.design();
+    let all = lay_out_all(alloc, checked, system, placement)?;
+    let cells = name_cells(alloc, checked, &all)?;
+    let model = make_model(alloc, checked, cells)?;
+    named_designs_are_accepted();
+    emitted_designs_run();
+    finish(alloc, model)
 }

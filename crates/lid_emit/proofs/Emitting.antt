@@ -1,0 +1,202 @@
+-- What is emitted is the plan of the system under names.
+use Rattle.std.proofs.Common.{◌≡◌, ℕ, zero, suc, ◌+◌, ◌-◌, ◌<◌, ◌≤◌, Bool, List, [], ◌∷◌, ◌++◌, length, map, flat_map, refl, sym, ◌∙◌, ap, subst, arith, length-append}
+use Rattle.std.specs.Prelude.{Option, Some, None, slice_get, sum_by, bytes_eq}
+use Rattle.std.specs.List.{AllByRecursion, IsDistinct}
+use Rattle.std.specs.Option.{option_map_or}
+use Rattle.std.proofs.lemmas.List.{length-map, map-append}
+use Rattle.std.proofs.lemmas.List.Sums.{sum_by-cons}
+use Rattle.lid_base.proofs.Lists.{all_append}
+use Rattle.lid_design.specs.declared.Design.{Design}
+use Rattle.lid_design.specs.declared.Model.{Model}
+use Rattle.lid_design.specs.declared.Cell.{Cell}
+use Rattle.lid_design.specs.Network.{Table, IsStrict, from_each}
+use Rattle.lid_design.specs.Columns.{Column, drivers, root_inputs, root_outputs}
+use Rattle.lid_design.specs.WellFormed.{IsWellFormed}
+use Rattle.lid_check.specs.Acceptance.{IsAccepted}
+use Rattle.lid_check.proofs.Sound.{judged_of}
+use Rattle.lid_lines.specs.Spelled.{IsSpelled}
+use Rattle.lid_blifout.specs.Writable.{IsWritableCell, IsWritable}
+use Rattle.lid_system.specs.declared.System.{System}
+use Rattle.lid_system.specs.declared.Node.{Node}
+use Rattle.lid_system.specs.declared.Node.TheVariants.{Sink}
+use Rattle.lid_system.specs.Systems as system
+use Rattle.lid_system.specs.Tables.{source_width, ins_of}
+use Rattle.lid_system.proofs.Points.{first_node, last_node}
+use Rattle.lid_stations.specs.declared.placement.Placement.{Placement}
+use Rattle.lid_stations.specs.Placements.{Links, links_of}
+use Rattle.lid_circuit.specs.Wires.{Wire, entry, offer, block, shown, valid, stop}
+use Rattle.lid_circuit.specs.Plans.{Plan}
+use Rattle.lid_wires.specs.Connected.{IsConnected}
+use Rattle.lid_wires.specs.Known.{IsKnown}
+use Rattle.lid_wires.specs.Lists.{wires}
+use Rattle.lid_wrapped.specs.Nets.{read_wire}
+use Rattle.lid_wrapped.specs.Wrapping.{sink_reads, plan_of}
+use Rattle.lid_wrapped.proofs.Connecting.{connected}
+use Rattle.lid_named.specs.Named.{cells_at, input_wires, output_wires, named_design, IsNaming}
+use Rattle.lid_named.specs.Laws.{NamedDesignsAreWellFormed, NamedDesignsAreAccepted}
+use Rattle.lid_named.proofs.Cells.{as_many}
+use Rattle.lid_emitted.specs.Flats.{ArePortNames}
+use Rattle.lid_emitted.specs.Laws.{EmittedDesignsRun}
+use Rattle.lid_emitted.specs.Runs as emitted
+use Rattle.lid_emitted.specs.Ports.{offer_name, block_name, valid_name, stop_name, input_names, output_names, taken_name}
+use Rattle.lid_wirenames.specs.Spelling.{AreSmall}
+use Rattle.lid_wirenames.proofs.Naming.{all_named, is_naming}
+use Rattle.lid_cells.specs.declared.all.All.{All}
+use Rattle.lid_cells.specs.Shown.{ports_of}
+use Rattle.lid_emitsize.specs.Sizes.{ports_size, size}
+use Rattle.lid_emitsize.specs.Emitted.{CanBeEmitted, IsEmitted}
+use Rattle.lid_emit.specs.Steps.{root_name, name_with, IsLaidOut, AreCells, model_with, design_with, IsWithin}
+use Rattle.lid_emit.proofs.Words.{two_inputs, two_outputs, wire_word}
+use Rattle.lid_emit.proofs.Written.{cells_written}
+use Rattle.lid_emit.proofs.Ports.{ports_distinct, ports_free}
+use Rattle.lid_emit.proofs.Numbers.{nets_few, are_small}
+
+-- the sizes of names count each of them
+counted : (names : List (List ℕ)) → length names ≤ sum_by (λ name. 1 + length name) names
+counted [] = omega arith
+counted (name ∷ names) =
+    let rest = counted names in
+    let whole = sum_by-cons (λ name. 1 + length name) name names in
+    omega (arith, rest, whole)
+
+-- a size counts each port
+pub few_ports : (d : Design) (l : Links) (p : Placement) → size d l p ≤ 16384 → length (root_inputs d) + length (root_outputs d) ≤ 16384
+unfolding size
+few_ports d l p few =
+    let all : length (root_inputs d ++ root_outputs d) ≤ ports_size d = counted (root_inputs d ++ root_outputs d) in
+    let both = length-append (root_inputs d) (root_outputs d) in
+    omega (arith, all, both, few)
+
+-- one name is distinct
+alone : (name : List ℕ) → IsDistinct bytes_eq (name ∷ [])
+unfolding IsDistinct
+alone name = (tt, tt)
+
+module _ (d : Design) (s : System) (p : Placement) (can : CanBeEmitted d s p) (formed : IsWellFormed d) (accepted : IsAccepted d) (free : taken_name d ≡ None) (few : size d (links_of s) p ≤ 16384) (all : All) (laid : IsLaidOut d s p all) (made : List Cell) (are : AreCells d all made) where
+  abbrev q : Plan
+  q = plan_of s p laid.nets
+
+  abbrev name : Wire → List ℕ
+  name = name_with d are.prefix
+
+  con : IsConnected q
+  con = connected s p laid.nets can.system can.fits laid.are
+
+  inputs_same : q.inputs ≡ length (root_inputs d)
+  inputs_same =
+      let columns = first_node s can.system in
+      ap (λ (o : Option Node). option_map_or source_width o 0) columns.1 ∙ ap length (can.of.source 0 columns.0 columns.1)
+
+  outputs_same : length q.shows ≡ length (root_outputs d)
+  outputs_same =
+      let node = last_node s can.system in
+      let is_sink : system.IsSink s (length s.nodes - 1) node.0 node.1 = can.system.each_node (length s.nodes - 1) (Sink node.0 node.1) node.2 in
+      length-map (sink_reads s) (read_wire p)
+      ∙ ap (λ (o : Option Node). length (option_map_or ins_of o [])) node.2 ∙ is_sink.width ∙ ap length (can.of.sink (length s.nodes - 1) node.0 node.1 node.2).0
+
+  narrow : q.inputs ≤ 16384
+  narrow = let ports = few_ports d (links_of s) p few in omega (arith, ports, inputs_same)
+
+  small : AreSmall q
+  small = are_small q con (nets_few d s p laid.nets (judged_of d formed accepted.models) laid.flats) all laid.plan laid.sound narrow
+
+  naming : IsNaming q name
+  naming = is_naming q (ports_of (root_inputs d) (root_outputs d)) are.prefix inputs_same outputs_same (ports_distinct d formed accepted free) (ports_free d are.prefix are.short are.free) small
+
+  port_names : ArePortNames d name
+  port_names = record {
+    inputs = all_named entry name (root_inputs d) (λ j. refl);
+    offers = refl;
+    blocks = refl;
+    outputs = all_named shown name (root_outputs d) (λ j. refl);
+    valids = refl;
+    stops = refl;
+  }
+
+  inputs_named : map name (input_wires q) ≡ input_names d
+  inputs_named =
+      map-append name (from_each entry 0 q.inputs) (offer ∷ block ∷ [])
+      ∙ ap (λ (xs : List (List ℕ)). xs ++ offer_name ∷ block_name ∷ []) (ap (λ (m : ℕ). map name (from_each entry 0 m)) inputs_same ∙ port_names.inputs)
+
+  outputs_named : map name (output_wires q) ≡ output_names d
+  outputs_named =
+      map-append name (from_each shown 0 (length q.shows)) (valid ∷ stop ∷ [])
+      ∙ ap (λ (xs : List (List ℕ)). xs ++ valid_name ∷ stop_name ∷ []) (ap (λ (m : ℕ). map name (from_each shown 0 m)) outputs_same ∙ port_names.outputs)
+
+  abbrev wire_cells : List Cell
+  wire_cells = flat_map (cells_at q name) (wires q)
+
+  cells_same : made ≡ wire_cells
+  cells_same = are.each q laid.plan
+
+  abbrev design : List (List ℕ) → List (List ℕ) → List Cell → Design
+  design ins outs cells = record { models = record { name = root_name d; inputs = ins; outputs = outs; clocks = []; cells = cells; insts = [] } ∷ []; root = 0 }
+
+  -- the design is that of the plan under its names
+  is_named : design_with (model_with d made) ≡ named_design q name (root_name d)
+  is_named =
+      ap (design (input_names d) (output_names d)) cells_same
+      ∙ ap (λ (ins : List (List ℕ)). design ins (output_names d) wire_cells) (sym inputs_named)
+      ∙ ap (λ (outs : List (List ℕ)). design (map name (input_wires q)) outs wire_cells) (sym outputs_named)
+
+  words : (w : Wire) → IsKnown q w → IsSpelled 1024 (name w)
+  words w known = wire_word q (root_inputs d) (root_outputs d) are.prefix can.inputs can.outputs are.short inputs_same outputs_same small w known
+
+  root_word : IsSpelled 1024 (root_name d)
+  root_word = by (slice_get d.models d.root) refl
+    where
+      by : (o : Option Model) → slice_get d.models d.root ≡ o → IsSpelled 1024 (option_map_or (λ m. m.name) o [])
+      by (Some m) here = can.name m here
+      by None here = absurd (none_there d.models d.root formed.rooted here)
+        where
+          none_there : (ms : List Model) (k : ℕ) → k < length ms → slice_get ms k ≡ None → ⊥
+          none_there [] k below none = omega (arith, below)
+          none_there (m ∷ ms) zero below none = let e : Some m ≡ None = none in cc
+          none_there (m ∷ ms) (suc k) below none = none_there ms k (omega (arith, below)) none
+
+  module _ (within : IsWithin (model_with d made)) where
+    writable : IsWritable (design_with (model_with d made))
+    writable = record {
+      rooted = refl;
+      some = omega arith;
+      distinct = alone (root_name d);
+      models = (
+        record {
+          name = root_word;
+          inputs = all_append (IsSpelled 1024) (root_inputs d) (offer_name ∷ block_name ∷ []) can.inputs two_inputs;
+          outputs = all_append (IsSpelled 1024) (root_outputs d) (valid_name ∷ stop_name ∷ []) can.outputs two_outputs;
+          clocks = tt;
+          cells = subst (AllByRecursion IsWritableCell) (sym cells_same) (cells_written q con name words);
+          insts = tt;
+        },
+        tt,
+      );
+      few_models = omega arith;
+      few_rows = omega (arith, within.rows);
+      short = within.text;
+    }
+
+    few_wires : length (wires q) ≤ 262144
+    few_wires = omega (arith, as_many q con name, ap length cells_same, within.cells)
+
+    module _ (wells : NamedDesignsAreWellFormed) (accepts : NamedDesignsAreAccepted) (run : EmittedDesignsRun) where
+      runs : (rows : List (List Bool)) (b : Table Column) → IsStrict (drivers (design_with (model_with d made))) rows b → emitted.RunsAs d (links_of s) p rows (emitted.face_of (root_outputs d) b)
+      runs rows b strict =
+          run d s p laid.nets name (root_name d) formed accepted can.of can.system can.fits laid.are laid.flats naming port_names rows b
+          (subst (λ (e : Design). IsStrict (drivers e) rows b) is_named strict)
+
+      pub emitted_so : IsEmitted d (links_of s) p (design_with (model_with d made))
+      emitted_so = record {
+        model = model_with d made;
+        one = refl;
+        root = refl;
+        name = λ m here. ap (λ (o : Option Model). option_map_or (λ m. m.name) o []) here;
+        inputs = refl;
+        outputs = refl;
+        clocks = refl;
+        insts = refl;
+        formed = subst IsWellFormed (sym is_named) (wells q name (root_name d) con);
+        accepted = subst IsAccepted (sym is_named) (accepts q name (root_name d) con naming few_wires (omega (arith, narrow)));
+        writable = writable;
+        runs = runs;
+      }

@@ -1,0 +1,58 @@
+-- What the steps of emitting make: these definitions serve the functions that emit.
+use Rattle.std.specs.Prelude.{◌≡◌, ℕ, ◌≤◌, List, [], ◌∷◌, ◌++◌, length, flat_map, slice_get}
+use Rattle.std.specs.Option.{option_map_or}
+use Rattle.lid_design.specs.declared.Design.{Design}
+use Rattle.lid_design.specs.declared.Model.{Model}
+use Rattle.lid_design.specs.declared.Cell.{Cell}
+use Rattle.lid_design.specs.Columns.{root_inputs, root_outputs}
+use Rattle.lid_blifout.specs.Canonical.{canonical_text}
+use Rattle.lid_blifout.specs.Writable.{cells_rows}
+use Rattle.lid_system.specs.declared.System.{System}
+use Rattle.lid_stations.specs.declared.placement.Placement.{Placement}
+use Rattle.lid_circuit.specs.Wires.{Wire}
+use Rattle.lid_circuit.specs.Plans.{Plan}
+use Rattle.lid_wires.specs.Lists.{wires}
+use Rattle.lid_wrapped.specs.Nets.{Nets, AreNets}
+use Rattle.lid_wrapped.specs.Wrapping.{plan_of}
+use Rattle.lid_named.specs.Named.{cells_at}
+use Rattle.lid_emitted.specs.Ports.{input_names, output_names}
+use Rattle.lid_emitted.specs.Flats.{AreFlatsOf}
+use Rattle.lid_wirenames.specs.Spelling.{name_of, IsFree}
+use Rattle.lid_cells.specs.declared.all.All.{All}
+use Rattle.lid_cells.specs.Shown.{ports_of}
+use Rattle.lid_cells.specs.Matches.{IsSound, IsAllOf}
+use Rattle.lid_emitsize.specs.Prefixes.{IsShort}
+
+abbrev pub root_name : Design → List ℕ
+root_name d = option_map_or (λ m. m.name) (slice_get d.models d.root) []
+
+-- names for wires: ports have those of the root's ports, and the others a prefix
+abbrev pub name_with : Design → List ℕ → Wire → List ℕ
+name_with d prefix wire = name_of (ports_of (root_inputs d) (root_outputs d)) prefix wire
+
+-- stations, actors and shells are those of the plan for some wires of nets
+pub record IsLaidOut (d : Design) (s : System) (p : Placement) (all : All) : Type 0 where
+  pub nets : Nets
+  pub are : AreNets s p nets
+  pub flats : AreFlatsOf d s nets
+  pub sound : IsSound all
+  pub plan : IsAllOf (plan_of s p nets) all
+
+-- cells for the wires of each plan that is laid out so, with a prefix with which no name of a port begins
+pub record AreCells (d : Design) (all : All) (cells : List Cell) : Type 0 where
+  pub prefix : List ℕ
+  pub short : IsShort prefix
+  pub free : IsFree prefix (root_inputs d ++ root_outputs d)
+  pub each : (q : Plan) → IsAllOf q all → cells ≡ flat_map (cells_at q (name_with d prefix)) (wires q)
+
+abbrev pub model_with : Design → List Cell → Model
+model_with d cells = record { name = root_name d; inputs = input_names d; outputs = output_names d; clocks = []; cells = cells; insts = [] }
+
+abbrev pub design_with : Model → Design
+design_with m = record { models = m ∷ []; root = 0 }
+
+-- the limits of designs and of texts
+pub record IsWithin (m : Model) : Type 0 where
+  pub cells : length m.cells ≤ 262144
+  pub rows : cells_rows m.cells ≤ 1048576
+  pub text : length (canonical_text (design_with m)) ≤ 16777216

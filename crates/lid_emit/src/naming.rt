@@ -1,0 +1,57 @@
+//! The cells of what was laid out, under names.
+
+ghost use Rattle.std.specs.Prelude.{◌+◌, ◌<◌, length, IfOk};
+ghost use Rattle.lid_cells.specs.Matches.{IsSound};
+ghost use Rattle.lid_design.specs.Columns.{root_inputs, root_outputs};
+ghost use Rattle.lid_emit.specs.Steps.{AreCells, IsLaidOut};
+ghost use Rattle.lid_agree.specs.Agreement.{IsSystemOf};
+ghost use Rattle.lid_stations.specs.Placements.{Fits};
+ghost use Rattle.lid_system.specs.Systems.{IsWellFormed};
+
+use lid_cells::{All, Naming, make_cells};
+use lid_check::Checked;
+use lid_design::Cell;
+use lid_emitsize::free_prefix;
+use lid_layout::lay_out;
+use lid_shellwires::make_shells;
+use lid_stations::Placement;
+use lid_system::System;
+use std::alloc::{AllocError, Global};
+
+/// The stations, actors, shells and outside of a wrapped system.
+pub(crate) fn lay_out_all(
+    alloc: Global,
+    checked: &Checked,
+    system: &System,
+    placement: &Placement,
+) -> Result<All, AllocError>
+    requires of { IsSystemOf checked.now system.now }
+    requires system { IsWellFormed system.now }
+    requires fits { Fits system.now placement.now }
+    ensures { IfOk result (IsLaidOut checked.now system.now placement.now) }
+{
+    let shells = make_shells(alloc, checked, system, placement)?;
+    lay_out(alloc, system, placement, shells)
+}
+
+/// The cells of what was laid out. Wires that are no ports have names with a prefix with which no name of
+/// a port begins.
+pub(crate) fn name_cells(
+    alloc: Global,
+    checked: &Checked,
+    all: &All,
+) -> Result<Vec<Cell>, AllocError>
+    requires few { length (root_inputs checked.now) + length (root_outputs checked.now) < 32768 }
+    requires sound { IsSound all.now }
+    ensures { IfOk result (λ cells. AreCells checked.now all.now cells.items) }
+{
+    let inputs = checked.inputs();
+    let outputs = checked.outputs();
+    let prefix = free_prefix(alloc, inputs, outputs)?;
+    let naming = Naming {
+        inputs,
+        outputs,
+        prefix: prefix.as_slice(),
+    };
+    make_cells(alloc, naming, all)
+}

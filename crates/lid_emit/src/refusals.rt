@@ -1,0 +1,68 @@
+//! What is refused before a design is emitted.
+
+ghost use Rattle.std.specs.Prelude.{◌≡◌, ◌⊎◌, None, Some, OnOk, IfErr};
+ghost use Rattle.lid_emitsize.specs.declared.fault.EmitFault.TheVariants.{Memory};
+ghost use Rattle.lid_emitsize.specs.Emitted.{fault_of, emit_fault};
+ghost use Rattle.lid_emitsize.specs.Sizes.{size};
+ghost use Rattle.lid_stations.specs.Placements.{links_of, Fits};
+ghost use Rattle.lid_system.specs.Systems.{IsWellFormed};
+
+use lid_check::Checked;
+use lid_emitsize::{EmitFault, emitted_size, find_taken};
+use lid_stations::Placement;
+use lid_system::System;
+use std::alloc::Global;
+
+const GREATEST_SIZE: u64 = 16_384;
+
+/// Refuses a design with a name that is taken, and else one whose size is too big.
+///
+/// # Errors
+/// The fault. `Memory` where there is no memory.
+pub(crate) fn refuse(
+    alloc: Global,
+    checked: &Checked,
+    system: &System,
+    placement: &Placement,
+) -> Result<(), EmitFault>
+    requires system { IsWellFormed system.now }
+    requires fits { Fits system.now placement.now }
+    ensures ok { OnOk result (emit_fault checked.now (links_of system.now) placement.now ≡ None) }
+    ensures err { IfErr result (λ fault. (emit_fault checked.now (links_of system.now) placement.now ≡ Some fault) ⊎ (fault ≡ Memory)) }
+{
+    match find_taken(alloc, checked) {
+        Ok(Some(name)) => Err(EmitFault::NameTaken { name }),
+        Ok(None) => refuse_size(alloc, checked, system, placement),
+        Err(_) => Err(EmitFault::Memory),
+    }
+}
+
+/// Refuses a size over 16,384.
+fn refuse_size(
+    alloc: Global,
+    checked: &Checked,
+    system: &System,
+    placement: &Placement,
+) -> Result<(), EmitFault>
+    requires system { IsWellFormed system.now }
+    requires fits { Fits system.now placement.now }
+    ensures ok { OnOk result (fault_of None (size checked.now (links_of system.now) placement.now) ≡ None) }
+    ensures err { IfErr result (λ fault. (fault_of None (size checked.now (links_of system.now) placement.now) ≡ Some fault) ⊎ (fault ≡ Memory)) }
+{
+    match emitted_size(alloc, checked, system, placement) {
+        Ok(count) => judge_size(count),
+        Err(_) => Err(EmitFault::Memory),
+    }
+}
+
+/// Whether a size is too big.
+fn judge_size(count: u64) -> Result<(), EmitFault>
+    ensures ok { OnOk result (fault_of None count ≡ None) }
+    ensures err { IfErr result (λ fault. fault_of None count ≡ Some fault) }
+{
+    if count > GREATEST_SIZE {
+        Err(EmitFault::TooBig { count })
+    } else {
+        Ok(())
+    }
+}
