@@ -79,8 +79,8 @@ fn text_from(
     Ok(text)
 }
 
-/// The slack of each channel of a system, in order: a line with the channel, how many further relay stations it takes,
-/// and the ratio of its component with one more.
+/// The slack of each channel of a system, in order: a line with the channel, how many further relay stations it
+/// takes, and the ratio of its component with one more. The placement as it is is certified once for all channels.
 ///
 /// # Errors
 /// Where there is no memory.
