@@ -1,4 +1,5 @@
-//! What is told of stations and channels: the sizes that keep the throughput, and the slack that is left.
+//! What is told of stations and channels: the sizes with which relay stations cost no throughput that they need
+//! not, and the slack that is left.
 #![tactic(auto)]
 
 mod ratio;

@@ -3,6 +3,7 @@
 ghost use Rattle.std.specs.Prelude.{◌≡◌, ◌++◌, ◌<◌, length, IfOk, OnOk};
 ghost use Rattle.lid_lines.specs.Texts.{line_text};
 ghost use Rattle.lid_margins.specs.Slacks.{channel_name, slack_words, next_word, IsSlackText};
+ghost use Rattle.lid_slack.specs.Slack.{IsCertified};
 ghost use Rattle.lid_stations.specs.Placements.{links_of, Fits};
 ghost use Rattle.lid_system.specs.Systems.{IsWellFormed};
 
@@ -10,7 +11,7 @@ use crate::ratio::append_ratio;
 use lid_lines::append_number_word;
 use lid_ratio::Ratio;
 use lid_reports::append_node;
-use lid_slack::{SlackAndNext, slack_and_next};
+use lid_slack::{Certified, SlackAndNext, certify, slack_from};
 use lid_stations::Placement;
 use lid_system::System;
 use std::alloc::{AllocError, Global};
@@ -58,8 +59,28 @@ fn append_slack(
     Ok(())
 }
 
-/// The slack of each channel of a system, in order: a line with the channel, how many further relay stations it takes,
-/// and the ratio of its component with one more.
+/// The text of `slack_text`, from what is the same for all channels.
+fn text_from(
+    alloc: Global,
+    system: &System,
+    placement: &Placement,
+    present: &Certified,
+) -> Result<Vec<u8>, AllocError>
+    requires system { IsWellFormed system.now }
+    requires fits { Fits system.now placement.now }
+    requires present { IsCertified (links_of system.now) placement.now present.now }
+    ensures { IfOk result (λ text. IsSlackText (links_of system.now) placement.now text.items) }
+{
+    let mut text = Vec::new(alloc);
+    for channel in 0..system.channels.len() {
+        let found = slack_from(alloc, system, placement, present, channel as u32)?;
+        append_slack(system, channel as u32, &found, &mut text)?;
+    }
+    Ok(text)
+}
+
+/// The slack of each channel of a system, in order: a line with the channel, how many further relay stations it
+/// takes, and the ratio of its component with one more. The placement as it is is certified once for all channels.
 ///
 /// # Errors
 /// Where there is no memory.
@@ -72,10 +93,6 @@ pub fn slack_text(
     requires fits { Fits system.now placement.now }
     ensures { IfOk result (λ text. IsSlackText (links_of system.now) placement.now text.items) }
 {
-    let mut text = Vec::new(alloc);
-    for channel in 0..system.channels.len() {
-        let found = slack_and_next(alloc, system, placement, channel as u32)?;
-        append_slack(system, channel as u32, &found, &mut text)?;
-    }
-    Ok(text)
+    let present = certify(alloc, system, placement)?;
+    text_from(alloc, system, placement, &present)
 }

@@ -1,10 +1,9 @@
 -- What a trial shows: that a ratio is kept, or a closed walk that lowers it.
-use Rattle.std.proofs.Common.{◌≡◌, ℕ, zero, suc, ◌+◌, ◌-◌, ◌*◌, ◌<◌, ◌≤◌, ◌⊎◌, inl, inr, Bool, true, false, List, [], ◌∷◌, length, take, IsTrue, Option, Some, None, refl, sym, ◌∙◌, ap, subst, arith}
-use Rattle.std.specs.List.{All, sum_by}
+use Rattle.std.proofs.Common.{◌≡◌, ℕ, zero, suc, ◌+◌, ◌-◌, ◌*◌, ◌<◌, ◌≤◌, ◌⊎◌, inl, inr, Bool, true, false, List, [], ◌∷◌, length, IsTrue, Option, Some, None, refl, sym, ◌∙◌, ap, subst, arith}
+use Rattle.std.specs.List.{All}
 use Rattle.std.specs.Option.{MatchOption}
 use Rattle.std.proofs.lemmas.Bool.{cases_eq, cases_lt}
 use Rattle.std.proofs.lemmas.List.{get_or_default}
-use Rattle.std.proofs.lemmas.List.Sums.{sum_by_more_le}
 use Rattle.lid_graph.specs.Rateable.{IsRateable}
 use Rattle.lid_graph.specs.declared.graph.Graph.{Graph}
 use Rattle.lid_graph.specs.Walks.{edge_at, IsPaired, IsWalk, IsJoined, walk_start, walk_tokens}
@@ -22,15 +21,16 @@ use Rattle.lid_stations.proofs.Alive.{rateable}
 use Rattle.lid_cert.specs.declared.cert.Part.{Part}
 use Rattle.lid_cert.specs.declared.cert.Cert.{Cert}
 use Rattle.lid_cert.specs.Laws.{Shows}
-use Rattle.lid_cert.proofs.Consequences.{each_is_shown}
-use Rattle.lid_rate.specs.Rates.{IsExact, IsShort}
+use Rattle.lid_cert.proofs.Consequences.{each_is_shown, ratio_is_shown}
+use Rattle.lid_rate.specs.Rates.{IsExact}
 use Rattle.lid_cert.specs.Certificates.{Certifies, has_node, depth_of, via_of, IsPart, IsVia}
 use Rattle.lid_cert.specs.Owners.{no_part, part_at}
 use Rattle.lid_cert.proofs.Parts.{node_met}
 use Rattle.lid_longer.specs.Longer.{longer, longer_marking, producer, room, KeepsAt, KeepsRatio}
-use Rattle.lid_longer.proofs.Kept.{longer_fits, none_are_none, none_keep, fewer_keep}
+use Rattle.lid_longer.proofs.Kept.{longer_fits, none_keep, fewer_keep}
 use Rattle.lid_slack.specs.declared.answer.Slack.{Slack}
-use Rattle.lid_slack.specs.Slack.{IsSlack, IsAgainst, IsTold}
+use Rattle.lid_slack.specs.declared.certified.Certified.{Certified}
+use Rattle.lid_slack.specs.Slack.{IsCertified, IsSlack, IsAgainst, IsTold}
 use Rattle.lid_slack.specs.Trials.{CanTry, IsTrial, IsPresent, IsMost, IsBetween, IsFound}
 use Rattle.lid_slack.proofs.Ratios.{keeps_lower, exact_below, below_higher, ratio_keeps, keeps_ratio, one_ratio}
 
@@ -79,15 +79,12 @@ producer_within s p c x can =
     omega (arith, node_count s (longer p c x))
 
 -- what is found with further relay stations
-pub trial_is : (s : System) (p : Placement) (c x : ℕ) (g : Graph) (cert : Cert) (part : ℕ) → g ≡ longer_marking (links_of s) p c x → IsRateable g → Certifies g cert → All (IsExact g) cert.parts → IsShort g cert → part < length cert.parts → has_node (part_at cert.parts part) (producer (links_of s) c) ≡ true → IsTrial s p c x cert part
-trial_is s p c x g cert part is rateable certifies exact short within stands = record {
+pub trial_is : (s : System) (p : Placement) (c x : ℕ) (g : Graph) (cert : Cert) (part : ℕ) → g ≡ longer_marking (links_of s) p c x → Certifies g cert → All (IsExact g) cert.parts → part < length cert.parts → has_node (part_at cert.parts part) (producer (links_of s) c) ≡ true → IsTrial s p c x cert part
+trial_is s p c x g cert part is certifies exact within stands = record {
   certifies = subst (λ (h : Graph). Certifies h cert) is certifies;
   within = within;
   stands = stands;
   exact = subst (λ (h : Graph). IsExact h (part_at cert.parts part)) is (exact part no_part within);
-  short = (let walk : length (part_at cert.parts part).cycle ≤ length (part_at cert.parts part).nodes = short.walks part no_part within in
-      let one : sum_by (λ (part : Part). length part.nodes) (take part cert.parts) + length (part_at cert.parts part).nodes ≤ sum_by (λ (part : Part). length part.nodes) cert.parts = sum_by_more_le (λ (part : Part). length part.nodes) cert.parts part no_part within in
-      let all = short.nodes in let most = rateable.nodes in omega arith);
 }
 
 -- the ratio of a trial's part
@@ -96,15 +93,30 @@ ratio_here_is s p c x a b cert part trial a_is b_is =
     subst (λ (n : ℕ). IsRatio (longer_marking (links_of s) p c x) (producer (links_of s) c) n b) (sym a_is)
     (subst (λ (n : ℕ). IsRatio (longer_marking (links_of s) p c x) (producer (links_of s) c) (part_at cert.parts part).p n) (sym b_is) (trial.exact.ratio (producer (links_of s) c) trial.stands))
 
--- with no further relay stations the ratio is the present one
-pub present_is : (s : System) (p : Placement) (c a b : ℕ) (cert : Cert) (part : ℕ) → IsTrial s p c 0 cert part → a ≡ (part_at cert.parts part).p → b ≡ (part_at cert.parts part).q → IsPresent s p c a b
-present_is s p c a b cert part trial a_is b_is =
-    let here : IsPresent s p c (part_at cert.parts part).p (part_at cert.parts part).q = record {
-      ratio = subst (λ (q : Placement). IsRatio (marking (links_of s) q) (producer (links_of s) c) (part_at cert.parts part).p (part_at cert.parts part).q) (none_are_none p c) (trial.exact.ratio (producer (links_of s) c) trial.stands);
-      small_a = trial.exact.in_range.p;
-      small_b = trial.exact.in_range.q;
-    } in
-    subst (λ (n : ℕ). IsPresent s p c n b) (sym a_is) (subst (λ (n : ℕ). IsPresent s p c (part_at cert.parts part).p n) (sym b_is) here)
+-- what is certified for all channels
+module _ (s : System) (p : Placement) (c : ℕ) (present : Certified) (can : CanTry s p c 0) (made : IsCertified (links_of s) p present) where
+  pub certified_rateable : IsRateable present.graph
+  certified_rateable = subst IsRateable (sym made.graph) (rateable s p can.system can.fits)
+
+  -- has the producer of the channel
+  pub certified_within : producer (links_of s) c < present.graph.nodes
+  certified_within = subst (λ (g : Graph). producer (links_of s) c < g.nodes) (sym made.graph)
+      (let comes = (channel_there s p can.system can.fits c (omega (arith, can.there, can.fits.counts))).comes in omega (arith, node_count s p))
+
+  -- and its part is of the present ratio
+  pub present_is : (a b part : ℕ) → part < length present.cert.parts → has_node (part_at present.cert.parts part) (producer (links_of s) c) ≡ true → a ≡ (part_at present.cert.parts part).p → b ≡ (part_at present.cert.parts part).q → IsPresent s p c a b
+  present_is a b part within stands a_is b_is =
+      subst (λ (n : ℕ). IsPresent s p c n b) (sym a_is) (subst (λ (n : ℕ). IsPresent s p c (part_at present.cert.parts part).p n) (sym b_is) here)
+    where
+      shows : Shows present.graph present.cert (part_at present.cert.parts part) (producer (links_of s) c)
+      shows = record { paired = certified_rateable.paired; certifies = made.certifies; stands = (part, within, get_or_default present.cert.parts part (part_at present.cert.parts part) no_part within); inside = stands }
+
+      here : IsPresent s p c (part_at present.cert.parts part).p (part_at present.cert.parts part).q
+      here = record {
+        ratio = subst (λ (g : Graph). IsRatio g (producer (links_of s) c) (part_at present.cert.parts part).p (part_at present.cert.parts part).q) made.graph (ratio_is_shown present.graph present.cert (part_at present.cert.parts part) (producer (links_of s) c) shows);
+        small_a = (made.in_range part no_part within).p;
+        small_b = (made.in_range part no_part within).q;
+      }
 
 -- no answer is both
 pub not_true : (answer : Bool) → IsTrue answer → answer ≡ false → ⊥
@@ -182,7 +194,6 @@ module _ (s : System) (p : Placement) (c a b : ℕ) (present : IsPresent s p c a
           below = λ d e other.
               (let lower : b * walk_tokens g here.cycle < a * length here.cycle = exact_below here.p here.q a b (length here.cycle) (walk_tokens g here.cycle) tokens some less in
               below_higher a b d e (length here.cycle) (walk_tokens g here.cycle) other.positive (one_ratio (marking l p) v d e a b other present.ratio) lower);
-          short = trial.short;
         }
 
   -- with the greatest number that keeps the ratio

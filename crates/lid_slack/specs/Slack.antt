@@ -1,5 +1,5 @@
 -- The slack of a channel: how many further relay stations it takes before the ratio of its component falls.
-use Rattle.std.specs.Prelude.{◌≡◌, ℕ, ◌+◌, ◌*◌, ◌<◌, ◌≤◌, ◌^◌, List, length, Option}
+use Rattle.std.specs.Prelude.{◌≡◌, ℕ, ◌+◌, ◌*◌, ◌<◌, ◌≤◌, List, length, Option}
 use Rattle.std.specs.Option.{MatchOption, IsNone}
 use Rattle.lid_graph.specs.Walks.{walk_tokens}
 use Rattle.lid_graph.specs.Ratios.{IsClosedWalkNear, IsRatio}
@@ -7,9 +7,16 @@ use Rattle.lid_stations.specs.declared.placement.Placement.{Placement}
 use Rattle.lid_stations.specs.Placements.{Links}
 use Rattle.lid_stations.specs.Markings.{marking}
 use Rattle.lid_ratio.specs.declared.lowest_terms.Ratio.{Ratio}
-use Rattle.lid_cert.specs.Certificates.{Certifies}
+use Rattle.lid_cert.specs.Certificates.{Certifies, IsInRange}
 use Rattle.lid_slack.specs.declared.answer.Slack.{Slack}
+use Rattle.lid_slack.specs.declared.certified.Certified.{Certified}
 use Rattle.lid_longer.specs.Longer.{longer_marking, producer, room, KeepsRatio}
+
+-- the marked graph of a placement, and a certificate of it with all numbers in range
+pub record IsCertified (l : Links) (p : Placement) (present : Certified) : Type 0 where
+  pub graph : present.graph ≡ marking l p
+  pub certifies : Certifies present.graph present.cert
+  pub in_range : IsInRange present.cert
 
 -- the component of channel c has a ratio
 abbrev pub HasRatio : Links → Placement → ℕ → Type 0
@@ -32,7 +39,6 @@ pub record IsAgainst (l : Links) (p : Placement) (c x : ℕ) (walk : List ℕ) :
       → IsClosedWalkNear (longer_marking l p c x) (producer l c) ks
       → walk_tokens (longer_marking l p c x) walk * length ks ≤ walk_tokens (longer_marking l p c x) ks * length walk
   pub below : (a b : ℕ) → IsRatio (marking l p) (producer l c) a b → b * walk_tokens (longer_marking l p c x) walk < a * length walk
-  pub short : length walk ≤ 2 ^ 18
 
 -- a walk is told exactly where there is room for one more than x, and it lowers the ratio
 abbrev pub IsEnd : Links → Placement → ℕ → ℕ → Option (List ℕ) → Type 0

@@ -28,7 +28,6 @@ pub record IsTrial (s : System) (p : Placement) (c x : ℕ) (cert : Cert) (part 
   pub within : part < length cert.parts
   pub stands : has_node (part_at cert.parts part) (producer (links_of s) c) ≡ true
   pub exact : IsExact (longer_marking (links_of s) p c x) (part_at cert.parts part)
-  pub short : length (part_at cert.parts part).cycle ≤ 2 ^ 18
 
 -- a/b is the present ratio of the channel's component
 pub record IsPresent (s : System) (p : Placement) (c a b : ℕ) : Type 0 where

@@ -6,16 +6,17 @@ ghost use Rattle.lid_graph.specs.Ratios.{IsRatio};
 ghost use Rattle.lid_system.specs.Systems.{IsWellFormed};
 ghost use Rattle.lid_stations.specs.Placements.{links_of, Fits};
 ghost use Rattle.lid_longer.specs.Longer.{longer_marking, producer, room, KeepsAt, KeepsRatio};
-ghost use Rattle.lid_slack.specs.Slack.{IsSlack, IsAgainst, IsEnd, IsTold, IsNextRatio};
+ghost use Rattle.lid_slack.specs.Slack.{IsCertified, IsSlack, IsAgainst, IsEnd, IsTold, IsNextRatio};
 ghost use Rattle.lid_slack.specs.Trials.{CanTry, IsPresent, IsMost, IsFound};
 
 use crate::answer::{Slack, SlackAndNext};
 use crate::bisection::bisect;
+use crate::certified::{Certified, certify};
 use crate::proposal::propose;
-use crate::trial::{attempt, lowers, ratio_of};
+use crate::trial::{attempt, lowers, part_of, producer, ratio_of};
 use lid_base::Items;
 use lid_cert::Cert;
-use lid_longer::room;
+use lid_longer::{room, stations_through};
 use lid_ratio::Ratio;
 use lid_stations::Placement;
 use lid_system::System;
@@ -33,17 +34,22 @@ fn open(
     alloc: Global,
     system: &System,
     placement: &Placement,
+    present: &Certified,
     channel: u32,
     most: u32,
 ) -> Result<Opening, AllocError>
-    requires { CanTry system.now placement.now channel 0 }
+    requires can { CanTry system.now placement.now channel 0 }
+    requires present { IsCertified (links_of system.now) placement.now present.now }
     ensures present { IfOk result (λ opening. IsPresent system.now placement.now channel opening.present.p opening.present.q) }
     ensures guess { IfOk result (λ opening. opening.guess ≤ most) }
 {
-    let trial = attempt(alloc, system, placement, channel, 0)?;
-    let guess = propose(alloc, system, placement, channel, most, &trial)?;
+    let number = part_of(&present.graph, &present.cert, producer(system, channel));
+    let ratio = ratio_of(&present.cert, number);
+    let station = (stations_through(placement, channel) as u32).wrapping_sub(1);
+    let part = &present.cert.parts.as_slice()[number];
+    let guess = propose(alloc, &present.graph, part, station, ratio, most)?;
     Ok(Opening {
-        present: ratio_of(&trial),
+        present: ratio,
         guess,
     })
 }
@@ -103,7 +109,7 @@ fn lower_walk(
     )?;
     Ok(Some(Lower {
         walk: Items::from_vec(walk),
-        ratio: ratio_of(&trial),
+        ratio: ratio_of(&trial.cert, trial.part),
     }))
 }
 
@@ -177,6 +183,41 @@ fn search(
     }
 }
 
+/// The slack of a channel and the ratio with one more, as `slack_and_next`, from what `certify` made: it is the
+/// same for all channels.
+///
+/// # Errors
+/// Where there is no memory.
+pub fn slack_from(
+    alloc: Global,
+    system: &System,
+    placement: &Placement,
+    present: &Certified,
+    channel: u32,
+) -> Result<SlackAndNext, AllocError>
+    requires system { IsWellFormed system.now }
+    requires fits { Fits system.now placement.now }
+    requires present { IsCertified (links_of system.now) placement.now present.now }
+    requires channel { channel < length system.now.channels }
+    ensures slack { IfOk result (λ all. IsTold (links_of system.now) placement.now channel all.slack) }
+    ensures next { IfOk result (λ all. IsNextRatio (links_of system.now) placement.now channel all.slack all.next) }
+{
+    let most = room(placement, channel);
+    let opening = open(alloc, system, placement, present, channel, most)?;
+    match settle(
+        alloc,
+        system,
+        placement,
+        channel,
+        opening.guess,
+        most,
+        opening.present,
+    )? {
+        Some(found) => Ok(found),
+        None => search(alloc, system, placement, channel, most, opening.present),
+    }
+}
+
 /// The slack of a channel, as `slack`, and the ratio with one more, where there is room for it.
 ///
 /// # Errors
@@ -193,20 +234,8 @@ pub fn slack_and_next(
     ensures slack { IfOk result (λ all. IsTold (links_of system.now) placement.now channel all.slack) }
     ensures next { IfOk result (λ all. IsNextRatio (links_of system.now) placement.now channel all.slack all.next) }
 {
-    let most = room(placement, channel);
-    let opening = open(alloc, system, placement, channel, most)?;
-    match settle(
-        alloc,
-        system,
-        placement,
-        channel,
-        opening.guess,
-        most,
-        opening.present,
-    )? {
-        Some(found) => Ok(found),
-        None => search(alloc, system, placement, channel, most, opening.present),
-    }
+    let present = certify(alloc, system, placement)?;
+    slack_from(alloc, system, placement, &present, channel)
 }
 
 /// The slack of a channel: the greatest number of further relay stations of capacity 2 after its last station,

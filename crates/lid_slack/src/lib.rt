@@ -4,11 +4,13 @@
 
 mod answer;
 mod bisection;
+mod certified;
 mod finding;
 mod laws;
 mod proposal;
 mod trial;
 
 pub use answer::{Slack, SlackAndNext};
-pub use finding::{slack, slack_and_next};
+pub use certified::{Certified, certify};
+pub use finding::{slack, slack_and_next, slack_from};
 pub use laws::keeping_is_not_lowering;

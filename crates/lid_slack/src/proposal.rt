@@ -1,18 +1,13 @@
 //! A guess of the slack of a channel, by a longest walk from where its last station is drained to where it is
 //! filled. It says nothing of what it answers: test it.
 
-ghost use Rattle.std.specs.Prelude.{◌<◌, ◌≤◌, length, IfOk};
-ghost use Rattle.lid_slack.specs.Trials.{CanTry};
+ghost use Rattle.std.specs.Prelude.{◌≤◌, IfOk};
 
-use crate::trial::{Trial, ratio_of};
 use lid_base::Items;
 use lid_cert::Part;
 use lid_graph::{Edge, Graph};
 use lid_guess::propose_labels;
-use lid_longer::stations_through;
 use lid_ratio::Ratio;
-use lid_stations::{Placement, marking};
-use lid_system::System;
 use std::alloc::{AllocError, Global};
 
 /// The item at a place, or the default past the end.
@@ -156,8 +151,9 @@ fn guess_by(
     Ok(count_of(lags, found.labels.as_slice(), chain, rise, most))
 }
 
-/// The guess, by the part of the channel's component.
-fn guess_in(
+/// A guess of the slack, of `most` at most, from the present graph, the part of the channel's component and its
+/// ratio, and the number of the channel's last station.
+pub(crate) fn propose(
     alloc: Global,
     graph: &Graph,
     part: &Part,
@@ -174,23 +170,4 @@ fn guess_in(
     let rest = without_station(alloc, graph, part, station)?;
     let lags = lags_of(alloc, part, graph.nodes)?;
     guess_by(alloc, &rest, &lags, chain, most)
-}
-
-/// A guess of the slack, of `most` at most, from what is found without further relay stations.
-pub(crate) fn propose(
-    alloc: Global,
-    system: &System,
-    placement: &Placement,
-    channel: u32,
-    most: u32,
-    trial: &Trial,
-) -> Result<u32, AllocError>
-    requires can { CanTry system.now placement.now channel 0 }
-    requires within { trial.now.part < length trial.now.cert.parts }
-    ensures { IfOk result (λ guess. guess ≤ most) }
-{
-    let graph = marking(alloc, system, placement)?;
-    let station = (stations_through(placement, channel) as u32).wrapping_sub(1);
-    let part = &trial.cert.parts.as_slice()[trial.part];
-    guess_in(alloc, &graph, part, station, ratio_of(trial), most)
 }

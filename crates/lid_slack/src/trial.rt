@@ -28,7 +28,7 @@ pub(crate) struct Trial {
 }
 
 /// The number of the part that a transition stands in.
-fn part_of(graph: &Graph, cert: &Cert, v: u32) -> usize
+pub(crate) fn part_of(graph: &Graph, cert: &Cert, v: u32) -> usize
     requires graph { IsRateable graph.now }
     requires cert { Certifies graph.now cert.now }
     requires within { v < graph.now.nodes }
@@ -43,7 +43,7 @@ fn part_of(graph: &Graph, cert: &Cert, v: u32) -> usize
 }
 
 /// The node that a channel comes from.
-fn producer(system: &System, channel: u32) -> u32
+pub(crate) fn producer(system: &System, channel: u32) -> u32
     requires { channel < length system.now.channels }
     ensures { result ≡ producer (links_of system.now) channel }
 {
@@ -84,13 +84,13 @@ pub(crate) fn attempt(
     Ok(Trial { cert, part })
 }
 
-/// The ratio of the channel's component.
-pub(crate) fn ratio_of(trial: &Trial) -> Ratio
-    requires { trial.now.part < length trial.now.cert.parts }
-    ensures p { result.p ≡ (part_at trial.now.cert.parts trial.now.part).p }
-    ensures q { result.q ≡ (part_at trial.now.cert.parts trial.now.part).q }
+/// The ratio of a part, by its number.
+pub(crate) fn ratio_of(cert: &Cert, part: usize) -> Ratio
+    requires { part < length cert.now.parts }
+    ensures p { result.p ≡ (part_at cert.now.parts part).p }
+    ensures q { result.q ≡ (part_at cert.now.parts part).q }
 {
-    let part = &trial.cert.parts.as_slice()[trial.part];
+    let part = &cert.parts.as_slice()[part];
     Ratio {
         p: part.p,
         q: part.q,
@@ -129,7 +129,7 @@ pub(crate) fn lowers(
     let _ = placement;
     let _ = channel;
     let _ = more;
-    is_below(ratio_of(trial), present)
+    is_below(ratio_of(&trial.cert, trial.part), present)
 }
 
 /// Whether the present ratio is kept with so many further relay stations.

@@ -15,5 +15,5 @@ part_of-part-requires-clause-within c =
 pub returns : goal.returns
 returns c =
     trial_is c.args.system.now c.args.placement.now c.args.channel c.args.more c.in_ok-graph.graph c.in_ok-cert.cert c.part_of-part.result
-    c.in_ok-graph.ensures.is c.in_ok-graph.ensures.rateable c.in_ok-cert.ensures.certifies c.in_ok-cert.ensures.exact c.in_ok-cert.ensures.short c.part_of-part.ensures.within
+    c.in_ok-graph.ensures.is c.in_ok-cert.ensures.certifies c.in_ok-cert.ensures.exact c.part_of-part.ensures.within
     (subst (λ (v : ℕ). has_node (part_at c.in_ok-cert.cert.parts c.part_of-part.result) v ≡ true) c.producer.ensures c.part_of-part.ensures.stands)

@@ -3,7 +3,7 @@ use Rattle.lid_base.proofs.Results.{if_ok}
 use Rattle.lid_slack.specs.declared.answer.SlackAndNext.{SlackAndNext}
 use Rattle.lid_slack.specs.Trials.{IsFound}
 use Rattle.lid_slack.proofs.Tried.{told_is}
-use Rattle.lid_slack.proofs.finding.slack_and_next.Goals as goal
+use Rattle.lid_slack.proofs.finding.slack_from.Goals as goal
 
 pub returns-in-Some-clause-slack : goal.returns-in-Some-clause-slack
 returns-in-Some-clause-slack c =

@@ -1,7 +1,7 @@
 use Rattle.lid_stations.specs.Placements.{links_of}
 use Rattle.lid_margins.specs.Slacks.{slack_words, next_word}
 use Rattle.lid_margins.proofs.Telling.{line_is, one_more}
-use Rattle.lid_margins.proofs.slacks.slack_text.Goals as goal
+use Rattle.lid_margins.proofs.slacks.text_from.Goals as goal
 
 pub loop-channel-preserved : goal.loop-channel-preserved
 loop-channel-preserved c =
