@@ -99,9 +99,10 @@ class Bench:
         return spent(["vvp", "-n", self.at("b")])
 
     def abc(self) -> float | None:
-        if not shutil.which("yosys-abc"):
+        if not shutil.which("yosys") or not shutil.which("yosys-abc"):
             return None
-        return spent(["yosys-abc", "-q", f"read_blif {self.net}; strash; sim -F 1000 -W 1"])
+        subprocess.run(["yosys", "-q", "-p", f"read_blif {self.net}; hierarchy -auto-top; flatten; clean; write_blif {self.at('f.blif')}"], check=True)
+        return spent(["yosys-abc", "-q", f"read_blif {self.at('f.blif')}; strash; sim -F 1000 -W 1"])
 
     def lemon(self, program: Path | None) -> float | None:
         if program is None:
