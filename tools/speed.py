@@ -101,7 +101,7 @@ class Bench:
     def abc(self) -> float | None:
         if not shutil.which("yosys") or not shutil.which("yosys-abc"):
             return None
-        subprocess.run(["yosys", "-q", "-p", f"read_blif {self.at('c.blif')}; hierarchy -auto-top; flatten; clean; write_blif {self.at('f.blif')}"], check=True)
+        subprocess.run(["yosys", "-q", "-p", f"read_blif {self.at('c.blif')}; hierarchy -auto-top; flatten; simplemap; clean; write_blif {self.at('f.blif')}"], check=True)
         return spent(["yosys-abc", "-q", f"read_blif {self.at('f.blif')}; strash; sim -F 1000 -W 1"])
 
     def lemon(self, program: Path | None) -> float | None:
