@@ -20,6 +20,19 @@ from compare import LID, rows_text
 from verilog import bench, listed
 
 
+def clocked(text: str) -> str:
+    """The netlist with a clock for all latches that name none: Yosys writes no Verilog for latches without one."""
+    lines = []
+    for line in text.splitlines():
+        words = line.split()
+        if words[:1] == [".subckt"]:
+            line += " clk=clk"
+        if words[:1] == [".latch"] and len(words) < 5:
+            line = " ".join([*words[:3], "re", "clk", *words[3:]])
+        lines += [line, ".inputs clk"] if words[:1] == [".model"] else [line]
+    return "\n".join(lines) + "\n"
+
+
 def option(name: str, default: int) -> int:
     return int(sys.argv[sys.argv.index(name) + 1]) if name in sys.argv else default
 
@@ -29,15 +42,9 @@ def yosys(script: str) -> str:
 
 
 def by_icarus(place: Path, text: str, rows: list[list[int]]) -> list[str]:
-    yosys(f"read_blif {place}/e.blif; hierarchy -auto-top -check; check -assert; rename -top dut; write_verilog -noattr {place}/e.v")
-    clock = next((w for line in (place / "e.v").read_text().splitlines() for w in re.findall(r"posedge (\S+?)\)", line)), "clock")
-    outs = listed(text, ".outputs")
-    (place / "b.v").write_text(bench("dut", clock, listed(text, ".inputs"), outs, rows))
-    source = (place / "e.v").read_text()
-    if clock not in source.split(");")[0]:
-        # latches without a clock follow that of the netlist around them
-        source = source.replace("module dut(", f"module dut({clock}, ", 1).replace(");", f");\n  input {clock};", 1)
-    (place / "e.v").write_text(source)
+    (place / "c.blif").write_text(clocked(text))
+    yosys(f"read_blif -wideports {place}/c.blif; hierarchy -auto-top -check; check -assert; rename -top dut; write_verilog -noattr {place}/e.v")
+    (place / "b.v").write_text(bench("dut", "clk", listed(text, ".inputs"), listed(text, ".outputs"), rows))
     subprocess.run(["iverilog", "-g2012", "-s", "bench", "-o", place / "b", place / "b.v", place / "e.v"], check=True)
     told = subprocess.run([place / "b"], capture_output=True, text=True, check=True).stdout
     return [line for line in told.splitlines() if re.fullmatch(r"[01xz]+", line)]

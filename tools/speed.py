@@ -7,7 +7,7 @@ would use instead, in the same minute.
 The designs are examples/acc.blif and generated ones of 200 and 2,000 shells (or of SHELLS), with 0 to 3 relay stations
 on each channel, and 1,000 random rows. A time is the processor's (user and system) of the whole program, the least of
 three. `strict` stands beside Icarus Verilog's run of the same netlist (as Yosys writes it) on the same rows, without its
-compilation, and `rate` beside HowardMmc of LEMON on the same marked graph; a column is left empty where a program is not
+compilation, and beside ABC's simulation of 32 random runs of 1,000 rows at once, and `rate` beside HowardMmc of LEMON on the same marked graph; a column is left empty where a program is not
 there. It prints a table.
 """
 
@@ -20,6 +20,7 @@ import sys
 import tempfile
 from pathlib import Path
 
+from emits_others import clocked
 from rates import LID, marking
 from verilog import bench, listed
 
@@ -64,7 +65,7 @@ class Bench:
         named = [line.split()[1:4] for line in told if line.startswith("channel ")]
         self.relays = [dice.randrange(4) for _ in named]
         self.file("stations", "lid-stations 1\n" + "".join(" ".join([*c, str(k)]) + "\n" for c, k in zip(named, self.relays)))
-        self.file("wires", "lid-wires 1\n" + "".join(" ".join([*c, str(1000 * k)]) + "\n" for c, k in zip(named, self.relays)))
+        self.file("wires", "lid-wires 1\n" + "".join(" ".join([*c, str(1000 * k + 1)]) + "\n" for c, k in zip(named, self.relays)))
         node = lambda n: 0 if n == "in" else self.shells + 1 if n == "out" else int(n[1:]) + 1
         self.graph = marking(self.shells + 2, [(node(a), node(b), 0) for a, b, _ in named], self.relays, [2] * (sum(self.relays) + len(named)))
         clock = {w for line in net.read_text().splitlines() if line.startswith(".latch") for w in line.split()[4:5]}
@@ -87,13 +88,21 @@ class Bench:
     def icarus(self) -> float | None:
         if not shutil.which("yosys") or not shutil.which("iverilog"):
             return None
-        subprocess.run(["yosys", "-q", "-p", f"read_blif {self.net}; hierarchy -auto-top; flatten; clean; write_verilog -noattr {self.at('n.v')}"], check=True)
-        text = self.at("n.v").read_text()
-        top = next(line.split()[1].split("(")[0] for line in text.splitlines() if line.startswith("module "))
-        clock = "clk" if "clk" in text else "clock"
-        (self.at("b.v")).write_text(bench(top, clock, self.inputs, listed(self.net.read_text(), ".outputs"), self.rows))
+        net = self.net.read_text()
+        clocks = {w for line in net.splitlines() if line.startswith(".latch") for w in line.split()[4:5]}
+        self.file("c.blif", net if clocks else clocked(net))
+        clock = next(iter(clocks), "clk")
+        script = f"read_blif -wideports {self.at('c.blif')}; hierarchy -auto-top; flatten; clean; rename -top dut; write_verilog -noattr {self.at('n.v')}"
+        subprocess.run(["yosys", "-q", "-p", script], check=True)
+        self.file("b.v", bench("dut", clock, self.inputs, listed(net, ".outputs"), self.rows))
         subprocess.run(["iverilog", "-g2012", "-s", "bench", "-o", self.at("b"), self.at("b.v"), self.at("n.v")], check=True)
         return spent(["vvp", "-n", self.at("b")])
+
+    def abc(self) -> float | None:
+        if not shutil.which("yosys") or not shutil.which("yosys-abc"):
+            return None
+        subprocess.run(["yosys", "-q", "-p", f"read_blif {self.at('c.blif')}; hierarchy -auto-top; flatten; simplemap; clean; write_blif {self.at('f.blif')}"], check=True)
+        return spent(["yosys-abc", "-q", f"read_blif {self.at('f.blif')}; strash; sim -F 1000 -W 1"])
 
     def lemon(self, program: Path | None) -> float | None:
         if program is None:
@@ -107,7 +116,7 @@ class Bench:
 def lemon_program(folder: str) -> Path | None:
     source, program = Path(folder, "mmc.cc"), Path(folder, "mmc")
     source.write_text(LEMON)
-    built = subprocess.run(["g++", "-O2", "-w", "-o", program, source, "-lemon"], capture_output=True, check=False)
+    built = subprocess.run(["g++", "-O2", "-w", "-o", program, source, "-llemon"], capture_output=True, check=False)
     return program if built.returncode == 0 else None
 
 
@@ -117,6 +126,7 @@ def column(b: Bench, lemon: Path | None) -> dict[str, float | None]:
         told["the same by Icarus Verilog"] = b.icarus()
     except (subprocess.CalledProcessError, StopIteration):
         told["the same by Icarus Verilog"] = None
+    told["32 random runs at once by ABC"] = b.abc()
     told["clock, 1,000 rows"] = b.lid("clock", "NET", "rows")
     told["clock on 2 workers"] = b.lid("clock", "NET", "rows", "--workers", "2") if b.shells <= 200 else None
     told["walk, 100,000 steps"] = b.lid("walk", "NET", "rows", "--schedule", "schedule")

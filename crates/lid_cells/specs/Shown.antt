@@ -2,7 +2,7 @@
 use Rattle.std.specs.Prelude.{ℕ, ◌+◌, Bool, List, [], ◌++◌, flat_map}
 use Rattle.lid_circuit.specs.Wires as circuit
 use Rattle.lid_wirenames.specs.Spelling as spelling
-use Rattle.lid_emitted.specs.Ports.{offer_name, block_name, valid_name, stop_name}
+use Rattle.lid_emission.specs.Ports.{offer_name, block_name, valid_name, stop_name}
 use Rattle.lid_design.specs.declared.Cell.{Cell}
 use Rattle.lid_design.specs.declared.Cell.TheVariants.{Names}
 use Rattle.lid_design.specs.Network.{from_each}

@@ -37,14 +37,14 @@ use Rattle.lid_named.specs.Laws.{NamedDesignsAreWellFormed, NamedDesignsAreAccep
 use Rattle.lid_named.proofs.Cells.{as_many}
 use Rattle.lid_emitted.specs.Flats.{ArePortNames}
 use Rattle.lid_emitted.specs.Laws.{EmittedDesignsRun}
-use Rattle.lid_emitted.specs.Runs as emitted
-use Rattle.lid_emitted.specs.Ports.{offer_name, block_name, valid_name, stop_name, input_names, output_names, taken_name}
+use Rattle.lid_emission.specs.Runs as emitted
+use Rattle.lid_emission.specs.Ports.{offer_name, block_name, valid_name, stop_name, input_names, output_names, taken_name}
 use Rattle.lid_wirenames.specs.Spelling.{AreSmall}
 use Rattle.lid_wirenames.proofs.Naming.{all_named, is_naming}
 use Rattle.lid_cells.specs.declared.all.All.{All}
 use Rattle.lid_cells.specs.Shown.{ports_of}
-use Rattle.lid_emitsize.specs.Sizes.{ports_size, size}
-use Rattle.lid_emitsize.specs.Emitted.{CanBeEmitted, IsEmitted}
+use Rattle.lid_emission.specs.Sizes.{ports_size, size}
+use Rattle.lid_emission.specs.Emitted.{CanBeEmitted, IsEmitted}
 use Rattle.lid_emit.specs.Steps.{root_name, name_with, IsLaidOut, AreCells, model_with, design_with, IsWithin}
 use Rattle.lid_emit.proofs.Words.{two_inputs, two_outputs, wire_word}
 use Rattle.lid_emit.proofs.Written.{cells_written}

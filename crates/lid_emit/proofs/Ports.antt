@@ -17,7 +17,7 @@ use Rattle.lid_wiring.proofs.Names.{none_found, from_among}
 use Rattle.lid_parts.proofs.Beginning.{AreApart, apart_filter, inputs_apart, outputs_apart}
 use Rattle.lid_wires.specs.Lists.{AreOnce}
 use Rattle.lid_wires.proofs.Once.{once_append}
-use Rattle.lid_emitted.specs.Ports.{offer_name, block_name, valid_name, stop_name, own_names, input_names, output_names, or_else, taken_name}
+use Rattle.lid_emission.specs.Ports.{offer_name, block_name, valid_name, stop_name, own_names, input_names, output_names, or_else, taken_name}
 use Rattle.lid_wirenames.specs.Spelling.{IsFree}
 use Rattle.lid_emitsize.specs.Prefixes.{IsShort}
 

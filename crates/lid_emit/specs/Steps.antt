@@ -15,7 +15,7 @@ use Rattle.lid_wires.specs.Lists.{wires}
 use Rattle.lid_wrapped.specs.Nets.{Nets, AreNets}
 use Rattle.lid_wrapped.specs.Wrapping.{plan_of}
 use Rattle.lid_named.specs.Named.{cells_at}
-use Rattle.lid_emitted.specs.Ports.{input_names, output_names}
+use Rattle.lid_emission.specs.Ports.{input_names, output_names}
 use Rattle.lid_emitted.specs.Flats.{AreFlatsOf}
 use Rattle.lid_wirenames.specs.Spelling.{name_of, IsFree}
 use Rattle.lid_cells.specs.declared.all.All.{All}

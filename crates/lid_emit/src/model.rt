@@ -2,7 +2,7 @@
 
 ghost use Rattle.std.specs.Prelude.{◌≡◌, ◌++◌, ◌∷◌, [], IfOk};
 ghost use Rattle.lid_emit.specs.Steps.{root_name, model_with, design_with};
-ghost use Rattle.lid_emitted.specs.Ports.{input_names, output_names};
+ghost use Rattle.lid_emission.specs.Ports.{input_names, output_names};
 
 use lid_base::{Items, Name, copy_name, push_copies};
 use lid_check::Checked;

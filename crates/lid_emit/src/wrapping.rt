@@ -1,11 +1,11 @@
 //! The emitted design.
 
 ghost use Rattle.std.specs.Prelude.{◌≡◌, ◌⊎◌, ◌≤◌, Some, None, IfOk, IfErr};
-ghost use Rattle.lid_emitsize.specs.declared.fault.EmitFault.TheVariants.{Memory};
-ghost use Rattle.lid_emitsize.specs.Emitted.{CanBeEmitted, emit_fault, IsEmitted};
-ghost use Rattle.lid_emitsize.specs.Sizes.{size};
+ghost use Rattle.lid_emission.specs.declared.fault.EmitFault.TheVariants.{Memory};
+ghost use Rattle.lid_emission.specs.Emitted.{CanBeEmitted, emit_fault, IsEmitted};
+ghost use Rattle.lid_emission.specs.Sizes.{size};
 ghost use Rattle.lid_stations.specs.Placements.{links_of};
-ghost use Rattle.lid_emitted.specs.Ports.{taken_name};
+ghost use Rattle.lid_emission.specs.Ports.{taken_name};
 
 use crate::limits::finish;
 use crate::model::make_model;
@@ -13,7 +13,7 @@ use crate::naming::{lay_out_all, name_cells};
 use crate::refusals::refuse;
 use lid_check::Checked;
 use lid_design::Design;
-use lid_emitsize::EmitFault;
+use lid_emission::EmitFault;
 use lid_emitted::emitted_designs_run;
 use lid_named::named_designs_are_accepted;
 use lid_stations::Placement;

@@ -19,7 +19,7 @@ use Rattle.lid_hierarchy.specs.Surveys.{AreKnown}
 use Rattle.lid_counts.specs.declared.counts.Measure.{Measure}
 use Rattle.lid_counts.specs.declared.counts.Measure.TheVariants.{Depth, Latches, Covers, CoverInputs, CoverRows}
 use Rattle.lid_counts.specs.Counts.{own, in_cell, count_of}
-use Rattle.lid_emitsize.specs.Sizes.{cell_size, cells_size, cells_in, pearl_size, at_path, over_pearls, pearls_size, AreCounts}
+use Rattle.lid_emission.specs.Sizes.{cell_size, cells_size, cells_in, pearl_size, at_path, over_pearls, pearls_size, AreCounts}
 use Rattle.lid_emitsize.proofs.Adding.{four_parts, maybe_parts}
 
 -- the path of the root, and of an instance of it

@@ -10,7 +10,7 @@ use Rattle.lid_stations.specs.Placements.{Links, links_of, station_count, Fits}
 use Rattle.lid_stations.specs.Stations.{Spot, spot_at, no_channel, channel_at, capacity}
 use Rattle.lid_stations.proofs.Parts.{each_more}
 use Rattle.lid_stations.proofs.Spots.{spot_is}
-use Rattle.lid_emitsize.specs.Sizes.{station_size, sizes_from}
+use Rattle.lid_emission.specs.Sizes.{station_size, sizes_from}
 
 -- further stations
 pub sizes_more : (l : Links) (p : Placement) (k m n : ℕ) → sizes_from l p k (m + n) ≡ sizes_from l p k m + sizes_from l p (k + m) n

@@ -1,4 +1,2 @@
-pub mod Sizes
 pub mod Prefixes
-pub mod Emitted
 pub mod Taken

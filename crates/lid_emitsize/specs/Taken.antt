@@ -1,7 +1,7 @@
 -- Names that are taken, of lists of names.
 use Rattle.std.specs.Prelude.{◌||◌, ℕ, Bool, List, find, Option}
 use Rattle.lid_design.specs.Columns.{is_among}
-use Rattle.lid_emitted.specs.Ports.{own_names, or_else}
+use Rattle.lid_emission.specs.Ports.{own_names, or_else}
 
 -- serves the body: an output that the emitted design needs for itself, or that is among the inputs
 abbrev pub is_taken : List (List ℕ) → List ℕ → Bool

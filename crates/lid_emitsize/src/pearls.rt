@@ -4,7 +4,7 @@ ghost use Rattle.std.specs.Prelude.{◌≡◌, ℕ, [], ◌∷◌, length, map, 
 ghost use Rattle.std.specs.List.{range_with_len};
 ghost use Rattle.lid_design.specs.Models.{insts_of};
 ghost use Rattle.lid_counts.specs.Counts.{count_of};
-ghost use Rattle.lid_emitsize.specs.Sizes.{at_path, over_pearls, cells_in, AreCounts};
+ghost use Rattle.lid_emission.specs.Sizes.{at_path, over_pearls, cells_in, AreCounts};
 
 use lid_counts::{Measure, count_each, counts_are_sums};
 use lid_hierarchy::Survey;

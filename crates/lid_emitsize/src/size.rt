@@ -4,7 +4,7 @@ ghost use Rattle.std.specs.Prelude.{◌≡◌, min, sum_by, IfOk, OnOk};
 ghost use Rattle.lid_hierarchy.specs.Surveys.{AreKnown};
 ghost use Rattle.lid_stations.specs.Placements.{links_of, Fits};
 ghost use Rattle.lid_system.specs.Systems.{IsWellFormed};
-ghost use Rattle.lid_emitsize.specs.Sizes.{name_size, ports_size, pearls_size, size};
+ghost use Rattle.lid_emission.specs.Sizes.{name_size, ports_size, pearls_size, size};
 
 use crate::pearls::cells_of_pearls;
 use crate::stations::stations_size;
@@ -19,7 +19,7 @@ use std::alloc::{AllocError, Global};
 ///
 /// # Errors
 /// Where there is no memory, or the size is over 18,446,744,073,709,551,614.
-#[tactic(auto, unfolding(crate::specs::Sizes::size))]
+#[tactic(auto, unfolding(lid_emission::specs::Sizes::size))]
 pub fn emitted_size(
     alloc: Global,
     checked: &Checked,

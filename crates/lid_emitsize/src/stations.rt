@@ -3,7 +3,7 @@
 ghost use Rattle.std.specs.Prelude.{◌≡◌, ◌<◌, ◌+◌, ◌*◌, length, min, take, slice_index_or};
 ghost use Rattle.lid_system.specs.Systems.{IsWellFormed};
 ghost use Rattle.lid_stations.specs.Placements.{links_of, Fits, station_count};
-ghost use Rattle.lid_emitsize.specs.Sizes.{sizes_from, stations_size};
+ghost use Rattle.lid_emission.specs.Sizes.{sizes_from, stations_size};
 
 use lid_stations::Placement;
 use lid_system::System;

@@ -3,7 +3,7 @@
 ghost use Rattle.std.specs.Prelude.{◌≡◌, ℕ, List, find, option_map, IfOk};
 ghost use denote.Ref.{Bor};
 ghost use Rattle.lid_design.specs.Columns.{is_among};
-ghost use Rattle.lid_emitted.specs.Ports.{own_names, taken_name};
+ghost use Rattle.lid_emission.specs.Ports.{own_names, taken_name};
 ghost use Rattle.lid_emitsize.specs.Taken.{is_taken, taken_in};
 
 use lid_base::{Name, copy_name};
@@ -16,7 +16,7 @@ use std::alloc::{AllocError, Global};
 ///
 /// # Errors
 /// Where there is no memory.
-#[tactic(auto, unfolding(lid_emitted::specs::Ports::taken_name))]
+#[tactic(auto, unfolding(lid_emission::specs::Ports::taken_name))]
 pub fn find_taken(alloc: Global, checked: &Checked) -> Result<Option<Name>, AllocError>
     ensures { IfOk result (λ name. name ≡ taken_name checked.now) }
 {

@@ -32,7 +32,7 @@ use Rattle.lid_wrapped.proofs.Connecting.{connected}
 use Rattle.lid_named.specs.Named.{named_design, IsNaming, seen_at}
 use Rattle.lid_named.proofs.Tables.{runs}
 use Rattle.lid_emitted.specs.Flats.{AreFlatsOf, ArePortNames}
-use Rattle.lid_emitted.specs.Runs as emitted
+use Rattle.lid_emission.specs.Runs as emitted
 use Rattle.lid_emitted.proofs.Following.{flats_follow}
 
 -- rows that are the same in each cycle

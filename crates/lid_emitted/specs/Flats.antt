@@ -10,7 +10,7 @@ use Rattle.lid_system.specs.declared.InBit.{InBit}
 use Rattle.lid_check.specs.Flats.{IsFlatOf}
 use Rattle.lid_circuit.specs.Wires.{Wire, entry, offer, block, shown, valid, stop}
 use Rattle.lid_wrapped.specs.Nets.{Nets}
-use Rattle.lid_emitted.specs.Ports.{offer_name, block_name, valid_name, stop_name}
+use Rattle.lid_emission.specs.Ports.{offer_name, block_name, valid_name, stop_name}
 
 -- each shell has the flat part of its pearl, which is the one before in number
 abbrev pub AreFlatsOf : Design → System → Nets → Type 0

@@ -15,7 +15,7 @@ use Rattle.lid_wrapped.specs.Nets.{Nets, AreNets, FollowTables}
 use Rattle.lid_wrapped.specs.Wrapping.{plan_of}
 use Rattle.lid_named.specs.Named.{named_design, IsNaming}
 use Rattle.lid_emitted.specs.Flats.{AreFlatsOf, ArePortNames}
-use Rattle.lid_emitted.specs.Runs.{face_of, RunsAs}
+use Rattle.lid_emission.specs.Runs.{face_of, RunsAs}
 
 -- flat parts of pearls follow the tables of the system
 abbrev pub FlatsFollowTables : Type 0

@@ -1,4 +1,2 @@
-pub mod Ports
 pub mod Flats
-pub mod Runs
 pub mod Laws

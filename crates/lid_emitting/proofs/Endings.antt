@@ -4,9 +4,9 @@ use Rattle.lid_design.specs.declared.Design.{Design}
 use Rattle.lid_blifout.specs.Canonical.{canonical_text}
 use Rattle.lid_stations.specs.declared.placement.Placement.{Placement}
 use Rattle.lid_stations.specs.Placements.{Links}
-use Rattle.lid_emitsize.specs.declared.fault.EmitFault.{EmitFault}
-use Rattle.lid_emitsize.specs.declared.fault.EmitFault.TheVariants.{NameTaken, TooBig, Memory}
-use Rattle.lid_emitsize.specs.Emitted.{emit_fault, IsEmitted}
+use Rattle.lid_emission.specs.declared.fault.EmitFault.{EmitFault}
+use Rattle.lid_emission.specs.declared.fault.EmitFault.TheVariants.{NameTaken, TooBig, Memory}
+use Rattle.lid_emission.specs.Emitted.{emit_fault, IsEmitted}
 use Rattle.lid_refusals.specs.declared.refusal.Refusal.TheVariants.{Emit}
 use Rattle.lid_refusals.specs.Refusals.{refusal_line}
 use Rattle.lid_script.specs.Causes.{stop_of_emit, IsCause}

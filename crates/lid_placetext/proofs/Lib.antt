@@ -4,3 +4,5 @@ pub mod LineFaults
 pub mod Amounts
 pub mod Fitting
 pub mod LineTexts
+pub mod PrintedLines
+pub mod PrintedPlacements

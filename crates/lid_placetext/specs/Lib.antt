@@ -4,3 +4,4 @@ pub mod Channels
 pub mod Places
 pub mod Readings
 pub mod Written
+pub mod Laws

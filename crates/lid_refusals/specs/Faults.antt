@@ -25,8 +25,8 @@ use Rattle.lid_stalltext.specs.declared.stalls.StallFault.{StallFault}
 use Rattle.lid_stalltext.specs.declared.stalls.StallFault.TheVariants as stalls
 use Rattle.lid_vcd.specs.declared.reader.VcdFault.{VcdFault}
 use Rattle.lid_vcd.specs.declared.reader.VcdFault.TheVariants as vcd
-use Rattle.lid_emitsize.specs.declared.fault.EmitFault.{EmitFault}
-use Rattle.lid_emitsize.specs.declared.fault.EmitFault.TheVariants as emit
+use Rattle.lid_emission.specs.declared.fault.EmitFault.{EmitFault}
+use Rattle.lid_emission.specs.declared.fault.EmitFault.TheVariants as emit
 use Rattle.lid_gen.specs.declared.fault.GenFault.{GenFault}
 use Rattle.lid_gen.specs.declared.fault.GenFault.TheVariants as gen
 use Rattle.lid_io.specs.Telling.{fault_line, path_text}

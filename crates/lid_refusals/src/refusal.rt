@@ -14,7 +14,7 @@ use lid_base::Sink;
 use lid_blif::BlifFault;
 use lid_certtext::CertFault;
 use lid_channels::NetFault;
-use lid_emitsize::EmitFault;
+use lid_emission::EmitFault;
 use lid_gen::GenFault;
 use lid_io::Word;
 use lid_placetext::PlaceFault;

@@ -8,7 +8,7 @@ use lid_base::{Items, Name, TextFault, Which};
 use lid_blif::BlifFault;
 use lid_certtext::CertFault;
 use lid_channels::NetFault;
-use lid_emitsize::EmitFault;
+use lid_emission::EmitFault;
 use lid_gen::GenFault;
 use lid_placetext::PlaceFault;
 use lid_reports::{SchedFault, TraceFault};

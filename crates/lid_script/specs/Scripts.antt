@@ -38,8 +38,8 @@ use Rattle.lid_texts.specs.Rows.{rows_reading}
 use Rattle.lid_reports.specs.declared.trace.Trace.{Trace}
 use Rattle.lid_vcd.specs.declared.reader.VcdFault.{VcdFault}
 use Rattle.lid_vcd.specs.Reading.{wave_reading}
-use Rattle.lid_emitsize.specs.declared.fault.EmitFault.{EmitFault}
-use Rattle.lid_emitsize.specs.Emitted.{emit_fault}
+use Rattle.lid_emission.specs.declared.fault.EmitFault.{EmitFault}
+use Rattle.lid_emission.specs.Emitted.{emit_fault}
 use Rattle.lid_gen.specs.declared.fault.GenFault.{GenFault}
 use Rattle.lid_gen.specs.Designs.{size_fault}
 use Rattle.lid_cli.specs.declared.job.Job.{Job}

@@ -6,7 +6,7 @@ ghost use Rattle.lid_script.specs.Causes.{stop_of_blif, stop_of_rows, stop_of_ch
 use lid_blif::BlifFault;
 use lid_certtext::CertFault;
 use lid_check::CheckFault;
-use lid_emitsize::EmitFault;
+use lid_emission::EmitFault;
 use lid_gen::GenFault;
 use lid_net::NetFault;
 use lid_placetext::PlaceFault;

@@ -1,6 +1,6 @@
 use Rattle.std.proofs.Common.{◌∷◌, [], zero-add}
 use Rattle.std.proofs.lemmas.List.FromFn.{sum_by-map-range_with_len_more}
-use Rattle.lid_emitsize.specs.Sizes.{at_path}
+use Rattle.lid_emission.specs.Sizes.{at_path}
 use Rattle.lid_emitsize.proofs.Adding.{cut_sum}
 use Rattle.lid_emitsize.proofs.pearls.sum_over_insts.Goals as goal
 

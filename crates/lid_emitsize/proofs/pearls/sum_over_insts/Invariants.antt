@@ -1,6 +1,6 @@
 use Rattle.std.proofs.Common.{◌≡◌, ℕ, [], ◌∷◌, map, min, sum_by}
 use Rattle.std.specs.List.{range_with_len}
-use Rattle.lid_emitsize.specs.Sizes.{at_path, AreCounts}
+use Rattle.lid_emission.specs.Sizes.{at_path, AreCounts}
 use Rattle.lid_emitsize.proofs.pearls.sum_over_insts.Given as goal
 
 abbrev pub invariant-loop-i : goal.invariant-loop-i

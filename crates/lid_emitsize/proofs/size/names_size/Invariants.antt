@@ -1,5 +1,5 @@
 use Rattle.std.proofs.Common.{◌≡◌, min, sum_by, take}
-use Rattle.lid_emitsize.specs.Sizes.{name_size}
+use Rattle.lid_emission.specs.Sizes.{name_size}
 use Rattle.lid_emitsize.proofs.size.names_size.Given as goal
 
 abbrev pub invariant-loop-name : goal.invariant-loop-name

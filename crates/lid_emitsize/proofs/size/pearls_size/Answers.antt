@@ -1,6 +1,6 @@
 use Rattle.std.proofs.Common.{min, ap, ◌∙◌, arith}
 use Rattle.lid_design.specs.declared.Design.{Design}
-use Rattle.lid_emitsize.specs.Sizes.{over_pearls, cells_in}
+use Rattle.lid_emission.specs.Sizes.{over_pearls, cells_in}
 use Rattle.lid_emitsize.proofs.Pearled.{sizes_are}
 use Rattle.lid_emitsize.proofs.size.pearls_size.Goals as goal
 

@@ -4,7 +4,7 @@ use Rattle.lid_system.specs.declared.Channel.{Channel}
 use Rattle.lid_stations.specs.Stations.{capacity}
 use Rattle.lid_stations.proofs.Spots.{few_stations}
 use Rattle.lid_stations.specs.Placements.{links_of}
-use Rattle.lid_emitsize.specs.Sizes.{sizes_from}
+use Rattle.lid_emission.specs.Sizes.{sizes_from}
 use Rattle.lid_emitsize.proofs.Adding.{cut_sum}
 use Rattle.lid_emitsize.proofs.Stationed.{size_more, size_at}
 use Rattle.lid_emitsize.proofs.stations.channel_size.Goals as goal

@@ -1,6 +1,6 @@
 use Rattle.std.proofs.Common.{◌≡◌, min}
 use Rattle.lid_stations.specs.Placements.{links_of}
-use Rattle.lid_emitsize.specs.Sizes.{sizes_from}
+use Rattle.lid_emission.specs.Sizes.{sizes_from}
 use Rattle.lid_emitsize.proofs.stations.channel_size.Given as goal
 
 abbrev pub invariant-loop-place : goal.invariant-loop-place

@@ -1,7 +1,7 @@
 use Rattle.std.proofs.Common.{◌≡◌, ℕ, ◌+◌, List, get_or, ap, ◌∙◌, zero-add, arith}
 use Rattle.std.proofs.lemmas.List.Sums.{sum_by_more}
 use Rattle.lid_stations.specs.Placements.{links_of}
-use Rattle.lid_emitsize.specs.Sizes.{sizes_from}
+use Rattle.lid_emission.specs.Sizes.{sizes_from}
 use Rattle.lid_emitsize.proofs.Adding.{cut_sum}
 use Rattle.lid_emitsize.proofs.Stationed.{sizes_more}
 use Rattle.lid_emitsize.proofs.stations.stations_size.Goals as goal

@@ -1,6 +1,6 @@
 use Rattle.std.proofs.Common.{◌≡◌, take, min}
 use Rattle.lid_stations.specs.Placements.{links_of, station_count}
-use Rattle.lid_emitsize.specs.Sizes.{sizes_from}
+use Rattle.lid_emission.specs.Sizes.{sizes_from}
 use Rattle.lid_emitsize.proofs.stations.stations_size.Given as goal
 
 abbrev pub invariant-loop-c : goal.invariant-loop-c

@@ -1,6 +1,6 @@
 use Rattle.std.proofs.Common.{◌≡◌, find, drop}
 use Rattle.lid_design.specs.Columns.{is_among}
-use Rattle.lid_emitted.specs.Ports.{own_names}
+use Rattle.lid_emission.specs.Ports.{own_names}
 use Rattle.lid_emitsize.proofs.taken.first_own.Given as goal
 
 abbrev pub invariant-loop-name : goal.invariant-loop-name

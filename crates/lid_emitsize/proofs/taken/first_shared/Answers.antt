@@ -2,7 +2,7 @@ use Rattle.std.proofs.Common.{◌||◌, Bool, ◌∙◌, ap}
 use Rattle.lid_design.specs.Columns.{is_among}
 use Rattle.lid_names.proofs.Lists.{is_among_firsts}
 use Rattle.lid_ports.proofs.Sets.{find_same}
-use Rattle.lid_emitted.specs.Ports.{own_names}
+use Rattle.lid_emission.specs.Ports.{own_names}
 use Rattle.lid_emitsize.specs.Taken.{is_taken}
 use Rattle.lid_emitsize.proofs.taken.first_shared.Goals as goal
 

@@ -15,11 +15,11 @@ use Rattle.lid_system.specs.Systems as system
 use Rattle.lid_agree.specs.Agreement.{IsSystemOf}
 use Rattle.lid_stations.specs.declared.placement.Placement.{Placement}
 use Rattle.lid_stations.specs.Placements.{Links, Fits}
-use Rattle.lid_emitsize.specs.declared.fault.EmitFault.{EmitFault}
-use Rattle.lid_emitsize.specs.declared.fault.EmitFault.TheVariants.{NameTaken, TooBig}
-use Rattle.lid_emitted.specs.Ports.{input_names, output_names, taken_name}
-use Rattle.lid_emitted.specs.Runs.{face_of, RunsAs}
-use Rattle.lid_emitsize.specs.Sizes.{size}
+use Rattle.lid_emission.specs.declared.fault.EmitFault.{EmitFault}
+use Rattle.lid_emission.specs.declared.fault.EmitFault.TheVariants.{NameTaken, TooBig}
+use Rattle.lid_emission.specs.Ports.{input_names, output_names, taken_name}
+use Rattle.lid_emission.specs.Runs.{face_of, RunsAs}
+use Rattle.lid_emission.specs.Sizes.{size}
 
 -- a system of a design with a placement that fits, where the names of the root and of its ports can be written
 pub record CanBeEmitted (d : Design) (s : System) (p : Placement) : Type 0 where

@@ -6,7 +6,7 @@ use Rattle.lid_design.specs.Columns.{Column, column, root_inputs, IsStrictOutput
 use Rattle.lid_stations.specs.declared.placement.Placement.{Placement}
 use Rattle.lid_stations.specs.Placements.{Links}
 use Rattle.lid_wrapped.specs.Faces.{Face, TellsItsState, Delivers}
-use Rattle.lid_emitted.specs.Ports.{valid_name, stop_name}
+use Rattle.lid_emission.specs.Ports.{valid_name, stop_name}
 
 -- what a table of an emitted design shows, where the data outputs have these names
 abbrev pub face_of : List (List ℕ) → Table Column → Face

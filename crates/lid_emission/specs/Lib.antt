@@ -1,0 +1,4 @@
+pub mod Ports
+pub mod Runs
+pub mod Sizes
+pub mod Emitted
