@@ -51,11 +51,11 @@ def by_icarus(place: Path, text: str, rows: list[list[int]]) -> list[str]:
 
 
 def by_abc(place: Path) -> str:
-    yosys(f"read_blif {place}/e.blif; hierarchy -auto-top; opt; abc; opt_clean; write_blif {place}/o.blif")
+    yosys(f"read_blif {place}/c.blif; hierarchy -auto-top; simplemap; opt -nodffe -nosdff; abc; opt_clean; write_blif {place}/o.blif")
     began = time.monotonic()
     try:
         ran = subprocess.run(
-            ["yosys-abc", "-c", f"read_blif {place}/e.blif; print_stats; dsec {place}/e.blif {place}/o.blif"],
+            ["yosys-abc", "-c", f"dsec {place}/c.blif {place}/o.blif"],
             capture_output=True, text=True, timeout=60, check=False,
         )
     except subprocess.TimeoutExpired:
