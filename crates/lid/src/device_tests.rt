@@ -172,10 +172,10 @@ fn expect_unwritten<R: Threads + AllocGlobal + Sync + Abort>(
 #[test]
 fn each_fetch_that_fails_names_its_file(rt: HostRuntime) -> Result<(), Fail> {
     for (words, files) in JOBS {
-        let mut fetch = 1;
+        let mut fetch = 1u64;
         for file in *files {
             expect_fetch(&rt, words, fetch, file)?;
-            fetch += 1;
+            fetch = fetch.saturating_add(1);
         }
         let fetches = [fetch];
         let failing = Failing {

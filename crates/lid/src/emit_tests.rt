@@ -34,11 +34,23 @@ static EMITTED: &[(&str, &str, &str, &str)] = &[
     ),
 ];
 
-/// Runs `strict` on what `emit` prints.
-fn expect_emitted<R: Threads + AllocGlobal + Sync + Abort>(
+/// Runs `strict` on a netlist for rows.
+fn expect_strict<'x, R: Threads + AllocGlobal + Sync + Abort>(
     rt: &R,
-    net: &str,
-    stations: &str,
+    net: &'x str,
+    rows: &'x str,
+    told: &str,
+) -> Result<(), AllocError> {
+    let files = [("e.blif", net), ("r.vec", rows)];
+    let words = ["strict", "e.blif", "r.vec"];
+    expect_run(rt, &words, &files, NONE_FAILS, done(told))
+}
+
+/// Runs `strict` on what `emit` prints.
+fn expect_emitted<'x, R: Threads + AllocGlobal + Sync + Abort>(
+    rt: &R,
+    net: &'x str,
+    stations: &'x str,
     rows: &str,
     told: &str,
 ) -> Result<(), AllocError> {
@@ -49,13 +61,10 @@ fn expect_emitted<R: Threads + AllocGlobal + Sync + Abort>(
         ran.status == 0 && ran.err.written().is_empty(),
         "not emitted: {told}"
     );
-    let text = match from_utf8(ran.out.written()) {
-        Ok(text) => text,
-        Err(_) => "",
-    };
-    let files = [("e.blif", text), ("r.vec", rows)];
-    let words = ["strict", "e.blif", "r.vec"];
-    expect_run(rt, &words, &files, NONE_FAILS, done(told))
+    match from_utf8(ran.out.written()) {
+        Ok(text) => expect_strict(rt, text, rows, told),
+        Err(_) => expect_strict(rt, "", rows, told),
+    }
 }
 
 #[test]
