@@ -1,8 +1,12 @@
 -- What an emitted design is to the design that it was made from, and why there is none.
-use Rattle.std.specs.Prelude.{◌≡◌, ℕ, nat_lt, if◌then◌else◌, Bool, List, [], ◌∷◌, Option, Some, None}
+use Rattle.std.specs.Prelude.{◌≡◌, ◌⊎◌, ⊤, ℕ, nat_lt, if◌then◌else◌, Bool, List, [], ◌∷◌, Option, Some, None}
 use Rattle.std.specs.List.{AllByRecursion}
 use Rattle.lid_design.specs.declared.Design.{Design}
 use Rattle.lid_design.specs.declared.Model.{Model}
+use Rattle.lid_design.specs.declared.Cell.{Cell}
+use Rattle.lid_design.specs.declared.Cell.TheVariants.{Names, Latch}
+use Rattle.lid_design.specs.declared.LatchKind.TheVariants.{Plain}
+use Rattle.lid_design.specs.declared.Init.TheVariants.{Zero, One}
 use Rattle.std.specs.Prelude.{slice_get}
 use Rattle.lid_design.specs.Network.{Table, IsStrict}
 use Rattle.lid_design.specs.Columns.{Column, drivers, root_inputs, root_outputs}
@@ -38,8 +42,13 @@ fault_of None count = if nat_lt 16384 count then Some (TooBig count) else None
 abbrev pub emit_fault : Design → Links → Placement → Option EmitFault
 emit_fault d l p = fault_of (taken_name d) (size d l p)
 
+-- a cover, or a latch that names no clock and begins with 0 or 1
+abbrev pub IsBegun : Cell → Type 0
+IsBegun (Names inputs out cover) = ⊤
+IsBegun (Latch input out kind control init) = (kind ≡ Plain) × (control ≡ None) × ((init ≡ Zero) ⊎ (init ≡ One))
+
 -- a design of one model with the root's name and ports, and the two inputs and two outputs of its environment, without
--- clocks and instances. It is accepted, and can be written
+-- clocks and instances. It is accepted, can be written, and runs as the design
 pub record IsEmitted (d : Design) (l : Links) (p : Placement) (e : Design) : Type 0 where
   pub model : Model
   pub one : e.models ≡ model ∷ []
@@ -49,6 +58,7 @@ pub record IsEmitted (d : Design) (l : Links) (p : Placement) (e : Design) : Typ
   pub outputs : model.outputs ≡ output_names d
   pub clocks : model.clocks ≡ []
   pub insts : model.insts ≡ []
+  pub latches : AllByRecursion IsBegun model.cells
   pub formed : IsWellFormed e
   pub accepted : IsAccepted e
   pub writable : IsWritable e

@@ -16,7 +16,8 @@ face_of outputs b = record {
   row = λ k. map (λ net. b k (column [] net)) outputs;
 }
 
--- in each cycle it tells its state, and it delivers the strict outputs of the design for the rows that it accepts
+-- in each cycle it tells its state, and the rows that it delivers are the strict outputs of the design for those that
+-- it accepts
 pub record RunsAs (d : Design) (l : Links) (p : Placement) (rows : List (List Bool)) (face : Face) : Type 0 where
   pub tells : TellsItsState l p (length (root_inputs d)) rows face
   pub delivers : Delivers l p (length (root_inputs d)) rows face (IsStrictOutput d)

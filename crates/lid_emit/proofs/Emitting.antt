@@ -44,10 +44,10 @@ use Rattle.lid_wirenames.proofs.Naming.{all_named, is_naming}
 use Rattle.lid_cells.specs.declared.all.All.{All}
 use Rattle.lid_cells.specs.Shown.{ports_of}
 use Rattle.lid_emission.specs.Sizes.{ports_size, size}
-use Rattle.lid_emission.specs.Emitted.{CanBeEmitted, IsEmitted}
+use Rattle.lid_emission.specs.Emitted.{CanBeEmitted, IsEmitted, IsBegun}
 use Rattle.lid_emit.specs.Steps.{root_name, name_with, IsLaidOut, AreCells, model_with, design_with, IsWithin}
 use Rattle.lid_emit.proofs.Words.{two_inputs, two_outputs, wire_word}
-use Rattle.lid_emit.proofs.Written.{cells_written}
+use Rattle.lid_emit.proofs.Written.{cells_written, cells_begun}
 use Rattle.lid_emit.proofs.Ports.{ports_distinct, ports_free}
 use Rattle.lid_emit.proofs.Numbers.{nets_few, are_small}
 
@@ -195,6 +195,7 @@ module _ (d : Design) (s : System) (p : Placement) (can : CanBeEmitted d s p) (f
         outputs = refl;
         clocks = refl;
         insts = refl;
+        latches = subst (AllByRecursion IsBegun) (sym cells_same) (cells_begun q con name words);
         formed = subst IsWellFormed (sym is_named) (wells q name (root_name d) con);
         accepted = subst IsAccepted (sym is_named) (accepts q name (root_name d) con naming few_wires (omega (arith, narrow)));
         writable = writable;

@@ -1,11 +1,12 @@
 -- The cells of named wires can be written.
-use Rattle.std.proofs.Common.{◌≡◌, ℕ, inl, inr, Bool, true, false, List, [], ◌∷◌, map, refl, sym, ◌∙◌, subst}
+use Rattle.std.proofs.Common.{◌≡◌, ◌⊎◌, ℕ, inl, inr, Bool, true, false, List, [], ◌∷◌, map, refl, sym, ◌∙◌, subst}
 use Rattle.std.specs.List.{AllByRecursion}
 use Rattle.std.proofs.lemmas.List.{length-map}
 use Rattle.lid_base.specs.Lists.{Among}
 use Rattle.lid_base.proofs.Lists.{among_left}
 use Rattle.lid_cover.specs.declared.Cube.{Cube}
 use Rattle.lid_design.specs.declared.Cell.{Cell}
+use Rattle.lid_design.specs.declared.Init.TheVariants.{Zero, One}
 use Rattle.lid_design.specs.Network.{Driver, from_input, from_latch, from_cover, from_connection}
 use Rattle.lid_pearl.proofs.Reordering.{all_from_each}
 use Rattle.lid_lines.specs.Spelled.{IsSpelled}
@@ -15,7 +16,8 @@ use Rattle.lid_circuit.specs.Plans.{Plan}
 use Rattle.lid_circuit.specs.Network.{emitted}
 use Rattle.lid_wires.specs.Known.{IsKnown}
 use Rattle.lid_wires.specs.Connected.{IsConnected, IsFormed}
-use Rattle.lid_named.specs.Named.{with_rows, cell_of}
+use Rattle.lid_emission.specs.Emitted.{IsBegun}
+use Rattle.lid_named.specs.Named.{with_rows, init_of, cell_of}
 use Rattle.lid_named.proofs.Written.{written_formed, written_inputs}
 use Rattle.lid_named.proofs.Cells.{cells, listed_known, listed_cell, from_where, same_source, reads_known}
 
@@ -24,6 +26,11 @@ on_without_rows : (inputs : ℕ) (on : Bool) (cubes : List Cube) → (with_rows 
 on_without_rows inputs true cubes none = refl
 on_without_rows inputs false [] none = refl
 on_without_rows inputs false (cube ∷ cubes) none = absurd (let e : cube ∷ cubes ≡ [] = none in cc)
+
+-- a latch begins with 0 or 1
+begun : (bit : Bool) → (init_of bit ≡ Zero) ⊎ (init_of bit ≡ One)
+begun true = inr refl
+begun false = inl refl
 
 module _ (q : Plan) (con : IsConnected q) (name : Wire → List ℕ) (words : (w : Wire) → IsKnown q w → IsSpelled 1024 (name w)) where
   read_words : (reads : List Wire) → ((r : Wire) → Among r reads → IsKnown q r) → AllByRecursion (IsSpelled 1024) (map name reads)
@@ -68,6 +75,17 @@ module _ (q : Plan) (con : IsConnected q) (name : Wire → List ℕ) (words : (w
           count = written_inputs cover ∙ formed.1 ∙ sym (length-map reads name);
           constant = on_without_rows cover.inputs cover.on cover.cubes;
         }
+
+    cell_begun : (s : Driver Wire) → Among cell (cell_of name wire s) → IsBegun cell
+    cell_begun (from_input j) none = absurd none
+    cell_begun (from_connection c) none = absurd none
+    cell_begun (from_latch first input) (inr none) = absurd none
+    cell_begun (from_cover cover reads) (inr none) = absurd none
+    cell_begun (from_latch first input) (inl is) = subst IsBegun (sym is) (refl, refl, begun first)
+    cell_begun (from_cover cover reads) (inl is) = subst IsBegun (sym is) tt
+
+  pub cells_begun : AllByRecursion IsBegun (cells q con name)
+  cells_begun = all_from_each IsBegun (cells q con name) (λ cell among. cell_begun cell among (from_where q con name cell among).source (from_where q con name cell among).is)
 
   pub cells_written : AllByRecursion IsWritableCell (cells q con name)
   cells_written = all_from_each IsWritableCell (cells q con name) (λ cell among. cell_written cell among (from_where q con name cell among).source (from_where q con name cell among).drives (from_where q con name cell among).is)

@@ -7,4 +7,5 @@ mod naming;
 mod refusals;
 mod wrapping;
 
+pub use lid_emission::EmitFault;
 pub use wrapping::emit;

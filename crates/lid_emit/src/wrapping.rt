@@ -24,7 +24,8 @@ use std::alloc::{AllocError, Global};
 /// those of its environment.
 ///
 /// # Errors
-/// The first name that is taken, and else a size over 16,384. `Memory` where there is no memory.
+/// `NameTaken` with the first name that is taken, and else `TooBig` with a size over 16,384. `Memory` where there
+/// is no memory, and where the design would exceed a limit of designs that are read, which none is known to do.
 pub fn emit(
     alloc: Global,
     checked: &Checked,

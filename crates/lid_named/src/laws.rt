@@ -4,8 +4,9 @@ ghost use Rattle.lid_named.specs.Laws.{NamedDesignsAreWellFormed, NamedDesignsAr
 
 use lid_acceptance::one_model_is_accepted;
 
-/// A design whose nets are the wires of a plan, each under a name of its own, is well formed and accepted,
-/// where it has at most 262,144 cells, and its strict tables are those of the network.
+/// A design whose nets are the wires of a plan that is connected is well formed. Where each wire has a name of
+/// its own, its strict tables are those of the network, and it is accepted if it has at most 262,144 cells and
+/// 786,430 inputs.
 pub fn named_designs_are_accepted()
     ensures formed { NamedDesignsAreWellFormed }
     ensures accepted { NamedDesignsAreAccepted }

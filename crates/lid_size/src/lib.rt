@@ -1,4 +1,4 @@
-//! Sizing of stations: the least capacities with which relay stations cost no throughput.
+//! Sizing of stations: the least capacities that cost no throughput, so that the edges forth alone bound it.
 #![tactic(auto)]
 
 mod choosing;

@@ -19,13 +19,13 @@ WrappedSystemsTellTheirState =
     → IsWellFormed s → Fits s p → IsStrict (wrapped s p n) rows b
     → TellsItsState (links_of s) p (input_count s) rows (face_of s b)
 
--- and the rows that it delivers are the outputs for those that it accepts
+-- and where the nets follow the tables, the rows that it delivers are the outputs for those that it accepts
 abbrev pub WrappedSystemsDeliver : Type 0
 WrappedSystemsDeliver =
     (s : System) (p : Placement) (n : Nets) (rows : List (List Bool)) (b : Table Wire)
     → IsWellFormed s → Fits s p → AreNets s p n → FollowTables s n → IsStrict (wrapped s p n) rows b
     → Delivers (links_of s) p (input_count s) rows (face_of s b) (IsOutput s)
 
--- the wires of a wrapped system are connected
+-- the wires of a wrapped system whose nets have wires are connected
 abbrev pub WrappedSystemsAreConnected : Type 0
 WrappedSystemsAreConnected = (s : System) (p : Placement) (n : Nets) → IsWellFormed s → Fits s p → AreNets s p n → IsConnected (plan_of s p n)
