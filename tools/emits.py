@@ -36,7 +36,7 @@ def size_of(judge: Judge, chans: list, relays: list[int], caps: list[int]) -> in
 
 def refusal(judge: Judge, size: int) -> str | None:
     ins, outs = judge.data_inputs(judge.root), judge.root.outputs
-    taken = [n for n in ins if n in OWN] + [n for n in outs if n in OWN or n in ins]
+    taken = [n for n in ins if n in OWN or n in outs] + [n for n in outs if n in OWN]
     if taken:
         return f"lid: emit NameTaken {taken[0]}\n"
     return f"lid: emit TooBig {size}\n" if size > 16384 else None

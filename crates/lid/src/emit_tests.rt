@@ -77,9 +77,19 @@ fn wrapped_designs_put_out_what_their_stations_hold(rt: HostRuntime) -> Result<(
 
 /// Netlists whose ports have names that are taken, and what is said.
 static TAKEN: &[(&str, &str)] = &[
-    // an output that is a data input too
+    // a data input that is an output too
     (
         ".model t\n.inputs a\n.outputs a\n.subckt e\n.end\n.model e\n.end\n",
+        "lid: emit NameTaken a\n",
+    ),
+    // the first data input that is an output too is told, not the first such output
+    (
+        ".model t\n.inputs a b\n.outputs b a\n.subckt e\n.end\n.model e\n.end\n",
+        "lid: emit NameTaken a\n",
+    ),
+    // it is told like one that has a name that is wanted
+    (
+        ".model t\n.inputs a li_in_stop\n.outputs a\n.subckt e\n.end\n.model e\n.end\n",
         "lid: emit NameTaken a\n",
     ),
     // an input is told before an output

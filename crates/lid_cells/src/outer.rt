@@ -5,7 +5,7 @@ ghost use Rattle.lid_design.specs.Network.{from_each};
 ghost use Rattle.lid_circuit.specs.Wires as circuit;
 ghost use Rattle.lid_circuit.specs.Plans.{Plan};
 ghost use Rattle.lid_wires.specs.Lists.{outer_wires};
-ghost use Rattle.lid_cells.specs.Shown.{wire_of, cells_by};
+ghost use Rattle.lid_cells.specs.Shown.{cells_by};
 ghost use Rattle.lid_cells.specs.Matches.{IsOuterOf};
 
 use crate::cell::{cover_cell, cover_of};

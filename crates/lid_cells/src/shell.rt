@@ -16,7 +16,7 @@ use crate::cell::{copy_cover, cover_cell, cover_of, latch_cell};
 use crate::names::Naming;
 use crate::wire::Wire;
 use lid_base::Items;
-use lid_cover::{Cover, Cube};
+use lid_cover::Cube;
 use lid_design::{Cell, Flat, FlatCover, FlatLatch};
 use std::alloc::{AllocError, Global};
 

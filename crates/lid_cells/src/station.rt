@@ -122,6 +122,7 @@ fn push_grown(
     requires small { station.now.capacity ≤ 16 }
     ensures { OnOk result ((q : Plan) → IsStationOf q s station.now → cells.new.items ≡ cells.old.items ++ cells_by q naming.entry (grown s (i + 1))) }
 {
+    // drained and filled: its own level; drained alone: the next; filled alone: the one before; neither: its own
     let cubes = [
         Cube {
             care: 11,
@@ -184,7 +185,8 @@ fn push_place(
     Ok(())
 }
 
-/// Pushes what bit j of the token in place i of a station becomes.
+/// Pushes what bit j of the token in place i of a station becomes. Drained: the bit of the next place where a
+/// token stands there, else what is put. Not drained: its own where a token stands here, else what is put.
 fn push_moved(
     alloc: Global,
     naming: Naming<'_>,

@@ -19,11 +19,11 @@ pub enum Wire {
     Fire(u32),
     /// A station holds at least so many tokens.
     Level(u32, u32),
-    /// And after this cycle.
+    /// A station holds at least so many tokens after this cycle.
     Grown(u32, u32),
     /// A station, a place in it, and a bit of the token there.
     Place(u32, u32, u32),
-    /// And after this cycle.
+    /// The bit of a place after this cycle.
     Moved(u32, u32, u32),
     /// A shell and a net of its pearl.
     Now(u32, u32),

@@ -33,9 +33,9 @@ abbrev pub or_else : {A : Type 0} → Option A → Option A → Option A
 or_else (Some x) other = Some x
 or_else None other = other
 
--- the first data input of the root that has one of the four names, else the first output that has one, or is a data input too
+-- the first data input of the root that has one of the four names or is an output too, else the first output that has one
 unfoldable pub taken_name : Design → Option (List ℕ)
 taken_name d =
     or_else
-    (find (λ name. is_among name own_names) (root_inputs d))
-    (find (λ name. is_among name own_names || is_among name (root_inputs d)) (root_outputs d))
+    (find (λ name. is_among name own_names || is_among name (root_outputs d)) (root_inputs d))
+    (find (λ name. is_among name own_names) (root_outputs d))

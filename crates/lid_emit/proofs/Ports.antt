@@ -79,24 +79,24 @@ module _ (d : Design) (formed : IsWellFormed d) (accepted : IsAccepted d) where
       by (Some m) here = once_apart m.outputs (outputs_apart d (judged_of d formed accepted.models) d.root (root_reached d) m here)
 
   module _ (free : taken_name d ≡ None) where
-    searches : (find (λ name. is_among name own_names) (root_inputs d) ≡ None) × (find (λ name. is_among name own_names || is_among name (root_inputs d)) (root_outputs d) ≡ None)
+    searches : (find (λ name. is_among name own_names || is_among name (root_outputs d)) (root_inputs d) ≡ None) × (find (λ name. is_among name own_names) (root_outputs d) ≡ None)
     unfolding taken_name
-    searches = neither (find (λ name. is_among name own_names) (root_inputs d)) (find (λ name. is_among name own_names || is_among name (root_inputs d)) (root_outputs d)) free
+    searches = neither (find (λ name. is_among name own_names || is_among name (root_outputs d)) (root_inputs d)) (find (λ name. is_among name own_names) (root_outputs d)) free
 
     no_own : (name : List ℕ) → is_among name own_names ≡ false → Among name own_names → ⊥
     no_own name none there = let e : true ≡ false = sym (from_among name own_names there) ∙ none in cc
 
-    input_own : (name : List ℕ) → Among name (root_inputs d) → Among name own_names → ⊥
-    input_own name there own = no_own name (none_found (λ name. is_among name own_names) (root_inputs d) searches.0 name there) own
+    input_parts : (name : List ℕ) → Among name (root_inputs d) → (is_among name own_names ≡ false) × (is_among name (root_outputs d) ≡ false)
+    input_parts name there = or_parts (is_among name own_names) (is_among name (root_outputs d)) (none_found (λ name. is_among name own_names || is_among name (root_outputs d)) (root_inputs d) searches.0 name there)
 
-    output_parts : (name : List ℕ) → Among name (root_outputs d) → (is_among name own_names ≡ false) × (is_among name (root_inputs d) ≡ false)
-    output_parts name there = or_parts (is_among name own_names) (is_among name (root_inputs d)) (none_found (λ name. is_among name own_names || is_among name (root_inputs d)) (root_outputs d) searches.1 name there)
+    input_own : (name : List ℕ) → Among name (root_inputs d) → Among name own_names → ⊥
+    input_own name there own = no_own name (input_parts name there).0 own
 
     output_own : (name : List ℕ) → Among name (root_outputs d) → Among name own_names → ⊥
-    output_own name there own = no_own name (output_parts name there).0 own
+    output_own name there own = no_own name (none_found (λ name. is_among name own_names) (root_outputs d) searches.1 name there) own
 
     output_input : (name : List ℕ) → Among name (root_outputs d) → Among name (root_inputs d) → ⊥
-    output_input name there also = let e : true ≡ false = sym (from_among name (root_inputs d) also) ∙ (output_parts name there).1 in cc
+    output_input name there also = let e : true ≡ false = sym (from_among name (root_outputs d) there) ∙ (input_parts name also).1 in cc
 
     first_own : (name : List ℕ) → Among name (offer_name ∷ block_name ∷ []) → Among name own_names
     first_own name there = among_left name (offer_name ∷ block_name ∷ []) (valid_name ∷ stop_name ∷ []) there

@@ -7,8 +7,7 @@ ghost use Rattle.lid_emitsize.specs.Prefixes.{IsShort, IsLonger, begins, count_w
 use lid_base::Name;
 use std::alloc::{AllocError, Global};
 
-/// A prefix with which none of these names begins: at each letter that of `a` and `b` with which fewer of
-/// the names that are left go on, so that at most half of them are left.
+/// A prefix of 1 to 15 letters `a` and `b` with which none of these names begins.
 ///
 /// # Errors
 /// Where there is no memory.
@@ -17,6 +16,7 @@ pub fn free_prefix(alloc: Global, inputs: &[Name], outputs: &[Name]) -> Result<V
     ensures free { IfOk result (λ prefix. IsFree prefix.items (inputs.now ++ outputs.now)) }
     ensures short { IfOk result (λ prefix. IsShort prefix.items) }
 {
+    // each letter leaves at most half of the names that began with the prefix
     let mut prefix = longer(alloc, &[], inputs, outputs)?;
     for _ in 1..15u32 {
         if count(prefix.as_slice(), inputs, outputs) == 0 {

@@ -11,8 +11,8 @@ use lid_check::Checked;
 use lid_names::{NameSet, set_of};
 use std::alloc::{AllocError, Global};
 
-/// The first name of a data input or output of the root that the emitted design needs for itself, or that an
-/// output shares with a data input.
+/// The first data input of the root that the emitted design needs for itself, or that is an output too. Where
+/// there is none, the first output that it needs for itself.
 ///
 /// # Errors
 /// Where there is no memory.
@@ -34,8 +34,8 @@ fn copy_found(alloc: Global, name: Option<&[u8]>) -> Result<Option<Name>, AllocE
     }
 }
 
-/// The first name of a data input or output that the emitted design needs for itself, or that an output
-/// shares with a data input.
+/// The first input that the emitted design needs for itself, or that is an output too. Where there is none, the
+/// first output that it needs for itself.
 fn first_taken<'n>(
     alloc: Global,
     inputs: &'n [Name],
@@ -43,9 +43,9 @@ fn first_taken<'n>(
 ) -> Result<Option<&'n [u8]>, AllocError>
     ensures { IfOk result (λ name. option_map (λ (r : Bor (List ℕ)). r.now) name ≡ taken_in inputs.now outputs.now) }
 {
-    match first_own(inputs) {
+    match first_shared(alloc, inputs, outputs)? {
         Some(name) => Ok(Some(name)),
-        None => first_shared(alloc, inputs, outputs),
+        None => Ok(first_own(outputs)),
     }
 }
 
@@ -61,24 +61,24 @@ fn first_own<'n>(names: &'n [Name]) -> Option<&'n [u8]>
     None
 }
 
-/// The first output that the emitted design needs for itself, or that is a data input too.
+/// The first input that the emitted design needs for itself, or that is an output too.
 fn first_shared<'n>(
     alloc: Global,
-    inputs: &[Name],
-    outputs: &'n [Name],
+    inputs: &'n [Name],
+    outputs: &[Name],
 ) -> Result<Option<&'n [u8]>, AllocError>
-    ensures { IfOk result (λ name. option_map (λ (r : Bor (List ℕ)). r.now) name ≡ find (is_taken inputs.now) outputs.now) }
+    ensures { IfOk result (λ name. option_map (λ (r : Bor (List ℕ)). r.now) name ≡ find (is_taken outputs.now) inputs.now) }
 {
-    let inputs = set_of(alloc, inputs)?;
-    Ok(first_of(&inputs, outputs))
+    let outputs = set_of(alloc, outputs)?;
+    Ok(first_of(inputs, &outputs))
 }
 
-/// The first output that the emitted design needs for itself, or that is in a set.
-fn first_of<'n>(inputs: &NameSet<'_>, outputs: &'n [Name]) -> Option<&'n [u8]>
-    ensures { option_map (λ (r : Bor (List ℕ)). r.now) result ≡ find (is_taken inputs.now) outputs.now }
+/// The first input that the emitted design needs for itself, or that is in a set.
+fn first_of<'n>(inputs: &'n [Name], outputs: &NameSet<'_>) -> Option<&'n [u8]>
+    ensures { option_map (λ (r : Bor (List ℕ)). r.now) result ≡ find (is_taken outputs.now) inputs.now }
 {
-    for name in outputs {
-        if is_own(name.as_slice()) || inputs.has(name.as_slice()) {
+    for name in inputs {
+        if is_own(name.as_slice()) || outputs.has(name.as_slice()) {
             return Some(name.as_slice());
         }
     }

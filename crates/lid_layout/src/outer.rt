@@ -20,7 +20,7 @@ use lid_stations::Placement;
 use lid_system::{InBit, Node, System, shells_stand_between_source_and_sink};
 use std::alloc::{AllocError, Global};
 
-/// How many data inputs, and how many data outputs, there may be.
+/// With at most so many data inputs or outputs numbers stay below 2^32; accepted designs have at most 1,048,576.
 const MOST: usize = 2147483648;
 
 /// How many data inputs there are.

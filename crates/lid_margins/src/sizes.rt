@@ -55,8 +55,8 @@ fn append_end(system: &System, end: &SizeEnd, into: &mut Vec<u8>) -> Result<(), 
     }
 }
 
-/// The least capacities with which the relay stations of a placement cost no throughput that they need not, as
-/// a text of stations; or where there are none, a line that says where it falls short.
+/// The first capacities of all stations with which the relay stations of a placement cost no throughput that
+/// they need not, as a text of stations; or where there are none, a line that says where it falls short.
 ///
 /// # Errors
 /// Where there is no memory.

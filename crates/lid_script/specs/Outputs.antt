@@ -35,7 +35,7 @@ pub data Output : Type 0 where
   strict_output : Design → List (List Bool) → Output  -- the strict outputs of a design for rows
   placed : Links → Placement → Output  -- the relay stations of a placement
   throughput : Links → Placement → Output  -- the throughput of a placement
-  sized : Links → Placement → Output  -- the capacities that keep the throughput of a placement's relay stations
+  sized : Links → Placement → Output  -- the first capacities with which the relay stations of a placement cost no throughput that they need not
   slacks : Links → Placement → Output  -- the slack of each channel
   verdict : Links → Cert → Output  -- what a certificate shows
   clocked : Design → Links → Placement → List (List Bool) → Option (List Stall) → Option ℕ → Output  -- the clocked run for rows, under stalls where they are given, with its trace where one is asked for

@@ -1,4 +1,4 @@
-//! Sizing of stations: the least capacities that cost no throughput, so that the edges forth alone bound it.
+//! Sizing of stations: the first capacities with which relay stations cost no throughput that they need not.
 #![tactic(auto)]
 
 mod choosing;

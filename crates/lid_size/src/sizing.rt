@@ -137,11 +137,11 @@ fn widest(alloc: Global, placement: &Placement) -> Result<Placement, AllocError>
     placement_of(alloc, placement.relays.as_slice(), caps)
 }
 
-/// The least capacities of the relay stations of a placement that cost no throughput: of all lists of
-/// capacities from 2 to 16, in the order of station numbers, the lexicographically first with which the
-/// ratio of each component of the marking is that of its edges forth and self edges alone. Where there is
-/// none, the first component that falls short, and a certificate of the marking with 16 everywhere. The
-/// capacities of the placement are not looked at.
+/// The first capacities of all stations, home stations too, with which the relay stations of a placement
+/// cost no throughput that they need not: of all lists of capacities from 2 to 16, in the order of station
+/// numbers, the lexicographically first with which the ratio of each component of the marking is that of its
+/// edges forth and self edges alone. Where there is none, the first component that falls short, and a
+/// certificate of the marking with 16 everywhere. The capacities of the placement are not looked at.
 ///
 /// # Errors
 /// Where there is no memory.

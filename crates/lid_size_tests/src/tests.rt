@@ -2,15 +2,20 @@
 //! closed walks.
 
 ghost use Rattle.std.specs.Prelude.{IfSome};
+ghost use Rattle.lid_graph.specs.Rateable.{IsRateable};
 ghost use Rattle.lid_system.specs.Systems.{IsWellFormed};
 
 use lid_check::{Checked, check};
+use lid_graph::Graph;
 use lid_net::build;
 use lid_placetext::read_stations;
+use lid_rate::find;
+use lid_ratio::Ratio;
 use lid_size::{SizeEnd, size};
-use lid_stations::Placement;
+use lid_sizeguess::{Sizes, propose_forwards, propose_sizes};
+use lid_stations::{Placement, marking};
 use lid_system::System;
-use std::alloc::Global;
+use std::alloc::{AllocError, Global};
 
 /// A ring of two registers, with the channels `u0 u1 0`, `u1 u0 0` and `u1 out 0`.
 const RING: &[u8] = b".model ring\n.outputs y\n.subckt reg0 d=y q=w\n.subckt reg1 d=w q=y\n.end\n\
@@ -31,6 +36,17 @@ const APART: &[u8] =
 .subckt reg d=a q=b\n.end\n\
 .model reg\n.inputs d\n.outputs q\n.latch d q 0\n.end\n\
 .model xr\n.inputs a b\n.outputs q\n.names a b n\n10 1\n01 1\n.latch n q 0\n.end\n";
+
+/// What `gen 209 --shells 2` makes, without the models that it does not use. Its channels are `in u0 0`, `in u1 0`,
+/// `in out 0`, `u0 u1 0`, `u0 out 0` and `u1 u0 0`, and the last draws give them 0, 2, 0, 0, 1 and 1 relay stations.
+const MADE: &[u8] =
+    b".model gen\n.inputs x0 x1 x2 x3\n.outputs y0 y1 y2 y3\n.names x3 y0\n1 1\n.names n0_q y1\n1 1\n\
+.names n0_r y2\n1 1\n.names n0_q y3\n1 1\n.subckt cel1 a=x0 b=n1_r q=n0_q r=n0_r\n\
+.subckt cel2 a=n0_q b=x0 q=n1_q r=n1_r\n.end\n\
+.model cel1\n.inputs a b\n.outputs q r\n.names a b dq\n11 1\n.names b q dr\n10 1\n01 1\n\
+.latch dq q 0\n.latch dr r 1\n.end\n\
+.model cel2\n.inputs a b\n.outputs q r\n.names a b dq\n1- 1\n-1 1\n.names b q dr\n10 1\n01 1\n\
+.latch dq q 0\n.latch dr r 1\n.end\n";
 
 /// A netlist, its stations as a text, and the relay stations and capacities that are answered.
 type Reached = (&'static [u8], &'static [u8], &'static [u32], &'static [u32]);
@@ -64,6 +80,60 @@ static REACHED: [Reached; 5] = [
         &[0, 3, 0, 0, 0],
         &[2, 2, 2, 2, 2, 2, 2, 5],
     ),
+];
+
+/// A netlist, its stations as a text with 16 places each, the forward ratio of their component, and the capacities.
+type Wide = (&'static [u8], &'static [u8], u64, u64, &'static [u32]);
+
+/// The ring, the diamond, and the generated system, whose loop of three stations has two tokens. Its capacities are
+/// those that come first by the ratios of all its closed walks (`tools/margins.py`).
+static WIDE: [Wide; 3] = [
+    (
+        RING,
+        b"lid-stations 2\nu0 u1 0 1 16 16\nu1 u0 0 0 16\nu1 out 0 0 16\n",
+        2,
+        3,
+        &[2, 2, 2, 2],
+    ),
+    (
+        DIAMOND,
+        b"lid-stations 2\nin u0 0 0 16\nu0 u1 0 3 16 16 16 16\nu0 u2 0 0 16\nu1 out 0 0 16\nu2 u1 0 0 16\n",
+        1,
+        1,
+        &[2, 2, 2, 2, 2, 2, 2, 5],
+    ),
+    (
+        MADE,
+        b"lid-stations 2\nin u0 0 0 16\nin u1 0 2 16 16 16\nin out 0 0 16\nu0 u1 0 0 16\nu0 out 0 1 16 16\n\
+u1 u0 0 1 16 16\n",
+        2,
+        3,
+        &[3, 2, 2, 2, 4, 2, 2, 2, 2, 2],
+    ),
+];
+
+/// The closed walks of the guesses, and where they end. Each is the only one without a transition twice that stands
+/// against one place less, with 16 for all later stations.
+type Walks = (&'static [u32], &'static [u32]);
+
+static WALKS: [Walks; 3] = [
+    (&[], &[0, 0, 0, 0]),
+    (&[11, 2, 4, 6, 8, 15], &[0, 0, 0, 0, 0, 0, 0, 6]),
+    (
+        &[2, 4, 6, 16, 18, 1, 2, 4, 6, 16, 18, 12, 14, 9],
+        &[6, 6, 6, 6, 14, 14, 14, 14, 14, 14],
+    ),
+];
+
+/// The least transition of the component of each transition, how many edges the closed walks have that are guessed of
+/// the components, and the greatest P*edges - Q*tokens over the forward walks that end at each transition, where P/Q is
+/// the forward ratio.
+type Forward = (&'static [u32], usize, &'static [u64]);
+
+static FORWARDS: [Forward; 3] = [
+    (&[0, 1, 1, 1, 1], 4, &[0, 1, 2, 1, 0]),
+    (&[0, 0, 0, 0, 0, 0, 0, 0], 1, &[0, 0, 3, 0, 3, 0, 1, 2]),
+    (&[0, 0, 0, 0, 0, 0, 0, 0], 3, &[0, 5, 4, 6, 0, 2, 4, 3]),
 ];
 
 /// The system of an accepted design.
@@ -142,6 +212,72 @@ fn falls(alloc: Global, netlist: &[u8], stations: &[u8]) -> Option<Falls> {
     }
 }
 
+/// The marked graph of a netlist with stations as a text.
+fn graph_of(alloc: Global, netlist: &[u8], stations: &[u8]) -> Option<Graph>
+    ensures { IfSome result IsRateable }
+{
+    let Some(system) = system_of(alloc, netlist) else {
+        return None;
+    };
+    let Ok(placement) = read_stations(alloc, stations, &system) else {
+        return None;
+    };
+    match marking(alloc, &system, &placement) {
+        Ok(graph) => Some(graph),
+        Err(_) => None,
+    }
+}
+
+/// The guess for so many stations of a graph, where each component is to have the ratio p/q.
+fn guess(alloc: Global, graph: &Graph, stations: u32, p: u64, q: u64) -> Result<Sizes, AllocError>
+    requires { IsRateable graph.now }
+{
+    let cert = find(alloc, graph)?;
+    let wants = Vec::from_elem(alloc, Ratio { p, q }, graph.nodes as usize)?;
+    propose_sizes(alloc, graph, stations, &wants, &cert)
+}
+
+/// The guess for a netlist with stations as a text.
+fn guessed(alloc: Global, case: Wide) -> Option<Sizes> {
+    let (netlist, stations, p, q, caps) = case;
+    let Some(graph) = graph_of(alloc, netlist, stations) else {
+        return None;
+    };
+    let count = u32::try_from(caps.len()).unwrap_or(0);
+    match guess(alloc, &graph, count, p, q) {
+        Ok(sizes) => Some(sizes),
+        Err(_) => None,
+    }
+}
+
+/// Whether just the capacities are guessed, with these closed walks.
+fn is_guessed(alloc: Global, case: Wide, walks: Walks) -> bool {
+    let (_, _, _, _, caps) = case;
+    let (edges, ends) = walks;
+    match guessed(alloc, case) {
+        Some(sizes) => {
+            are_same(sizes.caps.as_slice(), caps)
+                && are_same(sizes.walks.as_slice(), edges)
+                && are_same(sizes.ends.as_slice(), ends)
+        }
+        None => false,
+    }
+}
+
+/// Whether these labels are guessed, with closed walks of so many edges in all.
+fn is_forward(alloc: Global, case: Wide, forward: Forward) -> bool {
+    let (netlist, stations, _, _, caps) = case;
+    let (least, steps, labels) = forward;
+    let Some(graph) = graph_of(alloc, netlist, stations) else {
+        return false;
+    };
+    let count = u32::try_from(caps.len()).unwrap_or(0);
+    match propose_forwards(alloc, &graph, count, least) {
+        Ok(found) => found.walks.len() == steps && found.labels.as_slice() == labels,
+        Err(_) => false,
+    }
+}
+
 #[test]
 fn the_first_capacities_that_reach(rt: HostRuntime) {
     for case in &REACHED {
@@ -159,4 +295,26 @@ fn a_long_way_falls_short(rt: HostRuntime) {
 fn the_second_part_falls_short(rt: HostRuntime) {
     let told = falls(rt.alloc(), APART, b"lid-stations 1\nu0 u1 0 29\n");
     assert!(rt; told == Some((1, 31, 32, 1, 1)));
+}
+
+#[test]
+fn no_capacity_of_a_ring_is_guessed_above_two(rt: HostRuntime) {
+    assert!(rt; is_guessed(rt.alloc(), WIDE[0], WALKS[0]));
+}
+
+#[test]
+fn the_capacities_of_a_diamond_are_guessed(rt: HostRuntime) {
+    assert!(rt; is_guessed(rt.alloc(), WIDE[1], WALKS[1]));
+}
+
+#[test]
+fn the_capacities_of_a_generated_system_are_guessed(rt: HostRuntime) {
+    assert!(rt; is_guessed(rt.alloc(), WIDE[2], WALKS[2]));
+}
+
+#[test]
+fn forward_ratios_are_guessed(rt: HostRuntime) {
+    assert!(rt; is_forward(rt.alloc(), WIDE[0], FORWARDS[0]));
+    assert!(rt; is_forward(rt.alloc(), WIDE[1], FORWARDS[1]));
+    assert!(rt; is_forward(rt.alloc(), WIDE[2], FORWARDS[2]));
 }

@@ -12,17 +12,17 @@ ghost use Rattle.lid_slack.specs.Trials.{CanTry, IsPresent, IsMost, IsFound};
 use crate::answer::{Slack, SlackAndNext};
 use crate::bisection::bisect;
 use crate::certified::{Certified, certify};
-use crate::proposal::propose;
 use crate::trial::{attempt, lowers, part_of, producer, ratio_of};
 use lid_base::Items;
 use lid_cert::Cert;
 use lid_longer::{room, stations_through};
 use lid_ratio::Ratio;
+use lid_slackguess::propose_slack;
 use lid_stations::Placement;
 use lid_system::System;
 use std::alloc::{AllocError, Global};
 
-/// The present ratio of the channel's component, and a guess of the slack, of `most` at most.
+/// The present ratio of the channel's component, and a guess of the slack.
 #[derive(Clone, Copy)]
 struct Opening {
     present: Ratio,
@@ -47,7 +47,7 @@ fn open(
     let ratio = ratio_of(&present.cert, number);
     let station = (stations_through(placement, channel) as u32).wrapping_sub(1);
     let part = &present.cert.parts.as_slice()[number];
-    let guess = propose(alloc, &present.graph, part, station, ratio, most)?;
+    let guess = propose_slack(alloc, &present.graph, part, station, ratio, most)?;
     Ok(Opening {
         present: ratio,
         guess,

@@ -7,7 +7,6 @@ mod bisection;
 mod certified;
 mod finding;
 mod laws;
-mod proposal;
 mod trial;
 
 pub use answer::{Slack, SlackAndNext};

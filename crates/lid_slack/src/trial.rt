@@ -5,12 +5,10 @@ ghost use Rattle.lid_cert.specs.Certificates.{Certifies, has_node};
 ghost use Rattle.lid_cert.specs.Owners.{part_at};
 ghost use Rattle.lid_graph.specs.Rateable.{IsRateable};
 ghost use Rattle.lid_stations.specs.Placements.{links_of};
-ghost use Rattle.lid_stations.specs.Stations.{channel_at};
 ghost use Rattle.lid_longer.specs.Longer.{longer_marking, producer, KeepsAt};
 ghost use Rattle.lid_slack.specs.Slack.{IsAgainst};
 ghost use Rattle.lid_slack.specs.Trials.{CanTry, IsTrial, IsPresent};
 
-use lid_base::Items;
 use lid_cert::{Cert, part_with};
 use lid_graph::Graph;
 use lid_longer::longer;

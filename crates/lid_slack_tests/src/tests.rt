@@ -8,7 +8,8 @@ use lid_check::{Checked, check};
 use lid_net::build;
 use lid_placetext::read_stations;
 use lid_ratio::Ratio;
-use lid_slack::{slack, slack_and_next};
+use lid_slack::{Certified, certify, slack, slack_and_next};
+use lid_slackguess::propose_slack;
 use lid_stations::Placement;
 use lid_system::System;
 use std::alloc::Global;
@@ -23,6 +24,17 @@ const TWO_WAYS: &[u8] =
     b".model dia\n.inputs x\n.outputs y\n.subckt reg d=x q=a\n.subckt xr a=a b=b q=y\n.subckt reg d=a q=b\n.end\n\
 .model reg\n.inputs d\n.outputs q\n.latch d q 0\n.end\n\
 .model xr\n.inputs a b\n.outputs q\n.names a b n\n10 1\n01 1\n.latch n q 0\n.end\n";
+
+/// What `gen 209 --shells 2` makes, without the models that it does not use. Its channels are `in u0 0`, `in u1 0`,
+/// `in out 0`, `u0 u1 0`, `u0 out 0` and `u1 u0 0`, and the last draws give them 0, 2, 0, 0, 1 and 1 relay stations.
+const MADE: &[u8] =
+    b".model gen\n.inputs x0 x1 x2 x3\n.outputs y0 y1 y2 y3\n.names x3 y0\n1 1\n.names n0_q y1\n1 1\n\
+.names n0_r y2\n1 1\n.names n0_q y3\n1 1\n.subckt cel1 a=x0 b=n1_r q=n0_q r=n0_r\n\
+.subckt cel2 a=n0_q b=x0 q=n1_q r=n1_r\n.end\n\
+.model cel1\n.inputs a b\n.outputs q r\n.names a b dq\n11 1\n.names b q dr\n10 1\n01 1\n\
+.latch dq q 0\n.latch dr r 1\n.end\n\
+.model cel2\n.inputs a b\n.outputs q r\n.names a b dq\n1- 1\n-1 1\n.names b q dr\n10 1\n01 1\n\
+.latch dq q 0\n.latch dr r 1\n.end\n";
 
 /// The slack of a channel, and the ratio with one more, or 0/0.
 type Case = (u32, u32, u64, u64);
@@ -40,6 +52,38 @@ static TWO_WAYS_CASES: [Case; 5] = [
 /// With 64 relay stations on `u0 u1 0` and `u1 out 0` there is no room there. On `u1 u0 0` each further one adds
 /// an edge to the ring of 66 edges and 2 tokens.
 static FULL_CASES: [Case; 3] = [(0, 0, 0, 0), (1, 0, 2, 67), (2, 0, 0, 0)];
+
+/// The ratios by all closed walks, with each number of further relay stations (`tools/margins.py`).
+static MADE_CASES: [Case; 6] = [
+    (0, 2, 3, 7),
+    (1, 0, 3, 7),
+    (2, 6, 5, 11),
+    (3, 1, 2, 5),
+    (4, 0, 4, 9),
+    (5, 0, 3, 7),
+];
+
+/// The last station of a channel, the room there, and its slack.
+type Guess = (u32, u32, u32);
+
+static RING_GUESSES: [Guess; 3] = [(1, 63, 0), (2, 64, 0), (3, 64, 64)];
+
+static TWO_WAYS_GUESSES: [Guess; 5] = [
+    (0, 64, 64),
+    (4, 61, 0),
+    (5, 64, 12),
+    (6, 64, 64),
+    (7, 64, 12),
+];
+
+static MADE_GUESSES: [Guess; 6] = [
+    (0, 64, 2),
+    (3, 62, 0),
+    (4, 64, 6),
+    (5, 64, 1),
+    (7, 63, 0),
+    (9, 63, 0),
+];
 
 /// The system of an accepted design.
 fn built(alloc: Global, checked: &Checked) -> Option<System>
@@ -130,6 +174,55 @@ fn are_slacks(alloc: Global, netlist: &[u8], stations: &[u8], cases: &[Case]) ->
     }
 }
 
+/// The certificate of a netlist with stations as a text.
+fn certified(alloc: Global, netlist: &[u8], stations: &[u8]) -> Option<Certified> {
+    let Some(system) = system_of(alloc, netlist) else {
+        return None;
+    };
+    let Ok(placement) = read_stations(alloc, stations, &system) else {
+        return None;
+    };
+    match certify(alloc, &system, &placement) {
+        Ok(present) => Some(present),
+        Err(_) => None,
+    }
+}
+
+/// Whether the guess of a slack, in this part of the certificate, is the slack.
+fn is_guessed(alloc: Global, present: &Certified, part: usize, case: Guess) -> bool {
+    let (station, room, added) = case;
+    let Some(part) = present.cert.parts.as_slice().get(part) else {
+        return false;
+    };
+    let ratio = Ratio {
+        p: part.p,
+        q: part.q,
+    };
+    match propose_slack(alloc, &present.graph, part, station, ratio, room) {
+        Ok(guess) => guess == added,
+        Err(_) => false,
+    }
+}
+
+/// The same of several channels of a netlist with stations as a text.
+fn are_guessed(
+    alloc: Global,
+    netlist: &[u8],
+    stations: &[u8],
+    part: usize,
+    cases: &[Guess],
+) -> bool {
+    let Some(present) = certified(alloc, netlist, stations) else {
+        return false;
+    };
+    for case in cases {
+        if !is_guessed(alloc, &present, part, *case) {
+            return false;
+        }
+    }
+    true
+}
+
 #[test]
 fn a_ring_has_no_slack(rt: HostRuntime) {
     assert!(rt;
@@ -162,6 +255,57 @@ fn a_full_channel_has_no_slack(rt: HostRuntime) {
             RING,
             b"lid-stations 1\nu0 u1 0 64\nu1 out 0 64\n",
             &FULL_CASES
+        )
+    );
+}
+
+#[test]
+fn a_generated_system_has_slack(rt: HostRuntime) {
+    assert!(rt;
+        are_slacks(
+            rt.alloc(),
+            MADE,
+            b"lid-stations 1\nin u1 0 2\nu0 out 0 1\nu1 u0 0 1\n",
+            &MADE_CASES
+        )
+    );
+}
+
+#[test]
+fn no_slack_is_guessed_on_a_ring(rt: HostRuntime) {
+    assert!(rt;
+        are_guessed(
+            rt.alloc(),
+            RING,
+            b"lid-stations 1\nu0 u1 0 1\n",
+            1,
+            &RING_GUESSES
+        )
+    );
+}
+
+#[test]
+fn the_slack_of_the_shorter_way_is_guessed(rt: HostRuntime) {
+    assert!(rt;
+        are_guessed(
+            rt.alloc(),
+            TWO_WAYS,
+            b"lid-stations 1\nu0 u1 0 3\n",
+            0,
+            &TWO_WAYS_GUESSES
+        )
+    );
+}
+
+#[test]
+fn the_slack_of_a_generated_system_is_guessed(rt: HostRuntime) {
+    assert!(rt;
+        are_guessed(
+            rt.alloc(),
+            MADE,
+            b"lid-stations 1\nin u1 0 2\nu0 out 0 1\nu1 u0 0 1\n",
+            0,
+            &MADE_GUESSES
         )
     );
 }

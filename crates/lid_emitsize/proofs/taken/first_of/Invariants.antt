@@ -3,4 +3,4 @@ use Rattle.lid_emitsize.specs.Taken.{is_taken}
 use Rattle.lid_emitsize.proofs.taken.first_of.Given as goal
 
 abbrev pub invariant-loop-name : goal.invariant-loop-name
-invariant-loop-name l = find (is_taken l.inputs) (drop l.name-index l.outputs) ≡ find (is_taken l.inputs) l.outputs
+invariant-loop-name l = find (is_taken l.outputs) (drop l.name-index l.inputs) ≡ find (is_taken l.outputs) l.inputs

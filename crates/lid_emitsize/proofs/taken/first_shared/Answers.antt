@@ -10,5 +10,5 @@ pub returns : goal.returns
 returns c =
     let inputs = c.args.inputs.now in
     let outputs = c.args.outputs.now in
-    let same = find_same (is_taken c.in_ok-inputs.inputs) (is_taken inputs) outputs (λ name. ap (λ (b : Bool). is_among name own_names || b) (ap (is_among name) c.in_ok-inputs.ensures ∙ is_among_firsts name inputs)) in
+    let same = find_same (is_taken c.in_ok-outputs.outputs) (is_taken outputs) inputs (λ name. ap (λ (b : Bool). is_among name own_names || b) (ap (is_among name) c.in_ok-outputs.ensures ∙ is_among_firsts name outputs)) in
     c.first_of.ensures ∙ same

@@ -153,7 +153,10 @@ fn guess_by(
 
 /// A guess of the slack, of `most` at most, from the present graph, the part of the channel's component and its
 /// ratio, and the number of the channel's last station.
-pub(crate) fn propose(
+///
+/// # Errors
+/// Where there is no memory.
+pub fn propose_slack(
     alloc: Global,
     graph: &Graph,
     part: &Part,
