@@ -1,0 +1,7 @@
+mod Sums
+pub mod Ports
+mod Columns
+mod Parts
+mod Loads
+mod Shells
+mod Whole
