@@ -37,6 +37,8 @@ use Rattle.lid_named.specs.Laws.{NamedDesignsAreWellFormed, NamedDesignsAreAccep
 use Rattle.lid_named.proofs.Cells.{as_many}
 use Rattle.lid_emitted.specs.Flats.{ArePortNames}
 use Rattle.lid_emitted.specs.Laws.{EmittedDesignsRun}
+use Rattle.lid_bounds.specs.Laws.{AreFew, WrappedDesignsAreSmall}
+use Rattle.lid_bounds.proofs.Ports.{ports_counted, as_many_inputs, as_many_outputs}
 use Rattle.lid_emission.specs.Runs as emitted
 use Rattle.lid_emission.specs.Ports.{offer_name, block_name, valid_name, stop_name, input_names, output_names, taken_name}
 use Rattle.lid_wirenames.specs.Spelling.{AreSmall}
@@ -45,27 +47,16 @@ use Rattle.lid_cells.specs.declared.all.All.{All}
 use Rattle.lid_cells.specs.Shown.{ports_of}
 use Rattle.lid_emission.specs.Sizes.{ports_size, size}
 use Rattle.lid_emission.specs.Emitted.{CanBeEmitted, IsEmitted, IsBegun}
-use Rattle.lid_emit.specs.Steps.{root_name, name_with, IsLaidOut, AreCells, model_with, design_with, IsWithin}
+use Rattle.lid_emit.specs.Steps.{root_name, name_with, IsLaidOut, AreCells, model_with, design_with, HasShortText}
 use Rattle.lid_emit.proofs.Words.{two_inputs, two_outputs, wire_word}
 use Rattle.lid_emit.proofs.Written.{cells_written, cells_begun}
 use Rattle.lid_emit.proofs.Ports.{ports_distinct, ports_free}
 use Rattle.lid_emit.proofs.Numbers.{nets_few, are_small}
 
--- the sizes of names count each of them
-counted : (names : List (List ℕ)) → length names ≤ sum_by (λ name. 1 + length name) names
-counted [] = omega arith
-counted (name ∷ names) =
-    let rest = counted names in
-    let whole = sum_by-cons (λ name. 1 + length name) name names in
-    omega (arith, rest, whole)
-
 -- a size counts each port
 pub few_ports : (d : Design) (l : Links) (p : Placement) → size d l p ≤ 16384 → length (root_inputs d) + length (root_outputs d) ≤ 16384
 unfolding size
-few_ports d l p few =
-    let all : length (root_inputs d ++ root_outputs d) ≤ ports_size d = counted (root_inputs d ++ root_outputs d) in
-    let both = length-append (root_inputs d) (root_outputs d) in
-    omega (arith, all, both, few)
+few_ports d l p few = let all = ports_counted d in omega (arith, all, few)
 
 -- one name is distinct
 alone : (name : List ℕ) → IsDistinct bytes_eq (name ∷ [])
@@ -83,16 +74,10 @@ module _ (d : Design) (s : System) (p : Placement) (can : CanBeEmitted d s p) (f
   con = connected s p laid.nets can.system can.fits laid.are
 
   inputs_same : q.inputs ≡ length (root_inputs d)
-  inputs_same =
-      let columns = first_node s can.system in
-      ap (λ (o : Option Node). option_map_or source_width o 0) columns.1 ∙ ap length (can.of.source 0 columns.0 columns.1)
+  inputs_same = as_many_inputs d s p laid.nets can.of can.system
 
   outputs_same : length q.shows ≡ length (root_outputs d)
-  outputs_same =
-      let node = last_node s can.system in
-      let is_sink : system.IsSink s (length s.nodes - 1) node.0 node.1 = can.system.each_node (length s.nodes - 1) (Sink node.0 node.1) node.2 in
-      length-map (sink_reads s) (read_wire p)
-      ∙ ap (λ (o : Option Node). length (option_map_or ins_of o [])) node.2 ∙ is_sink.width ∙ ap length (can.of.sink (length s.nodes - 1) node.0 node.1 node.2).0
+  outputs_same = as_many_outputs d s p laid.nets can.of can.system
 
   narrow : q.inputs ≤ 16384
   narrow = let ports = few_ports d (links_of s) p few in omega (arith, ports, inputs_same)
@@ -154,7 +139,10 @@ module _ (d : Design) (s : System) (p : Placement) (can : CanBeEmitted d s p) (f
           none_there (m ∷ ms) zero below none = let e : Some m ≡ None = none in cc
           none_there (m ∷ ms) (suc k) below none = none_there ms k (omega (arith, below)) none
 
-  module _ (within : IsWithin (model_with d made)) where
+  module _ (short : HasShortText (model_with d made)) (law : WrappedDesignsAreSmall) where
+    few_cells : AreFew made
+    few_cells = subst AreFew (sym cells_same) (law d s p laid.nets name can.of can.system can.fits laid.are laid.flats laid.skipped few)
+
     writable : IsWritable (design_with (model_with d made))
     writable = record {
       rooted = refl;
@@ -172,12 +160,12 @@ module _ (d : Design) (s : System) (p : Placement) (can : CanBeEmitted d s p) (f
         tt,
       );
       few_models = omega arith;
-      few_rows = omega (arith, within.rows);
-      short = within.text;
+      few_rows = omega (arith, few_cells.rows);
+      short = short;
     }
 
     few_wires : length (wires q) ≤ 262144
-    few_wires = omega (arith, as_many q con name, ap length cells_same, within.cells)
+    few_wires = omega (arith, as_many q con name, ap length cells_same, few_cells.cells)
 
     module _ (wells : NamedDesignsAreWellFormed) (accepts : NamedDesignsAreAccepted) (run : EmittedDesignsRun) where
       runs : (rows : List (List Bool)) (b : Table Column) → IsStrict (drivers (design_with (model_with d made))) rows b → emitted.RunsAs d (links_of s) p rows (emitted.face_of (root_outputs d) b)

@@ -11,6 +11,7 @@ use crate::limits::finish;
 use crate::model::make_model;
 use crate::naming::{lay_out_all, name_cells};
 use crate::refusals::refuse;
+use lid_bounds::wrapped_designs_are_small;
 use lid_check::Checked;
 use lid_design::Design;
 use lid_emission::EmitFault;
@@ -25,7 +26,8 @@ use std::alloc::{AllocError, Global};
 ///
 /// # Errors
 /// `NameTaken` with the first name that is taken, and else `TooBig` with a size over 16,384. `Memory` where there
-/// is no memory, and where the design would exceed a limit of designs that are read, which none is known to do.
+/// is no memory, and where the text of the design would exceed the limit of texts that are read, which none is
+/// known to do.
 pub fn emit(
     alloc: Global,
     checked: &Checked,
@@ -63,5 +65,6 @@ fn wrap(
     let model = make_model(alloc, checked, cells)?;
     named_designs_are_accepted();
     emitted_designs_run();
+    wrapped_designs_are_small();
     finish(alloc, model)
 }
