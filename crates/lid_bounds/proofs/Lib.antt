@@ -4,4 +4,10 @@ mod Columns
 mod Parts
 mod Loads
 mod Shells
+mod Nodes
 mod Whole
+mod Lines
+mod Costs
+mod Inner
+mod ShellCosts
+mod Texts

@@ -26,8 +26,12 @@ alone {A} (y ∷ []) x few (inl is) = ap (λ (z : A). z ∷ []) (sym is)
 alone (y ∷ []) x few (inr none) = absurd none
 alone (y ∷ z ∷ xs) x few there = absurd (omega arith)
 
+-- what drives a net drives it alone
+pub sole : (f : Flat) → IsFlat f → (k : ℕ) (s : Driver ℕ) → Among s (flat_drivers f k) → flat_drivers f k ≡ s ∷ []
+sole f flat k s there = alone (flat_drivers f k) s (flat.once k) there
+
 -- a cover that is written has one row more at most
-rows_written : (inputs : ℕ) (on : Bool) (cubes : List Cube) → length (with_rows inputs on cubes).cubes ≤ 1 + length cubes
+pub rows_written : (inputs : ℕ) (on : Bool) (cubes : List Cube) → length (with_rows inputs on cubes).cubes ≤ 1 + length cubes
 rows_written inputs true cubes = omega arith
 rows_written inputs false [] = omega arith
 rows_written inputs false (cube ∷ cubes) = omega arith
@@ -36,16 +40,13 @@ module _ (q : Plan) (name : Wire → List ℕ) (v : ℕ) (flat : IsFlat (q.flat 
   abbrev f : Flat
   f = q.flat v
 
-  sole : (k : ℕ) (s : Driver ℕ) → Among s (flat_drivers f k) → flat_drivers f k ≡ s ∷ []
-  sole k s there = alone (flat_drivers f k) s (flat.once k) there
-
   latch_now : (l : FlatLatch) → Among l f.latches → wire_load q name (now v l.out) ≡ 4
   unfolding emitted
-  latch_now l there = ap (λ (ss : List (Driver ℕ)). driven q name (now v l.out) (flat_map (now_from q v l.out) ss)) (sole l.out (from_latch l.init l.input) (latch_drives f l there))
+  latch_now l there = ap (λ (ss : List (Driver ℕ)). driven q name (now v l.out) (flat_map (now_from q v l.out) ss)) (sole f flat l.out (from_latch l.init l.input) (latch_drives f l there))
 
   latch_kept : (l : FlatLatch) → Among l f.latches → wire_load q name (kept v l.out) ≡ 6
   unfolding emitted
-  latch_kept l there = ap (λ (ss : List (Driver ℕ)). driven q name (kept v l.out) (flat_map (kept_from q v l.out) ss)) (sole l.out (from_latch l.init l.input) (latch_drives f l there))
+  latch_kept l there = ap (λ (ss : List (Driver ℕ)). driven q name (kept v l.out) (flat_map (kept_from q v l.out) ss)) (sole f flat l.out (from_latch l.init l.input) (latch_drives f l there))
 
   cover_gate : (w : Wire) (there : Bool) (cover : Cover) (reads : List Wire) → driven q name w (within there (gate cover reads) ++ []) ≤ 5 + length cover.cubes
   cover_gate w false cover reads = omega arith
@@ -58,7 +59,7 @@ module _ (q : Plan) (name : Wire → List ℕ) (v : ℕ) (flat : IsFlat (q.flat 
   unfolding emitted
   cover_now c there =
       let only : wire_load q name (now v c.out) ≡ driven q name (now v c.out) (within (not (q.skips v c.out)) (gate c.cover (map (q.here v) c.ins)) ++ []) =
-      ap (λ (ss : List (Driver ℕ)). driven q name (now v c.out) (flat_map (now_from q v c.out) ss)) (sole c.out (from_cover c.cover c.ins) (cover_drives f c there)) in
+      ap (λ (ss : List (Driver ℕ)). driven q name (now v c.out) (flat_map (now_from q v c.out) ss)) (sole f flat c.out (from_cover c.cover c.ins) (cover_drives f c there)) in
       let few = cover_gate (now v c.out) (not (q.skips v c.out)) c.cover (map (q.here v) c.ins) in
       omega arith
 
@@ -66,7 +67,7 @@ module _ (q : Plan) (name : Wire → List ℕ) (v : ℕ) (flat : IsFlat (q.flat 
   unfolding emitted
   cover_later c there =
       let only : wire_load q name (later v c.out) ≡ driven q name (later v c.out) (within (not (q.skips v c.out)) (gate c.cover (map (q.after v) c.ins)) ++ []) =
-      ap (λ (ss : List (Driver ℕ)). driven q name (later v c.out) (flat_map (later_from q v c.out) ss)) (sole c.out (from_cover c.cover c.ins) (cover_drives f c there)) in
+      ap (λ (ss : List (Driver ℕ)). driven q name (later v c.out) (flat_map (later_from q v c.out) ss)) (sole f flat c.out (from_cover c.cover c.ins) (cover_drives f c there)) in
       let few = cover_gate (later v c.out) (not (q.skips v c.out)) c.cover (map (q.after v) c.ins) in
       omega arith
 

@@ -2,6 +2,7 @@
 use Rattle.std.specs.Prelude.{ℕ, ◌≤◌, List, length, flat_map}
 use Rattle.lid_design.specs.declared.Design.{Design}
 use Rattle.lid_design.specs.declared.Cell.{Cell}
+use Rattle.lid_blifout.specs.Canonical.{canonical_text}
 use Rattle.lid_blifout.specs.Writable.{cells_rows}
 use Rattle.lid_system.specs.declared.System.{System}
 use Rattle.lid_system.specs.Systems.{IsWellFormed}
@@ -13,10 +14,11 @@ use Rattle.lid_circuit.specs.Plans.{Plan}
 use Rattle.lid_wires.specs.Lists.{wires}
 use Rattle.lid_wrapped.specs.Nets.{Nets, AreNets}
 use Rattle.lid_wrapped.specs.Wrapping.{plan_of}
-use Rattle.lid_named.specs.Named.{cells_at}
-use Rattle.lid_emitted.specs.Flats.{AreFlatsOf}
+use Rattle.lid_named.specs.Named.{cells_at, named_design}
+use Rattle.lid_emitted.specs.Flats.{AreFlatsOf, ArePortNames}
 use Rattle.lid_emission.specs.Sizes.{size}
 use Rattle.lid_bounds.specs.Passing.{SkipBuffers}
+use Rattle.lid_bounds.specs.Shortness.{AreShort}
 
 -- the cells of a plan under names
 abbrev pub plan_cells : Plan → (Wire → List ℕ) → List Cell
@@ -34,3 +36,12 @@ WrappedDesignsAreSmall =
     → IsSystemOf d s → IsWellFormed s → Fits s p
     → AreNets s p n → AreFlatsOf d s n → SkipBuffers s n → size d (links_of s) p ≤ 16384
     → AreFew (plan_cells (plan_of s p n) name)
+
+-- and where its names are short, a short text
+abbrev pub WrappedDesignsHaveShortTexts : Type 0
+WrappedDesignsHaveShortTexts =
+    (d : Design) (s : System) (p : Placement) (n : Nets) (name : Wire → List ℕ) (root : List ℕ)
+    → IsSystemOf d s → IsWellFormed s → Fits s p
+    → AreNets s p n → AreFlatsOf d s n → SkipBuffers s n → size d (links_of s) p ≤ 16384
+    → AreShort (plan_of s p n) name → ArePortNames d name → length root ≤ 1024
+    → length (canonical_text (named_design (plan_of s p n) name root)) ≤ 16777216
