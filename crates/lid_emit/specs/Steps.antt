@@ -1,11 +1,10 @@
 -- What the steps of emitting make: these definitions serve the functions that emit.
-use Rattle.std.specs.Prelude.{◌≡◌, ℕ, ◌≤◌, List, [], ◌∷◌, ◌++◌, length, flat_map, slice_get}
+use Rattle.std.specs.Prelude.{◌≡◌, ℕ, List, [], ◌∷◌, ◌++◌, flat_map, slice_get}
 use Rattle.std.specs.Option.{option_map_or}
 use Rattle.lid_design.specs.declared.Design.{Design}
 use Rattle.lid_design.specs.declared.Model.{Model}
 use Rattle.lid_design.specs.declared.Cell.{Cell}
 use Rattle.lid_design.specs.Columns.{root_inputs, root_outputs}
-use Rattle.lid_blifout.specs.Canonical.{canonical_text}
 use Rattle.lid_system.specs.declared.System.{System}
 use Rattle.lid_stations.specs.declared.placement.Placement.{Placement}
 use Rattle.lid_circuit.specs.Wires.{Wire}
@@ -51,7 +50,3 @@ model_with d cells = record { name = root_name d; inputs = input_names d; output
 
 abbrev pub design_with : Model → Design
 design_with m = record { models = m ∷ []; root = 0 }
-
--- the limit of texts
-abbrev pub HasShortText : Model → Type 0
-HasShortText m = length (canonical_text (design_with m)) ≤ 16777216
