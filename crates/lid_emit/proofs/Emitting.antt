@@ -1,10 +1,9 @@
 -- What is emitted is the plan of the system under names.
-use Rattle.std.proofs.Common.{◌≡◌, ℕ, zero, suc, ◌+◌, ◌-◌, ◌<◌, ◌≤◌, Bool, List, [], ◌∷◌, ◌++◌, length, map, flat_map, refl, sym, ◌∙◌, ap, subst, arith, length-append}
-use Rattle.std.specs.Prelude.{Option, Some, None, slice_get, sum_by, bytes_eq}
+use Rattle.std.proofs.Common.{◌≡◌, ℕ, zero, suc, ◌+◌, ◌<◌, ◌≤◌, Bool, List, [], ◌∷◌, ◌++◌, length, map, flat_map, refl, sym, ◌∙◌, ap, subst, arith}
+use Rattle.std.specs.Prelude.{Option, Some, None, slice_get, bytes_eq}
 use Rattle.std.specs.List.{AllByRecursion, IsDistinct}
 use Rattle.std.specs.Option.{option_map_or}
-use Rattle.std.proofs.lemmas.List.{length-map, map-append}
-use Rattle.std.proofs.lemmas.List.Sums.{sum_by-cons}
+use Rattle.std.proofs.lemmas.List.{map-append}
 use Rattle.lid_base.proofs.Lists.{all_append}
 use Rattle.lid_design.specs.declared.Design.{Design}
 use Rattle.lid_design.specs.declared.Model.{Model}
@@ -15,13 +14,9 @@ use Rattle.lid_design.specs.WellFormed.{IsWellFormed}
 use Rattle.lid_check.specs.Acceptance.{IsAccepted}
 use Rattle.lid_check.proofs.Sound.{judged_of}
 use Rattle.lid_lines.specs.Spelled.{IsSpelled}
+use Rattle.lid_blifout.specs.Canonical.{canonical_text}
 use Rattle.lid_blifout.specs.Writable.{IsWritableCell, IsWritable}
 use Rattle.lid_system.specs.declared.System.{System}
-use Rattle.lid_system.specs.declared.Node.{Node}
-use Rattle.lid_system.specs.declared.Node.TheVariants.{Sink}
-use Rattle.lid_system.specs.Systems as system
-use Rattle.lid_system.specs.Tables.{source_width, ins_of}
-use Rattle.lid_system.proofs.Points.{first_node, last_node}
 use Rattle.lid_stations.specs.declared.placement.Placement.{Placement}
 use Rattle.lid_stations.specs.Placements.{Links, links_of}
 use Rattle.lid_circuit.specs.Wires.{Wire, entry, offer, block, shown, valid, stop}
@@ -29,43 +24,34 @@ use Rattle.lid_circuit.specs.Plans.{Plan}
 use Rattle.lid_wires.specs.Connected.{IsConnected}
 use Rattle.lid_wires.specs.Known.{IsKnown}
 use Rattle.lid_wires.specs.Lists.{wires}
-use Rattle.lid_wrapped.specs.Nets.{read_wire}
-use Rattle.lid_wrapped.specs.Wrapping.{sink_reads, plan_of}
+use Rattle.lid_wrapped.specs.Wrapping.{plan_of}
 use Rattle.lid_wrapped.proofs.Connecting.{connected}
 use Rattle.lid_named.specs.Named.{cells_at, input_wires, output_wires, named_design, IsNaming}
 use Rattle.lid_named.specs.Laws.{NamedDesignsAreWellFormed, NamedDesignsAreAccepted}
 use Rattle.lid_named.proofs.Cells.{as_many}
 use Rattle.lid_emitted.specs.Flats.{ArePortNames}
 use Rattle.lid_emitted.specs.Laws.{EmittedDesignsRun}
+use Rattle.lid_bounds.specs.Shortness.{AreShort}
+use Rattle.lid_bounds.specs.Laws.{AreFew, WrappedDesignsAreSmall, WrappedDesignsHaveShortTexts}
+use Rattle.lid_bounds.proofs.Ports.{ports_counted, as_many_inputs, as_many_outputs}
 use Rattle.lid_emission.specs.Runs as emitted
 use Rattle.lid_emission.specs.Ports.{offer_name, block_name, valid_name, stop_name, input_names, output_names, taken_name}
 use Rattle.lid_wirenames.specs.Spelling.{AreSmall}
 use Rattle.lid_wirenames.proofs.Naming.{all_named, is_naming}
 use Rattle.lid_cells.specs.declared.all.All.{All}
 use Rattle.lid_cells.specs.Shown.{ports_of}
-use Rattle.lid_emission.specs.Sizes.{ports_size, size}
+use Rattle.lid_emission.specs.Sizes.{size}
 use Rattle.lid_emission.specs.Emitted.{CanBeEmitted, IsEmitted, IsBegun}
-use Rattle.lid_emit.specs.Steps.{root_name, name_with, IsLaidOut, AreCells, model_with, design_with, IsWithin}
-use Rattle.lid_emit.proofs.Words.{two_inputs, two_outputs, wire_word}
+use Rattle.lid_emit.specs.Steps.{root_name, name_with, IsLaidOut, AreCells, model_with, design_with}
+use Rattle.lid_emit.proofs.Words.{two_inputs, two_outputs, wire_word, wire_short}
 use Rattle.lid_emit.proofs.Written.{cells_written, cells_begun}
 use Rattle.lid_emit.proofs.Ports.{ports_distinct, ports_free}
 use Rattle.lid_emit.proofs.Numbers.{nets_few, are_small}
 
--- the sizes of names count each of them
-counted : (names : List (List ℕ)) → length names ≤ sum_by (λ name. 1 + length name) names
-counted [] = omega arith
-counted (name ∷ names) =
-    let rest = counted names in
-    let whole = sum_by-cons (λ name. 1 + length name) name names in
-    omega (arith, rest, whole)
-
 -- a size counts each port
 pub few_ports : (d : Design) (l : Links) (p : Placement) → size d l p ≤ 16384 → length (root_inputs d) + length (root_outputs d) ≤ 16384
 unfolding size
-few_ports d l p few =
-    let all : length (root_inputs d ++ root_outputs d) ≤ ports_size d = counted (root_inputs d ++ root_outputs d) in
-    let both = length-append (root_inputs d) (root_outputs d) in
-    omega (arith, all, both, few)
+few_ports d l p few = let all = ports_counted d in omega (arith, all, few)
 
 -- one name is distinct
 alone : (name : List ℕ) → IsDistinct bytes_eq (name ∷ [])
@@ -83,16 +69,10 @@ module _ (d : Design) (s : System) (p : Placement) (can : CanBeEmitted d s p) (f
   con = connected s p laid.nets can.system can.fits laid.are
 
   inputs_same : q.inputs ≡ length (root_inputs d)
-  inputs_same =
-      let columns = first_node s can.system in
-      ap (λ (o : Option Node). option_map_or source_width o 0) columns.1 ∙ ap length (can.of.source 0 columns.0 columns.1)
+  inputs_same = as_many_inputs d s p laid.nets can.of can.system
 
   outputs_same : length q.shows ≡ length (root_outputs d)
-  outputs_same =
-      let node = last_node s can.system in
-      let is_sink : system.IsSink s (length s.nodes - 1) node.0 node.1 = can.system.each_node (length s.nodes - 1) (Sink node.0 node.1) node.2 in
-      length-map (sink_reads s) (read_wire p)
-      ∙ ap (λ (o : Option Node). length (option_map_or ins_of o [])) node.2 ∙ is_sink.width ∙ ap length (can.of.sink (length s.nodes - 1) node.0 node.1 node.2).0
+  outputs_same = as_many_outputs d s p laid.nets can.of can.system
 
   narrow : q.inputs ≤ 16384
   narrow = let ports = few_ports d (links_of s) p few in omega (arith, ports, inputs_same)
@@ -142,6 +122,9 @@ module _ (d : Design) (s : System) (p : Placement) (can : CanBeEmitted d s p) (f
   words : (w : Wire) → IsKnown q w → IsSpelled 1024 (name w)
   words w known = wire_word q (root_inputs d) (root_outputs d) are.prefix can.inputs can.outputs are.short inputs_same outputs_same small w known
 
+  names_short : AreShort q name
+  names_short = wire_short q (root_inputs d) (root_outputs d) are.prefix can.inputs can.outputs are.short inputs_same outputs_same small
+
   root_word : IsSpelled 1024 (root_name d)
   root_word = by (slice_get d.models d.root) refl
     where
@@ -154,7 +137,15 @@ module _ (d : Design) (s : System) (p : Placement) (can : CanBeEmitted d s p) (f
           none_there (m ∷ ms) zero below none = let e : Some m ≡ None = none in cc
           none_there (m ∷ ms) (suc k) below none = none_there ms k (omega (arith, below)) none
 
-  module _ (within : IsWithin (model_with d made)) where
+  module _ (law : WrappedDesignsAreSmall) (texts : WrappedDesignsHaveShortTexts) where
+    few_cells : AreFew made
+    few_cells = subst AreFew (sym cells_same) (law d s p laid.nets name can.of can.system can.fits laid.are laid.flats laid.skipped few)
+
+    short_text : length (canonical_text (design_with (model_with d made))) ≤ 16777216
+    short_text =
+        subst (λ (e : Design). length (canonical_text e) ≤ 16777216) (sym is_named)
+        (texts d s p laid.nets name (root_name d) can.of can.system can.fits laid.are laid.flats laid.skipped few names_short port_names root_word.short)
+
     writable : IsWritable (design_with (model_with d made))
     writable = record {
       rooted = refl;
@@ -172,12 +163,12 @@ module _ (d : Design) (s : System) (p : Placement) (can : CanBeEmitted d s p) (f
         tt,
       );
       few_models = omega arith;
-      few_rows = omega (arith, within.rows);
-      short = within.text;
+      few_rows = omega (arith, few_cells.rows);
+      short = short_text;
     }
 
     few_wires : length (wires q) ≤ 262144
-    few_wires = omega (arith, as_many q con name, ap length cells_same, within.cells)
+    few_wires = omega (arith, as_many q con name, ap length cells_same, few_cells.cells)
 
     module _ (wells : NamedDesignsAreWellFormed) (accepts : NamedDesignsAreAccepted) (run : EmittedDesignsRun) where
       runs : (rows : List (List Bool)) (b : Table Column) → IsStrict (drivers (design_with (model_with d made))) rows b → emitted.RunsAs d (links_of s) p rows (emitted.face_of (root_outputs d) b)

@@ -1,5 +1,5 @@
 -- The names of wires are words.
-use Rattle.std.proofs.Common.{◌≡◌, ◌⊎◌, ℕ, ◌*◌, ◌^◌, ◌<◌, ◌≤◌, ◌==◌, ◌&&◌, true, false, List, [], ◌∷◌, ◌++◌, length, inl, inr, refl, arith, length-append}
+use Rattle.std.proofs.Common.{◌≡◌, ◌⊎◌, ℕ, ◌+◌, ◌*◌, ◌^◌, ◌<◌, ◌≤◌, ◌==◌, ◌&&◌, true, false, List, [], ◌∷◌, ◌++◌, length, inl, inr, refl, arith, length-append}
 use Rattle.std.specs.Prelude.{not, nat_le, codes, slice_index_or}
 use Rattle.std.specs.Fmt.{decimal}
 use Rattle.std.specs.List.{AllByRecursion}
@@ -17,6 +17,7 @@ use Rattle.lid_circuit.specs.Plans.{Plan}
 use Rattle.lid_wires.specs.Known.{IsKnown}
 use Rattle.lid_wirenames.specs.Spelling.{joined, bit_number, inner_name, name_of, AreSmall}
 use Rattle.lid_cells.specs.Shown.{ports_of}
+use Rattle.lid_bounds.specs.Shortness.{AreShort}
 use Rattle.lid_emitsize.specs.Prefixes.{IsShort}
 
 -- letters, digits and what stands between them
@@ -56,15 +57,18 @@ plain_joined (n ∷ m ∷ ns) small =
     all_append IsPlain (decimal n) (95 ∷ joined (m ∷ ns)) (plain_number n small.0)
     (record { low = omega arith; high = omega arith; other = λ e. omega (arith, e) }, plain_joined (m ∷ ns) small.1)
 
--- numbers have at most 20 digits each
-joined_long : (ns : List ℕ) → AllByRecursion (λ n. n < 2 ^ 64) ns → length (joined ns) ≤ 21 * length ns
-joined_long [] small = omega arith
-joined_long (n ∷ []) small = let one = spelled_number 20 n small.0 (omega arith) in omega (arith, one.short)
-joined_long (n ∷ m ∷ ns) small =
+-- numbers have at most 20 digits each, and a byte stands between two
+joined_short : (n : ℕ) (ns : List ℕ) → AllByRecursion (λ n. n < 2 ^ 64) (n ∷ ns) → 1 + length (joined (n ∷ ns)) ≤ 21 * length (n ∷ ns)
+joined_short n [] small = let one = spelled_number 20 n small.0 (omega arith) in omega (arith, one.short)
+joined_short n (m ∷ ns) small =
     let one = spelled_number 20 n small.0 (omega arith) in
-    let rest = joined_long (m ∷ ns) small.1 in
+    let rest = joined_short m ns small.1 in
     let both = length-append (decimal n) (95 ∷ joined (m ∷ ns)) in
     omega (arith, one.short, rest, both)
+
+joined_long : (ns : List ℕ) → AllByRecursion (λ n. n < 2 ^ 64) ns → length (joined ns) ≤ 21 * length ns
+joined_long [] small = omega arith
+joined_long (n ∷ ns) small = let short = joined_short n ns small in omega (arith, short)
 
 plain_prefix : (prefix : List ℕ) → AllByRecursion (λ b. (b ≡ 97) ⊎ (b ≡ 98)) prefix → AllByRecursion IsPlain prefix
 plain_prefix [] letters = tt
@@ -110,3 +114,29 @@ module _ (q : Plan) (inputs outputs : List (List ℕ)) (prefix : List ℕ) (in_w
   wire_word (now v k) known = inner_word prefix 110 (v ∷ k ∷ []) short (omega arith) (omega arith) (omega arith) (small (now v k) known)
   wire_word (kept v k) known = inner_word prefix 107 (v ∷ k ∷ []) short (omega arith) (omega arith) (omega arith) (small (kept v k) known)
   wire_word (later v k) known = inner_word prefix 97 (v ∷ k ∷ []) short (omega arith) (omega arith) (omega arith) (small (later v k) known)
+
+  inner_short : (letter n : ℕ) (ns : List ℕ) → AllByRecursion (λ n. n < 2 ^ 64) (n ∷ ns) → 1 + length (inner_name prefix letter (n ∷ ns)) ≤ 16 + 21 * length (n ∷ ns)
+  inner_short letter n ns few =
+      let both = length-append prefix (letter ∷ joined (n ∷ ns)) in
+      let digits = joined_short n ns few in
+      omega (arith, both, digits, short.few)
+
+  -- and its name is short
+  pub wire_short : AreShort q (name_of (ports_of inputs outputs) prefix)
+  wire_short (entry j) known = omega arith
+  wire_short offer known = omega arith
+  wire_short block known = omega arith
+  wire_short (shown j) known = omega arith
+  wire_short valid known = omega arith
+  wire_short stop known = omega arith
+  wire_short (given j) known = inner_short 100 (j) ([]) (small (given j) known)
+  wire_short (steady bit) known = inner_short 99 (bit_number bit) ([]) (small (steady bit) known)
+  wire_short (may v i) known = inner_short 109 (v) (i ∷ []) (small (may v i) known)
+  wire_short (fire v) known = inner_short 102 (v) ([]) (small (fire v) known)
+  wire_short (level s i) known = inner_short 108 (s) (i ∷ []) (small (level s i) known)
+  wire_short (grown s i) known = inner_short 103 (s) (i ∷ []) (small (grown s i) known)
+  wire_short (place s i j) known = inner_short 112 (s) (i ∷ j ∷ []) (small (place s i j) known)
+  wire_short (moved s i j) known = inner_short 113 (s) (i ∷ j ∷ []) (small (moved s i j) known)
+  wire_short (now v k) known = inner_short 110 (v) (k ∷ []) (small (now v k) known)
+  wire_short (kept v k) known = inner_short 107 (v) (k ∷ []) (small (kept v k) known)
+  wire_short (later v k) known = inner_short 97 (v) (k ∷ []) (small (later v k) known)

@@ -1,12 +1,10 @@
 -- What the steps of emitting make: these definitions serve the functions that emit.
-use Rattle.std.specs.Prelude.{◌≡◌, ℕ, ◌≤◌, List, [], ◌∷◌, ◌++◌, length, flat_map, slice_get}
+use Rattle.std.specs.Prelude.{◌≡◌, ℕ, List, [], ◌∷◌, ◌++◌, flat_map, slice_get}
 use Rattle.std.specs.Option.{option_map_or}
 use Rattle.lid_design.specs.declared.Design.{Design}
 use Rattle.lid_design.specs.declared.Model.{Model}
 use Rattle.lid_design.specs.declared.Cell.{Cell}
 use Rattle.lid_design.specs.Columns.{root_inputs, root_outputs}
-use Rattle.lid_blifout.specs.Canonical.{canonical_text}
-use Rattle.lid_blifout.specs.Writable.{cells_rows}
 use Rattle.lid_system.specs.declared.System.{System}
 use Rattle.lid_stations.specs.declared.placement.Placement.{Placement}
 use Rattle.lid_circuit.specs.Wires.{Wire}
@@ -17,6 +15,7 @@ use Rattle.lid_wrapped.specs.Wrapping.{plan_of}
 use Rattle.lid_named.specs.Named.{cells_at}
 use Rattle.lid_emission.specs.Ports.{input_names, output_names}
 use Rattle.lid_emitted.specs.Flats.{AreFlatsOf}
+use Rattle.lid_bounds.specs.Passing.{SkipBuffers}
 use Rattle.lid_wirenames.specs.Spelling.{name_of, IsFree}
 use Rattle.lid_cells.specs.declared.all.All.{All}
 use Rattle.lid_cells.specs.Shown.{ports_of}
@@ -35,6 +34,7 @@ pub record IsLaidOut (d : Design) (s : System) (p : Placement) (all : All) : Typ
   pub nets : Nets
   pub are : AreNets s p nets
   pub flats : AreFlatsOf d s nets
+  pub skipped : SkipBuffers s nets
   pub sound : IsSound all
   pub plan : IsAllOf (plan_of s p nets) all
 
@@ -50,9 +50,3 @@ model_with d cells = record { name = root_name d; inputs = input_names d; output
 
 abbrev pub design_with : Model → Design
 design_with m = record { models = m ∷ []; root = 0 }
-
--- the limits of designs and of texts
-pub record IsWithin (m : Model) : Type 0 where
-  pub cells : length m.cells ≤ 262144
-  pub rows : cells_rows m.cells ≤ 1048576
-  pub text : length (canonical_text (design_with m)) ≤ 16777216

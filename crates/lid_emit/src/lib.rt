@@ -1,7 +1,6 @@
 //! The wrapped design of a system and its stations, as one flat netlist.
 #![tactic(auto)]
 
-mod limits;
 mod model;
 mod naming;
 mod refusals;

@@ -7,10 +7,10 @@ ghost use Rattle.lid_emission.specs.Sizes.{size};
 ghost use Rattle.lid_stations.specs.Placements.{links_of};
 ghost use Rattle.lid_emission.specs.Ports.{taken_name};
 
-use crate::limits::finish;
-use crate::model::make_model;
+use crate::model::{design_of, make_model};
 use crate::naming::{lay_out_all, name_cells};
 use crate::refusals::refuse;
+use lid_bounds::{wrapped_designs_are_small, wrapped_designs_have_short_texts};
 use lid_check::Checked;
 use lid_design::Design;
 use lid_emission::EmitFault;
@@ -25,7 +25,7 @@ use std::alloc::{AllocError, Global};
 ///
 /// # Errors
 /// `NameTaken` with the first name that is taken, and else `TooBig` with a size over 16,384. `Memory` where there
-/// is no memory, and where the design would exceed a limit of designs that are read, which none is known to do.
+/// is no memory.
 pub fn emit(
     alloc: Global,
     checked: &Checked,
@@ -63,5 +63,7 @@ fn wrap(
     let model = make_model(alloc, checked, cells)?;
     named_designs_are_accepted();
     emitted_designs_run();
-    finish(alloc, model)
+    wrapped_designs_are_small();
+    wrapped_designs_have_short_texts();
+    design_of(alloc, model)
 }

@@ -60,6 +60,7 @@ record HasWires (p : Placement) (v : ℕ) (pearl : View) (ins : List InBit) (o :
       → slice_get (flat_by o).ins j ≡ Some k → slice_get ins j ≡ Some x
       → (here_by o k ≡ read_wire p x) × (after_by o k ≡ read_wire p x)
   pub wired : AreWired v (flat_by o) (here_by o) (after_by o) (skips_by o)
+  pub skipped : (c : FlatCover) → Among c (flat_by o).covers → skips_by o c.out ≡ passes_on c.cover
 
 module _ (v : ℕ) (f : Flat) (rules : IsFlat f) (p : Placement) (ins : List InBit) (width : length ins ≡ length f.ins) (below : AllByRecursion (IsBelow (length p.relays)) ins) where
   abbrev lasts : List ℕ
@@ -120,7 +121,7 @@ module _ (v : ℕ) (f : Flat) (rules : IsFlat f) (p : Placement) (ins : List InB
   }
 
   has_wires : (pearl : View) → length f.outs ≡ length pearl.flat.outs → HasWires p v pearl ins (Some (shell_of v f lasts ins))
-  has_wires pearl outs = record { rules = rules; width = width; outs = outs; inputs = inputs; wired = wired }
+  has_wires pearl outs = record { rules = rules; width = width; outs = outs; inputs = inputs; wired = wired; skipped = cover_skips v f rules reads long }
 
 spare : Shell
 spare = record { flat = no_flat; here = []; after = []; skips = [] }
@@ -182,16 +183,21 @@ module _ (d : Design) (s : System) (of : IsSystemOf d s) (well : IsWellFormed s)
       let same_pearl : begun.pearl ≡ pearl = (let e = same in cc) in
       subst (λ (x : View). Shows x (get_or all.begins i [])) same_pearl begun.shown
 
-  nets_at : (v : ℕ) (pearl : View) (ins : List InBit) → slice_get s.nodes v ≡ Some (node.Shell pearl ins) → IsShell s v pearl ins → AreNetsOf p (nets_of all) v pearl ins
-  nets_at zero pearl ins at is = absurd (let low = is.after_source in omega arith)
-  nets_at (suc i) pearl ins at is =
+  wires_at : (i : ℕ) (pearl : View) (ins : List InBit) → slice_get s.nodes (suc i) ≡ Some (node.Shell pearl ins) → IsShell s (suc i) pearl ins → HasWires p (suc i) pearl ins (slice_get all.shells i)
+  wires_at i pearl ins at is =
       let next : i + 1 ≡ suc i = omega arith in
       let high = is.before_sink in
       let f = found i (suc i) next (omega (arith, count)) pearl ins at in
       let width = width_at d s of well (suc i) pearl ins at f.number f.place f.flat f.part in
       let outs = as_many_outputs d s of (suc i) pearl ins at f.number f.place f.flat f.part in
-      let has : HasWires p (suc i) pearl ins (slice_get all.shells i) =
-      subst (HasWires p (suc i) pearl ins) (sym f.there) (has_wires (suc i) f.flat f.rules p ins width (below_at s well (suc i) pearl ins at (length p.relays) channels) pearl outs) in
+      subst (HasWires p (suc i) pearl ins) (sym f.there) (has_wires (suc i) f.flat f.rules p ins width (below_at s well (suc i) pearl ins at (length p.relays) channels) pearl outs)
+
+  nets_at : (v : ℕ) (pearl : View) (ins : List InBit) → slice_get s.nodes v ≡ Some (node.Shell pearl ins) → IsShell s v pearl ins → AreNetsOf p (nets_of all) v pearl ins
+  nets_at zero pearl ins at is = absurd (let low = is.after_source in omega arith)
+  nets_at (suc i) pearl ins at is =
+      let next : i + 1 ≡ suc i = omega arith in
+      let high = is.before_sink in
+      let has = wires_at i pearl ins at is in
       record {
         rules = has.rules;
         width = has.width;
@@ -200,6 +206,10 @@ module _ (d : Design) (s : System) (of : IsSystemOf d s) (well : IsWellFormed s)
         wired = has.wired;
         begins = shows_at i (suc i) next (omega (arith, begun)) pearl ins at;
       }
+
+  skips_at : (v : ℕ) (pearl : View) (ins : List InBit) → slice_get s.nodes v ≡ Some (node.Shell pearl ins) → IsShell s v pearl ins → (c : FlatCover) → Among c ((nets_of all).flat v).covers → (nets_of all).skips v c.out ≡ passes_on c.cover
+  skips_at zero pearl ins at is = absurd (let low = is.after_source in omega arith)
+  skips_at (suc i) pearl ins at is = (wires_at i pearl ins at is).skipped
 
   flats_at : (v : ℕ) (pearl : View) (ins : List InBit) → slice_get s.nodes v ≡ Some (node.Shell pearl ins) → IsShell s v pearl ins → (number : ℕ) × (v ≡ number + 1) × IsFlatOf d number ((nets_of all).flat v)
   flats_at zero pearl ins at is = absurd (let low = is.after_source in omega arith)
@@ -216,4 +226,5 @@ module _ (d : Design) (s : System) (of : IsSystemOf d s) (well : IsWellFormed s)
     whole = whole_at;
     nets = λ v pearl ins at. nets_at v pearl ins at (well.each_node v (node.Shell pearl ins) at);
     flats = λ v pearl ins at. flats_at v pearl ins at (well.each_node v (node.Shell pearl ins) at);
+    skipped = λ v pearl ins at. skips_at v pearl ins at (well.each_node v (node.Shell pearl ins) at);
   }

@@ -8,6 +8,7 @@ use Rattle.lid_circuit.specs.Wires as circuit
 use Rattle.lid_wrapped.specs.Nets.{Nets, AreNets}
 use Rattle.lid_wrapped.specs.Wrapping.{no_flat}
 use Rattle.lid_emitted.specs.Flats.{AreFlatsOf}
+use Rattle.lid_bounds.specs.Passing.{SkipBuffers}
 use Rattle.lid_cells.specs.declared.wire.Wire.{Wire}
 use Rattle.lid_cells.specs.declared.wire.Wire.TheVariants.{Offer}
 use Rattle.lid_cells.specs.declared.shell.Shell.{Shell}
@@ -45,3 +46,4 @@ pub record AreShells (d : Design) (s : System) (p : Placement) (all : Shells) : 
   pub whole : (i : ℕ) (shell : Shell) → slice_get all.shells i ≡ Some shell → IsWhole shell
   pub nets : AreNets s p (nets_of all)
   pub flats : AreFlatsOf d s (nets_of all)
+  pub skipped : SkipBuffers s (nets_of all)

@@ -1,8 +1,8 @@
 use Rattle.std.proofs.Common.{arith, sym, ◌∙◌, ap, subst}
-use Rattle.lid_base.proofs.Results.{if_both_ok}
+use Rattle.lid_base.proofs.Results.{if_ok}
 use Rattle.lid_emission.specs.Emitted.{IsEmitted}
 use Rattle.lid_stations.specs.Placements.{links_of}
-use Rattle.lid_emit.specs.Steps.{design_with, IsWithin}
+use Rattle.lid_emit.specs.Steps.{design_with}
 use Rattle.lid_emit.proofs.Emitting.{few_ports, emitted_so}
 use Rattle.lid_emit.proofs.wrapping.wrap.Goals as goal
 
@@ -16,6 +16,6 @@ returns c =
     let p = c.args.placement.now in
     let laws = c.named_designs_are_accepted.ensures in
     let model = c.in_ok-model.ensures in
-    if_both_ok c.finish.result (λ e is within.
+    if_ok c.design_of.result (λ e is.
     subst (IsEmitted d (links_of s) p) (sym (is ∙ ap design_with model))
-    (emitted_so d s p c.requires.can c.design.ensures.formed c.design.ensures.accepted c.requires.free c.requires.small c.in_ok-all.all c.in_ok-all.ensures c.in_ok-cells.cells.items c.in_ok-cells.ensures (subst IsWithin model within) laws.formed laws.accepted c.emitted_designs_run.ensures.runs)) c.finish.ensures.is c.finish.ensures.within
+    (emitted_so d s p c.requires.can c.design.ensures.formed c.design.ensures.accepted c.requires.free c.requires.small c.in_ok-all.all c.in_ok-all.ensures c.in_ok-cells.cells.items c.in_ok-cells.ensures c.wrapped_designs_are_small.ensures c.wrapped_designs_have_short_texts.ensures laws.formed laws.accepted c.emitted_designs_run.ensures.runs)) c.design_of.ensures

@@ -1,0 +1,13 @@
+mod Sums
+pub mod Ports
+mod Columns
+mod Parts
+mod Loads
+mod Shells
+mod Nodes
+mod Whole
+mod Lines
+mod Costs
+mod Inner
+mod ShellCosts
+mod Texts

@@ -1,0 +1,75 @@
+-- All cells of a wrapped system, by the size.
+use Rattle.std.proofs.Common.{◌≡◌, ℕ, zero, suc, ◌+◌, ◌*◌, ◌≤◌, List, ◌++◌, flat_map, refl, arith}
+use Rattle.std.proofs.lemmas.List.Sums.{sum_by-append}
+use Rattle.lid_design.specs.declared.Design.{Design}
+use Rattle.lid_design.specs.Network.{from_each}
+use Rattle.lid_system.specs.declared.System.{System}
+use Rattle.lid_system.specs.Systems.{IsWellFormed}
+use Rattle.lid_agree.specs.Agreement.{IsSystemOf}
+use Rattle.lid_stations.specs.declared.placement.Placement.{Placement}
+use Rattle.lid_stations.specs.Placements.{links_of, Fits}
+use Rattle.lid_circuit.specs.Wires.{Wire}
+use Rattle.lid_circuit.specs.Plans.{Plan}
+use Rattle.lid_wires.specs.Lists.{outer_wires, station_wires, actor_wires, shell_wires, wires}
+use Rattle.lid_wrapped.specs.Nets.{Nets, AreNets}
+use Rattle.lid_wrapped.specs.Wrapping.{plan_of}
+use Rattle.lid_named.specs.Named.{cells_at}
+use Rattle.lid_acceptance.proofs.Totals.{total}
+use Rattle.lid_acceptance.proofs.Counted.{sum_flat}
+use Rattle.lid_emitted.specs.Flats.{AreFlatsOf}
+use Rattle.lid_emission.specs.Sizes.{size}
+use Rattle.lid_bounds.specs.Passing.{SkipBuffers}
+use Rattle.lid_bounds.specs.Laws.{plan_cells, AreFew}
+use Rattle.lid_bounds.proofs.Loads.{load, loads, loaded, wire_load, wires_load, outer_load, stations_load, actors_load}
+use Rattle.lid_bounds.proofs.Shells.{shell_load}
+use Rattle.lid_bounds.proofs.Nodes.{connected, ports_few, room, relays_few, ends_few, shell_at, node_few, node_skips, shells_few, pearls_few}
+
+module _ (d : Design) (s : System) (p : Placement) (n : Nets) (name : Wire → List ℕ) (of : IsSystemOf d s) (well : IsWellFormed s) (fits : Fits s p) (nets : AreNets s p n) (flats : AreFlatsOf d s n) (skips : SkipBuffers s n) where
+  abbrev q : Plan
+  q = plan_of s p n
+
+  node_load : (v : ℕ) → wires_load q name (shell_wires q v) ≤ 10 * shell_at d s p n of well fits nets flats skips v
+  node_load v =
+      let con = connected d s p n of well fits nets flats skips in
+      let whole = shell_load q name v (con.rules v) (node_skips d s p n of well fits nets flats skips v) in
+      let few = node_few d s p n of well fits nets flats skips v in
+      omega arith
+
+  nodes_load : (k m : ℕ) → wires_load q name (flat_map (shell_wires q) (from_each (λ v. v) k m)) ≤ 10 * total (shell_at d s p n of well fits nets flats skips) k m
+  nodes_load k zero = omega arith
+  nodes_load k (suc m) =
+      let a = sum_by-append (wire_load q name) (shell_wires q k) (flat_map (shell_wires q) (from_each (λ v. v) (k + 1) m)) in
+      let here = node_load k in
+      let later = nodes_load (k + 1) m in
+      omega arith
+
+  all_loads : loads (plan_cells q name) ≡ wires_load q name (wires q)
+  all_loads = sum_flat load (cells_at q name) (wire_load q name) (wires q) (λ w i. refl)
+
+  parts_load : wires_load q name (wires q) ≤ 40 * size d (links_of s) p + 64
+  unfolding size
+  parts_load =
+      let stations = flat_map (station_wires q) (from_each (λ s. s) 0 q.stations) in
+      let actors = flat_map (actor_wires q) (from_each (λ v. v) 0 q.actors) in
+      let shells = flat_map (shell_wires q) (from_each (λ v. v) 0 q.nodes) in
+      let a = sum_by-append (wire_load q name) (outer_wires q) (stations ++ (actors ++ shells)) in
+      let b = sum_by-append (wire_load q name) stations (actors ++ shells) in
+      let c = sum_by-append (wire_load q name) actors shells in
+      let outer = outer_load q name in
+      let ports = ports_few d s p n of well fits nets flats skips in
+      let at_stations = stations_load q name (room d s p n of well fits nets flats skips) 0 q.stations in
+      let at_actors = actors_load q name 0 q.actors in
+      let two_ends = ends_few d s p n of well fits nets flats skips q.actors in
+      let movers = relays_few d s p n of well fits nets flats skips in
+      let nodes = of.nodes in
+      let at_nodes = nodes_load 0 q.nodes in
+      let sizes = shells_few d s p n of well fits nets flats skips q.nodes in
+      let many = pearls_few d s p n of well fits nets flats skips in
+      omega arith
+
+  pub few_cells : size d (links_of s) p ≤ 16384 → AreFew (plan_cells q name)
+  few_cells small =
+      let counted = loaded (plan_cells q name) in
+      let all = all_loads in
+      let most = parts_load in
+      record { cells = omega arith; rows = omega arith }
