@@ -147,7 +147,7 @@ def row(name: str, net: Path, relays_of) -> str:
     took, kept, sized = least("size", net, "--stations", stations)
     wanted = 2 * len(names) * (rated - checked)
     slack = f"~{wanted:,.0f}"
-    if wanted < 40:
+    if wanted < 240:
         slack = "{0:.2f}".format(*least("slack", net, "--stations", stations))
     count = sum(relays) + len(names)
     return f"| {name} | {len(names):,} | {count:,} | {wide(sized)} | {rated:.2f} | {took:.2f} | {kept // 1024} | {slack} |"

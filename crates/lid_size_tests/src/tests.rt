@@ -3,24 +3,16 @@
 
 ghost use Rattle.std.specs.Prelude.{IfSome};
 ghost use Rattle.lid_graph.specs.Rateable.{IsRateable};
-ghost use Rattle.lid_system.specs.Systems.{IsWellFormed};
 
-use lid_check::{Checked, check};
 use lid_graph::Graph;
-use lid_net::build;
 use lid_placetext::read_stations;
 use lid_rate::find;
 use lid_ratio::Ratio;
+use lid_settings::{RING, system_of};
 use lid_size::{SizeEnd, size};
 use lid_sizeguess::{Sizes, propose_forwards, propose_sizes};
 use lid_stations::{Placement, marking};
-use lid_system::System;
 use std::alloc::{AllocError, Global};
-
-/// A ring of two registers, with the channels `u0 u1 0`, `u1 u0 0` and `u1 out 0`.
-const RING: &[u8] = b".model ring\n.outputs y\n.subckt reg0 d=y q=w\n.subckt reg1 d=w q=y\n.end\n\
-.model reg0\n.inputs d\n.outputs q\n.latch d q 0\n.end\n\
-.model reg1\n.inputs d\n.outputs q\n.latch d q 1\n.end\n";
 
 /// Two ways from u0 to u1, with the channels `in u0 0`, `u0 u1 0`, `u0 u2 0`, `u1 out 0` and `u2 u1 0`.
 const DIAMOND: &[u8] =
@@ -135,29 +127,6 @@ static FORWARDS: [Forward; 3] = [
     (&[0, 0, 0, 0, 0, 0, 0, 0], 1, &[0, 0, 3, 0, 3, 0, 1, 2]),
     (&[0, 0, 0, 0, 0, 0, 0, 0], 3, &[0, 5, 4, 6, 0, 2, 4, 3]),
 ];
-
-/// The system of an accepted design.
-fn built(alloc: Global, checked: &Checked) -> Option<System>
-    ensures { IfSome result IsWellFormed }
-{
-    match build(alloc, checked) {
-        Ok(system) => Some(system),
-        Err(_) => None,
-    }
-}
-
-/// The system of a netlist.
-fn system_of(alloc: Global, netlist: &[u8]) -> Option<System>
-    ensures { IfSome result IsWellFormed }
-{
-    let Ok(design) = lid_blif::read(alloc, netlist) else {
-        return None;
-    };
-    match check(alloc, design, None) {
-        Ok(checked) => built(alloc, &checked),
-        Err(_) => None,
-    }
-}
 
 /// What sizing answers for a netlist and its stations.
 fn sized(alloc: Global, netlist: &[u8], stations: &[u8]) -> Option<SizeEnd> {

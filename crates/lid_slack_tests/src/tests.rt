@@ -1,23 +1,17 @@
 //! The slack of the channels of netlists, with stations as texts.
 
-ghost use Rattle.std.specs.Prelude.{◌<◌, length, IfSome};
+ghost use Rattle.std.specs.Prelude.{◌<◌, length};
 ghost use Rattle.lid_system.specs.Systems.{IsWellFormed};
 ghost use Rattle.lid_stations.specs.Placements.{Fits};
 
-use lid_check::{Checked, check};
-use lid_net::build;
 use lid_placetext::read_stations;
 use lid_ratio::Ratio;
+use lid_settings::{RING, system_of};
 use lid_slack::{Certified, certify, slack, slack_and_next};
 use lid_slackguess::propose_slack;
 use lid_stations::Placement;
 use lid_system::System;
 use std::alloc::Global;
-
-/// A ring of two registers, with the channels `u0 u1 0`, `u1 u0 0` and `u1 out 0`.
-const RING: &[u8] = b".model ring\n.outputs y\n.subckt reg0 d=y q=w\n.subckt reg1 d=w q=y\n.end\n\
-.model reg0\n.inputs d\n.outputs q\n.latch d q 0\n.end\n\
-.model reg1\n.inputs d\n.outputs q\n.latch d q 1\n.end\n";
 
 /// Two ways from `u0` to `u1`, with the channels `in u0 0`, `u0 u1 0`, `u0 u2 0`, `u1 out 0` and `u2 u1 0`.
 const TWO_WAYS: &[u8] =
@@ -84,29 +78,6 @@ static MADE_GUESSES: [Guess; 6] = [
     (7, 63, 0),
     (9, 63, 0),
 ];
-
-/// The system of an accepted design.
-fn built(alloc: Global, checked: &Checked) -> Option<System>
-    ensures { IfSome result IsWellFormed }
-{
-    match build(alloc, checked) {
-        Ok(system) => Some(system),
-        Err(_) => None,
-    }
-}
-
-/// The system of a netlist.
-fn system_of(alloc: Global, netlist: &[u8]) -> Option<System>
-    ensures { IfSome result IsWellFormed }
-{
-    let Ok(design) = lid_blif::read(alloc, netlist) else {
-        return None;
-    };
-    match check(alloc, design, None) {
-        Ok(checked) => built(alloc, &checked),
-        Err(_) => None,
-    }
-}
 
 /// Whether the ratio with one more is this, where 0/0 stands for none.
 fn is_next(next: Option<Ratio>, p: u64, q: u64) -> bool {
