@@ -175,7 +175,7 @@ module _ (q : Plan) (name : Wire → List ℕ) where
         let product = mul-suc n m in
         omega arith
 
-    abbrev two_costs : (xs ys : List Wire) → wires_cost (xs ++ ys) ≡ wires_cost xs + wires_cost ys
+    two_costs : (xs ys : List Wire) → wires_cost (xs ++ ys) ≡ wires_cost xs + wires_cost ys
     two_costs xs ys = sum_by-append wire_cost xs ys
 
     givens_cost : (k m : ℕ) → wires_cost (from_each given k m) ≤ 48 * m + line_size (map name (from_each entry k m))

@@ -155,7 +155,7 @@ module _ (q : Plan) (name : Wire → List ℕ) where
       let later = kind_load wire each (k + 1) n in
       omega arith
 
-  abbrev two_loads : (xs ys : List Wire) → wires_load (xs ++ ys) ≡ wires_load xs + wires_load ys
+  two_loads : (xs ys : List Wire) → wires_load (xs ++ ys) ≡ wires_load xs + wires_load ys
   two_loads xs ys = sum_by-append wire_load xs ys
 
   pub outer_load : wires_load (outer_wires q) ≤ 8 * (q.inputs + length q.shows + 4)
