@@ -24,8 +24,8 @@ use Rattle.lid_work.specs.declared.worker.Worker.{Worker}
 use Rattle.lid_crew.specs.Shares.{is_own, share, numbers_of, holder}
 use Rattle.lid_crew.specs.Crews.{IsSameBut, AreBack, AreShared, HasJoined, HaveWorked}
 use Rattle.lid_free.specs.Settings.{IsCrew}
-use Rattle.lid_free.specs.FreeRuns.{IsShareTally}
-use Rattle.lid_free.specs.Gathering.{fired_of, state_at, HasWorkedOut, AreGathered}
+use Rattle.lid_free.specs.FreeRuns.{IsShareTally, state_at}
+use Rattle.lid_free.specs.Gathering.{fired_of, HasWorkedOut, AreGathered}
 use Rattle.lid_free.specs.declared.setting.Boards.{Boards}
 use Rattle.lid_free.specs.declared.setting.Crew.{Crew}
 use Rattle.lid_free.proofs.Shares.{picked_length}

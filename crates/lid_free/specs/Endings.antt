@@ -17,4 +17,4 @@ pub record IsEnding (m : Setup) (workers made : ℕ) (e : FreeEnd) : Type 0 wher
   pub fit : FitStations (plan m) e.fired e.passed
   pub first : 0 < made → FirstTurnsFire (plan m) e.fired
   pub alone : workers ≡ 1 → AreSweeps (plan m) made e.tallies e.fired e.passed
-  pub finishes : 0 < workers → Finishes (plan m) e.tallies e.finish e.finish_fired
+  pub finishes : 0 < workers → Finishes (plan m) e.tallies e.fired e.finish e.finish_fired
