@@ -37,6 +37,10 @@ pub record FitStations (m : Plan) (fired passed : List ℕ) : Type 0 where
   pub some : (station : ℕ) → station < stations_of m → get_or passed station 0 ≤ start_of m station + get_or fired (filler_of m station) 0
   pub few : (station : ℕ) → station < stations_of m → start_of m station + get_or fired (filler_of m station) 0 ≤ get_or passed station 0 + room_of m station
 
+-- no actor fired more often than rounds were made: a round has one turn of it
+abbrev pub AreWithinRounds : Plan → ℕ → List ℕ → Type 0
+AreWithinRounds m made fired = (v : ℕ) → v < actors_of m → get_or fired v 0 ≤ made
+
 -- an actor that may fire and drains home stations only, or none, fired: nothing can stop its first turn
 abbrev pub FirstTurnsFire : Plan → List ℕ → Type 0
 FirstTurnsFire m fired =
@@ -79,6 +83,7 @@ pub record IsLawful (m : Plan) (workers rounds : ℕ) (e : FreeEnd) : Type 0 whe
   pub passed_many : length e.passed ≡ stations_of m
   pub tallies_are : (i : ℕ) (t : Tally) → slice_get e.tallies i ≡ Some t → IsShareTally m workers (rounds_made m rounds) e.fired i t
   pub fit : FitStations m e.fired e.passed
+  pub few : AreWithinRounds m (rounds_made m rounds) e.fired
   pub first : 0 < rounds_made m rounds → FirstTurnsFire m e.fired
   pub alone : workers ≡ 1 → AreSweeps m (rounds_made m rounds) e.tallies e.fired e.passed
   pub finishes : Finishes m e.tallies e.fired e.finish e.finish_fired

@@ -13,7 +13,7 @@ use Rattle.lid_walk.specs.Walks.{IsBoard}
 use Rattle.lid_work.specs.Alone.{run_from, rounds_of}
 use Rattle.lid_crew.specs.Crews.{HaveWorked}
 use Rattle.lid_free.specs.Settings.{AreGiven, IsCrewOf}
-use Rattle.lid_free.specs.FreeRuns.{IsShareTally, FirstTurnsFire, state_at}
+use Rattle.lid_free.specs.FreeRuns.{IsShareTally, AreWithinRounds, FirstTurnsFire, state_at}
 use Rattle.lid_free.specs.declared.setting.Boards.{Boards}
 use Rattle.lid_free.specs.declared.setting.Crew.{Crew}
 
@@ -44,5 +44,6 @@ pub record AreGathered (m : Setup) (workers made : ℕ) (pairs : List Pair) (act
   pub sound : IsSound (plan m) (state_at (fired_of actors))
   pub tallies_many : length tallies ≡ workers
   pub tallies_are : (i : ℕ) (t : Tally) → slice_get tallies i ≡ Some t → IsShareTally (plan m) workers made (fired_of actors) i t
+  pub few : AreWithinRounds (plan m) made (fired_of actors)
   pub first : 0 < made → FirstTurnsFire (plan m) (fired_of actors)
   pub alone : workers ≡ 1 → AreMachines m made tallies (fired_of actors)
