@@ -31,7 +31,8 @@ use Rattle.lid_work.specs.Posts.{known}
 use Rattle.lid_crew.specs.Shares.{share, holder}
 use Rattle.lid_crew.specs.Crews.{HasWorked, HaveWorked, HasJoined, AreShared}
 use Rattle.lid_free.specs.Settings.{IsStarted, IsPlain, IsCrew}
-use Rattle.lid_free.specs.Gathering.{fired_of, state_at}
+use Rattle.lid_free.specs.FreeRuns.{state_at}
+use Rattle.lid_free.specs.Gathering.{fired_of}
 use Rattle.lid_free.proofs.Crewing.{all_owned}
 use Rattle.lid_free.proofs.Parallel.{held_there, HasPair, pair_of, holder_low, mod_low, works_after, IsKept, kept}
 use Rattle.lid_free.proofs.Ready.{drain_holder, fill_holder}

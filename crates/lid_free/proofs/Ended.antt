@@ -29,8 +29,8 @@ use Rattle.lid_walk.proofs.Sweeping.{count, count_more}
 use Rattle.lid_work.specs.Posts.{no_turns}
 use Rattle.lid_work.specs.Tallies.{AddsUp, sum_below}
 use Rattle.lid_crew.specs.Shares.{numbers_of}
-use Rattle.lid_free.specs.FreeRuns.{IsShareTally, FitStations, FirstTurnsFire, AreSweeps, Finishes, IsNothing, IsFreeEnd, rounds_made}
-use Rattle.lid_free.specs.Gathering.{fired_of, state_at, AreGathered}
+use Rattle.lid_free.specs.FreeRuns.{IsShareTally, FitStations, AreWithinRounds, FirstTurnsFire, AreSweeps, Finishes, IsNothing, IsFreeEnd, rounds_made, state_at}
+use Rattle.lid_free.specs.Gathering.{fired_of, AreGathered}
 use Rattle.lid_free.specs.Endings.{IsEnding}
 use Rattle.lid_free.specs.Sweeps.{HasSettled}
 use Rattle.lid_free.specs.declared.ending.Sweeps.{Sweeps}
@@ -120,8 +120,10 @@ module _ (m : Setup) (workers made : ℕ) (pairs : List Pair) (actors : List Act
         ∙ whole_sum (λ v. get_or fired v 0) workers (actors_of (plan m)) some
         ∙ sym (count_below (λ v. get_or fired v 0) (actors_of (plan m)))
 
-    pub finishes : 0 < workers → Finishes (plan m) tallies s.count s.fired
+    pub finishes : 0 < workers → Finishes (plan m) tallies fired s.count s.fired
     finishes some = record {
+      settled = settled.settled;
+      not_before = settled.swept.not_before;
       all_fired =
           (let parts = count_add (λ v. get_or fired v 0) (λ v. (last v).fired - (st v).fired) (cap (plan m)) 0 (actors_of (plan m))
           (λ v low high. let h : v < actors_of (plan m) = omega (arith, high) in let c = capped v h in let d = settled.settled v h in omega (arith, c, d)) in
@@ -153,11 +155,14 @@ module _ (m : Setup) (workers made : ℕ) (pairs : List Pair) (actors : List Act
       passed_many = ap length p_is ∙ map_length (λ (p : Pair). p.taken) pairs ∙ g.board.many;
       tallies_are = λ i t at_t. subst (λ (l : List ℕ). IsShareTally (plan m) workers made l i t) (sym f_is) (g.tallies_are i t (ap (λ (l : List Tally). slice_get l i) (sym t_is) ∙ at_t));
       fit = subst (λ (l : List ℕ). FitStations (plan m) l e.passed) (sym f_is) (subst (FitStations (plan m) fired) (sym p_is) fit);
+      few = subst (AreWithinRounds (plan m) made) (sym f_is) g.few;
       first = λ some. subst (FirstTurnsFire (plan m)) (sym f_is) (g.first some);
       alone = λ one.
           subst (λ (l : List Tally). AreSweeps (plan m) made l e.fired e.passed) (sym t_is) (subst (λ (l : List ℕ). AreSweeps (plan m) made tallies l e.passed) (sym f_is) (subst (AreSweeps (plan m) made tallies fired) (sym p_is) (alone_so one)));
       finishes = λ some.
-          subst (λ (l : List Tally). Finishes (plan m) l e.finish e.finish_fired) (sym t_is) (subst (λ (n : ℕ). Finishes (plan m) tallies n e.finish_fired) (sym c_is) (subst (Finishes (plan m) tallies s.count) (sym n_is) (finishes some)));
+          subst (λ (l : List Tally). Finishes (plan m) l e.fired e.finish e.finish_fired) (sym t_is)
+          (subst (λ (l : List ℕ). Finishes (plan m) tallies l e.finish e.finish_fired) (sym f_is)
+          (subst (λ (n : ℕ). Finishes (plan m) tallies fired n e.finish_fired) (sym c_is) (subst (Finishes (plan m) tallies fired s.count) (sym n_is) (finishes some))));
     }
 
 -- without rows nothing is done
@@ -222,6 +227,7 @@ module _ (m : Setup) (workers rounds : ℕ) (e : FreeEnd) (rules : IsSetup m) (i
       passed_many = is.passed_many;
       tallies_are = is.tallies_are;
       fit = is.fit;
+      few = is.few;
       first = is.first;
       alone = is.alone;
       finishes = is.finishes some;

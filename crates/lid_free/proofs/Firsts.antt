@@ -28,8 +28,8 @@ use Rattle.lid_work.proofs.Sums.{sum_none}
 use Rattle.lid_crew.specs.Shares.{share, holder}
 use Rattle.lid_crew.specs.Crews.{HaveWorked}
 use Rattle.lid_free.specs.Settings.{IsCrew}
-use Rattle.lid_free.specs.FreeRuns.{FirstTurnsFire}
-use Rattle.lid_free.specs.Gathering.{fired_of, state_at}
+use Rattle.lid_free.specs.FreeRuns.{FirstTurnsFire, state_at}
+use Rattle.lid_free.specs.Gathering.{fired_of}
 use Rattle.lid_free.proofs.Parallel.{held_there, fired_read, HasPair, pair_of, mod_low, run_of, none_fired, works_after, kept}
 use Rattle.lid_free.proofs.Ready.{drain_holder, fill_holder}
 

@@ -24,14 +24,15 @@ use Rattle.lid_work.specs.declared.worker.Worker.{Worker}
 use Rattle.lid_crew.specs.Shares.{is_own, share, numbers_of, holder}
 use Rattle.lid_crew.specs.Crews.{IsSameBut, AreBack, AreShared, HasJoined, HaveWorked}
 use Rattle.lid_free.specs.Settings.{IsCrew}
-use Rattle.lid_free.specs.FreeRuns.{IsShareTally}
-use Rattle.lid_free.specs.Gathering.{fired_of, state_at, HasWorkedOut, AreGathered}
+use Rattle.lid_free.specs.FreeRuns.{IsShareTally, state_at}
+use Rattle.lid_free.specs.Gathering.{fired_of, HasWorkedOut, AreGathered}
 use Rattle.lid_free.specs.declared.setting.Boards.{Boards}
 use Rattle.lid_free.specs.declared.setting.Crew.{Crew}
 use Rattle.lid_free.proofs.Shares.{picked_length}
 use Rattle.lid_free.proofs.Parallel.{HasPair, pair_of, fired_read, actors_after, tally_after}
 use Rattle.lid_free.proofs.Closing.{shared, all_kept, board_closed}
 use Rattle.lid_free.proofs.Resting.{sound_at_rest}
+use Rattle.lid_free.proofs.Rounds.{few_fired}
 use Rattle.lid_free.proofs.Firsts.{first_turns}
 use Rattle.lid_free.proofs.Solo.{machines}
 
@@ -156,6 +157,7 @@ module _ (m : Setup) (workers made : ℕ) (b : Boards) (crew : Crew) (h : HasWor
           sound = sound_at_rest m c.rules (state_at (fired_of actors)) pairs board_is (λ v there. refl) capped;
           tallies_many = ap length noted_news ∙ length_map news ∙ news_many;
           tallies_are = tallies_is;
+          few = few_fired m b.board workers h.set.owners h.set.dealt h.old.workers.items c news made actors h.worked long shares_are;
           first = first_turns m b.board workers h.set.owners h.set.dealt h.old.workers.items news made actors c h.worked long shares_are;
           alone = λ one. machines m b.board workers h.set.owners h.set.dealt h.old.workers.items news made actors c h.worked long shares_are one tallies noted_news;
         }

@@ -6,6 +6,7 @@ pub mod Crewing
 pub mod Parallel
 pub mod Resting
 pub mod Closing
+pub mod Rounds
 pub mod Firsts
 pub mod Solo
 pub mod Noting

@@ -32,8 +32,8 @@ use Rattle.lid_system.proofs.Shelling.{each_length}
 use Rattle.lid_crew.specs.Shares.{is_own, share, numbers_of, holder}
 use Rattle.lid_crew.specs.Crews.{HasWorked, HaveWorked}
 use Rattle.lid_free.specs.Settings.{IsStart, IsStarted, IsSetOutAs, IsCrew}
-use Rattle.lid_free.specs.FreeRuns.{IsShareTally}
-use Rattle.lid_free.specs.Gathering.{fired_of, state_at}
+use Rattle.lid_free.specs.FreeRuns.{IsShareTally, state_at}
+use Rattle.lid_free.specs.Gathering.{fired_of}
 use Rattle.lid_free.proofs.Shares.{rank, picked_at, picked_length, picks_sum}
 use Rattle.lid_free.proofs.Ready.{works_at_start, held_here}
 use Rattle.lid_free.proofs.Crewing.{at_start}

@@ -4,7 +4,7 @@ use Rattle.lid_base.specs.declared.runs.Tally.{Tally}
 use Rattle.lid_machine.specs.Plans.{actors_of, stations_of, sink}
 use Rattle.lid_machine.specs.Setups.{Setup, plan, output_rows}
 use Rattle.lid_shell.specs.Parts.{AreColumns}
-use Rattle.lid_free.specs.FreeRuns.{IsShareTally, FitStations, FirstTurnsFire, AreSweeps, Finishes}
+use Rattle.lid_free.specs.FreeRuns.{IsShareTally, FitStations, AreWithinRounds, FirstTurnsFire, AreSweeps, Finishes}
 use Rattle.lid_free.specs.declared.run.FreeEnd.{FreeEnd}
 
 pub record IsEnding (m : Setup) (workers made : ℕ) (e : FreeEnd) : Type 0 where
@@ -15,6 +15,7 @@ pub record IsEnding (m : Setup) (workers made : ℕ) (e : FreeEnd) : Type 0 wher
   pub passed_many : length e.passed ≡ stations_of (plan m)
   pub tallies_are : (i : ℕ) (t : Tally) → slice_get e.tallies i ≡ Some t → IsShareTally (plan m) workers made e.fired i t
   pub fit : FitStations (plan m) e.fired e.passed
+  pub few : AreWithinRounds (plan m) made e.fired
   pub first : 0 < made → FirstTurnsFire (plan m) e.fired
   pub alone : workers ≡ 1 → AreSweeps (plan m) made e.tallies e.fired e.passed
-  pub finishes : 0 < workers → Finishes (plan m) e.tallies e.finish e.finish_fired
+  pub finishes : 0 < workers → Finishes (plan m) e.tallies e.fired e.finish e.finish_fired

@@ -9,7 +9,7 @@ use Rattle.lid_runs.specs.Runs.{fired_in}
 use Rattle.lid_machine.specs.Plans.{Plan, actors_of, stations_of, sink, ins_of, drainer_of, filler_of, cap, start_of, room_of}
 use Rattle.lid_machine.specs.Setups.{Setup, plan, output_rows}
 use Rattle.lid_machine.specs.Machine.{State, begun, out_count}
-use Rattle.lid_machine.specs.Laws.{sweeps}
+use Rattle.lid_machine.specs.Laws.{IsSettled, sweeps}
 use Rattle.lid_shell.specs.Parts.{AreColumns}
 use Rattle.lid_work.specs.Posts.{no_turns}
 use Rattle.lid_work.specs.Tallies.{AddsUp, sum_below}
@@ -37,6 +37,10 @@ pub record FitStations (m : Plan) (fired passed : List ℕ) : Type 0 where
   pub some : (station : ℕ) → station < stations_of m → get_or passed station 0 ≤ start_of m station + get_or fired (filler_of m station) 0
   pub few : (station : ℕ) → station < stations_of m → start_of m station + get_or fired (filler_of m station) 0 ≤ get_or passed station 0 + room_of m station
 
+-- no actor fired more often than rounds were made: a round has one turn of it
+abbrev pub AreWithinRounds : Plan → ℕ → List ℕ → Type 0
+AreWithinRounds m made fired = (v : ℕ) → v < actors_of m → get_or fired v 0 ≤ made
+
 -- an actor that may fire and drains home stations only, or none, fired: nothing can stop its first turn
 abbrev pub FirstTurnsFire : Plan → List ℕ → Type 0
 FirstTurnsFire m fired =
@@ -51,9 +55,15 @@ pub record AreSweeps (m : Plan) (made : ℕ) (tallies : List Tally) (fired passe
   pub fired_are : (v : ℕ) → v < actors_of m → get_or fired v 0 ≡ (sweeps m begun made v).fired
   pub passed_are : (station : ℕ) → station < stations_of m → get_or passed station 0 ≡ out_count m (sweeps m begun made) station
 
--- the sweeps that follow bring all actors to their caps; they are no more than a clocked run needs cycles for that,
--- and each has a firing
-pub record Finishes (m : Plan) (tallies : List Tally) (finish finish_fired : ℕ) : Type 0 where
+-- all actors at rest, each having fired as often as its number here says
+abbrev pub state_at : List ℕ → State
+state_at fired v = record { fired = get_or fired v 0; position = 0 }
+
+-- the sweeps that follow the parallel phase, in which actors fired so often, bring all actors to their caps, and fewer
+-- do not; they are no more than a clocked run needs cycles for that, and each has a firing
+pub record Finishes (m : Plan) (tallies : List Tally) (fired : List ℕ) (finish finish_fired : ℕ) : Type 0 where
+  pub settled : IsSettled m (sweeps m (state_at fired) finish)
+  pub not_before : (k : ℕ) → k < finish → IsSettled m (sweeps m (state_at fired) k) → ⊥
   pub all_fired : sum_by (λ t. t.fired) tallies + finish_fired ≡ sum_below (cap m) (actors_of m)
   pub settles : (k : ℕ) → ((v : ℕ) → v < actors_of m → fired_in m.links m.placement m.rows no_hold k v ≡ cap m v) → finish ≤ k
   pub fires : finish ≤ finish_fired
@@ -73,9 +83,10 @@ pub record IsLawful (m : Plan) (workers rounds : ℕ) (e : FreeEnd) : Type 0 whe
   pub passed_many : length e.passed ≡ stations_of m
   pub tallies_are : (i : ℕ) (t : Tally) → slice_get e.tallies i ≡ Some t → IsShareTally m workers (rounds_made m rounds) e.fired i t
   pub fit : FitStations m e.fired e.passed
+  pub few : AreWithinRounds m (rounds_made m rounds) e.fired
   pub first : 0 < rounds_made m rounds → FirstTurnsFire m e.fired
   pub alone : workers ≡ 1 → AreSweeps m (rounds_made m rounds) e.tallies e.fired e.passed
-  pub finishes : Finishes m e.tallies e.finish e.finish_fired
+  pub finishes : Finishes m e.tallies e.fired e.finish e.finish_fired
   pub nothing : m.rows ≡ 0 → IsNothing e
 
 -- the strict output rows, and what workers and sweeps did

@@ -5,7 +5,7 @@ use Rattle.lid_base.specs.declared.runs.Tally.{Tally}
 use Rattle.lid_station.specs.declared.pair.Pair.{Pair}
 use Rattle.lid_machine.specs.Plans.{actors_of, stations_of}
 use Rattle.lid_machine.specs.Setups.{Setup, IsSetup, plan}
-use Rattle.lid_machine.specs.Machine.{Progress, State, begun}
+use Rattle.lid_machine.specs.Machine.{begun}
 use Rattle.lid_machine.specs.Laws.{IsSound, sweeps}
 use Rattle.lid_shell.specs.declared.actor.Actor.{Actor}
 use Rattle.lid_actors.specs.Actors.{AreActors}
@@ -13,17 +13,13 @@ use Rattle.lid_walk.specs.Walks.{IsBoard}
 use Rattle.lid_work.specs.Alone.{run_from, rounds_of}
 use Rattle.lid_crew.specs.Crews.{HaveWorked}
 use Rattle.lid_free.specs.Settings.{AreGiven, IsCrewOf}
-use Rattle.lid_free.specs.FreeRuns.{IsShareTally, FirstTurnsFire}
+use Rattle.lid_free.specs.FreeRuns.{IsShareTally, AreWithinRounds, FirstTurnsFire, state_at}
 use Rattle.lid_free.specs.declared.setting.Boards.{Boards}
 use Rattle.lid_free.specs.declared.setting.Crew.{Crew}
 
 -- how often actors have fired
 abbrev pub fired_of : List Actor → List ℕ
 fired_of actors = map (λ a. a.desk.fired) actors
-
--- all at rest, and so far
-abbrev pub state_at : List ℕ → State
-state_at fired v = record { fired = get_or fired v 0; position = 0 }
 
 -- the workers have made so many rounds
 pub record HasWorkedOut (m : Setup) (workers made : ℕ) (b : Boards) (c : Crew) : Type 0 where
@@ -48,5 +44,6 @@ pub record AreGathered (m : Setup) (workers made : ℕ) (pairs : List Pair) (act
   pub sound : IsSound (plan m) (state_at (fired_of actors))
   pub tallies_many : length tallies ≡ workers
   pub tallies_are : (i : ℕ) (t : Tally) → slice_get tallies i ≡ Some t → IsShareTally (plan m) workers made (fired_of actors) i t
+  pub few : AreWithinRounds (plan m) made (fired_of actors)
   pub first : 0 < made → FirstTurnsFire (plan m) (fired_of actors)
   pub alone : workers ≡ 1 → AreMachines m made tallies (fired_of actors)

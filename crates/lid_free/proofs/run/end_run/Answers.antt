@@ -5,7 +5,8 @@ use Rattle.lid_station.specs.declared.pair.Pair.{Pair}
 use Rattle.lid_shell.specs.declared.actor.Actor.{Actor}
 use Rattle.lid_machine.specs.Setups.{plan}
 use Rattle.lid_machine.specs.Laws.{sweeps}
-use Rattle.lid_free.specs.Gathering.{fired_of, state_at}
+use Rattle.lid_free.specs.FreeRuns.{state_at}
+use Rattle.lid_free.specs.Gathering.{fired_of}
 use Rattle.lid_free.proofs.Ended.{ending}
 use Rattle.lid_free.proofs.run.end_run.Goals as goal
 
