@@ -40,8 +40,8 @@ static TEXTS: [(&str, &str); 15] = [
         ".model m\n.inputs a\n.latch a q 3\n.end\n",
     ),
     (
-        ".model m\n.latch a q re NIL\n",
-        ".model m\n.latch a q re NIL 3\n.end\n",
+        ".model m\n.inputs a\n.latch a q re NIL\n",
+        ".model m\n.inputs a\n.latch a q re NIL 3\n.end\n",
     ),
     (
         ".model m\n.latch a q fe clk 2\n.latch b r 1",

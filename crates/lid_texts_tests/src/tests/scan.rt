@@ -128,8 +128,8 @@ fn a_cut_at_any_byte_changes_nothing(rt: HostRuntime) {
 
 /// How many rows there are without columns, how many output bits each gives, and what is told.
 static MANY: [(u32, u32, Told); 4] = [
-    (1_000_000, 2, ("", 1_000_000)),
-    (1_000_001, 2, ("Limit Rows", 1_000_001)),
+    (1_000_000, 1, ("", 1_000_000)),
+    (1_000_001, 1, ("Limit Rows", 1_000_001)),
     (986_895, 68, ("", 986_895)),
     (986_896, 68, ("Limit OutBits", 67_108_928)),
 ];
