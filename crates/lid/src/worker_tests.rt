@@ -39,7 +39,8 @@ fn two_workers_meet_at_the_gate(rt: HostRuntime) -> Result<(), Fail> {
         "--workers",
         "2",
     ];
-    let told = "y\n1\n0\n1\n0\ncycles 6\nfired in 3\nfired u0 3\nfired u1 3\nfired out 4\ntrace 4 6\n\
+    let told =
+        "y\n1\n0\n1\n0\ncycles 6\nfired in 3\nfired u0 3\nfired u1 3\nfired out 4\ntrace 4 6\n\
 0 . 1 1\n1 0 . .\n. 1 0 0\n0 . 1 1\n1 0 . .\n. 1 0 0\n";
     expect_meeting(&rt, &words, &files, done(told))?;
     Ok(())
