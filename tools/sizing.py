@@ -107,6 +107,7 @@ DESIGNS = [
     ("2,000 diamonds in a row, 3 on one way", lambda: diamonds(2000), beside(3)),
     ("the same, 12 on one way", lambda: diamonds(2000), beside(12)),
     ("2,047 diamonds in a row, 28 on one way", lambda: diamonds(2047), beside(28)),
+    ("a chain of 1,007 shells, 64 on each channel", lambda: netlist([["x"], *[[f"n{k}"] for k in range(1006)]], "x", "n1006"), lambda dice, names: [64 for _ in names]),
     ("128 shells that all read each other, 3 a channel in the mean", all_to_all, whole),
     ("two ways of 300 channels with 64 each, which 1,000 shells read", lambda: fan(300, 1000, 1), along(300, 1000)),
 ]
