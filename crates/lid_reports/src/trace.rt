@@ -10,6 +10,7 @@ use crate::pieces::{Piece, append_pieces};
 use lid_base::{Items, Shown, Which, append_number};
 use lid_lines::cut_back;
 use std::alloc::AllocError;
+use thiserror::Error;
 
 /// The most cells of a trace: stations times cycles.
 const MOST_CELLS: u64 = 1_048_576;
@@ -24,9 +25,10 @@ pub struct Trace {
 }
 
 /// Why a trace is not made.
-#[derive(Clone, Copy)]
+#[derive(Clone, Copy, Debug, PartialEq, Eq, Error)]
 pub enum TraceFault {
     /// The number of what is counted, which is over the limit.
+    #[error("{count} is over the limit")]
     Limit { which: Which, count: u64 },
 }
 
