@@ -1,21 +1,20 @@
 -- The rows of the lines that have ended: they come first in what a longer text stands for, and each is
 -- as wide as the columns.
 use Rattle.std.proofs.Common.{◌≡◌, ℕ, suc, ◌+◌, ◌*◌, ◌==◌, nat_lt, Bool, true, false, not, ◌||◌, cond, if◌then◌else◌, List, [], ◌∷◌, ◌++◌, length, map, take, drop, filter, Option, Some, None, Result, Ok, Err, refl, sym, ap, ◌∙◌, subst, arith}
-use borrow.Author.Tests.{eqb-true}
 use Rattle.std.specs.Prelude.{is_none}
-use Rattle.std.specs.List.{AllByRecursion, concat, enumerate_from, prefix_len, slice_split}
-use Rattle.std.proofs.lemmas.List.{length-map}
+use Rattle.std.specs.List.{AllByRecursion, enumerate_from, prefix_len, slice_split}
 use Rattle.lid_base.specs.Lists.{Extends}
 use Rattle.lid_base.specs.declared.which.Which.TheVariants.{FileBytes}
 use Rattle.lid_base.specs.Lines.{is_newline, joins_of, physical_lines}
 use Rattle.lid_texts.specs.declared.rows.Rows.{Rows}
 use Rattle.lid_texts.specs.declared.rows.VecFault.{VecFault}
 use Rattle.lid_texts.specs.declared.rows.VecFault.TheVariants.{Limit}
-use Rattle.lid_texts.specs.Rows.{RowsLine, rows_line, has_words, has_long_word, row_width, header_fault, row_fault, row_bits, line_faults, lines_fault, ok_unless, bits_reading, under_columns, rows_lines, rows_reading}
+use Rattle.lid_texts.specs.Rows.{RowsLine, rows_line, has_words, header_fault, row_fault, row_bits, line_faults, lines_fault, ok_unless, bits_reading, under_columns, rows_lines, rows_reading}
 use Rattle.lid_texts.specs.Scans.{ended_lines, logical_of, sound_rows, ended_rows}
 use Rattle.lid_texts.specs.RowsWalk.{joined, alone, if_logical, begun_of}
 use Rattle.lid_texts.proofs.Splits.{ended_are, last_part, some_parts, ended_more, logical_more, whole_last}
 use Rattle.lid_texts.proofs.Faulted.{fine_of_none, rows_fine, rows_more}
+use Rattle.lid_texts.proofs.Limits.{row_fault_None}
 
 abbrev bits_of : Result Rows VecFault → List (List Bool)
 bits_of (Ok rows) = rows.bits
@@ -77,29 +76,6 @@ module _ (columns : List (List ℕ)) (outs : ℕ) where
   abbrev pub AreWide : List (List Bool) → Type 0
   AreWide rows = AllByRecursion (λ row. length row ≡ length columns) rows
 
-  if_None : (b : Bool) {A : Type 0} (a : A) (more : Option A) → (if b then Some a else more) ≡ None → (b ≡ false) × (more ≡ None)
-  if_None true a more h = cc
-  if_None false a more h = (refl, h)
-
-  or_false_both : (a b : Bool) → (a || not b) ≡ false → b ≡ true
-  or_false_both true b h = cc
-  or_false_both false true h = refl
-  or_false_both false false h = cc
-
-  bits_width : (cs : List (List ℕ)) (line : RowsLine) → length (concat line.words) ≡ row_width cs → length (row_bits cs line) ≡ length cs
-  unfolding row_bits
-  bits_width [] line h = refl
-  bits_width (c ∷ cs) line h = simp length-map h
-
-  sound_width : (k : ℕ) (line : RowsLine) → row_fault columns outs k line ≡ None → length (row_bits columns line) ≡ length columns
-  unfolding row_fault
-  sound_width k line h =
-      let good = if_None line.bad _ _ h in
-      let few = if_None (nat_lt 1000000 k) _ _ good.1 in
-      let few_out_bits = if_None (nat_lt 67108864 (k * outs)) _ _ few.1 in
-      let wide = if_None (has_long_word line.words || not (length (concat line.words) == row_width columns)) _ _ few_out_bits.1 in
-      bits_width columns line (eqb-true (length (concat line.words)) (row_width columns) (or_false_both _ _ wide.0))
-
   rows_wide : (k : ℕ) (ls : List RowsLine) → AreWide (map (row_bits columns) (take (prefix_len is_none (map (λ (p : ℕ × RowsLine). row_fault columns outs p.0 p.1) (enumerate_from k ls))) ls))
   rows_wide k [] = tt
   rows_wide k (l ∷ ls) = by (row_fault columns outs k l) refl (rows_wide (k + 1) ls)
@@ -111,7 +87,7 @@ module _ (columns : List (List ℕ)) (outs : ℕ) where
       by None e later =
           let n = prefix_len is_none (map (λ (p : ℕ × RowsLine). row_fault columns outs p.0 p.1) (enumerate_from (k + 1) ls)) in
           let number : suc n ≡ 1 + n = omega arith in
-          subst (λ (m : ℕ). AreWide (map (row_bits columns) (take m (l ∷ ls)))) number (sound_width k l e, later)
+          subst (λ (m : ℕ). AreWide (map (row_bits columns) (take m (l ∷ ls)))) number ((row_fault_None columns outs k l e).wide, later)
 
   sound_wide : (ls : List RowsLine) → AreWide (sound_rows columns outs ls)
   sound_wide [] = tt

@@ -19,10 +19,10 @@ pub record IsWithin (columns : List (List ℕ)) (outs : ℕ) (bits : List (List 
   pub few_out_bits : length bits * outs ≤ 67108864
 
 -- a row without a fault
-record IsSound (columns : List (List ℕ)) (outs k : ℕ) (line : RowsLine) : Type 0 where
-  few : k ≤ 1000000
-  few_out_bits : k * outs ≤ 67108864
-  wide : length (row_bits columns line) ≡ length columns
+pub record IsSound (columns : List (List ℕ)) (outs k : ℕ) (line : RowsLine) : Type 0 where
+  pub few : k ≤ 1000000
+  pub few_out_bits : k * outs ≤ 67108864
+  pub wide : length (row_bits columns line) ≡ length columns
 
 if_None : (b : Bool) {A : Type 0} (a : A) (more : Option A) → (if b then Some a else more) ≡ None → (b ≡ false) × (more ≡ None)
 if_None true a more h = cc
@@ -38,7 +38,7 @@ unfolding row_bits
 row_bits_width [] line h = refl
 row_bits_width (column ∷ columns) line h = simp length-map h
 
-row_fault_None : (columns : List (List ℕ)) (outs k : ℕ) (line : RowsLine) → row_fault columns outs k line ≡ None → IsSound columns outs k line
+pub row_fault_None : (columns : List (List ℕ)) (outs k : ℕ) (line : RowsLine) → row_fault columns outs k line ≡ None → IsSound columns outs k line
 unfolding row_fault
 row_fault_None columns outs k line h =
     let good = if_None line.bad _ _ h in

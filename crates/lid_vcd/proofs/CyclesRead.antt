@@ -173,6 +173,16 @@ next_cycle line stations variables at k left next before row rest cells false h 
 mul_suc : (a b : ℕ) → a * suc b ≡ a * b + a
 mul_suc a b = grind (arith)
 
+-- the first row of cells is one of all stations, and the rows after it are one fewer
+pub first_row : (stations left : ℕ) (cells : List Shown) → length cells ≡ stations * suc left → (length (take stations cells) ≡ stations) × (length (drop stations cells) ≡ stations * left)
+first_row stations left cells long =
+    let product = mul_suc stations left in
+    let enough : stations ≤ length cells = omega arith in
+    let across : length (take stations cells) ≡ stations = length-take-le stations cells enough in
+    let dropped = length-drop stations cells in
+    let longer : length (drop stations cells) ≡ stations * left = omega arith in
+    (across, longer)
+
 pub later_goes : (line stations variables at k left : ℕ) (next : Next) (before cells : List Shown) → AtTime variables at next → at < k → k + left < 4294967295 → length before ≡ stations → length cells ≡ stations * left → 3 * stations ≤ variables → variables ≤ 196608 →
     AllByRecursion IsCell before → AllByRecursion IsCell cells → Ends variables next (values_of before) (placed_lines line (later_lines stations k left before cells)) (k + left) (cycles_of (k - at) (values_of before) ++ cells)
 later_goes line stations variables at k zero next before [] here after early wide long below few all each =
@@ -188,11 +198,9 @@ later_goes line stations variables at k zero next before (cell ∷ cells) here a
 later_goes line stations variables at k (suc left) next before cells here after early wide long below few all each =
     let row = take stations cells in
     let rest = drop stations cells in
-    let product = mul_suc stations left in
-    let enough : stations ≤ length cells = omega arith in
-    let across : length row ≡ stations = length-take-le stations cells enough in
-    let dropped = length-drop stations cells in
-    let longer : length rest ≡ stations * left = omega arith in
+    let cut = first_row stations left cells long in
+    let across : length row ≡ stations = cut.0 in
+    let longer : length rest ≡ stations * left = cut.1 in
     let room : 3 * length row ≤ variables = omega arith in
     next_cycle line stations variables at k left next before row rest cells (any_differs before row) refl here after early (wide ∙ sym across) room few all (all_take stations cells each) (take-append-drop stations cells)
     (λ to n h. later_goes n stations variables k (k + 1) left to row rest h (omega arith) (omega arith) across longer below few (all_take stations cells each) (all_drop stations cells each))

@@ -1,6 +1,6 @@
 -- What is read of a text is what it shows.
-use Rattle.std.proofs.Common.{◌≡◌, ℕ, ◌*◌, Bool, true, false, cond, List, length}
-use Rattle.std.specs.Prelude.{max, nat_lt, Result, Ok, Err}
+use Rattle.std.proofs.Common.{◌≡◌, ℕ, Bool, true, false, cond, List, length}
+use Rattle.std.specs.Prelude.{nat_lt, Result, Ok, Err}
 use Rattle.lid_base.specs.declared.which.Which.TheVariants.{FileBytes, TraceCells}
 use Rattle.lid_reports.specs.declared.trace.Trace.{Trace}
 use Rattle.lid_wave.specs.Shows.{wave_of}

@@ -5,7 +5,6 @@ use Rattle.std.specs.Fmt.{decimal}
 use Rattle.std.specs.List.{join_with_byte}
 use Rattle.std.proofs.lemmas.Bool.{cond-false}
 use Rattle.std.proofs.lemmas.Fmt.{length-decimal-le}
-use Rattle.std.proofs.lemmas.List.{length-take-le, length-drop}
 use Rattle.lid_base.specs.declared.runs.Shown.{Shown}
 use Rattle.lid_base.specs.declared.which.Which.TheVariants.{FileBytes, TraceCells}
 use Rattle.lid_lines.specs.Texts.{Words, line_text, lines_text}
@@ -17,6 +16,7 @@ use Rattle.lid_wave.specs.Text.{declaration, declarations, timescale_words, scop
 use Rattle.lid_wave.specs.Writable.{IsWritable}
 use Rattle.lid_vcd.specs.declared.reader.VcdFault.TheVariants.{Limit}
 use Rattle.lid_vcd.specs.Reading.{cell_count, judged, wave_reading}
+use Rattle.lid_vcd.proofs.CyclesRead.{first_row}
 use Rattle.lid_vcd.proofs.WavesRead.{wave_written}
 
 -- a word with what separates it from the next
@@ -164,18 +164,14 @@ cycle_size k olds news small = by (any_differs olds news)
     by true = let time = time_size k small in let rest = changes_size 0 olds news in let sum = one_first (time_words k) (changes 0 olds news) in omega arith
     by false = omega arith
 
-mul_suc : (a b : ℕ) → a * suc b ≡ a * b + a
-mul_suc a b = grind (arith)
-
 later_size : (stations k left : ℕ) (before cells : List Shown) → length cells ≡ stations * left → k + left < 10000000 → bytes_of (later_lines stations k left before cells) ≤ 9 * (left + 1) + 47 * length cells
 later_size stations k zero before cells long small = let time = time_size k (omega arith) in let sum = one_first (time_words k) [] in omega arith
 later_size stations k (suc left) before cells long small =
     let row = take stations cells in
     let after = drop stations cells in
-    let product = mul_suc stations left in
-    let enough : stations ≤ length cells = omega arith in
-    let across : length row ≡ stations = length-take-le stations cells enough in
-    let dropped = length-drop stations cells in
+    let cut = first_row stations left cells long in
+    let across : length row ≡ stations = cut.0 in
+    let longer : length after ≡ stations * left = cut.1 in
     let first = cycle_size k before row (omega arith) in
     let rest = later_size stations (k + 1) left row after (omega arith) (omega arith) in
     let sum = two_parts (cycle_lines k before row) (later_lines stations (k + 1) left row after) in
@@ -186,10 +182,9 @@ body_size stations zero cells long few = let time = time_size 0 (omega arith) in
 body_size stations (suc left) cells long few =
     let row = take stations cells in
     let after = drop stations cells in
-    let product = mul_suc stations left in
-    let enough : stations ≤ length cells = omega arith in
-    let across : length row ≡ stations = length-take-le stations cells enough in
-    let dropped = length-drop stations cells in
+    let cut = first_row stations left cells long in
+    let across : length row ≡ stations = cut.0 in
+    let longer : length after ≡ stations * left = cut.1 in
     let time = time_size 0 (omega arith) in
     let all = all_size 0 row in
     let rest = later_size stations 1 left row after (omega arith) (omega arith) in

@@ -4,7 +4,7 @@ use Rattle.std.specs.Prelude.{max, Some, Ok, codes}
 use Rattle.std.specs.List.{AllByRecursion}
 use Rattle.std.proofs.lemmas.Bool.{eq-eqb}
 use Rattle.std.proofs.lemmas.Fmt.{decimal_digit}
-use Rattle.std.proofs.lemmas.List.{length-take-le, length-drop, take-append-drop}
+use Rattle.std.proofs.lemmas.List.{take-append-drop}
 use Rattle.lid_base.specs.declared.runs.Shown.{Shown}
 use Rattle.lid_base.proofs.Lists.{all_append}
 use Rattle.lid_lines.specs.Texts.{Words}
@@ -22,7 +22,7 @@ use Rattle.lid_vcd.proofs.Going.{Goes, then_goes, one_word, run_goes}
 use Rattle.lid_vcd.proofs.HeadRead.{placed_append, head_read}
 use Rattle.lid_vcd.proofs.BodyRead.{at_time}
 use Rattle.lid_vcd.proofs.CellsRead.{values_of, values_shown}
-use Rattle.lid_vcd.proofs.CyclesRead.{all_goes, all_take, all_drop, Ends, later_goes}
+use Rattle.lid_vcd.proofs.CyclesRead.{all_goes, all_take, all_drop, Ends, first_row, later_goes}
 
 pub first_time : (variables : ℕ) → step (place variables (Before Body)) (codes "#0") ≡ Some (place variables (Time 0))
 unfolding step begins
@@ -41,9 +41,6 @@ length_zeros : (n : ℕ) → length (zeros n) ≡ n
 length_zeros zero = refl
 length_zeros (suc n) = let e = length_zeros n in omega arith
 
-mul_suc : (a b : ℕ) → a * suc b ≡ a * b + a
-mul_suc a b = grind (arith)
-
 body_goes : (line stations cycles : ℕ) (cells : List Shown) → length cells ≡ stations * cycles → stations ≤ 65536 → cycles ≤ 1048576 → AllByRecursion IsCell cells →
     Ends (3 * stations) (Before Body) (replicate (3 * stations) 0) (placed_lines line (body_lines stations cycles cells)) cycles cells
 body_goes line stations zero [] long few most all = record {
@@ -55,11 +52,9 @@ body_goes line stations (suc left) cells long few most all =
     let v = 3 * stations in
     let row = take stations cells in
     let rest = drop stations cells in
-    let product = mul_suc stations left in
-    let enough : stations ≤ length cells = omega arith in
-    let across : length row ≡ stations = length-take-le stations cells enough in
-    let dropped = length-drop stations cells in
-    let longer : length rest ≡ stations * left = omega arith in
+    let cut = first_row stations left cells long in
+    let across : length row ≡ stations = cut.0 in
+    let longer : length rest ≡ stations * left = cut.1 in
     let many = length_zeros v in
     let set = all_goes (line + 1) v 0 (Time 0) [] (replicate v 0) 0 row refl (omega arith) (at_time v 0) (omega arith) (omega arith) (omega arith) (all_take stations cells all) in
     let n = line + 1 + length (all_lines 0 row) in
