@@ -12,6 +12,7 @@ use Rattle.lid_shell.specs.declared.actor.Actor.{Actor}
 use Rattle.lid_work.specs.Posts.{no_turns, StaysAt}
 use Rattle.lid_work.specs.Tallies.{IsTallyOf}
 use Rattle.lid_work.specs.Turns.{HaveGone}
+use Rattle.lid_work.specs.Order.{WorksInOrder}
 use Rattle.lid_work.specs.Alone.{WorksAlone, MakesRounds}
 use Rattle.lid_machine.specs.Setups.{Setup}
 use Rattle.lid_machine.specs.Machine.{State}
@@ -73,6 +74,7 @@ pub record HasWorked (board : Board) (rounds : ℕ) (old new : Worker) : Type 0 
   pub stays : StaysAt board old new
   pub gone : HaveGone board rounds old new
   pub tally : IsTallyOf board rounds old new
+  pub in_order : WorksInOrder board rounds old new
   pub alone : (m : Setup) (numbers : List ℕ) (st : State) → WorksAlone m numbers st board old → MakesRounds m numbers st board rounds new
 
 -- each worker did

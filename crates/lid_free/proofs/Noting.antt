@@ -43,5 +43,5 @@ none_worked board crew ready = record {
       let is = ready i w at_w in
       let at = not_yet board w is in
       subst (λ (y : Worker). HasWorked board 0 w y) same
-      (record { stays = stays board 0 w w is at; gone = gone board 0 w w is at; tally = tallied board 0 w w is at; alone = alone board 0 w w is at });
+      (record { stays = stays board 0 w w is at; gone = gone board 0 w w is at; tally = tallied board 0 w w is at; in_order = at.in_order; alone = alone board 0 w w is at });
 }

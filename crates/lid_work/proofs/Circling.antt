@@ -16,7 +16,8 @@ use Rattle.lid_walk.proofs.Elements.{there_is}
 use Rattle.lid_work.specs.Posts.{resting, AgreesAt, IsAtWork, IsEndOf, AreApart}
 use Rattle.lid_work.specs.Tallies.{AddsUp}
 use Rattle.lid_work.specs.Alone.{Run, turned, round_of}
-use Rattle.lid_work.specs.Rounds.{EndsTurn, MakesTurn, Made, IsRun, GoesRound}
+use Rattle.lid_work.specs.Order.{EndsTurn, MakesTurn}
+use Rattle.lid_work.specs.Rounds.{Made, IsRun, GoesRound}
 use Rattle.lid_work.proofs.Rounding.{none_made, made_as, one_made, others_stay, upto, upto_none, upto_here, upto_other, upto_all}
 use Rattle.lid_work.proofs.Running.{round_more, runs_then}
 

@@ -5,5 +5,6 @@ pub mod Making
 pub mod Rounding
 pub mod Running
 pub mod Sweeping
+pub mod Ordering
 pub mod Circling
 pub mod Working

@@ -21,7 +21,7 @@ use Rattle.lid_walk.proofs.Serving.{drains_by, fills_by}
 use Rattle.lid_work.specs.Posts.{stations_of, resting, AgreesAt, IsAtWork}
 use Rattle.lid_work.specs.Tallies.{sum_below, counted, fired_one, void_one, stop_one, done_one, misses_at, misses_of, void_misses, stop_misses}
 use Rattle.lid_work.specs.Turns.{HasGone}
-use Rattle.lid_work.specs.Rounds.{at_cap, EndsTurn, MakesTurn}
+use Rattle.lid_work.specs.Order.{at_cap, EndsTurn, MakesTurn}
 use Rattle.lid_work.proofs.Sums.{sum_none, sum_one, below_none, below_one}
 use Rattle.lid_work.proofs.Misses.{missed_one, missed_here, missed_else, AreCounted, drains_more, fills_more, voids_more, stops_more}
 

@@ -22,7 +22,8 @@ use Rattle.lid_walk.proofs.Elements.{set_here, set_there, there_is}
 use Rattle.lid_work.specs.Posts.{stations_of, resting, AgreesAt, IsEndOf, AreApart, KeepsEnds}
 use Rattle.lid_work.specs.Tallies.{AddsUp, counted, fired_one, void_one, stop_one, done_one, misses_in, misses_at, misses_of, void_misses, stop_misses, fired_by, done_among}
 use Rattle.lid_work.specs.Turns.{HasGone}
-use Rattle.lid_work.specs.Rounds.{at_cap, EndsTurn, MakesTurn, done_turns, Made}
+use Rattle.lid_work.specs.Order.{at_cap, EndsTurn, MakesTurn}
+use Rattle.lid_work.specs.Rounds.{done_turns, Made}
 use Rattle.lid_work.proofs.Making.{one_of_four}
 
 -- sums of the same parts

@@ -27,7 +27,8 @@ use Rattle.lid_work.specs.Posts.{resting, AgreesAt, IsEndOf, AreApart}
 use Rattle.lid_work.specs.Tallies.{counted}
 use Rattle.lid_work.specs.Turns.{HasGone}
 use Rattle.lid_work.specs.Alone.{Run, turned, round_of, AreAlone}
-use Rattle.lid_work.specs.Rounds.{EndsTurn, IsRun}
+use Rattle.lid_work.specs.Order.{EndsTurn}
+use Rattle.lid_work.specs.Rounds.{IsRun}
 use Rattle.lid_work.proofs.Rounding.{OwnStay, agrees_kept}
 
 -- a turn leaves the other actors as they were

@@ -13,9 +13,11 @@ use Rattle.lid_work.specs.Posts.{known, stations_of, no_turns, IsReady, StaysAt}
 use Rattle.lid_work.specs.Tallies.{AddsUp, fired_by, void_misses, stop_misses, done_among, IsTallyOf}
 use Rattle.lid_work.specs.Turns.{HaveGone}
 use Rattle.lid_work.specs.Alone.{Run, run_from, round_of, rounds_of, WorksAlone, MakesRounds}
+use Rattle.lid_work.specs.Order.{stage_of, TurnsMade, WorksInOrder}
 use Rattle.lid_work.specs.Rounds.{Made, IsRun, GoesRound}
 use Rattle.lid_work.specs.declared.worker.Worker.{Worker}
 use Rattle.lid_work.proofs.Rounding.{none_made, made_as, done_each}
+use Rattle.lid_work.proofs.Ordering.{no_rounds_made, one_round_made}
 
 -- what a worker has made since its start
 pub record IsAt (board : Board) (rounds : ℕ) (old new : Worker) : Type 0 where
@@ -26,6 +28,7 @@ pub record IsAt (board : Board) (rounds : ℕ) (old new : Worker) : Type 0 where
       (m : Setup) (numbers : List ℕ) (r : Run)
       → IsRun m numbers r board (known old.hand) old.actors.items old.tally
       → IsRun m numbers (rounds_of (plan m) numbers rounds r) board (known new.hand) new.actors.items new.tally
+  pub in_order : WorksInOrder board rounds old new
 
 no_rounds : (board : Board) (w : Worker) (m : Setup) (numbers : List ℕ) (r : Run)
     → IsRun m numbers r board (known w.hand) w.actors.items w.tally → IsRun m numbers (rounds_of (plan m) numbers 0 r) board (known w.hand) w.actors.items w.tally
@@ -43,6 +46,7 @@ not_yet board w ready = record {
       made_as board (λ _. 0) (λ _. 0) 0 (0 * length w.actors.items) (known w.hand) w.actors.items w.tally (known w.hand) w.actors.items w.tally (λ i within. refl) (omega arith)
       (none_made board (known w.hand) w.actors.items w.tally (fresh_adds w.tally ready.none));
   runs = no_rounds board w;
+  in_order = no_rounds_made board (stage_of w);
 }
 
 one_round_run : (board : Board) (rounds : ℕ) (new then_ : Worker) (m : Setup) (numbers : List ℕ) (r : Run)
@@ -56,8 +60,9 @@ one_round_run board rounds new then_ m numbers r run =
 pub one_round : (board : Board) (rounds : ℕ) (old new then_ : Worker) → IsAt board rounds old new
     → then_.number ≡ new.number → IsOf then_.hand board
     → GoesRound board (known new.hand) new.actors.items new.tally (known then_.hand) then_.actors.items then_.tally
+    → TurnsMade board (length new.actors.items) (stage_of new) (stage_of then_)
     → IsAt board (rounds + 1) old then_
-one_round board rounds old new then_ at number of round = record {
+one_round board rounds old new then_ at number of round turns = record {
   number = number ∙ at.number;
   of = of;
   made =
@@ -67,6 +72,7 @@ one_round board rounds old new then_ at number of round = record {
       (known old.hand) old.actors.items old.tally (known then_.hand) then_.actors.items then_.tally (λ i within. refl) (omega (arith, many, parts))
       (round.made (λ _. rounds) (rounds * length old.actors.items) (known old.hand) old.actors.items old.tally at.made);
   runs = λ m numbers r run. one_round_run board rounds new then_ m numbers r (round.runs m numbers (rounds_of (plan m) numbers rounds r) (at.runs m numbers r run));
+  in_order = one_round_made board rounds (stage_of old) (stage_of new) (stage_of then_) at.in_order turns;
 }
 
 -- a round keeps the actors

@@ -10,7 +10,8 @@ ghost use Rattle.lid_shell.specs.declared.actor.Actor.{Actor};
 ghost use Rattle.lid_work.specs.Posts.{known, IsAtWork, AreApart};
 ghost use Rattle.lid_work.specs.Tallies.{AddsUp, counted};
 ghost use Rattle.lid_work.specs.Alone.{Run, AreAlone, round_of};
-ghost use Rattle.lid_work.specs.Rounds.{MakesTurn, Made, GoesRound};
+ghost use Rattle.lid_work.specs.Order.{MakesTurn, stage, TurnsMade};
+ghost use Rattle.lid_work.specs.Rounds.{Made, GoesRound};
 
 use lid_base::Tally;
 use lid_board::{Attended, Board, Hand};
@@ -62,6 +63,7 @@ pub(crate) fn make_round(
     requires room { tally.old.turns + length actors.old < 2 ^ 64 }
     ensures of { IsOf hand.new board.now }
     ensures round { GoesRound board.now (known hand.old) actors.old tally.old (known hand.new) actors.new tally.new }
+    ensures in_order { TurnsMade board.now (length actors.old) (stage hand.old actors.old tally.old) (stage hand.new actors.new tally.new) }
 {
     for at in 0..actors.len() {
         make_turn(&mut actors[at], board, hand, tally);

@@ -7,6 +7,7 @@ ghost use Rattle.lid_machine.specs.Machine.{State};
 ghost use Rattle.lid_work.specs.Posts.{IsReady, StaysAt};
 ghost use Rattle.lid_work.specs.Turns.{HaveGone};
 ghost use Rattle.lid_work.specs.Tallies.{IsTallyOf};
+ghost use Rattle.lid_work.specs.Order.{WorksInOrder};
 ghost use Rattle.lid_work.specs.Alone.{WorksAlone, MakesRounds};
 
 use crate::rounds::make_round;
@@ -39,6 +40,7 @@ pub fn work<G: Gate>(worker: &mut Worker<'_>, board: &Board, rounds: u64, gate: 
     ensures stays { StaysAt board.now worker.old worker.new }
     ensures gone { HaveGone board.now rounds worker.old worker.new }
     ensures tally { IsTallyOf board.now rounds worker.old worker.new }
+    ensures in_order { WorksInOrder board.now rounds worker.old worker.new }
     ensures alone { (m : Setup) (numbers : List ℕ) (st : State) → WorksAlone m numbers st board.now worker.old → MakesRounds m numbers st board.now rounds worker.new }
 {
     for round in 0..rounds {

@@ -2,7 +2,7 @@ use Rattle.std.proofs.Common.{◌≡◌, sym, subst}
 use Rattle.lid_board.specs.Owners.{IsOf}
 use Rattle.lid_board.specs.declared.hand.Hand.{Hand}
 use Rattle.lid_work.specs.Posts.{known}
-use Rattle.lid_work.specs.Rounds.{MakesTurn}
+use Rattle.lid_work.specs.Order.{MakesTurn}
 use Rattle.lid_work.proofs.Coming.{came_back}
 use Rattle.lid_work.proofs.Misses.{hand_counts, hand_inside}
 use Rattle.lid_work.proofs.Making.{makes_turn}

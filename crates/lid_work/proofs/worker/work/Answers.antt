@@ -4,6 +4,7 @@ use Rattle.std.specs.Vec.{with_items}
 use Rattle.std.proofs.lemmas.List.{with_items_is}
 use Rattle.lid_shell.specs.declared.actor.Actor.{Actor}
 use Rattle.lid_work.specs.Posts.{known, AreApart}
+use Rattle.lid_work.specs.Order.{stage, stage_of, TurnsMade}
 use Rattle.lid_work.specs.Rounds.{GoesRound}
 use Rattle.lid_work.proofs.Circling.{still_at_work, still_apart}
 use Rattle.lid_work.proofs.Working.{IsAt, not_yet, one_round, round_long, all_rounds, stays, gone, tallied, alone}
@@ -33,8 +34,12 @@ loop-round-preserved g c =
     let round : GoesRound c.args.board.now (known y.hand) y.actors.items y.tally (known c.make_round.new.hand) c.make_round.new.actors c.make_round.new.tally =
     subst (λ (l : List Actor). GoesRound c.args.board.now (known y.hand) l y.tally (known c.make_round.new.hand) c.make_round.new.actors c.make_round.new.tally) c.as_mut_slice.ensures.value c.make_round.ensures.round in
     let long = round_long c.args.board.now (known y.hand) (known c.make_round.new.hand) y.actors.items c.make_round.new.actors y.tally c.make_round.new.tally c.loop-round.invariant.made.adds_up round in
+    let turns : TurnsMade c.args.board.now (length y.actors.items) (stage_of y) (stage c.make_round.new.hand c.make_round.new.actors c.make_round.new.tally) =
+    subst (λ (l : List Actor). TurnsMade c.args.board.now (length l) (stage y.hand l y.tally) (stage c.make_round.new.hand c.make_round.new.actors c.make_round.new.tally)) c.as_mut_slice.ensures.value c.make_round.ensures.in_order in
+    let news = sym (with_items_is y.actors c.make_round.new.actors (long ∙ sym y.actors.ok.0)) in
     one_round c.args.board.now c.loop-round.round c.args.worker.now y _ c.loop-round.invariant refl c.make_round.ensures.of
-    (subst (λ (l : List Actor). GoesRound c.args.board.now (known y.hand) y.actors.items y.tally (known c.make_round.new.hand) l c.make_round.new.tally) (sym (with_items_is y.actors c.make_round.new.actors (long ∙ sym y.actors.ok.0))) round)
+    (subst (λ (l : List Actor). GoesRound c.args.board.now (known y.hand) y.actors.items y.tally (known c.make_round.new.hand) l c.make_round.new.tally) news round)
+    (subst (λ (l : List Actor). TurnsMade c.args.board.now (length y.actors.items) (stage_of y) (stage c.make_round.new.hand l c.make_round.new.tally)) news turns)
 
 at : (g : Over) (c : goal.After-loop-round g) → IsAt c.args.board.now c.args.rounds c.args.worker.now c.loop-round.worker
 at g c =
@@ -47,6 +52,9 @@ returns-clause-gone g c = gone c.args.board.now c.args.rounds c.args.worker.now 
 
 pub returns-clause-tally : goal.returns-clause-tally
 returns-clause-tally g c = tallied c.args.board.now c.args.rounds c.args.worker.now c.loop-round.worker c.requires.ready (at g c)
+
+pub returns-clause-in_order : goal.returns-clause-in_order
+returns-clause-in_order g c = (at g c).in_order
 
 pub returns-clause-alone : goal.returns-clause-alone
 returns-clause-alone g c = alone c.args.board.now c.args.rounds c.args.worker.now c.loop-round.worker c.requires.ready (at g c)
