@@ -2,11 +2,11 @@
 use Rattle.std.proofs.Common.{◌≡◌, ℕ, zero, suc, ◌+◌, ◌⊎◌, inl, inr, Bool, List, [], ◌∷◌, ◌++◌, length, refl, sym, ◌∙◌, ap, subst, arith}
 use Rattle.std.specs.Prelude.{Some, slice_get}
 use Rattle.std.proofs.lemmas.Grind.{common_steps}
-use Rattle.std.proofs.lemmas.Option.{same_Some}
 use Rattle.lid_system.specs.declared.System.{System}
 use Rattle.lid_stations.specs.declared.placement.Placement.{Placement}
 use Rattle.lid_stations.specs.Placements.{links_of}
 use Rattle.lid_stations.specs.Stations.{actor_count}
+use Rattle.lid_runs.proofs.Elements.{at_push}
 use Rattle.lid_machine.specs.Setups.{Setup}
 use Rattle.lid_machine.specs.Machine.{begun}
 use Rattle.lid_shell.specs.declared.actor.Actor.{Actor}
@@ -14,16 +14,6 @@ use Rattle.lid_actors.specs.Setups.{IsSetupOf}
 use Rattle.lid_actors.specs.Actors.{AreActors}
 use Rattle.lid_actors.specs.Inside.{IsActorOf, AreFirst}
 use Rattle.lid_actors.proofs.Setting.{actors_are}
-
--- what stands in a list to which an element was pushed
-at_push : {X : Type 0} (xs : List X) (x y : X) (i : ℕ) → slice_get (xs ++ x ∷ []) i ≡ Some y → (slice_get xs i ≡ Some y) ⊎ ((i ≡ length xs) × (x ≡ y))
-at_push [] x y zero h = inr (refl, same_Some x y h)
-at_push [] x y (suc i) h = absurd (cc)
-at_push (z ∷ xs) x y zero h = inl h
-at_push (z ∷ xs) x y (suc i) h = elim (at_push xs x y i h) [
-  | inl there ↦ inl there
-  | inr last ↦ inr (ap suc last.0, last.1)
-]
 
 length_pushed : {X : Type 0} (xs : List X) (x : X) → length (xs ++ x ∷ []) ≡ length xs + 1
 length_pushed xs x = grind (arith, common_steps)

@@ -11,9 +11,10 @@ use Rattle.lid_system.specs.Systems.{IsWellFormed}
 use Rattle.lid_system.specs.Tables.{system_drivers}
 use Rattle.lid_system.proofs.Shelling.{each_length, each_at}
 use Rattle.lid_stations.specs.declared.placement.Placement.{Placement}
-use Rattle.lid_stations.specs.Placements.{station_count, Fits}
+use Rattle.lid_stations.specs.Placements.{links_of, station_count, Fits}
 use Rattle.lid_stations.specs.Stations.{spot_at, start_count, starts}
 use Rattle.lid_stations.proofs.Spots.{starts_small}
+use Rattle.lid_runs.proofs.Ends.{drained_is, filled_is}
 use Rattle.lid_station.specs.declared.pair.Pair.{Pair}
 use Rattle.lid_station.specs.Boards.{fill, drain}
 use Rattle.lid_station.specs.Plain.{end_facts, plain_ends}
@@ -24,8 +25,7 @@ use Rattle.lid_machine.specs.Plans.{ins_of, outs_of, start_of, room_of, stations
 use Rattle.lid_machine.specs.Setups.{Setup, IsSetup, IsInputRow, plan}
 use Rattle.lid_machine.specs.Machine.{takes_from, puts_from}
 use Rattle.lid_shell.specs.Boards.{Agrees}
-use Rattle.lid_shell.proofs.Counts.{early}
-use Rattle.lid_shell.proofs.Places.{drained_is, filled_is}
+use Rattle.lid_machine.proofs.Counts.{early}
 use Rattle.lid_shell.proofs.Begun.{rest}
 use Rattle.lid_shell.proofs.Streams.{token_small, stream_at}
 use Rattle.lid_actors.specs.Setups.{IsSetupOf}
@@ -47,7 +47,7 @@ pub starts_agree : (m : Setup) (v : ℕ) (firsts : List (Option ℕ)) (caps : Li
 starts_agree m v firsts caps pairs starts many rooms counts =
     record {
       drains = λ i station at.
-          let inside : station < stations_of (plan m) = (drained_is m v i station at).0 in
+          let inside : station < stations_of (plan m) = (drained_is (links_of m.system) m.placement v i station at).0 in
           let p = station_there pairs station (subst (λ (n : ℕ). station < n) (sym many) inside) in
           let is = starts.each station p.0 p.1 in (
             end_facts false p.0,
@@ -59,7 +59,7 @@ starts_agree m v firsts caps pairs starts many rooms counts =
             },
           );
       fills = λ j station at.
-          let inside : station < stations_of (plan m) = (filled_is m v j station at).0 in
+          let inside : station < stations_of (plan m) = (filled_is (links_of m.system) m.placement v j station at).0 in
           let p = station_there pairs station (subst (λ (n : ℕ). station < n) (sym many) inside) in
           let is = starts.each station p.0 p.1 in
           let none = early (puts_from (length (ins_of (plan m) v)) (length (outs_of (plan m) v)) + j) 0 0 (omega arith) in
@@ -153,7 +153,7 @@ module _ (m : Setup) (setup : IsSetup m) where
   pub all_agree : (caps : List ℕ) (pairs : List Pair) → caps ≡ m.placement.caps → AreStarts (first_tokens (plan m)) caps pairs → (v : ℕ) → Agrees m v rest (plain_ends pairs)
   all_agree caps pairs same starts v =
       starts_agree m v (first_tokens (plan m)) caps pairs starts (starts.many ∙ firsts_many m) (rooms caps same)
-      (λ j station at. ap begin_count (first_at m station None (filled_is m v j station at).0) ∙ counted station)
+      (λ j station at. ap begin_count (first_at m station None (filled_is (links_of m.system) m.placement v j station at).0) ∙ counted station)
 
 module _ (s : System) (p : Placement) (rows : List (List Bool)) (formed : IsWellFormed s) (fits : Fits s p) (few : length rows ≤ 1000000) (wide : AllByRecursion (IsInputRow s) rows) (tables : HasTable (system_drivers s)) (firsts : List (Option ℕ)) (are : (m : Setup) → IsSetupOf m s p rows → firsts ≡ first_tokens (plan m)) where
   -- there is a start token, or none, for each capacity

@@ -10,8 +10,8 @@ ghost use Rattle.lid_actors.specs.Firsts.{first_tokens};
 ghost use Rattle.lid_actors.specs.Inside.{AreWritten, HasFirsts, BeginsWith};
 
 use crate::ends::stations_of;
-use crate::rules::actors_go_by_rules;
 use crate::tokens::node_tokens;
+use lid_shell::actors_go_by_rules;
 use lid_station::Side;
 use lid_stations::Placement;
 use lid_system::{System, systems_have_one_table};

@@ -6,7 +6,6 @@ mod ends;
 mod firsts;
 mod movers;
 mod nodes;
-mod rules;
 mod tokens;
 
 pub use actors::all_actors;

@@ -6,8 +6,7 @@ ghost use Rattle.lid_stations.specs.Placements.{links_of, station_count, Fits};
 ghost use Rattle.lid_stations.specs.Stations.{actor_count, mover};
 ghost use Rattle.lid_actors.specs.Inside.{AreFirst};
 
-use crate::rules::actors_go_by_rules;
-use lid_shell::Actor;
+use lid_shell::{Actor, actors_go_by_rules};
 use lid_stations::Placement;
 use lid_system::System;
 use lid_texts::Rows;

@@ -1,7 +1,7 @@
 -- The acts of positions, by cases.
-use Rattle.std.proofs.Common.{◌≡◌, ℕ, ◌+◌, ◌-◌, ◌<◌, ◌≤◌, ◌⊎◌, inl, inr, ◌==◌, nat_lt, Bool, true, false, cond, refl, sym, ◌∙◌, ap, arith, lt-ltb, le-ltb, eq-eqb, ne_eqb}
+use Rattle.std.proofs.Common.{◌≡◌, ℕ, ◌+◌, ◌-◌, ◌<◌, ◌≤◌, nat_lt, Bool, true, false, refl, ap, arith, lt-ltb, le-ltb}
 use Rattle.std.proofs.lemmas.Bool.{ltb-true, ltb-false}
-use Rattle.lid_machine.specs.Machine.{Act, looks_in, looks_out, takes, puts, fires, takes_from, puts_from, ends_at, act_at}
+use Rattle.lid_machine.specs.Machine.{looks_in, looks_out, takes, puts, fires, takes_from, puts_from, ends_at, act_at}
 
 module _ (ins outs : ℕ) where
   pub act_in : (i : ℕ) → i < ins → act_at ins outs i ≡ looks_in i

@@ -1,14 +1,19 @@
 -- The effect of each act: on the counts at all stations, and on how far its actor is.
-use Rattle.std.proofs.Common.{◌≡◌, ◌≢◌, ℕ, zero, suc, ◌+◌, ◌-◌, ◌<◌, ◌≤◌, ◌⊎◌, inl, inr, ◌==◌, not, Bool, true, false, true≢false, nat_lt, length, refl, sym, ◌∙◌, ap, subst, arith, eq-eqb, ne_eqb}
-use Rattle.std.proofs.lemmas.Bool.{ltb-true, ltb-false}
+use Rattle.std.proofs.Common.{◌≡◌, ◌≢◌, ℕ, ◌+◌, ◌-◌, ◌<◌, ◌≤◌, ◌⊎◌, inl, inr, ◌==◌, not, Bool, true, false, true≢false, length, refl, sym, ◌∙◌, ap, arith, eq-eqb, ne_eqb}
+use Rattle.std.proofs.lemmas.Bool.{cases_lt}
 use mathlib.Core.Logic.{dite}
 use native.Mathlib.Decide.{ℕ_discrete}
-use Rattle.lid_machine.specs.Plans.{Plan, stations_of, ins_of, outs_of, cap, room_of}
+use Rattle.lid_machine.specs.Plans.{Plan, ins_of, outs_of, cap, room_of}
 use Rattle.lid_machine.specs.Machine.{Progress, State, takes_from, puts_from, ends_at, after_as, act_of, taken_by, put_by, in_at, out_at, in_count, out_count, finds, finds_at, next}
 use Rattle.lid_machine.specs.Laws.{IsWithin}
 use Rattle.lid_machine.proofs.Acts.{At, at_in, at_out, at_take, at_put, at_end, at, act_in, act_out}
-use Rattle.lid_machine.proofs.Steps.{taken_early, taken_late, put_early, put_late, after_cap, after_found_in, after_found_out, after_void, after_stop, after_take, after_last_take, after_put, after_last_put, after_alone, on, back, once_more}
+use Rattle.lid_machine.proofs.Counts.{counted, early, late}
+use Rattle.lid_machine.proofs.Steps.{taken_early, taken_late, put_early, after_cap, after_found_in, after_found_out, after_void, after_stop, after_take, after_last_take, after_put, after_last_put, after_alone, on, back, once_more}
 use Rattle.lid_machine.proofs.Moves.{here, OutMore, InMore, Taken, Put, none, one_at, out_same, in_same, out_one, in_one}
+
+-- a test that fails found no difference
+tested : (a b : ℕ) → not (a == b) ≡ false → a ≡ b
+tested a b h = dite (ℕ_discrete a b) (λ is. is) (λ other. absurd (true≢false (sym (ap not (ne_eqb a b other)) ∙ h)))
 
 module _ (m : Plan) (st : State) (v : ℕ) where
   abbrev I : ℕ
@@ -81,9 +86,6 @@ module _ (m : Plan) (st : State) (v : ℕ) where
         let new_back : new ≡ back m v q = new_is false is ∙ after_void m v q i h e below in
         let same : in_count m st (in_at m v i) ≡ out_count m st (in_at m v i) = tested _ _ test in
         void i h e same new_back (looked 0 new_back (omega arith) (omega (arith, h, e)))
-      where
-        tested : (a b : ℕ) → not (a == b) ≡ false → a ≡ b
-        tested a b h = dite (ℕ_discrete a b) (λ is. is) (λ other. absurd (true≢false (sym (ap not (ne_eqb a b other)) ∙ h)))
 
     look_out : (j : ℕ) → j < J → q.position ≡ I + j → (found : Bool) → finds m st v ≡ found → not (in_count m st (out_at m v j) - out_count m st (out_at m v j) == room_of m (out_at m v j)) ≡ found → Effect
     look_out j h e true is test =
@@ -92,75 +94,46 @@ module _ (m : Plan) (st : State) (v : ℕ) where
     look_out j h e false is test =
         let new_back : new ≡ back m v q = new_is false is ∙ after_stop m v q j h e below in
         stop j h e (tested _ _ test) new_back (looked 0 new_back (omega arith) (omega (arith, h, e)))
-      where
-        tested : (a b : ℕ) → not (a == b) ≡ false → a ≡ b
-        tested a b h = dite (ℕ_discrete a b) (λ is. is) (λ other. absurd (true≢false (sym (ap not (ne_eqb a b other)) ∙ h)))
 
-    -- a take raises one count, whether the firing goes on or ends
-    taken_one : (i : ℕ) → i < I → q.position ≡ takes_from I J + i
-        → ((new.fired ≡ q.fired) × (new.position ≡ q.position + 1)) ⊎ ((new.fired ≡ q.fired + 1) × (new.position ≡ 0) × (q.position + 1 ≡ ends_at I J))
-        → Taken m st v (one_at i) × Put m st v none
-    taken_one i h e (inl on) = (λ k within. by_place k within, λ k within. omega (arith, put_early m v q k (omega (arith, e, h)), put_early m v new k (omega (arith, e, h, on.1)), on.0))
-      where
-        by_place : (k : ℕ) → k < I → taken_by m v new k ≡ taken_by m v q k + one_at i k
-        by_place k within =
-            dite (ℕ_discrete k i)
-            (λ same. rw (eq-eqb k i same) (omega (arith, taken_early m v q k (omega (arith, e, same)), taken_late m v new k (omega (arith, e, same, on.1)), on.0)))
-            (λ other. rw (ne_eqb k i other) (by_order k within other))
-          where
-            by_order : (k : ℕ) → k < I → k ≢ i → taken_by m v new k ≡ taken_by m v q k + 0
-            by_order k within other = by_less (nat_lt k i) refl
-              where
-                by_less : (b : Bool) → nat_lt k i ≡ b → taken_by m v new k ≡ taken_by m v q k + 0
-                by_less true is =
-                    let low : k < i = ltb-true k i is in
-                    omega (arith, taken_late m v q k (omega (arith, e, low)), taken_late m v new k (omega (arith, e, low, on.1)), on.0)
-                by_less false is =
-                    let high : i ≤ k = ltb-false k i is in
-                    omega (arith, taken_early m v q k (omega (arith, e, high)), taken_early m v new k (omega (arith, e, high, other, on.1)), on.0)
-    taken_one i h e (inr ends) = (λ k within. by_place k within, λ k within. absurd (omega (arith, within, ends.2, e, h)))
-      where
-        by_place : (k : ℕ) → k < I → taken_by m v new k ≡ taken_by m v q k + one_at i k
-        by_place k within =
-            dite (ℕ_discrete k i)
-            (λ same. rw (eq-eqb k i same) (omega (arith, taken_early m v q k (omega (arith, e, same)), taken_early m v new k (omega (arith, ends.1)), ends.0)))
-            (λ other. rw (ne_eqb k i other) (omega (arith, taken_late m v q k (omega (arith, e, other, within, ends.2, h)), taken_early m v new k (omega (arith, ends.1)), ends.0)))
+    -- an act is done: the firing goes on, or ends
+    abbrev Went : Type 0
+    Went = ((new.fired ≡ q.fired) × (new.position ≡ q.position + 1)) ⊎ ((new.fired ≡ q.fired + 1) × (new.position ≡ 0) × (q.position + 1 ≡ ends_at I J))
 
-    -- and a put the other
-    put_one : (j : ℕ) → j < J → q.position ≡ puts_from I J + j
-        → ((new.fired ≡ q.fired) × (new.position ≡ q.position + 1)) ⊎ ((new.fired ≡ q.fired + 1) × (new.position ≡ 0) × (q.position + 1 ≡ ends_at I J))
-        → Taken m st v none × Put m st v (one_at j)
-    put_one j h e (inl on) = (λ k within. omega (arith, taken_late m v q k (omega (arith, e, within)), taken_late m v new k (omega (arith, e, on.1, within)), on.0), λ k within. by_place k within)
+    -- at its place it raises the count by one, and at no other
+    raised : (from many : ℕ) → from + many ≤ ends_at I J → (place : ℕ) → q.position ≡ from + place → Went
+        → (k : ℕ) → k < many → counted (from + k) new.fired new.position ≡ counted (from + k) q.fired q.position + one_at place k
+    raised from many fits place here (inl on) k within =
+        dite (ℕ_discrete k place)
+        (λ same. rw (eq-eqb k place same) (omega (arith, early (from + k) q.fired q.position (omega (arith, here, same)), late (from + k) new.fired new.position (omega (arith, here, same, on.1)), on.0)))
+        (λ other. rw (ne_eqb k place other) (by_order (cases_lt k place) other))
       where
-        by_place : (k : ℕ) → k < J → put_by m v new k ≡ put_by m v q k + one_at j k
-        by_place k within =
-            dite (ℕ_discrete k j)
-            (λ same. rw (eq-eqb k j same) (omega (arith, put_early m v q k (omega (arith, e, same)), put_late m v new k (omega (arith, e, same, on.1)), on.0)))
-            (λ other. rw (ne_eqb k j other) (by_order k within other))
-          where
-            by_order : (k : ℕ) → k < J → k ≢ j → put_by m v new k ≡ put_by m v q k + 0
-            by_order k within other = by_less (nat_lt k j) refl
-              where
-                by_less : (b : Bool) → nat_lt k j ≡ b → put_by m v new k ≡ put_by m v q k + 0
-                by_less true is =
-                    let low : k < j = ltb-true k j is in
-                    omega (arith, put_late m v q k (omega (arith, e, low)), put_late m v new k (omega (arith, e, low, on.1)), on.0)
-                by_less false is =
-                    let high : j ≤ k = ltb-false k j is in
-                    omega (arith, put_early m v q k (omega (arith, e, high)), put_early m v new k (omega (arith, e, high, other, on.1)), on.0)
-    put_one j h e (inr ends) =
-        (λ k within. omega (arith, taken_late m v q k (omega (arith, e, within)), taken_early m v new k (omega (arith, ends.1)), ends.0), λ k within. by_place k within)
+        by_order : (k < place) ⊎ (place ≤ k) → k ≢ place → counted (from + k) new.fired new.position ≡ counted (from + k) q.fired q.position + 0
+        by_order (inl low) other = omega (arith, late (from + k) q.fired q.position (omega (arith, here, low)), late (from + k) new.fired new.position (omega (arith, here, low, on.1)), on.0)
+        by_order (inr high) other = omega (arith, early (from + k) q.fired q.position (omega (arith, here, high)), early (from + k) new.fired new.position (omega (arith, here, high, other, on.1)), on.0)
+    raised from many fits place here (inr ends) k within =
+        dite (ℕ_discrete k place)
+        (λ same. rw (eq-eqb k place same) (omega (arith, early (from + k) q.fired q.position (omega (arith, here, same)), early (from + k) new.fired new.position (omega (arith, ends.1)), ends.0)))
+        (λ other. rw (ne_eqb k place other) (omega (arith, late (from + k) q.fired q.position (omega (arith, here, other, within, ends.2, fits)), early (from + k) new.fired new.position (omega (arith, ends.1)), ends.0)))
+
+    -- a take raises one count, and a put the other
+    taken_one : (i : ℕ) → i < I → q.position ≡ takes_from I J + i → Went → Taken m st v (one_at i) × Put m st v none
+    taken_one i h e went = (raised (takes_from I J) I (omega arith) i e went, put_none went)
       where
-        by_place : (k : ℕ) → k < J → put_by m v new k ≡ put_by m v q k + one_at j k
-        by_place k within =
-            dite (ℕ_discrete k j)
-            (λ same. rw (eq-eqb k j same) (omega (arith, put_early m v q k (omega (arith, e, same)), put_early m v new k (omega (arith, ends.1)), ends.0)))
-            (λ other. rw (ne_eqb k j other) (omega (arith, put_late m v q k (omega (arith, e, other, within, ends.2, h)), put_early m v new k (omega (arith, ends.1)), ends.0)))
+        put_none : Went → Put m st v none
+        put_none (inl on) k within = omega (arith, put_early m v q k (omega (arith, e, h)), put_early m v new k (omega (arith, e, h, on.1)), on.0)
+        put_none (inr ends) k within = absurd (omega (arith, within, ends.2, e, h))
+
+    put_one : (j : ℕ) → j < J → q.position ≡ puts_from I J + j → Went → Taken m st v none × Put m st v (one_at j)
+    put_one j h e went = (taken_none went, raised (puts_from I J) J (omega arith) j e went)
+      where
+        taken_none : Went → Taken m st v none
+        taken_none (inl on) k within = omega (arith, taken_late m v q k (omega (arith, e, within)), taken_late m v new k (omega (arith, e, on.1, within)), on.0)
+        taken_none (inr ends) k within = omega (arith, taken_late m v q k (omega (arith, e, within)), taken_early m v new k (omega (arith, ends.1)), ends.0)
 
     abbrev Moved : Type 0
     Moved = ((new ≡ on m v q) × (q.position + 1 ≢ ends_at I J)) ⊎ ((new ≡ once_more m v q) × (q.position + 1 ≡ ends_at I J))
 
-    numbers : Moved → ((new.fired ≡ q.fired) × (new.position ≡ q.position + 1)) ⊎ ((new.fired ≡ q.fired + 1) × (new.position ≡ 0) × (q.position + 1 ≡ ends_at I J))
+    numbers : Moved → Went
     numbers (inl e) = inl (ap (λ (x : Progress). x.fired) e.0, ap (λ (x : Progress). x.position) e.0)
     numbers (inr e) = inr (ap (λ (x : Progress). x.fired) e.0, ap (λ (x : Progress). x.position) e.0, e.1)
 

@@ -1,5 +1,6 @@
 pub mod Places
 pub mod Acts
+pub mod Counts
 pub mod Steps
 pub mod Moves
 pub mod Effects

@@ -1,5 +1,5 @@
 -- What one step does to the counts at all stations: nothing, one token taken, or one token put.
-use Rattle.std.proofs.Common.{◌≡◌, ◌≢◌, ℕ, zero, suc, ◌+◌, ◌<◌, ◌==◌, if◌then◌else◌, length, refl, sym, ◌∙◌, ap, subst, arith, eq-eqb, ne_eqb, Bool}
+use Rattle.std.proofs.Common.{◌≡◌, ◌≢◌, ℕ, ◌+◌, ◌<◌, ◌==◌, if◌then◌else◌, length, refl, sym, ◌∙◌, ap, subst, arith, eq-eqb, ne_eqb, Bool}
 use mathlib.Core.Logic.{dite}
 use native.Mathlib.Decide.{ℕ_discrete}
 use Rattle.lid_runs.specs.Runs.{place_in}

@@ -1,12 +1,9 @@
 -- Where the stations of an actor stand among those that it drains and fills.
-use Rattle.std.proofs.Common.{◌≡◌, ℕ, ◌+◌, ◌<◌, ◌≤◌, ◌==◌, List, length, get_or, refl, sym, ◌∙◌, ap, subst, arith}
+use Rattle.std.proofs.Common.{◌≡◌, ℕ, ◌<◌, length, refl}
 use Rattle.std.specs.Prelude.{Some, slice_get}
 use Rattle.std.proofs.lemmas.Option.{slice_get-get_or, slice_get_within, get_or_from_slice_get}
-use Rattle.lid_stations.specs.Placements.{station_count}
-use Rattle.lid_stations.specs.Stations.{filler, drainer}
 use Rattle.lid_runs.specs.Runs.{place_in}
-use Rattle.lid_runs.proofs.Filters.{place_of_passing}
-use Rattle.lid_runs.proofs.Ends.{drained_is, filled_is, drained_there, filled_there}
+use Rattle.lid_runs.proofs.Ends.{drained_is, filled_is, drained_there, filled_there, drained_place, filled_place}
 use Rattle.lid_machine.specs.Plans.{Plan, stations_of, ins_of, outs_of, drainer_of, filler_of}
 use Rattle.lid_machine.specs.Machine.{in_at, out_at}
 
@@ -27,7 +24,8 @@ pub record FillsAt (m : Plan) (v j station : ℕ) : Type 0 where
   pub place : place_in (outs_of m v) station ≡ j
 
 module _ (m : Plan) where
-  drains_by : (v i station : ℕ) → slice_get (ins_of m v) i ≡ Some station → DrainsAt m v i station
+  -- where a station that stands in a list of an actor stands there
+  pub drains_by : (v i station : ℕ) → slice_get (ins_of m v) i ≡ Some station → DrainsAt m v i station
   drains_by v i station h =
       let is = drained_is m.links m.placement v i station h in
       record {
@@ -35,10 +33,10 @@ module _ (m : Plan) where
         at = get_or_from_slice_get (ins_of m v) i station 0 h;
         there = is.0;
         drainer = is.1;
-        place = place_of_passing (λ s. drainer m.links m.placement s == v) 0 (stations_of m) i station h;
+        place = drained_place m.links m.placement v i station h;
       }
 
-  fills_by : (v j station : ℕ) → slice_get (outs_of m v) j ≡ Some station → FillsAt m v j station
+  pub fills_by : (v j station : ℕ) → slice_get (outs_of m v) j ≡ Some station → FillsAt m v j station
   fills_by v j station h =
       let is = filled_is m.links m.placement v j station h in
       record {
@@ -46,7 +44,7 @@ module _ (m : Plan) where
         at = get_or_from_slice_get (outs_of m v) j station 0 h;
         there = is.0;
         filler = is.1;
-        place = place_of_passing (λ s. filler m.links m.placement s == v) 0 (stations_of m) j station h;
+        place = filled_place m.links m.placement v j station h;
       }
 
   -- each place has its station

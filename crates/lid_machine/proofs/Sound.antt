@@ -1,18 +1,17 @@
 -- Each step keeps the rules of states.
-use Rattle.std.proofs.Common.{◌≡◌, ◌≢◌, ℕ, zero, suc, ◌+◌, ◌-◌, ◌<◌, ◌≤◌, ◌⊎◌, inl, inr, length, refl, sym, ◌∙◌, ap, subst, arith, eq-eqb, ne_eqb}
+use Rattle.std.proofs.Common.{◌≡◌, ◌≢◌, ℕ, ◌+◌, ◌<◌, ◌≤◌, ◌⊎◌, inl, inr, length, refl, sym, ◌∙◌, ap, subst, arith, eq-eqb, ne_eqb}
 use mathlib.Core.Logic.{dite}
 use native.Mathlib.Decide.{ℕ_discrete}
-use Rattle.lid_stations.specs.Placements.{links_of}
 use Rattle.lid_stations.proofs.Spots.{cap_range}
 use Rattle.lid_runs.proofs.Caps.{start_and_cap, start_small}
 use Rattle.lid_runs.specs.Runs.{place_in}
 use Rattle.lid_machine.specs.Plans.{Plan, actors_of, stations_of, ins_of, outs_of, drainer_of, filler_of, cap, start_of, room_of}
 use Rattle.lid_machine.specs.Setups.{Setup, IsSetup, plan}
-use Rattle.lid_machine.specs.Machine.{Progress, State, begun, takes_from, puts_from, ends_at, in_at, out_at, in_count, out_count, taken_by, put_by, next}
+use Rattle.lid_machine.specs.Machine.{Progress, State, begun, takes_from, puts_from, ends_at, in_at, out_at, in_count, out_count, next}
 use Rattle.lid_machine.specs.Laws.{KeepsPrefixes, IsWithin, FindsStay, IsSound}
-use Rattle.lid_machine.proofs.Places.{drains_at, fills_at, filled_at, DrainsAt, FillsAt}
+use Rattle.lid_machine.proofs.Places.{drains_at, fills_at}
 use Rattle.lid_machine.proofs.Steps.{taken_early, put_early, on, back, once_more}
-use Rattle.lid_machine.proofs.Moves.{here, elsewhere, in_here, out_else, in_else, none, one_at}
+use Rattle.lid_machine.proofs.Moves.{elsewhere, in_here, out_else, in_else, none, one_at}
 use Rattle.lid_machine.proofs.Effects.{Effect, Outcome, done, acts, found_in, found_out, void, stop, took, gave, alone, Quiet, outcome}
 
 module _ (m : Plan) (st : State) (v : ℕ) (sound : IsSound m st) (there : v < actors_of m)
@@ -45,26 +44,24 @@ module _ (m : Plan) (st : State) (v : ℕ) (sound : IsSound m st) (there : v < a
       omega (arith, in_here m st v st v j (out_at m v j) place, put_early m v q j (omega (arith, e)), below, whole)
 
   -- no count falls
-  abbrev Grows : (State → ℕ → ℕ) → Type 0
-  Grows count = (station : ℕ) → station < stations_of m → count st station ≤ count new station
+  abbrev Grows : Type 0
+  Grows = (station : ℕ) → station < stations_of m → (out_count m st station ≤ out_count m new station) × (in_count m st station ≤ in_count m new station)
 
-  out_grows : Effect m st v → Grows (out_count m)
-  out_grows (found_in i a b c d quiet) station h = omega (arith, quiet.outs station h)
-  out_grows (found_out j a b c d quiet) station h = omega (arith, quiet.outs station h)
-  out_grows (void i a b c d quiet) station h = omega (arith, quiet.outs station h)
-  out_grows (stop j a b c d quiet) station h = omega (arith, quiet.outs station h)
-  out_grows (took i a b c outs ins) station h = omega (arith, outs station h)
-  out_grows (gave j a b c outs ins) station h = omega (arith, outs station h)
-  out_grows (alone a b quiet) station h = omega (arith, quiet.outs station h)
+  quiet_grows : Quiet m st v → Grows
+  quiet_grows quiet station h = (omega (arith, quiet.outs station h), omega (arith, quiet.ins station h))
 
-  in_grows : Effect m st v → Grows (in_count m)
-  in_grows (found_in i a b c d quiet) station h = omega (arith, quiet.ins station h)
-  in_grows (found_out j a b c d quiet) station h = omega (arith, quiet.ins station h)
-  in_grows (void i a b c d quiet) station h = omega (arith, quiet.ins station h)
-  in_grows (stop j a b c d quiet) station h = omega (arith, quiet.ins station h)
-  in_grows (took i a b c outs ins) station h = omega (arith, ins station h)
-  in_grows (gave j a b c outs ins) station h = omega (arith, ins station h)
-  in_grows (alone a b quiet) station h = omega (arith, quiet.ins station h)
+  effect_grows : Effect m st v → Grows
+  effect_grows (found_in i a b c d quiet) station h = quiet_grows quiet station h
+  effect_grows (found_out j a b c d quiet) station h = quiet_grows quiet station h
+  effect_grows (void i a b c d quiet) station h = quiet_grows quiet station h
+  effect_grows (stop j a b c d quiet) station h = quiet_grows quiet station h
+  effect_grows (took i a b c outs ins) station h = (omega (arith, outs station h), omega (arith, ins station h))
+  effect_grows (gave j a b c outs ins) station h = (omega (arith, outs station h), omega (arith, ins station h))
+  effect_grows (alone a b quiet) station h = quiet_grows quiet station h
+
+  grows : Outcome m st v → Grows
+  grows (done h same quiet) = quiet_grows quiet
+  grows (acts below effect) = effect_grows effect
 
   module _ (station : ℕ) (h : station < stations_of m) where
     quiet_keeps : Quiet m st v → KeepsPrefixes m new station
@@ -145,23 +142,19 @@ module _ (m : Plan) (st : State) (v : ℕ) (sound : IsSound m st) (there : v < a
   keeps_all (done h same quiet) station within = quiet_keeps station within quiet
   keeps_all (acts below effect) station within = keeps station within effect
 
-  grows : Outcome m st v → Grows (out_count m) × Grows (in_count m)
-  grows (done h same quiet) = (λ station within. omega (arith, quiet.outs station within), λ station within. omega (arith, quiet.ins station within))
-  grows (acts below effect) = (out_grows effect, in_grows effect)
-
   -- what another actor has found stays: only that takes what it drains, and fills what it fills
-  stays_else : (w : ℕ) → w ≢ v → w < actors_of m → Grows (out_count m) × Grows (in_count m) → FindsStay m new w
+  stays_else : (w : ℕ) → w ≢ v → w < actors_of m → Grows → FindsStay m new w
   stays_else w other within more = record {
     tokens = λ i h begun early.
         let place = drains_at m w i h in
         let same : out_count m new (in_at m w i) ≡ out_count m st (in_at m w i) = out_else m st v (in_at m w i) (λ is. other (sym place.drainer ∙ is)) in
         let old = (sound.finds w within).tokens i h (subst (λ (x : Progress). i < x.position) (elsewhere m st v w other) begun) (subst (λ (x : Progress). x.position ≤ takes_from (length (ins_of m w)) (length (outs_of m w)) + i) (elsewhere m st v w other) early) in
-        omega (arith, old, same, more.1 (in_at m w i) place.there);
+        omega (arith, old, same, (more (in_at m w i) place.there).1);
     rooms = λ j h begun early.
         let place = fills_at m w j h in
         let same : in_count m new (out_at m w j) ≡ in_count m st (out_at m w j) = in_else m st v (out_at m w j) (λ is. other (sym place.filler ∙ is)) in
         let old = (sound.finds w within).rooms j h (subst (λ (x : Progress). length (ins_of m w) + j < x.position) (elsewhere m st v w other) begun) (subst (λ (x : Progress). x.position ≤ puts_from (length (ins_of m w)) (length (outs_of m w)) + j) (elsewhere m st v w other) early) in
-        omega (arith, old, same, more.0 (out_at m w j) place.there);
+        omega (arith, old, same, (more (out_at m w j) place.there).0);
   }
 
   -- at rest an actor has found nothing

@@ -1,8 +1,9 @@
 -- One step of an actor: where it is then, and how many tokens it has taken and put.
-use Rattle.std.proofs.Common.{◌≡◌, ◌≢◌, ℕ, zero, suc, ◌+◌, ◌-◌, ◌<◌, ◌≤◌, ◌==◌, nat_lt, Bool, true, false, cond, length, refl, sym, ◌∙◌, ap, subst, arith, lt-ltb, le-ltb, eq-eqb, ne_eqb}
-use Rattle.lid_machine.specs.Plans.{Plan, ins_of, outs_of, cap, start_of}
-use Rattle.lid_machine.specs.Machine.{Progress, Act, looks_in, looks_out, takes, puts, fires, takes_from, puts_from, ends_at, act_at, act_of, is_last, goes_on, moves, after_as, taken_by, put_by}
+use Rattle.std.proofs.Common.{◌≡◌, ◌≢◌, ℕ, ◌+◌, ◌<◌, ◌≤◌, Bool, true, false, length, refl, ◌∙◌, ap, arith, eq-eqb, ne_eqb}
+use Rattle.lid_machine.specs.Plans.{Plan, ins_of, outs_of, cap}
+use Rattle.lid_machine.specs.Machine.{Progress, Act, looks_in, looks_out, takes, puts, fires, takes_from, puts_from, ends_at, act_of, is_last, moves, after_as, taken_by, put_by}
 use Rattle.lid_machine.proofs.Acts.{act_in, act_out, act_take, act_put, act_alone}
+use Rattle.lid_machine.proofs.Counts.{early, late}
 
 module _ (m : Plan) (v : ℕ) where
   abbrev pub ins : ℕ
@@ -22,16 +23,16 @@ module _ (m : Plan) (v : ℕ) where
 
   -- how many tokens were taken before the take of this firing, and after it
   pub taken_early : (q : Progress) (i : ℕ) → q.position ≤ takes_at + i → taken_by m v q i ≡ q.fired
-  taken_early q i h = rw (le-ltb (takes_at + i) q.position h) (omega arith)
+  taken_early q i h = early (takes_at + i) q.fired q.position h
 
   pub taken_late : (q : Progress) (i : ℕ) → takes_at + i < q.position → taken_by m v q i ≡ q.fired + 1
-  taken_late q i h = rw (lt-ltb (takes_at + i) q.position h) refl
+  taken_late q i h = late (takes_at + i) q.fired q.position h
 
   pub put_early : (q : Progress) (j : ℕ) → q.position ≤ puts_at + j → put_by m v q j ≡ q.fired
-  put_early q j h = rw (le-ltb (puts_at + j) q.position h) (omega arith)
+  put_early q j h = early (puts_at + j) q.fired q.position h
 
   pub put_late : (q : Progress) (j : ℕ) → puts_at + j < q.position → put_by m v q j ≡ q.fired + 1
-  put_late q j h = rw (lt-ltb (puts_at + j) q.position h) refl
+  put_late q j h = late (puts_at + j) q.fired q.position h
 
   module _ (q : Progress) where
     -- at its cap an actor stays as it is

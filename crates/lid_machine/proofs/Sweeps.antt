@@ -1,5 +1,5 @@
 -- Sweeps: each takes every actor a cycle further than the clocked run in which nobody is held.
-use Rattle.std.proofs.Common.{◌≡◌, ◌≢◌, ℕ, zero, suc, ◌+◌, ◌-◌, ◌*◌, ◌<◌, ◌≤◌, ◌⊎◌, inl, inr, length, refl, sym, ◌∙◌, ap, subst, arith}
+use Rattle.std.proofs.Common.{◌≡◌, ℕ, zero, suc, ◌+◌, ◌*◌, ◌<◌, ◌≤◌, ◌⊎◌, inl, inr, length, refl, sym, ◌∙◌, ap, subst, arith}
 use mathlib.Core.Logic.{dite}
 use native.Mathlib.Decide.{ℕ_discrete}
 use Rattle.lid_graph.specs.declared.graph.Graph.{Graph}
@@ -7,7 +7,6 @@ use Rattle.lid_graph.specs.Firings.{Counts, no_hold, firings}
 use Rattle.lid_graph.proofs.Counting.{firings_cap}
 use Rattle.lid_firings.proofs.Rising.{rises_by_one}
 use Rattle.lid_firings.proofs.Alive.{tokens_reach_caps}
-use Rattle.lid_stations.specs.Placements.{links_of}
 use Rattle.lid_stations.specs.Markings.{marking}
 use Rattle.lid_stations.proofs.Edges.{node_count}
 use Rattle.lid_stations.proofs.Alive.{rateable, have_tokens}
@@ -15,14 +14,14 @@ use Rattle.lid_stations.proofs.Spots.{stands_between, cap_range}
 use Rattle.lid_runs.specs.Runs.{fired_in}
 use Rattle.lid_runs.proofs.Caps.{cap_about, caps_fit, start_small}
 use Rattle.lid_runs.proofs.Turns.{drains_no_more, fills_no_more, comes_to}
-use Rattle.lid_machine.specs.Plans.{Plan, actors_of, stations_of, ins_of, outs_of, drainer_of, filler_of, cap, start_of, room_of}
+use Rattle.lid_machine.specs.Plans.{Plan, actors_of, stations_of, ins_of, outs_of, drainer_of, filler_of, cap, start_of}
 use Rattle.lid_machine.specs.Setups.{Setup, IsSetup, plan}
 use Rattle.lid_machine.specs.Machine.{Progress, State, takes_from, in_at, out_at, in_count, out_count, turn, turns_from, sweep}
-use Rattle.lid_machine.specs.Laws.{IsSound, AllRest, HaveFired, IsSettled, HasTurned, HasSwept, sweeps}
-use Rattle.lid_machine.proofs.Places.{drains_at, fills_at, drained_at, filled_at, DrainsAt, FillsAt}
+use Rattle.lid_machine.specs.Laws.{IsSound, AllRest, HaveFired, IsSettled, HasSwept, sweeps}
+use Rattle.lid_machine.proofs.Places.{drains_at, fills_at, drained_at, filled_at}
 use Rattle.lid_machine.proofs.Steps.{taken_early, put_early}
 use Rattle.lid_machine.proofs.Moves.{out_here, in_here}
-use Rattle.lid_machine.proofs.Turns.{Bar, capped, empty, full, Rested, turn_rests, has_turned}
+use Rattle.lid_machine.proofs.Turns.{Bar, capped, empty, full, turn_rests, has_turned}
 
 module _ (x : Setup) (rules : IsSetup x) where
   abbrev m : Plan

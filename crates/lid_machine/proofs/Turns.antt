@@ -1,8 +1,8 @@
 -- A turn of an actor: from rest back to rest, with one firing more, or why not.
-use Rattle.std.proofs.Common.{◌≡◌, ◌≢◌, ℕ, zero, suc, ◌+◌, ◌-◌, ◌<◌, ◌≤◌, ◌⊎◌, inl, inr, ◌==◌, Bool, true, false, cond, length, refl, sym, ◌∙◌, ap, subst, arith, eq-eqb, ne_eqb}
+use Rattle.std.proofs.Common.{◌≡◌, ◌≢◌, ℕ, zero, suc, ◌+◌, ◌<◌, ◌≤◌, ◌⊎◌, inl, inr, length, refl, sym, ◌∙◌, ap, arith, eq-eqb, ne_eqb}
 use mathlib.Core.Logic.{dite}
 use native.Mathlib.Decide.{ℕ_discrete}
-use Rattle.lid_machine.specs.Plans.{Plan, actors_of, stations_of, ins_of, outs_of, cap, start_of, room_of}
+use Rattle.lid_machine.specs.Plans.{Plan, actors_of, ins_of, outs_of, cap, room_of}
 use Rattle.lid_machine.specs.Setups.{Setup, IsSetup, plan}
 use Rattle.lid_machine.specs.Machine.{Progress, State, takes_from, ends_at, in_at, out_at, in_count, out_count, next, until_rest, positions, turn}
 use Rattle.lid_machine.specs.Laws.{IsSound, HasTurned}

@@ -5,8 +5,8 @@ use Rattle.std.proofs.lemmas.Bool.{eqb-true}
 use Rattle.lid_stations.specs.declared.placement.Placement.{Placement}
 use Rattle.lid_stations.specs.Placements.{Links, station_count}
 use Rattle.lid_stations.specs.Stations.{filler, drainer}
-use Rattle.lid_runs.specs.Runs.{drained_by, filled_by}
-use Rattle.lid_runs.proofs.Filters.{each_passes, each_has_a_place}
+use Rattle.lid_runs.specs.Runs.{drained_by, filled_by, place_in}
+use Rattle.lid_runs.proofs.Filters.{each_passes, each_has_a_place, place_of_passing}
 
 -- a station that an actor drains
 pub drained_is : (l : Links) (p : Placement) (v i station : ℕ) → slice_get (drained_by l p v) i ≡ Some station → (station < station_count p.relays) × (drainer l p station ≡ v)
@@ -31,3 +31,10 @@ drained_there l p v station there is =
 pub filled_there : (l : Links) (p : Placement) (v station : ℕ) → station < station_count p.relays → filler l p station ≡ v → (i : ℕ) × (slice_get (filled_by l p v) i ≡ Some station)
 filled_there l p v station there is =
     each_has_a_place (λ s. filler l p s == v) 0 (station_count p.relays) station (omega arith) (omega arith) (eq-eqb _ _ is)
+
+-- each of them stands at its place alone
+pub drained_place : (l : Links) (p : Placement) (v i station : ℕ) → slice_get (drained_by l p v) i ≡ Some station → place_in (drained_by l p v) station ≡ i
+drained_place l p v i station h = place_of_passing (λ s. drainer l p s == v) 0 (station_count p.relays) i station h
+
+pub filled_place : (l : Links) (p : Placement) (v j station : ℕ) → slice_get (filled_by l p v) j ≡ Some station → place_in (filled_by l p v) station ≡ j
+filled_place l p v j station h = place_of_passing (λ s. filler l p s == v) 0 (station_count p.relays) j station h

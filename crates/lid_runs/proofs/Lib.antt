@@ -5,3 +5,4 @@ pub mod Passing
 pub mod Channels
 pub mod Filters
 pub mod Ends
+pub mod Elements

@@ -1,17 +1,19 @@
 -- A board agrees with an actor after each of its acts.
-use Rattle.std.proofs.Common.{◌≡◌, ℕ, ◌+◌, ◌*◌, ◌<◌, ◌≤◌, inl, inr, true, length, refl, sym, ◌∙◌, ap, subst, arith}
+use Rattle.std.proofs.Common.{◌≡◌, ℕ, ◌+◌, ◌*◌, ◌<◌, ◌≤◌, inl, inr, Bool, true, List, length, refl, sym, ◌∙◌, ap, subst, arith}
 use Rattle.std.specs.Prelude.{Some, slice_get}
 use Rattle.std.proofs.lemmas.Bool.{cases_eq, cases_lt}
 use Rattle.std.proofs.lemmas.Option.{same_Some, slice_get_within}
+use Rattle.lid_stations.specs.Placements.{links_of}
+use Rattle.lid_runs.specs.Runs.{place_in}
+use Rattle.lid_runs.proofs.Ends.{drained_place, filled_place}
 use Rattle.lid_station.specs.Boards.{Facts, Ends, Changes, fill, drain, missed, marked, advanced}
 use Rattle.lid_machine.specs.Plans.{ins_of, outs_of, start_of}
 use Rattle.lid_machine.specs.Setups.{Setup, plan}
 use Rattle.lid_machine.specs.Machine.{Progress, takes_from, puts_from, ends_at}
 use Rattle.lid_shell.specs.Boards.{HasEnd, IsDrainedBy, IsFilledBy, Agrees}
 use Rattle.lid_shell.specs.Inside.{further, set_back, closed}
-use Rattle.lid_shell.proofs.Counts.{early, late, alike}
+use Rattle.lid_machine.proofs.Counts.{early, late, alike}
 use Rattle.lid_shell.proofs.Changed.{here, elsewhere}
-use Rattle.lid_shell.proofs.Places.{drained_once, filled_once}
 
 -- what is known of the drained stations stays, where no place of a firing is passed at which it would change
 abbrev StaysDrained : Setup → ℕ → Progress → Progress → ℕ → Type 0
@@ -20,27 +22,24 @@ StaysDrained m v q new i = (other : ℕ) (f : Facts) → IsDrainedBy m v q i oth
 abbrev StaysFilled : Setup → ℕ → Progress → Progress → ℕ → Type 0
 StaysFilled m v q new j = (other : ℕ) (f : Facts) → IsFilledBy m v q j other f → IsFilledBy m v new j other f
 
-drained_at : (m : Setup) (v : ℕ) (q new : Progress) (old ends : Ends) (k station : ℕ) (step : Facts → Facts)
-    → Agrees m v q old → slice_get (ins_of (plan m) v) k ≡ Some station → Changes old (drain station) step ends
-    → ((f : Facts) → IsDrainedBy m v q k station f → IsDrainedBy m v new k station (step f))
-    → (i other : ℕ) → i ≡ k → slice_get (ins_of (plan m) v) i ≡ Some other → HasEnd ends (drain other) (IsDrainedBy m v new i other)
-drained_at m v q new old ends k station step agrees at changes own i other same there =
-    let had = agrees.drains k station at in
-    let now : HasEnd ends (drain station) (IsDrainedBy m v new k station) = (step had.0, here old ends (drain station) step had.0 changes had.1, own had.0 had.2) in
-    let is : station ≡ other = same_Some station other (sym at ∙ subst (λ (n : ℕ). slice_get (ins_of (plan m) v) n ≡ Some other) same there) in
-    subst (λ (n : ℕ). HasEnd ends (drain other) (IsDrainedBy m v new n other)) (sym same)
-    (subst (λ (s : ℕ). HasEnd ends (drain s) (IsDrainedBy m v new k s)) is now)
+-- a station that stands at one place stands at no other
+once : (xs : List ℕ) → ((i station : ℕ) → slice_get xs i ≡ Some station → place_in xs station ≡ i) → (i k station : ℕ) → slice_get xs i ≡ Some station → slice_get xs k ≡ Some station → i ≡ k
+once xs place i k station at there = sym (place i station at) ∙ place k station there
 
-filled_at : (m : Setup) (v : ℕ) (q new : Progress) (old ends : Ends) (k station : ℕ) (step : Facts → Facts)
-    → Agrees m v q old → slice_get (outs_of (plan m) v) k ≡ Some station → Changes old (fill station) step ends
-    → ((f : Facts) → IsFilledBy m v q k station f → IsFilledBy m v new k station (step f))
-    → (j other : ℕ) → j ≡ k → slice_get (outs_of (plan m) v) j ≡ Some other → HasEnd ends (fill other) (IsFilledBy m v new j other)
-filled_at m v q new old ends k station step agrees at changes own j other same there =
-    let had = agrees.fills k station at in
-    let now : HasEnd ends (fill station) (IsFilledBy m v new k station) = (step had.0, here old ends (fill station) step had.0 changes had.1, own had.0 had.2) in
-    let is : station ≡ other = same_Some station other (sym at ∙ subst (λ (n : ℕ). slice_get (outs_of (plan m) v) n ≡ Some other) same there) in
-    subst (λ (n : ℕ). HasEnd ends (fill other) (IsFilledBy m v new n other)) (sym same)
-    (subst (λ (s : ℕ). HasEnd ends (fill s) (IsFilledBy m v new k s)) is now)
+-- what is known of the end that changed, among the ends of one side of the actor
+changed_at : (xs : List ℕ) (end : ℕ → ℕ) (Was Is : ℕ → ℕ → Facts → Type 0) (old ends : Ends) (k station : ℕ) (step : Facts → Facts)
+    → HasEnd old (end station) (Was k station) → slice_get xs k ≡ Some station → Changes old (end station) step ends
+    → ((f : Facts) → Was k station f → Is k station (step f))
+    → (i other : ℕ) → i ≡ k → slice_get xs i ≡ Some other → HasEnd ends (end other) (Is i other)
+changed_at xs end Was Is old ends k station step had at changes own i other same there =
+    let now : HasEnd ends (end station) (Is k station) = (step had.0, here old ends (end station) step had.0 changes had.1, own had.0 had.2) in
+    let is : station ≡ other = same_Some station other (sym at ∙ subst (λ (n : ℕ). slice_get xs n ≡ Some other) same there) in
+    subst (λ (n : ℕ). HasEnd ends (end other) (Is n other)) (sym same)
+    (subst (λ (s : ℕ). HasEnd ends (end s) (Is k s)) is now)
+
+-- and of one that did not
+unchanged_at : (old ends : Ends) (end : ℕ) (step : Facts → Facts) (k : ℕ) (Was Is : Facts → Type 0) → Changes old end step ends → (k ≡ end → ⊥) → HasEnd old k Was → ((f : Facts) → Was f → Is f) → HasEnd ends k Is
+unchanged_at old ends end step k Was Is changes apart had stays = (had.0, elsewhere old ends end step k changes apart ∙ had.1, stays had.0 had.2)
 
 -- a change at a station that the actor drains
 agrees_drained : (m : Setup) (v : ℕ) (q new : Progress) (old ends : Ends) (k station : ℕ) (step : Facts → Facts)
@@ -53,16 +52,16 @@ agrees_drained m v q new old ends k station step agrees at changes own drains fi
     record {
       drains = λ i other there.
           elim (cases_eq i k) [
-            | inl same ↦ drained_at m v q new old ends k station step agrees at changes own i other same there
+            | inl same ↦ changed_at (ins_of (plan m) v) drain (IsDrainedBy m v q) (IsDrainedBy m v new) old ends k station step (agrees.drains k station at) at changes own i other same there
             | inr apart ↦
-                (let had = agrees.drains i other there in
-                let elsewhere_is : (drain other ≡ drain station → ⊥) = λ e. (let doubled : 2 * other + 1 ≡ 2 * station + 1 = e in let one : other ≡ station = omega arith in apart (drained_once m v i k station (subst (λ (s : ℕ). slice_get (ins_of (plan m) v) i ≡ Some s) one there) at)) in
-                (had.0, elsewhere old ends (drain station) step (drain other) changes elsewhere_is ∙ had.1, drains i apart (slice_get_within (ins_of (plan m) v) i other there) other had.0 had.2))
+                unchanged_at old ends (drain station) step (drain other) (IsDrainedBy m v q i other) (IsDrainedBy m v new i other) changes
+                (λ e. (let doubled : 2 * other + 1 ≡ 2 * station + 1 = e in let one : other ≡ station = omega arith in apart (once (ins_of (plan m) v) (drained_place (links_of m.system) m.placement v) i k other there (subst (λ (s : ℕ). slice_get (ins_of (plan m) v) k ≡ Some s) (sym one) at))))
+                (agrees.drains i other there) (drains i apart (slice_get_within (ins_of (plan m) v) i other there) other)
           ];
       fills = λ j other there.
-          let had = agrees.fills j other there in
-          let apart : (fill other ≡ drain station → ⊥) = λ e. (let doubled : 2 * other ≡ 2 * station + 1 = e in omega arith) in
-          (had.0, elsewhere old ends (drain station) step (fill other) changes apart ∙ had.1, fills j (slice_get_within (outs_of (plan m) v) j other there) other had.0 had.2);
+          unchanged_at old ends (drain station) step (fill other) (IsFilledBy m v q j other) (IsFilledBy m v new j other) changes
+          (λ e. (let doubled : 2 * other ≡ 2 * station + 1 = e in omega arith))
+          (agrees.fills j other there) (fills j (slice_get_within (outs_of (plan m) v) j other there) other);
     }
 
 -- a change at a station that it fills
@@ -75,18 +74,26 @@ agrees_filled : (m : Setup) (v : ℕ) (q new : Progress) (old ends : Ends) (k st
 agrees_filled m v q new old ends k station step agrees at changes own drains fills =
     record {
       drains = λ i other there.
-          let had = agrees.drains i other there in
-          let apart : (drain other ≡ fill station → ⊥) = λ e. (let doubled : 2 * other + 1 ≡ 2 * station = e in omega arith) in
-          (had.0, elsewhere old ends (fill station) step (drain other) changes apart ∙ had.1, drains i (slice_get_within (ins_of (plan m) v) i other there) other had.0 had.2);
+          unchanged_at old ends (fill station) step (drain other) (IsDrainedBy m v q i other) (IsDrainedBy m v new i other) changes
+          (λ e. (let doubled : 2 * other + 1 ≡ 2 * station = e in omega arith))
+          (agrees.drains i other there) (drains i (slice_get_within (ins_of (plan m) v) i other there) other);
       fills = λ j other there.
           elim (cases_eq j k) [
-            | inl same ↦ filled_at m v q new old ends k station step agrees at changes own j other same there
+            | inl same ↦ changed_at (outs_of (plan m) v) fill (IsFilledBy m v q) (IsFilledBy m v new) old ends k station step (agrees.fills k station at) at changes own j other same there
             | inr apart ↦
-                (let had = agrees.fills j other there in
-                let elsewhere_is : (fill other ≡ fill station → ⊥) = λ e. (let doubled : 2 * other ≡ 2 * station = e in let one : other ≡ station = omega arith in apart (filled_once m v j k station (subst (λ (s : ℕ). slice_get (outs_of (plan m) v) j ≡ Some s) one there) at)) in
-                (had.0, elsewhere old ends (fill station) step (fill other) changes elsewhere_is ∙ had.1, fills j apart (slice_get_within (outs_of (plan m) v) j other there) other had.0 had.2))
+                unchanged_at old ends (fill station) step (fill other) (IsFilledBy m v q j other) (IsFilledBy m v new j other) changes
+                (λ e. (let doubled : 2 * other ≡ 2 * station = e in let one : other ≡ station = omega arith in apart (once (outs_of (plan m) v) (filled_place (links_of m.system) m.placement v) j k other there (subst (λ (s : ℕ). slice_get (outs_of (plan m) v) k ≡ Some s) (sym one) at))))
+                (agrees.fills j other there) (fills j apart (slice_get_within (outs_of (plan m) v) j other there) other)
           ];
     }
+
+-- a mark between a look and its use stays where no look or use is passed
+seen_stays : (from to old new : ℕ) (mark : Bool) → (to < old → to < new) → (from < new → new ≤ to → from < old) → (from < old → old ≤ to → mark ≡ true) → from < new → new ≤ to → mark ≡ true
+seen_stays from to old new mark high looked seen after before =
+    elim (cases_lt to old) [
+      | inl past ↦ (let beyond : to < new = high past in absurd (omega arith))
+      | inr not_past ↦ seen (looked after before) not_past
+    ]
 
 -- what was taken from a station stays so
 drained_stays : (m : Setup) (v : ℕ) (q : Progress) (position i : ℕ)
@@ -98,11 +105,7 @@ drained_stays m v q position i low high seen other f is =
     record {
       capacity = is.capacity;
       passed = is.passed ∙ alike (takes_from (length (ins_of (plan m) v)) (length (outs_of (plan m) v)) + i) q.fired q.position position low high;
-      seen = λ after before.
-          elim (cases_lt (takes_from (length (ins_of (plan m) v)) (length (outs_of (plan m) v)) + i) q.position) [
-            | inl past ↦ (let beyond : takes_from (length (ins_of (plan m) v)) (length (outs_of (plan m) v)) + i < position = high past in absurd (omega arith))
-            | inr not_past ↦ is.seen (seen after before) not_past
-          ];
+      seen = seen_stays i (takes_from (length (ins_of (plan m) v)) (length (outs_of (plan m) v)) + i) q.position position f.mark high seen is.seen;
     }
 
 filled_stays : (m : Setup) (v : ℕ) (q : Progress) (position j : ℕ)
@@ -114,11 +117,7 @@ filled_stays m v q position j low high seen other f is =
     record {
       capacity = is.capacity;
       passed = is.passed ∙ ap (λ (n : ℕ). start_of (plan m) other + n) (alike (puts_from (length (ins_of (plan m) v)) (length (outs_of (plan m) v)) + j) q.fired q.position position low high);
-      seen = λ after before.
-          elim (cases_lt (puts_from (length (ins_of (plan m) v)) (length (outs_of (plan m) v)) + j) q.position) [
-            | inl past ↦ (let beyond : puts_from (length (ins_of (plan m) v)) (length (outs_of (plan m) v)) + j < position = high past in absurd (omega arith))
-            | inr not_past ↦ is.seen (seen after before) not_past
-          ];
+      seen = seen_stays (length (ins_of (plan m) v) + j) (puts_from (length (ins_of (plan m) v)) (length (outs_of (plan m) v)) + j) q.position position f.mark high seen is.seen;
     }
 
 -- a look finds a token

@@ -2,6 +2,8 @@
 use Rattle.std.proofs.Common.{◌≡◌, ℕ, ◌+◌, ◌-◌, ◌<◌, ◌≤◌, List, [], length, sym, ◌∙◌, subst, arith}
 use Rattle.std.specs.Prelude.{vec_capacity}
 use Rattle.lid_system.specs.declared.System.{System}
+use Rattle.lid_stations.specs.Placements.{links_of}
+use Rattle.lid_runs.proofs.Ends.{drained_is}
 use Rattle.lid_nodes.specs.Wiring.{ShellView, SinkView}
 use Rattle.lid_machine.specs.Plans.{actors_of, sink, ins_of, outs_of, cap}
 use Rattle.lid_machine.specs.Setups.{Setup, IsSetup, plan}
@@ -14,8 +16,7 @@ use Rattle.lid_shell.specs.Parts.{IsPart, HasGiven}
 use Rattle.lid_shell.specs.Actors.{IsDesk, IsActor}
 use Rattle.lid_shell.specs.Inside.{ActorsGoByRules}
 use Rattle.lid_shell.specs.Starts.{IsNewDesk, IsNewGiven}
-use Rattle.lid_shell.proofs.Counts.{early}
-use Rattle.lid_shell.proofs.Places.{drained_is}
+use Rattle.lid_machine.proofs.Counts.{early}
 use Rattle.lid_shell.proofs.Streams.{cap_early, cap_late, sink_fills_none}
 use Rattle.lid_shell.proofs.Passed.{none_of}
 
@@ -56,7 +57,7 @@ source_drains_none : (r : ActorsGoByRules) (m : Setup) → IsSetup m → ins_of 
 source_drains_none r m setup =
     none_of (ins_of (plan m) 0)
     (λ station at.
-    let own = drained_is m 0 0 station at in
+    let own = drained_is (links_of m.system) m.placement 0 0 station at in
     let is : drainer_of (plan m) station ≡ 0 = own.1 in
     let some : 0 < drainer_of (plan m) station = (r.between m.system m.placement station setup.system setup.fits own.0).not_source in
     omega arith)

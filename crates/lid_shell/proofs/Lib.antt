@@ -1,5 +1,4 @@
 pub mod Places
-pub mod Counts
 pub mod Changed
 pub mod Agreed
 pub mod Streams

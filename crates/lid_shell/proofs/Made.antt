@@ -17,7 +17,7 @@ use Rattle.lid_shell.specs.Actors.{row_of}
 use Rattle.lid_shell.specs.Boards.{Agrees}
 use Rattle.lid_shell.specs.Steps.{Works}
 use Rattle.lid_shell.specs.Inside.{ActorsGoByRules, IsPassing, HasPassed, tokens_taken, AreMade, IsBusy, IsGoing, IsToMake, HasMade, IsReady, IsAtEnd, HasClosed, HasFinished, further, closed}
-use Rattle.lid_shell.proofs.Counts.{early, late, alike}
+use Rattle.lid_machine.proofs.Counts.{early, late, alike}
 use Rattle.lid_shell.proofs.Streams.{sink_fills_none, cap_within}
 use Rattle.lid_shell.proofs.Desks.{all_taken, are_made, desk_made, desk_closed}
 use Rattle.lid_shell.proofs.Agreed.{agrees_closed}

@@ -2,6 +2,8 @@
 use Rattle.std.proofs.Common.{◌≡◌, ℕ, ◌+◌, ◌*◌, ◌<◌, inl, inr, sym, ◌∙◌, ap, subst, arith}
 use Rattle.std.specs.Prelude.{Option, Some, slice_get}
 use Rattle.std.proofs.lemmas.Bool.{cases_eq}
+use Rattle.lid_stations.specs.Placements.{links_of}
+use Rattle.lid_runs.proofs.Ends.{drained_is, filled_is, drained_there, filled_there, drained_place, filled_place}
 use Rattle.lid_station.specs.Boards.{Ends, fill, drain}
 use Rattle.lid_machine.specs.Plans.{ins_of, outs_of, start_of, stations_of}
 use Rattle.lid_machine.specs.Setups.{Setup, plan}
@@ -10,7 +12,6 @@ use Rattle.lid_machine.specs.Plans.{drainer_of, filler_of}
 use Rattle.lid_runs.specs.Runs.{place_in}
 use Rattle.lid_shell.specs.Boards.{HasEnd, Agrees, ServesBoth, ServesAll}
 use Rattle.lid_shell.specs.Steps.{IsOwn, Moves}
-use Rattle.lid_shell.proofs.Places.{drained_is, filled_is, drained_there, filled_there, drained_place, filled_place}
 
 -- an end of a station that the actor does not fill, and of one that it does not drain, is none of its own
 fill_apart : (m : Setup) (v station : ℕ) → (filler_of (plan m) station ≡ v → ⊥) → IsOwn (ins_of (plan m) v) (outs_of (plan m) v) (fill station) → ⊥
@@ -20,7 +21,7 @@ fill_apart m v station apart own =
       | inr h ↦
           (let doubled : 2 * station ≡ 2 * own.0 = h.1 in
           let same : own.0 ≡ station = omega arith in
-          apart (filled_is m v own.1 station (subst (λ (s : ℕ). slice_get (outs_of (plan m) v) own.1 ≡ Some s) same h.0)).1)
+          apart (filled_is (links_of m.system) m.placement v own.1 station (subst (λ (s : ℕ). slice_get (outs_of (plan m) v) own.1 ≡ Some s) same h.0)).1)
     ]
 
 drain_apart : (m : Setup) (v station : ℕ) → (drainer_of (plan m) station ≡ v → ⊥) → IsOwn (ins_of (plan m) v) (outs_of (plan m) v) (drain station) → ⊥
@@ -29,7 +30,7 @@ drain_apart m v station apart own =
       | inl h ↦
           (let doubled : 2 * station + 1 ≡ 2 * own.0 + 1 = h.1 in
           let same : own.0 ≡ station = omega arith in
-          apart (drained_is m v own.1 station (subst (λ (s : ℕ). slice_get (ins_of (plan m) v) own.1 ≡ Some s) same h.0)).1)
+          apart (drained_is (links_of m.system) m.placement v own.1 station (subst (λ (s : ℕ). slice_get (ins_of (plan m) v) own.1 ≡ Some s) same h.0)).1)
       | inr h ↦ (let odd : 2 * station + 1 ≡ 2 * own.0 = h.1 in omega arith)
     ]
 
@@ -39,9 +40,9 @@ filled_on : (m : Setup) (v station : ℕ) (old now : State) (missed : Option ℕ
 filled_on m v station old now missed ends new others agrees moves there serves =
     elim (cases_eq (filler_of (plan m) station) v) [
       | inl own ↦
-          (let at = filled_there m v station there own in
+          (let at = filled_there (links_of m.system) m.placement v station there own in
           let had = agrees.fills at.0 station at.1 in
-          let place = filled_place m v at.0 station at.1 in (
+          let place = filled_place (links_of m.system) m.placement v at.0 station at.1 in (
             had.0,
             had.1,
             had.2.passed
@@ -60,9 +61,9 @@ drained_on : (m : Setup) (v station : ℕ) (old now : State) (missed : Option �
 drained_on m v station old now missed ends new others agrees moves there serves =
     elim (cases_eq (drainer_of (plan m) station) v) [
       | inl own ↦
-          (let at = drained_there m v station there own in
+          (let at = drained_there (links_of m.system) m.placement v station there own in
           let had = agrees.drains at.0 station at.1 in
-          let place = drained_place m v at.0 station at.1 in (
+          let place = drained_place (links_of m.system) m.placement v at.0 station at.1 in (
             had.0,
             had.1,
             had.2.passed
@@ -82,13 +83,13 @@ pub serves_on : (m : Setup) (v : ℕ) (old now : State) (missed : Option ℕ) (e
 serves_on m v old now missed ends new others agrees moves serves =
     record {
       ins = λ i station at.
-          let there = (drained_is m v i station at).0 in
+          let there = (drained_is (links_of m.system) m.placement v i station at).0 in
           record {
             filled = filled_on m v station old now missed ends new others agrees moves there (serves.ins i station at);
             drained = drained_on m v station old now missed ends new others agrees moves there (serves.ins i station at);
           };
       outs = λ j station at.
-          let there = (filled_is m v j station at).0 in
+          let there = (filled_is (links_of m.system) m.placement v j station at).0 in
           record {
             filled = filled_on m v station old now missed ends new others agrees moves there (serves.outs j station at);
             drained = drained_on m v station old now missed ends new others agrees moves there (serves.outs j station at);

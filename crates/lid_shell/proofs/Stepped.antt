@@ -17,7 +17,7 @@ use Rattle.lid_shell.specs.Parts.{IsPart}
 use Rattle.lid_shell.specs.Actors.{IsDesk, IsActor, IsBegun, row_of}
 use Rattle.lid_shell.specs.Steps.{Works, Steps, IsExact, found_in}
 use Rattle.lid_shell.specs.Inside.{act_in, IsNext, IsAbout, IsAtWork, HasLooked, HasGone, looked, closed}
-use Rattle.lid_shell.proofs.Counts.{alike}
+use Rattle.lid_machine.proofs.Counts.{alike}
 use Rattle.lid_shell.proofs.Agreed.{agrees_closed}
 
 -- the act of a position is the one that is next there
@@ -59,14 +59,14 @@ about_of m v q d next is h =
     (subst (λ (n : ℕ). IsNext n (length d.outs.items) d.position next) (ap length is.drains) h))
 
 -- an actor below its cap is at work
-pub below_cap : (m : Setup) (v : ℕ) (q : Progress) (d : Desk) → IsDesk m v q d → IsBegun m v q → (d.fired ≡ d.cap → ⊥) → q.fired < cap (plan m) v
+below_cap : (m : Setup) (v : ℕ) (q : Progress) (d : Desk) → IsDesk m v q d → IsBegun m v q → (d.fired ≡ d.cap → ⊥) → q.fired < cap (plan m) v
 below_cap m v q d is far other =
     let fired : d.fired ≡ q.fired = is.fired_is in
     let most : d.cap ≡ cap (plan m) v = is.capped in
     let capped : q.fired ≤ cap (plan m) v = far.capped in
     omega (arith, other)
 
-pub at_work : (m : Setup) (v : ℕ) (q : Progress) (a : Actor) (ends : Ends) (stands : (ℕ → List ℕ) → Type 0) → Works m v q a ends stands → (a.desk.fired ≡ a.desk.cap → ⊥) → IsAtWork m v q a.desk ends stands
+at_work : (m : Setup) (v : ℕ) (q : Progress) (a : Actor) (ends : Ends) (stands : (ℕ → List ℕ) → Type 0) → Works m v q a ends stands → (a.desk.fired ≡ a.desk.cap → ⊥) → IsAtWork m v q a.desk ends stands
 at_work m v q a ends stands w other =
     record {
       busy = record {
@@ -83,6 +83,11 @@ at_work m v q a ends stands w other =
       agrees = w.agrees;
       streams = w.streams;
     }
+
+-- and can do what is next
+pub ready : (m : Setup) (v : ℕ) (q : Progress) (a : Actor) (next : Next) (ends : Ends) (stands : (ℕ → List ℕ) → Type 0) → Works m v q a ends stands → (a.desk.fired ≡ a.desk.cap → ⊥) → IsNext (length a.desk.ins.items) (length a.desk.outs.items) a.desk.position next
+    → IsAtWork m v q a.desk ends stands × IsAbout m v q next
+ready m v q a next ends stands w other h = (at_work m v q a ends stands w other, about_of m v q a.desk next w.actor.at h)
 
 -- what an actor below its cap answers, and how far it is then
 pub answer_below : (m : Setup) (v : ℕ) (q : Progress) (found : Bool) (act : Act) (last : Bool) → q.fired < cap (plan m) v → act_of (plan m) v q.position ≡ act → is_last (plan m) v q.position ≡ last → tells (plan m) v q.fired act found last ≡ answer_as (plan m) v q found
@@ -141,21 +146,26 @@ looked_out : (j : ℕ) (found : Bool) (q : Progress) → looked found q ≡ move
 looked_out j true q = refl
 looked_out j false q = refl
 
+stepped_look : (m : Setup) (v : ℕ) (q : Progress) (next : Next) (answer : Answer) (d : Desk) (part : Part) (ends : Ends) (stands : (ℕ → List ℕ) → Type 0) → looked (found_in answer) q ≡ moves (act_in next) (found_in answer) false q
+    → q.position < takes_from (length (ins_of (plan m) v)) (length (outs_of (plan m) v)) → q.fired < cap (plan m) v → IsAbout m v q next → IsPart m v q.fired (row_of m v q) part
+    → HasLooked m v q next answer d ends stands → Steps m v q answer (record { desk = d; part = part }) ends stands
+stepped_look m v q next answer d part ends stands goes early below about is done =
+    stepped m v q answer (act_in next) false (record { desk = d; part = part }) ends stands below (act_is (length (ins_of (plan m) v)) (length (outs_of (plan m) v)) q.position next about) (ne_eqb _ _ (λ same. omega arith)) done.answers
+    (subst (λ (p : Progress). Works m v p (record { desk = d; part = part }) ends stands) goes (settled m v q d part ends stands (found_in answer) done.work is early))
+
 pub stepped_in : (m : Setup) (v : ℕ) (q : Progress) (i : ℕ) (answer : Answer) (d : Desk) (part : Part) (ends : Ends) (stands : (ℕ → List ℕ) → Type 0) → q.fired < cap (plan m) v → IsAbout m v q (LookIn i) → IsPart m v q.fired (row_of m v q) part
     → HasLooked m v q (LookIn i) answer d ends stands → Steps m v q answer (record { desk = d; part = part }) ends stands
 stepped_in m v q i answer d part ends stands below about is done =
     let here : q.position ≡ i = about.0 in
     let within : i < length (ins_of (plan m) v) = about.1 in
-    stepped m v q answer (looks_in i) false (record { desk = d; part = part }) ends stands below (act_is (length (ins_of (plan m) v)) (length (outs_of (plan m) v)) q.position (LookIn i) about) (ne_eqb _ _ (λ same. omega arith)) done.answers
-    (subst (λ (p : Progress). Works m v p (record { desk = d; part = part }) ends stands) (looked_in i (found_in answer) q) (settled m v q d part ends stands (found_in answer) done.work is (omega arith)))
+    stepped_look m v q (LookIn i) answer d part ends stands (looked_in i (found_in answer) q) (omega arith) below about is done
 
 pub stepped_out : (m : Setup) (v : ℕ) (q : Progress) (j : ℕ) (answer : Answer) (d : Desk) (part : Part) (ends : Ends) (stands : (ℕ → List ℕ) → Type 0) → q.fired < cap (plan m) v → IsAbout m v q (LookOut j) → IsPart m v q.fired (row_of m v q) part
     → HasLooked m v q (LookOut j) answer d ends stands → Steps m v q answer (record { desk = d; part = part }) ends stands
 stepped_out m v q j answer d part ends stands below about is done =
     let here : q.position ≡ length (ins_of (plan m) v) + j = about.0 in
     let within : j < length (outs_of (plan m) v) = about.1 in
-    stepped m v q answer (looks_out j) false (record { desk = d; part = part }) ends stands below (act_is (length (ins_of (plan m) v)) (length (outs_of (plan m) v)) q.position (LookOut j) about) (ne_eqb _ _ (λ same. omega arith)) done.answers
-    (subst (λ (p : Progress). Works m v p (record { desk = d; part = part }) ends stands) (looked_out j (found_in answer) q) (settled m v q d part ends stands (found_in answer) done.work is (omega arith)))
+    stepped_look m v q (LookOut j) answer d part ends stands (looked_out j (found_in answer) q) (omega arith) below about is done
 
 -- an actor that has made another step
 pub stepped_on : (m : Setup) (v : ℕ) (q : Progress) (next : Next) (answer : Answer) (a : Actor) (ends : Ends) (stands : (ℕ → List ℕ) → Type 0) → q.fired < cap (plan m) v → IsAbout m v q next → HasGone m v q next answer a ends stands

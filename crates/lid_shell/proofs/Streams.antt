@@ -9,6 +9,7 @@ use Rattle.lid_system.specs.declared.Channel.{Channel}
 use Rattle.lid_system.specs.Systems.{IsChannel}
 use Rattle.lid_system.proofs.Shelling.{each_length, each_get}
 use Rattle.lid_system.proofs.Streaming.{small_token}
+use Rattle.lid_runs.proofs.Ends.{filled_is}
 use Rattle.lid_nodes.specs.Nodes.{tokens_to, tokens_from}
 use Rattle.lid_stations.specs.Placements.{links_of}
 use Rattle.lid_stations.specs.Stations.{no_channel, channel_at, spot_at, start_count}
@@ -17,7 +18,6 @@ use Rattle.lid_machine.specs.Plans.{actors_of, stations_of, outs_of, cap, start_
 use Rattle.lid_machine.specs.Setups.{Setup, IsSetup, plan}
 use Rattle.lid_machine.specs.Plans.{filler_of}
 use Rattle.lid_shell.specs.Inside.{ActorsGoByRules, tokens_taken, tokens_made}
-use Rattle.lid_shell.proofs.Places.{filled_is}
 
 -- a token of a stream
 pub stream_token : (m : Setup) (station i x : ℕ) → slice_get (stream (plan m) station) i ≡ Some x → x ≡ (plan m).token station i
@@ -65,14 +65,14 @@ cap_within m v =
 -- the sink fills no station
 pub sink_fills_none : (r : ActorsGoByRules) (m : Setup) (v j station : ℕ) → IsSetup m → v + 1 ≡ length m.system.nodes → slice_get (outs_of (plan m) v) j ≡ Some station → ⊥
 sink_fills_none r m v j station setup last at =
-    let own = filled_is m v j station at in
+    let own = filled_is (links_of m.system) m.placement v j station at in
     let between = r.between m.system m.placement station setup.system setup.fits own.0 in
     between.not_sink (ap (λ (n : ℕ). n + 1) own.1 ∙ last)
 
 -- a station that a node fills starts with a token where there is a row, and one that a mover fills with none
 pub starts_node : (r : ActorsGoByRules) (m : Setup) (v j station : ℕ) → IsSetup m → v < length m.system.nodes → 0 < length m.input → slice_get (outs_of (plan m) v) j ≡ Some station → start_of (plan m) station ≡ 1
 starts_node r m v j station setup node some at =
-    let own = filled_is m v j station at in
+    let own = filled_is (links_of m.system) m.placement v j station at in
     let is : filler_of (plan m) station ≡ v = own.1 in
     elim (r.starts m.system m.placement station setup.system setup.fits own.0) [
       | inl h ↦ (let one : start_count m.placement station ≡ 1 = h.1 in omega arith)
@@ -81,7 +81,7 @@ starts_node r m v j station setup node some at =
 
 pub starts_mover : (r : ActorsGoByRules) (m : Setup) (v j station : ℕ) → IsSetup m → length m.system.nodes ≤ v → slice_get (outs_of (plan m) v) j ≡ Some station → start_of (plan m) station ≡ 0
 starts_mover r m v j station setup mover at =
-    let own = filled_is m v j station at in
+    let own = filled_is (links_of m.system) m.placement v j station at in
     let is : filler_of (plan m) station ≡ v = own.1 in
     elim (r.starts m.system m.placement station setup.system setup.fits own.0) [
       | inl h ↦ (let before : filler_of (plan m) station < length m.system.nodes = h.0 in absurd (omega arith))

@@ -3,6 +3,8 @@ use Rattle.std.proofs.Common.{◌≡◌, ℕ, ◌+◌, ◌-◌, ◌<◌, ◌≤�
 use Rattle.std.specs.Prelude.{Some, slice_get}
 use Rattle.std.proofs.lemmas.Bool.{ne_eqb}
 use Rattle.std.proofs.lemmas.Option.{get_or_from_slice_get}
+use Rattle.lid_stations.specs.Placements.{links_of}
+use Rattle.lid_runs.proofs.Ends.{filled_is}
 use Rattle.lid_station.specs.Boards.{Facts, Ends, fill, drain}
 use Rattle.lid_station.specs.Words.{word, word_number}
 use Rattle.lid_machine.specs.Plans.{ins_of, outs_of, cap, start_of, room_of, stream}
@@ -10,9 +12,8 @@ use Rattle.lid_machine.specs.Setups.{Setup, IsSetup, plan}
 use Rattle.lid_machine.specs.Machine.{Progress, State, takes_from, puts_from, in_at, out_at, in_count, out_count, void_word, stop_word}
 use Rattle.lid_shell.specs.Boards.{Agrees, ServesBoth}
 use Rattle.lid_shell.specs.Inside.{ActorsGoByRules}
-use Rattle.lid_shell.proofs.Counts.{early}
+use Rattle.lid_machine.proofs.Counts.{early}
 use Rattle.lid_shell.proofs.Streams.{stream_token, stream_at, put_within, room_some}
-use Rattle.lid_shell.proofs.Places.{filled_is}
 
 -- a station that is drained is the one at its place
 pub at_in : (m : Setup) (v i station : ℕ) → slice_get (ins_of (plan m) v) i ≡ Some station → in_at (plan m) v i ≡ station
@@ -105,7 +106,7 @@ pub finds_room : (m : Setup) (v j station : ℕ) (q : Progress) (st : State) (en
     → ((f d : Facts) → ends (fill station) ≡ Some f → ends (drain station) ≡ Some d → f.passed ≡ d.passed + f.cap → ⊥)
     → true ≡ not (in_count (plan m) st (out_at (plan m) v j) - out_count (plan m) st (out_at (plan m) v j) == room_of (plan m) (out_at (plan m) v j))
 finds_room m v j station q st ends setup agrees serves at differ =
-    let there = (filled_is m v j station at).0 in
+    let there = (filled_is (links_of m.system) m.placement v j station at).0 in
     let some : 2 ≤ room_of (plan m) station = room_some m station setup there in
     let cap = cap_is m v q j station ends serves.filled.0 agrees at serves.filled.1 in
     let put = serves.filled.2 in

@@ -13,4 +13,5 @@ mod rules;
 mod turn;
 
 pub use actor::Actor;
+pub use rules::actors_go_by_rules;
 pub use turn::TurnEnd;

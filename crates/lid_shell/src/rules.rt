@@ -6,7 +6,7 @@ use lid_runs::{movers_move_tokens_on, nodes_pass_the_tokens_of_channels};
 use lid_stations::stations_stand_between_actors;
 
 /// What is known of all actors and stations. This does nothing; its contract is what laws say, in one.
-pub(crate) fn actors_go_by_rules()
+pub fn actors_go_by_rules()
     ensures { ActorsGoByRules }
 {
     stations_stand_between_actors();

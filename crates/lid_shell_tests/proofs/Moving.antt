@@ -7,6 +7,7 @@ use Rattle.lid_system.specs.declared.System.{System}
 use Rattle.lid_system.specs.Systems.{IsWellFormed}
 use Rattle.lid_system.specs.Tables.{system_drivers}
 use Rattle.lid_system.proofs.Shelling.{each_length, each_at}
+use Rattle.lid_runs.proofs.Ends.{drained_there}
 use Rattle.lid_station.specs.declared.pair.Pair.{Pair}
 use Rattle.lid_station.specs.Plain.{plain_ends, PlainStands}
 use Rattle.lid_station.specs.Starts.{start_count, AreStarts, Begin}
@@ -22,7 +23,6 @@ use Rattle.lid_shell.specs.Actors.{IsActor}
 use Rattle.lid_shell.specs.Steps.{CanTurn}
 use Rattle.lid_shell.proofs.Begun.{rest}
 use Rattle.lid_shell.proofs.Streams.{token_small}
-use Rattle.lid_shell.proofs.Places.{drained_there}
 use Rattle.lid_actors.proofs.Starting.{starts_agree}
 
 abbrev pub laid : Placement
@@ -63,7 +63,7 @@ module _ (s : System) (rows : List (List Bool)) (formed : IsWellFormed s) (fits 
   moves_one : (ins_of (plan setup) (length s.nodes) ≡ 1 ∷ []) × (outs_of (plan setup) (length s.nodes) ≡ 2 ∷ [])
   moves_one =
       let moves = law s laid (length s.nodes) formed fits (omega arith) there in
-      let place = drained_there setup (length s.nodes) 1 (omega arith) (drained_by_first (links_of s)) in
+      let place = drained_there (links_of s) laid (length s.nodes) 1 (omega arith) (drained_by_first (links_of s)) in
       let is : moves.0 ≡ 1 = only moves.0 1 place.0 (subst (λ (xs : List ℕ). slice_get xs place.0 ≡ Some 1) moves.1.drained place.1) in
       (moves.1.drained ∙ ap (λ (x : ℕ). x ∷ []) is, moves.1.filled ∙ ap (λ (x : ℕ). (x + 1) ∷ []) is)
 

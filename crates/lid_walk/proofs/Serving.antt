@@ -1,25 +1,15 @@
 -- A board that agrees with all actors serves both ends of each station, as the state counts.
 use Rattle.std.proofs.Common.{◌≡◌, ℕ, ◌<◌, refl, sym, ◌∙◌, subst}
 use Rattle.std.specs.Prelude.{Some, slice_get}
-use Rattle.std.proofs.lemmas.Option.{slice_get_within, get_or_from_slice_get}
 use Rattle.lid_station.specs.Boards.{Ends, fill, drain}
 use Rattle.lid_stations.proofs.Spots.{stands_between}
 use Rattle.lid_runs.proofs.Ends.{drained_there, filled_there}
-use Rattle.lid_machine.specs.Plans.{Plan, actors_of, stations_of, ins_of, outs_of, drainer_of, filler_of}
+use Rattle.lid_machine.specs.Plans.{Plan, actors_of, stations_of, drainer_of, filler_of}
 use Rattle.lid_machine.specs.Setups.{Setup, IsSetup, plan}
 use Rattle.lid_machine.specs.Machine.{State, in_count, out_count}
-use Rattle.lid_machine.proofs.Places.{DrainsAt, FillsAt, drains_at, fills_at}
+pub use Rattle.lid_machine.proofs.Places.{drains_by, fills_by}
 use Rattle.lid_machine.proofs.Moves.{out_here, in_here}
 use Rattle.lid_shell.specs.Boards.{HasEnd, Agrees, ServesBoth, ServesAll}
-
--- where a station of an actor stands among those that it drains and fills
-pub drains_by : (m : Plan) (v i station : ℕ) → slice_get (ins_of m v) i ≡ Some station → DrainsAt m v i station
-drains_by m v i station h =
-    subst (λ (s : ℕ). DrainsAt m v i s) (get_or_from_slice_get (ins_of m v) i station 0 h) (drains_at m v i (slice_get_within (ins_of m v) i station h))
-
-pub fills_by : (m : Plan) (v j station : ℕ) → slice_get (outs_of m v) j ≡ Some station → FillsAt m v j station
-fills_by m v j station h =
-    subst (λ (s : ℕ). FillsAt m v j s) (get_or_from_slice_get (outs_of m v) j station 0 h) (fills_at m v j (slice_get_within (outs_of m v) j station h))
 
 module _ (x : Setup) (rules : IsSetup x) (st : State) (ends : Ends) (agrees : (v : ℕ) → v < actors_of (plan x) → Agrees x v (st v) ends) where
   abbrev m : Plan

@@ -1,12 +1,12 @@
 -- A look at a station that is drained.
-use Rattle.std.proofs.Common.{ℕ, ◌+◌, inl, slice_index_or, refl, sym, ◌∙◌, ap, arith}
+use Rattle.std.proofs.Common.{ℕ, slice_index_or, sym, ◌∙◌, ap, arith}
 use Rattle.lid_base.specs.declared.runs.Answer.TheVariants as answer
 use Rattle.lid_machine.specs.Machine.{in_at}
 use Rattle.lid_machine.specs.Setups.{plan}
 use Rattle.lid_shell.proofs.Changed.{moves_marked, moves_missed}
 use Rattle.lid_shell.proofs.Agreed.{agrees_token, agrees_void}
 use Rattle.lid_shell.proofs.Told.{at_in, token_in, word_in, finds_token, finds_no_token}
-use Rattle.lid_shell.proofs.Desks.{own_in, own_read, desk_looked}
+use Rattle.lid_shell.proofs.Desks.{own_in, own_read, look_found, look_missed}
 use Rattle.lid_shell.proofs.desk.Desk.look_in.Goals as goal
 
 pub returns-in-Token-clause-looks : goal.returns-in-Token-clause-looks
@@ -16,17 +16,7 @@ returns-in-Token-clause-looks g c = λ m v q w about.
     let value = token_in m v q c.args.i station c.in-Token.token _ w.agrees (omega arith) at (λ f there. c.in-Token.ensures.found _ f w.streams there) in
     record {
       answers = ap (λ (s : ℕ). answer.Token s c.in-Token.token) (sym (at_in m v c.args.i station at)) ∙ ap (λ (x : ℕ). answer.Token (in_at (plan m) v c.args.i) x) value;
-      work = record {
-        busy = record {
-          rules = w.busy.rules;
-          there = w.busy.there;
-          below = w.busy.below;
-          within = omega arith;
-          at = desk_looked m v q c.args.self.now (q.position + 1) (c.args.self.now.position + 1) w.busy.at (ap (λ (n : ℕ). n + 1) w.busy.at.position_is) (omega arith);
-        };
-        agrees = agrees_token m v q _ _ c.args.i station w.agrees about.0 at c.in-Token.ensures.changed;
-        streams = c.in-Token.ensures.kept _ w.streams;
-      };
+      work = look_found m v q c.args.self.now _ _ w.busy (omega arith) (agrees_token m v q _ _ c.args.i station w.agrees about.0 at c.in-Token.ensures.changed) (c.in-Token.ensures.kept _ w.streams);
     }
 
 pub returns-in-Token-clause-exact : goal.returns-in-Token-clause-exact
@@ -37,7 +27,7 @@ returns-in-Token-clause-exact g c = λ m v st w about serves.
 pub returns-in-Token-clause-moves : goal.returns-in-Token-clause-moves
 returns-in-Token-clause-moves g c =
     let q = c.requires in
-    moves_marked _ _ _ _ _ c.in-Token.ensures.changed (_, c.args.i, inl (own_read q.setup q.number q.far c.args.self.now c.as_slice.result.now c.args.i q.work.busy.at c.as_slice.ensures q.about.1, refl))
+    moves_marked _ _ _ _ _ c.in-Token.ensures.changed (own_read q.setup q.number q.far c.args.self.now c.as_slice.result.now c.args.i q.work.busy.at c.as_slice.ensures q.about.1)
 
 pub returns-in-Void-clause-looks : goal.returns-in-Void-clause-looks
 returns-in-Void-clause-looks g c = λ m v q w about.
@@ -46,17 +36,7 @@ returns-in-Void-clause-looks g c = λ m v q w about.
     let value = word_in m v q c.args.i station c.in-Void.word _ w.agrees (omega arith) at (λ f there. c.in-Void.ensures.found _ f w.streams there) in
     record {
       answers = ap (λ (s : ℕ). answer.Void s c.in-Void.word) (sym (at_in m v c.args.i station at)) ∙ ap (λ (x : ℕ). answer.Void (in_at (plan m) v c.args.i) x) value;
-      work = record {
-        busy = record {
-          rules = w.busy.rules;
-          there = w.busy.there;
-          below = w.busy.below;
-          within = omega arith;
-          at = desk_looked m v q c.args.self.now 0 0 w.busy.at refl (omega arith);
-        };
-        agrees = agrees_void m v q _ _ c.args.i station w.agrees about.0 at c.in-Void.ensures.changed;
-        streams = c.in-Void.ensures.kept _ w.streams;
-      };
+      work = look_missed m v q c.args.self.now _ _ w.busy (agrees_void m v q _ _ c.args.i station w.agrees about.0 at c.in-Void.ensures.changed) (c.in-Void.ensures.kept _ w.streams);
     }
 
 pub returns-in-Void-clause-exact : goal.returns-in-Void-clause-exact
@@ -67,4 +47,4 @@ returns-in-Void-clause-exact g c = λ m v st w about serves.
 pub returns-in-Void-clause-moves : goal.returns-in-Void-clause-moves
 returns-in-Void-clause-moves g c =
     let q = c.requires in
-    moves_missed _ _ _ _ _ c.in-Void.ensures.changed (_, c.args.i, inl (own_read q.setup q.number q.far c.args.self.now c.as_slice.result.now c.args.i q.work.busy.at c.as_slice.ensures q.about.1, refl))
+    moves_missed _ _ _ _ _ c.in-Void.ensures.changed (own_read q.setup q.number q.far c.args.self.now c.as_slice.result.now c.args.i q.work.busy.at c.as_slice.ensures q.about.1)

@@ -1,13 +1,12 @@
 -- A put.
-use Rattle.std.proofs.Common.{ℕ, ◌+◌, ◌<◌, ◌^◌, inr, slice_index_or, refl, sym, ◌∙◌, ap, subst, arith}
+use Rattle.std.proofs.Common.{ℕ, ◌+◌, ◌<◌, ◌^◌, slice_index_or, sym, ◌∙◌, ap, subst, arith}
 use Rattle.lid_machine.specs.Plans.{stream, start_of}
 use Rattle.lid_machine.specs.Setups.{plan}
-use Rattle.lid_shell.proofs.Places.{few_ins, few_outs}
 use Rattle.lid_shell.proofs.Changed.{moves_advanced}
 use Rattle.lid_shell.proofs.Agreed.{agrees_put}
 use Rattle.lid_shell.proofs.Streams.{token_small}
 use Rattle.lid_shell.proofs.Told.{at_out, put_next}
-use Rattle.lid_shell.proofs.Desks.{own_out, own_wrote, desk_put, made_at}
+use Rattle.lid_shell.proofs.Desks.{own_out, own_wrote, few_positions, busy_at, desk_put, made_at}
 use Rattle.lid_shell.proofs.desk.Desk.put.Goals as goal
 
 pub put-requires-clause-small : goal.put-requires-clause-small
@@ -31,11 +30,7 @@ put-requires-clause-admitted g c =
 pub overflow_add-self : goal.overflow_add-self
 overflow_add-self g c =
     let q = c.requires in
-    let ins = few_ins q.setup q.number q.work.busy.rules in
-    let outs = few_outs q.setup q.number q.work.busy.rules in
-    let is = q.work.busy.at.position_is in
-    let here = q.about.0 in
-    let within = q.about.1 in
+    let few = few_positions q.setup q.number q.far c.args.self.now q.work.busy in
     omega arith
 
 pub returns-clause-puts : goal.returns-clause-puts
@@ -49,13 +44,7 @@ returns-clause-puts g c = λ m v q w about ready.
     record {
       token_is = is ∙ ap (λ (s : ℕ). (plan m).token s (start_of (plan m) s + q.fired)) (sym (at_out m v c.args.j station at));
       work = record {
-        busy = record {
-          rules = w.busy.rules;
-          there = w.busy.there;
-          below = w.busy.below;
-          within = omega arith;
-          at = desk_put m v q d (d.position + 1) w.busy.at (omega arith) ready (ap (λ (n : ℕ). n + 1) w.busy.at.position_is);
-        };
+        busy = busy_at m v q d (record d { position = d.position + 1 }) (q.position + 1) w.busy (omega arith) (desk_put m v q d (d.position + 1) w.busy.at (omega arith) ready (ap (λ (n : ℕ). n + 1) w.busy.at.position_is));
         agrees = agrees_put m v q _ _ c.args.j station w.agrees about.0 at c.put.ensures.changed;
         streams = c.put.ensures.kept _ had.0 w.streams had.1 next;
       };
@@ -64,4 +53,4 @@ returns-clause-puts g c = λ m v q w about ready.
 pub returns-clause-moves : goal.returns-clause-moves
 returns-clause-moves g c =
     let q = c.requires in
-    moves_advanced _ _ _ _ _ c.put.ensures.changed (_, c.args.j, inr (own_wrote q.setup q.number q.far c.args.self.now c.as_slice-2.result.now c.args.j q.work.busy.at c.as_slice-2.ensures q.about.1, refl))
+    moves_advanced _ _ _ _ _ c.put.ensures.changed (own_wrote q.setup q.number q.far c.args.self.now c.as_slice-2.result.now c.args.j q.work.busy.at c.as_slice-2.ensures q.about.1)

@@ -1,4 +1,4 @@
--- How many tokens an actor has taken and put, by its position.
+-- How many tokens an actor has taken or put at a place, by its position.
 use Rattle.std.proofs.Common.{◌≡◌, ℕ, ◌+◌, ◌<◌, ◌≤◌, inl, inr, Bool, cond, sym, ◌∙◌, ap, arith, lt-ltb, le-ltb}
 use Rattle.std.specs.Prelude.{nat_lt, if◌then◌else◌}
 use Rattle.std.proofs.lemmas.Bool.{cases_lt}
