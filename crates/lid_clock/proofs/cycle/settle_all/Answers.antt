@@ -1,27 +1,23 @@
 -- Each station settles once, beside the actors after their decisions.
-use Rattle.std.proofs.Common.{◌<◌, length, sym, ◌∙◌, subst, arith}
+use Rattle.std.proofs.Common.{arith}
 use Rattle.lid_clock.specs.declared.station.ClockStation.{ClockStation}
-use Rattle.lid_clock.specs.States.{CanSettle, Settles}
-use Rattle.lid_clock.proofs.Elements.{is_there}
-use Rattle.lid_clock.proofs.Pointwise.{none_yet, one_more, all_changed}
+use Rattle.lid_clock.specs.States.{CanSettle}
+use Rattle.lid_clock.proofs.Pointwise.{none_yet, next_meets, one_more, all_changed}
 use Rattle.lid_clock.proofs.Together.{each_can_settle, all_settle}
 use Rattle.lid_clock.proofs.cycle.settle_all.Goals as goal
 
 pub settle-requires : goal.settle-requires
 settle-requires c =
-    let within : c.loop-s.s < length c.loop-s.stations = omega arith in
-    let there = sym (c.loop-s.invariant.left c.loop-s.s (omega arith)) ∙ is_there c.loop-s.stations c.loop-s.s c.index-stations-s.result within c.index-stations-s.is in
-    subst (λ (x : ClockStation). CanSettle x c.args.actors.now) c.index-stations-s.is
-    (each_can_settle c.args.stations.now c.args.actors.now c.loop-s.s c.index-stations-s.result c.requires there)
+    next_meets _ (λ (x : ClockStation). CanSettle x c.args.actors.now) c.loop-s.s c.args.stations.now c.loop-s.stations c.index-stations-s.result c.loop-s.invariant (omega arith) c.index-stations-s.is
+    (each_can_settle c.args.stations.now c.args.actors.now c.loop-s.s c.index-stations-s.result c.requires)
 
 pub loop-s-init : goal.loop-s-init
 loop-s-init c = none_yet _ _
 
 pub loop-s-preserved : goal.loop-s-preserved
 loop-s-preserved c =
-    let within : c.loop-s.s < length c.loop-s.stations = omega arith in
-    one_more _ c.loop-s.s c.args.stations.now c.loop-s.stations c.index-stations-s.result c.settle.new.self c.loop-s.invariant within c.index-stations-s.is
-    (subst (λ (x : ClockStation). Settles x c.args.actors.now c.settle.new.self) (sym c.index-stations-s.is) c.settle.ensures)
+    one_more _ c.loop-s.s c.args.stations.now c.loop-s.stations c.index-stations-s.result c.settle.new.self c.loop-s.invariant (omega arith) c.index-stations-s.is
+    c.settle.ensures
 
 pub returns : goal.returns
 returns c =
