@@ -3,13 +3,12 @@ use Rattle.std.proofs.Common.{arith}
 use Rattle.lid_clock.specs.declared.station.ClockStation.{ClockStation}
 use Rattle.lid_clock.specs.States.{CanSettle}
 use Rattle.lid_clock.proofs.Pointwise.{none_yet, next_meets, one_more, all_changed}
-use Rattle.lid_clock.proofs.Together.{each_can_settle, all_settle}
-use Rattle.lid_clock.proofs.cycle.settle_all.Goals as goal
+use Rattle.lid_clock.proofs.settling.settle_each.Goals as goal
 
 pub settle-requires : goal.settle-requires
 settle-requires c =
     next_meets _ (λ (x : ClockStation). CanSettle x c.args.actors.now) c.loop-s.s c.args.stations.now c.loop-s.stations c.index-stations-s.result c.loop-s.invariant (omega arith) c.index-stations-s.is
-    (each_can_settle c.args.stations.now c.args.actors.now c.loop-s.s c.index-stations-s.result c.requires)
+    (c.requires c.loop-s.s c.index-stations-s.result)
 
 pub loop-s-init : goal.loop-s-init
 loop-s-init c = none_yet _ _
@@ -21,5 +20,7 @@ loop-s-preserved c =
 
 pub returns : goal.returns
 returns c =
-    all_settle c.args.stations.now c.loop-s.stations c.args.actors.now c.loop-s.invariant.many
-    (all_changed _ c.args.stations.now c.loop-s.stations c.loop-s.s c.loop-s.invariant c.loop-s-test.false)
+    record {
+      many = c.loop-s.invariant.many;
+      each = all_changed _ c.args.stations.now c.loop-s.stations c.loop-s.s c.loop-s.invariant c.loop-s-test.false;
+    }
