@@ -88,7 +88,7 @@ finds_void l k g v a stations actor beside one =
       station = station;
       there = own.0;
       drains = own.1;
-      void = subst (λ (n : ℕ). n ≤ taken_after l k station) is.put_is (subst (λ (n : ℕ). one.station.put ≤ n) is.taken_is one.empty);
+      void = subst (λ (n : ℕ). n ≤ taken_after l k station) is.put_is (subst (λ (n : ℕ). one.station.put ≤ n) is.taken_is one.so);
     }
 
 finds_stop : (l : Life) (k g v : ℕ) (a : ClockActor) (stations : List ClockStation) → IsActor l g v (fired_after l k v) a → AreStations l k stations → OneIsFull a.outs.items stations
@@ -104,7 +104,7 @@ finds_stop l k g v a stations actor beside one =
       stop =
           subst (λ (n : ℕ). taken_after l k station + capacity l.placement station ≤ n) is.put_is
           (subst (λ (n : ℕ). n + capacity l.placement station ≤ one.station.put) is.taken_is
-          (subst (λ (n : ℕ). one.station.taken + n ≤ one.station.put) is.size one.full));
+          (subst (λ (n : ℕ). one.station.taken + n ≤ one.station.put) is.size one.so));
     }
 
 -- where it sees one, it may not

@@ -8,7 +8,7 @@ use Rattle.lid_clock.specs.declared.stream.ClockStream.{ClockStream}
 use Rattle.lid_clock.specs.Lives.{Life, NeedsRow, Holds, fired_after, sink}
 use Rattle.lid_clock.specs.States.{MayBegin, Decided, AreDecided, AreActors, AreStations, IsLatest, actors_of}
 use Rattle.lid_clock.specs.Ran.{Ran}
-use Rattle.lid_clock.specs.Cycles.{CanDecideAll, AllDecide, CanSettleAll, AllSettle}
+use Rattle.lid_clock.specs.Cycles.{held_at, CanDecideAll, AllDecide, CanSettleAll, AllSettle}
 use Rattle.lid_graph.specs.Firings.{Hold}
 use Rattle.lid_clock.proofs.Held.{held_so, replaced, replaced_agrees, replaced_holds, begins_alike, actors_alike, stations_alike}
 use Rattle.lid_clock.proofs.Bars.{element}
@@ -74,33 +74,56 @@ ran_on l k g x new source last actors stations ran fed holds decides settles is_
       latest = λ a there. latest l k g a (decided.each (sink l) a (subst (λ (xs : List ClockActor). slice_get xs (sink l) ≡ Some a) is_actors there));
     }
 
--- all actors of a run can decide
-pub can_decide : (l : Life) (k g : ℕ) (x : ClockStream) → Ran l k g x → ¬ (NeedsRow l k g) → CanDecideAll x.actors.items x.stations.items
-can_decide l k g x ran fed =
-    record { life = l; k = k; g = g; begins = record { rules = ran.rules; fed = fed }; all = ran.all_actors; beside = ran.all_stations }
+-- all actors of a run can decide, beside its stations
+pub can_decide : (l : Life) (k g : ℕ) (x : ClockStream) (actors : List ClockActor) (stations : List ClockStation) → Ran l k g x → ¬ (NeedsRow l k g) → actors ≡ x.actors.items → stations ≡ x.stations.items → CanDecideAll actors stations
+can_decide l k g x actors stations ran fed are beside =
+    record {
+      life = l;
+      k = k;
+      g = g;
+      begins = record { rules = ran.rules; fed = fed };
+      all = subst (AreActors l k g) (sym are) ran.all_actors;
+      beside = subst (AreStations l k) (sym beside) ran.all_stations;
+    }
+
+-- they have decided as a run where they are its actors
+pub decided : (x : ClockStream) (source last : Bool) (actors news : List ClockActor) (stations : List ClockStation) → actors ≡ x.actors.items → stations ≡ x.stations.items → AllDecide actors stations x.sink source last news → AllDecide x.actors.items x.stations.items x.sink source last news
+decided x source last actors news stations are beside decides =
+    subst (λ (xs : List ClockActor). AllDecide xs x.stations.items x.sink source last news) are
+    (subst (λ (ys : List ClockStation). AllDecide actors ys x.sink source last news) beside decides)
 
 -- and then all stations can settle: those of the life with the hold of this cycle
-pub can_settle : (l : Life) (k g : ℕ) (x : ClockStream) (source last : Bool) (actors : List ClockActor) → Ran l k g x → ¬ (NeedsRow l k g)
-    → AllDecide x.actors.items x.stations.items x.sink source last actors → CanSettleAll x.stations.items actors
-can_settle l k g x source last actors ran fed decides =
+pub can_settle : (l : Life) (k g : ℕ) (x : ClockStream) (source last : Bool) (news actors : List ClockActor) (stations : List ClockStation) → Ran l k g x → ¬ (NeedsRow l k g)
+    → AllDecide x.actors.items x.stations.items x.sink source last news → actors ≡ news → stations ≡ x.stations.items → CanSettleAll stations actors
+can_settle l k g x source last news actors stations ran fed decides are beside =
     let hold : Hold = replaced l k source last in
+    let life = held_so l hold in
     let agree = replaced_agrees l k source last in
-    let begins : MayBegin (held_so l hold) k g = begins_alike l hold k g agree (record { rules = ran.rules; fed = fed }) in
-    let beside = stations_alike l hold k x.stations.items agree ran.all_stations in
+    let begins : MayBegin life k g = begins_alike l hold k g agree (record { rules = ran.rules; fed = fed }) in
+    let all : AreStations life k x.stations.items = stations_alike l hold k x.stations.items agree ran.all_stations in
     record {
-      life = held_so l hold;
+      life = life;
       k = k;
       g = g;
       rules = begins.rules;
-      all = beside;
-      decided = decides (held_so l hold) k g begins (actors_alike l hold k g x.actors.items agree ran.all_actors) beside ran.sink_is (replaced_holds l k source last);
+      all = subst (AreStations life k) (sym beside) all;
+      decided = subst (AreDecided life k g) (sym are) (decides life k g begins (actors_alike l hold k g x.actors.items agree ran.all_actors) all ran.sink_is (replaced_holds l k source last));
     }
 
+-- they have settled as a run where they are its stations
+pub settled : (x : ClockStream) (news actors : List ClockActor) (stations left : List ClockStation) → actors ≡ news → stations ≡ x.stations.items → AllSettle stations actors left → AllSettle x.stations.items news left
+settled x news actors stations left are beside settles =
+    subst (λ (xs : List ClockActor). AllSettle x.stations.items xs left) are
+    (subst (λ (ys : List ClockStation). AllSettle ys actors left) beside settles)
+
 -- nobody is held where neither the source nor the sink is
-none_held : (first last : Bool) → false ≡ cond first false (cond last false false)
-none_held true last = refl
-none_held false true = refl
-none_held false false = refl
+of_both : (first last : Bool) → false ≡ cond first false (cond last false false)
+of_both true last = refl
+of_both false true = refl
+of_both false false = refl
+
+pub none_held : (v sunk : ℕ) → false ≡ held_at sunk false false v
+none_held v sunk = of_both (v == 0) (v == sunk)
 
 pub nobody_held : (l : Life) (k : ℕ) → ((v : ℕ) → l.hold k v ≡ false) → Holds l k false false
-nobody_held l k nobody v = nobody v ∙ none_held (v == 0) (v == sink l)
+nobody_held l k nobody v = nobody v ∙ none_held v (sink l)

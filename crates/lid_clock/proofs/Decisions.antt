@@ -11,20 +11,14 @@ use Rattle.lid_clock.specs.Lives.{Life, fired_after}
 use Rattle.lid_clock.specs.States.{MayBegin, IsActor, AreStations, Decided}
 use Rattle.lid_clock.proofs.Bars.{may_fire}
 use Rattle.lid_clock.proofs.Tokens.{took}
+use Rattle.lid_clock.proofs.Staying.{stays}
 use Rattle.lid_clock.proofs.Made.{IsFiring, IsMade, made}
 
 -- an actor that did not go is still what it is
 still : (l : Life) (g v fired : ℕ) (a : ClockActor) → IsActor l g v fired a → IsActor l g v fired (record a { went = false })
 still l g v fired a actor =
-    record {
-      there = actor.there;
-      drains = actor.drains;
-      fills = actor.fills;
-      capped = actor.capped;
-      fired_is = actor.fired_is;
-      places = record { taken = actor.places.taken; tokens = actor.places.tokens; size = actor.places.size };
-      is = actor.is;
-    }
+    let places = actor.places in
+    stays l g g v fired fired a (record a { went = false }) actor (record { ins = refl; outs = refl; cap = refl }) actor.fired_is (record { taken = places.taken; tokens = places.tokens; size = places.size }) actor.is
 
 -- true is not false
 not_both : {A : Type 0} (b : Bool) → b ≡ true → b ≡ false → A
@@ -51,16 +45,7 @@ fired r l k g v a stations new begins actor beside free clear fires =
     let goes : fired_after l (suc k) v ≡ fired_after l k v + 1 = r.fires l.system l.placement (length l.input) l.hold k v begins.rules.system begins.rules.fits actor.there free may in
     let firing : IsFiring l k g v new.taken.items = record { begins = begins; there = actor.there; below = may.below; takes = took l k g v a stations new.taken.items actor beside clear.hold fires.taken } in
     let done : IsMade l k g v new.tokens.items new.part = made r l k g v new.taken.items new.tokens.items a.part new.part firing actor.is fires.passes in
-    let now : IsActor l g v (fired_after l k v + 1) new =
-    record {
-      there = actor.there;
-      drains = fires.same.ins ∙ actor.drains;
-      fills = fires.same.outs ∙ actor.fills;
-      capped = fires.same.cap ∙ actor.capped;
-      fired_is = fires.fired ∙ ap (λ (n : ℕ). n + 1) actor.fired_is;
-      places = fires.places;
-      is = done.is;
-    } in
+    let now : IsActor l g v (fired_after l k v + 1) new = stays l g g v (fired_after l k v) (fired_after l k v + 1) a new actor fires.same (fires.fired ∙ ap (λ (n : ℕ). n + 1) actor.fired_is) fires.places done.is in
     record {
       actor = subst (λ (n : ℕ). IsActor l g v n new) (sym goes) now;
       goes = λ _. goes;

@@ -8,10 +8,12 @@ use Rattle.lid_clock.specs.declared.part.Part.TheVariants.{Source, Shell, Mover,
 use Rattle.lid_clock.specs.declared.actor.ClockActor.{ClockActor}
 use Rattle.lid_clock.specs.declared.stream.ClockStream.{ClockStream}
 use Rattle.lid_clock.specs.Parts.{IsOfSize}
+use Rattle.lid_clock.specs.Actors.{HasPlaces, IsSameActor}
 use Rattle.lid_clock.specs.Lives.{Life, IsLife, IsWide, NeedsRow, fired_after, sink}
 use Rattle.lid_clock.specs.States.{IsPart, IsActor, AreActors, AreStations}
 use Rattle.lid_clock.specs.Ran.{Ran}
 use Rattle.lid_clock.specs.Cycles.{CanTake, Takes}
+use Rattle.lid_clock.proofs.Staying.{stays, stays_but_part}
 use Rattle.lid_clock.proofs.Pointwise.{set_here, set_there}
 use mathlib.Core.Logic.{dite}
 use native.Mathlib.Decide.{ℕ_discrete}
@@ -54,22 +56,16 @@ source_given : (l : Life) (g fired : ℕ) (old new : ClockActor) (row : List Boo
 source_given l g fired old new row life actor lacks at can takes rest =
     let taken : length new.taken.items ≡ length old.taken.items = ap (λ (a : ClockActor). length a.taken.items) rest in
     let tokens : length new.tokens.items ≡ length old.tokens.items = ap (λ (a : ClockActor). length a.tokens.items) rest in
-    record {
-      there = actor.there;
-      drains = ap (λ (a : ClockActor). a.ins.items) rest ∙ actor.drains;
-      fills = ap (λ (a : ClockActor). a.outs.items) rest ∙ actor.fills;
-      capped = ap (λ (a : ClockActor). a.cap) rest ∙ actor.capped;
-      fired_is = ap (λ (a : ClockActor). a.fired) rest ∙ actor.fired_is;
-      places = record {
-        taken = taken ∙ actor.places.taken ∙ sym (ap (λ (a : ClockActor). length a.ins.items) rest);
-        tokens = tokens ∙ actor.places.tokens ∙ sym (ap (λ (a : ClockActor). length a.outs.items) rest);
-        size =
-            subst (λ (n : ℕ). IsOfSize new.part n (length new.tokens.items)) (sym taken)
-            (subst (λ (n : ℕ). IsOfSize new.part (length old.taken.items) n) (sym tokens)
-            (size_given old.part new.part row (length old.taken.items) (length old.tokens.items) actor.places.size can takes));
-      };
-      is = part_given l g fired old.part new.part row life actor.is lacks at takes;
-    }
+    let same : IsSameActor old new = record { ins = ap (λ (a : ClockActor). a.ins.items) rest; outs = ap (λ (a : ClockActor). a.outs.items) rest; cap = ap (λ (a : ClockActor). a.cap) rest } in
+    let places : HasPlaces new = record {
+      taken = taken ∙ actor.places.taken ∙ sym (ap length same.ins);
+      tokens = tokens ∙ actor.places.tokens ∙ sym (ap length same.outs);
+      size =
+          subst (λ (n : ℕ). IsOfSize new.part n (length new.tokens.items)) (sym taken)
+          (subst (λ (n : ℕ). IsOfSize new.part (length old.taken.items) n) (sym tokens)
+          (size_given old.part new.part row (length old.taken.items) (length old.tokens.items) actor.places.size can takes));
+    } in
+    stays l g (g + 1) 0 fired fired old new actor same (ap (λ (a : ClockActor). a.fired) rest ∙ actor.fired_is) places (part_given l g fired old.part new.part row life actor.is lacks at takes)
 
 -- the other actors do not depend on how many rows were given
 part_else : (l : Life) (g v fired : ℕ) (part : Part) → IsPart l g v fired part → 0 < v → IsPart l (g + 1) v fired part
@@ -79,16 +75,7 @@ part_else l g v fired Mover is later = is
 part_else l g v fired (Sink node line) is later = is
 
 other_given : (l : Life) (g v fired : ℕ) (a : ClockActor) → IsActor l g v fired a → 0 < v → IsActor l (g + 1) v fired a
-other_given l g v fired a actor later =
-    record {
-      there = actor.there;
-      drains = actor.drains;
-      fills = actor.fills;
-      capped = actor.capped;
-      fired_is = actor.fired_is;
-      places = actor.places;
-      is = part_else l g v fired a.part actor.is later;
-    }
+other_given l g v fired a actor later = stays_but_part l g (g + 1) v fired a actor (part_else l g v fired a.part actor.is later)
 
 actors_given : (l : Life) (k g : ℕ) (actors : List ClockActor) (new : ClockActor) → AreActors l k g actors → IsActor l (g + 1) 0 (fired_after l k 0) new → AreActors l k (g + 1) (set actors 0 new)
 actors_given l k g actors new all source =

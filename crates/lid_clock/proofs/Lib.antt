@@ -1,7 +1,9 @@
 pub mod Elements
+pub mod Readings
 pub mod Bars
 pub mod Tokens
 pub mod Made
+pub mod Staying
 pub mod Decisions
 pub mod Settled
 pub mod Pointwise

@@ -35,8 +35,16 @@ set_there (z ∷ xs) zero (suc j) x other = refl
 set_there (z ∷ xs) (suc i) zero x other = refl
 set_there (z ∷ xs) (suc i) (suc j) x other = set_there xs i j x (λ e. other (ap suc e))
 
+-- the element that comes next is as it was
+next_there : {X : Type 0} (R : ℕ → X → X → Type 0) (i : ℕ) (olds news : List X) (x : X) → Upto R i olds news → i < length news → x ≡ get_or news i x → slice_get olds i ≡ Some x
+next_there R i olds news x upto within read = sym (upto.left i (omega arith)) ∙ is_there news i x within read
+
+-- so what holds of it before the loop still holds
+pub next_meets : {X : Type 0} (R : ℕ → X → X → Type 0) (P : X → Type 0) (i : ℕ) (olds news : List X) (x : X) → Upto R i olds news → i < length news → x ≡ get_or news i x → (slice_get olds i ≡ Some x → P x) → P (get_or news i x)
+next_meets R P i olds news x upto within read meets = subst P read (meets (next_there R i olds news x upto within read))
+
 -- one more element is changed
-pub one_more : {X : Type 0} (R : ℕ → X → X → Type 0) (i : ℕ) (olds news : List X) (x y : X) → Upto R i olds news → i < length news → x ≡ get_or news i x → R i x y → Upto R (i + 1) olds (set news i y)
+pub one_more : {X : Type 0} (R : ℕ → X → X → Type 0) (i : ℕ) (olds news : List X) (x y : X) → Upto R i olds news → i < length news → x ≡ get_or news i x → R i (get_or news i x) y → Upto R (i + 1) olds (set news i y)
 one_more R i olds news x y upto within read step =
     record {
       many = length-set news i y ∙ upto.many;
@@ -45,7 +53,7 @@ one_more R i olds news x y upto within read step =
           (λ same.
           let here : slice_get (set news i y) i ≡ Some q = subst (λ n. slice_get (set news i y) n ≡ Some q) same new in
           let last : y ≡ q = set_here news i y q here in
-          let first : x ≡ p = same_Some x p (sym (is_there news i x within read) ∙ upto.left i (omega arith) ∙ ap (slice_get olds) (sym same) ∙ old) in
+          let first : get_or news i x ≡ p = sym read ∙ same_Some x p (sym (next_there R i olds news x upto within read) ∙ ap (slice_get olds) (sym same) ∙ old) in
           subst (λ n. R n p q) (sym same) (subst (λ z. R i p z) last (subst (λ z. R i z y) first step)))
           (λ other. upto.changed j (omega arith) p q old (sym (set_there news i j y other) ∙ new));
       left = λ j from. set_there news i j y (λ same. omega arith) ∙ upto.left j (omega arith);

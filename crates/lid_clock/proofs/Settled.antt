@@ -4,7 +4,7 @@ use Rattle.std.specs.Prelude.{Some, slice_get}
 use Rattle.lid_stations.specs.Placements.{links_of}
 use Rattle.lid_stations.specs.Stations.{filler, drainer, capacity}
 use Rattle.lid_stations.specs.Laws.{StandsBetween}
-use Rattle.lid_runs.specs.Rules.{HoldsFew}
+use Rattle.lid_runs.specs.Rules.{HoldsFew, MayNotFire}
 use Rattle.lid_station.proofs.Words.{one_turn}
 use Rattle.lid_clock.specs.declared.actor.ClockActor.{ClockActor}
 use Rattle.lid_clock.specs.declared.station.ClockStation.{ClockStation}
@@ -12,60 +12,55 @@ use Rattle.lid_clock.specs.Rings.{token_in}
 use Rattle.lid_clock.specs.Rules.{RunsGoByRules}
 use Rattle.lid_clock.specs.Lives.{Life, IsLife, fired_after}
 use Rattle.lid_clock.specs.States.{outs_of, token_of_life, put_after, taken_after, stations_of, actors_of, IsStation, Decided, AreDecided}
+use Rattle.lid_clock.proofs.Elements.{is_there}
 use Rattle.lid_clock.proofs.Bars.{element, stands}
 use mathlib.Core.Logic.{dite}
-use native.Mathlib.Decide.{dec_le, ℕ_discrete}
+use native.Mathlib.Decide.{ℕ_discrete}
+
+-- nothing barred an actor that fired
+not_barred : (r : RunsGoByRules) (l : Life) (k v : ℕ) → IsLife l → v < actors_of l → fired_after l (suc k) v ≡ fired_after l k v + 1 → ¬ (MayNotFire (links_of l.system) l.placement (length l.input) (fired_after l k) v)
+not_barred r l k v life there fired barred =
+    let same : fired_after l (suc k) v ≡ fired_after l k v = r.rests l.system l.placement (length l.input) l.hold k v life.system life.fits there (inr barred) in
+    absurd (omega arith)
 
 -- a station whose filler fired had room
 pub had_room : (r : RunsGoByRules) (l : Life) (k station : ℕ) → IsLife l → station < stations_of l
     → fired_after l (suc k) (filler (links_of l.system) l.placement station) ≡ fired_after l k (filler (links_of l.system) l.placement station) + 1
     → put_after l k station < taken_after l k station + capacity l.placement station
 had_room r l k station life there fired =
-    dite (dec_le (taken_after l k station + capacity l.placement station) (put_after l k station))
-    (λ full.
     let between : StandsBetween l.system l.placement station = r.between l.system l.placement station life.system life.fits there in
-    let same : fired_after l (suc k) (filler (links_of l.system) l.placement station) ≡ fired_after l k (filler (links_of l.system) l.placement station) =
-    r.rests l.system l.placement (length l.input) l.hold k _ life.system life.fits between.filled
-    (inr (inr (inr (record { station = station; there = there; fills = refl; stop = full })))) in
-    absurd (omega arith))
-    (λ room. lt_of_not-le room)
+    lt_of_not-le (λ full. not_barred r l k _ life between.filled fired (inr (inr (record { station = station; there = there; fills = refl; stop = full }))))
 
 -- a station whose drainer fired had a token
 pub had_token : (r : RunsGoByRules) (l : Life) (k station : ℕ) → IsLife l → station < stations_of l
     → fired_after l (suc k) (drainer (links_of l.system) l.placement station) ≡ fired_after l k (drainer (links_of l.system) l.placement station) + 1
     → taken_after l k station < put_after l k station
 had_token r l k station life there fired =
-    dite (dec_le (put_after l k station) (taken_after l k station))
-    (λ void.
     let between : StandsBetween l.system l.placement station = r.between l.system l.placement station life.system life.fits there in
-    let same : fired_after l (suc k) (drainer (links_of l.system) l.placement station) ≡ fired_after l k (drainer (links_of l.system) l.placement station) =
-    r.rests l.system l.placement (length l.input) l.hold k _ life.system life.fits between.drained
-    (inr (inr (inl (record { station = station; there = there; drains = refl; void = void })))) in
-    absurd (omega arith))
-    (λ some. lt_of_not-le some)
+    lt_of_not-le (λ void. not_barred r l k _ life between.drained fired (inr (inl (record { station = station; there = there; drains = refl; void = void }))))
 
--- the filler and the drainer of a station are among the actors
-pub filler_there : (r : RunsGoByRules) (l : Life) (k g station put taken : ℕ) (x : ClockStation) (actors : List ClockActor) → IsLife l → station < stations_of l → IsStation l station put taken x → AreDecided l k g actors → x.filler < length actors
-filler_there r l k g station put taken x actors life there is decided =
-    let between : StandsBetween l.system l.placement station = r.between l.system l.placement station life.system life.fits there in
-    let low : filler (links_of l.system) l.placement station < actors_of l = between.filled in
-    let same : x.filler ≡ filler (links_of l.system) l.placement station = is.filled in
-    let many : length actors ≡ actors_of l = decided.many in
-    omega arith
+module _ (r : RunsGoByRules) (l : Life) (k g station put taken : ℕ) (x : ClockStation) (actors : List ClockActor) (life : IsLife l) (there : station < stations_of l) (is : IsStation l station put taken x) (decided : AreDecided l k g actors) where
+  -- the filler and the drainer of a station are among the actors
+  pub ends_there : (x.filler < length actors) × (x.drainer < length actors)
+  ends_there =
+      let between : StandsBetween l.system l.placement station = r.between l.system l.placement station life.system life.fits there in
+      let low : filler (links_of l.system) l.placement station < actors_of l = between.filled in
+      let high : drainer (links_of l.system) l.placement station < actors_of l = between.drained in
+      let fills : x.filler ≡ filler (links_of l.system) l.placement station = is.filled in
+      let drains : x.drainer ≡ drainer (links_of l.system) l.placement station = is.drained in
+      let many : length actors ≡ actors_of l = decided.many in
+      (omega arith, omega arith)
 
-pub drainer_there : (r : RunsGoByRules) (l : Life) (k g station put taken : ℕ) (x : ClockStation) (actors : List ClockActor) → IsLife l → station < stations_of l → IsStation l station put taken x → AreDecided l k g actors → x.drainer < length actors
-drainer_there r l k g station put taken x actors life there is decided =
-    let between : StandsBetween l.system l.placement station = r.between l.system l.placement station life.system life.fits there in
-    let low : drainer (links_of l.system) l.placement station < actors_of l = between.drained in
-    let same : x.drainer ≡ drainer (links_of l.system) l.placement station = is.drained in
-    let many : length actors ≡ actors_of l = decided.many in
-    omega arith
+  -- so the actor that is read for either has decided
+  pub filler_decided : (a : ClockActor) → a ≡ get_or actors x.filler a → Decided l k g x.filler a
+  filler_decided a read = decided.each x.filler a (is_there actors x.filler a ends_there.0 read)
 
--- the filler of a station
-pub some_filler : (r : RunsGoByRules) (l : Life) (k g station put taken : ℕ) (x : ClockStation) (actors : List ClockActor) → IsLife l → station < stations_of l → IsStation l station put taken x → AreDecided l k g actors → (a : ClockActor) × Decided l k g x.filler a
-some_filler r l k g station put taken x actors life there is decided =
-    let here = element actors x.filler (filler_there r l k g station put taken x actors life there is decided) in
-    (here.0, decided.each x.filler here.0 here.1)
+  pub drainer_decided : (a : ClockActor) → a ≡ get_or actors x.drainer a → Decided l k g x.drainer a
+  drainer_decided a read = decided.each x.drainer a (is_there actors x.drainer a ends_there.1 read)
+
+  -- and a filler there is
+  pub some_filler : (a : ClockActor) × Decided l k g x.filler a
+  some_filler = let here = element actors x.filler ends_there.0 in (here.0, decided.each x.filler here.0 here.1)
 
 -- the slot of a station is one of its filler's tokens
 pub slot_there : (l : Life) (k g station put taken : ℕ) (x : ClockStation) (a : ClockActor) → IsStation l station put taken x → Decided l k g x.filler a → x.slot < length a.tokens.items

@@ -1,11 +1,11 @@
 -- What the calls on a run ask, and what a cycle does to all actors and stations.
-use Rattle.std.specs.Prelude.{◌≡◌, ℕ, suc, ◌==◌, Bool, false, if◌then◌else◌, List, length}
+use Rattle.std.specs.Prelude.{◌≡◌, ℕ, suc, ◌==◌, Bool, false, if◌then◌else◌, List, length, Some, slice_get}
 use Rattle.lid_clock.specs.declared.part.Part.{Part}
 use Rattle.lid_clock.specs.declared.part.Part.TheVariants.{Source}
 use Rattle.lid_clock.specs.declared.actor.ClockActor.{ClockActor}
 use Rattle.lid_clock.specs.declared.station.ClockStation.{ClockStation}
 use Rattle.lid_clock.specs.Lives.{Life, IsLife, Holds, sink}
-use Rattle.lid_clock.specs.States.{AreActors, AreStations, AreDecided, MayBegin}
+use Rattle.lid_clock.specs.States.{AreActors, AreStations, AreDecided, MayBegin, CanSettle, Settles}
 
 -- whether an actor is held where the source or the sink may be
 abbrev pub held_at : ℕ → Bool → Bool → ℕ → Bool
@@ -40,6 +40,19 @@ abbrev pub AllSettle : List ClockStation → List ClockActor → List ClockStati
 AllSettle old actors new =
     (l : Life) (k g : ℕ)
     → IsLife l → AreStations l k old → AreDecided l k g actors → AreStations l (suc k) new
+
+-- each element was changed so
+pub record EachChanges {X : Type 0} (R : X → X → Type 0) (old new : List X) : Type 0 where
+  pub many : length new ≡ length old
+  pub each : (i : ℕ) (x y : X) → slice_get old i ≡ Some x → slice_get new i ≡ Some y → R x y
+
+-- each of these stations can settle
+abbrev pub EachCanSettle : List ClockStation → List ClockActor → Type 0
+EachCanSettle stations actors = (s : ℕ) (x : ClockStation) → slice_get stations s ≡ Some x → CanSettle x actors
+
+-- each has settled
+abbrev pub EachSettles : List ClockStation → List ClockActor → List ClockStation → Type 0
+EachSettles old actors new = EachChanges (λ x y. Settles x actors y) old new
 
 -- a source can take a row of this width
 abbrev pub CanTake : Part → ℕ → Type 0

@@ -14,29 +14,33 @@ AreThere reads stations = (i : ℕ) → i < length reads → get_or reads i 0 < 
 abbrev pub IsAt : List ℕ → List ClockStation → ℕ → ClockStation → Type 0
 IsAt reads stations i x = slice_get stations (get_or reads i 0) ≡ Some x
 
--- each station that is read holds a token
-abbrev pub AllHold : List ℕ → List ClockStation → Type 0
-AllHold reads stations = (i : ℕ) → i < length reads → (x : ClockStation) → IsAt reads stations i x → x.taken < x.put
+-- each station that is read is so
+abbrev pub AllAre : (ClockStation → Type 0) → List ℕ → List ClockStation → Type 0
+AllAre P reads stations = (i : ℕ) → i < length reads → (x : ClockStation) → IsAt reads stations i x → P x
 
--- one of them is empty
-pub record OneIsEmpty (reads : List ℕ) (stations : List ClockStation) : Type 0 where
+-- one of them is so
+pub record OneIs (P : ClockStation → Type 0) (reads : List ℕ) (stations : List ClockStation) : Type 0 where
   pub place : ℕ
   pub within : place < length reads
   pub station : ClockStation
   pub is : IsAt reads stations place station
-  pub empty : station.put ≤ station.taken
+  pub so : P station
+
+-- each station that is read holds a token
+abbrev pub AllHold : List ℕ → List ClockStation → Type 0
+AllHold = AllAre (λ x. x.taken < x.put)
+
+-- one of them is empty
+abbrev pub OneIsEmpty : List ℕ → List ClockStation → Type 0
+OneIsEmpty = OneIs (λ x. x.put ≤ x.taken)
 
 -- each station has room
 abbrev pub AllHaveRoom : List ℕ → List ClockStation → Type 0
-AllHaveRoom reads stations = (i : ℕ) → i < length reads → (x : ClockStation) → IsAt reads stations i x → x.put < x.taken + length x.places.items
+AllHaveRoom = AllAre (λ x. x.put < x.taken + length x.places.items)
 
 -- one of them is full
-pub record OneIsFull (reads : List ℕ) (stations : List ClockStation) : Type 0 where
-  pub place : ℕ
-  pub within : place < length reads
-  pub station : ClockStation
-  pub is : IsAt reads stations place station
-  pub full : station.taken + length station.places.items ≤ station.put
+abbrev pub OneIsFull : List ℕ → List ClockStation → Type 0
+OneIsFull = OneIs (λ x. x.taken + length x.places.items ≤ x.put)
 
 -- these are the oldest tokens of stations
 pub record AreOldest (reads : List ℕ) (stations : List ClockStation) (tokens : List ℕ) : Type 0 where

@@ -3,9 +3,10 @@
 ghost use Rattle.std.specs.Prelude.{◌≡◌, ◌↔◌, ℕ, suc, Bool, true, false};
 ghost use Rattle.lid_clock.specs.Lives.{Life, IsBelow, Holds, HoldsNobody};
 ghost use Rattle.lid_clock.specs.Ran.{Ran, CanCycle};
-ghost use Rattle.lid_clock.specs.Cycles.{held_at, CanDecideAll, AllDecide, CanSettleAll, AllSettle};
+ghost use Rattle.lid_clock.specs.Cycles.{held_at, CanDecideAll, AllDecide};
 
 use crate::actor::ClockActor;
+use crate::settling::settle_each;
 use crate::station::ClockStation;
 use crate::stream::ClockStream;
 
@@ -38,16 +39,6 @@ fn decide_all(
     }
 }
 
-/// All stations settle.
-fn settle_all(stations: &mut [ClockStation], actors: &[ClockActor])
-    requires { CanSettleAll stations.old actors.now }
-    ensures { AllSettle stations.old actors.now stations.new }
-{
-    for s in 0..stations.len() {
-        stations[s].settle(actors);
-    }
-}
-
 impl ClockStream {
     /// Makes a cycle where the sink has not yet fired for each row, and answers whether it made one. In
     /// the cycle the source and the sink may be held. No row is wanting.
@@ -68,7 +59,7 @@ impl ClockStream {
             source,
             sink,
         );
-        settle_all(self.stations.as_mut_slice(), self.actors.as_slice());
+        settle_each(self.stations.as_mut_slice(), self.actors.as_slice());
         true
     }
 

@@ -3,12 +3,11 @@
 ghost use Rattle.std.specs.Prelude.{◌≡◌, ◌+◌, ◌-◌, ◌<◌, ◌≤◌, ◌++◌, [], ◌∷◌, length, take, slice_index_or, IfOk, OnOk};
 ghost use Rattle.lid_system.specs.Systems.{IsWellFormed};
 ghost use Rattle.lid_stations.specs.Placements.{links_of, station_count, Fits};
-ghost use Rattle.lid_stations.specs.Stations.{fills, drains, IsPlace};
 ghost use Rattle.lid_clock.specs.Starts.{IsEmptyBetween, HasLaid, KeepsNew, Joins, IsNextSlot, CanJoin};
 
 use crate::actor::ClockActor;
 use crate::station::ClockStation;
-use lid_stations::Placement;
+use lid_stations::{Placement, drainer, filler};
 use lid_system::System;
 use std::alloc::{AllocError, Global};
 
@@ -77,30 +76,6 @@ fn lay(
         taken: 0,
         places,
     })
-}
-
-/// The actor that fills the station at a place of channel c, whose first mover is this.
-fn filler(system: &System, placement: &Placement, c: usize, place: u32, first: u32) -> u32
-    requires { IsPlace system.now placement.now c place first }
-    ensures { result ≡ fills (links_of system.now) placement.now c place }
-{
-    if place == 0 {
-        system.channels.as_slice()[c].from
-    } else {
-        first + (place - 1)
-    }
-}
-
-/// The actor that drains the station at a place of channel c, whose first mover is this.
-fn drainer(system: &System, placement: &Placement, c: usize, place: u32, first: u32) -> u32
-    requires { IsPlace system.now placement.now c place first }
-    ensures { result ≡ drains (links_of system.now) placement.now c place }
-{
-    if place == placement.relays.as_slice()[c] {
-        system.channels.as_slice()[c].to
-    } else {
-        first + place
-    }
 }
 
 /// Lays the stations of channel c, of which the first has this number.

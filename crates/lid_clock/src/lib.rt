@@ -19,5 +19,6 @@ mod station;
 mod stream;
 
 pub use actor::ClockActor;
+pub use settling::settle_each;
 pub use station::ClockStation;
 pub use stream::ClockStream;

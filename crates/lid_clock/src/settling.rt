@@ -1,6 +1,7 @@
 //! How stations settle.
 
 ghost use Rattle.lid_clock.specs.States.{CanSettle, Gains, Settles};
+ghost use Rattle.lid_clock.specs.Cycles.{EachCanSettle, EachSettles};
 
 use crate::actor::ClockActor;
 use crate::rules::runs_go_by_rules;
@@ -32,5 +33,15 @@ impl ClockStation {
         if drainer.went {
             self.release();
         }
+    }
+}
+
+/// Each of these stations settles, after all actors have decided.
+pub fn settle_each(stations: &mut [ClockStation], actors: &[ClockActor])
+    requires { EachCanSettle stations.old actors.now }
+    ensures { EachSettles stations.old actors.now stations.new }
+{
+    for s in 0..stations.len() {
+        stations[s].settle(actors);
     }
 }

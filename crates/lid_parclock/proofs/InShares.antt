@@ -1,10 +1,9 @@
 -- What is done to the share of an element is done to that.
-use Rattle.std.proofs.Common.{◌≡◌, ℕ, ◌+◌, ◌*◌, ◌/◌, ◌<◌, ◌==◌, if◌then◌else◌, Bool, true, false, List, length, get_or, refl, sym, ◌∙◌, ap, subst, arith}
+use Rattle.std.proofs.Common.{◌≡◌, ℕ, ◌+◌, ◌*◌, ◌/◌, ◌<◌, List, length, get_or, sym, ◌∙◌, ap, subst, arith}
 use Rattle.std.specs.Prelude.{Some, slice_get}
 use Rattle.std.proofs.Math.Nat.{div-lt_iff_lt-mul, mul_comm}
 use Rattle.std.proofs.lemmas.Option.{slice_get-get_or, get_or_from_slice_get, slice_get_within}
 use Rattle.std.specs.Fork.{IsChunk}
-use Rattle.lid_clock.specs.Cycles.{held_at}
 use Rattle.lid_parclock.specs.Shares.{IsShareLength}
 
 -- an element was changed as its share was
@@ -30,12 +29,3 @@ pub number_few : {X : Type 0} (all share : List X) (size start workers : ℕ) �
 number_few all share size start workers length_is chunk =
     let begins : start < size * workers = omega (arith, chunk.in_bounds, chunk.nonempty, length_is.enough) in
     (div-lt_iff_lt-mul length_is.some).1 (subst (λ (n : ℕ). start < n) (mul_comm size workers) begins)
-
--- nobody is held where neither the source nor the sink is
-of_both : (first last : Bool) → false ≡ (if first then false else if last then false else false)
-of_both true last = refl
-of_both false true = refl
-of_both false false = refl
-
-pub none_held : (v sunk : ℕ) → false ≡ held_at sunk false false v
-none_held v sunk = of_both (v == 0) (v == sunk)

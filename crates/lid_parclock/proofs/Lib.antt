@@ -1,2 +1,1 @@
 pub mod InShares
-mod Decided

@@ -1,23 +1,12 @@
 //! The second phase of a cycle: all stations settle.
 
 ghost use Rattle.std.specs.Prelude.{◌<◌};
-ghost use Rattle.lid_clock.specs.Cycles.{CanSettleAll, AllSettle};
-ghost use Rattle.lid_parclock.specs.Shares.{EachCanSettle, EachSettles};
+ghost use Rattle.lid_clock.specs.Cycles.{CanSettleAll, AllSettle, EachCanSettle, EachSettles};
 
 use crate::shares::share_length;
-use lid_clock::{ClockActor, ClockStation};
+use lid_clock::{ClockActor, ClockStation, settle_each};
 use std::thread;
 use std::thread::Threads;
-
-/// The stations of a share settle.
-fn settle_share(share: &mut [ClockStation], actors: &[ClockActor])
-    requires { EachCanSettle share.old actors.now }
-    ensures { EachSettles share.old actors.now share.new }
-{
-    for i in 0..share.len() {
-        share[i].settle(actors);
-    }
-}
 
 /// All stations settle, on so many workers at most.
 pub(crate) fn settle_on<R: Threads + Sync>(
@@ -38,6 +27,6 @@ pub(crate) fn settle_on<R: Threads + Sync>(
         &|_start: usize, share: &mut [ClockStation]|
             requires { EachCanSettle share.now actors.now }
             ensures { EachSettles share.entry.now actors.entry.now share.exit.now }
-        { settle_share(share, actors) },
+        { settle_each(share, actors) },
     );
 }

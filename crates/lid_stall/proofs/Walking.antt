@@ -69,27 +69,19 @@ module _ (stalls : List Stall) (place k : ℕ) (ascends : Ascend stalls) (at : D
             ∙ ap said (sym past.1)
 
   -- so it says who is held
-  source_of : (due : Option Stall) → said (λ stall. stall.source) due ≡ (due_of due k).source
-  source_of None = refl
-  source_of (Some stall) = by (stall.cycle == k)
+  due_says : (who : Stall → Bool) → who (nobody k) ≡ false → (due : Option Stall) → said who due ≡ who (due_of due k)
+  due_says who none None = sym none
+  due_says who none (Some stall) = by (stall.cycle == k)
     where
-      by : (b : Bool) → (b && stall.source) ≡ (cond b stall (nobody k)).source
+      by : (b : Bool) → (b && who stall) ≡ who (cond b stall (nobody k))
       by true = refl
-      by false = refl
-
-  sink_of : (due : Option Stall) → said (λ stall. stall.sink) due ≡ (due_of due k).sink
-  sink_of None = refl
-  sink_of (Some stall) = by (stall.cycle == k)
-    where
-      by : (b : Bool) → (b && stall.sink) ≡ (cond b stall (nobody k)).sink
-      by true = refl
-      by false = refl
+      by false = sym none
 
   pub source_due : holds_source stalls k ≡ (due_of (slice_get stalls place) k).source
-  source_due = says_at (λ stall. stall.source) ∙ source_of (slice_get stalls place)
+  source_due = says_at (λ stall. stall.source) ∙ due_says (λ stall. stall.source) refl (slice_get stalls place)
 
   pub sink_due : holds_sink stalls k ≡ (due_of (slice_get stalls place) k).sink
-  sink_due = says_at (λ stall. stall.sink) ∙ sink_of (slice_get stalls place)
+  sink_due = says_at (λ stall. stall.sink) ∙ due_says (λ stall. stall.sink) refl (slice_get stalls place)
 
   -- and the next place divides the stalls at the next cycle
   still : ((due : Stall) → slice_get stalls place ≡ Some due → due.cycle ≡ k → ⊥) → Divides stalls place (suc k)

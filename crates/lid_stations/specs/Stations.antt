@@ -59,7 +59,7 @@ fills l p c (suc place) = mover l p c place
 abbrev pub drains : Links → Placement → ℕ → ℕ → ℕ
 drains l p c place = if place == slice_index_or p.relays c 0 then (channel_at l c).to else mover l p c place
 
--- serves the body: channel c has a station at this place, and `start` is the first mover there
+-- channel c has a station at this place, and `start` is the first mover there
 pub record IsPlace (s : System) (p : Placement) (c place start : ℕ) : Type 0 where
   pub system : IsWellFormed s
   pub fits : Fits s p

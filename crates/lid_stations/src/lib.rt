@@ -1,10 +1,12 @@
 //! Placements of relay stations on the channels of a system, and the marked graph of a placement.
 #![tactic(auto)]
 
+mod ends;
 mod laws;
 mod marked_graph;
 mod placement;
 
+pub use ends::{drainer, filler};
 pub use laws::{
     markings_are_alive, movers_carry_one_station_on, some_placement_fits, stations_have_two_edges,
     stations_stand_between_actors, stations_stand_in_order,

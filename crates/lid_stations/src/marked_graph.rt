@@ -8,9 +8,10 @@ ghost use Rattle.lid_graph.specs.Rateable.{IsRateable};
 ghost use Rattle.lid_graph.specs.Walks.{WalksHaveTokens};
 ghost use Rattle.lid_system.specs.Systems.{IsWellFormed};
 ghost use Rattle.lid_stations.specs.Placements.{links_of, Fits, station_count};
-ghost use Rattle.lid_stations.specs.Stations.{actor_count, fills, drains, starts, IsPlace};
+ghost use Rattle.lid_stations.specs.Stations.{actor_count, starts};
 ghost use Rattle.lid_stations.specs.Markings.{marking, station_edges, self_edge};
 
+use crate::ends::{drainer, filler};
 use crate::placement::Placement;
 use lid_base::Items;
 use lid_graph::{Edge, Graph};
@@ -94,30 +95,6 @@ fn push_channel(
         )?;
     }
     Ok(())
-}
-
-/// The actor that fills the station at a place of channel c, whose first mover is this.
-fn filler(system: &System, placement: &Placement, c: usize, place: u32, first: u32) -> u32
-    requires { IsPlace system.now placement.now c place first }
-    ensures { result ≡ fills (links_of system.now) placement.now c place }
-{
-    if place == 0 {
-        system.channels.as_slice()[c].from
-    } else {
-        first + (place - 1)
-    }
-}
-
-/// The actor that drains the station at a place of channel c, whose first mover is this.
-fn drainer(system: &System, placement: &Placement, c: usize, place: u32, first: u32) -> u32
-    requires { IsPlace system.now placement.now c place first }
-    ensures { result ≡ drains (links_of system.now) placement.now c place }
-{
-    if place == placement.relays.as_slice()[c] {
-        system.channels.as_slice()[c].to
-    } else {
-        first + place
-    }
 }
 
 /// The tokens that the station at a place of a channel starts with.

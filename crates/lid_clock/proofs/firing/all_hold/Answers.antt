@@ -1,23 +1,18 @@
 -- A station that was read and is empty bars; one that holds a token is one more that does.
-use Rattle.std.proofs.Common.{◌<◌, arith, subst, below_more}
+use Rattle.std.proofs.Common.{◌<◌, ◌≤◌, arith}
 use Rattle.std.proofs.lemmas.Bool.{ltb-true, ltb-false}
 use Rattle.lid_clock.specs.declared.station.ClockStation.{ClockStation}
-use Rattle.lid_clock.proofs.Elements.{is_there, is_read}
+use Rattle.lid_clock.proofs.Readings.{one_is, one_more_is}
 use Rattle.lid_clock.proofs.firing.all_hold.Goals as goal
 
 pub returns-then-not-is_valid-clause-no : goal.returns-then-not-is_valid-clause-no
 returns-then-not-is_valid-clause-no c =
-    let within = c.requires c.loop-read.read-index (omega arith) in
-    λ _. record {
-      place = c.loop-read.read-index;
-      within = omega arith;
-      station = c.index-stations-read.result;
-      is = is_there c.args.stations.now _ c.index-stations-read.result within c.index-stations-read.is;
-      empty = ltb-false _ _ (cc);
-    }
+    let x = c.index-stations-read.result in
+    let empty : x.put ≤ x.taken = ltb-false _ _ (cc) in
+    λ _. one_is (λ (y : ClockStation). y.put ≤ y.taken) c.args.reads.now c.args.stations.now c.loop-read.read-index x (c.requires c.loop-read.read-index (omega arith)) c.index-stations-read.is empty (omega arith)
 
 pub loop-read-preserved : goal.loop-read-preserved
 loop-read-preserved c =
-    let within = c.requires c.loop-read.read-index (omega arith) in
-    below_more _ _ c.loop-read.invariant
-    (λ x there. subst (λ (y : ClockStation). y.taken < y.put) (is_read c.args.stations.now _ c.index-stations-read.result x within c.index-stations-read.is there) (ltb-true _ _ (cc)))
+    let x = c.index-stations-read.result in
+    let holds : x.taken < x.put = ltb-true _ _ (cc) in
+    one_more_is (λ (y : ClockStation). y.taken < y.put) c.args.reads.now c.args.stations.now c.loop-read.read-index x (c.requires c.loop-read.read-index (omega arith)) c.index-stations-read.is holds c.loop-read.invariant

@@ -2,8 +2,9 @@
 use Rattle.std.proofs.Common.{◌+◌, Bool, false, subst, arith}
 use Rattle.std.proofs.lemmas.Option.{slice_get_within}
 use Rattle.lid_clock.specs.States.{Decides}
+use Rattle.lid_clock.proofs.Cycling.{none_held}
 use Rattle.lid_clock.proofs.Together.{each_can_decide, all_decide}
-use Rattle.lid_parclock.proofs.InShares.{among, number_few, changed, none_held}
+use Rattle.lid_parclock.proofs.InShares.{among, number_few, changed}
 use Rattle.lid_parclock.proofs.deciding.decide_on.Goals as goal
 
 pub for_each_chunk_mut-requires-clause-accepts : goal.for_each_chunk_mut-requires-clause-accepts

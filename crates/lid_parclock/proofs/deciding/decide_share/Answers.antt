@@ -1,25 +1,22 @@
 -- Each actor of the share decides once.
-use Rattle.std.proofs.Common.{◌<◌, length, sym, ◌∙◌, subst, false, arith}
+use Rattle.std.proofs.Common.{arith}
 use Rattle.lid_clock.specs.declared.actor.ClockActor.{ClockActor}
-use Rattle.lid_clock.specs.States.{CanDecide, Decides}
-use Rattle.lid_clock.proofs.Elements.{is_there}
-use Rattle.lid_clock.proofs.Pointwise.{none_yet, one_more, all_changed}
+use Rattle.lid_clock.specs.States.{CanDecide}
+use Rattle.lid_clock.proofs.Pointwise.{none_yet, next_meets, one_more, all_changed}
 use Rattle.lid_parclock.proofs.deciding.decide_share.Goals as goal
 
 pub decide-requires : goal.decide-requires
 decide-requires c =
-    let within : c.loop-i.i < length c.loop-i.share = omega arith in
-    let there = sym (c.loop-i.invariant.left c.loop-i.i (omega arith)) ∙ is_there c.loop-i.share c.loop-i.i c.index-share-i.result within c.index-share-i.is in
-    subst (λ (a : ClockActor). CanDecide a c.args.stations.now) c.index-share-i.is (c.requires c.loop-i.i c.index-share-i.result there)
+    next_meets _ (λ (a : ClockActor). CanDecide a c.args.stations.now) c.loop-i.i c.args.share.now c.loop-i.share c.index-share-i.result c.loop-i.invariant (omega arith) c.index-share-i.is
+    (c.requires c.loop-i.i c.index-share-i.result)
 
 pub loop-i-init : goal.loop-i-init
 loop-i-init c = none_yet _ _
 
 pub loop-i-preserved : goal.loop-i-preserved
 loop-i-preserved c =
-    let within : c.loop-i.i < length c.loop-i.share = omega arith in
-    one_more _ c.loop-i.i c.args.share.now c.loop-i.share c.index-share-i.result c.decide.new.self c.loop-i.invariant within c.index-share-i.is
-    (subst (λ (a : ClockActor). Decides a c.args.stations.now false c.decide.new.self) (sym c.index-share-i.is) c.decide.ensures)
+    one_more _ c.loop-i.i c.args.share.now c.loop-i.share c.index-share-i.result c.decide.new.self c.loop-i.invariant (omega arith) c.index-share-i.is
+    c.decide.ensures
 
 pub returns : goal.returns
 returns c =

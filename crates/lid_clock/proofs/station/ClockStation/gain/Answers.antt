@@ -2,29 +2,30 @@
 use Rattle.std.proofs.Common.{sym, arith}
 use Rattle.std.proofs.lemmas.Option.{get_or_from_slice_get}
 use Rattle.lid_clock.proofs.Elements.{is_there}
-use Rattle.lid_clock.proofs.Settled.{filler_there, slot_there, room_of, few_put, gains, gains_none}
+use Rattle.lid_clock.proofs.Settled.{ends_there, filler_decided, slot_there, room_of, few_put, gains, gains_none}
 use Rattle.lid_clock.proofs.station.ClockStation.gain.Goals as goal
 
 pub bounds-actors-self : goal.bounds-actors-self
 bounds-actors-self c =
     let q = c.requires in
-    filler_there c.runs_go_by_rules.ensures q.life q.k q.g q.station _ _ c.args.self.now c.args.actors.now q.rules q.there q.is q.decided
+    (ends_there c.runs_go_by_rules.ensures q.life q.k q.g q.station _ _ c.args.self.now c.args.actors.now q.rules q.there q.is q.decided).0
 
 pub index-requires : goal.index-requires
 index-requires c =
     let q = c.requires in
     let a = c.index-actors-self.result in
-    let there = filler_there c.runs_go_by_rules.ensures q.life q.k q.g q.station _ _ c.args.self.now c.args.actors.now q.rules q.there q.is q.decided in
-    let within = slot_there q.life q.k q.g q.station _ _ c.args.self.now a q.is (q.decided.each _ a (is_there c.args.actors.now _ a there c.index-actors-self.is)) in
+    let own = filler_decided c.runs_go_by_rules.ensures q.life q.k q.g q.station _ _ c.args.self.now c.args.actors.now q.rules q.there q.is q.decided a c.index-actors-self.is in
+    let within = slot_there q.life q.k q.g q.station _ _ c.args.self.now a q.is own in
     let many = a.tokens.ok.0 in
     omega arith
 
 pub accept-requires-clause-room : goal.accept-requires-clause-room
 accept-requires-clause-room c =
     let q = c.requires in
+    let r = c.runs_go_by_rules.ensures in
     let a = c.index-actors-self.result in
-    let there = filler_there c.runs_go_by_rules.ensures q.life q.k q.g q.station _ _ c.args.self.now c.args.actors.now q.rules q.there q.is q.decided in
-    room_of c.runs_go_by_rules.ensures q.life q.k q.g q.station c.args.self.now a q.rules q.there q.is (q.decided.each _ a (is_there c.args.actors.now _ a there c.index-actors-self.is)) c.if-filler.true
+    let own = filler_decided r q.life q.k q.g q.station _ _ c.args.self.now c.args.actors.now q.rules q.there q.is q.decided a c.index-actors-self.is in
+    room_of r q.life q.k q.g q.station c.args.self.now a q.rules q.there q.is own c.if-filler.true
 
 pub accept-requires-clause-few : goal.accept-requires-clause-few
 accept-requires-clause-few c =
@@ -33,17 +34,17 @@ accept-requires-clause-few c =
 
 pub returns-then-filler : goal.returns-then-filler
 returns-then-filler c = λ l k g station life inside is decided.
+    let r = c.runs_go_by_rules.ensures in
+    let x = c.args.self.now in
     let a = c.index-actors-self.result in
-    let there = filler_there c.runs_go_by_rules.ensures l k g station _ _ c.args.self.now c.args.actors.now life inside is decided in
-    let own = decided.each _ a (is_there c.args.actors.now _ a there c.index-actors-self.is) in
-    let within = slot_there l k g station _ _ c.args.self.now a is own in
-    let read = sym (get_or_from_slice_get a.tokens.items c.args.self.now.slot c.index.result.now 0 (is_there a.tokens.items c.args.self.now.slot c.index.result.now within c.index.ensures)) in
+    let own = filler_decided r l k g station _ _ x c.args.actors.now life inside is decided a c.index-actors-self.is in
+    let within = slot_there l k g station _ _ x a is own in
+    let read = sym (get_or_from_slice_get a.tokens.items x.slot c.index.result.now 0 (is_there a.tokens.items x.slot c.index.result.now within c.index.ensures)) in
     let e = c.accept.ensures in
-    gains c.runs_go_by_rules.ensures l k g station c.index.result.now c.args.self.now c.accept.new.self a life inside is own c.if-filler.true read
+    gains r l k g station c.index.result.now x c.accept.new.self a life inside is own c.if-filler.true read
     (record { filler = e.ends.0; slot = e.ends.1; drainer = e.ends.2 }) e.put e.taken e.places
 
 pub returns-else-filler : goal.returns-else-filler
 returns-else-filler c = λ l k g station life inside is decided.
     let a = c.index-actors-self.result in
-    let there = filler_there c.runs_go_by_rules.ensures l k g station _ _ c.args.self.now c.args.actors.now life inside is decided in
-    gains_none l k g station c.args.self.now a is (decided.each _ a (is_there c.args.actors.now _ a there c.index-actors-self.is)) c.if-filler.false
+    gains_none l k g station c.args.self.now a is (filler_decided c.runs_go_by_rules.ensures l k g station _ _ c.args.self.now c.args.actors.now life inside is decided a c.index-actors-self.is) c.if-filler.false
