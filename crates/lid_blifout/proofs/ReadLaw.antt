@@ -88,7 +88,7 @@ lines_shaped before (l ∷ ls) h =
       lines_shaped (l ∷ before) ls parts.1,
     )
 
-word_spelled : (words : Words) (i : ℕ) → i < length words → AllByRecursion (IsSpelled 1024) words → IsSpelled 1024 (word_at words i)
+pub word_spelled : (words : Words) (i : ℕ) → i < length words → AllByRecursion (IsSpelled 1024) words → IsSpelled 1024 (word_at words i)
 word_spelled [] i lt h = absurd (omega arith)
 word_spelled (w ∷ ws) zero lt h = h.0
 word_spelled (w ∷ ws) (suc i) lt h = word_spelled ws i (omega arith) h.1
@@ -162,7 +162,7 @@ cells_read : (ls : List Line) → AreRead ls → AllByRecursion IsReadCell (cell
 cells_read [] h = tt
 cells_read (l ∷ ls) h = let here = h.0 in cell_read (keyword_of l.words) l ls (cells_of ls) refl here.0 here.1 (cells_read ls h.1)
 
-names_all : (k : Keyword) (ls : List Line) → AreRead ls → AllByRecursion (IsSpelled 1024) (names_of k ls)
+pub names_all : (k : Keyword) (ls : List Line) → AreRead ls → AllByRecursion (IsSpelled 1024) (names_of k ls)
 names_all k [] h = tt
 names_all k (l ∷ ls) h =
     let later = names_all k ls h.1 in
@@ -310,7 +310,7 @@ pub models_rows_few : (ls : List Line) → first_fault [] ls ≡ None → sum_by
 models_rows_few ls h = let few : row_count [] ≤ 1048576 = omega arith in omega (arith, models_rows_le ls, rows_limit [] ls h few)
 
 -- models
-leading_read : (ls : List Line) → AreRead ls → AreRead (leading is_inner ls)
+pub leading_read : (ls : List Line) → AreRead ls → AreRead (leading is_inner ls)
 leading_read [] h = tt
 leading_read (l ∷ ls) h =
     let later = leading_read ls h.1 in

@@ -22,11 +22,6 @@ unfolding is_within
 in_range name least greatest range None h = tt
 in_range name least greatest range (Some text) h = between least greatest (number text) (sym (range text) ∙ h)
 
-number_in_range : (name : List ℕ) (least greatest : ℕ) → ((text : List ℕ) → fits name text ≡ is_within least greatest text)
-    → (found : List Row) → option_fits found name ≡ true → IfSome (number_if name found) (λ m. (least ≤ m) × (m ≤ greatest))
-unfolding option_fits number_if
-number_in_range name least greatest range found h = in_range name least greatest range (first_of name found) h
-
 -- and another number in that range stands for one that is not given
 other_in_range : (least greatest other : ℕ) (n : Option ℕ) → least ≤ other → other ≤ greatest → IfSome n (λ m. (least ≤ m) × (m ≤ greatest))
     → (least ≤ unwrap_or n other) × (unwrap_or n other ≤ greatest)
@@ -53,65 +48,43 @@ all_fit form found h =
     fifth (length (files_in found) == length form.places) (files_fit (files_in found) form.places) (has_each form.needed found) (has_only form.needed form.further found)
     (list_all (option_fits found) option_names) (not (has_both found) && (form.has_tally || not (is_tallied found))) h
 
-trace_range : (text : List ℕ) → fits (codes "trace") text ≡ is_within 1 1048576 text
-unfolding fits
-trace_range text = refl
-
-workers_range : (text : List ℕ) → fits (codes "workers") text ≡ is_within 1 64 text
-unfolding fits
-workers_range text = refl
-
-rounds_range : (text : List ℕ) → fits (codes "rounds") text ≡ is_within 0 1000000 text
-unfolding fits
-rounds_range text = refl
-
-reach_range : (text : List ℕ) → fits (codes "reach") text ≡ is_within 1 9223372036854775807 text
-unfolding fits
-reach_range text = refl
-
-shells_range : (text : List ℕ) → fits (codes "shells") text ≡ is_within 0 4294967295 text
-unfolding fits
-shells_range text = refl
-
-run_range : (text : List ℕ) → fits (codes "run") text ≡ is_within 1 1000000 text
-unfolding fits
-run_range text = refl
-
 module _ (found : List Row) (all : list_all (option_fits found) option_names ≡ true) where
-  -- the option at a place of the table
-  fits_at : (i : ℕ) (name : List ℕ) → i < length option_names → get_or option_names i (codes "") ≡ name → option_fits found name ≡ true
-  fits_at i name within is = at_true (option_fits found) option_names i (option_fits found name) within (ap (option_fits found) is) all
+  -- the number of the option at a place of the table, whose range is this
+  module _ (i : ℕ) (name : List ℕ) (least greatest : ℕ) (within : i < length option_names) (is : get_or option_names i (codes "") ≡ name) (range : (text : List ℕ) → fits name text ≡ is_within least greatest text) where
+    number_in_range : IfSome (number_if name found) (λ m. (least ≤ m) × (m ≤ greatest))
+    unfolding option_fits number_if
+    number_in_range =
+        in_range name least greatest range (first_of name found)
+        (at_true (option_fits found) option_names i (option_fits found name) within (ap (option_fits found) is) all)
+
+    or_in_range : (other : ℕ) → least ≤ other → other ≤ greatest → (least ≤ number_or other name found) × (number_or other name found ≤ greatest)
+    unfolding number_or
+    or_in_range other low high = other_in_range least greatest other (number_if name found) low high number_in_range
 
   pub trace_sound : IfSome (number_if (codes "trace") found) IsTraceLong
-  trace_sound = number_in_range (codes "trace") 1 1048576 trace_range found (fits_at 4 (codes "trace") (omega arith) refl)
+  unfolding fits
+  trace_sound = number_in_range 4 (codes "trace") 1 1048576 (omega arith) refl (λ text. refl)
 
   pub trace_long : IsTraceLong (number_or 1 (codes "trace") found)
-  unfolding number_or
-  trace_long = other_in_range 1 1048576 1 (number_if (codes "trace") found) (omega arith) (omega arith) trace_sound
+  unfolding fits
+  trace_long = or_in_range 4 (codes "trace") 1 1048576 (omega arith) refl (λ text. refl) 1 (omega arith) (omega arith)
 
   pub workers_few : AreFew (number_or 1 (codes "workers") found)
-  unfolding number_or
-  workers_few =
-      other_in_range 1 64 1 (number_if (codes "workers") found) (omega arith) (omega arith)
-      (number_in_range (codes "workers") 1 64 workers_range found (fits_at 3 (codes "workers") (omega arith) refl))
+  unfolding fits
+  workers_few = or_in_range 3 (codes "workers") 1 64 (omega arith) refl (λ text. refl) 1 (omega arith) (omega arith)
 
   pub rounds_few : number_or 1000 (codes "rounds") found ≤ 1000000
-  unfolding number_or
-  rounds_few =
-      (other_in_range 0 1000000 1000 (number_if (codes "rounds") found) (omega arith) (omega arith)
-      (number_in_range (codes "rounds") 0 1000000 rounds_range found (fits_at 6 (codes "rounds") (omega arith) refl))).1
+  unfolding fits
+  rounds_few = (or_in_range 6 (codes "rounds") 0 1000000 (omega arith) refl (λ text. refl) 1000 (omega arith) (omega arith)).1
 
   pub reach_positive : 1 ≤ number_or 1 (codes "reach") found
-  unfolding number_or
-  reach_positive =
-      (other_in_range 1 9223372036854775807 1 (number_if (codes "reach") found) (omega arith) (omega arith)
-      (number_in_range (codes "reach") 1 9223372036854775807 reach_range found (fits_at 8 (codes "reach") (omega arith) refl))).0
+  unfolding fits
+  reach_positive = (or_in_range 8 (codes "reach") 1 9223372036854775807 (omega arith) refl (λ text. refl) 1 (omega arith) (omega arith)).0
 
   pub shells_few : number_or 0 (codes "shells") found ≤ 4294967295
-  unfolding number_or
-  shells_few =
-      (other_in_range 0 4294967295 0 (number_if (codes "shells") found) (omega arith) (omega arith)
-      (number_in_range (codes "shells") 0 4294967295 shells_range found (fits_at 9 (codes "shells") (omega arith) refl))).1
+  unfolding fits
+  shells_few = (or_in_range 9 (codes "shells") 0 4294967295 (omega arith) refl (λ text. refl) 0 (omega arith) (omega arith)).1
 
   pub run_sound : IfSome (number_if (codes "run") found) (λ rows. (1 ≤ rows) × (rows ≤ 1000000))
-  run_sound = number_in_range (codes "run") 1 1000000 run_range found (fits_at 10 (codes "run") (omega arith) refl)
+  unfolding fits
+  run_sound = number_in_range 10 (codes "run") 1 1000000 (omega arith) refl (λ text. refl)

@@ -1,4 +1,4 @@
-use Rattle.std.proofs.Common.{◌≡◌, Option, subst, sym}
+use Rattle.std.proofs.Common.{◌≡◌, Option, Result, IfOk, subst, sym}
 use Rattle.std.specs.Option.{IfSome}
 use Rattle.lid_base.proofs.Results.{if_ok}
 use Rattle.lid_cli.specs.declared.job.Job.{Job}
@@ -9,41 +9,45 @@ use Rattle.lid_cli.proofs.job.make_job.Goals as goal
 same_job : (a b : Option Job) → IfSome b IsSound → a ≡ b → IfSome a IsSound
 same_job a b sound e = subst (λ (j : Option Job). IfSome j IsSound) (sym e) sound
 
+-- the job that is made, whose numbers are in their ranges
+sound_job : {E : Type 0} (result : Result (Option Job) E) (made : Option Job) → IfOk result (λ job. job ≡ made) → IfSome made IsSound → IfOk result (λ job. IfSome job IsSound)
+sound_job result made h sound = if_ok result (λ job e. same_job job made sound e) h
+
 pub returns-in-Check-clause-sound : goal.returns-in-Check-clause-sound
-returns-in-Check-clause-sound c = if_ok c.check_job.result (λ job e. same_job job _ tt e) c.check_job.ensures
+returns-in-Check-clause-sound c = sound_job c.check_job.result _ c.check_job.ensures tt
 
 pub returns-in-Clock-clause-sound : goal.returns-in-Clock-clause-sound
-returns-in-Clock-clause-sound c = if_ok c.clock_job.result (λ job e. same_job job _ (workers_few _ c.requires, trace_sound _ c.requires) e) c.clock_job.ensures
+returns-in-Clock-clause-sound c = sound_job c.clock_job.result _ c.clock_job.ensures (workers_few _ c.requires, trace_sound _ c.requires)
 
 pub returns-in-Free-clause-sound : goal.returns-in-Free-clause-sound
-returns-in-Free-clause-sound c = if_ok c.free_job.result (λ job e. same_job job _ (workers_few _ c.requires, rounds_few _ c.requires) e) c.free_job.ensures
+returns-in-Free-clause-sound c = sound_job c.free_job.result _ c.free_job.ensures (workers_few _ c.requires, rounds_few _ c.requires)
 
 pub returns-in-Gen-clause-sound : goal.returns-in-Gen-clause-sound
 returns-in-Gen-clause-sound c = same_job c.gen_job.result _ (shells_few _ c.requires, run_sound _ c.requires) c.gen_job.ensures
 
 pub returns-in-Place-clause-sound : goal.returns-in-Place-clause-sound
-returns-in-Place-clause-sound c = if_ok c.place_job.result (λ job e. same_job job _ (reach_positive _ c.requires) e) c.place_job.ensures
+returns-in-Place-clause-sound c = sound_job c.place_job.result _ c.place_job.ensures (reach_positive _ c.requires)
 
 pub returns-in-Rate-clause-sound : goal.returns-in-Rate-clause-sound
-returns-in-Rate-clause-sound c = if_ok c.rate_job.result (λ job e. same_job job _ tt e) c.rate_job.ensures
+returns-in-Rate-clause-sound c = sound_job c.rate_job.result _ c.rate_job.ensures tt
 
 pub returns-in-Strict-clause-sound : goal.returns-in-Strict-clause-sound
-returns-in-Strict-clause-sound c = if_ok c.strict_job.result (λ job e. same_job job _ tt e) c.strict_job.ensures
+returns-in-Strict-clause-sound c = sound_job c.strict_job.result _ c.strict_job.ensures tt
 
 pub returns-in-Verify-clause-sound : goal.returns-in-Verify-clause-sound
-returns-in-Verify-clause-sound c = if_ok c.verify_job.result (λ job e. same_job job _ tt e) c.verify_job.ensures
+returns-in-Verify-clause-sound c = sound_job c.verify_job.result _ c.verify_job.ensures tt
 
 pub returns-in-Unwave-clause-sound : goal.returns-in-Unwave-clause-sound
-returns-in-Unwave-clause-sound c = if_ok c.unwave_job.result (λ job e. same_job job _ tt e) c.unwave_job.ensures
+returns-in-Unwave-clause-sound c = sound_job c.unwave_job.result _ c.unwave_job.ensures tt
 
 pub returns-in-Wave-clause-sound : goal.returns-in-Wave-clause-sound
-returns-in-Wave-clause-sound c = if_ok c.wave_job.result (λ job e. same_job job _ (trace_long _ c.requires) e) c.wave_job.ensures
+returns-in-Wave-clause-sound c = sound_job c.wave_job.result _ c.wave_job.ensures (trace_long _ c.requires)
 
 pub returns-in-Emit-clause-sound : goal.returns-in-Emit-clause-sound
-returns-in-Emit-clause-sound c = if_ok c.emit_job.result (λ job e. same_job job _ tt e) c.emit_job.ensures
+returns-in-Emit-clause-sound c = sound_job c.emit_job.result _ c.emit_job.ensures tt
 
 pub returns-in-Size-clause-sound : goal.returns-in-Size-clause-sound
-returns-in-Size-clause-sound c = if_ok c.size_job.result (λ job e. same_job job _ tt e) c.size_job.ensures
+returns-in-Size-clause-sound c = sound_job c.size_job.result _ c.size_job.ensures tt
 
 pub returns-in-Slack-clause-sound : goal.returns-in-Slack-clause-sound
-returns-in-Slack-clause-sound c = if_ok c.slack_job.result (λ job e. same_job job _ tt e) c.slack_job.ensures
+returns-in-Slack-clause-sound c = sound_job c.slack_job.result _ c.slack_job.ensures tt
