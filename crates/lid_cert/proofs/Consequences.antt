@@ -11,7 +11,7 @@ use Rattle.std.proofs.Math.Nat.{mul-le-mul_left, mul-le-mul_right, div-add-mod}
 use Rattle.lid_graph.specs.declared.graph.Graph.{Graph}
 use Rattle.lid_graph.specs.Walks.{edge_at, IsPaired, IsWalk, IsClosedWalk, IsJoined, walk_start, walk_tokens}
 use Rattle.lid_graph.specs.Firings.{Counts, no_hold, firings, least_into, AreFitCaps}
-use Rattle.lid_graph.specs.Ratios.{IsRatio}
+use Rattle.lid_graph.specs.Ratios.{IsClosedWalkNear, IsRatio}
 use Rattle.lid_graph.proofs.Counting.{Allowing, least_into_cases, firings_cap, firings_edge, firings_walk, firings_cycles}
 use Rattle.lid_graph.proofs.Journeys.{joined_step, joined_back}
 use Rattle.lid_cert.specs.declared.cert.Part.{Part}
@@ -38,6 +38,34 @@ turn_lead p q a k f lead within few enough = by_order (cases_lt p q)
     by_order : (p < q) ⊎ (q ≤ p) → q * f ≤ p * k + lead
     by_order (inl less) = by_excess (q - p) (omega arith)
     by_order (inr more) = let counted : q * f ≤ q * k = mul-le-mul_left q few in let slower : q * k ≤ p * k = mul-le-mul_right k more in omega arith
+
+-- the transitions of a part are joined
+module _ (g : Graph) (part : Part) (meets : IsPart g part) where
+  abbrev JoinsBelow : ℕ → Type 0
+  JoinsBelow d = (u : ℕ) → depth_of part u < d → has_node part u ≡ true → IsJoined g (walk_start g part.cycle) u
+
+  -- via edges lead from where the walk starts to each transition
+  joins_below : (d v : ℕ) → depth_of part v < d → has_node part v ≡ true → IsJoined g (walk_start g part.cycle) v
+  joins_below zero v h inside = absurd (omega arith)
+  joins_below (suc d) v h inside = by_start (λ u deep begins. joins_below d u deep begins) (cases_eq v (walk_start g part.cycle))
+    where
+      by_via : JoinsBelow d → (o : Option ℕ) → MatchOption o ⊥ (IsVia g part v) → IsJoined g (walk_start g part.cycle) v
+      by_via earlier None none = absurd none
+      by_via earlier (Some i) via =
+          let deep : depth_of part (edge_at g i).from < d = omega (arith, via.depth) in
+          let edge : IsWalk g (edge_at g i).from (i ∷ []) v = (via.within, refl, via.ends) in
+          joined_step g (walk_start g part.cycle) (edge_at g i).from v (earlier (edge_at g i).from deep via.begins) (i ∷ [], edge)
+
+      by_start : JoinsBelow d → (v ≡ walk_start g part.cycle) ⊎ (v ≡ walk_start g part.cycle → ⊥) → IsJoined g (walk_start g part.cycle) v
+      by_start earlier (inl is) = ([], sym is)
+      by_start earlier (inr other) = by_via earlier (via_of part v) (node_met g part meets v (walk_start g part.cycle) refl inside other)
+
+  pub joined_from_start : (v : ℕ) → has_node part v ≡ true → IsJoined g (walk_start g part.cycle) v
+  joined_from_start v inside = joins_below (suc (depth_of part v)) v (omega arith) inside
+
+  -- so the closed walk is one of the component of each
+  pub cycle_near : IsPaired g → (v : ℕ) → has_node part v ≡ true → IsClosedWalkNear g v part.cycle
+  cycle_near paired v inside = (let there = joined_from_start v inside in (meets.inside.walk, joined_back g paired there.0 (walk_start g part.cycle) v there.1))
 
 module _ (g : Graph) (paired : IsPaired g) (part : Part) (meets : IsPart g part) (cap : Counts) where
   -- where the walk starts, by turns of the walk
@@ -118,25 +146,6 @@ module _ (g : Graph) (paired : IsPaired g) (part : Part) (meets : IsPart g part)
           let scaled : part.q * least_into g.edges (firings g cap no_hold k) v (cap v) ≡ part.q * (firings g cap no_hold k (edge_at g a.edge).from + (edge_at g a.edge).tokens) = ap (λ (n : ℕ). part.q * n) is in
           omega arith
 
-  abbrev JoinsBelow : ℕ → Type 0
-  JoinsBelow d = (u : ℕ) → depth_of part u < d → has_node part u ≡ true → IsJoined g (walk_start g part.cycle) u
-
-  -- via edges lead from where the walk starts to each transition
-  joins_below : (d v : ℕ) → depth_of part v < d → has_node part v ≡ true → IsJoined g (walk_start g part.cycle) v
-  joins_below zero v h inside = absurd (omega arith)
-  joins_below (suc d) v h inside = by_start (λ u deep begins. joins_below d u deep begins) (cases_eq v (walk_start g part.cycle))
-    where
-      by_via : JoinsBelow d → (o : Option ℕ) → MatchOption o ⊥ (IsVia g part v) → IsJoined g (walk_start g part.cycle) v
-      by_via earlier None none = absurd none
-      by_via earlier (Some i) via =
-          let deep : depth_of part (edge_at g i).from < d = omega (arith, via.depth) in
-          let edge : IsWalk g (edge_at g i).from (i ∷ []) v = (via.within, refl, via.ends) in
-          joined_step g (walk_start g part.cycle) (edge_at g i).from v (earlier (edge_at g i).from deep via.begins) (i ∷ [], edge)
-
-      by_start : JoinsBelow d → (v ≡ walk_start g part.cycle) ⊎ (v ≡ walk_start g part.cycle → ⊥) → IsJoined g (walk_start g part.cycle) v
-      by_start earlier (inl is) = ([], sym is)
-      by_start earlier (inr other) = by_via earlier (via_of part v) (node_met g part meets v (walk_start g part.cycle) refl inside other)
-
   -- a closed walk of the part has at least p tokens for q edges
   pub walk_has_tokens : (ks : List ℕ) → IsClosedWalk g ks → has_node part (walk_start g ks) ≡ true → part.p * length ks ≤ part.q * walk_tokens g ks
   walk_has_tokens ks closed inside =
@@ -145,13 +154,12 @@ module _ (g : Graph) (paired : IsPaired g) (part : Part) (meets : IsPart g part)
 
   pub shown_ratio : (v : ℕ) → has_node part v ≡ true → IsRatio g v part.p part.q
   shown_ratio v inside =
-      let there = joins_below (suc (depth_of part v)) v (omega arith) inside in
       let ratio : walk_tokens g part.cycle * part.q ≡ part.p * length part.cycle = meets.inside.ratio in
       record {
         positive = meets.inside.positive;
         lowest = meets.inside.lowest;
         all = λ ks near. walk_has_tokens ks near.0 (stays_forth g part meets near.1.0 v (walk_start g ks) near.1.1 inside);
-        some = (part.cycle, (meets.inside.walk, joined_back g paired there.0 (walk_start g part.cycle) v there.1), omega arith);
+        some = (part.cycle, cycle_near g part meets paired v inside, omega arith);
       }
 
   -- after so many cycles the cap is reached

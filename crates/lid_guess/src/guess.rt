@@ -1,6 +1,7 @@
 //! A guess of the ratio of a graph, of a closed walk that has it, and of the lags.
 
-use crate::fans::{Fans, Side, fans_of};
+use crate::fans::{Side, fans_of};
+use crate::groups::Groups;
 use crate::lags::{Settling, heap_by_values, lags_of, settle};
 use crate::policy::{Cycle, first_choices, least_cycle};
 use crate::tables::{edge_at, get};
@@ -41,7 +42,7 @@ fn iterate(
     policy: &mut Policy,
     search: &mut Search,
     marks: &mut [u32],
-    fans: &Fans,
+    fans: &Groups,
     graph: &Graph,
 ) -> Cycle {
     let edges = graph.edges.as_slice();

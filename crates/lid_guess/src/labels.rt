@@ -1,6 +1,7 @@
 //! A guess of labels that meet the rule for lags at a ratio, or of a closed walk of lower ratio.
 
-use crate::fans::{Fans, Side, fans_of};
+use crate::fans::{Side, fans_of};
+use crate::groups::Groups;
 use crate::guess::{Plan, clear, first_policy, walk_of};
 use crate::policy::{Cycle, STOP, least_cycle};
 use crate::queue::{Aim, new_queue, raise_all};
@@ -50,7 +51,7 @@ fn improve_at(
     policy: &mut Policy,
     search: &mut Search,
     marks: &mut [u32],
-    fans: &Fans,
+    fans: &Groups,
     graph: &Graph,
     aim: Aim,
 ) -> Cycle {

@@ -2,7 +2,8 @@
 
 ghost use Rattle.std.specs.Int.{IsGcd};
 
-use crate::fans::{Fans, Side, fans_of};
+use crate::fans::{Side, fans_of};
+use crate::groups::Groups;
 use crate::guess::Plan;
 use crate::heap::{Heap, heap_of, lower, pop};
 use crate::policy::Cycle;
@@ -41,7 +42,7 @@ fn relax(
 fn relax_from(
     heap: &mut Heap,
     tight: &mut [Option<u32>],
-    fans: &Fans,
+    fans: &Groups,
     edges: &[Edge],
     plan: &Plan,
     v: u32,
@@ -53,7 +54,13 @@ fn relax_from(
 }
 
 /// Settles all transitions, least key first.
-fn settle_all(heap: &mut Heap, settling: &mut Settling, fans: &Fans, edges: &[Edge], plan: &Plan) {
+fn settle_all(
+    heap: &mut Heap,
+    settling: &mut Settling,
+    fans: &Groups,
+    edges: &[Edge],
+    plan: &Plan,
+) {
     let mut rank: u32 = 0;
     for _ in 0..plan.policy.choices.len() {
         let v = pop(heap);

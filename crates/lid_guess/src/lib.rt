@@ -1,9 +1,11 @@
 //! Guesses for the search of a certificate: the ratio of a graph by Howard's policy iteration, its lags
 //! by Dijkstra's search, and a breadth-first tree. Nothing is promised of them but that they end, so
-//! whoever takes one tests it. Beside them Euclid's algorithm, which is proved.
+//! whoever takes one tests it. Beside them the tables and groups that guesses are made with, and Euclid's
+//! algorithm, which is proved.
 #![tactic(auto)]
 
 mod fans;
+mod groups;
 mod guess;
 mod heap;
 mod labels;
@@ -14,7 +16,10 @@ mod tables;
 mod tree;
 mod values;
 
+pub use fans::{Side, fans_of};
+pub use groups::{Groups, groups_of};
 pub use guess::{Guess, propose};
 pub use labels::{Labels, propose_labels};
 pub use lags::gcd;
+pub use tables::{edge_at, get, put, put_each};
 pub use tree::{Branches, propose_tree};

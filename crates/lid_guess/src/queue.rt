@@ -1,6 +1,6 @@
 //! A queue of transitions, each of which waits at most once, and labels that are raised from it.
 
-use crate::fans::Fans;
+use crate::groups::Groups;
 use crate::tables::{edge_at, get, put};
 use lid_graph::{Edge, Graph};
 use std::alloc::{AllocError, Global};
@@ -78,7 +78,7 @@ fn raise(labels: &mut [u64], queue: &mut Queue, edge: Edge, aim: Aim) {
 fn raise_from(
     labels: &mut [u64],
     queue: &mut Queue,
-    fans: &Fans,
+    fans: &Groups,
     edges: &[Edge],
     aim: Aim,
     v: u32,
@@ -94,7 +94,7 @@ fn raise_from(
 pub(crate) fn raise_all(
     labels: &mut [u64],
     queue: &mut Queue,
-    fans: &Fans,
+    fans: &Groups,
     edges: &[Edge],
     aim: Aim,
 ) -> bool {

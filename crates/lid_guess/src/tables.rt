@@ -4,7 +4,7 @@
 use lid_graph::Edge;
 
 /// The item at a place, or the default past the end.
-pub(crate) fn get<T: Copy>(table: &[T], place: u32, default: T) -> T {
+pub fn get<T: Copy>(table: &[T], place: u32, default: T) -> T {
     let place = place as usize;
     if place < table.len() {
         table[place]
@@ -14,15 +14,24 @@ pub(crate) fn get<T: Copy>(table: &[T], place: u32, default: T) -> T {
 }
 
 /// Writes an item at a place. Past the end it does nothing.
-pub(crate) fn put<T: Copy>(table: &mut [T], place: u32, item: T) {
+pub fn put<T: Copy>(table: &mut [T], place: u32, item: T) {
     let place = place as usize;
     if place < table.len() {
         table[place] = item;
     }
 }
 
+/// Writes items at places, one after the other.
+pub fn put_each<T: Copy>(table: &mut [T], places: &[u32], items: &[T], default: T) {
+    let mut number: u32 = 0;
+    for place in places {
+        put(table, *place, get(items, number, default));
+        number = number.wrapping_add(1);
+    }
+}
+
 /// The edge with this number.
-pub(crate) fn edge_at(edges: &[Edge], k: u32) -> Edge {
+pub fn edge_at(edges: &[Edge], k: u32) -> Edge {
     let none = Edge {
         from: 0,
         to: 0,

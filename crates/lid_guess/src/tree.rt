@@ -1,6 +1,7 @@
 //! A breadth-first tree from a transition.
 
-use crate::fans::{Fans, Side, fans_of};
+use crate::fans::{Side, fans_of};
+use crate::groups::Groups;
 use crate::tables::{edge_at, get, put};
 use lid_base::Items;
 use lid_graph::{Edge, Graph};
@@ -61,7 +62,7 @@ fn reach(front: &mut Front, via: &mut [Option<u32>], k: u32, edge: Edge) -> Resu
 fn reach_from(
     front: &mut Front,
     via: &mut [Option<u32>],
-    fans: &Fans,
+    fans: &Groups,
     edges: &[Edge],
     v: u32,
 ) -> Result<(), AllocError> {
@@ -78,7 +79,7 @@ fn reach_from(
 fn reach_all(
     front: &mut Front,
     via: &mut [Option<u32>],
-    fans: &Fans,
+    fans: &Groups,
     edges: &[Edge],
 ) -> Result<(), AllocError> {
     front.queue.push(front.start)?;

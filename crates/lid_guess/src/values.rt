@@ -4,7 +4,7 @@
 //! where the closed walk starts, or to where walks end that do not come there. Values count from 2^62,
 //! so that those below it are numbers too.
 
-use crate::fans::Fans;
+use crate::groups::Groups;
 use crate::policy::{Cycle, STOP};
 use crate::tables::{edge_at, get, put};
 use lid_graph::{Edge, Graph};
@@ -80,7 +80,7 @@ fn is_way_back(search: &Search, policy: &Policy, k: u32, edge: Edge, any: bool) 
 fn step_back(
     search: &mut Search,
     policy: &mut Policy,
-    fans: &Fans,
+    fans: &Groups,
     edges: &[Edge],
     cycle: Cycle,
     v: u32,
@@ -100,7 +100,7 @@ fn step_back(
 fn search_back(
     search: &mut Search,
     policy: &mut Policy,
-    fans: &Fans,
+    fans: &Groups,
     edges: &[Edge],
     cycle: Cycle,
     any: bool,
@@ -146,7 +146,7 @@ fn see_stops(search: &mut Search, policy: &mut Policy) {
 pub(crate) fn evaluate(
     search: &mut Search,
     policy: &mut Policy,
-    fans: &Fans,
+    fans: &Groups,
     edges: &[Edge],
     cycle: Cycle,
 ) {
@@ -167,7 +167,7 @@ pub(crate) fn evaluate(
 }
 
 /// Chooses each edge into a transition that lowers the value where it begins. Answers whether one does.
-fn improve_into(policy: &mut Policy, fans: &Fans, edges: &[Edge], cycle: Cycle, v: u32) -> bool {
+fn improve_into(policy: &mut Policy, fans: &Groups, edges: &[Edge], cycle: Cycle, v: u32) -> bool {
     let mut lowered = false;
     for k in fans.at(v) {
         let edge = edge_at(edges, *k);
@@ -185,7 +185,7 @@ fn improve_into(policy: &mut Policy, fans: &Fans, edges: &[Edge], cycle: Cycle, 
 pub(crate) fn improve(
     search: &Search,
     policy: &mut Policy,
-    fans: &Fans,
+    fans: &Groups,
     edges: &[Edge],
     cycle: Cycle,
 ) -> bool {

@@ -17,7 +17,7 @@ pub struct Ratio {
 }
 
 /// The ratio of two numbers in lowest terms.
-pub(crate) fn lowest(tokens: u64, edges: u64) -> Ratio
+pub fn lowest(tokens: u64, edges: u64) -> Ratio
     requires { 0 < edges }
     ensures { IsLowest tokens edges result.p result.q }
 {
@@ -29,7 +29,7 @@ pub(crate) fn lowest(tokens: u64, edges: u64) -> Ratio
 }
 
 /// The tokens on the edges with these numbers.
-pub(crate) fn tokens_on(graph: &Graph, walk: &[u32]) -> u64
+pub fn tokens_on(graph: &Graph, walk: &[u32]) -> u64
     requires within { All (λ k. k < length graph.now.edges) walk.now }
     requires few { (k : ℕ) → k < length graph.now.edges → (edge_at graph.now k).tokens ≤ 16 }
     requires short { length walk.now ≤ 2 ^ 18 }

@@ -1,10 +1,8 @@
 //! A guess of the forward ratio of each component, made on a graph of its own.
 
-use crate::groups::{Groups, groups_of};
-use crate::tables::{edge_at, get, put};
 use lid_base::Items;
 use lid_graph::{Edge, Graph};
-use lid_guess::propose;
+use lid_guess::{Groups, edge_at, get, groups_of, propose, put, put_each};
 use std::alloc::{AllocError, Global};
 
 /// More tokens than any walk has edges that meets no transition twice.
@@ -175,15 +173,6 @@ fn number_of(stations: u32, parts: &Parts, label: u32, k: u32) -> u32 {
     }
 }
 
-/// Writes the lags of a component down.
-fn write_lags(labels: &mut [u64], nodes: &[u32], lags: &[u64]) {
-    let mut place: u32 = 0;
-    for v in nodes {
-        put(labels, *v, get(lags, place, 0));
-        place = place.wrapping_add(1);
-    }
-}
-
 /// Guesses the walk and the labels of one component.
 fn guess_part(
     alloc: Global,
@@ -199,7 +188,7 @@ fn guess_part(
     for k in guess.walk.as_slice() {
         walks.push(number_of(stations, parts, label, *k))?;
     }
-    write_lags(labels, parts.nodes.at(label), guess.lags.as_slice());
+    put_each(labels, parts.nodes.at(label), guess.lags.as_slice(), 0);
     Ok(())
 }
 

@@ -1,8 +1,8 @@
 //! The least capacity of one station, and the labels that go with it.
 
-use crate::search::{Search, State};
-use crate::tables::{edge_at, get, put, want_at};
+use crate::search::{Search, State, want_at};
 use lid_graph::Graph;
+use lid_guess::{edge_at, get, put};
 use lid_ratio::Ratio;
 use std::alloc::{AllocError, Global};
 

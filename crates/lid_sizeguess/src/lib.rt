@@ -3,14 +3,11 @@
 //! that they end, so whoever takes one tests it.
 #![tactic(auto)]
 
-mod fans;
 mod forwards;
-mod groups;
 mod heap;
 mod lengthening;
 mod search;
 mod sizes;
-mod tables;
 
 pub use forwards::{Forwards, propose_forwards};
 pub use sizes::{Sizes, propose_sizes};

@@ -1,9 +1,8 @@
 //! A search for the nearest way from one transition to another, over what edges cost by labels.
 
-use crate::groups::Groups;
 use crate::heap::{Reach, add, is_nearer, take};
-use crate::tables::{edge_at, get, put, want_at};
 use lid_graph::{Edge, Graph};
+use lid_guess::{Groups, edge_at, get, put};
 use lid_ratio::Ratio;
 use std::alloc::{AllocError, Global};
 
@@ -46,6 +45,11 @@ pub(crate) fn new_search(alloc: Global, graph: &Graph) -> Result<Search, AllocEr
         order: Vec::new(alloc),
         heap: Vec::new(alloc),
     })
+}
+
+/// The ratio that the component of a transition is to have.
+pub(crate) fn want_at(wants: &[Ratio], v: u32) -> Ratio {
+    get(wants, v, Ratio { p: 1, q: 1 })
 }
 
 /// What an edge costs: how much less its end is asked for than it has.

@@ -1,13 +1,11 @@
 //! A guess of the first capacities that reach.
 
-use crate::fans::fans_of;
-use crate::groups::Groups;
 use crate::lengthening::{Station, lack, least_capacity, push_walk, raise, station_at};
 use crate::search::{Search, State, distance, new_search};
-use crate::tables::{get, put};
 use lid_base::Items;
-use lid_cert::{Cert, Part};
+use lid_cert::Cert;
 use lid_graph::Graph;
+use lid_guess::{Groups, Side, fans_of, get, put, put_each};
 use lid_ratio::Ratio;
 use std::alloc::{AllocError, Global};
 
@@ -31,21 +29,11 @@ struct Found {
     ends: Vec<u32>,
 }
 
-/// Writes down the lags of a part.
-fn write_lags(labels: &mut [u64], part: &Part) {
-    let lags = part.lag.as_slice();
-    let mut place: u32 = 0;
-    for v in part.nodes.as_slice() {
-        put(labels, *v, get(lags, place, 0));
-        place = place.wrapping_add(1);
-    }
-}
-
 /// The lags of a certificate.
 fn lags_of(alloc: Global, graph: &Graph, cert: &Cert) -> Result<Vec<u64>, AllocError> {
     let mut labels = Vec::from_elem(alloc, 0, graph.nodes as usize)?;
     for part in cert.parts.as_slice() {
-        write_lags(&mut labels, part);
+        put_each(&mut labels, part.nodes.as_slice(), part.lag.as_slice(), 0);
     }
     Ok(labels)
 }
@@ -100,7 +88,7 @@ fn guess_all(
     state: &mut State,
     found: &mut Found,
 ) -> Result<(), AllocError> {
-    let fans = fans_of(alloc, graph)?;
+    let fans = fans_of(alloc, graph, Side::Out)?;
     let mut search = new_search(alloc, graph)?;
     for number in 0..stations {
         let station = station_at(graph, wants, number);

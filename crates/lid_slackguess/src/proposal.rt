@@ -6,37 +6,9 @@ ghost use Rattle.std.specs.Prelude.{◌≤◌, IfOk};
 use lid_base::Items;
 use lid_cert::Part;
 use lid_graph::{Edge, Graph};
-use lid_guess::propose_labels;
+use lid_guess::{edge_at, get, propose_labels, put, put_each};
 use lid_ratio::Ratio;
 use std::alloc::{AllocError, Global};
-
-/// The item at a place, or the default past the end.
-fn get<T: Copy>(table: &[T], place: u32, default: T) -> T {
-    let place = place as usize;
-    if place < table.len() {
-        table[place]
-    } else {
-        default
-    }
-}
-
-/// Writes an item at a place. Past the end it does nothing.
-fn put<T: Copy>(table: &mut [T], place: u32, item: T) {
-    let place = place as usize;
-    if place < table.len() {
-        table[place] = item;
-    }
-}
-
-/// The edge with this number.
-fn edge_at(graph: &Graph, k: u32) -> Edge {
-    let none = Edge {
-        from: 0,
-        to: 0,
-        tokens: 0,
-    };
-    get(graph.edges.as_slice(), k, none)
-}
 
 /// Whether each transition stands in a part.
 fn members(alloc: Global, part: &Part, count: u32) -> Result<Vec<bool>, AllocError> {
@@ -50,11 +22,7 @@ fn members(alloc: Global, part: &Part, count: u32) -> Result<Vec<bool>, AllocErr
 /// The lag of each transition of a part, and 0 for others.
 fn lags_of(alloc: Global, part: &Part, count: u32) -> Result<Vec<u64>, AllocError> {
     let mut lags = Vec::from_elem(alloc, 0, count as usize)?;
-    let mut place: u32 = 0;
-    for v in part.nodes.as_slice() {
-        put(&mut lags, *v, get(part.lag.as_slice(), place, 0));
-        place = place.wrapping_add(1);
-    }
+    put_each(&mut lags, part.nodes.as_slice(), part.lag.as_slice(), 0);
     Ok(lags)
 }
 
@@ -167,7 +135,7 @@ pub fn propose_slack(
     ensures { IfOk result (λ guess. guess ≤ most) }
 {
     let chain = Chain {
-        edge: edge_at(graph, station.wrapping_mul(2)),
+        edge: edge_at(graph.edges.as_slice(), station.wrapping_mul(2)),
         ratio,
     };
     let rest = without_station(alloc, graph, part, station)?;
