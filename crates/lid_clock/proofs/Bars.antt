@@ -47,10 +47,23 @@ sees l k g v fired a stations actor beside =
     }
 
 -- the station of a number
-pub at_station : (l : Life) (k station : ℕ) (stations : List ClockStation) → AreStations l k stations → station < stations_of l → (x : ClockStation) × (slice_get stations station ≡ Some x)
+at_station : (l : Life) (k station : ℕ) (stations : List ClockStation) → AreStations l k stations → station < stations_of l → (x : ClockStation) × (slice_get stations station ≡ Some x)
 at_station l k station stations beside there =
     let many : length stations ≡ stations_of l = beside.many in
     element stations station (omega arith)
+
+-- a station that is read at a place
+pub record IsRead (l : Life) (k : ℕ) (reads : List ℕ) (stations : List ClockStation) (place number : ℕ) : Type 0 where
+  pub within : place < length reads
+  pub station : ClockStation
+  pub at : IsAt reads stations place station
+  pub is : IsStation l number (put_after l k number) (taken_after l k number) station
+
+pub read_at : (l : Life) (k place number : ℕ) (reads own : List ℕ) (stations : List ClockStation) → reads ≡ own → slice_get own place ≡ Some number → AreStations l k stations → number < stations_of l → IsRead l k reads stations place number
+read_at l k place number reads own stations same stated beside there =
+    let read = stands reads own place number same stated in
+    let here = at_station l k number stations beside there in
+    record { within = read.0; station = here.0; at = ap (λ (n : ℕ). slice_get stations n) read.1 ∙ here.1; is = beside.each number here.0 here.1 }
 
 -- where an actor sees no bar, it may fire
 pub may_fire : (l : Life) (k g v : ℕ) (a : ClockActor) (stations : List ClockStation) → IsActor l g v (fired_after l k v) a → AreStations l k stations → SeesNoBar a stations
@@ -60,22 +73,18 @@ may_fire l k g v a stations actor beside clear =
       below = subst (λ (n : ℕ). n < cap_of (links_of l.system) (length l.input) v) actor.fired_is (subst (λ (n : ℕ). a.fired < n) actor.capped clear.below);
       tokens = λ station there drains.
           let place = drained_there (links_of l.system) l.placement v station there drains in
-          let own = stands a.ins.items (ins_of l v) place.0 station actor.drains place.1 in
-          let here = at_station l k station stations beside there in
-          let is : IsStation l station (put_after l k station) (taken_after l k station) here.0 = beside.each station here.0 here.1 in
-          let at : IsAt a.ins.items stations place.0 here.0 = ap (λ (n : ℕ). slice_get stations n) own.1 ∙ here.1 in
-          let some : here.0.taken < here.0.put = clear.hold place.0 own.0 here.0 at in
-          subst (λ (n : ℕ). n < put_after l k station) is.taken_is (subst (λ (n : ℕ). here.0.taken < n) is.put_is some);
+          let read = read_at l k place.0 station a.ins.items (ins_of l v) stations actor.drains place.1 beside there in
+          let x = read.station in
+          let some : x.taken < x.put = clear.hold place.0 read.within x read.at in
+          subst (λ (n : ℕ). n < put_after l k station) read.is.taken_is (subst (λ (n : ℕ). x.taken < n) read.is.put_is some);
       room = λ station there fills.
           let place = filled_there (links_of l.system) l.placement v station there fills in
-          let own = stands a.outs.items (outs_of l v) place.0 station actor.fills place.1 in
-          let here = at_station l k station stations beside there in
-          let is : IsStation l station (put_after l k station) (taken_after l k station) here.0 = beside.each station here.0 here.1 in
-          let at : IsAt a.outs.items stations place.0 here.0 = ap (λ (n : ℕ). slice_get stations n) own.1 ∙ here.1 in
-          let some : here.0.put < here.0.taken + length here.0.places.items = clear.room place.0 own.0 here.0 at in
-          subst (λ (n : ℕ). n < taken_after l k station + capacity l.placement station) is.put_is
-          (subst (λ (n : ℕ). here.0.put < n + capacity l.placement station) is.taken_is
-          (subst (λ (n : ℕ). here.0.put < here.0.taken + n) is.size some));
+          let read = read_at l k place.0 station a.outs.items (outs_of l v) stations actor.fills place.1 beside there in
+          let x = read.station in
+          let some : x.put < x.taken + length x.places.items = clear.room place.0 read.within x read.at in
+          subst (λ (n : ℕ). n < taken_after l k station + capacity l.placement station) read.is.put_is
+          (subst (λ (n : ℕ). x.put < n + capacity l.placement station) read.is.taken_is
+          (subst (λ (n : ℕ). x.put < x.taken + n) read.is.size some));
     }
 
 finds_void : (l : Life) (k g v : ℕ) (a : ClockActor) (stations : List ClockStation) → IsActor l g v (fired_after l k v) a → AreStations l k stations → OneIsEmpty a.ins.items stations

@@ -9,12 +9,12 @@ use Rattle.lid_stations.specs.Placements.{links_of}
 use Rattle.lid_stations.specs.Stations.{filler, start_count}
 use Rattle.lid_clock.specs.declared.actor.ClockActor.{ClockActor}
 use Rattle.lid_clock.specs.declared.station.ClockStation.{ClockStation}
-use Rattle.lid_clock.specs.Rings.{token_in, IsAt, AllHold, AreOldest}
+use Rattle.lid_clock.specs.Rings.{token_in, AllHold, AreOldest}
 use Rattle.lid_clock.specs.Rules.{RunsGoByRules}
 use Rattle.lid_clock.specs.Lives.{Life, IsLife, fired_after}
 use Rattle.lid_clock.specs.States.{ins_of, outs_of, token_of_life, put_after, taken_after, stations_of, actors_of, IsStation, AreStations, IsActor}
 use Rattle.lid_runs.proofs.Ends.{drained_is, filled_is}
-use Rattle.lid_clock.proofs.Bars.{at_station, stands}
+use Rattle.lid_clock.proofs.Bars.{read_at}
 
 -- the tokens of a number of the stations that an actor drains, and of those that it fills
 abbrev pub tokens_in : Life → ℕ → ℕ → List ℕ
@@ -36,12 +36,9 @@ took_at l k g v i a stations taken actor beside hold oldest within =
     let station : ℕ = get_or (ins_of l v) i 0 in
     let at_place : slice_get (ins_of l v) i ≡ Some station = slice_get-get_or (ins_of l v) i 0 within in
     let own = drained_is (links_of l.system) l.placement v i station at_place in
-    let read = stands a.ins.items (ins_of l v) i station actor.drains at_place in
-    let here = at_station l k station stations beside own.0 in
-    let is : IsStation l station (put_after l k station) (taken_after l k station) here.0 = beside.each station here.0 here.1 in
-    let at : IsAt a.ins.items stations i here.0 = ap (λ (n : ℕ). slice_get stations n) read.1 ∙ here.1 in
-    oldest.each i read.0 here.0 at
-    ∙ oldest_is l station (put_after l k station) (taken_after l k station) here.0 is (hold i read.0 here.0 at)
+    let read = read_at l k i station a.ins.items (ins_of l v) stations actor.drains at_place beside own.0 in
+    oldest.each i read.within read.station read.at
+    ∙ oldest_is l station (put_after l k station) (taken_after l k station) read.station read.is (hold i read.within read.station read.at)
     ∙ ap (λ (n : ℕ). token_of_life l station (fired_after l k n)) own.1
     ∙ sym (get_or-map (λ (s : ℕ). token_of_life l s (fired_after l k v)) (ins_of l v) i 0 0 within)
 

@@ -1,5 +1,5 @@
 -- A run from cycle to cycle.
-use Rattle.std.proofs.Common.{◌≡◌, ℕ, suc, ◌+◌, ◌*◌, ◌<◌, ◌≤◌, ◌==◌, ◌⊎◌, inl, inr, Bool, true, false, min, List, [], ◌∷◌, ◌++◌, length, length-append, Option, None, Some, Result, Ok, Err, OnOk, slice_get, sym, ◌∙◌, ap, subst, add-one, arith}
+use Rattle.std.proofs.Common.{◌≡◌, ◌↔◌, ℕ, suc, ◌+◌, ◌*◌, ◌^◌, ◌<◌, ◌≤◌, ◌==◌, ◌⊎◌, inl, inr, Bool, true, false, min, List, [], ◌∷◌, ◌++◌, length, length-append, Option, None, Some, Result, Ok, Err, OnOk, slice_get, sym, ◌∙◌, ap, subst, add-one, arith}
 use Rattle.std.specs.Option.{is_some}
 use Rattle.std.proofs.lemmas.Bool.Decides.{eqb_tells}
 use Rattle.lid_system.specs.declared.System.{System}
@@ -40,6 +40,13 @@ module _ (r : Run) (run : Running) (given : List (List Bool)) (at : IsRunning r 
   -- the same of a stream that is equal
   pub ran_on : (s : Course) → s ≡ run.stream → RanBy the_life.0 run.made (length given) s
   ran_on s same = subst (RanBy the_life.0 run.made (length given)) (sym same) (at.lives the_life.0 the_life.1).ran
+
+  -- where the run goes on, a cycle more can be counted
+  pub few_more : (s : Course) (made : Bool) → s ≡ run.stream → GoesOn r run given → ((l : Life) (k g : ℕ) → RanBy l k g s → (made ≡ true) ↔ IsBelow l k) → ((l : Life) (k g : ℕ) → RanBy l k g s → made ≡ true → k + 1 < 2 ^ 64) → run.made + 1 < 2 ^ 64
+  few_more s made same goes tells counts =
+      let l = the_life.0 in
+      let ran = ran_on s same in
+      counts l run.made (length given) ran ((tells l run.made (length given) ran).1 (goes l the_life.1))
 
   -- where a row is needed, not all were given
   pub below_all : ((l : Life) (k g : ℕ) → RanBy l k g run.stream → NeedsRow l k g) → length given < r.rows

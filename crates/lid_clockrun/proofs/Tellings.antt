@@ -1,5 +1,5 @@
 -- What a run has told between its cycles, and in the end.
-use Rattle.std.proofs.Common.{◌≡◌, ℕ, ◌+◌, ◌-◌, ◌<◌, ◌≤◌, ◌==◌, ◌⊎◌, inl, inr, Bool, true, false, List, [], ◌++◌, length, Option, Some, Result, Ok, Err, OnErr, IfErr, refl, sym, ◌∙◌, ap, subst, append_assoc, append-nil, add-one, arith}
+use Rattle.std.proofs.Common.{◌≡◌, ◌↔◌, ℕ, ◌+◌, ◌-◌, ◌<◌, ◌≤◌, ◌==◌, ◌⊎◌, inl, inr, Bool, true, false, List, [], ◌++◌, length, Option, Some, Result, Ok, Err, OnErr, IfErr, refl, sym, ◌∙◌, ap, subst, append_assoc, append-nil, add-one, true≢false, arith}
 use Rattle.std.specs.List.{flat_map}
 use Rattle.std.proofs.lemmas.Bool.Decides.{eqb_tells}
 use Rattle.lid_base.specs.Outside.{Rose, Appended, AppendedPrefix}
@@ -23,7 +23,8 @@ use Rattle.lid_clockrun.specs.declared.steps.Running.{Running}
 use Rattle.lid_clockrun.specs.RunTexts.{first_outputs, end_text}
 use Rattle.lid_clockrun.specs.Runnings.{Run, Begins, Writes, WritesPart, HasStopped, IsCause}
 use Rattle.lid_clockrun.specs.Pushing.{HasPushed, Adds, Breaks, Closes, IsTellCause, last_text}
-use Rattle.lid_clockrun.specs.Stepping.{IsFed, HasTold}
+use Rattle.lid_clockrun.specs.Courses.{RanBy}
+use Rattle.lid_clockrun.specs.Stepping.{IsFed, GoesOn, HasTold}
 use Rattle.lid_clockrun.proofs.Outputs.{header_alone, rows_one_more, rows_first}
 use Rattle.lid_clockrun.proofs.Ends.{IsFirstAt, sink_within, sink_rests, some_text, text_at}
 use Rattle.lid_clockrun.proofs.Pushes.{pushes_begin, nothing_of}
@@ -194,6 +195,26 @@ module _ (r : Run) (ascends : Ascend (listed r.stalls)) (given : List (List Bool
         is = text_at l b.of.rules r.stalls b.of.held ascends r.columns r.trace k first_end;
         written = subst (λ (xs : List ℕ). AppendedPrefix before new xs) end_is (break before _ pushed);
       }
+
+module _ (r : Run) (held : Option (List ℕ)) (run : Running) (feed : RowFeed) (telling : Telling) (before now : Option (List ℕ)) (t : IsTelling r held run feed telling before now) where
+  -- what was told so far is a first part of the text
+  pub told_part : (l : Life) → Begins r t.given l → WritesPart r l before now
+  told_part l b = part_of_fired r t.fed.running.rules.ascend t.given l b before now run.made (pushed_part before now telling.writer _ (t.told l b))
+
+  module _ (goes : Bool) (tells : (l : Life) (k g : ℕ) → RanBy l k g run.stream → (goes ≡ true) ↔ IsBelow l k) where
+    pub goes_on : goes ≡ true → GoesOn r run t.given
+    goes_on is l b = (tells l run.made (length t.given) (t.fed.running.lives l b).ran).0 is
+
+    is_over : goes ≡ false → (l : Life) → Begins r t.given l → IsBelow l run.made → ⊥
+    is_over ends l b below = true≢false (sym ((tells l run.made (length t.given) (t.fed.running.lives l b).ran).1 below) ∙ ends)
+
+    -- where it is over, the line that is pushed last ends the text
+    module _ (ends : goes ≡ false) (new : Option (List ℕ)) (line : List ℕ) (is : (l : Life) → Begins r t.given l → line ≡ end_text l r.stalls r.trace run.made) where
+      pub over_told : Closes now new telling.writer line → (l : Life) → Begins r t.given l → Writes r l before new
+      over_told close l b = end_told r t.fed.running.rules.ascend t.given l b run.made (t.fed.running.lives l b).busy (is_over ends l b) before now new telling.writer line (t.told l b) (is l b) close
+
+      pub over_breaks : Breaks now new telling.writer line → (l : Life) → Begins r t.given l → WritesPart r l before new
+      over_breaks break l b = end_breaks r t.fed.running.rules.ascend t.given l b run.made (t.fed.running.lives l b).busy (is_over ends l b) before now new telling.writer line (t.told l b) (is l b) break
 
 -- what holds of a fault, from two facts
 pub err_both : {A E P : Type 0} (Q R : E → Type 0) (result : Result A E) → ((e : E) → P → Q e → R e) → OnErr result P → IfErr result Q → IfErr result R

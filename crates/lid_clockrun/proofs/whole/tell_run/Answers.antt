@@ -2,12 +2,11 @@ use Rattle.std.proofs.Common.{◌≡◌, ◌<◌, ◌+◌, ◌-◌, ◌^◌, ◌
 use Rattle.lid_base.specs.Outside.{Rose}
 use Rattle.lid_base.proofs.Results.{on_ok}
 use Rattle.lid_texts.specs.RowsText.{rows_text}
-use Rattle.lid_clock.specs.Lives.{Life, IsBelow, IsLast, fired_after, sink}
+use Rattle.lid_clock.specs.Lives.{IsLast, fired_after, sink}
 use Rattle.lid_clock.specs.Ran.{lent}
 use Rattle.lid_clockrun.specs.RunTexts.{first_outputs, end_text}
-use Rattle.lid_clockrun.specs.Runnings.{Begins}
 use Rattle.lid_clockrun.specs.Pushing.{HasPushed, IsTellCause}
-use Rattle.lid_clockrun.proofs.Tellings.{rose_later, cause_later, cause_of_telling, pushed_part, part_of_fired, header_told, header_breaks, last_told, last_breaks, end_told, end_breaks, err_both}
+use Rattle.lid_clockrun.proofs.Tellings.{rose_later, cause_later, cause_of_telling, header_told, header_breaks, last_told, last_breaks, told_part, goes_on, over_told, over_breaks, err_both}
 use Rattle.lid_clockrun.proofs.whole.tell_run.Goals as goal
 
 pub returns-in-Err-clause-err : goal.returns-in-Err-clause-err
@@ -41,7 +40,7 @@ pub go-requires-clause-fed : goal.go-requires-clause-fed
 go-requires-clause-fed g c κs within =
     let start = c.requires.fed in
     let t = c.loop-run.invariant.telling start.0 start.1 start.2 start.3 in
-    (start.0, t.given, t.fed, λ l b. (c.below.ensures l c.loop-run.run.made (length t.given) (t.fed.running.lives l b).ran).0 c.loop-run-test.true)
+    (start.0, t.given, t.fed, goes_on start.0 _ _ _ _ _ _ t _ c.below.ensures c.loop-run-test.true)
 
 pub returns-in-Err-go-clause-err : goal.returns-in-Err-go-clause-err
 returns-in-Err-go-clause-err g c = λ r given of fed.
@@ -53,21 +52,19 @@ returns-in-Err-go-clause-err g c = λ r given of fed.
     record {
       rows = t.given;
       given = t.fed.running.rows;
-      told = λ l b.
-          part_of_fired r t.fed.running.rules.ascend t.given l b (g.O.Sink.written c.args.out.now) (g.O.Sink.written c.loop-run.out) c.loop-run.run.made
-          (pushed_part (g.O.Sink.written c.args.out.now) (g.O.Sink.written c.loop-run.out) c.loop-run.telling.writer _ (t.told l b));
+      told = told_part r _ _ _ _ _ _ t;
       cause =
           cause_later r t.given (Rose (first c.args.feed.now.name) (new c.args.feed.now.name)) (Rose (old c.loop-run.feed.name) (new c.loop-run.feed.name)) (Rose (g.O.Sink.faults c.args.out.now) (g.O.Sink.faults c.loop-run.out)) ⊥ c.in-Err-go.fault
           (λ rose. rose_later (first c.args.feed.now.name) (old c.args.feed.now.name) (new c.args.feed.now.name) (c.loop-run.invariant.grows c.args.feed.now.name) (subst (λ n. Rose (old n) (new n)) name rose))
           (λ none. absurd none)
-          (c.in-Err-go.ensures.err r t.given t.fed (λ l b. (c.below.ensures l c.loop-run.run.made (length t.given) (t.fed.running.lives l b).ran).0 c.loop-run-test.true));
+          (c.in-Err-go.ensures.err r t.given t.fed (goes_on r _ _ _ _ _ _ t _ c.below.ensures c.loop-run-test.true));
     }
 
 pub returns-in-Err-tell_last-clause-err : goal.returns-in-Err-tell_last-clause-err
 returns-in-Err-tell_last-clause-err g c = λ r given of fed.
     let t = c.loop-run.invariant.telling r given of fed in
     let made = c.loop-run.run.made in
-    let gone = c.in_default-go.ensures.ok r t.given t.fed (λ l b. (c.below.ensures l made (length t.given) (t.fed.running.lives l b).ran).0 c.loop-run-test.true) in
+    let gone = c.in_default-go.ensures.ok r t.given t.fed (goes_on r _ _ _ _ _ _ t _ c.below.ensures c.loop-run-test.true) in
     record {
       rows = gone.given;
       given = gone.running.rows;
@@ -88,7 +85,7 @@ loop-run-smaller g c =
     let start = c.requires.fed in
     let t = c.loop-run.invariant.telling start.0 start.1 start.2 start.3 in
     let made = c.loop-run.run.made in
-    let goes : (l : Life) → Begins start.0 t.given l → IsBelow l made = λ l b. (c.below.ensures l made (length t.given) (t.fed.running.lives l b).ran).0 c.loop-run-test.true in
+    let goes = goes_on start.0 _ _ _ _ _ _ t _ c.below.ensures c.loop-run-test.true in
     let gone = c.in_default-go.ensures.ok start.0 t.given t.fed goes in
     smaller made c.go.new.self.made gone.one gone.few
 
@@ -98,7 +95,7 @@ loop-run-preserved g c =
       telling = λ r given of fed.
           let t = c.loop-run.invariant.telling r given of fed in
           let made = c.loop-run.run.made in
-          let gone = c.in_default-go.ensures.ok r t.given t.fed (λ l b. (c.below.ensures l made (length t.given) (t.fed.running.lives l b).ran).0 c.loop-run-test.true) in
+          let gone = c.in_default-go.ensures.ok r t.given t.fed (goes_on r _ _ _ _ _ _ t _ c.below.ensures c.loop-run-test.true) in
           record {
             given = gone.given;
             fed = record {
@@ -132,41 +129,33 @@ returns-in_default-append_end-clause-err g c = λ r given of fed.
     record {
       rows = t.given;
       given = t.fed.running.rows;
-      told = λ l b.
-          part_of_fired r t.fed.running.rules.ascend t.given l b (g.O.Sink.written c.args.out.now) (g.O.Sink.written c.loop-run.out) c.loop-run.run.made
-          (pushed_part (g.O.Sink.written c.args.out.now) (g.O.Sink.written c.loop-run.out) c.loop-run.telling.writer _ (t.told l b));
+      told = told_part r _ _ _ _ _ _ t;
       cause = tt;
     }
 
 pub returns-clause-ok : goal.returns-clause-ok
 returns-clause-ok g c = λ r given of fed.
     let t = c.loop-run.invariant.telling r given of fed in
-    let made = c.loop-run.run.made in
     on_ok c.finish.result
     (λ close. record {
       rows = t.given;
       given = t.fed.running.rows;
-      told = λ l b.
-          end_told r t.fed.running.rules.ascend t.given l b made (t.fed.running.lives l b).busy
-          (λ below. let is = (c.below.ensures l made (length t.given) (t.fed.running.lives l b).ran).1 below in let not = c.loop-run-test.false in cc)
-          (g.O.Sink.written c.args.out.now) (g.O.Sink.written c.loop-run.out) (g.O.Sink.written c.finish.new.out) c.loop-run.telling.writer c.append_end.new.into.items (t.told l b)
-          (c.in-Ok.ensures r t.given l t.fed.running b (c.len.ensures ∙ ap (λ s. length s.nodes) (sym of.of)) ∙ ap (λ (xs : List ℕ). xs ++ end_text l r.stalls r.trace made) t.line) close;
+      told =
+          over_told r _ _ _ _ _ _ t _ c.below.ensures c.loop-run-test.false (g.O.Sink.written c.finish.new.out) c.append_end.new.into.items
+          (λ l b. c.in-Ok.ensures r t.given l t.fed.running b (c.len.ensures ∙ ap (λ s. length s.nodes) (sym of.of)) ∙ ap (λ (xs : List ℕ). xs ++ end_text l r.stalls r.trace c.loop-run.run.made) t.line) close;
     })
     c.finish.ensures.ok
 
 pub returns-clause-err : goal.returns-clause-err
 returns-clause-err g c = λ r given of fed.
     let t = c.loop-run.invariant.telling r given of fed in
-    let made = c.loop-run.run.made in
     err_both (IsTellCause (Rose (g.O.Sink.faults c.loop-run.out) (g.O.Sink.faults c.finish.new.out))) _ c.finish.result
     (λ fault break cause. record {
       rows = t.given;
       given = t.fed.running.rows;
-      told = λ l b.
-          end_breaks r t.fed.running.rules.ascend t.given l b made (t.fed.running.lives l b).busy
-          (λ below. let is = (c.below.ensures l made (length t.given) (t.fed.running.lives l b).ran).1 below in let not = c.loop-run-test.false in cc)
-          (g.O.Sink.written c.args.out.now) (g.O.Sink.written c.loop-run.out) (g.O.Sink.written c.finish.new.out) c.loop-run.telling.writer c.append_end.new.into.items (t.told l b)
-          (c.in-Ok.ensures r t.given l t.fed.running b (c.len.ensures ∙ ap (λ s. length s.nodes) (sym of.of)) ∙ ap (λ (xs : List ℕ). xs ++ end_text l r.stalls r.trace made) t.line) break;
+      told =
+          over_breaks r _ _ _ _ _ _ t _ c.below.ensures c.loop-run-test.false (g.O.Sink.written c.finish.new.out) c.append_end.new.into.items
+          (λ l b. c.in-Ok.ensures r t.given l t.fed.running b (c.len.ensures ∙ ap (λ s. length s.nodes) (sym of.of)) ∙ ap (λ (xs : List ℕ). xs ++ end_text l r.stalls r.trace c.loop-run.run.made) t.line) break;
       cause =
           cause_of_telling r t.given (Rose (g.S.Shelf.faults c.args.shelf.now c.args.feed.now.name) (g.S.Shelf.faults c.loop-run.shelf c.args.feed.now.name)) (Rose (g.O.Sink.faults c.loop-run.out) (g.O.Sink.faults c.finish.new.out)) (Rose (g.O.Sink.faults c.args.out.now) (g.O.Sink.faults c.finish.new.out)) fault
           (λ rose. rose_later (g.O.Sink.faults c.args.out.now) (g.O.Sink.faults c.loop-run.out) (g.O.Sink.faults c.finish.new.out) c.loop-run.invariant.rises rose) cause;

@@ -6,27 +6,22 @@ use Rattle.lid_clock.specs.Lives.{fired_after}
 use Rattle.lid_reports.specs.Runs.{cycles_text}
 use Rattle.lid_stalltext.specs.Holds.{stalled_line}
 use Rattle.lid_clockrun.specs.RunTexts.{nodes_fired, traced}
-use Rattle.lid_clockrun.proofs.Goings.{the_life}
+use Rattle.lid_clockrun.proofs.Goings.{the_ran}
 use Rattle.lid_clockrun.proofs.steps.Running.append_end.Goals as goal
 
 pub firings-requires : goal.firings-requires
 firings-requires c =
-    let r = c.requires.0 in
-    let given = c.requires.1 in
-    let at = c.requires.2 in
-    let life = the_life r c.args.self.now given at in
-    (life.0, c.args.self.now.made, length given, (at.lives life.0 life.1).ran, c.requires.3 ∙ ap (λ s. length s.nodes) (sym life.1.of.of))
+    let (r, given, at, nodes) = c.requires in
+    let (l, k, g, ran, begins) = the_ran r c.args.self.now given at in
+    (l, k, g, ran, nodes ∙ ap (λ s. length s.nodes) (sym begins.of.of))
 
 pub print_cycles-requires : goal.print_cycles-requires
 print_cycles-requires c =
-    let r = c.requires.0 in
-    let given = c.requires.1 in
-    let at = c.requires.2 in
-    let life = the_life r c.args.self.now given at in
-    let l = life.0 in
-    let fired = c.in_ok-fired.ensures l c.args.self.now.made (length given) (at.lives l life.1).ran in
-    let long : length c.deref.result.now ≡ c.args.nodes = ap length (c.deref.ensures.value ∙ fired) ∙ each_length (fired_after l c.args.self.now.made) 0 c.args.nodes in
-    omega (arith, long, c.requires.3, at.rules.system.least)
+    let (r, given, at, nodes) = c.requires in
+    let (l, k, g, ran, begins) = the_ran r c.args.self.now given at in
+    let fired = c.in_ok-fired.ensures l k g ran in
+    let long : length c.deref.result.now ≡ c.args.nodes = ap length (c.deref.ensures.value ∙ fired) ∙ each_length (fired_after l k) 0 c.args.nodes in
+    omega (arith, long, nodes, at.rules.system.least)
 
 pub returns : goal.returns
 returns c = λ r given l at b nodes.

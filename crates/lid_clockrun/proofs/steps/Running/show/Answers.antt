@@ -6,16 +6,14 @@ use Rattle.lid_clock.specs.Lives.{Life, shown_after}
 use Rattle.lid_clockrun.specs.RunTexts.{cells_after, cycles_traced}
 use Rattle.lid_clockrun.specs.Runnings.{Begins}
 use Rattle.lid_clockrun.proofs.Outputs.{shown_in}
-use Rattle.lid_clockrun.proofs.Goings.{the_life, on_ok_each}
+use Rattle.lid_clockrun.proofs.Goings.{the_ran, on_ok_each}
 use Rattle.lid_clockrun.proofs.steps.Running.show.Goals as goal
 
 pub push_cells-requires : goal.push_cells-requires
 push_cells-requires c =
-    let r = c.requires.0 in
-    let given = c.requires.1 in
-    let at = c.requires.2 in
-    let life = the_life r c.args.self.now given at in
-    (life.0, c.args.self.now.made, length given, (at.lives life.0 life.1).ran, at.stations ∙ ap (λ p. station_count p.relays) (sym life.1.of.stations))
+    let (r, given, at) = c.requires in
+    let (l, k, g, ran, begins) = the_ran r c.args.self.now given at in
+    (l, k, g, ran, at.stations ∙ ap (λ p. station_count p.relays) (sym begins.of.stations))
 
 pub returns-then-self-most-clause-shown : goal.returns-then-self-most-clause-shown
 returns-then-self-most-clause-shown c = λ r given at.

@@ -1,6 +1,6 @@
 use Rattle.std.proofs.Common.{◌+◌, length, sym, ap, subst, arith}
 use Rattle.lid_clockrun.specs.Courses.{RanBy}
-use Rattle.lid_clockrun.proofs.Goings.{the_life, ran_on, stepped}
+use Rattle.lid_clockrun.proofs.Goings.{the_life, ran_on, few_more, stepped}
 use Rattle.lid_clockrun.proofs.steps.Running.step.Goals as goal
 
 pub cycle-requires-clause-can : goal.cycle-requires-clause-can
@@ -16,22 +16,17 @@ cycle-requires-clause-can g c κs within =
       c.requires.ready.3 life.0 life.1,
     )
 
--- a cycle more can be counted
 pub overflow_add-self : goal.overflow_add-self
 overflow_add-self g c =
-    let (r, given, at, can, busy) = c.requires.ready in
-    let (l, begins) = the_life r c.args.self.now given at in
-    let before = ran_on r c.args.self.now given at _ (ap (λ run. run.stream) c.show.ensures.rest) in
-    let few = c.cycle.ensures.counts l _ _ before ((c.cycle.ensures.made l _ _ before).1 (busy l begins)) in
+    let (r, given, at, can, goes) = c.requires.ready in
+    let few = few_more r c.args.self.now given at _ _ (ap (λ run. run.stream) c.show.ensures.rest) goes c.cycle.ensures.made c.cycle.ensures.counts in
     let same = ap (λ run. run.made) c.show.ensures.rest in
     omega (arith, few, same)
 
 pub returns-clause-few : goal.returns-clause-few
 returns-clause-few g c =
-    let (r, given, at, can, busy) = c.requires.ready in
-    let (l, begins) = the_life r c.args.self.now given at in
-    let before = ran_on r c.args.self.now given at _ (ap (λ run. run.stream) c.show.ensures.rest) in
-    let few = c.cycle.ensures.counts l _ _ before ((c.cycle.ensures.made l _ _ before).1 (busy l begins)) in
+    let (r, given, at, can, goes) = c.requires.ready in
+    let few = few_more r c.args.self.now given at _ _ (ap (λ run. run.stream) c.show.ensures.rest) goes c.cycle.ensures.made c.cycle.ensures.counts in
     let same = ap (λ run. run.made) c.show.ensures.rest in
     omega (arith, few, same)
 
