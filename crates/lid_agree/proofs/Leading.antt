@@ -33,9 +33,9 @@ module _ (d : Design) (s : System) (columns : ℕ → ℕ → Column) (rows : Li
   passed_bit a c (inr buffer) = given_bit c (from_cover buffer.0 (a ∷ [])) buffer.2 ∙ passed_value buffer.0 buffer.1 (b t a)
 
   pub led_bit : (n : ℕ) (c : Column) (x : InBit) → LeadsBack d s columns n c x → b t c ≡ in_bit s (seen d columns b) t x
-  led_bit zero c (Const bit) leads = given_bit c (from_cover leads.0 []) leads.1 ∙ leads.2
+  led_bit zero c (Const bit) leads = given_bit c (from_cover leads.1 []) leads.2 ∙ leads.3
   led_bit zero c (Port chan bit) same = ap (b t) same
-  led_bit (suc n) c x leads = passed_bit leads.0 c leads.1 ∙ led_bit n leads.0 x leads.2
+  led_bit (suc n) c x leads = passed_bit leads.1 c leads.2 ∙ led_bit n leads.1 x leads.3
 
   -- the bits of columns that are led back
   pub led_bits : (cs : List Column) (ins : List InBit) → length ins ≡ length cs → AreLed d s columns cs ins → map (in_bit s (seen d columns b) t) ins ≡ map (b t) cs

@@ -17,6 +17,7 @@ use Rattle.lid_system.specs.Systems.{Point, source_port, shell_net}
 use Rattle.lid_system.specs.Tables.{carried_at}
 use Rattle.lid_rules.specs.Buffers.{passes_on}
 use Rattle.lid_flatten.specs.Standing.{StandsForAll}
+use Rattle.lid_agree.specs.Ports.{IsNoPort}
 
 -- the column of a point, where net k of node i stands for `columns i k`: a port of the source stands for
 -- a data input of the root
@@ -34,12 +35,16 @@ IsPassedOn d a c =
     Among {A = Driver Column} (from_connection a) (drivers d c)
     ⊎ ((cover : Cover) × (passes_on cover ≡ true) × Among {A = Driver Column} (from_cover cover (a ∷ [])) (drivers d c))
 
--- so many steps back a column is a constant of this bit, or the port that has this bit of a channel
+-- so many steps back a column is a constant of this bit, or the port that has this bit of a channel; no port
+-- stands on the way before it
 abbrev pub LeadsBack : Design → System → (ℕ → ℕ → Column) → ℕ → Column → InBit → Type 0
 LeadsBack d s columns zero c (Const bit) =
-    (cover : Cover) × Among {A = Driver Column} (from_cover cover []) (drivers d c) × (cover_value cover [] ≡ bit)
+    IsNoPort d c
+    × (cover : Cover)
+    × Among {A = Driver Column} (from_cover cover []) (drivers d c)
+    × (cover_value cover [] ≡ bit)
 LeadsBack d s columns zero c (Port chan bit) = c ≡ column_of d columns (carried_at s chan bit)
-LeadsBack d s columns (suc n) c x = (a : Column) × IsPassedOn d a c × LeadsBack d s columns n a x
+LeadsBack d s columns (suc n) c x = IsNoPort d c × (a : Column) × IsPassedOn d a c × LeadsBack d s columns n a x
 
 abbrev pub IsLed : Design → System → (ℕ → ℕ → Column) → Column → InBit → Type 0
 IsLed d s columns c x = (n : ℕ) × LeadsBack d s columns n c x

@@ -46,7 +46,8 @@ use Rattle.lid_net.specs.declared.part.Part.{Part}
 use Rattle.lid_net.specs.Marks.{part_outs}
 use Rattle.lid_parts.proofs.Reading.{IsNear, driver_near}
 use Rattle.lid_agree.proofs.Inputs.{root_input_drives}
-use Rattle.lid_net.specs.Graphs.{outputs_at, ports_of, inputs_of, IsPort, LeadsTo}
+use Rattle.lid_agree.specs.Ports.{outputs_at, ports_of, IsPort}
+use Rattle.lid_net.specs.Graphs.{inputs_of, LeadsTo}
 use Rattle.lid_net.specs.PearlParts.{IsPartOf, ArePartsOf}
 use Rattle.lid_net.specs.Systems.{AreOutputs}
 use Rattle.lid_net.proofs.Rising.{all_by}

@@ -38,7 +38,8 @@ use Rattle.lid_net.proofs.Rising.{channels_rise, channel_ports, first_port, all_
 use Rattle.lid_net.specs.declared.part.Part.{Part}
 use Rattle.lid_net.specs.Reads.{read_of}
 use Rattle.lid_net.specs.Nodes.{IsBitFor, IsBitOfOrigin, AreBits, IsShellFor, AreShells, AreNodes}
-use Rattle.lid_net.specs.Graphs.{outputs_at, inputs_at, ports_of, inputs_of, IsPort, LeadsIn, LeadsTo, IsReadBy, IsGraphOf}
+use Rattle.lid_agree.specs.Ports.{outputs_at, ports_of, IsPort}
+use Rattle.lid_net.specs.Graphs.{inputs_at, inputs_of, LeadsIn, LeadsTo, IsReadBy, IsGraphOf}
 use Rattle.lid_net.specs.PearlParts.{IsPartOf, ArePartsOf}
 use Rattle.lid_net.specs.Systems.{AreColumnsLed, AreLeads, AreOutputs, AreNodesOf}
 
@@ -289,12 +290,12 @@ module _ (d : Design) (parts : List Part) (origins : List (Option Origin)) (chan
 
   -- what a column is led back to, as what an input reads
   back : (to n : ℕ) (c : Column) (o : Origin) (x : InBit) → LeadsIn d n c o → IsBitOfOrigin channels to (Some o) x → LeadsBack d s cols n c x
-  back to zero c (Const bit) x h is = subst (LeadsBack d s cols zero c) (sym is) (h.1, h.2, h.3)
+  back to zero c (Const bit) x h is = subst (LeadsBack d s cols zero c) (sym is) h
   back to zero c (Port node place) (bits.Const bit) h is = absurd is
   back to zero c (Port node place) (bits.Port chan bit) h is =
       let ports = ap (λ (m : ℕ). map (column_of d cols) (ports_at s m)) is.from ∙ port_columns node (port_node d c node place h) in
       sym (carried_column d s cols chan bit place is.c c is.here is.port (ap (λ (cs : List Column). slice_get cs place) ports ∙ h))
-  back to (suc n) c o x h is = (h.1, h.2, back to n h.1 o x h.3 is)
+  back to (suc n) c o x h is = (h.0, h.1, h.2, back to n h.1 o x h.3 is)
 
   led : (to k : ℕ) (x : InBit) → k < length (columns d) → IsBitFor channels origins to k x → IsLed d s cols (column_at d k) x
   led to k x less is = by (origin_at origins k) refl is

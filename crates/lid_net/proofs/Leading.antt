@@ -29,7 +29,8 @@ use Rattle.lid_leads.specs.declared.step.Step.{Step}
 use Rattle.lid_leads.specs.declared.step.Step.TheVariants.{Ends, Passes, Stops}
 use Rattle.lid_leads.specs.Steps.{step_from, origin_at, LeadsWithin, IsLedTo, AreOrigins}
 use Rattle.lid_check.proofs.Flats.{driven}
-use Rattle.lid_net.specs.Graphs.{ports_of, IsPort, IsNoPort, LeadsIn, LeadsTo}
+use Rattle.lid_agree.specs.Ports.{ports_of, IsPort, IsNoPort}
+use Rattle.lid_net.specs.Graphs.{LeadsIn, LeadsTo}
 use Rattle.lid_net.specs.Systems.{AreColumnsLed}
 
 pub one_of : {A : Type 0} (s t : A) → Among s (t ∷ []) → s ≡ t

@@ -35,7 +35,8 @@ use Rattle.lid_wiring.proofs.Passing.{no_root_logic, sound_model}
 use Rattle.lid_parts.proofs.Finding.{whole_pearls, inst_count, inst_pearl}
 use Rattle.lid_leads.specs.declared.origin.Origin.{Origin}
 use Rattle.lid_leads.specs.declared.origin.Origin.TheVariants.{Const, Port}
-use Rattle.lid_net.specs.Graphs.{outputs_at, inputs_at, ports_of, inputs_of, IsPort, IsNoPort, LeadsIn, LeadsTo}
+use Rattle.lid_agree.specs.Ports.{outputs_at, ports_of, IsPort, IsNoPort}
+use Rattle.lid_net.specs.Graphs.{inputs_at, inputs_of, LeadsIn, LeadsTo}
 use Rattle.lid_net.proofs.Joining.{got_here}
 use Rattle.lid_net.proofs.Leading.{only, one_of, source_driven}
 use Rattle.lid_net.proofs.Rooted.{RootShape, given, constant, buffer, output, root_shape, root_plain}

@@ -15,7 +15,7 @@ use Rattle.lid_leads.specs.declared.origin.Origin.TheVariants.{Const, Port}
 use Rattle.lid_leads.specs.Steps.{origin_at}
 use Rattle.lid_net.specs.declared.part.Part.{Part}
 use Rattle.lid_net.specs.Marks.{part_outs, marked_from, marked_all}
-use Rattle.lid_net.specs.Graphs.{outputs_at, ports_of, IsPort}
+use Rattle.lid_agree.specs.Ports.{outputs_at, ports_of, IsPort}
 use Rattle.lid_net.specs.PearlParts.{IsPartOf, ArePartsOf}
 use Rattle.lid_net.proofs.Joining.{got_here, got_map, got_all}
 use Rattle.lid_net.proofs.Leading.{AreShellMarks}

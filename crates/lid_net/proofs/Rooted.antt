@@ -27,7 +27,7 @@ use Rattle.lid_rules.specs.Conditions.{root_logic, logic_in}
 use Rattle.lid_wiring.proofs.Names.{to_among, none_found}
 use Rattle.lid_wiring.proofs.Passing.{map_none}
 use Rattle.lid_parts.proofs.Finding.{inst_pearl}
-use Rattle.lid_net.specs.Graphs.{outputs_at, ports_of, IsPort}
+use Rattle.lid_agree.specs.Ports.{outputs_at, ports_of, IsPort}
 
 -- what may drive a column of the root
 pub data RootShape (d : Design) (s : Driver Column) : Type 0 where

@@ -1,15 +1,16 @@
--- The system graph of a design: its nodes, their ports, what leads back to them, and the channels. All of
+-- The system graph of a design: the inputs of its nodes, what they are led back to, and the channels. All of
 -- this is said of the design alone.
-use Rattle.std.specs.Prelude.{◌≡◌, ◌↔◌, ◌==◌, if◌then◌else◌, ℕ, zero, suc, List, [], ◌∷◌, length, map, flat_map, reverse, slice_get, Some}
+use Rattle.std.specs.Prelude.{◌≡◌, ◌↔◌, ◌==◌, if◌then◌else◌, ℕ, zero, suc, List, [], length, map, flat_map, reverse, slice_get}
 use Rattle.std.specs.Option.{option_map_or}
 use Rattle.lid_base.specs.Lists.{Among}
 use Rattle.lid_cover.specs.declared.Cover.{Cover}
 use Rattle.lid_cover.specs.Cover.{cover_value}
 use Rattle.lid_design.specs.declared.Design.{Design}
 use Rattle.lid_design.specs.Network.{Driver, from_cover}
-use Rattle.lid_design.specs.Columns.{Column, column, model_at, data_inputs, drivers, root_inputs, root_outputs}
+use Rattle.lid_design.specs.Columns.{Column, column, model_at, data_inputs, drivers, root_outputs}
 use Rattle.lid_design.specs.Loops.{pearls}
 use Rattle.lid_system.specs.declared.Channel.{Channel}
+use Rattle.lid_agree.specs.Ports.{IsPort, IsNoPort}
 use Rattle.lid_agree.specs.Agreement.{IsPassedOn}
 use Rattle.lid_channels.specs.declared.reads.Read.{Read}
 use Rattle.lid_channels.specs.Reads.{AreAscending}
@@ -17,19 +18,9 @@ use Rattle.lid_channels.specs.Pieces.{reads_in, AreCut}
 use Rattle.lid_leads.specs.declared.origin.Origin.{Origin}
 use Rattle.lid_leads.specs.declared.origin.Origin.TheVariants.{Const, Port}
 
--- the columns of the outputs of the model at a path
-abbrev pub outputs_at : Design → List ℕ → List Column
-outputs_at d path = option_map_or (λ m. map (column path) m.outputs) (model_at d path) []
-
 -- the columns of the data inputs of the model at a path
 abbrev pub inputs_at : Design → List ℕ → List Column
 inputs_at d path = option_map_or (λ m. map (column path) (data_inputs d m)) (model_at d path) []
-
--- the ports of a node: those of the source, node 0, are the root's data inputs, and those of a shell its
--- model's outputs, where node i is the shell of pearl i - 1
-unfoldable pub ports_of : Design → ℕ → List Column
-ports_of d zero = map (column []) (root_inputs d)
-ports_of d (suc i) = option_map_or (outputs_at d) (slice_get (pearls d) i) []
 
 -- the inputs of a node: those of a shell are its model's data inputs, and those of the sink, which comes
 -- after the shells, are the root's outputs
@@ -39,12 +30,6 @@ inputs_of d (suc i) =
     if i == length (pearls d)
     then map (column []) (root_outputs d)
     else option_map_or (inputs_at d) (slice_get (pearls d) i) []
-
-abbrev pub IsPort : Design → Column → ℕ → ℕ → Type 0
-IsPort d c node place = slice_get (ports_of d node) place ≡ Some c
-
-abbrev pub IsNoPort : Design → Column → Type 0
-IsNoPort d c = (node place : ℕ) → ¬ IsPort d c node place
 
 -- so many steps back from a column is a port, or a constant; a step leads over a binding or a buffer, and
 -- none leads past a port

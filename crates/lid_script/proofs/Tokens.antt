@@ -28,7 +28,7 @@ use Rattle.lid_runs.specs.Runs.{token_of}
 use Rattle.lid_runs.specs.Views.{shown_as}
 use Rattle.lid_agree.specs.Agreement.{column_of, seen, IsSystemOf}
 use Rattle.lid_agree.proofs.Agreeing.{source_ports, shell_ports, table_is, rows_are, output_back}
-use Rattle.lid_net.specs.Graphs.{ports_of, outputs_at}
+use Rattle.lid_agree.specs.Ports.{ports_of, outputs_at}
 use Rattle.lid_script.specs.Clocked.{channel_token, station_token}
 
 pub all_so : {A : Type 0} (P Q : A → Type 0) (xs : List A) → ((x : A) → P x → Q x) → AllByRecursion P xs → AllByRecursion Q xs

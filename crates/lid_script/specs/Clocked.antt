@@ -8,7 +8,7 @@ use Rattle.lid_design.specs.declared.Design.{Design}
 use Rattle.lid_design.specs.Network.{Table, IsStrict, from_each}
 use Rattle.lid_design.specs.Columns.{Column, column, drivers, root_outputs, IsStrictOutput}
 use Rattle.lid_graph.specs.Firings.{Hold, no_hold, IsFirstAtCap}
-use Rattle.lid_net.specs.Graphs.{ports_of}
+use Rattle.lid_agree.specs.Ports.{ports_of}
 use Rattle.lid_system.specs.declared.Channel.{Channel}
 use Rattle.lid_stations.specs.declared.placement.Placement.{Placement}
 use Rattle.lid_stations.specs.Placements.{Links, station_count}

@@ -93,6 +93,28 @@ at_rest m v q far same =
       | inr none ↦ omega arith
     ]
 
+-- a step below the cap is the one that is next
+record IsNextStep (m : Setup) (v : ℕ) (q : Progress) (answer : Answer) (a : Actor) (ends : Ends) (stands : (ℕ → List ℕ) → Type 0) : Type 0 where
+  below : q.fired < cap (plan m) v
+  next : Next
+  about : IsAbout m v q next
+  told : answer ≡ tells (plan m) v q.fired (act_in next) (found_in answer) (is_last (plan m) v q.position)
+  works : Works m v (moves (act_in next) (found_in answer) (is_last (plan m) v q.position) q) a ends stands
+
+next_step : (m : Setup) (v : ℕ) (q : Progress) (answer : Answer) (a : Actor) (ends : Ends) (stands : (ℕ → List ℕ) → Type 0) → IsBegun m v q → Steps m v q answer a ends stands → (q.fired ≡ cap (plan m) v → ⊥) → IsNextStep m v q answer a ends stands
+next_step m v q answer a ends stands far steps other =
+    let capped : q.fired ≤ cap (plan m) v = far.capped in
+    let below : q.fired < cap (plan m) v = omega (arith, other) in
+    let next = next_of (length (ins_of (plan m) v)) (length (outs_of (plan m) v)) q.position in
+    let act = act_is (length (ins_of (plan m) v)) (length (outs_of (plan m) v)) q.position next.0 next.1 in
+    record {
+      below = below;
+      next = next.0;
+      about = next.1;
+      told = steps.answers ∙ sym (answer_below m v q (found_in answer) (act_in next.0) (is_last (plan m) v q.position) below act refl);
+      works = subst (λ (p : Progress). Works m v p a ends stands) (sym (after_below m v q (found_in answer) (act_in next.0) (is_last (plan m) v q.position) below act refl)) steps.works;
+    }
+
 pub ended : (m : Setup) (v : ℕ) (q : Progress) (answer : Answer) (how : TurnEnd) (a : Actor) (ends : Ends) (stands : (ℕ → List ℕ) → Type 0) → IsBegun m v q → Steps m v q answer a ends stands → ending answer ≡ Some how → HasEnded m v q how a ends stands
 ended m v q answer how a ends stands far steps h =
     elim (cases_eq q.fired (cap (plan m) v)) [
@@ -107,17 +129,13 @@ ended m v q answer how a ends stands far steps h =
             works = subst (λ (n : ℕ). Works m v (record { fired = q.fired; position = n }) a ends stands) (at_rest m v q far same) works;
           }))
       | inr other ↦
-          (let capped : q.fired ≤ cap (plan m) v = far.capped in
-          let below : q.fired < cap (plan m) v = omega (arith, other) in
-          let next = next_of (length (ins_of (plan m) v)) (length (outs_of (plan m) v)) q.position in
-          let act = act_is (length (ins_of (plan m) v)) (length (outs_of (plan m) v)) q.position next.0 next.1 in
-          let told = steps.answers ∙ sym (answer_below m v q (found_in answer) (act_in next.0) (is_last (plan m) v q.position) below act refl) in
-          let ends_so = ends_below m v q next.0 (found_in answer) (is_last (plan m) v q.position) how next.1 (sym (ap ending told) ∙ h) in
+          (let step = next_step m v q answer a ends stands far steps other in
+          let ends_so = ends_below m v q step.next (found_in answer) (is_last (plan m) v q.position) how step.about (sym (ap ending step.told) ∙ h) in
           record {
             ends_so = ends_so.ends_so;
             early = ends_so.early;
             done = (λ e. absurd (ends_so.not_done e), λ e. absurd (other e));
-            works = subst (λ (p : Progress). Works m v p a ends stands) (sym (after_below m v q (found_in answer) (act_in next.0) (is_last (plan m) v q.position) below act refl) ∙ ends_so.far) steps.works;
+            works = subst (λ (p : Progress). Works m v p a ends stands) ends_so.far step.works;
           })
     ]
 
@@ -131,16 +149,9 @@ going_on m v q answer a ends stands far steps h =
     elim (cases_eq q.fired (cap (plan m) v)) [
       | inl same ↦ (let not : Some end.Done ≡ None = sym (ap ending (steps.answers ∙ answer_at_cap m v q (found_in answer) same)) ∙ h in absurd (cc))
       | inr other ↦
-          (let capped : q.fired ≤ cap (plan m) v = far.capped in
-          let below : q.fired < cap (plan m) v = omega (arith, other) in
-          let next = next_of (length (ins_of (plan m) v)) (length (outs_of (plan m) v)) q.position in
-          let act = act_is (length (ins_of (plan m) v)) (length (outs_of (plan m) v)) q.position next.0 next.1 in
-          let told = steps.answers ∙ sym (answer_below m v q (found_in answer) (act_in next.0) (is_last (plan m) v q.position) below act refl) in
-          let goes = goes_below m v q next.0 (found_in answer) (is_last (plan m) v q.position) next.1 refl (sym (ap ending told) ∙ h) in
-          record {
-            below = below;
-            works = subst (λ (p : Progress). Works m v p a ends stands) (sym (after_below m v q (found_in answer) (act_in next.0) (is_last (plan m) v q.position) below act refl) ∙ goes) steps.works;
-          })
+          (let step = next_step m v q answer a ends stands far steps other in
+          let goes = goes_below m v q step.next (found_in answer) (is_last (plan m) v q.position) step.about refl (sym (ap ending step.told) ∙ h) in
+          record { below = step.below; works = subst (λ (p : Progress). Works m v p a ends stands) goes step.works })
     ]
 
 -- what an answer that ends a turn, and one that does not, misses

@@ -1,5 +1,5 @@
 -- An actor has few stations.
-use Rattle.std.proofs.Common.{◌≡◌, ℕ, ◌+◌, ◌≤◌, ◌==◌, Bool, List, length, filter, arith}
+use Rattle.std.proofs.Common.{◌≡◌, ℕ, ◌≤◌, ◌==◌, Bool, List, length, filter, arith}
 use Rattle.std.proofs.lemmas.List.Sums.{length-filter, count_by-le-length}
 use Rattle.lid_design.specs.Network.{from_each}
 use Rattle.lid_system.proofs.Shelling.{each_length}

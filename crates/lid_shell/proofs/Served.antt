@@ -34,48 +34,50 @@ drain_apart m v station apart own =
       | inr h ↦ (let odd : 2 * station + 1 ≡ 2 * own.0 = h.1 in omega arith)
     ]
 
+-- an end of an actor, which alone may have moved there
+end_on : (m : Setup) (v who : ℕ) (old now : State) (missed : Option ℕ) (ends new : Ends) (end : ℕ) (count : Progress → ℕ) → ((w : ℕ) → (w ≡ v → ⊥) → now w ≡ old w) → Moves (ins_of (plan m) v) (outs_of (plan m) v) missed ends new
+    → (who ≡ v → HasEnd new end (λ f. f.passed ≡ count (now who))) → ((who ≡ v → ⊥) → IsOwn (ins_of (plan m) v) (outs_of (plan m) v) end → ⊥)
+    → HasEnd ends end (λ f. f.passed ≡ count (old who)) → HasEnd new end (λ f. f.passed ≡ count (now who))
+end_on m v who old now missed ends new end count others moves own apart served =
+    elim (cases_eq who v) [
+      | inl same ↦ own same
+      | inr other ↦ (served.0, moves.others end (apart other) ∙ served.1, served.2 ∙ ap count (sym (others who other)))
+    ]
+
 -- the two ends of a station
 filled_on : (m : Setup) (v station : ℕ) (old now : State) (missed : Option ℕ) (ends new : Ends) → ((w : ℕ) → (w ≡ v → ⊥) → now w ≡ old w) → Agrees m v (now v) new → Moves (ins_of (plan m) v) (outs_of (plan m) v) missed ends new → station < stations_of (plan m)
     → ServesBoth m old ends station → HasEnd new (fill station) (λ f. f.passed ≡ in_count (plan m) now station)
 filled_on m v station old now missed ends new others agrees moves there serves =
-    elim (cases_eq (filler_of (plan m) station) v) [
-      | inl own ↦
-          (let at = filled_there (links_of m.system) m.placement v station there own in
-          let had = agrees.fills at.0 station at.1 in
-          let place = filled_place (links_of m.system) m.placement v at.0 station at.1 in (
-            had.0,
-            had.1,
-            had.2.passed
-                ∙ ap (λ (n : ℕ). start_of (plan m) station + put_by (plan m) v (now v) n) (sym place)
-                ∙ ap (λ (w : ℕ). start_of (plan m) station + put_by (plan m) w (now w) (place_in (outs_of (plan m) w) station)) (sym own),
-          ))
-      | inr apart ↦ (
-        serves.filled.0,
-        moves.others (fill station) (fill_apart m v station apart) ∙ serves.filled.1,
-        serves.filled.2 ∙ ap (λ (p : Progress). start_of (plan m) station + put_by (plan m) (filler_of (plan m) station) p (place_in (outs_of (plan m) (filler_of (plan m) station)) station)) (sym (others (filler_of (plan m) station) apart)),
-      )
-    ]
+    let who : ℕ = filler_of (plan m) station in
+    end_on m v who old now missed ends new (fill station) (λ p. start_of (plan m) station + put_by (plan m) who p (place_in (outs_of (plan m) who) station)) others moves
+    (λ own.
+    let at = filled_there (links_of m.system) m.placement v station there own in
+    let had = agrees.fills at.0 station at.1 in
+    let place = filled_place (links_of m.system) m.placement v at.0 station at.1 in (
+      had.0,
+      had.1,
+      had.2.passed
+          ∙ ap (λ (n : ℕ). start_of (plan m) station + put_by (plan m) v (now v) n) (sym place)
+          ∙ ap (λ (w : ℕ). start_of (plan m) station + put_by (plan m) w (now w) (place_in (outs_of (plan m) w) station)) (sym own),
+    ))
+    (fill_apart m v station) serves.filled
 
 drained_on : (m : Setup) (v station : ℕ) (old now : State) (missed : Option ℕ) (ends new : Ends) → ((w : ℕ) → (w ≡ v → ⊥) → now w ≡ old w) → Agrees m v (now v) new → Moves (ins_of (plan m) v) (outs_of (plan m) v) missed ends new → station < stations_of (plan m)
     → ServesBoth m old ends station → HasEnd new (drain station) (λ f. f.passed ≡ out_count (plan m) now station)
 drained_on m v station old now missed ends new others agrees moves there serves =
-    elim (cases_eq (drainer_of (plan m) station) v) [
-      | inl own ↦
-          (let at = drained_there (links_of m.system) m.placement v station there own in
-          let had = agrees.drains at.0 station at.1 in
-          let place = drained_place (links_of m.system) m.placement v at.0 station at.1 in (
-            had.0,
-            had.1,
-            had.2.passed
-                ∙ ap (taken_by (plan m) v (now v)) (sym place)
-                ∙ ap (λ (w : ℕ). taken_by (plan m) w (now w) (place_in (ins_of (plan m) w) station)) (sym own),
-          ))
-      | inr apart ↦ (
-        serves.drained.0,
-        moves.others (drain station) (drain_apart m v station apart) ∙ serves.drained.1,
-        serves.drained.2 ∙ ap (λ (p : Progress). taken_by (plan m) (drainer_of (plan m) station) p (place_in (ins_of (plan m) (drainer_of (plan m) station)) station)) (sym (others (drainer_of (plan m) station) apart)),
-      )
-    ]
+    let who : ℕ = drainer_of (plan m) station in
+    end_on m v who old now missed ends new (drain station) (λ p. taken_by (plan m) who p (place_in (ins_of (plan m) who) station)) others moves
+    (λ own.
+    let at = drained_there (links_of m.system) m.placement v station there own in
+    let had = agrees.drains at.0 station at.1 in
+    let place = drained_place (links_of m.system) m.placement v at.0 station at.1 in (
+      had.0,
+      had.1,
+      had.2.passed
+          ∙ ap (taken_by (plan m) v (now v)) (sym place)
+          ∙ ap (λ (w : ℕ). taken_by (plan m) w (now w) (place_in (ins_of (plan m) w) station)) (sym own),
+    ))
+    (drain_apart m v station) serves.drained
 
 -- all its stations
 pub serves_on : (m : Setup) (v : ℕ) (old now : State) (missed : Option ℕ) (ends new : Ends) → ((w : ℕ) → (w ≡ v → ⊥) → now w ≡ old w) → Agrees m v (now v) new → Moves (ins_of (plan m) v) (outs_of (plan m) v) missed ends new

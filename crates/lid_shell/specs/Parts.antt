@@ -5,7 +5,7 @@ use Rattle.std.specs.List.{All}
 use Rattle.lid_system.specs.declared.Node.TheVariants as node
 use Rattle.lid_system.specs.declared.InBit.{InBit}
 use Rattle.lid_nodes.specs.Wiring.{SinkView, IsSourceOf, IsShellOf, IsSinkOf}
-use Rattle.lid_machine.specs.Setups.{Setup, output_rows, plan}
+use Rattle.lid_machine.specs.Setups.{Setup, output_rows}
 use Rattle.lid_shell.specs.declared.part.Given.{Given}
 use Rattle.lid_shell.specs.declared.part.Part.{Part}
 use Rattle.lid_shell.specs.declared.part.Part.TheVariants.{Source, Shell, Mover, Sink}

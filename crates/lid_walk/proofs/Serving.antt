@@ -1,6 +1,5 @@
 -- A board that agrees with all actors serves both ends of each station, as the state counts.
-use Rattle.std.proofs.Common.{◌≡◌, ℕ, ◌<◌, refl, sym, ◌∙◌, subst}
-use Rattle.std.specs.Prelude.{Some, slice_get}
+use Rattle.std.proofs.Common.{◌≡◌, ℕ, ◌<◌, refl, sym, ◌∙◌}
 use Rattle.lid_station.specs.Boards.{Ends, fill, drain}
 use Rattle.lid_stations.proofs.Spots.{stands_between}
 use Rattle.lid_runs.proofs.Ends.{drained_there, filled_there}
