@@ -1,8 +1,9 @@
 -- Generated designs are well formed, and how many cells and nets they have.
-use Rattle.std.proofs.Common.{◌≡◌, ℕ, zero, suc, ◌+◌, ◌*◌, ◌<◌, ◌≤◌, length, sum_by, Option, refl, ap, arith}
+use Rattle.std.proofs.Common.{◌≡◌, ℕ, zero, suc, ◌+◌, ◌*◌, ◌<◌, ◌≤◌, length, sum_by, Option, refl, sym, ap, arith}
 use Rattle.std.specs.Option.{option_map_or}
 use Rattle.std.specs.List.{AllByRecursion, IsDistinct}
 use Rattle.std.proofs.lemmas.List.Sums.{sum_by-cons}
+use Rattle.lid_design.specs.declared.Inst.{Inst}
 use Rattle.lid_design.specs.declared.Model.{Model}
 use Rattle.lid_design.specs.Columns.{model_named}
 use Rattle.lid_design.specs.Network.{from_each}
@@ -39,6 +40,9 @@ kind_width (suc (suc (suc (suc k)))) few = absurd (omega (arith, few))
 cells_formed : (k : ℕ) → k < 4 → AllByRecursion IsWellFormedCell (kind_cells k)
 cells_formed k few = ((kind_formed k few, kind_width k few), ((unequal_formed, refl), (tt, (tt, tt))))
 
+mul_suc : (a b : ℕ) → a * suc b ≡ a * b + a
+mul_suc a b = grind (arith)
+
 module _ (s n : ℕ) where
   pub well_formed : n ≤ 2000 → IsWellFormed (made s n)
   unfolding IsDistinct
@@ -57,21 +61,21 @@ module _ (s n : ℕ) where
       let found = kind_found s n k few in
       (ap (λ (o : Option Model). option_map_or (λ m. length m.cells) o 0) found, ap (λ (o : Option Model). option_map_or (λ m. length m.inputs + length m.cells) o 0) found)
 
+  -- what is so much for each shell
+  all_shells : (count : Inst → ℕ) (each : ℕ) → ((k : ℕ) → count (shell_at s n k) ≡ each) → (k m : ℕ) → sum_by count (from_each (shell_at s n) k m) ≡ each * m
+  all_shells count each same k zero = (let none : each * 0 ≡ 0 = omega arith in sym none)
+  all_shells count each same k (suc m) =
+      let a = sum_by-cons count (shell_at s n k) (from_each (shell_at s n) (k + 1) m) in
+      let b = same k in
+      let c = all_shells count each same (k + 1) m in
+      let more = mul_suc each m in
+      omega (arith, a, b, c, more)
+
   pub all_cells : (k m : ℕ) → sum_by (cells_below (made s n)) (from_each (shell_at s n) k m) ≡ 4 * m
-  all_cells k zero = refl
-  all_cells k (suc m) =
-      let a = sum_by-cons (cells_below (made s n)) (shell_at s n k) (from_each (shell_at s n) (k + 1) m) in
-      let b = (kind_size (drawn s (2 * k) 4) (kind_few s n k)).0 in
-      let c = all_cells (k + 1) m in
-      omega (arith, a, b, c)
+  all_cells = all_shells (cells_below (made s n)) 4 (λ k. (kind_size (drawn s (2 * k) 4) (kind_few s n k)).0)
 
   pub all_nets : (k m : ℕ) → sum_by (nets_below (made s n)) (from_each (shell_at s n) k m) ≡ 6 * m
-  all_nets k zero = refl
-  all_nets k (suc m) =
-      let a = sum_by-cons (nets_below (made s n)) (shell_at s n k) (from_each (shell_at s n) (k + 1) m) in
-      let b = (kind_size (drawn s (2 * k) 4) (kind_few s n k)).1 in
-      let c = all_nets (k + 1) m in
-      omega (arith, a, b, c)
+  all_nets = all_shells (nets_below (made s n)) 6 (λ k. (kind_size (drawn s (2 * k) 4) (kind_few s n k)).1)
 
   outs_length : (k m : ℕ) → length (outs k m) ≡ 2 * m
   outs_length k zero = refl

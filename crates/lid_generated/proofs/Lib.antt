@@ -8,5 +8,5 @@ mod Words
 mod Written
 mod Carried
 mod Channels
-mod Sizes
+pub mod Sizes
 mod Subs

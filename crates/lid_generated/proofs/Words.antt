@@ -31,26 +31,25 @@ begun longest xs ys bytes is =
       unmarked = mark_last xs ys is.some is.unmarked;
     }
 
+-- what holds of each of the first four numbers
+of_four : (P : ℕ → Type 0) → P 0 → P 1 → P 2 → P 3 → (j : ℕ) → j < 4 → P j
+of_four P a b c d zero few = a
+of_four P a b c d (suc zero) few = b
+of_four P a b c d (suc (suc zero)) few = c
+of_four P a b c d (suc (suc (suc zero))) few = d
+of_four P a b c d (suc (suc (suc (suc j)))) few = absurd (omega (arith, few))
+
 pub input_word : (j : ℕ) → j < 4 → IsSpelled 30 (input_name j)
-input_word zero few = spelled_word 30 (input_name 0) refl refl refl refl
-input_word (suc zero) few = spelled_word 30 (input_name 1) refl refl refl refl
-input_word (suc (suc zero)) few = spelled_word 30 (input_name 2) refl refl refl refl
-input_word (suc (suc (suc zero))) few = spelled_word 30 (input_name 3) refl refl refl refl
-input_word (suc (suc (suc (suc j)))) few = absurd (omega (arith, few))
+input_word = of_four (λ j. IsSpelled 30 (input_name j))
+    (spelled_word 30 (input_name 0) refl refl refl refl) (spelled_word 30 (input_name 1) refl refl refl refl) (spelled_word 30 (input_name 2) refl refl refl refl) (spelled_word 30 (input_name 3) refl refl refl refl)
 
 pub output_word : (j : ℕ) → j < 4 → IsSpelled 30 (output_name j)
-output_word zero few = spelled_word 30 (output_name 0) refl refl refl refl
-output_word (suc zero) few = spelled_word 30 (output_name 1) refl refl refl refl
-output_word (suc (suc zero)) few = spelled_word 30 (output_name 2) refl refl refl refl
-output_word (suc (suc (suc zero))) few = spelled_word 30 (output_name 3) refl refl refl refl
-output_word (suc (suc (suc (suc j)))) few = absurd (omega (arith, few))
+output_word = of_four (λ j. IsSpelled 30 (output_name j))
+    (spelled_word 30 (output_name 0) refl refl refl refl) (spelled_word 30 (output_name 1) refl refl refl refl) (spelled_word 30 (output_name 2) refl refl refl refl) (spelled_word 30 (output_name 3) refl refl refl refl)
 
 pub kind_word : (k : ℕ) → k < 4 → IsSpelled 30 (kind_name k)
-kind_word zero few = spelled_word 30 (kind_name 0) refl refl refl refl
-kind_word (suc zero) few = spelled_word 30 (kind_name 1) refl refl refl refl
-kind_word (suc (suc zero)) few = spelled_word 30 (kind_name 2) refl refl refl refl
-kind_word (suc (suc (suc zero))) few = spelled_word 30 (kind_name 3) refl refl refl refl
-kind_word (suc (suc (suc (suc k)))) few = absurd (omega (arith, few))
+kind_word = of_four (λ k. IsSpelled 30 (kind_name k))
+    (spelled_word 30 (kind_name 0) refl refl refl refl) (spelled_word 30 (kind_name 1) refl refl refl refl) (spelled_word 30 (kind_name 2) refl refl refl refl) (spelled_word 30 (kind_name 3) refl refl refl refl)
 
 letter_word : (letter : ℕ) → (letter ≡ 113) ⊎ (letter ≡ 114) → IsSpelled 2 (95 ∷ letter ∷ [])
 letter_word letter (inl is) = subst (λ (l : ℕ). IsSpelled 2 (95 ∷ l ∷ [])) (sym is) (spelled_word 2 (95 ∷ 113 ∷ []) refl refl refl refl)

@@ -2,6 +2,5 @@ mod Endings
 mod Fitted
 mod Lives
 mod Ones
-mod Sizes
 mod Standing
 mod Summaries
