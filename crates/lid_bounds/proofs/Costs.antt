@@ -1,8 +1,8 @@
 -- How long the texts of the cells of wires outside of shells are at most.
-use Rattle.std.proofs.Common.{◌≡◌, ℕ, zero, suc, ◌+◌, ◌*◌, ◌<◌, ◌≤◌, ◌==◌, ◌&&◌, nat_lt, not, Bool, true, false, cond, List, [], ◌∷◌, ◌++◌, length, map, Option, Some, None, slice_get, refl, mul-suc, arith}
+use Rattle.std.proofs.Common.{◌≡◌, ℕ, zero, suc, ◌+◌, ◌*◌, ◌<◌, ◌≤◌, ◌==◌, ◌&&◌, nat_lt, not, Bool, true, false, cond, List, [], ◌∷◌, length, map, Option, Some, None, slice_get, refl, mul-le-mul_right, arith}
 use Rattle.std.specs.Option.{option_map_or}
 use Rattle.std.specs.List.{flat_map, sum_by}
-use Rattle.std.proofs.lemmas.List.Sums.{sum_by-cons, sum_by-append}
+use Rattle.std.proofs.lemmas.List.Sums.{sum_by-cons}
 use Rattle.lid_base.specs.Lists.{Among}
 use Rattle.lid_base.proofs.Lists.{get_among}
 use Rattle.lid_cover.specs.declared.Cover.{Cover}
@@ -11,11 +11,13 @@ use Rattle.lid_circuit.specs.Wires.{Wire, entry, given, offer, block, steady, ma
 use Rattle.lid_circuit.specs.Gates.{constant, buffer, negation, both, without, count, move}
 use Rattle.lid_circuit.specs.Plans.{Plan, ends}
 use Rattle.lid_circuit.specs.Network.{within, gate, flop, link, last_link, sink, firing, level_in, grown_in, place_in, moved_in, emitted}
-use Rattle.lid_wires.specs.Lists.{outer_wires, bit_wires, station_wires, actor_wires}
+use Rattle.lid_wires.specs.Lists.{outer_wires, station_wires, actor_wires}
 use Rattle.lid_named.specs.Named.{written}
 use Rattle.lid_acceptance.proofs.Totals.{total}
 use Rattle.lid_bounds.specs.Shortness.{word_most}
 use Rattle.lid_bounds.proofs.Lines.{line_size}
+use Rattle.lid_bounds.proofs.Sums.{sum_each}
+use Rattle.lid_bounds.proofs.Weights.{two_weights, each_weight, actor_weight, station_weight}
 
 module _ (q : Plan) (name : Wire → List ℕ) where
   abbrev pub most : Wire → ℕ
@@ -165,19 +167,6 @@ module _ (q : Plan) (name : Wire → List ℕ) where
             let put = put_short s j there within_width in
             omega arith
 
-    -- so many wires of one kind
-    kind_cost : (n : ℕ) (wire : ℕ → Wire) → ((j : ℕ) → wire_cost (wire j) ≤ n) → (k m : ℕ) → wires_cost (from_each wire k m) ≤ n * m
-    kind_cost n wire each k zero = omega arith
-    kind_cost n wire each k (suc m) =
-        let whole = sum_by-cons wire_cost (wire k) (from_each wire (k + 1) m) in
-        let here = each k in
-        let later = kind_cost n wire each (k + 1) m in
-        let product = mul-suc n m in
-        omega arith
-
-    two_costs : (xs ys : List Wire) → wires_cost (xs ++ ys) ≡ wires_cost xs + wires_cost ys
-    two_costs xs ys = sum_by-append wire_cost xs ys
-
     givens_cost : (k m : ℕ) → wires_cost (from_each given k m) ≤ 48 * m + line_size (map name (from_each entry k m))
     givens_cost k zero = omega arith
     givens_cost k (suc m) =
@@ -187,56 +176,22 @@ module _ (q : Plan) (name : Wire → List ℕ) where
         let later = givens_cost (k + 1) m in
         omega arith
 
-    bit_cost : (s j : ℕ) → s < q.stations → j < q.width s → wires_cost (bit_wires q s j) ≤ 679 * q.capacity s + 167
-    bit_cost s j there within_width =
-        let a = two_costs (from_each (λ i. place s i j) 0 (q.capacity s + 1)) (from_each (λ i. moved s i j) 0 (q.capacity s)) in
-        let places = kind_cost 167 (λ i. place s i j) (λ i. place_cost s i j) 0 (q.capacity s + 1) in
-        let moves = kind_cost 512 (λ i. moved s i j) (λ i. moved_cost s i j there within_width) 0 (q.capacity s) in
-        omega arith
-
-    bits_cost : (s : ℕ) → s < q.stations → 2 ≤ q.capacity s → (k w : ℕ) → k + w ≤ q.width s → wires_cost (flat_map (bit_wires q s) (from_each (λ j. j) k w)) + 470 * q.capacity s + 928 ≤ 940 * (q.capacity s * (1 + w))
-    bits_cost s there room k zero inside = omega arith
-    bits_cost s there room k (suc w) inside =
-        let a = two_costs (bit_wires q s k) (flat_map (bit_wires q s) (from_each (λ j. j) (k + 1) w)) in
-        let here = bit_cost s k there (omega arith) in
-        let later = bits_cost s there room (k + 1) w (omega arith) in
-        let product = mul-suc (q.capacity s) (1 + w) in
-        omega arith
-
     -- with two ends and a mover
     pub station_cost : (s : ℕ) → s < q.stations → 2 ≤ q.capacity s → wires_cost (station_wires q s) + 678 ≤ 940 * (q.capacity s * (1 + q.width s))
     station_cost s there room =
-        let bits = flat_map (bit_wires q s) (from_each (λ j. j) 0 (q.width s)) in
-        let a = two_costs (from_each (level s) 0 (q.capacity s + 2)) (from_each (grown s) 1 (q.capacity s) ++ bits) in
-        let b = two_costs (from_each (grown s) 1 (q.capacity s)) bits in
-        let levels = kind_cost 125 (level s) (level_cost s) 0 (q.capacity s + 2) in
-        let grows = kind_cost 345 (grown s) (grown_cost s) 1 (q.capacity s) in
-        let all = bits_cost s there room 0 (q.width s) (omega arith) in
+        let all = station_weight wire_cost q s 125 345 167 512 (level_cost s) (grown_cost s) (place_cost s) (λ i j within. moved_cost s i j there within) in
+        let product : 2 * q.width s ≤ q.capacity s * q.width s = mul-le-mul_right (q.width s) room in
         omega arith
 
     pub stations_cost : ((s : ℕ) → 2 ≤ q.capacity s) → (k n : ℕ) → k + n ≤ q.stations → wires_cost (flat_map (station_wires q) (from_each (λ s. s) k n)) + 678 * n ≤ 940 * sum_by (λ s. q.capacity s * (1 + q.width s)) (from_each (λ s. s) k n)
-    stations_cost room k zero inside = omega arith
-    stations_cost room k (suc n) inside =
-        let a = two_costs (station_wires q k) (flat_map (station_wires q) (from_each (λ s. s) (k + 1) n)) in
-        let b = sum_by-cons (λ s. q.capacity s * (1 + q.width s)) k (from_each (λ s. s) (k + 1) n) in
-        let here = station_cost k (omega arith) (room k) in
-        let later = stations_cost room (k + 1) n (omega arith) in
-        omega arith
-
-    actor_cost : (v : ℕ) → wires_cost (actor_wires q v) ≤ 186 * length (ends q v) + 306
-    actor_cost v =
-        let a = two_costs (from_each (may v) 0 (length (ends q v) + 1)) (fire v ∷ []) in
-        let b = sum_by-cons wire_cost (fire v) [] in
-        let mays = kind_cost 186 (may v) (may_cost v) 0 (length (ends q v) + 1) in
-        let fires = fire_cost v in
+    stations_cost room k n inside =
+        let all = each_weight wire_cost (station_wires q) (λ s. q.capacity s * (1 + q.width s)) 678 940 0 k n (λ s low high. let here = station_cost s (omega arith) (room s) in omega arith) in
+        let same = sum_each (λ s. q.capacity s * (1 + q.width s)) (λ s. s) k n in
         omega arith
 
     pub actors_cost : (k n : ℕ) → wires_cost (flat_map (actor_wires q) (from_each (λ v. v) k n)) ≤ 186 * total (λ v. length (ends q v)) k n + 306 * n
-    actors_cost k zero = omega arith
-    actors_cost k (suc n) =
-        let a = two_costs (actor_wires q k) (flat_map (actor_wires q) (from_each (λ v. v) (k + 1) n)) in
-        let here = actor_cost k in
-        let later = actors_cost (k + 1) n in
+    actors_cost k n =
+        let all = each_weight wire_cost (actor_wires q) (λ v. length (ends q v)) 0 186 306 k n (λ v low high. let here = actor_weight wire_cost q v 186 120 (may_cost v) (fire_cost v) in omega arith) in
         omega arith
 
     -- where what is shown has a name that is no longer than others
@@ -261,7 +216,7 @@ module _ (q : Plan) (name : Wire → List ℕ) where
       pub outer_cost : wires_cost (outer_wires q) ≤ 149 * (q.inputs + length q.shows) + line_size (map name (from_each entry 0 q.inputs)) + line_size (map name (from_each shown 0 (length q.shows))) + 258
       outer_cost =
           let shown_ones = from_each shown 0 (length q.shows) in
-          let a = two_costs (from_each given 0 q.inputs) (steady false ∷ steady true ∷ valid ∷ stop ∷ shown_ones) in
+          let a = two_weights wire_cost (from_each given 0 q.inputs) (steady false ∷ steady true ∷ valid ∷ stop ∷ shown_ones) in
           let b = sum_by-cons wire_cost (steady false) (steady true ∷ valid ∷ stop ∷ shown_ones) in
           let c = sum_by-cons wire_cost (steady true) (valid ∷ stop ∷ shown_ones) in
           let d = sum_by-cons wire_cost valid (stop ∷ shown_ones) in

@@ -2,6 +2,7 @@ mod Sums
 pub mod Ports
 mod Columns
 mod Parts
+mod Weights
 mod Loads
 mod Shells
 mod Nodes

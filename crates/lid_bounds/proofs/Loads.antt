@@ -1,5 +1,5 @@
 -- The cells of wires outside of shells: each wire has one at most, with at most four rows.
-use Rattle.std.proofs.Common.{◌≡◌, ℕ, zero, suc, ◌+◌, ◌*◌, ◌≤◌, ◌==◌, ◌&&◌, nat_lt, not, Bool, true, false, cond, List, [], ◌∷◌, ◌++◌, length, map, Option, Some, None, slice_get, refl, mul-suc, arith}
+use Rattle.std.proofs.Common.{◌≡◌, ℕ, zero, suc, ◌+◌, ◌*◌, ◌≤◌, ◌==◌, ◌&&◌, nat_lt, not, Bool, true, false, cond, List, [], ◌∷◌, ◌++◌, length, map, Option, Some, None, slice_get, refl, mul-le-mul_right, arith}
 use Rattle.std.specs.Option.{option_map_or}
 use Rattle.std.specs.List.{flat_map, sum_by}
 use Rattle.std.proofs.lemmas.List.Sums.{sum_by-cons, sum_by-append}
@@ -12,9 +12,11 @@ use Rattle.lid_circuit.specs.Wires.{Wire, entry, given, offer, block, steady, ma
 use Rattle.lid_circuit.specs.Gates.{constant, buffer, negation, both, without, count, move}
 use Rattle.lid_circuit.specs.Plans.{Plan, ends}
 use Rattle.lid_circuit.specs.Network.{within, gate, flop, link, last_link, sink, firing, level_in, grown_in, place_in, moved_in, emitted}
-use Rattle.lid_wires.specs.Lists.{outer_wires, bit_wires, station_wires, actor_wires}
+use Rattle.lid_wires.specs.Lists.{outer_wires, station_wires, actor_wires}
 use Rattle.lid_named.specs.Named.{written, cell_of, cells_at}
 use Rattle.lid_acceptance.proofs.Totals.{total}
+use Rattle.lid_bounds.proofs.Sums.{sum_each}
+use Rattle.lid_bounds.proofs.Weights.{two_weights, kind_weight, each_weight, actor_weight, station_weight}
 
 -- 4 for a cell, and its rows
 abbrev pub load : Cell → ℕ
@@ -146,82 +148,36 @@ module _ (q : Plan) (name : Wire → List ℕ) where
       (within_load (moved s i j) (nat_lt i (q.capacity s)) (gate move (fire (q.drainer s) ∷ level s (suc i) ∷ place s i j ∷ level s (suc (suc i)) ∷ place s (suc i) j ∷ q.put s j ∷ []))
       (light (moved s i j) move (fire (q.drainer s) ∷ level s (suc i) ∷ place s i j ∷ level s (suc (suc i)) ∷ place s (suc i) j ∷ q.put s j ∷ []) (omega arith)))
 
-  -- so many wires of one kind
-  kind_load : (wire : ℕ → Wire) → ((j : ℕ) → wire_load (wire j) ≤ 8) → (k n : ℕ) → wires_load (from_each wire k n) ≤ 8 * n
-  kind_load wire each k zero = omega arith
-  kind_load wire each k (suc n) =
-      let whole = sum_by-cons wire_load (wire k) (from_each wire (k + 1) n) in
-      let here = each k in
-      let later = kind_load wire each (k + 1) n in
-      omega arith
-
-  two_loads : (xs ys : List Wire) → wires_load (xs ++ ys) ≡ wires_load xs + wires_load ys
-  two_loads xs ys = sum_by-append wire_load xs ys
-
   pub outer_load : wires_load (outer_wires q) ≤ 8 * (q.inputs + length q.shows + 4)
   outer_load =
       let shown_ones = from_each shown 0 (length q.shows) in
-      let a = two_loads (from_each given 0 q.inputs) (steady false ∷ steady true ∷ valid ∷ stop ∷ shown_ones) in
+      let a = two_weights wire_load (from_each given 0 q.inputs) (steady false ∷ steady true ∷ valid ∷ stop ∷ shown_ones) in
       let b = sum_by-cons wire_load (steady false) (steady true ∷ valid ∷ stop ∷ shown_ones) in
       let c = sum_by-cons wire_load (steady true) (valid ∷ stop ∷ shown_ones) in
       let d = sum_by-cons wire_load valid (stop ∷ shown_ones) in
       let e = sum_by-cons wire_load stop shown_ones in
-      let givens = kind_load given given_light 0 q.inputs in
-      let showns = kind_load shown shown_light 0 (length q.shows) in
+      let givens = kind_weight wire_load 8 given given_light 0 q.inputs in
+      let showns = kind_weight wire_load 8 shown shown_light 0 (length q.shows) in
       let no = steady_light false in
       let yes = steady_light true in
       let v = valid_light in
       let s = stop_light in
       omega arith
 
-  bit_load : (s j : ℕ) → wires_load (bit_wires q s j) ≤ 16 * q.capacity s + 8
-  bit_load s j =
-      let a = two_loads (from_each (λ i. place s i j) 0 (q.capacity s + 1)) (from_each (λ i. moved s i j) 0 (q.capacity s)) in
-      let places = kind_load (λ i. place s i j) (λ i. place_light s i j) 0 (q.capacity s + 1) in
-      let moves = kind_load (λ i. moved s i j) (λ i. moved_light s i j) 0 (q.capacity s) in
-      omega arith
-
   -- a bit has 2 wires for each token and one more, which with 6 and 2 for each are at most 5 for each
-  bits_load : (s : ℕ) → 2 ≤ q.capacity s → (k w : ℕ) → wires_load (flat_map (bit_wires q s) (from_each (λ j. j) k w)) + 16 * q.capacity s + 48 ≤ 40 * (q.capacity s * (1 + w))
-  bits_load s room k zero = omega arith
-  bits_load s room k (suc w) =
-      let a = two_loads (bit_wires q s k) (flat_map (bit_wires q s) (from_each (λ j. j) (k + 1) w)) in
-      let here = bit_load s k in
-      let later = bits_load s room (k + 1) w in
-      let product = mul-suc (q.capacity s) (1 + w) in
-      omega arith
-
   pub station_load : (s : ℕ) → 2 ≤ q.capacity s → wires_load (station_wires q s) + 32 ≤ 40 * (q.capacity s * (1 + q.width s))
   station_load s room =
-      let bits = flat_map (bit_wires q s) (from_each (λ j. j) 0 (q.width s)) in
-      let a = two_loads (from_each (level s) 0 (q.capacity s + 2)) (from_each (grown s) 1 (q.capacity s) ++ bits) in
-      let b = two_loads (from_each (grown s) 1 (q.capacity s)) bits in
-      let levels = kind_load (level s) (level_light s) 0 (q.capacity s + 2) in
-      let grows = kind_load (grown s) (grown_light s) 1 (q.capacity s) in
-      let all = bits_load s room 0 (q.width s) in
+      let all = station_weight wire_load q s 8 8 8 8 (level_light s) (grown_light s) (place_light s) (λ i j within. moved_light s i j) in
+      let product : 2 * q.width s ≤ q.capacity s * q.width s = mul-le-mul_right (q.width s) room in
       omega arith
 
   pub stations_load : ((s : ℕ) → 2 ≤ q.capacity s) → (k n : ℕ) → wires_load (flat_map (station_wires q) (from_each (λ s. s) k n)) + 32 * n ≤ 40 * sum_by (λ s. q.capacity s * (1 + q.width s)) (from_each (λ s. s) k n)
-  stations_load room k zero = omega arith
-  stations_load room k (suc n) =
-      let a = two_loads (station_wires q k) (flat_map (station_wires q) (from_each (λ s. s) (k + 1) n)) in
-      let b = sum_by-cons (λ s. q.capacity s * (1 + q.width s)) k (from_each (λ s. s) (k + 1) n) in
-      let here = station_load k (room k) in
-      let later = stations_load room (k + 1) n in
-      omega arith
-
-  actor_load : (v : ℕ) → wires_load (actor_wires q v) ≤ 8 * length (ends q v) + 16
-  actor_load v =
-      let a = two_loads (from_each (may v) 0 (length (ends q v) + 1)) (fire v ∷ []) in
-      let b = sum_by-cons wire_load (fire v) [] in
-      let mays = kind_load (may v) (may_light v) 0 (length (ends q v) + 1) in
-      let fires = fire_light v in
+  stations_load room k n =
+      let all = each_weight wire_load (station_wires q) (λ s. q.capacity s * (1 + q.width s)) 32 40 0 k n (λ s low high. let here = station_load s (room s) in omega arith) in
+      let same = sum_each (λ s. q.capacity s * (1 + q.width s)) (λ s. s) k n in
       omega arith
 
   pub actors_load : (k n : ℕ) → wires_load (flat_map (actor_wires q) (from_each (λ v. v) k n)) ≤ 8 * total (λ v. length (ends q v)) k n + 16 * n
-  actors_load k zero = omega arith
-  actors_load k (suc n) =
-      let a = two_loads (actor_wires q k) (flat_map (actor_wires q) (from_each (λ v. v) (k + 1) n)) in
-      let here = actor_load k in
-      let later = actors_load (k + 1) n in
+  actors_load k n =
+      let all = each_weight wire_load (actor_wires q) (λ v. length (ends q v)) 0 8 16 k n (λ v low high. let here = actor_weight wire_load q v 8 8 (may_light v) (fire_light v) in omega arith) in
       omega arith

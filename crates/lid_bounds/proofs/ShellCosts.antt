@@ -1,7 +1,7 @@
 -- How long the texts of the cells of a shell are at most.
-use Rattle.std.proofs.Common.{◌≡◌, ℕ, ◌+◌, ◌*◌, ◌<◌, ◌≤◌, Bool, true, false, not, cond, List, [], ◌∷◌, ◌++◌, length, map, inl, inr, refl, sym, ◌∙◌, ap, mul-le-mul_left, arith}
-use Rattle.std.specs.List.{AllByRecursion, flat_map, sum_by}
-use Rattle.std.proofs.lemmas.List.Sums.{sum_by-cons, sum_by-append}
+use Rattle.std.proofs.Common.{◌≡◌, ℕ, ◌+◌, ◌*◌, ◌<◌, ◌≤◌, Bool, true, false, not, List, [], ◌∷◌, ◌++◌, length, map, ap, mul-le-mul_left, arith}
+use Rattle.std.specs.List.{AllByRecursion, flat_map}
+use Rattle.std.proofs.lemmas.List.Sums.{sum_by-cons}
 use Rattle.lid_base.specs.Lists.{Among}
 use Rattle.lid_base.proofs.Lists.{all_among}
 use Rattle.lid_cover.specs.declared.Cover.{Cover}
@@ -16,10 +16,11 @@ use Rattle.lid_circuit.specs.Wires.{Wire, fire, now, kept, later}
 use Rattle.lid_circuit.specs.Gates.{choice}
 use Rattle.lid_circuit.specs.Plans.{Plan}
 use Rattle.lid_circuit.specs.Network.{within, gate, now_from, kept_from, later_from, emitted}
-use Rattle.lid_wires.specs.Lists.{latch_wires, cover_wires, shell_wires}
+use Rattle.lid_wires.specs.Lists.{shell_wires}
 use Rattle.lid_wires.specs.Connected.{IsConnected}
 use Rattle.lid_named.specs.Named.{written}
-use Rattle.lid_bounds.proofs.Parts.{cover_size, latch_size, flat_size}
+use Rattle.lid_bounds.proofs.Parts.{flat_size}
+use Rattle.lid_bounds.proofs.Weights.{shell_weight}
 use Rattle.lid_bounds.proofs.Shells.{sole, rows_written}
 use Rattle.lid_bounds.proofs.Costs.{most, all_most, costs, wire_cost, wires_cost, gate_cost}
 use Rattle.lid_bounds.proofs.Inner.{here_inner, after_inner}
@@ -95,48 +96,11 @@ module _ (q : Plan) (con : IsConnected q) (name : Wire → List ℕ) (v : ℕ) (
       let few = cover_gate (later v c.out) (not (q.skips v c.out)) c.cover (map (q.after v) c.ins) (length c.ins) (omega arith) is.width is.few (reads_most (q.after v) (after_inner q con name v) c.ins is.below) in
       omega arith
 
-  latch_cost : (l : FlatLatch) → Among l f.latches → wires_cost q name (latch_wires v l) ≤ 376
-  latch_cost l there =
-      let a = sum_by-cons (wire_cost q name) (now v l.out) (kept v l.out ∷ []) in
-      let b = sum_by-cons (wire_cost q name) (kept v l.out) [] in
-      let first = latch_now l there in
-      let second = latch_kept l there in
-      omega arith
+  latch_cost : (l : FlatLatch) → Among l f.latches → wire_cost q name (now v l.out) + wire_cost q name (kept v l.out) ≤ 376
+  latch_cost l there = let first = latch_now l there in let second = latch_kept l there in omega arith
 
-  cover_cost : (c : FlatCover) → Among c f.covers → wires_cost q name (cover_wires q v c) ≤ 376 * cover_size c
-  cover_cost c there = by (q.skips v c.out) refl
-    where
-      by : (b : Bool) → q.skips v c.out ≡ b → wires_cost q name (cond b [] (now v c.out ∷ later v c.out ∷ [])) ≤ 376 * cover_size c
-      by true e = omega arith
-      by false e =
-          let size : cover_size c ≡ 1 + length c.ins + length c.cover.cubes = ap (λ (b : Bool). cond {A = ℕ} b 0 (1 + length c.ins + length c.cover.cubes)) (sym (skips c there) ∙ e) in
-          let a = sum_by-cons (wire_cost q name) (now v c.out) (later v c.out ∷ []) in
-          let b = sum_by-cons (wire_cost q name) (later v c.out) [] in
-          let first = cover_now c there in
-          let second = cover_later c there in
-          omega arith
-
-  latches_cost : (ls : List FlatLatch) → ((l : FlatLatch) → Among l ls → Among l f.latches) → wires_cost q name (flat_map (latch_wires v) ls) ≤ 376 * sum_by latch_size ls
-  latches_cost [] inside = omega arith
-  latches_cost (l ∷ ls) inside =
-      let a = sum_by-append (wire_cost q name) (latch_wires v l) (flat_map (latch_wires v) ls) in
-      let b = sum_by-cons latch_size l ls in
-      let here = latch_cost l (inside l (inl refl)) in
-      let rest = latches_cost ls (λ x i. inside x (inr i)) in
-      omega arith
-
-  covers_cost : (cs : List FlatCover) → ((c : FlatCover) → Among c cs → Among c f.covers) → wires_cost q name (flat_map (cover_wires q v) cs) ≤ 376 * sum_by cover_size cs
-  covers_cost [] inside = omega arith
-  covers_cost (c ∷ cs) inside =
-      let a = sum_by-append (wire_cost q name) (cover_wires q v c) (flat_map (cover_wires q v) cs) in
-      let b = sum_by-cons cover_size c cs in
-      let here = cover_cost c (inside c (inl refl)) in
-      let rest = covers_cost cs (λ x i. inside x (inr i)) in
-      omega arith
+  cover_cost : (c : FlatCover) → Among c f.covers → wire_cost q name (now v c.out) + wire_cost q name (later v c.out) ≤ 376 * (1 + length c.ins + length c.cover.cubes)
+  cover_cost c there = let first = cover_now c there in let second = cover_later c there in omega arith
 
   pub shell_cost : wires_cost q name (shell_wires q v) ≤ 376 * flat_size f
-  shell_cost =
-      let a = sum_by-append (wire_cost q name) (flat_map (latch_wires v) f.latches) (flat_map (cover_wires q v) f.covers) in
-      let latches = latches_cost f.latches (λ l i. i) in
-      let covers = covers_cost f.covers (λ c i. i) in
-      omega arith
+  shell_cost = shell_weight (wire_cost q name) q v 376 skips latch_cost cover_cost

@@ -1,7 +1,6 @@
 -- The cells of a shell: two for each latch, and two for each cover that does not pass on its input.
-use Rattle.std.proofs.Common.{◌≡◌, ℕ, ◌+◌, ◌*◌, ◌≤◌, Bool, true, false, not, cond, List, [], ◌∷◌, ◌++◌, length, map, inl, inr, refl, sym, ◌∙◌, ap, arith}
-use Rattle.std.specs.List.{flat_map, sum_by}
-use Rattle.std.proofs.lemmas.List.Sums.{sum_by-cons, sum_by-append}
+use Rattle.std.proofs.Common.{◌≡◌, ℕ, ◌+◌, ◌*◌, ◌≤◌, Bool, true, false, not, List, [], ◌∷◌, ◌++◌, length, map, inl, inr, sym, ap, arith}
+use Rattle.std.specs.List.{flat_map}
 use Rattle.lid_base.specs.Lists.{Among}
 use Rattle.lid_cover.specs.declared.Cover.{Cover}
 use Rattle.lid_cover.specs.declared.Cube.{Cube}
@@ -15,9 +14,10 @@ use Rattle.lid_rules.specs.Buffers.{passes_on}
 use Rattle.lid_circuit.specs.Wires.{Wire, now, kept, later}
 use Rattle.lid_circuit.specs.Plans.{Plan}
 use Rattle.lid_circuit.specs.Network.{within, gate, now_from, kept_from, later_from, emitted}
-use Rattle.lid_wires.specs.Lists.{latch_wires, cover_wires, shell_wires}
+use Rattle.lid_wires.specs.Lists.{shell_wires}
 use Rattle.lid_named.specs.Named.{with_rows}
-use Rattle.lid_bounds.proofs.Parts.{cover_size, latch_size, flat_size}
+use Rattle.lid_bounds.proofs.Parts.{flat_size}
+use Rattle.lid_bounds.proofs.Weights.{shell_weight}
 use Rattle.lid_bounds.proofs.Loads.{wire_load, wires_load, driven, gate_load}
 
 alone : {A : Type 0} (xs : List A) (x : A) → length xs ≤ 1 → Among x xs → xs ≡ x ∷ []
@@ -71,48 +71,11 @@ module _ (q : Plan) (name : Wire → List ℕ) (v : ℕ) (flat : IsFlat (q.flat 
       let few = cover_gate (later v c.out) (not (q.skips v c.out)) c.cover (map (q.after v) c.ins) in
       omega arith
 
-  latch_load : (l : FlatLatch) → Among l f.latches → wires_load q name (latch_wires v l) ≤ 10
-  latch_load l there =
-      let a = sum_by-cons (wire_load q name) (now v l.out) (kept v l.out ∷ []) in
-      let b = sum_by-cons (wire_load q name) (kept v l.out) [] in
-      let first = latch_now l there in
-      let second = latch_kept l there in
-      omega arith
+  latch_load : (l : FlatLatch) → Among l f.latches → wire_load q name (now v l.out) + wire_load q name (kept v l.out) ≤ 10
+  latch_load l there = let first = latch_now l there in let second = latch_kept l there in omega arith
 
-  cover_load : (c : FlatCover) → Among c f.covers → wires_load q name (cover_wires q v c) ≤ 10 * cover_size c
-  cover_load c there = by (q.skips v c.out) refl
-    where
-      by : (b : Bool) → q.skips v c.out ≡ b → wires_load q name (cond b [] (now v c.out ∷ later v c.out ∷ [])) ≤ 10 * cover_size c
-      by true e = omega arith
-      by false e =
-          let size : cover_size c ≡ 1 + length c.ins + length c.cover.cubes = ap (λ (b : Bool). cond {A = ℕ} b 0 (1 + length c.ins + length c.cover.cubes)) (sym (skips c there) ∙ e) in
-          let a = sum_by-cons (wire_load q name) (now v c.out) (later v c.out ∷ []) in
-          let b = sum_by-cons (wire_load q name) (later v c.out) [] in
-          let first = cover_now c there in
-          let second = cover_later c there in
-          omega arith
-
-  latches_load : (ls : List FlatLatch) → ((l : FlatLatch) → Among l ls → Among l f.latches) → wires_load q name (flat_map (latch_wires v) ls) ≤ 10 * sum_by latch_size ls
-  latches_load [] inside = omega arith
-  latches_load (l ∷ ls) inside =
-      let a = sum_by-append (wire_load q name) (latch_wires v l) (flat_map (latch_wires v) ls) in
-      let b = sum_by-cons latch_size l ls in
-      let here = latch_load l (inside l (inl refl)) in
-      let rest = latches_load ls (λ x i. inside x (inr i)) in
-      omega arith
-
-  covers_load : (cs : List FlatCover) → ((c : FlatCover) → Among c cs → Among c f.covers) → wires_load q name (flat_map (cover_wires q v) cs) ≤ 10 * sum_by cover_size cs
-  covers_load [] inside = omega arith
-  covers_load (c ∷ cs) inside =
-      let a = sum_by-append (wire_load q name) (cover_wires q v c) (flat_map (cover_wires q v) cs) in
-      let b = sum_by-cons cover_size c cs in
-      let here = cover_load c (inside c (inl refl)) in
-      let rest = covers_load cs (λ x i. inside x (inr i)) in
-      omega arith
+  cover_load : (c : FlatCover) → Among c f.covers → wire_load q name (now v c.out) + wire_load q name (later v c.out) ≤ 10 * (1 + length c.ins + length c.cover.cubes)
+  cover_load c there = let first = cover_now c there in let second = cover_later c there in omega arith
 
   pub shell_load : wires_load q name (shell_wires q v) ≤ 10 * flat_size f
-  shell_load =
-      let a = sum_by-append (wire_load q name) (flat_map (latch_wires v) f.latches) (flat_map (cover_wires q v) f.covers) in
-      let latches = latches_load f.latches (λ l i. i) in
-      let covers = covers_load f.covers (λ c i. i) in
-      omega arith
+  shell_load = shell_weight (wire_load q name) q v 10 skips latch_load cover_load

@@ -1,5 +1,5 @@
 -- Sums of weights over numbers to which items belong.
-use Rattle.std.proofs.Common.{◌≡◌, ℕ, zero, suc, ◌+◌, ◌<◌, ◌≤◌, ◌==◌, Bool, true, false, cond, List, [], ◌∷◌, length, refl, ap, arith}
+use Rattle.std.proofs.Common.{◌≡◌, ℕ, zero, suc, ◌+◌, ◌*◌, ◌<◌, ◌≤◌, ◌==◌, Bool, true, false, cond, List, [], ◌∷◌, length, refl, ap, mul-le-mul_left, arith}
 use Rattle.std.specs.Prelude.{slice_get}
 use Rattle.std.specs.Option.{option_map_or}
 use Rattle.std.specs.List.{AllByRecursion, sum_by, count_by}
@@ -107,46 +107,24 @@ sum_each f g k (suc n) =
     let later = sum_each f g (k + 1) n in
     omega arith
 
-count_split : {A : Type 0} (p : A → Bool) (x : A) (xs : List A) → count_by p (x ∷ xs) ≡ cond {A = ℕ} (p x) 1 0 + count_by p xs
-count_split {A} p x xs = sum_by-cons (λ (y : A). cond {A = ℕ} (p y) 1 0) x xs
-
-weight_split : {A : Type 0} (p : A → Bool) (w : ℕ) (x : A) (xs : List A) → sum_by (λ y. cond (p y) w 0) (x ∷ xs) ≡ cond {A = ℕ} (p x) w 0 + sum_by (λ y. cond (p y) w 0) xs
-weight_split {A} p w x xs = sum_by-cons (λ (y : A). cond {A = ℕ} (p y) w 0) x xs
-
-none_where : {A : Type 0} (p : A → Bool) (w : ℕ) (xs : List A) → count_by p xs ≡ 0 → sum_by (λ x. cond (p x) w 0) xs ≡ 0
-none_where p w [] none = refl
-none_where p w (x ∷ xs) none = by (p x) refl (none_where p w xs)
+-- those that pass a test weigh one after the other
+weights_where : {A : Type 0} (p : A → Bool) (w : ℕ) (xs : List A) → sum_by (λ x. cond (p x) w 0) xs ≡ w * count_by p xs
+weights_where p w [] = omega arith
+weights_where {A} p w (x ∷ xs) =
+    let here = by (p x) in
+    let whole = sum_by-cons (λ (y : A). cond {A = ℕ} (p y) w 0) x xs in
+    let counted : count_by p (x ∷ xs) ≡ cond {A = ℕ} (p x) 1 0 + count_by p xs = sum_by-cons (λ (y : A). cond {A = ℕ} (p y) 1 0) x xs in
+    let scaled : w * count_by p (x ∷ xs) ≡ w * (cond {A = ℕ} (p x) 1 0 + count_by p xs) = ap (λ (n : ℕ). w * n) counted in
+    let later = weights_where p w xs in
+    omega arith
   where
-    by : (b : Bool) → p x ≡ b → (count_by p xs ≡ 0 → sum_by (λ y. cond (p y) w 0) xs ≡ 0) → sum_by (λ y. cond (p y) w 0) (x ∷ xs) ≡ 0
-    by true e next =
-        let one : cond {A = ℕ} (p x) 1 0 ≡ 1 = ap (λ (b : Bool). cond {A = ℕ} b 1 0) e in
-        let counted = count_split p x xs in
-        absurd (omega arith)
-    by false e next =
-        let one : cond {A = ℕ} (p x) 1 0 ≡ 0 = ap (λ (b : Bool). cond {A = ℕ} b 1 0) e in
-        let weight : cond {A = ℕ} (p x) w 0 ≡ 0 = ap (λ (b : Bool). cond {A = ℕ} b w 0) e in
-        let counted = count_split p x xs in
-        let whole = weight_split p w x xs in
-        let later = next (omega arith) in
-        omega arith
+    by : (b : Bool) → cond {A = ℕ} b w 0 ≡ w * cond {A = ℕ} b 1 0
+    by true = omega arith
+    by false = omega arith
 
 -- where one at most passes a test, those that do weigh no more than one
 pub sum_where : {A : Type 0} (p : A → Bool) (w : ℕ) (xs : List A) → count_by p xs ≤ 1 → sum_by (λ x. cond (p x) w 0) xs ≤ w
-sum_where p w [] few = omega arith
-sum_where p w (x ∷ xs) few = by (p x) refl (sum_where p w xs) (none_where p w xs)
-  where
-    by : (b : Bool) → p x ≡ b → (count_by p xs ≤ 1 → sum_by (λ y. cond (p y) w 0) xs ≤ w) → (count_by p xs ≡ 0 → sum_by (λ y. cond (p y) w 0) xs ≡ 0) → sum_by (λ y. cond (p y) w 0) (x ∷ xs) ≤ w
-    by true e next none =
-        let one : cond {A = ℕ} (p x) 1 0 ≡ 1 = ap (λ (b : Bool). cond {A = ℕ} b 1 0) e in
-        let weight : cond {A = ℕ} (p x) w 0 ≡ w = ap (λ (b : Bool). cond {A = ℕ} b w 0) e in
-        let counted = count_split p x xs in
-        let whole = weight_split p w x xs in
-        let later = none (omega arith) in
-        omega arith
-    by false e next none =
-        let one : cond {A = ℕ} (p x) 1 0 ≡ 0 = ap (λ (b : Bool). cond {A = ℕ} b 1 0) e in
-        let weight : cond {A = ℕ} (p x) w 0 ≡ 0 = ap (λ (b : Bool). cond {A = ℕ} b w 0) e in
-        let counted = count_split p x xs in
-        let whole = weight_split p w x xs in
-        let later = next (omega arith) in
-        omega arith
+sum_where p w xs few =
+    let all = weights_where p w xs in
+    let most : w * count_by p xs ≤ w * 1 = mul-le-mul_left w few in
+    omega arith

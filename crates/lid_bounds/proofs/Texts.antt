@@ -1,5 +1,5 @@
 -- The text of a wrapped system, by the size.
-use Rattle.std.proofs.Common.{◌≡◌, ℕ, zero, suc, ◌+◌, ◌*◌, ◌≤◌, List, [], ◌∷◌, ◌++◌, length, map, None, inl, inr, refl, sym, ◌∙◌, ap, subst, append-nil, arith}
+use Rattle.std.proofs.Common.{◌≡◌, ℕ, ◌+◌, ◌*◌, ◌≤◌, List, [], ◌∷◌, ◌++◌, length, map, None, inl, inr, refl, sym, ◌∙◌, ap, subst, append-nil, arith}
 use Rattle.std.specs.Prelude.{codes}
 use Rattle.std.specs.List.{flat_map, sum_by}
 use Rattle.std.proofs.lemmas.List.{map-append}
@@ -24,7 +24,7 @@ use Rattle.lid_circuit.specs.Plans.{Plan}
 use Rattle.lid_circuit.specs.Network.{emitted}
 use Rattle.lid_wires.specs.Known.{IsKnown}
 use Rattle.lid_wires.specs.Connected.{IsConnected}
-use Rattle.lid_wires.specs.Lists.{outer_wires, station_wires, actor_wires, shell_wires, wires}
+use Rattle.lid_wires.specs.Lists.{shell_wires, wires}
 use Rattle.lid_wrapped.specs.Nets.{Nets, AreNets}
 use Rattle.lid_wrapped.specs.Wrapping.{plan_of}
 use Rattle.lid_named.specs.Named.{written, init_of, cell_of, cells_at, input_wires, output_wires, named_model, named_design}
@@ -40,6 +40,7 @@ use Rattle.lid_bounds.specs.Laws.{plan_cells}
 use Rattle.lid_bounds.proofs.Ports.{as_many_inputs, as_many_outputs}
 use Rattle.lid_bounds.proofs.Lines.{line_size, lines_size, lines_two, lines_more, cell_text, names_text, latch_text, cells_text}
 use Rattle.lid_bounds.proofs.Costs.{most, all_most, cost, costs, wire_cost, wires_cost, stations_cost, actors_cost, outer_cost}
+use Rattle.lid_bounds.proofs.Weights.{each_weight, all_weights}
 use Rattle.lid_bounds.proofs.Inner.{put_inner, shows_inner}
 use Rattle.lid_bounds.proofs.ShellCosts.{shell_cost}
 use Rattle.lid_bounds.proofs.Nodes.{connected, ports_few, room, relays_few, ends_few, shell_at, node_few, node_skips, shells_few, pearls_few}
@@ -138,12 +139,7 @@ module _ (d : Design) (s : System) (p : Placement) (n : Nets) (name : Wire → L
       omega arith
 
   nodes_cost : (k m : ℕ) → wires_cost q name (flat_map (shell_wires q) (from_each (λ v. v) k m)) ≤ 376 * total (shell_at d s p n of well fits nets flats skips) k m
-  nodes_cost k zero = omega arith
-  nodes_cost k (suc m) =
-      let a = sum_by-append (wire_cost q name) (shell_wires q k) (flat_map (shell_wires q) (from_each (λ v. v) (k + 1) m)) in
-      let here = node_cost k in
-      let later = nodes_cost (k + 1) m in
-      omega arith
+  nodes_cost k m = let all = each_weight (wire_cost q name) (shell_wires q) (shell_at d s p n of well fits nets flats skips) 0 376 0 k m (λ v low high. let here = node_cost v in omega arith) in omega arith
 
   entries : line_size (map name (from_each entry 0 q.inputs)) ≡ line_size (root_inputs d)
   entries = ap (λ (m : ℕ). line_size (map name (from_each entry 0 m))) (as_many_inputs d s p n of well) ∙ ap line_size ports.inputs
@@ -184,12 +180,7 @@ module _ (d : Design) (s : System) (p : Placement) (n : Nets) (name : Wire → L
   parts_cost : wires_cost q name (wires q) + ports_size d ≤ 940 * size d (links_of s) p + 900
   unfolding size
   parts_cost =
-      let stations = flat_map (station_wires q) (from_each (λ s. s) 0 q.stations) in
-      let actors = flat_map (actor_wires q) (from_each (λ v. v) 0 q.actors) in
-      let shells = flat_map (shell_wires q) (from_each (λ v. v) 0 q.nodes) in
-      let a = sum_by-append (wire_cost q name) (outer_wires q) (stations ++ (actors ++ shells)) in
-      let b = sum_by-append (wire_cost q name) stations (actors ++ shells) in
-      let c = sum_by-append (wire_cost q name) actors shells in
+      let parts = all_weights (wire_cost q name) q in
       let outer = outer_cost q name (put_inner q con name) (shows_inner q con name) in
       let count = ports_few d s p n of well fits nets flats skips in
       let sizes_of_names = names_size in

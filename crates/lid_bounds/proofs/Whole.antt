@@ -1,6 +1,5 @@
 -- All cells of a wrapped system, by the size.
-use Rattle.std.proofs.Common.{◌≡◌, ℕ, zero, suc, ◌+◌, ◌*◌, ◌≤◌, List, ◌++◌, flat_map, refl, arith}
-use Rattle.std.proofs.lemmas.List.Sums.{sum_by-append}
+use Rattle.std.proofs.Common.{◌≡◌, ℕ, ◌+◌, ◌*◌, ◌≤◌, List, flat_map, refl, arith}
 use Rattle.lid_design.specs.declared.Design.{Design}
 use Rattle.lid_design.specs.Network.{from_each}
 use Rattle.lid_system.specs.declared.System.{System}
@@ -10,7 +9,7 @@ use Rattle.lid_stations.specs.declared.placement.Placement.{Placement}
 use Rattle.lid_stations.specs.Placements.{links_of, Fits}
 use Rattle.lid_circuit.specs.Wires.{Wire}
 use Rattle.lid_circuit.specs.Plans.{Plan}
-use Rattle.lid_wires.specs.Lists.{outer_wires, station_wires, actor_wires, shell_wires, wires}
+use Rattle.lid_wires.specs.Lists.{shell_wires, wires}
 use Rattle.lid_wrapped.specs.Nets.{Nets, AreNets}
 use Rattle.lid_wrapped.specs.Wrapping.{plan_of}
 use Rattle.lid_named.specs.Named.{cells_at}
@@ -20,6 +19,7 @@ use Rattle.lid_emitted.specs.Flats.{AreFlatsOf}
 use Rattle.lid_emission.specs.Sizes.{size}
 use Rattle.lid_bounds.specs.Passing.{SkipBuffers}
 use Rattle.lid_bounds.specs.Laws.{plan_cells, AreFew}
+use Rattle.lid_bounds.proofs.Weights.{each_weight, all_weights}
 use Rattle.lid_bounds.proofs.Loads.{load, loads, loaded, wire_load, wires_load, outer_load, stations_load, actors_load}
 use Rattle.lid_bounds.proofs.Shells.{shell_load}
 use Rattle.lid_bounds.proofs.Nodes.{connected, ports_few, room, relays_few, ends_few, shell_at, node_few, node_skips, shells_few, pearls_few}
@@ -36,12 +36,7 @@ module _ (d : Design) (s : System) (p : Placement) (n : Nets) (name : Wire → L
       omega arith
 
   nodes_load : (k m : ℕ) → wires_load q name (flat_map (shell_wires q) (from_each (λ v. v) k m)) ≤ 10 * total (shell_at d s p n of well fits nets flats skips) k m
-  nodes_load k zero = omega arith
-  nodes_load k (suc m) =
-      let a = sum_by-append (wire_load q name) (shell_wires q k) (flat_map (shell_wires q) (from_each (λ v. v) (k + 1) m)) in
-      let here = node_load k in
-      let later = nodes_load (k + 1) m in
-      omega arith
+  nodes_load k m = let all = each_weight (wire_load q name) (shell_wires q) (shell_at d s p n of well fits nets flats skips) 0 10 0 k m (λ v low high. let here = node_load v in omega arith) in omega arith
 
   all_loads : loads (plan_cells q name) ≡ wires_load q name (wires q)
   all_loads = sum_flat load (cells_at q name) (wire_load q name) (wires q) (λ w i. refl)
@@ -49,12 +44,7 @@ module _ (d : Design) (s : System) (p : Placement) (n : Nets) (name : Wire → L
   parts_load : wires_load q name (wires q) ≤ 40 * size d (links_of s) p + 64
   unfolding size
   parts_load =
-      let stations = flat_map (station_wires q) (from_each (λ s. s) 0 q.stations) in
-      let actors = flat_map (actor_wires q) (from_each (λ v. v) 0 q.actors) in
-      let shells = flat_map (shell_wires q) (from_each (λ v. v) 0 q.nodes) in
-      let a = sum_by-append (wire_load q name) (outer_wires q) (stations ++ (actors ++ shells)) in
-      let b = sum_by-append (wire_load q name) stations (actors ++ shells) in
-      let c = sum_by-append (wire_load q name) actors shells in
+      let parts = all_weights (wire_load q name) q in
       let outer = outer_load q name in
       let ports = ports_few d s p n of well fits nets flats skips in
       let at_stations = stations_load q name (room d s p n of well fits nets flats skips) 0 q.stations in

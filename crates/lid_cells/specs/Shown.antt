@@ -1,8 +1,9 @@
 -- What wires and ports of the program stand for.
-use Rattle.std.specs.Prelude.{ℕ, ◌+◌, Bool, List, [], ◌++◌, flat_map}
+use Rattle.std.specs.Prelude.{ℕ, ◌+◌, Bool, true, List, [], ◌++◌, length, map, flat_map}
 use Rattle.lid_circuit.specs.Wires as circuit
 use Rattle.lid_wirenames.specs.Spelling as spelling
 use Rattle.lid_emission.specs.Ports.{offer_name, block_name, valid_name, stop_name}
+use Rattle.lid_cover.specs.declared.Cube.{Cube}
 use Rattle.lid_design.specs.declared.Cell.{Cell}
 use Rattle.lid_design.specs.declared.Cell.TheVariants.{Names}
 use Rattle.lid_design.specs.Network.{from_each}
@@ -46,6 +47,10 @@ name_by naming wire = spelling.name_of (ports_of naming.inputs.now naming.output
 -- the cells of a wire of a plan
 abbrev pub cells_by : Plan → Naming → circuit.Wire → List Cell
 cells_by q naming wire = cells_at q (name_by naming) wire
+
+-- a cell that drives a wire where some of these cubes agrees with the wires that it reads
+abbrev pub gate_cell : Naming → Wire → List Wire → List Cube → Cell
+gate_cell naming wire reads cubes = Names (map (λ read. name_by naming (wire_of read)) reads) (name_by naming (wire_of wire)) (record { inputs = length reads; on = true; cubes = cubes })
 
 -- a cell that drives a wire with a constant
 abbrev pub constant_cell : Naming → Wire → Bool → Cell

@@ -10,7 +10,7 @@ ghost use Rattle.lid_wires.specs.Lists.{actor_wires};
 ghost use Rattle.lid_cells.specs.Shown.{cells_by};
 ghost use Rattle.lid_cells.specs.Matches.{IsActorOf};
 
-use crate::cell::{cover_cell, cover_of};
+use crate::cell::push_gate;
 use crate::names::Naming;
 use crate::station::push_constant;
 use crate::wire::Wire;
@@ -47,10 +47,9 @@ fn push_drain(
     requires end { slice_get actor.now.ins i ≡ Some station }
     ensures { OnOk result ((q : Plan) → IsActorOf q v actor.now → cells.new.items ≡ cells.old.items ++ cells_by q naming.entry (may v (i + 1))) }
 {
-    let cover = cover_of(alloc, 2, &[Cube { care: 3, value: 3 }])?;
     let reads = [Wire::May(v, i), Wire::Level(station, 1)];
-    cells.push(cover_cell(alloc, naming, Wire::May(v, i + 1), &reads, cover)?)?;
-    Ok(())
+    let cubes = [Cube { care: 3, value: 3 }];
+    push_gate(alloc, naming, Wire::May(v, i + 1), &reads, &cubes, cells)
 }
 
 /// Pushes the link of a later end of an actor, which fills the i-th of its stations.
@@ -68,10 +67,9 @@ fn push_fill(
     ensures { OnOk result ((q : Plan) → IsActorOf q v actor.now → cells.new.items ≡ cells.old.items ++ cells_by q naming.entry (may v (length actor.now.ins + i + 1))) }
 {
     let end = actor.ins.len() as u32 + i;
-    let cover = cover_of(alloc, 2, &[Cube { care: 3, value: 1 }])?;
     let reads = [Wire::May(v, end), Wire::Level(fill.station, fill.capacity)];
-    cells.push(cover_cell(alloc, naming, Wire::May(v, end + 1), &reads, cover)?)?;
-    Ok(())
+    let cubes = [Cube { care: 3, value: 1 }];
+    push_gate(alloc, naming, Wire::May(v, end + 1), &reads, &cubes, cells)
 }
 
 /// Pushes the wire of an actor that fires; `last` says whether it is the sink.
@@ -89,18 +87,16 @@ fn push_fire(
     let may = Wire::May(v, actor.ins.len() as u32 + actor.outs.len() as u32);
     let wire = Wire::Fire(v);
     if v == 0 {
-        let cover = cover_of(alloc, 2, &[Cube { care: 3, value: 3 }])?;
-        cells.push(cover_cell(alloc, naming, wire, &[may, Wire::Offer], cover)?)?;
-        return Ok(());
+        let both = [Cube { care: 3, value: 3 }];
+        return push_gate(alloc, naming, wire, &[may, Wire::Offer], &both, cells);
     }
     if last {
-        let cover = cover_of(alloc, 2, &[Cube { care: 3, value: 1 }])?;
-        cells.push(cover_cell(alloc, naming, wire, &[may, Wire::Block], cover)?)?;
-        return Ok(());
+        let without = [Cube { care: 3, value: 1 }];
+        return push_gate(alloc, naming, wire, &[may, Wire::Block], &without, cells);
     }
-    let cover = cover_of(alloc, 1, &[Cube { care: 1, value: 1 }])?;
-    cells.push(cover_cell(alloc, naming, wire, &[may], cover)?)?;
-    Ok(())
+    let reads = [may];
+    let cubes = [Cube { care: 1, value: 1 }];
+    push_gate(alloc, naming, wire, &reads, &cubes, cells)
 }
 
 /// Pushes the links of an actor, from the first, which always holds.

@@ -1,11 +1,11 @@
 //! Cells that drive wires.
 
-ghost use Rattle.std.specs.Prelude.{◌≡◌, [], true, map, IfOk, None};
+ghost use Rattle.std.specs.Prelude.{◌≡◌, ◌<◌, ◌^◌, ◌++◌, ◌∷◌, [], true, length, map, IfOk, OnOk, None};
 ghost use Rattle.lid_cover.specs.declared.Cover.{Cover};
 ghost use Rattle.lid_design.specs.declared.Cell.TheVariants.{Names, Latch};
 ghost use Rattle.lid_design.specs.declared.LatchKind.TheVariants.{Plain};
 ghost use Rattle.lid_named.specs.Named.{written, init_of};
-ghost use Rattle.lid_cells.specs.Shown.{name_in};
+ghost use Rattle.lid_cells.specs.Shown.{name_in, gate_cell};
 
 use crate::names::{Naming, wire_name};
 use crate::wire::Wire;
@@ -78,6 +78,23 @@ pub fn cover_of(alloc: Global, inputs: u32, cubes: &[Cube]) -> Result<Cover, All
         on: true,
         cubes: Items::from_vec(cubes),
     })
+}
+
+/// Pushes a cell that drives a wire where some of these cubes agrees with the wires that it reads.
+pub(crate) fn push_gate(
+    alloc: Global,
+    naming: Naming<'_>,
+    wire: Wire,
+    reads: &[Wire],
+    cubes: &[Cube],
+    cells: &mut Vec<Cell>,
+) -> Result<(), AllocError>
+    requires { length reads.now < 2 ^ 32 }
+    ensures { OnOk result (cells.new.items ≡ cells.old.items ++ gate_cell naming.entry wire reads.now cubes.now ∷ []) }
+{
+    let cover = cover_of(alloc, reads.len() as u32, cubes)?;
+    cells.push(cover_cell(alloc, naming, wire, reads, cover)?)?;
+    Ok(())
 }
 
 /// A cover of the same values that can be written.

@@ -8,7 +8,7 @@ ghost use Rattle.lid_wires.specs.Lists.{outer_wires};
 ghost use Rattle.lid_cells.specs.Shown.{cells_by};
 ghost use Rattle.lid_cells.specs.Matches.{IsOuterOf};
 
-use crate::cell::{cover_cell, cover_of};
+use crate::cell::push_gate;
 use crate::names::Naming;
 use crate::station::push_constant;
 use crate::wire::Wire;
@@ -39,9 +39,9 @@ fn push_given(
     requires { j < outer.now.inputs }
     ensures { OnOk result ((q : Plan) → IsOuterOf q outer.now → cells.new.items ≡ cells.old.items ++ cells_by q naming.entry (circuit.given j)) }
 {
-    let cover = cover_of(alloc, 1, &[Cube { care: 1, value: 1 }])?;
-    cells.push(cover_cell(alloc, naming, Wire::Given(j), &[Wire::Entry(j)], cover)?)?;
-    Ok(())
+    let reads = [Wire::Entry(j)];
+    let cubes = [Cube { care: 1, value: 1 }];
+    push_gate(alloc, naming, Wire::Given(j), &reads, &cubes, cells)
 }
 
 /// Pushes a data output.
@@ -57,9 +57,8 @@ fn push_shown(
     ensures { OnOk result ((q : Plan) → IsOuterOf q outer.now → cells.new.items ≡ cells.old.items ++ cells_by q naming.entry (circuit.shown j)) }
 {
     let reads = [Wire::May(outer.last, outer.last_ends), wire];
-    let cover = cover_of(alloc, 2, &[Cube { care: 3, value: 3 }])?;
-    cells.push(cover_cell(alloc, naming, Wire::Shown(j), &reads, cover)?)?;
-    Ok(())
+    let cubes = [Cube { care: 3, value: 3 }];
+    push_gate(alloc, naming, Wire::Shown(j), &reads, &cubes, cells)
 }
 
 /// Pushes what tells that a row is offered.
@@ -72,9 +71,8 @@ fn push_valid(
     ensures { OnOk result ((q : Plan) → IsOuterOf q outer.now → cells.new.items ≡ cells.old.items ++ cells_by q naming.entry circuit.valid) }
 {
     let reads = [Wire::May(outer.last, outer.last_ends)];
-    let cover = cover_of(alloc, 1, &[Cube { care: 1, value: 1 }])?;
-    cells.push(cover_cell(alloc, naming, Wire::Valid, &reads, cover)?)?;
-    Ok(())
+    let cubes = [Cube { care: 1, value: 1 }];
+    push_gate(alloc, naming, Wire::Valid, &reads, &cubes, cells)
 }
 
 /// Pushes what tells that no row is taken.
@@ -87,9 +85,8 @@ fn push_stop(
     ensures { OnOk result ((q : Plan) → IsOuterOf q outer.now → cells.new.items ≡ cells.old.items ++ cells_by q naming.entry circuit.stop) }
 {
     let reads = [Wire::May(0, outer.first_ends)];
-    let cover = cover_of(alloc, 1, &[Cube { care: 1, value: 0 }])?;
-    cells.push(cover_cell(alloc, naming, Wire::Stop, &reads, cover)?)?;
-    Ok(())
+    let cubes = [Cube { care: 1, value: 0 }];
+    push_gate(alloc, naming, Wire::Stop, &reads, &cubes, cells)
 }
 
 /// Pushes all data inputs.

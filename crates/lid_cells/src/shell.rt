@@ -12,7 +12,7 @@ ghost use Rattle.lid_wires.specs.Lists.{latch_wires, cover_wires, shell_wires};
 ghost use Rattle.lid_cells.specs.Shown.{wire_of, name_by, cells_by};
 ghost use Rattle.lid_cells.specs.Matches.{AreWires, IsShellOf, IsWhole};
 
-use crate::cell::{copy_cover, cover_cell, cover_of, latch_cell};
+use crate::cell::{copy_cover, cover_cell, latch_cell, push_gate};
 use crate::names::Naming;
 use crate::wire::Wire;
 use lid_base::Items;
@@ -68,9 +68,8 @@ fn push_latch(
     let input = wire_at(shell.here.as_slice(), latch.input);
     cells.push(latch_cell(alloc, naming, now, latch.init, kept)?)?;
     let cubes = [Cube { care: 3, value: 3 }, Cube { care: 5, value: 4 }];
-    let cover = cover_of(alloc, 3, &cubes)?;
-    cells.push(cover_cell(alloc, naming, kept, &[Wire::Fire(v), input, now], cover)?)?;
-    Ok(())
+    let reads = [Wire::Fire(v), input, now];
+    push_gate(alloc, naming, kept, &reads, &cubes, cells)
 }
 
 /// Pushes a cover that drives a wire of a net, by the wires of the nets that it reads.

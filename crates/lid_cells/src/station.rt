@@ -9,7 +9,7 @@ ghost use Rattle.lid_cells.specs.Shown.{wire_of, cells_by, constant_cell, bit_ce
 ghost use Rattle.lid_wires.specs.Lists.{station_wires};
 ghost use Rattle.lid_cells.specs.Matches.{IsStationOf};
 
-use crate::cell::{cover_cell, cover_of, latch_cell};
+use crate::cell::{latch_cell, push_gate};
 use crate::names::Naming;
 use crate::wire::Wire;
 use lid_base::Items;
@@ -47,13 +47,11 @@ pub fn push_constant(
 ) -> Result<(), AllocError>
     ensures { OnOk result (cells.new.items ≡ cells.old.items ++ constant_cell naming.entry wire bit ∷ []) }
 {
-    let cover = if bit {
-        cover_of(alloc, 0, &[Cube { care: 0, value: 0 }])?
-    } else {
-        cover_of(alloc, 0, &[])?
-    };
-    cells.push(cover_cell(alloc, naming, wire, &[], cover)?)?;
-    Ok(())
+    if bit {
+        let cubes = [Cube { care: 0, value: 0 }];
+        return push_gate(alloc, naming, wire, &[], &cubes, cells);
+    }
+    push_gate(alloc, naming, wire, &[], &[], cells)
 }
 
 /// Pushes the lowest level of a station, which it always reaches.
@@ -142,9 +140,7 @@ fn push_grown(
         Wire::Level(s, i + 1),
         Wire::Level(s, i + 2),
     ];
-    let cover = cover_of(alloc, 5, &cubes)?;
-    cells.push(cover_cell(alloc, naming, Wire::Grown(s, i + 1), &reads, cover)?)?;
-    Ok(())
+    push_gate(alloc, naming, Wire::Grown(s, i + 1), &reads, &cubes, cells)
 }
 
 /// Pushes what the levels of a station take.
@@ -223,9 +219,7 @@ fn push_moved(
         Wire::Place(s, i + 1, j),
         put,
     ];
-    let cover = cover_of(alloc, 6, &cubes)?;
-    cells.push(cover_cell(alloc, naming, Wire::Moved(s, i, j), &reads, cover)?)?;
-    Ok(())
+    push_gate(alloc, naming, Wire::Moved(s, i, j), &reads, &cubes, cells)
 }
 
 /// Pushes bit j of all places of a station, and what becomes of it.

@@ -1,14 +1,12 @@
 -- What a trial shows: that a ratio is kept, or a closed walk that lowers it.
-use Rattle.std.proofs.Common.{◌≡◌, ℕ, zero, suc, ◌+◌, ◌-◌, ◌*◌, ◌<◌, ◌≤◌, ◌⊎◌, inl, inr, Bool, true, false, List, [], ◌∷◌, length, IsTrue, Option, Some, None, refl, sym, ◌∙◌, ap, subst, arith}
+use Rattle.std.proofs.Common.{◌≡◌, ℕ, ◌+◌, ◌-◌, ◌*◌, ◌<◌, ◌≤◌, ◌⊎◌, inl, inr, Bool, true, false, List, length, IsTrue, Option, Some, sym, ◌∙◌, ap, subst, arith}
 use Rattle.std.specs.List.{All}
-use Rattle.std.specs.Option.{MatchOption}
-use Rattle.std.proofs.lemmas.Bool.{cases_eq, cases_lt}
+use Rattle.std.proofs.lemmas.Bool.{cases_lt}
 use Rattle.std.proofs.lemmas.List.{get_or_default}
 use Rattle.lid_graph.specs.Rateable.{IsRateable}
 use Rattle.lid_graph.specs.declared.graph.Graph.{Graph}
-use Rattle.lid_graph.specs.Walks.{edge_at, IsPaired, IsWalk, IsJoined, walk_start, walk_tokens}
-use Rattle.lid_graph.specs.Ratios.{IsClosedWalkNear, IsRatio}
-use Rattle.lid_graph.proofs.Journeys.{joined_step, joined_back}
+use Rattle.lid_graph.specs.Walks.{IsPaired, walk_tokens}
+use Rattle.lid_graph.specs.Ratios.{IsRatio}
 use Rattle.lid_system.specs.declared.System.{System}
 use Rattle.lid_system.specs.Systems.{IsWellFormed}
 use Rattle.lid_ratio.specs.declared.lowest_terms.Ratio.{Ratio}
@@ -21,11 +19,10 @@ use Rattle.lid_stations.proofs.Alive.{rateable}
 use Rattle.lid_cert.specs.declared.cert.Part.{Part}
 use Rattle.lid_cert.specs.declared.cert.Cert.{Cert}
 use Rattle.lid_cert.specs.Laws.{Shows}
-use Rattle.lid_cert.proofs.Consequences.{each_is_shown, ratio_is_shown}
+use Rattle.lid_cert.proofs.Consequences.{cycle_near, each_is_shown, ratio_is_shown}
 use Rattle.lid_rate.specs.Rates.{IsExact}
-use Rattle.lid_cert.specs.Certificates.{Certifies, has_node, depth_of, via_of, IsPart, IsVia}
+use Rattle.lid_cert.specs.Certificates.{Certifies, has_node, IsPart}
 use Rattle.lid_cert.specs.Owners.{no_part, part_at}
-use Rattle.lid_cert.proofs.Parts.{node_met}
 use Rattle.lid_longer.specs.Longer.{longer, longer_marking, producer, room, KeepsAt, KeepsRatio}
 use Rattle.lid_longer.proofs.Kept.{longer_fits, none_keep, fewer_keep}
 use Rattle.lid_slack.specs.declared.answer.Slack.{Slack}
@@ -33,32 +30,6 @@ use Rattle.lid_slack.specs.declared.certified.Certified.{Certified}
 use Rattle.lid_slack.specs.Slack.{IsCertified, IsSlack, IsAgainst, IsTold}
 use Rattle.lid_slack.specs.Trials.{CanTry, IsTrial, IsPresent, IsMost, IsBetween, IsFound}
 use Rattle.lid_slack.proofs.Ratios.{keeps_lower, exact_below, below_higher, ratio_keeps, keeps_ratio, one_ratio}
-
--- a walk leads from where the closed walk of a part starts to each of its transitions
-module _ (g : Graph) (part : Part) (meets : IsPart g part) where
-  abbrev JoinsBelow : ℕ → Type 0
-  JoinsBelow d = (u : ℕ) → depth_of part u < d → has_node part u ≡ true → IsJoined g (walk_start g part.cycle) u
-
-  joins_below : (d v : ℕ) → depth_of part v < d → has_node part v ≡ true → IsJoined g (walk_start g part.cycle) v
-  joins_below zero v h inside = absurd (omega arith)
-  joins_below (suc d) v h inside = by_start (λ u deep begins. joins_below d u deep begins) (cases_eq v (walk_start g part.cycle))
-    where
-      by_via : JoinsBelow d → (o : Option ℕ) → MatchOption o ⊥ (IsVia g part v) → IsJoined g (walk_start g part.cycle) v
-      by_via earlier None none = absurd none
-      by_via earlier (Some i) via =
-          let deep : depth_of part (edge_at g i).from < d = omega (arith, via.depth) in
-          let edge : IsWalk g (edge_at g i).from (i ∷ []) v = (via.within, refl, via.ends) in
-          joined_step g (walk_start g part.cycle) (edge_at g i).from v (earlier (edge_at g i).from deep via.begins) (i ∷ [], edge)
-
-      by_start : JoinsBelow d → (v ≡ walk_start g part.cycle) ⊎ (v ≡ walk_start g part.cycle → ⊥) → IsJoined g (walk_start g part.cycle) v
-      by_start earlier (inl is) = ([], sym is)
-      by_start earlier (inr other) = by_via earlier (via_of part v) (node_met g part meets v (walk_start g part.cycle) refl inside other)
-
-  -- so the closed walk is one of the component
-  part_walk_near : IsPaired g → (v : ℕ) → has_node part v ≡ true → IsClosedWalkNear g v part.cycle
-  part_walk_near paired v inside =
-      let there = joins_below (suc (depth_of part v)) v (omega arith) inside in
-      (meets.inside.walk, joined_back g paired there.0 (walk_start g part.cycle) v there.1)
 
 -- some part has each transition
 pub some_part : (g : Graph) (cert : Cert) (v : ℕ) → IsPaired g → Certifies g cert → v < g.nodes → ((k : ℕ) → k < length cert.parts → has_node (part_at cert.parts k) v ≡ false) → ⊥
@@ -189,7 +160,7 @@ module _ (s : System) (p : Placement) (c a b : ℕ) (present : IsPresent s p c a
         let tokens : here.q * walk_tokens g here.cycle ≡ here.p * length here.cycle = (let e = meets.inside.ratio in omega arith) in
         let some : 0 < length here.cycle = meets.inside.walk.some in
         record {
-          near = part_walk_near g here meets paired v trial.stands;
+          near = cycle_near g here meets paired v trial.stands;
           least = λ ks near. (let bound = ratio_here.all ks near in let h = keeps_lower here.p here.q (walk_tokens g here.cycle) (length here.cycle) (length ks) (walk_tokens g ks) ratio_here.positive (omega arith) bound in omega arith);
           below = λ d e other.
               (let lower : b * walk_tokens g here.cycle < a * length here.cycle = exact_below here.p here.q a b (length here.cycle) (walk_tokens g here.cycle) tokens some less in

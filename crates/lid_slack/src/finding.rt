@@ -12,7 +12,7 @@ ghost use Rattle.lid_slack.specs.Trials.{CanTry, IsPresent, IsMost, IsFound};
 use crate::answer::{Slack, SlackAndNext};
 use crate::bisection::bisect;
 use crate::certified::{Certified, certify};
-use crate::trial::{attempt, lowers, part_of, producer, ratio_of};
+use crate::trial::{outcome_of, part_of, producer, ratio_of};
 use lid_base::Items;
 use lid_cert::Cert;
 use lid_longer::{room, stations_through};
@@ -69,11 +69,11 @@ fn kept_cert(
     ensures kept { IfOk result (λ found. IfSome found (λ cert. KeepsAt (links_of system.now) placement.now channel more present.p present.q)) }
     ensures none { IfOk result (λ found. IsNone found → KeepsAt (links_of system.now) placement.now channel more present.p present.q → ⊥) }
 {
-    let trial = attempt(alloc, system, placement, channel, more)?;
-    if lowers(system, placement, channel, more, &trial, present) {
+    let outcome = outcome_of(alloc, system, placement, channel, more, present)?;
+    if outcome.lowers {
         return Ok(None);
     }
-    Ok(Some(trial.cert))
+    Ok(Some(outcome.trial.cert))
 }
 
 /// A closed walk with so many further relay stations that lowers the present ratio, and its ratio.
@@ -99,10 +99,11 @@ fn lower_walk(
     ensures lowers { IfOk result (λ found. IfSome found (λ lower. KeepsAt (links_of system.now) placement.now channel more present.p present.q → ⊥)) }
     ensures none { IfOk result (λ found. IsNone found → KeepsAt (links_of system.now) placement.now channel more present.p present.q) }
 {
-    let trial = attempt(alloc, system, placement, channel, more)?;
-    if !lowers(system, placement, channel, more, &trial, present) {
+    let outcome = outcome_of(alloc, system, placement, channel, more, present)?;
+    if !outcome.lowers {
         return Ok(None);
     }
+    let trial = &outcome.trial;
     let walk = Vec::from_slice(
         alloc,
         trial.cert.parts.as_slice()[trial.part].cycle.as_slice(),

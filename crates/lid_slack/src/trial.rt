@@ -66,7 +66,7 @@ fn longer_marking(
 }
 
 /// What is found with so many further relay stations.
-pub(crate) fn attempt(
+fn attempt(
     alloc: Global,
     system: &System,
     placement: &Placement,
@@ -106,28 +106,33 @@ fn is_below(ratio: Ratio, other: Ratio) -> bool
     ratio.p * other.q < other.p * ratio.q
 }
 
-/// Whether so many further relay stations lower the present ratio. Then the closed walk of the trial's part
-/// shows it.
-pub(crate) fn lowers(
+/// What is found with some further relay stations, and whether they lower the present ratio. Then the closed walk
+/// of the trial's part shows it.
+#[derive(Drop)]
+pub(crate) struct Outcome {
+    pub(crate) trial: Trial,
+    pub(crate) lowers: bool,
+}
+
+/// What is found with so many further relay stations, beside the present ratio.
+pub(crate) fn outcome_of(
+    alloc: Global,
     system: &System,
     placement: &Placement,
     channel: u32,
     more: u32,
-    trial: &Trial,
     present: Ratio,
-) -> bool
+) -> Result<Outcome, AllocError>
     requires can { CanTry system.now placement.now channel more }
-    requires trial { IsTrial system.now placement.now channel more trial.now.cert trial.now.part }
     requires present { IsPresent system.now placement.now channel present.p present.q }
-    ensures kept { result ≡ false → KeepsAt (links_of system.now) placement.now channel more present.p present.q }
-    ensures lower { IsTrue result → KeepsAt (links_of system.now) placement.now channel more present.p present.q → ⊥ }
-    ensures walk { IsTrue result → IsAgainst (links_of system.now) placement.now channel more (part_at trial.now.cert.parts trial.now.part).cycle }
+    ensures trial { IfOk result (λ outcome. IsTrial system.now placement.now channel more outcome.trial.cert outcome.trial.part) }
+    ensures kept { IfOk result (λ outcome. outcome.lowers ≡ false → KeepsAt (links_of system.now) placement.now channel more present.p present.q) }
+    ensures lower { IfOk result (λ outcome. IsTrue outcome.lowers → KeepsAt (links_of system.now) placement.now channel more present.p present.q → ⊥) }
+    ensures walk { IfOk result (λ outcome. IsTrue outcome.lowers → IsAgainst (links_of system.now) placement.now channel more (part_at outcome.trial.cert.parts outcome.trial.part).cycle) }
 {
-    let _ = system;
-    let _ = placement;
-    let _ = channel;
-    let _ = more;
-    is_below(ratio_of(&trial.cert, trial.part), present)
+    let trial = attempt(alloc, system, placement, channel, more)?;
+    let lowers = is_below(ratio_of(&trial.cert, trial.part), present);
+    Ok(Outcome { trial, lowers })
 }
 
 /// Whether the present ratio is kept with so many further relay stations.
@@ -143,6 +148,6 @@ pub(crate) fn keeps(
     requires present { IsPresent system.now placement.now channel present.p present.q }
     ensures { IfOk result (λ kept. IsTrue kept ↔ KeepsAt (links_of system.now) placement.now channel more present.p present.q) }
 {
-    let trial = attempt(alloc, system, placement, channel, more)?;
-    Ok(!lowers(system, placement, channel, more, &trial, present))
+    let outcome = outcome_of(alloc, system, placement, channel, more, present)?;
+    Ok(!outcome.lowers)
 }

@@ -1,7 +1,9 @@
-use Rattle.std.proofs.Common.{◌≡◌, ◌<◌, List, [], ◌∷◌, ◌++◌, length, slice_get, sym, ◌∙◌, ap, arith}
+use Rattle.std.proofs.Common.{◌≡◌, ◌<◌, List, [], ◌∷◌, ◌++◌, length, slice_get, refl, sym, ◌∙◌, ap, arith}
 use Rattle.lid_base.proofs.Lists.{all_among}
+use Rattle.lid_base.proofs.Results.{on_ok}
 use Rattle.lid_design.specs.declared.Cell.{Cell}
 use Rattle.lid_design.specs.declared.FlatLatch.{FlatLatch}
+use Rattle.lid_circuit.specs.Gates.{choice}
 use Rattle.lid_cells.specs.declared.wire.Wire.{Wire}
 use Rattle.lid_cells.specs.Shown.{wire_of}
 use Rattle.lid_cells.proofs.Shells.{latch_done}
@@ -15,9 +17,10 @@ wire_at-input-requires c =
     omega (arith, below, c.requires.whole.here)
 
 pub returns : goal.returns
-returns c = λ q is.
-    latch_done q c.args.naming c.args.v c.args.shell.now c.requires.whole is c.args.latch c.requires.there c.args.cells.now.items c.push.new.self.items c.push-2.new.self.items (wire_of c.wire_at-input.result) c.in_ok-cover.cover
+returns c =
+    on_ok c.push_gate.result (λ h q is.
+    latch_done q c.args.naming c.args.v c.args.shell.now c.requires.whole is c.args.latch c.requires.there c.args.cells.now.items c.push.new.self.items c.push_gate.new.cells.items (wire_of c.wire_at-input.result) choice
     (is.here c.args.latch.input c.wire_at-input.result (ap (λ (ws : List Wire). slice_get ws c.args.latch.input) (sym c.as_slice.ensures) ∙ c.wire_at-input.ensures))
-    c.in_ok-cover.ensures
+    refl
     (c.in_ok-push.ensures.items ∙ ap (λ (x : Cell). c.args.cells.now.items ++ x ∷ []) c.in_ok-latch_cell.ensures)
-    (c.in_ok-push-2.ensures.items ∙ ap (λ (x : Cell). c.push.new.self.items ++ x ∷ []) c.in_ok-cover_cell.ensures)
+    h) c.push_gate.ensures
