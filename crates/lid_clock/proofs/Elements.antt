@@ -1,11 +1,8 @@
 -- Elements that were read by an index.
-use Rattle.std.proofs.Common.{◌≡◌, ℕ, ◌<◌, List, length, get_or, refl, sym, ◌∙◌}
+use Rattle.std.proofs.Common.{◌≡◌, ℕ, ◌<◌, List, length, get_or, sym, ◌∙◌}
 use Rattle.std.specs.Prelude.{Some, slice_get}
-use Rattle.std.proofs.lemmas.Option.{same_Some, slice_get_read}
-
--- an element that was read stands there
-pub is_there : {X : Type 0} (xs : List X) (i : ℕ) (x : X) → i < length xs → x ≡ get_or xs i x → slice_get xs i ≡ Some x
-is_there xs i x within read = slice_get_read xs (length xs) i x refl within read
+use Rattle.std.proofs.lemmas.Option.{same_Some}
+use Rattle.lid_runs.proofs.Elements.{is_there}
 
 -- what stands where an element was read is that element
 pub is_read : {X : Type 0} (xs : List X) (i : ℕ) (x y : X) → i < length xs → x ≡ get_or xs i x → slice_get xs i ≡ Some y → x ≡ y

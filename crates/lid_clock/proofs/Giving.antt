@@ -14,7 +14,7 @@ use Rattle.lid_clock.specs.States.{IsPart, IsActor, AreActors, AreStations}
 use Rattle.lid_clock.specs.Ran.{Ran}
 use Rattle.lid_clock.specs.Cycles.{CanTake, Takes}
 use Rattle.lid_clock.proofs.Staying.{stays, stays_but_part}
-use Rattle.lid_clock.proofs.Pointwise.{set_here, set_there}
+use Rattle.lid_runs.proofs.Elements.{set_here, set_there}
 use mathlib.Core.Logic.{dite}
 use native.Mathlib.Decide.{ℕ_discrete}
 

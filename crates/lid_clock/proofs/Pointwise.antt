@@ -2,7 +2,7 @@
 use Rattle.std.proofs.Common.{◌≡◌, ℕ, zero, suc, ◌+◌, ◌<◌, ◌≤◌, List, [], ◌∷◌, length, get_or, set, refl, sym, ◌∙◌, ap, subst, arith, length-set}
 use Rattle.std.specs.Prelude.{Some, slice_get}
 use Rattle.std.proofs.lemmas.Option.{same_Some, slice_get_within}
-use Rattle.lid_clock.proofs.Elements.{is_there}
+use Rattle.lid_runs.proofs.Elements.{is_there, set_here, set_there}
 use mathlib.Core.Logic.{dite}
 use native.Mathlib.Decide.{ℕ_discrete}
 
@@ -20,20 +20,6 @@ none_yet R xs =
       changed = λ j below x y _ _. absurd (omega arith);
       left = λ j from. refl;
     }
-
--- the element that was written
-pub set_here : {X : Type 0} (xs : List X) (i : ℕ) (x y : X) → slice_get (set xs i x) i ≡ Some y → x ≡ y
-set_here [] i x y e = absurd (cc)
-set_here (z ∷ xs) zero x y e = same_Some x y e
-set_here (z ∷ xs) (suc i) x y e = set_here xs i x y e
-
--- the elements that were not written
-pub set_there : {X : Type 0} (xs : List X) (i j : ℕ) (x : X) → (j ≡ i → ⊥) → slice_get (set xs i x) j ≡ slice_get xs j
-set_there [] i j x other = refl
-set_there (z ∷ xs) zero zero x other = absurd (other refl)
-set_there (z ∷ xs) zero (suc j) x other = refl
-set_there (z ∷ xs) (suc i) zero x other = refl
-set_there (z ∷ xs) (suc i) (suc j) x other = set_there xs i j x (λ e. other (ap suc e))
 
 -- the element that comes next is as it was
 next_there : {X : Type 0} (R : ℕ → X → X → Type 0) (i : ℕ) (olds news : List X) (x : X) → Upto R i olds news → i < length news → x ≡ get_or news i x → slice_get olds i ≡ Some x

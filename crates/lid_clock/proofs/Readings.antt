@@ -2,7 +2,8 @@
 use Rattle.std.proofs.Common.{◌≡◌, ℕ, ◌+◌, ◌<◌, List, length, get_or, subst, below_more}
 use Rattle.lid_clock.specs.declared.station.ClockStation.{ClockStation}
 use Rattle.lid_clock.specs.Rings.{IsAt, OneIs}
-use Rattle.lid_clock.proofs.Elements.{is_there, is_read}
+use Rattle.lid_runs.proofs.Elements.{is_there}
+use Rattle.lid_clock.proofs.Elements.{is_read}
 
 module _ (P : ClockStation → Type 0) (reads : List ℕ) (stations : List ClockStation) (i : ℕ) (x : ClockStation) (within : get_or reads i 0 < length stations) (read : x ≡ get_or stations (get_or reads i 0) x) (so : P x) where
   -- the station that is read is one that is so

@@ -12,7 +12,7 @@ use Rattle.lid_clock.specs.Rings.{token_in}
 use Rattle.lid_clock.specs.Rules.{RunsGoByRules}
 use Rattle.lid_clock.specs.Lives.{Life, IsLife, fired_after}
 use Rattle.lid_clock.specs.States.{outs_of, token_of_life, put_after, taken_after, stations_of, actors_of, IsStation, Decided, AreDecided}
-use Rattle.lid_clock.proofs.Elements.{is_there}
+use Rattle.lid_runs.proofs.Elements.{is_there}
 use Rattle.lid_clock.proofs.Bars.{element, stands}
 use mathlib.Core.Logic.{dite}
 use native.Mathlib.Decide.{ℕ_discrete}

@@ -1,7 +1,7 @@
 -- A station gains the token that stands in its slot of its filler's tokens, where that fired.
 use Rattle.std.proofs.Common.{sym, arith}
 use Rattle.std.proofs.lemmas.Option.{get_or_from_slice_get}
-use Rattle.lid_clock.proofs.Elements.{is_there}
+use Rattle.lid_runs.proofs.Elements.{is_there}
 use Rattle.lid_clock.proofs.Settled.{ends_there, filler_decided, slot_there, room_of, few_put, gains, gains_none}
 use Rattle.lid_clock.proofs.station.ClockStation.gain.Goals as goal
 

@@ -2,7 +2,7 @@
 use Rattle.std.proofs.Common.{◌≡◌, List, subst}
 use Rattle.std.specs.Prelude.{Some, slice_get}
 use Rattle.lid_clock.specs.declared.actor.ClockActor.{ClockActor}
-use Rattle.lid_clock.proofs.Elements.{is_there}
+use Rattle.lid_runs.proofs.Elements.{is_there}
 use Rattle.lid_clock.proofs.Told.{below_is}
 use Rattle.lid_clock.proofs.stream.ClockStream.below.Goals as goal
 

@@ -1,6 +1,6 @@
 -- An actor counts how often it has fired.
 use Rattle.std.proofs.Common.{arith}
-use Rattle.lid_clock.proofs.Elements.{is_there}
+use Rattle.lid_runs.proofs.Elements.{is_there}
 use Rattle.lid_clock.proofs.Told.{fired_is, actor_there}
 use Rattle.lid_clock.proofs.stream.ClockStream.fired.Goals as goal
 

@@ -5,7 +5,7 @@ use Rattle.std.proofs.lemmas.List.{with_items_is}
 use Rattle.std.proofs.lemmas.Option.{slice_get_within}
 use Rattle.lid_clock.specs.declared.actor.ClockActor.{ClockActor}
 use Rattle.lid_clock.specs.Cycles.{CanTake, Takes}
-use Rattle.lid_clock.proofs.Elements.{is_there}
+use Rattle.lid_runs.proofs.Elements.{is_there}
 use Rattle.lid_clock.proofs.Cycling.{source_of, needs_too}
 use Rattle.lid_clock.proofs.Giving.{can_take, gave}
 use Rattle.lid_clock.proofs.stream.ClockStream.give.Goals as goal

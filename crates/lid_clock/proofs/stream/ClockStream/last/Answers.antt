@@ -3,7 +3,7 @@ use Rattle.std.proofs.Common.{◌≡◌, List, Bool, subst, sym}
 use Rattle.std.specs.Prelude.{Option, Some, slice_get}
 use Rattle.lid_clock.specs.declared.actor.ClockActor.{ClockActor}
 use Rattle.lid_clock.specs.Lives.{IsLast}
-use Rattle.lid_clock.proofs.Elements.{is_there}
+use Rattle.lid_runs.proofs.Elements.{is_there}
 use Rattle.lid_clock.proofs.Told.{last_is}
 use Rattle.lid_clock.proofs.stream.ClockStream.last.Goals as goal
 

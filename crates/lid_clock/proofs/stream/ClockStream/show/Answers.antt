@@ -1,6 +1,6 @@
 -- A station shows what stands in it.
 use Rattle.std.proofs.Common.{◌∙◌, arith}
-use Rattle.lid_clock.proofs.Elements.{is_there}
+use Rattle.lid_runs.proofs.Elements.{is_there}
 use Rattle.lid_clock.proofs.Told.{shown_is, station_there}
 use Rattle.lid_clock.proofs.stream.ClockStream.show.Goals as goal
 
