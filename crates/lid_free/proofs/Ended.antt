@@ -20,7 +20,7 @@ use Rattle.lid_machine.proofs.Sweeps.{many, settles}
 use Rattle.lid_machine.proofs.Sound.{sound_begun}
 use Rattle.lid_shell.specs.declared.actor.Actor.{Actor}
 use Rattle.lid_shell.specs.Parts.{AreColumns}
-use Rattle.lid_shell.proofs.Counts.{early}
+use Rattle.lid_machine.proofs.Counts.{early}
 use Rattle.lid_walk.specs.declared.walk.Walk.{Walk}
 use Rattle.lid_walk.specs.Walks.{Walks, firings_between}
 use Rattle.lid_walk.proofs.Elements.{there_is}

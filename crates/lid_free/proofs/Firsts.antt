@@ -18,7 +18,7 @@ use Rattle.lid_machine.specs.Setups.{Setup, IsSetup, plan}
 use Rattle.lid_machine.specs.Machine.{takes_from, puts_from}
 use Rattle.lid_shell.specs.declared.actor.Actor.{Actor}
 use Rattle.lid_shell.specs.Steps.{Works}
-use Rattle.lid_shell.proofs.Counts.{early}
+use Rattle.lid_machine.proofs.Counts.{early}
 use Rattle.lid_walk.proofs.Elements.{there_is}
 use Rattle.lid_walk.proofs.Serving.{drains_by, fills_by}
 use Rattle.lid_work.specs.declared.worker.Worker.{Worker}

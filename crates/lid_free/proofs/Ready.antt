@@ -19,7 +19,7 @@ use Rattle.lid_shell.specs.declared.actor.Actor.{Actor}
 use Rattle.lid_shell.specs.Actors.{IsActor}
 use Rattle.lid_shell.specs.Boards.{Agrees}
 use Rattle.lid_shell.specs.Steps.{Works, IsOwn}
-use Rattle.lid_shell.proofs.Counts.{early}
+use Rattle.lid_machine.proofs.Counts.{early}
 use Rattle.lid_walk.proofs.Serving.{drains_by, fills_by}
 use Rattle.lid_walk.proofs.Numbers.{few_actors}
 use Rattle.lid_work.specs.declared.worker.Worker.{Worker}

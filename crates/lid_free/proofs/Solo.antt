@@ -17,7 +17,7 @@ use Rattle.lid_machine.specs.Machine.{Progress, State, begun, takes_from, puts_f
 use Rattle.lid_machine.specs.Laws.{sweeps}
 use Rattle.lid_shell.specs.declared.actor.Actor.{Actor}
 use Rattle.lid_shell.specs.Boards.{ServesBoth, ServesAll}
-use Rattle.lid_shell.proofs.Counts.{early}
+use Rattle.lid_machine.proofs.Counts.{early}
 use Rattle.lid_walk.proofs.Elements.{there_is}
 use Rattle.lid_walk.proofs.Serving.{drains_by, fills_by}
 use Rattle.lid_work.specs.declared.worker.Worker.{Worker}
