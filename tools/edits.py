@@ -19,7 +19,7 @@ from pathlib import Path
 from queue import Queue
 
 TOP = Path.cwd()
-SAYS = re.compile(r"no proof|not proved|error")
+SAYS = re.compile(r"no proof|not proved|\berror:")
 
 
 def function_at(source: str, place: int) -> str | None:
