@@ -251,9 +251,6 @@ weight_cons _ l ls e = rw (← e) (omega arith)
 count_cons : (l : Line) (ls : List Line) → row_count (l ∷ ls) ≡ row_count ls + cond (is_line Row l) 1 0
 count_cons l ls = elim (is_line Row l) as (λ b. cond b (row_count ls + 1) (row_count ls) ≡ row_count ls + cond b 1 0) [ true ↦ refl | false ↦ omega arith ]
 
-model_no_row : (k : Keyword) → same_keyword Model k ≡ true → cond (same_keyword Row k) 1 0 ≤ 0
-model_no_row k h = subst (λ (j : Keyword). cond (same_keyword Row j) 1 0 ≤ 0) (same_as Model k h) (omega arith)
-
 -- the rows of the covers of all models are no more than the rows of the text
 models_rows_le : (ls : List Line) → sum_by model_rows (models_of ls) + weight (leading is_inner ls) ≤ row_count ls
 unfolding model_of

@@ -1,5 +1,5 @@
 -- What the numbers that a board and a hand keep are good for.
-use Rattle.std.proofs.Common.{◌≡◌, ℕ, zero, suc, ◌+◌, ◌*◌, ◌/◌, ◌%◌, ◌^◌, ◌<◌, List, [], ◌∷◌, length, get_or, set, refl, sym, ◌∙◌, ap, arith, get_or-set_same, get_or-set_other}
+use Rattle.std.proofs.Common.{◌≡◌, ℕ, zero, suc, ◌+◌, ◌*◌, ◌/◌, ◌%◌, ◌^◌, ◌<◌, List, [], ◌∷◌, length, get_or, refl, sym, ◌∙◌, ap, arith}
 use Rattle.std.specs.Prelude.{Option, Some, None, option_map}
 use Rattle.std.proofs.lemmas.Option.{get_or_from_slice_get, slice_get_read}
 use Rattle.atomic_table.specs.Seated.{TableId}
@@ -60,14 +60,3 @@ tied_same numbers ends end h g tied is same k =
     ∙ ap (λ (n : ℕ). Some n) (sym same)
     ∙ sym (ap (λ (n : ℕ). option_map (λ (y : Held). y.passed) (at (changed ends end g) n)) hit ∙ ap (option_map (λ (y : Held). y.passed)) (at_changed ends end h g is)))
     (λ miss. tied k ∙ sym (ap (option_map (λ (y : Held). y.passed)) (at-other ends end k g miss)))
-
--- a change at an end of which the number is kept too
-pub tied-more : (numbers : List (Option ℕ)) (ends : Ends) (end number : ℕ) (h g : Held) → IsTied numbers ends → at ends end ≡ Some h → number ≡ g.passed → IsTied (set numbers end (Some number)) (changed ends end g)
-tied-more numbers ends end number h g tied is same k =
-    dite (ℕ_discrete k end)
-    (λ hit.
-    ap (λ (n : ℕ). get_or (set numbers end (Some number)) n None) hit
-    ∙ get_or-set_same numbers end (Some number) None (option_within numbers end h.passed (tied end ∙ ap (option_map (λ (y : Held). y.passed)) is))
-    ∙ ap (λ (n : ℕ). Some n) same
-    ∙ sym (ap (λ (n : ℕ). option_map (λ (y : Held). y.passed) (at (changed ends end g) n)) hit ∙ ap (option_map (λ (y : Held). y.passed)) (at_changed ends end h g is)))
-    (λ miss. get_or-set_other numbers end k (Some number) None miss ∙ tied k ∙ sym (ap (option_map (λ (y : Held). y.passed)) (at-other ends end k g miss)))

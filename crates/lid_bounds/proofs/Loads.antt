@@ -1,8 +1,8 @@
 -- The cells of wires outside of shells: each wire has one at most, with at most four rows.
-use Rattle.std.proofs.Common.{◌≡◌, ℕ, zero, suc, ◌+◌, ◌*◌, ◌≤◌, ◌==◌, ◌&&◌, nat_lt, not, Bool, true, false, cond, List, [], ◌∷◌, ◌++◌, length, map, Option, Some, None, slice_get, refl, mul-le-mul_right, arith}
+use Rattle.std.proofs.Common.{◌≡◌, ℕ, zero, suc, ◌+◌, ◌*◌, ◌≤◌, ◌==◌, ◌&&◌, nat_lt, not, Bool, true, false, cond, List, [], ◌∷◌, length, map, Option, Some, None, slice_get, refl, mul-le-mul_right, arith}
 use Rattle.std.specs.Option.{option_map_or}
 use Rattle.std.specs.List.{flat_map, sum_by}
-use Rattle.std.proofs.lemmas.List.Sums.{sum_by-cons, sum_by-append}
+use Rattle.std.proofs.lemmas.List.Sums.{sum_by-cons}
 use Rattle.lid_cover.specs.declared.Cover.{Cover}
 use Rattle.lid_design.specs.declared.Cell.{Cell}
 use Rattle.lid_design.specs.declared.Cell.TheVariants.{Names}
@@ -33,9 +33,6 @@ loaded (cell ∷ cells) =
     let b = sum_by-cons cell_rows cell cells in
     let c = loaded cells in
     omega arith
-
-pub loads_two : (xs ys : List Cell) → loads (xs ++ ys) ≡ loads xs + loads ys
-loads_two xs ys = sum_by-append load xs ys
 
 module _ (q : Plan) (name : Wire → List ℕ) where
   abbrev pub wire_load : Wire → ℕ

@@ -14,12 +14,6 @@ alike_back g h like = record {
   to = λ k l. sym (like.to k (let c = like.count in omega arith));
 }
 
-pub differ_back : (n : ℕ) (g h : Graph) → DifferInCapacities n g h → DifferInCapacities n h g
-differ_back n g h differ = record {
-  alike = alike_back g h differ.alike;
-  forward = λ k l forth. sym (differ.forward k (let c = differ.alike.count in omega arith) forth);
-}
-
 module _ (g h : Graph) (like : AreAlike g h) where
   pub walk_alike : (ks : List ℕ) (u v : ℕ) → IsWalk g u ks v → IsWalk h u ks v
   walk_alike [] u v walk = walk

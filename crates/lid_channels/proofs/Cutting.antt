@@ -4,7 +4,7 @@ use Rattle.std.specs.Prelude.{nat_lt}
 use Rattle.std.specs.List.{flat_map, AllByRecursion}
 use Rattle.std.proofs.Math.Seq.{take-suc}
 use Rattle.std.proofs.lemmas.Bool.{cases_lt}
-use Rattle.std.proofs.lemmas.List.{reverse-append, map-append, length-reverse, reverse-reverse, take-append-drop, take_all, get_or_default}
+use Rattle.std.proofs.lemmas.List.{reverse-append, map-append, length-reverse, reverse-reverse, take-append-drop, get_or_default}
 use Rattle.std.proofs.lemmas.Grind.{flat_map-append}
 use Rattle.lid_base.specs.Lists.{Among}
 use Rattle.lid_base.proofs.Lists.{all_among, among_left, among_right}
@@ -278,16 +278,6 @@ channels_there reads = (channels_are reads (reverse (cut_back (reverse reads))) 
 pub narrow : (channels : List Channel) → AreCut channels → AllByRecursion (λ c. length c.ports ≤ 31) channels
 narrow [] h = tt
 narrow (c ∷ before) h = (h.1, narrow before h.3)
-
--- the last of a list, where it comes first
-pub last_first : (channels : List Channel) (n : ℕ) (c : Channel) → length channels ≡ n + 1 → c ≡ get_or channels n c → reverse channels ≡ c ∷ reverse (take n channels)
-last_first channels n c long is =
-    let whole : take (n + 1) channels ≡ channels = take_all (n + 1) channels (omega arith) in
-    ap reverse (sym whole)
-    ∙ (let e : n + 1 ≡ suc n = omega arith in ap (λ (m : ℕ). reverse (take m channels)) e)
-    ∙ ap reverse (take-suc channels n c (omega arith))
-    ∙ reverse-append (take n channels) (get_or channels n c ∷ [])
-    ∙ ap (λ (x : Channel). x ∷ reverse (take n channels)) (sym is)
 
 abbrev pub no_read : Read
 no_read = record { from = 0; to = 0; port = 0 }

@@ -15,7 +15,6 @@ use Rattle.lid_system.proofs.Points.{points_once}
 use Rattle.lid_system.proofs.Walking.{limit, points_end}
 use Rattle.lid_clock.specs.Lives.{Life, IsWide}
 use Rattle.lid_feed.specs.Feeds.{AreFirst}
-use Rattle.lid_clockrun.specs.RunTexts.{IsLifeOf}
 use Rattle.lid_clockrun.specs.Runnings.{Run, AreGiven, Begins, columns_of, source_columns}
 use Rattle.lid_clockrun.specs.Stepping.{IsSound}
 
@@ -125,6 +124,3 @@ none_given r = record { few = omega arith; wide = tt; first = first_none r.held 
     first_none : (held : Option (List ℕ)) → AreFirst held (source_columns r.system) (length r.columns) []
     first_none None = tt
     first_none (Some file) = λ rows reads. refl
-
-pub begins_none : (r : Run) (l : Life) → IsLifeOf l r.system r.placement r.stalls → length l.input ≡ r.rows → Begins r [] l
-begins_none r l of many = record { of = of; many = many; first = refl }

@@ -83,19 +83,6 @@ shown_in l (Some n) most made old new is h was now =
     some_is : Some n ≡ Some most → n ≡ most
     some_is e = cc
 
-pub shown_past : (l : Life) (trace : Option ℕ) (most made : ℕ) (cells : List Shown) → trace ≡ Some most → most ≤ made → cells ≡ cells_after l (cycles_traced trace made) → cells ≡ cells_after l (cycles_traced trace (made + 1))
-shown_past l None most made cells is h was = absurd (let e : None ≡ Some most = is in cc)
-shown_past l (Some n) most made cells is h was =
-    let same : n ≡ most = some_is is in
-    was ∙ ap (cells_after l) (let e : min n made ≡ min n (made + 1) = omega arith in e)
-  where
-    some_is : Some n ≡ Some most → n ≡ most
-    some_is e = cc
-
-pub shown_not : (l : Life) (trace : Option ℕ) (made : ℕ) (cells : List Shown) → trace ≡ None → cells ≡ cells_after l (cycles_traced trace made) → cells ≡ cells_after l (cycles_traced trace (made + 1))
-shown_not l None made cells is was = was
-shown_not l (Some n) made cells is was = absurd (let e : Some n ≡ None = is in cc)
-
 -- the cells of a trace, and its text
 pub cells_traced : (l : Life) (trace : Option ℕ) (most made : ℕ) (cells : List Shown) → trace ≡ Some most → cells ≡ cells_after l (cycles_traced trace made) → cells ≡ cells_after l (min made most)
 cells_traced l None most made cells is was = absurd (let e : None ≡ Some most = is in cc)

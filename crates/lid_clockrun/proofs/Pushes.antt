@@ -47,10 +47,6 @@ module _ (old new : Option (List ℕ)) (held text : List ℕ) where
 pub breaks_off : (old : Option (List ℕ)) (held text : List ℕ) → Breaks old old held text
 breaks_off old held text = breaks old old held text (nothing_of old (held ++ text))
 
--- there was nothing to push
-pub adds_none : (old : Option (List ℕ)) (held : List ℕ) → Adds old old held held []
-adds_none old held = λ before pushed p. subst (λ (xs : List ℕ). HasPushed before old held xs) (sym (append-nil pushed)) p
-
 -- what is held is written in the end
 module _ (old mid new : Option (List ℕ)) (held rest text : List ℕ) (add : Adds old mid held rest text) where
   pub closes : Appended mid new rest → Closes old new held text

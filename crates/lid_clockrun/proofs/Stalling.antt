@@ -48,11 +48,6 @@ free_stalled l rules nobody k = sym (stalled_is l rules [] (free_by l nobody) k 
 pub free_few : (l : Life) → IsLife l → ((j : ℕ) → HoldsNobody l j) → (k : ℕ) → IsBelow l k → k + 1 < 2 ^ 64
 free_few l rules nobody k below = omega (arith, few_cycles l rules [] (free_by l nobody) k below, free_stalled l rules nobody k)
 
--- the line is told exactly where stalls are given
-pub line_untold : (stalls : Option (List Stall)) (b : Bool) → b ≡ is_some stalls → b ≡ false → (k : ℕ) → stalled_line stalls k ≡ []
-line_untold None b told not k = refl
-line_untold (Some stalls) b told not k = absurd (let e : true ≡ false = sym told ∙ not in cc)
-
 pub line_told : (stalls : Option (List Stall)) (b : Bool) → b ≡ is_some stalls → b ≡ true → (k : ℕ) → line_text (codes "stalled" ∷ decimal (stalled_of stalls k) ∷ []) ≡ stalled_line stalls k
 line_told None b told is k = absurd (let e : true ≡ false = sym is ∙ told in cc)
 line_told (Some stalls) b told is k = refl

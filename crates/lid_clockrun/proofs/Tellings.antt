@@ -40,9 +40,6 @@ pub record IsTelling (r : Run) (held : Option (List ℕ)) (run : Running) (feed 
 pub rose_later : (old mid new : ℕ) → old ≤ mid → Rose mid new → Rose old new
 rose_later old mid new least rose = omega (arith, least, rose)
 
-pub rose_before : (old mid new : ℕ) → mid ≤ new → Rose old mid → Rose old new
-rose_before old mid new least rose = omega (arith, least, rose)
-
 read_later : (reads before : Type 0) → (before → reads) → (fault : FeedFault) → IfRead before fault → IfRead reads fault
 read_later reads before on feeds.Read c = on c
 read_later reads before on _ c = tt

@@ -2,7 +2,7 @@
 use Rattle.std.proofs.Common.{◌≡◌, ℕ, zero, suc, ◌+◌, ◌%◌, ◌<◌, ◌≤◌, ◌==◌, inl, inr, Bool, true, false, List, [], ◌∷◌, ◌++◌, length, get_or, reverse, set, refl, sym, ◌∙◌, ap, subst, arith, eq-eqb, ne_eqb, length-set}
 use Rattle.std.specs.Prelude.{if◌then◌else◌, Some, slice_get}
 use Rattle.std.proofs.lemmas.Bool.{cases_eq}
-use Rattle.std.proofs.lemmas.Option.{same_Some, slice_get_within}
+use Rattle.std.proofs.lemmas.Option.{slice_get_within}
 use Rattle.std.proofs.lemmas.List.{length-reverse, reverse-append}
 use Rattle.lid_design.specs.Network.{from_each}
 use Rattle.lid_shell.specs.declared.actor.Actor.{Actor}
@@ -42,20 +42,8 @@ share_other workers i xs y other =
     ∙ ap (λ (b : Bool). share workers i xs ++ (if b then y ∷ [] else [])) (ne_eqb (length xs % workers) i other)
     ∙ no_more (share workers i xs)
 
-same_but : (w : Worker) → IsSameBut w w
-same_but w = record { number = refl; hand = refl; tally = refl }
-
 same_then : (w x y : Worker) → IsSameBut w x → IsSameBut x y → IsSameBut w y
 same_then w x y one two = record { number = two.number ∙ one.number; hand = two.hand ∙ one.hand; tally = two.tally ∙ one.tally }
-
--- no actor was dealt
-pub none_dealt : (crew : List Worker) → ((i : ℕ) (w : Worker) → slice_get crew i ≡ Some w → w.actors.items ≡ []) → AreDealt [] crew crew
-none_dealt crew idle = record {
-  many = refl;
-  each = λ i w x at_w at_x.
-      let same : w ≡ x = same_Some w x (sym at_w ∙ at_x) in
-      subst (λ (y : Worker). IsSameBut w y × (y.actors.items ≡ [])) same (same_but w, idle i w at_w);
-}
 
 -- one more
 pub dealt_more : (actors : List Actor) (a : Actor) (old now : List Worker) (k : ℕ) (w x : Worker) → AreDealt actors old now
@@ -102,16 +90,6 @@ pub record AreBackFrom (left many : ℕ) (into : List Actor) (old now : List Wor
   pub each :
       (i : ℕ) (w x : Worker) → slice_get old i ≡ Some w → slice_get now i ≡ Some x
       → IsSameBut w x × (x.actors.items ++ picked (is_own (length old) i) left (reverse into) ≡ w.actors.items) × (length x.actors.items ≡ length (numbers_of (length old) i left))
-
-pub none_back : (many : ℕ) (into : List Actor) (crew : List Worker) → into ≡ [] → ((i : ℕ) (w : Worker) → slice_get crew i ≡ Some w → length w.actors.items ≡ length (numbers_of (length crew) i many)) → AreBackFrom many many into crew crew
-none_back many into crew none dealt = record {
-  many_are = let e = ap (length {A = Actor}) none in omega arith;
-  crew_many = refl;
-  each = λ i w x at_w at_x.
-      let same : w ≡ x = same_Some w x (sym at_w ∙ at_x) in
-      subst (λ (y : Worker). IsSameBut w y × (y.actors.items ++ picked (is_own (length crew) i) many (reverse into) ≡ w.actors.items) × (length y.actors.items ≡ length (numbers_of (length crew) i many))) same
-      (same_but w, ap (λ (l : List Actor). w.actors.items ++ picked (is_own (length crew) i) many (reverse l)) none ∙ no_more w.actors.items, dealt i w at_w);
-}
 
 front : {A : Type 0} (p : ℕ → Bool) (n : ℕ) (x : A) (xs : List A) (b : Bool) → p n ≡ b → picked p n (x ∷ xs) ≡ (if b then x ∷ picked p (suc n) xs else picked p (suc n) xs)
 front p n x xs b is = ap (λ (c : Bool). if c then x ∷ picked p (suc n) xs else picked p (suc n) xs) is

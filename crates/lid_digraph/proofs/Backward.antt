@@ -37,10 +37,6 @@ among_one : (b k : ℕ) → Among b (k ∷ []) → b ≡ k
 among_one b k (inl is) = is
 among_one b k (inr none) = absurd none
 
--- a number that is marked already
-pub marks_old : (seen : List Bool) (todo : List ℕ) (k : ℕ) → flag seen k ≡ true → Marks (k ∷ []) seen todo seen todo
-marks_old seen todo k on = marks_kept (k ∷ []) seen todo (λ b h. ap (λ (x : ℕ). flag seen x) (among_one b k h) ∙ on)
-
 -- a number that is new
 pub marks_new : (seen : List Bool) (todo : List ℕ) (k : ℕ) → k < length seen → flag seen k ≡ false → Marks (k ∷ []) seen todo (set seen k true) (todo ++ k ∷ [])
 marks_new seen todo k within off = record {

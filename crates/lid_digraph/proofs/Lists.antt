@@ -25,9 +25,6 @@ index_take b (suc j) [] h = absurd h
 index_take b (suc j) (x ∷ xs) (inl e) = (0, omega arith, omega arith, sym e)
 index_take b (suc j) (x ∷ xs) (inr h) = let at = index_take b j xs h in (suc at.0, omega arith, omega arith, at.3)
 
-pub below_among : (n b : ℕ) (xs : List ℕ) → AreBelow n xs → Among b xs → b < n
-below_among n b xs all h = let at = index_among b xs h in subst (λ (m : ℕ). m < n) at.2 (all at.0 0 at.1)
-
 pub flag_here : (flags : List Bool) (k : ℕ) (v : Bool) → k < length flags → flag (set flags k v) k ≡ v
 flag_here flags k v h = get_or-set_same flags k v false h
 

@@ -1,12 +1,10 @@
 -- A part of an order, and one number more.
-use Rattle.std.proofs.Common.{◌≡◌, ℕ, zero, suc, ◌+◌, ◌*◌, ◌<◌, ◌≤◌, ◌≢◌, ◌⊎◌, inl, inr, Bool, true, false, List, [], ◌∷◌, ◌++◌, length, get_or, set, take, replicate, cond, Option, Some, None, refl, sym, ◌∙◌, ap, subst, arith}
+use Rattle.std.proofs.Common.{◌≡◌, ℕ, ◌+◌, ◌<◌, ◌≤◌, ◌≢◌, ◌⊎◌, inl, inr, Bool, true, false, List, [], ◌∷◌, ◌++◌, length, get_or, set, take, cond, refl, sym, ◌∙◌, ap, subst, arith}
 use Rattle.std.proofs.lemmas.Bool.{cases_eq, cases_lt}
-use Rattle.std.proofs.lemmas.List.{get_or_append_left, length-append, length-set, take-append-le, length-replicate}
+use Rattle.std.proofs.lemmas.List.{get_or_append_left, length-append, length-set, take-append-le}
 use Rattle.std.proofs.lemmas.List.Sums.{sum_by-set}
-use Rattle.std.proofs.lemmas.List.Folds.{sum_by-replicate}
 use Rattle.std.proofs.Math.Seq.{get_or-append_seam, take-append_seam}
 use Rattle.std.specs.Bool.{MatchBool}
-use Rattle.std.specs.Option.{MatchOption}
 use Rattle.lid_base.specs.Lists.{Among}
 use Rattle.lid_base.proofs.Lists.{among_left, among_last, among_push}
 use Rattle.lid_digraph.specs.Graphs.{reads_at, IsGraph, IsOrder, flag}
@@ -19,11 +17,6 @@ pub round_smaller : (took before : Bool) (P : Type 0) (old new : ℕ) → MatchB
 round_smaller true true P old new says no_more e = omega arith
 round_smaller false true P old new says no_more e = omega arith
 round_smaller took false P old new says no_more e = cc
-
--- what is said where there is no value
-pub none_said : (o : Option ℕ) (P : Type 0) (Q : ℕ → Type 0) → o ≡ None → MatchOption o P Q → P
-none_said None P Q e says = says
-none_said (Some x) P Q e says = cc
 
 -- one mark fewer
 pub marked_less : (flags : List Bool) (k : ℕ) → flag flags k ≡ true → marked (set flags k false) + 1 ≡ marked flags
@@ -130,22 +123,3 @@ module _ (g : List (List ℕ)) (order : List ℕ) (left : List Bool) (part : IsP
       once = new_once;
       earlier = new_earlier;
     }
-
--- nothing taken
-pub part_none : (g : List (List ℕ)) (left : List Bool) → left ≡ replicate (length g) true → IsPartialOrder g [] left
-part_none g left e =
-    subst (IsPartialOrder g []) (sym e)
-    record {
-      count = length-replicate (length g) true;
-      counted = let sums : marked (replicate (length g) true) ≡ length g * 1 = sum_by-replicate count_true (length g) true in omega arith;
-      some = λ k h f. absurd (let on : flag (replicate (length g) true) k ≡ true = all_true (length g) k h in cc);
-      taken = λ k h. absurd h;
-      within = λ k h. absurd h;
-      once = λ i h. absurd (omega arith);
-      earlier = λ i b h. absurd (omega arith);
-    }
-  where
-    all_true : (n k : ℕ) → k < n → flag (replicate n true) k ≡ true
-    all_true zero k h = absurd (omega arith)
-    all_true (suc n) zero h = refl
-    all_true (suc n) (suc k) h = all_true n k (omega arith)

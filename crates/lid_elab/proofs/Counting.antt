@@ -1,8 +1,7 @@
 -- Sizes of models and offsets of their instances.
-use Rattle.std.proofs.Common.{◌≡◌, ◌≢◌, ◌⊎◌, ℕ, zero, suc, ◌+◌, ◌<◌, ◌≤◌, true, false, List, [], ◌∷◌, ◌++◌, length, take, set, replicate, get_or, eqb, Option, Some, None, inl, inr, refl, sym, ◌∙◌, ap, subst, arith, add-zero}
+use Rattle.std.proofs.Common.{◌≡◌, ◌≢◌, ◌⊎◌, ℕ, zero, suc, ◌+◌, ◌<◌, ◌≤◌, true, false, List, [], ◌∷◌, ◌++◌, length, take, set, replicate, get_or, eqb, Option, Some, None, inl, inr, sym, ◌∙◌, ap, subst, arith, add-zero}
 use Rattle.std.specs.Option.{option_map_or}
 use Rattle.std.proofs.lemmas.List.{take_all, take_more, get_or-set_same, get_or-set_other, length-set, length-replicate}
-use Rattle.std.proofs.lemmas.Option.{slice_get_read, get_or_from_slice_get}
 use Rattle.std.proofs.lemmas.Bool.Decides.{eqb_tells}
 use Rattle.lid_base.specs.Lists.{Among}
 use Rattle.lid_base.proofs.Lists.{among_left, among_right, last_case}
@@ -64,10 +63,6 @@ pub get_within : (xs : List (Option ℕ)) (k n : ℕ) → get_or xs k None ≡ S
 get_within [] k n h = absurd (let e : None ≡ Some n = h in cc)
 get_within (x ∷ xs) zero n h = omega arith
 get_within (x ∷ xs) (suc k) n h = let e = get_within xs k n h in omega arith
-
--- what is read at a place
-pub get_read : (xs : List (Option ℕ)) (k : ℕ) (x : Option ℕ) → k < length xs → x ≡ get_or xs k x → get_or xs k None ≡ x
-get_read xs k x below is = get_or_from_slice_get xs k x None (slice_get_read xs (length xs) k x refl below is)
 
 abbrev no_size : Option ℕ
 no_size = None

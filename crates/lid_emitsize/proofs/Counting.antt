@@ -6,7 +6,7 @@ use Rattle.std.proofs.lemmas.List.Sums.{sum_by-cons, count_by-le-length}
 use Rattle.std.proofs.lemmas.List.{length-append}
 use Rattle.std.proofs.Math.Nat.{pow-succ'}
 use Rattle.lid_wirenames.specs.Spelling.{IsFree}
-use Rattle.lid_emitsize.specs.Prefixes.{IsShort, IsLonger, begins, count_with}
+use Rattle.lid_emitsize.specs.Prefixes.{IsLonger, begins, count_with}
 
 -- what a slice begins with
 pub starts_is : (prefix name : List ℕ) → starts_with nat_eq name prefix ≡ begins prefix name
@@ -113,11 +113,4 @@ room_first names few = record {
   letters = tt;
   long = refl;
   few = omega (arith, count_by-le-length (begins []) names);
-}
-
-pub short_so : (prefix : List ℕ) (n : ℕ) (names : List (List ℕ)) → 0 < n → n ≤ 15 → HasRoom prefix n names → IsShort prefix
-short_so prefix n names some most room = record {
-  letters = room.letters;
-  some = (let l = room.long in omega arith);
-  few = (let l = room.long in omega arith);
 }

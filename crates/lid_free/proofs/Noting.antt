@@ -1,10 +1,8 @@
 -- Lists that are written place by place, and workers that make no rounds.
-use Rattle.std.proofs.Common.{◌≡◌, ℕ, zero, suc, ◌+◌, ◌<◌, ◌==◌, inl, inr, Bool, cond, List, [], ◌∷◌, length, map, set, refl, sym, ◌∙◌, ap, subst, arith}
+use Rattle.std.proofs.Common.{◌≡◌, ℕ, zero, suc, ◌<◌, ◌==◌, Bool, cond, List, [], ◌∷◌, length, map, set, refl, sym, ◌∙◌, ap, subst, arith}
 use Rattle.std.specs.Prelude.{Some, slice_get}
-use Rattle.std.proofs.lemmas.Bool.{cases_eq}
 use Rattle.std.proofs.lemmas.Option.{same_Some, slice_get_within}
 use Rattle.lid_board.specs.declared.board.Board.{Board}
-use Rattle.lid_walk.proofs.Elements.{set_there}
 use Rattle.lid_work.specs.declared.worker.Worker.{Worker}
 use Rattle.lid_work.specs.Posts.{IsReady}
 use Rattle.lid_work.proofs.Working.{not_yet, stays, gone, tallied, alone}
@@ -14,18 +12,6 @@ set_at : {X : Type 0} (xs : List X) (i : ℕ) (x : X) → i < length xs → slic
 set_at [] i x within = absurd (omega (arith, within))
 set_at (y ∷ xs) zero x within = refl
 set_at (y ∷ xs) (suc i) x within = set_at xs i x (omega (arith, within))
-
--- one place more
-pub noted_more : {A : Type 0} (f : A → ℕ) (xs : List A) (old : List ℕ) (k x : ℕ) (y : A) → k < length old → slice_get xs k ≡ Some y → x ≡ f y
-    → ((i : ℕ) (a : A) → i < k → slice_get xs i ≡ Some a → slice_get old i ≡ Some (f a))
-    → (i : ℕ) (a : A) → i < k + 1 → slice_get xs i ≡ Some a → slice_get (set old k x) i ≡ Some (f a)
-noted_more f xs old k x y within at_y is so i a low at_a =
-    elim (cases_eq i k) [
-      | inl same ↦
-          (let here = same_Some y a (sym at_y ∙ ap (slice_get xs) (sym same) ∙ at_a) in
-          ap (slice_get (set old k x)) same ∙ set_at old k x within ∙ ap (λ (n : ℕ). Some n) (is ∙ ap f here))
-      | inr other ↦ set_there old k i x other ∙ so i a (omega (arith, low, other)) at_a
-    ]
 
 -- all places
 pub all_noted : {A : Type 0} (f : A → ℕ) (xs : List A) (ns : List ℕ) → length ns ≡ length xs → ((i : ℕ) (a : A) → slice_get xs i ≡ Some a → slice_get ns i ≡ Some (f a)) → ns ≡ map f xs

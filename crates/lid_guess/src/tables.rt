@@ -21,7 +21,8 @@ pub fn put<T: Copy>(table: &mut [T], place: u32, item: T) {
     }
 }
 
-/// Writes items at places, one after the other.
+/// Writes items at places, one after the other: the default where there are more places than items. What
+/// is written past the end of the table is dropped.
 pub fn put_each<T: Copy>(table: &mut [T], places: &[u32], items: &[T], default: T) {
     let mut number: u32 = 0;
     for place in places {
@@ -30,7 +31,7 @@ pub fn put_each<T: Copy>(table: &mut [T], places: &[u32], items: &[T], default: 
     }
 }
 
-/// The edge with this number.
+/// The edge with this number, or past the end one from transition 0 to itself without a token.
 pub fn edge_at(edges: &[Edge], k: u32) -> Edge {
     let none = Edge {
         from: 0,

@@ -3,7 +3,9 @@ use Rattle.std.proofs.Common.{◌≡◌, ℕ, zero, suc, ◌+◌, ◌≤◌, Boo
 use Rattle.std.specs.List.{AllByRecursion}
 use Rattle.lid_design.specs.declared.Design.{Design}
 use Rattle.lid_design.specs.Network.{Table, IsStrict, from_each}
+use Rattle.lid_design.specs.Walks.{HasTable}
 use Rattle.lid_design.specs.Columns.{Column, drivers, root_inputs, root_outputs, output_rows}
+use Rattle.lid_actors.specs.Setups.{IsSetupOf}
 use Rattle.lid_agree.specs.Agreement.{IsSystemOf, seen}
 use Rattle.lid_agree.proofs.Agreeing.{table_is, rows_are}
 use Rattle.lid_reports.specs.Runs.{answer_text}
@@ -58,6 +60,10 @@ module _ (d : Design) (s : System) (p : Placement) (of : IsSystemOf d s) (well :
     table = table_is d s of well rows b strict;
   }
 
+  -- it is one of the system with its stations and these rows
+  pub is_setup_of : Fits s p → length rows ≤ 1000000 → AllByRecursion (λ row. length row ≡ length (root_inputs d)) rows → IsSetupOf setup s p rows
+  is_setup_of fits few wide = record { rules = is_setup fits few wide; system = refl; placement = refl; input = refl }
+
   -- its plan is that of the design
   pub same_plan : plan setup ≡ plan_of d b (links_of s) p (length rows)
   same_plan = λ k. record { links = links_of s; placement = p; rows = length rows; token = λ station i. token_same d s of well b p station i k }
@@ -86,3 +92,8 @@ module _ (d : Design) (s : System) (p : Placement) (of : IsSystemOf d s) (well :
             ∙ ap (λ xs. answer_lines schedule (answers (plan_of d b (links_of s) p (length rows)) begun schedule) ++ xs)
             (told ∙ ap (λ cs. rows_text cs given) named ∙ ap (rows_text (root_outputs d)) (first ∙ ap (λ (m : Plan). take (given_after m schedule) (output_rows d b (length rows))) same_plan));
       }
+
+-- a system of a design that has a table has a setup
+abbrev pub some_setup : (d : Design) (s : System) (p : Placement) (rows : List (List Bool)) → HasTable (drivers d) → IsSystemOf d s → IsWellFormed s → Fits s p → length rows ≤ 1000000 → AllByRecursion (λ row. length row ≡ length (root_inputs d)) rows
+    → (m : Setup) × IsSetupOf m s p rows
+some_setup d s p rows has of well fits few wide = let table = has rows in (setup d s p of well rows table.0 table.1, is_setup_of d s p of well rows table.0 table.1 fits few wide)

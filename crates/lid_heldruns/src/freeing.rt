@@ -1,25 +1,20 @@
 //! `free`: the strict output rows, by threads that turn actors at shared stations.
 
-ghost use Rattle.std.specs.Prelude.{◌≡◌, ◌++◌, ℕ, ◌≤◌, if◌then◌else◌, Bool, List, [], length, Option, IfOk, IfErr};
-ghost use Rattle.std.specs.List.{AllByRecursion};
-ghost use Rattle.lid_agree.specs.Agreement.{IsSystemOf};
-ghost use Rattle.lid_design.specs.Columns.{root_inputs};
+ghost use Rattle.std.specs.Prelude.{◌≡◌, ◌++◌, ℕ, ◌≤◌, if◌then◌else◌, List, [], Option, IfOk, IfErr};
+ghost use Rattle.lid_heldruns.specs.Runs.{IsFed};
 ghost use Rattle.lid_reports.specs.Runs.{tallies_text};
 ghost use Rattle.lid_texts.specs.RowsText.{rows_text};
 ghost use Rattle.lid_script.specs.Causes.{IsCause};
 ghost use Rattle.lid_script.specs.Freed.{IsFreeText};
 ghost use Rattle.lid_script.specs.Scripts.{freeing_script};
 ghost use Rattle.lid_script.specs.Statuses.{HasText};
-ghost use Rattle.lid_stations.specs.Placements.{links_of, Fits};
-ghost use Rattle.lid_system.specs.Systems.{IsWellFormed as IsSystem};
+ghost use Rattle.lid_stations.specs.Placements.{links_of};
 
+use crate::run::Fed;
 use lid_base::Gate;
-use lid_check::Checked;
 use lid_free::{FreeEnd, free_run};
 use lid_script::Stop;
-use lid_stations::Placement;
-use lid_system::System;
-use lid_texts::{Rows, print_rows, print_tallies};
+use lid_texts::{print_rows, print_tallies};
 use std::alloc::{AllocError, Global};
 use std::thread::Threads;
 
@@ -44,31 +39,24 @@ fn end_text(alloc: Global, end: &FreeEnd, tally: bool) -> Result<Vec<u8>, AllocE
 fn run_text<R: Threads + AllocGlobal + Sync, G: Gate>(
     rt: &R,
     gate: &G,
-    checked: &Checked,
-    system: &System,
-    placement: &Placement,
-    rows: &Rows,
+    fed: &Fed<'_>,
     workers: u32,
     rounds: u64,
     tally: bool,
 ) -> Result<Vec<u8>, AllocError>
-    requires system { IsSystem system.now }
-    requires fits { Fits system.now placement.now }
-    requires of { IsSystemOf checked.now system.now }
-    requires few { length rows.now.bits ≤ 1000000 }
-    requires wide { AllByRecursion (λ row. length row ≡ length (root_inputs checked.now)) rows.now.bits }
+    requires fed { IsFed fed.now }
     requires some { 1 ≤ workers }
     requires most { workers ≤ 64 }
     requires rounds { rounds ≤ 1000000 }
-    ensures { IfOk result (λ text. IsFreeText checked.now (links_of system.now) placement.now rows.now.bits workers rounds tally text.items) }
+    ensures { IfOk result (λ text. IsFreeText fed.now.checked.now (links_of fed.now.system.now) fed.now.placement.now fed.now.rows.now.bits workers rounds tally text.items) }
 {
-    let _ = checked.design();
+    let _ = fed.checked.design();
     let end = free_run(
         rt,
         rt.alloc(),
-        system,
-        placement,
-        rows,
+        fed.system,
+        fed.placement,
+        fed.rows,
         workers,
         rounds,
         gate,
@@ -80,28 +68,19 @@ fn run_text<R: Threads + AllocGlobal + Sync, G: Gate>(
 pub(crate) fn freed_text<'a, R: Threads + AllocGlobal + Sync, G: Gate>(
     rt: &R,
     gate: &G,
-    checked: &Checked,
-    system: &System,
-    placement: &Placement,
-    rows: &Rows,
+    fed: &Fed<'_>,
     workers: u32,
     rounds: u64,
     tally: bool,
 ) -> Result<Vec<u8>, Stop<'a>>
-    requires system { IsSystem system.now }
-    requires fits { Fits system.now placement.now }
-    requires of { IsSystemOf checked.now system.now }
-    requires few { length rows.now.bits ≤ 1000000 }
-    requires wide { AllByRecursion (λ row. length row ≡ length (root_inputs checked.now)) rows.now.bits }
+    requires fed { IsFed fed.now }
     requires some { 1 ≤ workers }
     requires most { workers ≤ 64 }
     requires rounds { rounds ≤ 1000000 }
-    ensures ok { IfOk result (λ text. (held : List ℕ → Option (List ℕ)) → HasText held (freeing_script checked.now (links_of system.now) placement.now workers rounds tally rows.now.bits) text.items) }
-    ensures err { IfErr result (λ stop. (held : List ℕ → Option (List ℕ)) (before after : List ℕ → ℕ) → IsCause held (freeing_script checked.now (links_of system.now) placement.now workers rounds tally rows.now.bits) before after stop) }
+    ensures ok { IfOk result (λ text. (held : List ℕ → Option (List ℕ)) → HasText held (freeing_script fed.now.checked.now (links_of fed.now.system.now) fed.now.placement.now workers rounds tally fed.now.rows.now.bits) text.items) }
+    ensures err { IfErr result (λ stop. (held : List ℕ → Option (List ℕ)) (before after : List ℕ → ℕ) → IsCause held (freeing_script fed.now.checked.now (links_of fed.now.system.now) fed.now.placement.now workers rounds tally fed.now.rows.now.bits) before after stop) }
 {
-    match run_text(
-        rt, gate, checked, system, placement, rows, workers, rounds, tally,
-    ) {
+    match run_text(rt, gate, fed, workers, rounds, tally) {
         Ok(text) => Ok(text),
         Err(_) => Err(Stop::Memory),
     }

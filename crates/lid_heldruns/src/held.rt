@@ -1,19 +1,17 @@
 //! The steps of a run that holds its rows: from the netlist to the text.
 
-ghost use Rattle.std.specs.Prelude.{◌≡◌, ℕ, ◌≤◌, Bool, List, length, IfOk, IfErr};
-ghost use Rattle.std.specs.List.{AllByRecursion};
+ghost use Rattle.std.specs.Prelude.{◌≡◌, ℕ, ◌≤◌, List, IfOk, IfErr};
 ghost use Rattle.lid_agree.specs.Agreement.{IsSystemOf};
-ghost use Rattle.lid_design.specs.Columns.{root_inputs};
 ghost use Rattle.lid_design.specs.WellFormed.{IsWellFormed};
 ghost use Rattle.lid_script.specs.Causes.{IsCause};
 ghost use Rattle.lid_script.specs.Scripts.{rows_step, placement_step, built_step, check_step, held_step, free_script, walk_script, wave_script};
 ghost use Rattle.lid_script.specs.Statuses.{HasText};
 ghost use Rattle.lid_stations.specs.Placements.{links_of, Fits};
 ghost use Rattle.lid_system.specs.Systems.{IsWellFormed as IsSystem};
-ghost use Rattle.lid_heldruns.specs.Runs.{script_for, IsSoundRun};
+ghost use Rattle.lid_heldruns.specs.Runs.{script_for, IsFed, IsSoundRun};
 
 use crate::freeing::freed_text;
-use crate::run::HeldRun;
+use crate::run::{Fed, HeldRun};
 use crate::walking::walked_text;
 use crate::waving::waved_text;
 use lid_base::{Gate, Name, Shelf, Text};
@@ -22,7 +20,6 @@ use lid_design::Design;
 use lid_script::{Stop, accept, build_system, read_net, read_placement, read_vec};
 use lid_stations::Placement;
 use lid_system::System;
-use lid_texts::Rows;
 use std::thread::Threads;
 
 /// What is written once the rows are read.
@@ -30,43 +27,24 @@ fn run_text<'a, R: Threads + AllocGlobal + Sync, S: Shelf, G: Gate>(
     rt: &R,
     gate: &G,
     shelf: &mut S,
-    checked: &Checked,
-    system: &System,
-    placement: &Placement,
-    rows: &Rows,
+    fed: &Fed<'_>,
     run: HeldRun<'a>,
 ) -> Result<Vec<u8>, Stop<'a>>
-    requires system { IsSystem system.now }
-    requires fits { Fits system.now placement.now }
-    requires of { IsSystemOf checked.now system.now }
-    requires few { length rows.now.bits ≤ 1000000 }
-    requires wide { AllByRecursion (λ row. length row ≡ length (root_inputs checked.now)) rows.now.bits }
+    requires fed { IsFed fed.now }
     requires sound { IsSoundRun run }
-    ensures ok { IfOk result (λ text. HasText (S.held shelf.old) (script_for run.entry checked.now (links_of system.now) placement.now rows.now.bits) text.items) }
-    ensures err { IfErr result (IsCause (S.held shelf.old) (script_for run.entry checked.now (links_of system.now) placement.now rows.now.bits) (S.faults shelf.old) (S.faults shelf.new)) }
+    ensures ok { IfOk result (λ text. HasText (S.held shelf.old) (script_for run.entry fed.now.checked.now (links_of fed.now.system.now) fed.now.placement.now fed.now.rows.now.bits) text.items) }
+    ensures err { IfErr result (IsCause (S.held shelf.old) (script_for run.entry fed.now.checked.now (links_of fed.now.system.now) fed.now.placement.now fed.now.rows.now.bits) (S.faults shelf.old) (S.faults shelf.new)) }
     ensures kept { S.held shelf.new ≡ S.held shelf.old }
     ensures grows { (q : List ℕ) → S.faults shelf.old q ≤ S.faults shelf.new q }
 {
     match run {
-        HeldRun::Walk(schedule) => {
-            walked_text(
-                rt.alloc(),
-                shelf,
-                checked,
-                system,
-                placement,
-                rows,
-                schedule,
-            )
-        }
+        HeldRun::Walk(schedule) => walked_text(rt.alloc(), shelf, fed, schedule),
         HeldRun::Free {
             workers,
             rounds,
             tally,
-        } => freed_text(
-            rt, gate, checked, system, placement, rows, workers, rounds, tally,
-        ),
-        HeldRun::Wave(cycles) => waved_text(rt.alloc(), checked, system, placement, rows, cycles),
+        } => freed_text(rt, gate, fed, workers, rounds, tally),
+        HeldRun::Wave(cycles) => waved_text(rt.alloc(), fed, cycles),
     }
 }
 
@@ -91,7 +69,15 @@ fn placed_text<'a, R: Threads + AllocGlobal + Sync, S: Shelf, G: Gate>(
     ensures grows { (q : List ℕ) → S.faults shelf.old q ≤ S.faults shelf.new q }
 {
     match read_vec(rt.alloc(), shelf, checked, vec) {
-        Ok(rows) => run_text(rt, gate, shelf, checked, system, placement, &rows, run),
+        Ok(rows) => {
+            let fed = Fed {
+                checked,
+                system,
+                placement,
+                rows: &rows,
+            };
+            run_text(rt, gate, shelf, &fed, run)
+        }
         Err(stop) => Err(stop),
     }
 }
@@ -191,6 +177,7 @@ fn held_text<'a, R: Threads + AllocGlobal + Sync, S: Shelf, G: Gate>(
 }
 
 /// What `free` writes, of 1 to 64 workers and at most 1,000,000 rounds.
+#[tactic(auto, unfolding(lid_script::specs::Scripts::free_script))]
 pub fn free_text<'a, R: Threads + AllocGlobal + Sync, S: Shelf, G: Gate>(
     rt: &R,
     gate: &G,
@@ -228,6 +215,7 @@ pub fn free_text<'a, R: Threads + AllocGlobal + Sync, S: Shelf, G: Gate>(
 }
 
 /// What `walk` writes.
+#[tactic(auto, unfolding(lid_script::specs::Scripts::walk_script))]
 pub fn walk_text<'a, R: Threads + AllocGlobal + Sync, S: Shelf, G: Gate>(
     rt: &R,
     gate: &G,
@@ -256,6 +244,7 @@ pub fn walk_text<'a, R: Threads + AllocGlobal + Sync, S: Shelf, G: Gate>(
 }
 
 /// What `wave` writes, of a trace of 1 to 1,048,576 cycles.
+#[tactic(auto, unfolding(lid_script::specs::Scripts::wave_script))]
 pub fn wave_text<'a, R: Threads + AllocGlobal + Sync, S: Shelf, G: Gate>(
     rt: &R,
     gate: &G,

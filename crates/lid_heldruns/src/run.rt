@@ -1,4 +1,9 @@
-//! Runs that hold their rows.
+//! Runs that hold their rows, and what they run.
+
+use lid_check::Checked;
+use lid_stations::Placement;
+use lid_system::System;
+use lid_texts::Rows;
 
 /// What is done once the rows of a run are read.
 #[derive(Clone, Copy)]
@@ -13,4 +18,17 @@ pub(crate) enum HeldRun<'a> {
     Walk(&'a str),
     /// The trace of so many cycles of the clocked run as a value change dump.
     Wave(u64),
+}
+
+/// An accepted design with its system, the stations of that, and rows for its inputs.
+#[derive(Clone, Copy)]
+pub(crate) struct Fed<'s> {
+    /// The design.
+    pub(crate) checked: &'s Checked,
+    /// Its system.
+    pub(crate) system: &'s System,
+    /// The stations.
+    pub(crate) placement: &'s Placement,
+    /// The rows.
+    pub(crate) rows: &'s Rows,
 }

@@ -1,9 +1,8 @@
 //! `walk`: what actors answer along a schedule.
 
-ghost use Rattle.std.specs.Prelude.{◌≡◌, ◌++◌, ◌<◌, ℕ, ◌≤◌, Bool, List, length, IfOk, IfErr, OnOk};
+ghost use Rattle.std.specs.Prelude.{◌≡◌, ◌++◌, ◌<◌, ℕ, ◌≤◌, List, IfOk, IfErr, OnOk};
 ghost use Rattle.std.specs.List.{AllByRecursion};
-ghost use Rattle.lid_agree.specs.Agreement.{IsSystemOf};
-ghost use Rattle.lid_design.specs.Columns.{root_inputs};
+ghost use Rattle.lid_heldruns.specs.Runs.{IsFed};
 ghost use Rattle.lid_machine.specs.Plans.{actors_of};
 ghost use Rattle.lid_machine.specs.Setups.{Setup, plan};
 ghost use Rattle.lid_machine.specs.Machine.{State, answers, after_all};
@@ -16,12 +15,12 @@ ghost use Rattle.lid_stations.specs.Stations.{actor_count};
 ghost use Rattle.lid_system.specs.Systems.{IsWellFormed as IsSystem};
 ghost use Rattle.lid_walk.specs.Walks.{Walks};
 
+use crate::run::Fed;
 use lid_base::Shelf;
-use lid_check::Checked;
 use lid_script::{Stop, read_schedule_file};
 use lid_stations::Placement;
 use lid_system::System;
-use lid_texts::{Rows, print_answer, print_rows};
+use lid_texts::{print_answer, print_rows};
 use lid_walk::Walk;
 use std::alloc::{AllocError, Global};
 
@@ -48,24 +47,13 @@ fn walk_on(walk: &mut Walk<'_>, schedule: &[u32], into: &mut Vec<u8>) -> Result<
 }
 
 /// The text of a walk along a schedule.
-fn lines_text(
-    alloc: Global,
-    checked: &Checked,
-    system: &System,
-    placement: &Placement,
-    rows: &Rows,
-    schedule: &[u32],
-) -> Result<Vec<u8>, AllocError>
-    requires system { IsSystem system.now }
-    requires fits { Fits system.now placement.now }
-    requires of { IsSystemOf checked.now system.now }
-    requires few { length rows.now.bits ≤ 1000000 }
-    requires wide { AllByRecursion (λ row. length row ≡ length (root_inputs checked.now)) rows.now.bits }
-    requires below { AllByRecursion (λ v. v < actor_count (links_of system.now) placement.now) schedule.now }
-    ensures { IfOk result (λ text. IsWalkText checked.now (links_of system.now) placement.now rows.now.bits schedule.now text.items) }
+fn lines_text(alloc: Global, fed: &Fed<'_>, schedule: &[u32]) -> Result<Vec<u8>, AllocError>
+    requires fed { IsFed fed.now }
+    requires below { AllByRecursion (λ v. v < actor_count (links_of fed.now.system.now) fed.now.placement.now) schedule.now }
+    ensures { IfOk result (λ text. IsWalkText fed.now.checked.now (links_of fed.now.system.now) fed.now.placement.now fed.now.rows.now.bits schedule.now text.items) }
 {
-    let _ = checked.design();
-    let mut walk = Walk::start(alloc, system, placement, rows)?;
+    let _ = fed.checked.design();
+    let mut walk = Walk::start(alloc, fed.system, fed.placement, fed.rows)?;
     let mut text = Vec::new(alloc);
     walk_on(&mut walk, schedule, &mut text)?;
     print_rows(&walk.into_rows(), &mut text)?;
@@ -76,24 +64,17 @@ fn lines_text(
 pub(crate) fn walked_text<'a, S: Shelf>(
     alloc: Global,
     shelf: &mut S,
-    checked: &Checked,
-    system: &System,
-    placement: &Placement,
-    rows: &Rows,
+    fed: &Fed<'_>,
     schedule: &'a str,
 ) -> Result<Vec<u8>, Stop<'a>>
-    requires system { IsSystem system.now }
-    requires fits { Fits system.now placement.now }
-    requires of { IsSystemOf checked.now system.now }
-    requires few { length rows.now.bits ≤ 1000000 }
-    requires wide { AllByRecursion (λ row. length row ≡ length (root_inputs checked.now)) rows.now.bits }
-    ensures ok { IfOk result (λ text. HasText (S.held shelf.old) (schedule_script checked.now (links_of system.now) placement.now schedule.now rows.now.bits) text.items) }
-    ensures err { IfErr result (IsCause (S.held shelf.old) (schedule_script checked.now (links_of system.now) placement.now schedule.now rows.now.bits) (S.faults shelf.old) (S.faults shelf.new)) }
+    requires { IsFed fed.now }
+    ensures ok { IfOk result (λ text. HasText (S.held shelf.old) (schedule_script fed.now.checked.now (links_of fed.now.system.now) fed.now.placement.now schedule.now fed.now.rows.now.bits) text.items) }
+    ensures err { IfErr result (IsCause (S.held shelf.old) (schedule_script fed.now.checked.now (links_of fed.now.system.now) fed.now.placement.now schedule.now fed.now.rows.now.bits) (S.faults shelf.old) (S.faults shelf.new)) }
     ensures kept { S.held shelf.new ≡ S.held shelf.old }
     ensures grows { (q : List ℕ) → S.faults shelf.old q ≤ S.faults shelf.new q }
 {
-    match read_schedule_file(alloc, shelf, actors_of(system, placement), schedule) {
-        Ok(list) => match lines_text(alloc, checked, system, placement, rows, list.as_slice()) {
+    match read_schedule_file(alloc, shelf, actors_of(fed.system, fed.placement), schedule) {
+        Ok(list) => match lines_text(alloc, fed, list.as_slice()) {
             Ok(text) => Ok(text),
             Err(_) => Err(Stop::Memory),
         },

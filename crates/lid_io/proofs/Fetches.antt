@@ -39,8 +39,3 @@ start_ended (Some file) old new room limit r l e s f =
     let over : length file ≤ length old = omega (arith, count, e, r, length-drop (length old) file) in
     let all : new ≡ file = here.front ∙ take_all (length new) file (omega (arith, over, e)) in
     all ∙ sym (take_all (limit + 1) file (omega (arith, over, l)))
-
--- where one byte more than the limit is held, no more is asked for
-pub start_full : (held : Option (List ℕ)) (bytes : List ℕ) (limit : ℕ) → length bytes ≡ limit + 1 → IsStart held bytes → IfSome held (λ file. bytes ≡ take (limit + 1) file)
-start_full None bytes limit e s = tt
-start_full (Some file) bytes limit e s = s.front ∙ ap (λ n. take n file) e

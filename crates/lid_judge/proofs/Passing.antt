@@ -10,10 +10,10 @@ use Rattle.lid_ports.specs.declared.formals.InstRule.TheVariants.{UnknownFormal,
 use Rattle.lid_rules.specs.declared.names.NameRule.TheVariants.{TwoDrivers, Undriven, ClockUse}
 use Rattle.lid_rules.specs.declared.told.Told.{Told}
 use Rattle.lid_rules.specs.Conditions.{or_fault, unknown_model, duplicate_name, unknown_formal, formal_twice, unbound, two_drivers, undriven, clock_use, two_clocks, mixed_edges, root_logic, limits}
-use Rattle.lid_rules.specs.Acceptance.{fault_before_recursion, fault_after_recursion, IsModelFault, TellsRecursive, ModelsPass}
+use Rattle.lid_rules.specs.Acceptance.{fault_before_recursion, fault_after_recursion, IsModelFault}
 use Rattle.lid_rules.specs.Rules.{inst_at, by_inst, by_insts}
 use Rattle.lid_rules.specs.Names.{name_at, by_name, by_names}
-use Rattle.lid_rules.specs.Early.{duplicates, unknowns, duplicate_at, unknown_in, TellsEarly, PassesEarly}
+use Rattle.lid_rules.specs.Early.{duplicates, unknowns, duplicate_at, unknown_in, PassesEarly}
 use Rattle.lid_rules.specs.Told.{shown, shown_of, IsToldOf}
 use Rattle.lid_rules.proofs.Faults.{none_both, or_assoc}
 use Rattle.lid_rules.proofs.Passing.{known_by, one_list}
@@ -73,22 +73,8 @@ pub known_early : (d : Design) → PassesEarly d → AreKnown d
 unfolding fault_before_recursion
 known_early d pass = known_by d pass.ks pass.reached (none_both (duplicate_name d pass.ks) (unknown_model d pass.ks) pass.before).1
 
--- what is told before recursion, of it, and after it
-pub early_told : (d : Design) (o : Option Told) (told : Told) → TellsEarly d (shown_of o) → o ≡ Some told → IsModelFault d (shown told)
-early_told d o told tells is = (tells.ks, tells.reached, inl (sym tells.tells ∙ ap shown_of is))
-
-pub recursive_told : (d : Design) (told : Told) → PassesEarly d → TellsRecursive d (shown told) → IsToldOf d told
-recursive_told d told pass tells = inr (pass.ks, pass.reached, inr (inl (pass.before, tells)))
-
 pub after_told : (d : Design) (o : Option Told) (told : Told) → PassesEarly d → HasNoRecursion d → ((ks : List ℕ) → AreReached d ks → shown_of o ≡ fault_after_recursion d ks) → o ≡ Some told → IsModelFault d (shown told)
 after_told d o told pass flat tells is = (pass.ks, pass.reached, inr (inr (pass.before, flat, sym (tells pass.ks pass.reached) ∙ ap shown_of is)))
-
--- a design of which nothing is told
-pub passes_early : (d : Design) (o : Option Told) → TellsEarly d (shown_of o) → o ≡ None → PassesEarly d
-passes_early d o tells is = record { ks = tells.ks; reached = tells.reached; before = sym tells.tells ∙ ap shown_of is }
-
-pub passes_all : (d : Design) (o : Option Told) → PassesEarly d → HasNoRecursion d → ((ks : List ℕ) → AreReached d ks → shown_of o ≡ fault_after_recursion d ks) → o ≡ None → ModelsPass d
-passes_all d o pass flat tells is = record { ks = pass.ks; reached = pass.reached; before = pass.before; flat = flat; after = sym (tells pass.ks pass.reached) ∙ ap shown_of is }
 
 -- what is told of a design, with copies of its names
 pub copied : (d : Design) (told : Told) (fault : CheckFault) → IsToldOf d told → (fault ≡ Memory) ⊎ (fault ≡ shown told) → (fault ≡ Memory) ⊎ IsModelFault d fault

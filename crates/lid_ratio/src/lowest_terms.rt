@@ -16,7 +16,7 @@ pub struct Ratio {
     pub q: u64,
 }
 
-/// The ratio of two numbers in lowest terms.
+/// The ratio of a number of tokens to a number of edges, which is not 0, in lowest terms.
 pub fn lowest(tokens: u64, edges: u64) -> Ratio
     requires { 0 < edges }
     ensures { IsLowest tokens edges result.p result.q }
@@ -28,7 +28,7 @@ pub fn lowest(tokens: u64, edges: u64) -> Ratio
     }
 }
 
-/// The tokens on the edges with these numbers.
+/// The tokens on the edges with these numbers, at most 2^18 of them with at most 16 tokens each.
 pub fn tokens_on(graph: &Graph, walk: &[u32]) -> u64
     requires within { All (λ k. k < length graph.now.edges) walk.now }
     requires few { (k : ℕ) → k < length graph.now.edges → (edge_at graph.now k).tokens ≤ 16 }

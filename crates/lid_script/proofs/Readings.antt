@@ -35,20 +35,8 @@ net_bad bytes e h = ap (λ f. unless_faulty f (design_of (logical_lines bytes)))
 
 -- a fault is told exactly, but for want of memory
 declined : {A : Type 0} (reading : Reading A) (e : BlifFault) → reading ≡ bad (blif_line e) → Declines reading (stop_of_blif e)
-declined reading (blif.Text fault) h = h
-declined reading (blif.NoModel line) h = h
-declined reading (blif.Unsupported line) h = h
-declined reading (blif.Arity line) h = h
-declined reading (blif.RowOutside line) h = h
-declined reading (blif.RowShape line) h = h
-declined reading (blif.MixedRows line) h = h
-declined reading (blif.LatchType line) h = h
-declined reading (blif.LatchInit line) h = h
-declined reading (blif.BindShape line) h = h
-declined reading (blif.DuplicateModel line) h = h
-declined reading (blif.TooManyInputs line) h = h
-declined reading (blif.Limit which count) h = h
 declined reading blif.Memory h = tt
+declined reading _ h = h
 
 pub net_declines : (bytes : List ℕ) (e : BlifFault) → (e ≡ blif.Memory) ⊎ (blif_fault bytes ≡ Some e) → Declines (net_reading bytes) (stop_of_blif e)
 net_declines bytes e (inl m) = subst (λ f. Declines (net_reading bytes) (stop_of_blif f)) (sym m) tt
@@ -56,23 +44,8 @@ net_declines bytes e (inr h) = declined (net_reading bytes) e (net_bad bytes e h
 
 -- a design that is refused, but for want of memory
 refused : (root : Option (List ℕ)) (d : Design) (e : CheckFault) → IsUnchecked root d (check_line e) → FailsCheck root d (stop_of_check e)
-refused root d check.NoRoot h = h
-refused root d (check.DuplicateName model name) h = h
-refused root d (check.UnknownModel model inst name) h = h
-refused root d (check.Recursive model) h = h
-refused root d (check.UnknownFormal model inst formal) h = h
-refused root d (check.FormalTwice model inst formal) h = h
-refused root d (check.Unbound model inst formal) h = h
-refused root d (check.TwoDrivers model name) h = h
-refused root d (check.Undriven model name) h = h
-refused root d (check.ClockUse model name) h = h
-refused root d (check.TwoClocks first second) h = h
-refused root d (check.MixedEdges model name) h = h
-refused root d (check.RootLogic name) h = h
-refused root d (check.Limit which count) h = h
-refused root d (check.CombLoop path name) h = h
-refused root d (check.OutputFromInput model output input) h = h
 refused root d check.Memory h = tt
+refused root d _ h = h
 
 pub check_fails : (root : Option (List ℕ)) (d : Design) (e : CheckFault) → (e ≡ check.Memory) ⊎ IsRefused (with_root d root) e → FailsCheck root d (stop_of_check e)
 check_fails root d e (inl m) = subst (λ f. FailsCheck root d (stop_of_check f)) (sym m) tt
@@ -94,12 +67,8 @@ vec_bad d bytes columns outs e c o h =
     ∙ ap bits_read h
 
 rows_declined : {A : Type 0} (reading : Reading A) (e : VecFault) → reading ≡ bad (rows_line e) → Declines reading (stop_of_rows e)
-rows_declined reading rows.Header h = h
-rows_declined reading (rows.Width line) h = h
-rows_declined reading (rows.Char line) h = h
-rows_declined reading (rows.Limit which count) h = h
-rows_declined reading (rows.Changed count found) h = h
 rows_declined reading rows.Memory h = tt
+rows_declined reading _ h = h
 
 pub vec_declines : (d : Design) (bytes : List ℕ) (columns : List (List ℕ)) (outs : ℕ) (e : VecFault) → columns ≡ root_inputs d → outs ≡ length (root_outputs d) → (e ≡ rows.Memory) ⊎ (rows_reading columns outs bytes ≡ Err e) → Declines (vec_reading d bytes) (stop_of_rows e)
 vec_declines d bytes columns outs e c o (inl m) = subst (λ f. Declines (vec_reading d bytes) (stop_of_rows f)) (sym m) tt

@@ -18,10 +18,8 @@ unfolding schedule_read
 schedule_is_good actors bytes list h = ap schedule_good h
 
 declined : {A : Type 0} (reading : Reading A) (e : SchedFault) → reading ≡ bad (schedule_line e) → Declines reading (stop_of_schedule e)
-declined reading (schedule.Word line) h = h
-declined reading (schedule.NoActor line) h = h
-declined reading (schedule.Limit which count) h = h
 declined reading schedule.Memory h = tt
+declined reading _ h = h
 
 declines : (r : Result (List ℕ) SchedFault) (e : SchedFault) → (e ≡ schedule.Memory) ⊎ (r ≡ Err e) → Declines (schedule_good r) (stop_of_schedule e)
 declines r e (inl m) = subst (λ f. Declines (schedule_good r) (stop_of_schedule f)) (sym m) tt

@@ -16,10 +16,8 @@ unfolding stalls_read
 stalls_are_good bytes list h = ap stalls_good h
 
 declined : {A : Type 0} (reading : Reading A) (e : StallFault) → reading ≡ bad (stalls_line e) → Declines reading (stop_of_stalls e)
-declined reading (stalls.Limit which count) h = h
-declined reading (stalls.Word line) h = h
-declined reading (stalls.Order line) h = h
 declined reading stalls.Memory h = tt
+declined reading _ h = h
 
 declines : (r : Result (List Stall) StallFault) (e : StallFault) → (e ≡ stalls.Memory) ⊎ (r ≡ Err e) → Declines (stalls_good r) (stop_of_stalls e)
 declines r e (inl m) = subst (λ f. Declines (stalls_good r) (stop_of_stalls f)) (sym m) tt

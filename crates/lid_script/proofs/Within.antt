@@ -1,7 +1,9 @@
 -- A script that ends as another one may, and reaches the files that the other one reaches: what the run of
 -- the other one shows, it shows.
-use Rattle.std.proofs.Common.{◌≡◌, ℕ, ◌≤◌, true, List, Option, Some, None, Result, Err, inl, inr, refl, sym, subst}
-use Rattle.lid_base.proofs.Results.{on_ok, if_err}
+use Rattle.std.proofs.Common.{◌≡◌, ℕ, ◌≤◌, true, List, Option, Some, None, Result, Err, IfOk, IfErr, inl, inr, refl, sym, subst}
+use Rattle.lid_base.proofs.Results.{if_ok, on_ok, if_err}
+use Rattle.lid_design.specs.declared.Design.{Design}
+use Rattle.lid_system.specs.declared.Channel.{Channel}
 use Rattle.lid_stations.specs.declared.placement.Placement.{Placement}
 use Rattle.lid_stations.specs.Placements.{Links}
 use Rattle.lid_stalltext.specs.declared.stalls.Stall.{Stall}
@@ -10,8 +12,9 @@ use Rattle.lid_script.specs.declared.fault.Stop.{Stop}
 use Rattle.lid_script.specs.declared.fault.Stop.TheVariants.{Refused, Read, Memory, Denied}
 use Rattle.lid_script.specs.declared.fault.End.{End}
 use Rattle.lid_script.specs.declared.fault.End.TheVariants.{Stopped, Unwritten}
-use Rattle.lid_script.specs.Scripts.{Ending, refuses, denies, gives, Script, decide, Reading, good, step, read_step, text_limit, stations_read, placement_step, stalls_read, stalls_step, EndsIn, Reaches}
-use Rattle.lid_script.specs.Causes.{Got, GotPlacement, GotStalls, IsCause, IsEnd}
+use Rattle.lid_script.specs.Outputs.{Output, IsTextOf}
+use Rattle.lid_script.specs.Scripts.{Ending, refuses, denies, gives, Script, decide, end as ended, Reading, good, step, read_step, net_limit, net_reading, check_step, net_step, system_step, IsChecked, IsUnchecked, HasChannels, IsOverfull, links, text_limit, stations_read, placement_step, stalls_read, stalls_step, EndsIn, Reaches}
+use Rattle.lid_script.specs.Causes.{Got, GotSystem, GotPlacement, GotStalls, IsCause, IsEnd}
 use Rattle.lid_script.specs.Statuses.{HasText, Writes, WritesPrefix, TellsAll, Leaves}
 use Rattle.lid_script.specs.Early.{RunsEarly}
 use Rattle.lid_script.proofs.Composition.{rose_later}
@@ -41,6 +44,33 @@ within_decided held Good Bad next a g = record {
   reaches = λ file r. (a, g, r);
 }
 
+-- a design was checked
+pub within_checked : (held : List ℕ → Option (List ℕ)) (root : Option (List ℕ)) (d : Design) (next : Design → Script) (checked : Design) → IsChecked root d checked → Within held (next checked) (check_step root d next)
+within_checked held root d = within_decided held (IsChecked root d) (IsUnchecked root d)
+
+-- the system of a design was built
+pub within_linked : (held : List ℕ → Option (List ℕ)) (d : Design) (next : Links → Script) (channels : List Channel) (l : Links) → HasChannels d channels → l ≡ links d channels → Within held (next l) (net_step d (λ channels. next (links d channels)))
+within_linked held d next channels l has is =
+    subst (λ (x : Links). Within held (next x) (net_step d (λ channels. next (links d channels)))) (sym is)
+    (within_decided held (HasChannels d) (IsOverfull d) (λ channels. next (links d channels)) channels has)
+
+-- a step in a step
+pub within_both : (held : List ℕ → Option (List ℕ)) (inner between outer : Script) → Within held inner between → Within held between outer → Within held inner outer
+within_both held inner between outer v w = record {
+  ends = λ ending e. w.ends ending (v.ends ending e);
+  reaches = λ file r. w.reaches file (v.reaches file r);
+}
+
+-- a netlist was fetched, read and checked, and its system built
+pub within_built : (held : List ℕ → Option (List ℕ)) (net : List ℕ) (root : Option (List ℕ)) (next : Links → Script) (l : Links) → GotSystem held net root l → Within held (next l) (system_step net root next)
+within_built held net root next l g =
+    let b = g.builds in
+    let built : Design → Script = λ checked. net_step checked (λ channels. next (links checked channels)) in
+    let checked_on : Design → Script = λ d. check_step root d built in
+    within_both held (next l) (checked_on g.design) (system_step net root next)
+    (within_both held (next l) (built b.checked) (checked_on g.design) (within_linked held b.checked next b.channels l b.has b.links_are) (within_checked held root g.design built b.checked b.is_checked))
+    (within_read held net net_limit net_reading checked_on g.design g.got)
+
 -- the placement of the job is known
 pub within_placed : (held : List ℕ → Option (List ℕ)) (l : Links) (next : Placement → Script) (stations : Option (List ℕ)) (p : Placement) → GotPlacement held l stations p → Within held (next p) (placement_step l stations next)
 within_placed held l next None p g = record {
@@ -59,7 +89,7 @@ within_stalled held next (Some stalls) None g = absurd g
 within_stalled held next (Some stalls) (Some read) g = within_read held stalls text_limit stalls_read (λ list. next (Some list)) read g
 
 module _ (held : List ℕ → Option (List ℕ)) (inner outer : Script) (w : Within held inner outer) where
-  has_text : (text : List ℕ) → HasText held inner text → HasText held outer text
+  pub has_text : (text : List ℕ) → HasText held inner text → HasText held outer text
   has_text text h = record { output = h.output; ends = w.ends (gives h.output) h.ends; text_of = h.text_of }
 
   all_written : (old new : Option (List ℕ)) → Writes held inner old new → Writes held outer old new
@@ -68,7 +98,7 @@ module _ (held : List ℕ → Option (List ℕ)) (inner outer : Script) (w : Wit
   part_written : (old new : Option (List ℕ)) → WritesPrefix held inner old new → WritesPrefix held outer old new
   part_written old new h = record { text = h.text; has = has_text h.text h.has; appended = h.appended }
 
-  same_cause : (before mid after : List ℕ → ℕ) (stop : Stop) → ((q : List ℕ) → before q ≤ mid q) → IsCause held inner mid after stop → IsCause held outer before after stop
+  pub same_cause : (before mid after : List ℕ → ℕ) (stop : Stop) → ((q : List ℕ) → before q ≤ mid q) → IsCause held inner mid after stop → IsCause held outer before after stop
   same_cause before mid after (Refused refusal) grows c = w.ends (refuses (refusal_line refusal)) c
   same_cause before mid after (Read file) grows c = (w.reaches file.now c.0, rose_later (before file.now) (mid file.now) (after file.now) (grows file.now) c.1)
   same_cause before mid after Memory grows c = tt
@@ -101,6 +131,31 @@ module _ (held : List ℕ → Option (List ℕ)) (inner outer : Script) (w : Wit
         → RunsEarly now inner mid after written writes out out_after result → RunsEarly held outer before after written writes out out_after result
     runs_within now before mid after out out_after result same grows r =
         runs_on before mid after out out_after result grows (subst (λ (h : List ℕ → Option (List ℕ)). RunsEarly h inner mid after written writes out out_after result) same r)
+
+-- what a call gives that ends as the inner script does
+module _ {held : List ℕ → Option (List ℕ)} {inner outer : Script} (w : Within held inner outer) where
+  -- over a shelf that holds the same
+  pub text_within : {A E : Type 0} {now : List ℕ → Option (List ℕ)} (items : A → List ℕ) (result : Result A E) → now ≡ held → IfOk result (λ a. HasText now inner (items a)) → IfOk result (λ a. HasText held outer (items a))
+  text_within items result same h = if_ok result (λ a x. has_text held inner outer w (items a) (subst (λ (v : List ℕ → Option (List ℕ)). HasText v inner (items a)) same x)) h
+
+  -- and after counts have grown
+  pub cause_within : {A : Type 0} {now : List ℕ → Option (List ℕ)} (result : Result A Stop) (before mid after : List ℕ → ℕ) → now ≡ held → ((q : List ℕ) → before q ≤ mid q)
+      → IfErr result (λ stop. IsCause now inner mid after stop) → IfErr result (λ stop. IsCause held outer before after stop)
+  cause_within result before mid after same grows h =
+      if_err result (λ stop x. same_cause held inner outer w before mid after stop grows (subst (λ (v : List ℕ → Option (List ℕ)). IsCause v inner mid after stop) same x)) h
+
+  -- whatever the shelf holds
+  pub text_anywhere : {A E : Type 0} (items : A → List ℕ) (result : Result A E) → IfOk result (λ a. (v : List ℕ → Option (List ℕ)) → HasText v inner (items a)) → IfOk result (λ a. HasText held outer (items a))
+  text_anywhere items result h = if_ok result (λ a x. has_text held inner outer w (items a) (x held)) h
+
+  pub cause_anywhere : {A : Type 0} (result : Result A Stop) (before after : List ℕ → ℕ) → ((q : List ℕ) → before q ≤ after q)
+      → IfErr result (λ stop. (v : List ℕ → Option (List ℕ)) (b a : List ℕ → ℕ) → IsCause v inner b a stop) → IfErr result (λ stop. IsCause held outer before after stop)
+  cause_anywhere result before after grows h = if_err result (λ stop x. same_cause held inner outer w before after after stop grows (x held after after)) h
+
+-- the same of a call that gives the output in which the script ends
+module _ {held : List ℕ → Option (List ℕ)} {output : Output} {outer : Script} (w : Within held (ended (gives output)) outer) where
+  pub text_given : {A E : Type 0} (items : A → List ℕ) (result : Result A E) → IfOk result (λ a. IsTextOf output (items a)) → IfOk result (λ a. HasText held outer (items a))
+  text_given items result h = if_ok result (λ a x. has_text held (ended (gives output)) outer w (items a) (record { output = output; ends = refl; text_of = x })) h
 
 -- the run stops before anything is written
 pub runs_stopped : {O : Type 0} (held : List ℕ → Option (List ℕ)) (script : Script) (before after : List ℕ → ℕ) (written : O → Option (List ℕ)) (writes : O → ℕ) (out : O) (stop : Stop)

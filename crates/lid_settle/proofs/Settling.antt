@@ -27,13 +27,6 @@ bit_set f known bits k v room right agrees = at
     at x (inl same) = subst (λ (n : ℕ). bit_at (set bits k v) n ≡ f n) (sym same) here
     at x (inr among) = there x among (eqb_tells x k)
 
-pub map_agrees : (f : ℕ → Bool) (bits : List Bool) (nets : List ℕ) → AgreesAt f nets bits → map (bit_at bits) nets ≡ map f nets
-map_agrees f bits [] agrees = refl
-map_agrees f bits (k ∷ nets) agrees =
-    let head : bit_at bits k ≡ f k = agrees k (inl refl) in
-    let tail : map (bit_at bits) nets ≡ map f nets = map_agrees f bits nets (λ x among. agrees x (inr among)) in
-    cc
-
 pub agrees_all : (f : ℕ → Bool) (known : List ℕ) (bits : List Bool) (nets : List ℕ) → AgreesAt f known bits → AllByRecursion (λ k. Among k known) nets → map (bit_at bits) nets ≡ map f nets
 agrees_all f known bits [] agrees all = refl
 agrees_all f known bits (k ∷ nets) agrees all =

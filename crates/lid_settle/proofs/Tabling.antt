@@ -165,16 +165,6 @@ size_is (suc (suc (suc (suc (suc zero))))) h = refl
 size_is (suc (suc (suc (suc (suc (suc zero)))))) h = refl
 size_is (suc (suc (suc (suc (suc (suc (suc n))))))) h = absurd (omega arith)
 
-pub size_some : (n : ℕ) → n ≤ 6 → 0 < (1 * 2 ^ n) % 18446744073709551616
-size_some zero h = omega arith
-size_some (suc zero) h = omega arith
-size_some (suc (suc zero)) h = omega arith
-size_some (suc (suc (suc zero))) h = omega arith
-size_some (suc (suc (suc (suc zero)))) h = omega arith
-size_some (suc (suc (suc (suc (suc zero))))) h = omega arith
-size_some (suc (suc (suc (suc (suc (suc zero)))))) h = omega arith
-size_some (suc (suc (suc (suc (suc (suc (suc n))))))) h = absurd (omega arith)
-
 -- what a table says of packed bits, of which there are at least as many as inputs
 pub table_says : (table : ℕ) (cover : Cover) → IsTable table cover → (bits : List Bool) → length bits ≡ 6 → cover.inputs ≤ 6 → is_set table (packed bits) ≡ cover_value cover (take cover.inputs bits)
 table_says table cover is bits long few =

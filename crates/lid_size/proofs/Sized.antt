@@ -125,13 +125,6 @@ module _ (s : System) (relays xs ys : List ℕ) (station : ℕ) (h : station < s
       let low = starts_small (spot_at relays station).place in
       omega arith
 
--- a placement with other capacities fits too
-pub fits_with : (s : System) (p : Placement) (caps : List ℕ) → Fits s p → AreCapacities (station_count p.relays) caps → Fits s (with_capacities p.relays caps)
-fits_with s p caps fits are = record {
-  rules = record { few = fits.rules.few; most = fits.rules.most; caps = are.count; range = are.range };
-  counts = fits.counts;
-}
-
 pub has_stations : (s : System) (relays caps : List ℕ) → IsWellFormed s → Fits s (with_capacities relays caps) → HasStations (sized (links_of s) relays caps) (station_count relays)
 has_stations s relays caps well fits = record {
   rateable = rateable s (with_capacities relays caps) well fits;

@@ -75,13 +75,6 @@ pub half_past : (cap : ℕ) (tokens : List ℕ) (first count place : ℕ) → 0 
 half_past cap tokens first count place some past =
     half_empty cap tokens first count place (λ i low high same. let below : i % cap < cap = omega arith in omega arith)
 
--- a place shows 0 exactly where no token stands there
-pub half_zero : (cap : ℕ) (tokens : List ℕ) (first count place : ℕ) → count ≤ cap → (half cap tokens first count place ≡ 0) ↔ ((i : ℕ) → first ≤ i → i < first + count → i % cap ≡ place → ⊥)
-half_zero cap tokens first count place few = (
-  (λ zero_there i low high here. let full = half_token cap tokens first count place i few low high here in omega arith),
-  half_empty cap tokens first count place,
-)
-
 -- each place of a station that holds its capacity has its full bit
 pub half_full : (cap : ℕ) (tokens : List ℕ) (first place : ℕ) → place < cap → 2147483648 ≤ half cap tokens first cap place
 half_full cap tokens first place within =

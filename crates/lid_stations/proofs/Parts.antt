@@ -58,10 +58,6 @@ one_part f xs n c i d j p q = by_order (cases_lt c d) (cases_lt d c)
     by_order (inr more) (inl less) = absurd (omega (arith, before_part f xs d c less (let b = p.below in omega arith), q.number, q.within, p.number))
     by_order (inr more) (inr less) = level (omega arith)
 
--- a number of a part is below the sum
-pub part_below : (f : ℕ → ℕ) (xs : List ℕ) (n c i : ℕ) → IsInPart f xs n c i → n < sum_by f xs
-part_below f xs n c i p = omega (arith, sum_by_more_le f xs c 0 p.below, p.within, p.number)
-
 -- a list of f at numbers, in two parts
 pub each_more : {A : Type 0} (f : ℕ → A) (k m n : ℕ) → from_each f k (m + n) ≡ from_each f k m ++ from_each f (k + m) n
 each_more {A} f k zero n = ap (from_each f k) (zero-add n) ∙ (let e : k ≡ k + 0 = omega arith in ap (λ (j : ℕ). from_each f j n) e)

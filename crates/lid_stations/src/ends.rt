@@ -7,7 +7,8 @@ ghost use Rattle.lid_stations.specs.Stations.{fills, drains, IsPlace};
 use crate::placement::Placement;
 use lid_system::System;
 
-/// The actor that fills the station at a place of channel c, whose first mover is this.
+/// The actor that fills the station at a place of channel c, from 0 at its producer on. `first` is the
+/// number of the channel's first mover.
 pub fn filler(system: &System, placement: &Placement, c: usize, place: u32, first: u32) -> u32
     requires { IsPlace system.now placement.now c place first }
     ensures { result ≡ fills (links_of system.now) placement.now c place }
@@ -19,7 +20,8 @@ pub fn filler(system: &System, placement: &Placement, c: usize, place: u32, firs
     }
 }
 
-/// The actor that drains the station at a place of channel c, whose first mover is this.
+/// The actor that drains the station at a place of channel c, from 0 at its producer on. `first` is the
+/// number of the channel's first mover.
 pub fn drainer(system: &System, placement: &Placement, c: usize, place: u32, first: u32) -> u32
     requires { IsPlace system.now placement.now c place first }
     ensures { result ≡ drains (links_of system.now) placement.now c place }

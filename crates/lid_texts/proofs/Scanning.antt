@@ -1,5 +1,5 @@
 -- A scan of rows, piece by piece.
-use Rattle.std.proofs.Common.{◌≡◌, ℕ, suc, ◌+◌, ◌<◌, ◌≤◌, ◌^◌, ◌==◌, Bool, true, false, List, [], ◌∷◌, ◌++◌, length, Option, Some, None, inl, inr, refl, sym, ap, ◌∙◌, append_assoc, length-append, subst, arith}
+use Rattle.std.proofs.Common.{◌≡◌, ℕ, suc, ◌+◌, ◌<◌, ◌≤◌, ◌^◌, Bool, true, false, List, [], ◌∷◌, ◌++◌, length, Option, Some, None, inl, inr, refl, sym, ap, ◌∙◌, append_assoc, length-append, subst, arith}
 use denote.Ref.{Bor}
 use Rattle.std.specs.Prelude.{is_some, is_ok, if◌then◌else◌, Result, Ok, Err, OnOk, OnErr}
 use Rattle.std.specs.Option.{option_copied}
@@ -19,10 +19,6 @@ use Rattle.lid_texts.specs.RowsWalk.{no_line, RowsGrow, IsFaulty, Goes, IsWalked
 use Rattle.lid_texts.specs.Scanned.{HasRead, Gives, GivesPrefix}
 use Rattle.lid_texts.proofs.Splits.{onto_part, onto_nothing, split_more, ended_are, last_part, some_parts, ended_more, logical_more}
 use Rattle.lid_texts.proofs.Faulted.{first_fine, first_more, faults_more, rows_stopped, rows_more}
-
-pub nothing_left : (xs : List ℕ) → true ≡ (length xs == 0) → xs ≡ []
-nothing_left [] e = refl
-nothing_left (x ∷ xs) e = absurd (let h : (length (x ∷ xs) == 0) ≡ false = grind (arith) in let g : true ≡ false = e ∙ h in cc)
 
 is_not_some : {A : Type 0} (o : Option A) → o ≡ None → is_some o ≡ true → ⊥
 is_not_some o none some = let e : is_some o ≡ false = ap (λ p. is_some p) none in let f : false ≡ true = sym e ∙ some in cc

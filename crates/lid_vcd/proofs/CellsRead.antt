@@ -1,5 +1,5 @@
 -- The cycles of a written dump show its cells.
-use Rattle.std.proofs.Common.{◌≡◌, ℕ, ◌+◌, ◌*◌, ◌%◌, ◌^◌, ◌<◌, ◌≤◌, ◌==◌, Bool, true, false, cond, List, [], ◌∷◌, ◌++◌, length, map, refl, sym, ap, ◌∙◌, subst, length-append, append_assoc, append-nil, arith}
+use Rattle.std.proofs.Common.{◌≡◌, ℕ, ◌+◌, ◌*◌, ◌%◌, ◌^◌, ◌<◌, ◌≤◌, ◌==◌, Bool, true, false, cond, List, [], ◌∷◌, ◌++◌, length, refl, sym, ap, ◌∙◌, subst, length-append, append_assoc, arith}
 use Rattle.std.specs.List.{AllByRecursion}
 use Rattle.std.proofs.lemmas.Bool.{eqb-true}
 use Rattle.lid_base.specs.declared.runs.Shown.{Shown}
@@ -11,7 +11,7 @@ use Rattle.lid_wave.specs.Form.{place}
 use Rattle.lid_wave.specs.Shows.{cell_of, shown}
 use Rattle.lid_wave.specs.Text.{bit_words, token_words, cell_lines, bit_change, token_change, cell_changes}
 use Rattle.lid_wave.specs.Writable.{IsCell}
-use Rattle.lid_vcd.proofs.WrittenWords.{on_line, placed_lines}
+use Rattle.lid_vcd.proofs.WrittenWords.{placed_lines}
 use Rattle.lid_vcd.proofs.Going.{Goes, nothing, then_goes}
 use Rattle.lid_vcd.proofs.HeadRead.{placed_append}
 use Rattle.lid_vcd.proofs.BodyRead.{AtTime, at_set, bit_value, bit_read, token_read_at}
@@ -20,10 +20,6 @@ use Rattle.lid_vcd.proofs.BodyRead.{AtTime, at_set, bit_value, bit_read, token_r
 abbrev pub values_of : List Shown → List ℕ
 values_of [] = []
 values_of (cell ∷ cells) = bit_value cell.valid ∷ bit_value cell.stop ∷ cell.token ∷ values_of cells
-
-pub length_values : (cells : List Shown) → length (values_of cells) ≡ 3 * length cells
-length_values [] = refl
-length_values (cell ∷ cells) = let e = length_values cells in omega arith
 
 cell_shown : (valid stop : Bool) (token : ℕ) → (valid ≡ false → token ≡ 0) → cell_of (bit_value valid) (bit_value stop) token ≡ record { valid = valid; stop = stop; token = token }
 cell_shown true true token void = refl
@@ -65,9 +61,6 @@ record AreFew (variables at n : ℕ) : Type 0 where
 
 kind_of : (k d : ℕ) → d < 3 → is_token (3 * k + d) ≡ (d == 2)
 kind_of k d small = let e : (3 * k + d) % 3 ≡ d = omega arith in ap (λ (m : ℕ). m == 2) e
-
-one_line : (words : Words) (line : ℕ) → placed_lines line (words ∷ []) ≡ map (on_line line) words
-one_line words line = append-nil (map (on_line line) words)
 
 bit_goes : (line variables at : ℕ) (next : Next) (done rest : List ℕ) (x : ℕ) (bit : Bool) (n : ℕ) → n ≡ length done → AtTime variables at next → AreFew variables at n → is_token n ≡ false →
     GoesAt variables at next (done ++ x ∷ rest) (placed_lines line (bit_words n bit ∷ [])) (done ++ bit_value bit ∷ rest)

@@ -3,7 +3,6 @@ use Rattle.std.proofs.Common.{◌≡◌, ℕ, zero, suc, ◌+◌, ◌-◌, ◌*�
 use Rattle.std.specs.List.{list_all}
 use Rattle.std.proofs.lemmas.Bool.{and_parts, cond-false, cases_lt}
 use Rattle.std.specs.Prelude.{nat_lt}
-use Rattle.std.proofs.Math.Nat.{pow-le-pow_right}
 use Rattle.lid_wave.specs.Ids.{is_bit, bits_on, binary_by}
 
 -- one more digit
@@ -41,11 +40,6 @@ bits_room value left b few small below =
     let double : 2 ^ suc (31 - (left + 1)) ≡ 2 * 2 ^ (31 - (left + 1)) = grind arith in
     subst (λ (k : ℕ). 2 * value + b < 2 ^ k) (sym e) (omega arith)
 
-pub bits_below : (value left : ℕ) → value < 2 ^ (31 - left) → value < 2147483648
-bits_below value left below =
-    let most : 2 ^ (31 - left) ≤ 2 ^ 31 = pow-le-pow_right {n = 2} (omega arith) {i = 31 - left} {j = 31} (omega arith) in
-    omega arith
-
 -- the digits of a word, of which these are left after a number
 pub record BitsLeft (word : List ℕ) (value : ℕ) (rest : List ℕ) : Type 0 where
   pub same : bits_on value rest ≡ bits_on 0 word
@@ -61,13 +55,6 @@ bits_next word (b ∷ bs) after value next some e f left =
     let below : value < 2 ^ (31 - (length bs + 1)) = subst (λ (k : ℕ). value < 2 ^ (31 - k)) (omega arith) left.below in
     let so : BitsLeft word (2 * value + (b - 48)) bs = record { same = left.same; bits = parts.1; few = omega arith; below = bits_room value (length bs) (b - 48) few (bit_small b parts.0) below } in
     subst (λ (n : ℕ). BitsLeft word n after) (sym f) (subst (λ (xs : List ℕ). BitsLeft word (2 * value + (b - 48)) xs) (sym e) so)
-
--- each number has room
-pub bits_fit : (word rest : List ℕ) (value b : ℕ) → 0 < length rest → BitsLeft word value rest → b < 256 → 2 * value + b < 4294967296
-bits_fit word rest value b some left small =
-    let more : value < 2 ^ (31 - length rest) = left.below in
-    let most : 2 ^ (31 - length rest) ≤ 2 ^ 30 = pow-le-pow_right {n = 2} (omega arith) {i = 31 - length rest} {j = 30} (omega arith) in
-    omega arith
 
 pub digit_next : (k n m : ℕ) (old mid new : List ℕ) → 0 < k → (2 ≤ n → mid ≡ old ++ binary_by (k - 1) (n / 2)) → (n < 2 → mid ≡ old) → m ≡ 48 + n % 2 → new ≡ mid ++ m ∷ [] → new ≡ old ++ binary_by k n
 digit_next k n m old mid new some large small e last =

@@ -64,14 +64,6 @@ bit (kept v k) = k
 bit (later v k) = k
 bit other = 0
 
--- where all of a list tell one number, and all of another list another, no item stands in both
-apart_by : (tell : Wire → ℕ) (m n : ℕ) (xs ys : List Wire) → (m ≡ n → ⊥) → ((w : Wire) → Among w xs → tell w ≡ m) → ((w : Wire) → Among w ys → tell w ≡ n) → (w : Wire) → Among w xs → Among w ys → ⊥
-apart_by tell m n xs ys other left right w i j = other (sym (left w i) ∙ right w j)
-
--- what an injection gives at each number
-told_each : (tell : Wire → ℕ) (f : ℕ → Wire) (k n m : ℕ) → ((i : ℕ) → tell (f i) ≡ m) → (w : Wire) → Among w (from_each f k n) → tell w ≡ m
-told_each tell f k n m told w there = let at = among_each f k n w there in ap tell at.3 ∙ told at.0
-
 either : {P : Type 0} {A : Type 0} (x : A) (xs ys : List A) → Among x (xs ++ ys) → (Among x xs → P) → (Among x ys → P) → P
 either {P} x xs ys there left right = by (among_append x xs ys there)
   where

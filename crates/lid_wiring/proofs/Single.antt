@@ -33,10 +33,6 @@ single [] h = absurd (omega arith)
 single (x ∷ []) h = (x, refl)
 single (x ∷ y ∷ xs) h = absurd (omega arith)
 
-no_items : {A : Type 0} (xs : List A) → length xs ≡ 0 → xs ≡ []
-no_items [] h = refl
-no_items (x ∷ xs) h = absurd (omega arith)
-
 -- two lists that make one item together
 one_of_two : {A : Type 0} (xs ys : List A) (x : A) → xs ++ ys ≡ x ∷ [] → ((xs ≡ x ∷ []) × (ys ≡ [])) ⊎ ((xs ≡ []) × (ys ≡ x ∷ []))
 one_of_two [] ys x h = inr (refl, h)

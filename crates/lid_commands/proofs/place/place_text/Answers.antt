@@ -1,19 +1,20 @@
 use Rattle.lid_stations.specs.Placements.{links_of}
 use Rattle.lid_script.specs.Scripts.{wires_script, place_script}
-use Rattle.lid_script.proofs.Placements.{text_ok, cause_err, cause_unbuilt}
+use Rattle.lid_script.proofs.Placements.{cause_unbuilt}
+use Rattle.lid_script.proofs.Within.{within_built, text_within, cause_within}
 use Rattle.lid_commands.proofs.place.place_text.Goals as goal
 
 pub returns-in-Ok-clause-ok : goal.returns-in-Ok-clause-ok
 unfolding place_script
 returns-in-Ok-clause-ok g c =
-    text_ok (g.S.Shelf.held c.args.shelf.now) c.args.net.now c.args.root.now (λ l. wires_script l c.args.wires.now c.args.reach) (λ text. text.items) c.wires_text.result (links_of c.in-Ok.system)
-    (g.S.Shelf.held c.read_system.new.shelf) c.in-Ok.ensures.ok c.in-Ok.ensures.kept c.wires_text.ensures.ok
+    text_within (within_built (g.S.Shelf.held c.args.shelf.now) c.args.net.now c.args.root.now (λ l. wires_script l c.args.wires.now c.args.reach) (links_of c.in-Ok.system) c.in-Ok.ensures.ok) (λ text. text.items)
+    c.wires_text.result c.in-Ok.ensures.kept c.wires_text.ensures.ok
 
 pub returns-in-Ok-clause-err : goal.returns-in-Ok-clause-err
 unfolding place_script
 returns-in-Ok-clause-err g c =
-    cause_err (g.S.Shelf.held c.args.shelf.now) c.args.net.now c.args.root.now (λ l. wires_script l c.args.wires.now c.args.reach) c.wires_text.result (links_of c.in-Ok.system) (g.S.Shelf.held c.read_system.new.shelf)
-    (g.S.Shelf.faults c.args.shelf.now) (g.S.Shelf.faults c.read_system.new.shelf) (g.S.Shelf.faults c.wires_text.new.shelf) c.in-Ok.ensures.ok c.in-Ok.ensures.kept c.in-Ok.ensures.grows c.wires_text.ensures.err
+    cause_within (within_built (g.S.Shelf.held c.args.shelf.now) c.args.net.now c.args.root.now (λ l. wires_script l c.args.wires.now c.args.reach) (links_of c.in-Ok.system) c.in-Ok.ensures.ok) c.wires_text.result
+    (g.S.Shelf.faults c.args.shelf.now) (g.S.Shelf.faults c.read_system.new.shelf) (g.S.Shelf.faults c.wires_text.new.shelf) c.in-Ok.ensures.kept c.in-Ok.ensures.grows c.wires_text.ensures.err
 
 pub returns-in-Err-clause-err : goal.returns-in-Err-clause-err
 unfolding place_script

@@ -1,10 +1,10 @@
-use Rattle.std.proofs.Common.{refl}
-use Rattle.lid_base.proofs.Results.{if_ok, if_err}
+use Rattle.lid_base.proofs.Results.{if_err}
 use Rattle.lid_stations.specs.declared.placement.Placement.{Placement}
 use Rattle.lid_stations.specs.Placements.{links_of}
 use Rattle.lid_script.specs.Outputs.{placed}
 use Rattle.lid_script.specs.Scripts.{Script, end, gives, text_limit, wires_read, wires_script}
-use Rattle.lid_script.proofs.Composition.{text_after, cause_here, want_anywhere}
+use Rattle.lid_script.proofs.Composition.{cause_here, want_anywhere}
+use Rattle.lid_script.proofs.Within.{within_read, text_given}
 use Rattle.lid_commands.proofs.place.wires_text.Goals as goal
 
 pub returns-in-Ok-clause-ok : goal.returns-in-Ok-clause-ok
@@ -12,9 +12,7 @@ unfolding wires_script
 returns-in-Ok-clause-ok g c =
     let l = links_of c.args.system.now in
     let next : Placement → Script = λ p. end (gives (placed l p)) in
-    if_ok c.stations_text.result
-    (λ text h. text_after (g.S.Shelf.held c.args.shelf.now) c.args.wires.now text_limit (wires_read c.args.reach l) next c.in-Ok.placement text.items c.in-Ok.ensures.ok
-    (record { output = placed l c.in-Ok.placement; ends = refl; text_of = h }))
+    text_given (within_read (g.S.Shelf.held c.args.shelf.now) c.args.wires.now text_limit (wires_read c.args.reach l) next c.in-Ok.placement c.in-Ok.ensures.ok) (λ text. text.items) c.stations_text.result
     c.stations_text.ensures.ok
 
 pub returns-in-Ok-clause-err : goal.returns-in-Ok-clause-err

@@ -1,8 +1,9 @@
-use Rattle.std.proofs.Common.{Bool, List, refl}
+use Rattle.std.proofs.Common.{Bool, List}
+use Rattle.lid_base.proofs.Results.{if_err}
 use Rattle.lid_script.specs.Outputs.{strict_output}
 use Rattle.lid_script.specs.Scripts.{Script, end, gives, rows_limit, vec_reading, rows_script}
-use Rattle.lid_base.proofs.Results.{if_ok, if_err}
-use Rattle.lid_script.proofs.Composition.{text_after, cause_here, want_anywhere}
+use Rattle.lid_script.proofs.Composition.{cause_here, want_anywhere}
+use Rattle.lid_script.proofs.Within.{within_read, text_given}
 use Rattle.lid_commands.proofs.strict.rows_text.Goals as goal
 
 pub returns-in-Ok-clause-ok : goal.returns-in-Ok-clause-ok
@@ -10,10 +11,7 @@ unfolding rows_script
 returns-in-Ok-clause-ok g c =
     let d = c.args.checked.now in
     let next : List (List Bool) → Script = λ rows. end (gives (strict_output d rows)) in
-    let bits = c.in-Ok.rows.bits in
-    if_ok c.outputs_text.result
-    (λ text h. text_after (g.S.Shelf.held c.args.shelf.now) c.args.vec.now rows_limit (vec_reading d) next bits text.items c.in-Ok.ensures.ok
-    (record { output = strict_output d bits; ends = refl; text_of = h }))
+    text_given (within_read (g.S.Shelf.held c.args.shelf.now) c.args.vec.now rows_limit (vec_reading d) next c.in-Ok.rows.bits c.in-Ok.ensures.ok) (λ text. text.items) c.outputs_text.result
     c.outputs_text.ensures.ok
 
 pub returns-in-Err-clause-err : goal.returns-in-Err-clause-err

@@ -1,34 +1,22 @@
-use Rattle.std.proofs.Common.{List, ℕ, Option, subst}
-use Rattle.lid_script.specs.Scripts.{Script, net_limit, net_reading, checked_script, strict_script}
-use Rattle.lid_script.specs.Causes.{IsCause}
-use Rattle.lid_script.specs.Statuses.{HasText}
 use Rattle.lid_design.specs.declared.Design.{Design}
-use Rattle.lid_base.proofs.Results.{if_ok, if_err}
-use Rattle.lid_script.proofs.Composition.{text_after, cause_after, cause_here}
+use Rattle.lid_script.specs.Scripts.{Script, net_limit, net_reading, checked_script, strict_script}
+use Rattle.lid_script.proofs.Composition.{cause_here}
+use Rattle.lid_script.proofs.Within.{within_read, text_within, cause_within}
 use Rattle.lid_commands.proofs.strict.strict_text.Goals as goal
 
 pub returns-in-Ok-clause-ok : goal.returns-in-Ok-clause-ok
 unfolding strict_script
 returns-in-Ok-clause-ok g c =
-    let held = g.S.Shelf.held c.args.shelf.now in
     let next : Design → Script = λ d. checked_script d c.args.vec.now c.args.root.now in
-    if_ok c.checked_text.result
-    (λ text h. text_after held c.args.net.now net_limit net_reading next c.in-Ok.design text.items c.in-Ok.ensures.ok
-    (subst (λ (w : List ℕ → Option (List ℕ)). HasText w (next c.in-Ok.design) text.items) c.in-Ok.ensures.kept h))
-    c.checked_text.ensures.ok
+    text_within (within_read (g.S.Shelf.held c.args.shelf.now) c.args.net.now net_limit net_reading next c.in-Ok.design c.in-Ok.ensures.ok) (λ text. text.items) c.checked_text.result
+    c.in-Ok.ensures.kept c.checked_text.ensures.ok
 
 pub returns-in-Ok-clause-err : goal.returns-in-Ok-clause-err
 unfolding strict_script
 returns-in-Ok-clause-err g c =
-    let held = g.S.Shelf.held c.args.shelf.now in
     let next : Design → Script = λ d. checked_script d c.args.vec.now c.args.root.now in
-    let before = g.S.Shelf.faults c.args.shelf.now in
-    let mid = g.S.Shelf.faults c.read_net.new.shelf in
-    let after = g.S.Shelf.faults c.checked_text.new.shelf in
-    if_err c.checked_text.result
-    (λ stop h. cause_after held c.args.net.now net_limit net_reading next c.in-Ok.design before mid after stop c.in-Ok.ensures.ok
-    c.in-Ok.ensures.grows (subst (λ (w : List ℕ → Option (List ℕ)). IsCause w (next c.in-Ok.design) mid after stop) c.in-Ok.ensures.kept h))
-    c.checked_text.ensures.err
+    cause_within (within_read (g.S.Shelf.held c.args.shelf.now) c.args.net.now net_limit net_reading next c.in-Ok.design c.in-Ok.ensures.ok) c.checked_text.result
+    (g.S.Shelf.faults c.args.shelf.now) (g.S.Shelf.faults c.read_net.new.shelf) (g.S.Shelf.faults c.checked_text.new.shelf) c.in-Ok.ensures.kept c.in-Ok.ensures.grows c.checked_text.ensures.err
 
 pub returns-in-Err-clause-err : goal.returns-in-Err-clause-err
 unfolding strict_script

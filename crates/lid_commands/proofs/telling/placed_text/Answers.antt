@@ -1,9 +1,9 @@
-use Rattle.std.proofs.Common.{refl}
-use Rattle.lid_base.proofs.Results.{if_ok, if_err}
+use Rattle.lid_base.proofs.Results.{if_err}
 use Rattle.lid_stations.specs.Placements.{links_of}
 use Rattle.lid_script.specs.Scripts.{placement_step, told_script}
 use Rattle.lid_script.proofs.Composition.{want_anywhere}
-use Rattle.lid_script.proofs.Placements.{text_placed, cause_unplaced}
+use Rattle.lid_script.proofs.Placements.{cause_unplaced}
+use Rattle.lid_script.proofs.Within.{within_placed, text_given}
 use Rattle.lid_commands.specs.Telling.{output_of}
 use Rattle.lid_commands.proofs.telling.placed_text.Goals as goal
 
@@ -11,9 +11,8 @@ pub returns-in-Ok-clause-ok : goal.returns-in-Ok-clause-ok
 unfolding told_script
 returns-in-Ok-clause-ok g c =
     let l = links_of c.args.system.now in
-    if_ok c.told_text.result
-    (λ text h. text_placed (g.S.Shelf.held c.args.shelf.now) l (told_script (output_of c.args.asked) l) c.args.stations.now c.in-Ok.placement text.items c.in-Ok.ensures.ok
-    (record { output = output_of c.args.asked l c.in-Ok.placement; ends = refl; text_of = h }))
+    text_given {output = output_of c.args.asked l c.in-Ok.placement}
+    (within_placed (g.S.Shelf.held c.args.shelf.now) l (told_script (output_of c.args.asked) l) c.args.stations.now c.in-Ok.placement c.in-Ok.ensures.ok) (λ text. text.items) c.told_text.result
     c.told_text.ensures.ok
 
 pub returns-in-Ok-clause-err : goal.returns-in-Ok-clause-err

@@ -1,29 +1,22 @@
-use Rattle.lid_base.proofs.Results.{if_ok, if_err}
 use Rattle.lid_cert.specs.declared.cert.Cert.{Cert}
 use Rattle.lid_stations.specs.Placements.{links_of}
 use Rattle.lid_script.specs.Scripts.{Script, text_limit, cert_read, judging_script, cert_script}
-use Rattle.lid_script.proofs.Composition.{text_after, cause_after, cause_here}
+use Rattle.lid_script.proofs.Composition.{cause_here}
+use Rattle.lid_script.proofs.Within.{within_read, text_anywhere, cause_anywhere}
 use Rattle.lid_commands.proofs.verify.cert_text.Goals as goal
 
 pub returns-in-Ok-clause-ok : goal.returns-in-Ok-clause-ok
 unfolding cert_script
 returns-in-Ok-clause-ok g c =
-    let held = g.S.Shelf.held c.args.shelf.now in
     let next : Cert → Script = judging_script (links_of c.args.system.now) c.args.placement.now in
-    if_ok c.judged_text.result
-    (λ text h. text_after held c.args.cert.now text_limit cert_read next c.in-Ok.cert text.items c.in-Ok.ensures.ok (h held))
-    c.judged_text.ensures.ok
+    text_anywhere (within_read (g.S.Shelf.held c.args.shelf.now) c.args.cert.now text_limit cert_read next c.in-Ok.cert c.in-Ok.ensures.ok) (λ text. text.items) c.judged_text.result c.judged_text.ensures.ok
 
 pub returns-in-Ok-clause-err : goal.returns-in-Ok-clause-err
 unfolding cert_script
 returns-in-Ok-clause-err g c =
-    let held = g.S.Shelf.held c.args.shelf.now in
     let next : Cert → Script = judging_script (links_of c.args.system.now) c.args.placement.now in
-    let before = g.S.Shelf.faults c.args.shelf.now in
-    let mid = g.S.Shelf.faults c.read_cert.new.shelf in
-    if_err c.judged_text.result
-    (λ stop h. cause_after held c.args.cert.now text_limit cert_read next c.in-Ok.cert before mid mid stop c.in-Ok.ensures.ok c.in-Ok.ensures.grows (h held mid mid))
-    c.judged_text.ensures.err
+    cause_anywhere (within_read (g.S.Shelf.held c.args.shelf.now) c.args.cert.now text_limit cert_read next c.in-Ok.cert c.in-Ok.ensures.ok) c.judged_text.result
+    (g.S.Shelf.faults c.args.shelf.now) (g.S.Shelf.faults c.read_cert.new.shelf) c.in-Ok.ensures.grows c.judged_text.ensures.err
 
 pub returns-in-Err-clause-err : goal.returns-in-Err-clause-err
 unfolding cert_script

@@ -8,7 +8,7 @@ pub returns-in-Ok-clause-ok : goal.returns-in-Ok-clause-ok
 unfolding freeing_script
 returns-in-Ok-clause-ok g c = λ held.
     record {
-      output = freed c.args.checked.now (links_of c.args.system.now) c.args.placement.now c.args.rows.now.bits c.args.workers c.args.rounds c.args.tally;
+      output = freed c.args.fed.now.checked.now (links_of c.args.fed.now.system.now) c.args.fed.now.placement.now c.args.fed.now.rows.now.bits c.args.workers c.args.rounds c.args.tally;
       ends = refl;
       text_of = c.in-Ok.ensures;
     }

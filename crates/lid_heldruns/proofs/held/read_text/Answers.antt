@@ -1,25 +1,22 @@
-use Rattle.lid_base.proofs.Results.{if_ok, if_err}
+use Rattle.std.proofs.Common.{refl, arith}
 use Rattle.lid_design.specs.declared.Design.{Design}
 use Rattle.lid_script.specs.Scripts.{Script, built_step}
-use Rattle.lid_script.proofs.Composition.{text_checked, cause_checked, cause_unchecked}
+use Rattle.lid_script.proofs.Composition.{cause_unchecked}
+use Rattle.lid_script.proofs.Within.{within_checked, text_within, cause_within}
 use Rattle.lid_heldruns.specs.Runs.{script_for}
 use Rattle.lid_heldruns.proofs.held.read_text.Goals as goal
 
 pub returns-in-Ok-clause-ok : goal.returns-in-Ok-clause-ok
 returns-in-Ok-clause-ok g c =
     let next : Design → Script = λ checked. built_step checked c.args.vec.now c.args.stations.now (script_for c.args.run checked) in
-    if_ok c.checked_text.result
-    (λ text h. text_checked (g.S.Shelf.held c.args.shelf.now) c.args.root.now c.args.design next c.in-Ok.checked text.items c.in-Ok.ensures.ok h)
-    c.checked_text.ensures.ok
+    text_within (within_checked (g.S.Shelf.held c.args.shelf.now) c.args.root.now c.args.design next c.in-Ok.checked c.in-Ok.ensures.ok) (λ text. text.items) c.checked_text.result refl c.checked_text.ensures.ok
 
 pub returns-in-Ok-clause-err : goal.returns-in-Ok-clause-err
 returns-in-Ok-clause-err g c =
     let next : Design → Script = λ checked. built_step checked c.args.vec.now c.args.stations.now (script_for c.args.run checked) in
     let before = g.S.Shelf.faults c.args.shelf.now in
-    let after = g.S.Shelf.faults c.checked_text.new.shelf in
-    if_err c.checked_text.result
-    (λ stop h. cause_checked (g.S.Shelf.held c.args.shelf.now) c.args.root.now c.args.design next c.in-Ok.checked before after stop c.in-Ok.ensures.ok h)
-    c.checked_text.ensures.err
+    cause_within (within_checked (g.S.Shelf.held c.args.shelf.now) c.args.root.now c.args.design next c.in-Ok.checked c.in-Ok.ensures.ok) c.checked_text.result before before
+    (g.S.Shelf.faults c.checked_text.new.shelf) refl (λ q. omega arith) c.checked_text.ensures.err
 
 pub returns-in-Err-clause-err : goal.returns-in-Err-clause-err
 returns-in-Err-clause-err g c =

@@ -4,8 +4,8 @@ use Rattle.lid_heldruns.proofs.waving.waved_text.Goals as goal
 
 pub returns-in-Ok-dump_text-clause-ok : goal.returns-in-Ok-dump_text-clause-ok
 returns-in-Ok-dump_text-clause-ok c = λ held.
-    has_dump c.args.checked.now (links_of c.args.system.now) c.args.placement.now c.args.cycles c.args.rows.now.bits held c.in-Ok-dump_text.text.items c.in-Ok.ensures.ok c.in-Ok-dump_text.ensures
+    has_dump c.args.fed.now.checked.now (links_of c.args.fed.now.system.now) c.args.fed.now.placement.now c.args.cycles c.args.fed.now.rows.now.bits held c.in-Ok-dump_text.text.items c.in-Ok.ensures.ok c.in-Ok-dump_text.ensures
 
 pub returns-in-Err-clause-err : goal.returns-in-Err-clause-err
 returns-in-Err-clause-err c = λ held before after.
-    declined c.args.checked.now (links_of c.args.system.now) c.args.placement.now c.args.cycles c.args.rows.now.bits held c.in-Err.stop before after c.in-Err.ensures.err
+    declined c.args.fed.now.checked.now (links_of c.args.fed.now.system.now) c.args.fed.now.placement.now c.args.cycles c.args.fed.now.rows.now.bits held c.in-Err.stop before after c.in-Err.ensures.err

@@ -1,9 +1,9 @@
-use Rattle.std.proofs.Common.{refl}
-use Rattle.lid_base.proofs.Results.{if_ok, if_err}
+use Rattle.lid_base.proofs.Results.{if_err}
 use Rattle.lid_reports.specs.declared.trace.Trace.{Trace}
 use Rattle.lid_script.specs.Outputs.{unwaved}
 use Rattle.lid_script.specs.Scripts.{Script, end, gives, dump_limit, dump_read, unwave_script}
-use Rattle.lid_script.proofs.Composition.{text_after, cause_here, want_anywhere}
+use Rattle.lid_script.proofs.Composition.{cause_here, want_anywhere}
+use Rattle.lid_script.proofs.Within.{within_read, text_given}
 use Rattle.lid_waving.proofs.unwave.unwave_text.Goals as goal
 
 abbrev next : Trace → Script
@@ -12,10 +12,7 @@ next trace = end (gives (unwaved trace))
 pub returns-in-Ok-clause-ok : goal.returns-in-Ok-clause-ok
 unfolding unwave_script
 returns-in-Ok-clause-ok g c =
-    if_ok c.text_of.result
-    (λ text h. text_after (g.S.Shelf.held c.args.shelf.now) c.args.file.now dump_limit dump_read next c.in-Ok.trace text.items c.in-Ok.ensures.ok
-    (record { output = unwaved c.in-Ok.trace; ends = refl; text_of = h }))
-    c.text_of.ensures.ok
+    text_given (within_read (g.S.Shelf.held c.args.shelf.now) c.args.file.now dump_limit dump_read next c.in-Ok.trace c.in-Ok.ensures.ok) (λ text. text.items) c.text_of.result c.text_of.ensures.ok
 
 pub returns-in-Ok-clause-err : goal.returns-in-Ok-clause-err
 returns-in-Ok-clause-err g c =
