@@ -1,5 +1,5 @@
 -- What one turn of an actor does to it and to what is counted.
-use Rattle.std.proofs.Common.{◌≡◌, ℕ, ◌+◌, ◌*◌, ◌<◌, ◌≤◌, ◌==◌, Bool, true, false, cond, List, refl, sym, ◌∙◌, ap, subst, arith, eq-eqb, ne_eqb}
+use Rattle.std.proofs.Common.{◌≡◌, ◌↔◌, ℕ, ◌+◌, ◌*◌, ◌<◌, ◌≤◌, ◌==◌, Bool, true, false, cond, List, refl, sym, ◌∙◌, ap, subst, arith, eq-eqb, ne_eqb}
 use Rattle.std.specs.Prelude.{Option, Some, None, slice_get}
 use Rattle.std.specs.List.{sum_by}
 use Rattle.lid_base.specs.declared.runs.Tally.{Tally}
@@ -159,13 +159,14 @@ module _ (board : Board) (before now : Ends) (then_stands : (ℕ → List ℕ) �
         omega (arith, one)
     done_is _ e = omega arith
 
-    stays_is : a.desk.fired ≡ a.desk.cap → b.desk.fired ≡ b.desk.cap
-    stays_is at =
-        let one : a.desk.fired ≡ fired = w.actor.at.fired_is in
-        let two : a.desk.cap ≡ cap (plan m) v = w.actor.at.capped in
-        let ended : end ≡ Done = t.done.1 (sym one ∙ at ∙ two) in
-        let none = ap fired_one ended in
-        omega (arith, fires_is, capped_is, at, none)
+    ends_done : (end ≡ Done) ↔ (a.desk.fired ≡ a.desk.cap)
+    ends_done =
+        let fired_is : a.desk.fired ≡ fired = w.actor.at.fired_is in
+        let capped : a.desk.cap ≡ cap (plan m) v = w.actor.at.capped in
+        (
+          (λ e. fired_is ∙ t.done.0 e ∙ sym capped),
+          (λ at. t.done.1 (sym fired_is ∙ at ∙ capped)),
+        )
 
     misses_is : misses_of now b ≡ misses_of before a + void_one end + stop_one end
     misses_is =
@@ -236,7 +237,7 @@ module _ (board : Board) (before now : Ends) (then_stands : (ℕ → List ℕ) �
       voids = voids_is m v fired w;
       stops = stops_is m v fired w;
       done_late = done_is m v fired w end refl;
-      done_stays = stays_is m v fired w;
+      done = ends_done m v fired w;
       exact = exactly;
     },
   )

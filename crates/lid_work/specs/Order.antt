@@ -1,6 +1,6 @@
 -- The turns of a worker, one after another: what a turn of an actor is, and that in each round the actors make
 -- theirs in the order of their places.
-use Rattle.std.specs.Prelude.{◌≡◌, ℕ, zero, suc, ◌+◌, ◌≤◌, ◌==◌, cond, List, length, set, Some, slice_get}
+use Rattle.std.specs.Prelude.{◌≡◌, ◌↔◌, ℕ, zero, suc, ◌+◌, ◌≤◌, ◌==◌, cond, List, length, set, Some, slice_get}
 use Rattle.lid_base.specs.declared.runs.Tally.{Tally}
 use Rattle.lid_station.specs.Boards.{Ends}
 use Rattle.lid_board.specs.Owners.{plan_of}
@@ -11,6 +11,7 @@ use Rattle.lid_machine.specs.Setups.{Setup, plan}
 use Rattle.lid_machine.specs.Machine.{State, turn, turn_answer}
 use Rattle.lid_shell.specs.declared.actor.Actor.{Actor}
 use Rattle.lid_shell.specs.declared.turn.TurnEnd.{TurnEnd}
+use Rattle.lid_shell.specs.declared.turn.TurnEnd.TheVariants.{Done}
 use Rattle.lid_shell.specs.Actors.{IsActor}
 use Rattle.lid_shell.specs.Boards.{ServesAll}
 use Rattle.lid_shell.specs.Steps.{Works}
@@ -25,8 +26,8 @@ abbrev pub at_cap : Actor → ℕ
 at_cap a = cond (a.desk.fired == a.desk.cap) 1 0
 
 -- an actor made a turn, which ended so: it is one turn further, no end but its own has changed, and the turn was
--- counted once, as a firing of it, as a miss at one of the known ends, or as done, which comes at its cap alone. At
--- its cap it stays there. Where both ends of all its stations are known, its turn is that of the interleaving machine
+-- counted once, as a firing of it, as a miss at one of the known ends, or as done, exactly where it was at its cap.
+-- Where both ends of all its stations are known, its turn is that of the interleaving machine
 pub record EndsTurn (board : Board) (end : TurnEnd) (before : Ends) (old : Actor) (was : Tally) (now : Ends) (new : Actor) (is : Tally) : Type 0 where
   pub gone : HasGone board 1 before old now new
   pub others : (e : ℕ) → (IsEndOf old e → ⊥) → now e ≡ before e
@@ -36,7 +37,7 @@ pub record EndsTurn (board : Board) (end : TurnEnd) (before : Ends) (old : Actor
   pub voids : void_misses now (stations_of board) ≡ void_misses before (stations_of board) + void_one end
   pub stops : stop_misses now (stations_of board) ≡ stop_misses before (stations_of board) + stop_one end
   pub done_late : done_one end ≤ at_cap new
-  pub done_stays : old.desk.fired ≡ old.desk.cap → new.desk.fired ≡ new.desk.cap
+  pub done : (end ≡ Done) ↔ (old.desk.fired ≡ old.desk.cap)
   pub exact :
       (m : Setup) (v : ℕ) (st : State)
       → (st v).position ≡ 0 → Works m v (st v) old before (StandsFor (plan_of board)) → ServesAll m st v before
