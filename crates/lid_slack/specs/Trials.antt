@@ -1,5 +1,5 @@
 -- For the search: what is found with some further relay stations.
-use Rattle.std.specs.Prelude.{◌≡◌, ℕ, ◌+◌, ◌<◌, ◌≤◌, ◌^◌, true, length, Option}
+use Rattle.std.specs.Prelude.{◌≡◌, ℕ, ◌+◌, ◌<◌, ◌≤◌, ◌^◌, true, length, List, Option}
 use Rattle.lid_graph.specs.Ratios.{IsRatio}
 use Rattle.lid_stations.specs.declared.placement.Placement.{Placement}
 use Rattle.lid_stations.specs.Placements.{links_of, Fits}
@@ -12,8 +12,10 @@ use Rattle.lid_cert.specs.Owners.{part_at}
 use Rattle.lid_ratio.specs.declared.lowest_terms.Ratio.{Ratio}
 use Rattle.lid_rate.specs.Rates.{IsExact}
 use Rattle.lid_longer.specs.Longer.{longer_marking, producer, room, KeepsAt}
+use Rattle.lid_graph.specs.declared.graph.Graph.{Graph}
 use Rattle.lid_slack.specs.declared.answer.Slack.{Slack}
-use Rattle.lid_slack.specs.Slack.{IsEnd, IsNextRatio}
+use Rattle.lid_slack.specs.declared.trial.Probe.{Probe}
+use Rattle.lid_slack.specs.Slack.{IsEnd, IsAgainst, IsNextRatio}
 
 -- a channel of a system with stations, and as many further relay stations there as there is room for
 pub record CanTry (s : System) (p : Placement) (c x : ℕ) : Type 0 where
@@ -54,3 +56,28 @@ pub record IsBetween (s : System) (p : Placement) (c a b low high : ℕ) : Type 
   pub enough : high ≤ room p c
   pub keeps : KeepsAt (links_of s) p c low a b
   pub lowers : KeepsAt (links_of s) p c high a b → ⊥
+
+-- the same of a probe: its channel, and the present ratio that it holds
+abbrev pub CanProbe : Probe → ℕ → Type 0
+CanProbe t x = CanTry t.system.now t.placement.now t.channel x
+
+abbrev pub ShowsPresent : Probe → Type 0
+ShowsPresent t = IsPresent t.system.now t.placement.now t.channel t.present.p t.present.q
+
+abbrev pub marking_with : Probe → ℕ → Graph
+marking_with t x = longer_marking (links_of t.system.now) t.placement.now t.channel x
+
+abbrev pub IsTrialOf : Probe → ℕ → Cert → ℕ → Type 0
+IsTrialOf t x cert part = IsTrial t.system.now t.placement.now t.channel x cert part
+
+abbrev pub Keeps : Probe → ℕ → Type 0
+Keeps t x = KeepsAt (links_of t.system.now) t.placement.now t.channel x t.present.p t.present.q
+
+abbrev pub IsAgainstMore : Probe → ℕ → List ℕ → Type 0
+IsAgainstMore t x walk = IsAgainst (links_of t.system.now) t.placement.now t.channel x walk
+
+abbrev pub IsMostOf : Probe → ℕ → Type 0
+IsMostOf t x = IsMost t.system.now t.placement.now t.channel t.present.p t.present.q x
+
+abbrev pub IsFoundBy : Probe → Slack → Option Ratio → Type 0
+IsFoundBy t slack next = IsFound t.system.now t.placement.now t.channel t.present.p t.present.q slack next

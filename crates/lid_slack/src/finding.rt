@@ -5,14 +5,14 @@ ghost use Rattle.lid_cert.specs.Certificates.{Certifies};
 ghost use Rattle.lid_graph.specs.Ratios.{IsRatio};
 ghost use Rattle.lid_system.specs.Systems.{IsWellFormed};
 ghost use Rattle.lid_stations.specs.Placements.{links_of, Fits};
-ghost use Rattle.lid_longer.specs.Longer.{longer_marking, producer, room, KeepsAt, KeepsRatio};
-ghost use Rattle.lid_slack.specs.Slack.{IsCertified, IsSlack, IsAgainst, IsEnd, IsTold, IsNextRatio};
-ghost use Rattle.lid_slack.specs.Trials.{CanTry, IsPresent, IsMost, IsFound};
+ghost use Rattle.lid_longer.specs.Longer.{longer_marking, producer, room, KeepsRatio};
+ghost use Rattle.lid_slack.specs.Slack.{IsCertified, IsSlack, IsEnd, IsTold, IsNextRatio};
+ghost use Rattle.lid_slack.specs.Trials.{CanTry, IsPresent, CanProbe, ShowsPresent, marking_with, Keeps, IsAgainstMore, IsMostOf, IsFoundBy};
 
 use crate::answer::{Slack, SlackAndNext};
 use crate::bisection::bisect;
 use crate::certified::{Certified, certify};
-use crate::trial::{outcome_of, part_of, producer, ratio_of};
+use crate::trial::{Probe, outcome_of, part_of, producer, ratio_of};
 use lid_base::Items;
 use lid_cert::Cert;
 use lid_longer::{room, stations_through};
@@ -55,21 +55,14 @@ fn open(
 }
 
 /// A certificate with so many further relay stations, if they keep the present ratio.
-fn kept_cert(
-    alloc: Global,
-    system: &System,
-    placement: &Placement,
-    channel: u32,
-    more: u32,
-    present: Ratio,
-) -> Result<Option<Cert>, AllocError>
-    requires can { CanTry system.now placement.now channel more }
-    requires present { IsPresent system.now placement.now channel present.p present.q }
-    ensures some { IfOk result (λ found. IfSome found (λ cert. Certifies (longer_marking (links_of system.now) placement.now channel more) cert)) }
-    ensures kept { IfOk result (λ found. IfSome found (λ cert. KeepsAt (links_of system.now) placement.now channel more present.p present.q)) }
-    ensures none { IfOk result (λ found. IsNone found → KeepsAt (links_of system.now) placement.now channel more present.p present.q → ⊥) }
+fn kept_cert(alloc: Global, probe: &Probe<'_>, more: u32) -> Result<Option<Cert>, AllocError>
+    requires can { CanProbe probe.now more }
+    requires present { ShowsPresent probe.now }
+    ensures some { IfOk result (λ found. IfSome found (λ cert. Certifies (marking_with probe.now more) cert)) }
+    ensures kept { IfOk result (λ found. IfSome found (λ cert. Keeps probe.now more)) }
+    ensures none { IfOk result (λ found. IsNone found → Keeps probe.now more → ⊥) }
 {
-    let outcome = outcome_of(alloc, system, placement, channel, more, present)?;
+    let outcome = outcome_of(alloc, probe, more)?;
     if outcome.lowers {
         return Ok(None);
     }
@@ -84,22 +77,15 @@ struct Lower {
 }
 
 /// A closed walk with so many further relay stations that lowers the present ratio, if there is one.
-fn lower_walk(
-    alloc: Global,
-    system: &System,
-    placement: &Placement,
-    channel: u32,
-    more: u32,
-    present: Ratio,
-) -> Result<Option<Lower>, AllocError>
-    requires can { CanTry system.now placement.now channel more }
-    requires present { IsPresent system.now placement.now channel present.p present.q }
-    ensures some { IfOk result (λ found. IfSome found (λ lower. IsAgainst (links_of system.now) placement.now channel more lower.walk)) }
-    ensures ratio { IfOk result (λ found. IfSome found (λ lower. IsRatio (longer_marking (links_of system.now) placement.now channel more) (producer (links_of system.now) channel) lower.ratio.p lower.ratio.q)) }
-    ensures lowers { IfOk result (λ found. IfSome found (λ lower. KeepsAt (links_of system.now) placement.now channel more present.p present.q → ⊥)) }
-    ensures none { IfOk result (λ found. IsNone found → KeepsAt (links_of system.now) placement.now channel more present.p present.q) }
+fn lower_walk(alloc: Global, probe: &Probe<'_>, more: u32) -> Result<Option<Lower>, AllocError>
+    requires can { CanProbe probe.now more }
+    requires present { ShowsPresent probe.now }
+    ensures some { IfOk result (λ found. IfSome found (λ lower. IsAgainstMore probe.now more lower.walk)) }
+    ensures ratio { IfOk result (λ found. IfSome found (λ lower. IsRatio (marking_with probe.now more) (producer (links_of probe.now.system.now) probe.now.channel) lower.ratio.p lower.ratio.q)) }
+    ensures lowers { IfOk result (λ found. IfSome found (λ lower. Keeps probe.now more → ⊥)) }
+    ensures none { IfOk result (λ found. IsNone found → Keeps probe.now more) }
 {
-    let outcome = outcome_of(alloc, system, placement, channel, more, present)?;
+    let outcome = outcome_of(alloc, probe, more)?;
     if !outcome.lowers {
         return Ok(None);
     }
@@ -117,20 +103,17 @@ fn lower_walk(
 /// The slack, if it is so many further relay stations, of `most` at most.
 fn settle(
     alloc: Global,
-    system: &System,
-    placement: &Placement,
-    channel: u32,
+    probe: &Probe<'_>,
     added: u32,
     most: u32,
-    present: Ratio,
 ) -> Result<Option<SlackAndNext>, AllocError>
-    requires can { CanTry system.now placement.now channel added }
-    requires room { most ≡ room placement.now channel }
-    requires present { IsPresent system.now placement.now channel present.p present.q }
-    ensures some { IfOk result (λ found. IfSome found (λ all. IsFound system.now placement.now channel present.p present.q all.slack all.next)) }
-    ensures none { IfOk result (λ found. IsNone found → IsMost system.now placement.now channel present.p present.q added → ⊥) }
+    requires can { CanProbe probe.now added }
+    requires room { most ≡ room probe.now.placement.now probe.now.channel }
+    requires present { ShowsPresent probe.now }
+    ensures some { IfOk result (λ found. IfSome found (λ all. IsFoundBy probe.now all.slack all.next)) }
+    ensures none { IfOk result (λ found. IsNone found → IsMostOf probe.now added → ⊥) }
 {
-    let Some(cert) = kept_cert(alloc, system, placement, channel, added, present)? else {
+    let Some(cert) = kept_cert(alloc, probe, added)? else {
         return Ok(None);
     };
     if added == most {
@@ -141,7 +124,7 @@ fn settle(
         };
         return Ok(Some(SlackAndNext { slack, next: None }));
     }
-    let Some(lower) = lower_walk(alloc, system, placement, channel, added + 1, present)? else {
+    let Some(lower) = lower_walk(alloc, probe, added + 1)? else {
         return Ok(None);
     };
     Ok(Some(told(added, cert, lower)))
@@ -164,21 +147,14 @@ fn told(added: u32, cert: Cert, lower: Lower) -> SlackAndNext
 }
 
 /// The slack by bisection.
-fn search(
-    alloc: Global,
-    system: &System,
-    placement: &Placement,
-    channel: u32,
-    most: u32,
-    present: Ratio,
-) -> Result<SlackAndNext, AllocError>
-    requires can { CanTry system.now placement.now channel most }
-    requires room { most ≡ room placement.now channel }
-    requires present { IsPresent system.now placement.now channel present.p present.q }
-    ensures { IfOk result (λ all. IsFound system.now placement.now channel present.p present.q all.slack all.next) }
+fn search(alloc: Global, probe: &Probe<'_>, most: u32) -> Result<SlackAndNext, AllocError>
+    requires can { CanProbe probe.now most }
+    requires room { most ≡ room probe.now.placement.now probe.now.channel }
+    requires present { ShowsPresent probe.now }
+    ensures { IfOk result (λ all. IsFoundBy probe.now all.slack all.next) }
 {
-    let added = bisect(alloc, system, placement, channel, present, most)?;
-    match settle(alloc, system, placement, channel, added, most, present)? {
+    let added = bisect(alloc, probe, most)?;
+    match settle(alloc, probe, added, most)? {
         Some(found) => Ok(found),
         None => unreachable!(),
     }
@@ -205,17 +181,15 @@ pub fn slack_from(
 {
     let most = room(placement, channel);
     let opening = open(alloc, system, placement, present, channel, most)?;
-    match settle(
-        alloc,
+    let probe = Probe {
         system,
         placement,
         channel,
-        opening.guess,
-        most,
-        opening.present,
-    )? {
+        present: opening.present,
+    };
+    match settle(alloc, &probe, opening.guess, most)? {
         Some(found) => Ok(found),
-        None => search(alloc, system, placement, channel, most, opening.present),
+        None => search(alloc, &probe, most),
     }
 }
 

@@ -5,9 +5,8 @@ ghost use Rattle.lid_cert.specs.Certificates.{Certifies, has_node};
 ghost use Rattle.lid_cert.specs.Owners.{part_at};
 ghost use Rattle.lid_graph.specs.Rateable.{IsRateable};
 ghost use Rattle.lid_stations.specs.Placements.{links_of};
-ghost use Rattle.lid_longer.specs.Longer.{longer_marking, producer, KeepsAt};
-ghost use Rattle.lid_slack.specs.Slack.{IsAgainst};
-ghost use Rattle.lid_slack.specs.Trials.{CanTry, IsTrial, IsPresent};
+ghost use Rattle.lid_longer.specs.Longer.{producer};
+ghost use Rattle.lid_slack.specs.Trials.{CanProbe, ShowsPresent, marking_with, IsTrialOf, Keeps, IsAgainstMore};
 
 use lid_cert::{Cert, part_with};
 use lid_graph::Graph;
@@ -17,6 +16,15 @@ use lid_ratio::Ratio;
 use lid_stations::{Placement, marking};
 use lid_system::System;
 use std::alloc::{AllocError, Global};
+
+/// A channel of a system with stations, and the present ratio of its component.
+#[derive(Clone, Copy)]
+pub(crate) struct Probe<'s> {
+    pub(crate) system: &'s System,
+    pub(crate) placement: &'s Placement,
+    pub(crate) channel: u32,
+    pub(crate) present: Ratio,
+}
 
 /// A certificate with some further relay stations, and the number of its part of the channel's component.
 #[derive(Drop)]
@@ -49,36 +57,24 @@ pub(crate) fn producer(system: &System, channel: u32) -> u32
 }
 
 /// The marked graph with so many further relay stations.
-fn longer_marking(
-    alloc: Global,
-    system: &System,
-    placement: &Placement,
-    channel: u32,
-    more: u32,
-) -> Result<Graph, AllocError>
-    requires { CanTry system.now placement.now channel more }
-    ensures is { IfOk result (λ g. g ≡ longer_marking (links_of system.now) placement.now channel more) }
+fn longer_marking(alloc: Global, probe: &Probe<'_>, more: u32) -> Result<Graph, AllocError>
+    requires { CanProbe probe.now more }
+    ensures is { IfOk result (λ g. g ≡ marking_with probe.now more) }
     ensures rateable { IfOk result IsRateable }
     ensures few { IfOk result (λ g. g.nodes ≤ 69634) }
 {
-    let longer = longer(alloc, placement, channel, more)?;
-    marking(alloc, system, &longer)
+    let longer = longer(alloc, probe.placement, probe.channel, more)?;
+    marking(alloc, probe.system, &longer)
 }
 
 /// What is found with so many further relay stations.
-fn attempt(
-    alloc: Global,
-    system: &System,
-    placement: &Placement,
-    channel: u32,
-    more: u32,
-) -> Result<Trial, AllocError>
-    requires { CanTry system.now placement.now channel more }
-    ensures { IfOk result (λ trial. IsTrial system.now placement.now channel more trial.cert trial.part) }
+fn attempt(alloc: Global, probe: &Probe<'_>, more: u32) -> Result<Trial, AllocError>
+    requires { CanProbe probe.now more }
+    ensures { IfOk result (λ trial. IsTrialOf probe.now more trial.cert trial.part) }
 {
-    let graph = longer_marking(alloc, system, placement, channel, more)?;
+    let graph = longer_marking(alloc, probe, more)?;
     let cert = find(alloc, &graph)?;
-    let part = part_of(&graph, &cert, producer(system, channel));
+    let part = part_of(&graph, &cert, producer(probe.system, probe.channel));
     Ok(Trial { cert, part })
 }
 
@@ -115,39 +111,25 @@ pub(crate) struct Outcome {
 }
 
 /// What is found with so many further relay stations, beside the present ratio.
-pub(crate) fn outcome_of(
-    alloc: Global,
-    system: &System,
-    placement: &Placement,
-    channel: u32,
-    more: u32,
-    present: Ratio,
-) -> Result<Outcome, AllocError>
-    requires can { CanTry system.now placement.now channel more }
-    requires present { IsPresent system.now placement.now channel present.p present.q }
-    ensures trial { IfOk result (λ outcome. IsTrial system.now placement.now channel more outcome.trial.cert outcome.trial.part) }
-    ensures kept { IfOk result (λ outcome. outcome.lowers ≡ false → KeepsAt (links_of system.now) placement.now channel more present.p present.q) }
-    ensures lower { IfOk result (λ outcome. IsTrue outcome.lowers → KeepsAt (links_of system.now) placement.now channel more present.p present.q → ⊥) }
-    ensures walk { IfOk result (λ outcome. IsTrue outcome.lowers → IsAgainst (links_of system.now) placement.now channel more (part_at outcome.trial.cert.parts outcome.trial.part).cycle) }
+pub(crate) fn outcome_of(alloc: Global, probe: &Probe<'_>, more: u32) -> Result<Outcome, AllocError>
+    requires can { CanProbe probe.now more }
+    requires present { ShowsPresent probe.now }
+    ensures trial { IfOk result (λ outcome. IsTrialOf probe.now more outcome.trial.cert outcome.trial.part) }
+    ensures kept { IfOk result (λ outcome. outcome.lowers ≡ false → Keeps probe.now more) }
+    ensures lower { IfOk result (λ outcome. IsTrue outcome.lowers → Keeps probe.now more → ⊥) }
+    ensures walk { IfOk result (λ outcome. IsTrue outcome.lowers → IsAgainstMore probe.now more (part_at outcome.trial.cert.parts outcome.trial.part).cycle) }
 {
-    let trial = attempt(alloc, system, placement, channel, more)?;
-    let lowers = is_below(ratio_of(&trial.cert, trial.part), present);
+    let trial = attempt(alloc, probe, more)?;
+    let lowers = is_below(ratio_of(&trial.cert, trial.part), probe.present);
     Ok(Outcome { trial, lowers })
 }
 
 /// Whether the present ratio is kept with so many further relay stations.
-pub(crate) fn keeps(
-    alloc: Global,
-    system: &System,
-    placement: &Placement,
-    channel: u32,
-    more: u32,
-    present: Ratio,
-) -> Result<bool, AllocError>
-    requires can { CanTry system.now placement.now channel more }
-    requires present { IsPresent system.now placement.now channel present.p present.q }
-    ensures { IfOk result (λ kept. IsTrue kept ↔ KeepsAt (links_of system.now) placement.now channel more present.p present.q) }
+pub(crate) fn keeps(alloc: Global, probe: &Probe<'_>, more: u32) -> Result<bool, AllocError>
+    requires can { CanProbe probe.now more }
+    requires present { ShowsPresent probe.now }
+    ensures { IfOk result (λ kept. IsTrue kept ↔ Keeps probe.now more) }
 {
-    let outcome = outcome_of(alloc, system, placement, channel, more, present)?;
+    let outcome = outcome_of(alloc, probe, more)?;
     Ok(!outcome.lowers)
 }
