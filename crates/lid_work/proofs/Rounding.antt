@@ -235,6 +235,13 @@ module _ (board : Board) (turns next : ℕ → ℕ) (total : ℕ) (first : Ends)
       let fires = turn.fires in
       omega (arith, counts, whole, mine, so, fires)
 
+  stays_at_cap : a.desk.fired ≡ a.desk.cap → b.desk.fired ≡ b.desk.cap
+  stays_at_cap at =
+      let none = ap fired_one (turn.done.1 at) in
+      let fires = turn.fires in
+      let capped = turn.gone.capped in
+      omega (arith, fires, capped, at, none)
+
   pub one_made : Made board next (total + 1) first firsts none now (set olds k b) is
   one_made =
       let turns_so = ap (λ (t : Tally). t.turns) turn.counts in
@@ -253,7 +260,7 @@ module _ (board : Board) (turns next : ℕ → ℕ) (total : ℕ) (first : Ends)
         voids_are = omega (arith, voids_so, made.voids_are, turn.voids);
         stops_are = omega (arith, stops_so, made.stops_are, turn.stops);
         adds_up = omega (arith, turns_so, fired_so, voids_so, stops_so, dones_so, four, made.adds_up);
-        dones_most = omega (arith, dones_so, made.dones_most, done_more turns next olds k (done_one end) a b at_k here other turn.done_stays turn.done_late);
+        dones_most = omega (arith, dones_so, made.dones_most, done_more turns next olds k (done_one end) a b at_k here other stays_at_cap turn.done_late);
       }
 
 -- a round, of which the first k turns are made
