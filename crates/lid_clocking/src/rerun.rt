@@ -13,7 +13,7 @@ ghost use Rattle.lid_stations.specs.Placements.{links_of, station_count};
 use crate::asked::{Asked, Wrapped};
 use crate::stops::run_end;
 use lid_base::{Gate, Items, Shelf, Sink};
-use lid_clockrun::{Workers, run};
+use lid_clockrun::{Task, Workers, run};
 use lid_feed::RowFeed;
 use lid_script::{End, Stop};
 use lid_stalltext::Stall;
@@ -42,19 +42,14 @@ fn run_fed<'a, S: Shelf, O: Sink, R: Threads + AllocGlobal + Sync, G: Gate>(
     ensures kept { S.held shelf.new ≡ S.held shelf.old }
 {
     let _ = wrapped.checked.design();
-    match run(
-        workers.rt.alloc(),
-        shelf,
-        out,
-        wrapped.system,
-        wrapped.placement,
-        wrapped.checked.outputs(),
-        count,
-        feed,
-        asked.trace,
-        stalls,
-        workers,
-    ) {
+    let task = Task {
+        system: wrapped.system,
+        placement: wrapped.placement,
+        columns: wrapped.checked.outputs(),
+        rows: count,
+        trace: asked.trace,
+    };
+    match run(workers.rt.alloc(), shelf, out, &task, feed, stalls, workers) {
         Ok(()) => Ok(()),
         Err(fault) => Err(run_end(asked.vec, count, fault)),
     }

@@ -11,6 +11,7 @@ use Rattle.lid_stations.specs.declared.placement.Placement.{Placement}
 use Rattle.lid_clock.specs.Lives.{Life, IsWide}
 use Rattle.lid_stalltext.specs.declared.stalls.Stall.{Stall}
 use Rattle.lid_feed.specs.Feeds.{AreFirst, AreAll, IsRefused, IfRead, IfRefused}
+use Rattle.lid_clockrun.specs.declared.task.Task.{Task}
 use Rattle.lid_clockrun.specs.declared.fault.RunFault.{RunFault}
 use Rattle.lid_clockrun.specs.declared.fault.RunFault.TheVariants.{Feed, Few, Memory, Write}
 use Rattle.lid_clockrun.specs.RunTexts.{IsLifeOf, IsRunText}
@@ -29,6 +30,10 @@ pub record Run : Type 0 where
 
 abbrev pub run_of : System → Placement → List (List ℕ) → ℕ → Option ℕ → Option (List Stall) → Option (List ℕ) → Run
 run_of s p columns rows trace stalls held = record { system = s; placement = p; columns = columns; rows = rows; trace = trace; stalls = stalls; held = held }
+
+-- a run of what is task for
+abbrev pub run_by : Task → Option (List Stall) → Option (List ℕ) → Run
+run_by task stalls held = run_of task.system.now task.placement.now task.columns.now task.rows task.trace stalls held
 
 -- the columns of a source
 abbrev pub columns_of : Node → List (List ℕ)

@@ -5,9 +5,11 @@ mod course;
 mod fault;
 mod lines;
 mod steps;
+mod task;
 mod whole;
 mod workers;
 
 pub use fault::RunFault;
+pub use task::Task;
 pub use whole::run;
 pub use workers::Workers;

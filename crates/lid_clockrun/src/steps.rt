@@ -4,7 +4,7 @@ ghost use Rattle.std.specs.Prelude.{◌≡◌, ◌≤◌, ◌<◌, ◌+◌, ◌^
 ghost use Rattle.lid_base.specs.Outside.{Rose};
 ghost use Rattle.lid_design.specs.Network.{from_each};
 ghost use Rattle.lid_system.specs.Systems.{IsWellFormed};
-ghost use Rattle.lid_stations.specs.Placements.{links_of, station_count, Fits};
+ghost use Rattle.lid_stations.specs.Placements.{station_count, Fits};
 ghost use Rattle.std.specs.Option.{is_some};
 ghost use Rattle.lid_clock.specs.Lives.{Life, fired_after, shown_after};
 ghost use Rattle.lid_clock.specs.Ran.{lent, IsFirst};
@@ -17,14 +17,13 @@ ghost use Rattle.lid_clockrun.specs.Stepping.{HasBegun, Feeds, IsRunning, IsRead
 
 use crate::course::Course;
 use crate::fault::RunFault;
+use crate::task::Task;
 use crate::workers::Workers;
 use lid_base::{Gate, Items, Shelf, Shown};
 use lid_clock::ClockStream;
 use lid_feed::RowFeed;
 use lid_lines::append_number_line;
 use lid_stall::Stall;
-use lid_stations::Placement;
-use lid_system::System;
 use lid_texts::{Trace, print_cycles, print_trace};
 use std::alloc::{AllocError, Global};
 use std::mem;
@@ -97,22 +96,20 @@ impl Running {
     /// A run of a system with its stations over so many rows, of which the first is this.
     fn begin(
         alloc: Global,
-        system: &System,
-        placement: &Placement,
-        rows: u64,
+        task: &Task<'_>,
         first: Option<&[bool]>,
-        trace: Option<u64>,
         stalls: Option<Items<Stall>>,
     ) -> Result<Running, RunFault>
-        requires system { IsWellFormed system.now }
-        requires fits { Fits system.now placement.now }
-        requires few { rows ≤ 1000000 }
-        requires first { IsFirst system.now rows (lent first) }
+        requires system { IsWellFormed task.now.system.now }
+        requires fits { Fits task.now.system.now task.now.placement.now }
+        requires few { task.now.rows ≤ 1000000 }
+        requires first { IsFirst task.now.system.now task.now.rows (lent first) }
         requires ascend { Ascend (listed stalls) }
-        ensures begun { IfOk result (HasBegun system.now placement.now rows (lent first.entry) trace stalls) }
+        ensures begun { IfOk result (HasBegun task.now.system.now task.now.placement.now task.now.rows (lent first.entry) task.now.trace stalls) }
         ensures cause { IfErr result (λ fault. fault ≡ RunFault.Memory) }
     {
-        let Ok(stream) = ClockStream::start(alloc, system, placement, rows, first) else {
+        let Ok(stream) = ClockStream::start(alloc, task.system, task.placement, task.rows, first)
+        else {
             return Err(RunFault::Memory);
         };
         let told = stalls.is_some();
@@ -120,9 +117,9 @@ impl Running {
             alloc,
             stream: Course::start(stream, stalls),
             made: 0,
-            given: rows.min(1),
-            stations: placement.caps.len() as u32,
-            trace,
+            given: task.rows.min(1),
+            stations: task.placement.caps.len() as u32,
+            trace: task.trace,
             told,
             cells: Vec::new(alloc),
         })
@@ -132,43 +129,32 @@ impl Running {
     pub(crate) fn start<S: Shelf>(
         alloc: Global,
         shelf: &mut S,
-        system: &System,
-        placement: &Placement,
-        rows: u64,
+        task: &Task<'_>,
         feed: &mut RowFeed,
-        trace: Option<u64>,
         stalls: Option<Items<Stall>>,
     ) -> Result<Running, RunFault>
-        requires system { IsWellFormed system.now }
-        requires fits { Fits system.now placement.now }
-        requires few { rows ≤ 1000000 }
+        requires system { IsWellFormed task.now.system.now }
+        requires fits { Fits task.now.system.now task.now.placement.now }
+        requires few { task.now.rows ≤ 1000000 }
         requires ascend { Ascend (listed stalls) }
-        requires feeds { (columns : List (List ℕ)) × HasGiven (S.held shelf.old feed.old.name) (source_columns system.now) (length columns) feed.old [] }
-        ensures ok { (r : Run) → r.system ≡ system.now → r.placement ≡ placement.now → r.rows ≡ rows → r.trace ≡ trace → r.stalls ≡ stalls → r.held ≡ S.held shelf.old feed.old.name → Feeds r feed.old []
+        requires feeds { (columns : List (List ℕ)) × HasGiven (S.held shelf.old feed.old.name) (source_columns task.now.system.now) (length columns) feed.old [] }
+        ensures ok { (r : Run) → r.system ≡ task.now.system.now → r.placement ≡ task.now.placement.now → r.rows ≡ task.now.rows → r.trace ≡ task.now.trace → r.stalls ≡ stalls → r.held ≡ S.held shelf.old feed.old.name → Feeds r feed.old []
             → IfOk result (λ run. (given : List (List Bool)) × IsRunning r run given × Feeds r feed.new given) }
         ensures made { IfOk result (λ run. run.made ≡ 0) }
-        ensures err { (r : Run) → r.system ≡ system.now → r.rows ≡ rows → r.held ≡ S.held shelf.old feed.old.name → Feeds r feed.old []
+        ensures err { (r : Run) → r.system ≡ task.now.system.now → r.rows ≡ task.now.rows → r.held ≡ S.held shelf.old feed.old.name → Feeds r feed.old []
             → IfErr result (IsCause r [] (Rose (S.faults shelf.old feed.old.name) (S.faults shelf.new feed.old.name)) ⊥) }
         ensures name { feed.new.name ≡ feed.old.name }
         ensures kept { S.held shelf.new ≡ S.held shelf.old }
         ensures grows { (q : List ℕ) → S.faults shelf.old q ≤ S.faults shelf.new q }
     {
-        if rows == 0 {
-            return Running::begin(alloc, system, placement, rows, None, trace, stalls);
+        if task.rows == 0 {
+            return Running::begin(alloc, task, None, stalls);
         }
         let row = match next_row(shelf, feed, 0) {
             Ok(row) => row,
             Err(fault) => return Err(fault),
         };
-        Running::begin(
-            alloc,
-            system,
-            placement,
-            rows,
-            Some(row.as_slice()),
-            trace,
-            stalls,
-        )
+        Running::begin(alloc, task, Some(row.as_slice()), stalls)
     }
 
     /// Fetches and gives the next row, where it is needed.

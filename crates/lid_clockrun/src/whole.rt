@@ -5,19 +5,18 @@ ghost use Rattle.lid_base.specs.Outside.{Rose};
 ghost use Rattle.lid_system.specs.Systems.{IsWellFormed};
 ghost use Rattle.lid_stations.specs.Placements.{Fits};
 ghost use Rattle.lid_feed.specs.Fetching.{HasGiven};
-ghost use Rattle.lid_clockrun.specs.Runnings.{Run, run_of, source_columns, HasRun, HasStopped};
+ghost use Rattle.lid_clockrun.specs.Runnings.{Run, run_by, source_columns, HasRun, HasStopped};
 ghost use Rattle.lid_clockrun.specs.Stepping.{IsFed, IsRunOf};
 ghost use Rattle.lid_stalltext.specs.Holds.{Ascend, listed};
 
 use crate::fault::RunFault;
 use crate::lines::Telling;
 use crate::steps::Running;
+use crate::task::Task;
 use crate::workers::Workers;
-use lid_base::{Gate, Items, Name, Shelf, Sink};
+use lid_base::{Gate, Items, Shelf, Sink};
 use lid_feed::RowFeed;
 use lid_stall::Stall;
-use lid_stations::Placement;
-use lid_system::System;
 use std::alloc::Global;
 use std::thread::Threads;
 
@@ -26,39 +25,38 @@ use std::thread::Threads;
 fn tell_run<S: Shelf, O: Sink, R: Threads + Sync, G: Gate>(
     shelf: &mut S,
     out: &mut O,
-    system: &System,
-    columns: &[Name],
+    task: &Task<'_>,
     feed: &mut RowFeed,
     run: &mut Running,
     telling: &mut Telling,
     workers: &Workers<'_, R, G>,
 ) -> Result<(), RunFault>
     requires some { 0 < workers.now.many }
-    requires fed { (r : Run) × (given : List (List Bool)) × IsRunOf r system.now columns.now × IsFed r (S.held shelf.old feed.old.name) run.old feed.old given }
+    requires fed { (r : Run) × (given : List (List Bool)) × IsRunOf r task.now.system.now task.now.columns.now × IsFed r (S.held shelf.old feed.old.name) run.old feed.old given }
     requires none { run.old.made ≡ 0 }
     requires line { telling.old.line.items ≡ [] }
     requires held { telling.old.writer ≡ [] }
-    ensures ok { (r : Run) (given : List (List Bool)) → IsRunOf r system.now columns.now → IsFed r (S.held shelf.old feed.old.name) run.old feed.old given
+    ensures ok { (r : Run) (given : List (List Bool)) → IsRunOf r task.now.system.now task.now.columns.now → IsFed r (S.held shelf.old feed.old.name) run.old feed.old given
         → OnOk result (HasRun r (O.written out.old) (O.written out.new)) }
-    ensures err { (r : Run) (given : List (List Bool)) → IsRunOf r system.now columns.now → IsFed r (S.held shelf.old feed.old.name) run.old feed.old given
+    ensures err { (r : Run) (given : List (List Bool)) → IsRunOf r task.now.system.now task.now.columns.now → IsFed r (S.held shelf.old feed.old.name) run.old feed.old given
         → IfErr result (HasStopped r (O.written out.old) (O.written out.new)
         (Rose (S.faults shelf.old feed.old.name) (S.faults shelf.new feed.old.name)) (Rose (O.faults out.old) (O.faults out.new))) }
     ensures kept { S.held shelf.new ≡ S.held shelf.old }
     ensures grows { (q : List ℕ) → S.faults shelf.old q ≤ S.faults shelf.new q }
     ensures rises { O.faults out.old ≤ O.faults out.new }
 {
-    if let Err(fault) = telling.tell_header(columns, out) {
+    if let Err(fault) = telling.tell_header(task.columns, out) {
         return Err(fault);
     }
     while run.stream.below() {
         if let Err(fault) = run.go(shelf, feed, workers) {
             return Err(fault);
         }
-        if let Err(fault) = telling.tell_last(run.stream.last(), columns, out) {
+        if let Err(fault) = telling.tell_last(run.stream.last(), task.columns, out) {
             return Err(fault);
         }
     }
-    let Ok(()) = run.append_end(system.nodes.len() as u32, &mut telling.line) else {
+    let Ok(()) = run.append_end(task.system.nodes.len() as u32, &mut telling.line) else {
         return Err(RunFault::Memory);
     };
     telling.finish(out)
@@ -81,43 +79,30 @@ pub fn run<S: Shelf, O: Sink, R: Threads + Sync, G: Gate>(
     alloc: Global,
     shelf: &mut S,
     out: &mut O,
-    system: &System,
-    placement: &Placement,
-    columns: &[Name],
-    rows: u64,
+    task: &Task<'_>,
     feed: &mut RowFeed,
-    trace: Option<u64>,
     stalls: Option<Items<Stall>>,
     workers: &Workers<'_, R, G>,
 ) -> Result<(), RunFault>
     requires some { 0 < workers.now.many }
-    requires system { IsWellFormed system.now }
-    requires fits { Fits system.now placement.now }
-    requires few { rows ≤ 1000000 }
+    requires system { IsWellFormed task.now.system.now }
+    requires fits { Fits task.now.system.now task.now.placement.now }
+    requires few { task.now.rows ≤ 1000000 }
     requires ascend { Ascend (listed stalls) }
-    requires feeds { HasGiven (S.held shelf.old feed.old.name) (source_columns system.now) (length columns.now) feed.old [] }
-    ensures ok { OnOk result (HasRun (run_of system.now placement.now columns.now rows trace stalls (S.held shelf.old feed.old.name)) (O.written out.old) (O.written out.new)) }
-    ensures err { IfErr result (HasStopped (run_of system.now placement.now columns.now rows trace stalls (S.held shelf.old feed.old.name)) (O.written out.old) (O.written out.new)
+    requires feeds { HasGiven (S.held shelf.old feed.old.name) (source_columns task.now.system.now) (length task.now.columns.now) feed.old [] }
+    ensures ok { OnOk result (HasRun (run_by task.now stalls (S.held shelf.old feed.old.name)) (O.written out.old) (O.written out.new)) }
+    ensures err { IfErr result (HasStopped (run_by task.now stalls (S.held shelf.old feed.old.name)) (O.written out.old) (O.written out.new)
         (Rose (S.faults shelf.old feed.old.name) (S.faults shelf.new feed.old.name)) (Rose (O.faults out.old) (O.faults out.new))) }
     ensures kept { S.held shelf.new ≡ S.held shelf.old }
     ensures grows { (q : List ℕ) → S.faults shelf.old q ≤ S.faults shelf.new q }
     ensures rises { O.faults out.old ≤ O.faults out.new }
 {
-    let mut run = match Running::start(alloc, shelf, system, placement, rows, feed, trace, stalls) {
+    let mut run = match Running::start(alloc, shelf, task, feed, stalls) {
         Ok(run) => run,
         Err(fault) => return Err(fault),
     };
     let Ok(mut telling) = Telling::start(alloc) else {
         return Err(RunFault::Memory);
     };
-    tell_run(
-        shelf,
-        out,
-        system,
-        columns,
-        feed,
-        &mut run,
-        &mut telling,
-        workers,
-    )
+    tell_run(shelf, out, task, feed, &mut run, &mut telling, workers)
 }

@@ -7,7 +7,8 @@ use Rattle.lid_design.specs.Columns.{root_inputs}
 use Rattle.lid_system.specs.Systems.{IsWellFormed}
 use Rattle.lid_stations.specs.declared.placement.Placement.{Placement}
 use Rattle.lid_stations.specs.Placements.{Links, Fits}
-use Rattle.lid_script.specs.Scripts.{Script, freeing_script, schedule_script, waving_script}
+use Rattle.lid_script.specs.Scripts.{Script, held_step, freeing_script, schedule_script, waving_script}
+use Rattle.lid_heldruns.specs.declared.run.Asked.{Asked}
 use Rattle.lid_heldruns.specs.declared.run.Fed.{Fed}
 use Rattle.lid_heldruns.specs.declared.run.HeldRun.{HeldRun}
 use Rattle.lid_heldruns.specs.declared.run.HeldRun.TheVariants.{Free, Walk, Wave}
@@ -18,7 +19,11 @@ script_for (Free workers rounds tally) d l p rows = freeing_script d l p workers
 script_for (Walk schedule) d l p rows = schedule_script d l p schedule.now rows
 script_for (Wave cycles) d l p rows = waving_script d l p cycles rows
 
--- a trace has some cycles and not too many
+-- the steps of a run from its netlist on
+abbrev pub asked_script : Asked → Script
+asked_script a = held_step a.net.now a.vec.now a.stations.now a.root.now (script_for a.run)
+
+-- there are some workers, and not too many of them or of their rounds; a trace has some cycles and not too many
 abbrev pub IsSoundRun : HeldRun → Type 0
 IsSoundRun (Free workers rounds tally) = (1 ≤ workers) × (workers ≤ 64) × (rounds ≤ 1000000)
 IsSoundRun (Walk schedule) = ⊤

@@ -4,17 +4,17 @@ ghost use Rattle.std.specs.Prelude.{◌≡◌, ℕ, ◌≤◌, List, IfOk, IfErr
 ghost use Rattle.lid_agree.specs.Agreement.{IsSystemOf};
 ghost use Rattle.lid_design.specs.WellFormed.{IsWellFormed};
 ghost use Rattle.lid_script.specs.Causes.{IsCause};
-ghost use Rattle.lid_script.specs.Scripts.{rows_step, placement_step, built_step, check_step, held_step, free_script, walk_script, wave_script};
+ghost use Rattle.lid_script.specs.Scripts.{rows_step, placement_step, built_step, check_step};
 ghost use Rattle.lid_script.specs.Statuses.{HasText};
 ghost use Rattle.lid_stations.specs.Placements.{links_of, Fits};
 ghost use Rattle.lid_system.specs.Systems.{IsWellFormed as IsSystem};
-ghost use Rattle.lid_heldruns.specs.Runs.{script_for, IsFed, IsSoundRun};
+ghost use Rattle.lid_heldruns.specs.Runs.{script_for, asked_script, IsFed, IsSoundRun};
 
 use crate::freeing::freed_text;
-use crate::run::{Fed, HeldRun};
+use crate::run::{Asked, Fed, HeldRun};
 use crate::walking::walked_text;
 use crate::waving::waved_text;
-use lid_base::{Gate, Name, Shelf, Text};
+use lid_base::{Gate, Shelf};
 use lid_check::Checked;
 use lid_design::Design;
 use lid_script::{Stop, accept, build_system, read_net, read_placement, read_vec};
@@ -23,7 +23,7 @@ use lid_system::System;
 use std::thread::Threads;
 
 /// What is written once the rows are read.
-fn run_text<'a, R: Threads + AllocGlobal + Sync, S: Shelf, G: Gate>(
+fn fed_text<'a, R: Threads + AllocGlobal + Sync, S: Shelf, G: Gate>(
     rt: &R,
     gate: &G,
     shelf: &mut S,
@@ -56,19 +56,18 @@ fn placed_text<'a, R: Threads + AllocGlobal + Sync, S: Shelf, G: Gate>(
     checked: &Checked,
     system: &System,
     placement: &Placement,
-    vec: &'a str,
-    run: HeldRun<'a>,
+    asked: &Asked<'a>,
 ) -> Result<Vec<u8>, Stop<'a>>
     requires system { IsSystem system.now }
     requires fits { Fits system.now placement.now }
     requires of { IsSystemOf checked.now system.now }
-    requires sound { IsSoundRun run }
-    ensures ok { IfOk result (λ text. HasText (S.held shelf.old) (rows_step checked.now vec.now (script_for run.entry checked.now (links_of system.now) placement.now)) text.items) }
-    ensures err { IfErr result (IsCause (S.held shelf.old) (rows_step checked.now vec.now (script_for run.entry checked.now (links_of system.now) placement.now)) (S.faults shelf.old) (S.faults shelf.new)) }
+    requires sound { IsSoundRun asked.now.run }
+    ensures ok { IfOk result (λ text. HasText (S.held shelf.old) (rows_step checked.now asked.now.vec.now (script_for asked.now.run checked.now (links_of system.now) placement.now)) text.items) }
+    ensures err { IfErr result (IsCause (S.held shelf.old) (rows_step checked.now asked.now.vec.now (script_for asked.now.run checked.now (links_of system.now) placement.now)) (S.faults shelf.old) (S.faults shelf.new)) }
     ensures kept { S.held shelf.new ≡ S.held shelf.old }
     ensures grows { (q : List ℕ) → S.faults shelf.old q ≤ S.faults shelf.new q }
 {
-    match read_vec(rt.alloc(), shelf, checked, vec) {
+    match read_vec(rt.alloc(), shelf, checked, asked.vec) {
         Ok(rows) => {
             let fed = Fed {
                 checked,
@@ -76,7 +75,7 @@ fn placed_text<'a, R: Threads + AllocGlobal + Sync, S: Shelf, G: Gate>(
                 placement,
                 rows: &rows,
             };
-            run_text(rt, gate, shelf, &fed, run)
+            fed_text(rt, gate, shelf, &fed, asked.run)
         }
         Err(stop) => Err(stop),
     }
@@ -89,20 +88,18 @@ fn built_text<'a, R: Threads + AllocGlobal + Sync, S: Shelf, G: Gate>(
     shelf: &mut S,
     checked: &Checked,
     system: &System,
-    vec: &'a str,
-    stations: &'a Option<Text>,
-    run: HeldRun<'a>,
+    asked: &Asked<'a>,
 ) -> Result<Vec<u8>, Stop<'a>>
     requires system { IsSystem system.now }
     requires of { IsSystemOf checked.now system.now }
-    requires sound { IsSoundRun run }
-    ensures ok { IfOk result (λ text. HasText (S.held shelf.old) (placement_step (links_of system.now) stations.now (λ p. rows_step checked.now vec.now (script_for run.entry checked.now (links_of system.now) p))) text.items) }
-    ensures err { IfErr result (IsCause (S.held shelf.old) (placement_step (links_of system.now) stations.now (λ p. rows_step checked.now vec.now (script_for run.entry checked.now (links_of system.now) p))) (S.faults shelf.old) (S.faults shelf.new)) }
+    requires sound { IsSoundRun asked.now.run }
+    ensures ok { IfOk result (λ text. HasText (S.held shelf.old) (placement_step (links_of system.now) asked.now.stations.now (λ p. rows_step checked.now asked.now.vec.now (script_for asked.now.run checked.now (links_of system.now) p))) text.items) }
+    ensures err { IfErr result (IsCause (S.held shelf.old) (placement_step (links_of system.now) asked.now.stations.now (λ p. rows_step checked.now asked.now.vec.now (script_for asked.now.run checked.now (links_of system.now) p))) (S.faults shelf.old) (S.faults shelf.new)) }
     ensures kept { S.held shelf.new ≡ S.held shelf.old }
     ensures grows { (q : List ℕ) → S.faults shelf.old q ≤ S.faults shelf.new q }
 {
-    match read_placement(rt.alloc(), shelf, system, stations) {
-        Ok(placement) => placed_text(rt, gate, shelf, checked, system, &placement, vec, run),
+    match read_placement(rt.alloc(), shelf, system, asked.stations) {
+        Ok(placement) => placed_text(rt, gate, shelf, checked, system, &placement, asked),
         Err(stop) => Err(stop),
     }
 }
@@ -113,18 +110,16 @@ fn checked_text<'a, R: Threads + AllocGlobal + Sync, S: Shelf, G: Gate>(
     gate: &G,
     shelf: &mut S,
     checked: &Checked,
-    vec: &'a str,
-    stations: &'a Option<Text>,
-    run: HeldRun<'a>,
+    asked: &Asked<'a>,
 ) -> Result<Vec<u8>, Stop<'a>>
-    requires { IsSoundRun run }
-    ensures ok { IfOk result (λ text. HasText (S.held shelf.old) (built_step checked.now vec.now stations.now (script_for run.entry checked.now)) text.items) }
-    ensures err { IfErr result (IsCause (S.held shelf.old) (built_step checked.now vec.now stations.now (script_for run.entry checked.now)) (S.faults shelf.old) (S.faults shelf.new)) }
+    requires { IsSoundRun asked.now.run }
+    ensures ok { IfOk result (λ text. HasText (S.held shelf.old) (built_step checked.now asked.now.vec.now asked.now.stations.now (script_for asked.now.run checked.now)) text.items) }
+    ensures err { IfErr result (IsCause (S.held shelf.old) (built_step checked.now asked.now.vec.now asked.now.stations.now (script_for asked.now.run checked.now)) (S.faults shelf.old) (S.faults shelf.new)) }
     ensures kept { S.held shelf.new ≡ S.held shelf.old }
     ensures grows { (q : List ℕ) → S.faults shelf.old q ≤ S.faults shelf.new q }
 {
     match build_system(rt.alloc(), checked) {
-        Ok(system) => built_text(rt, gate, shelf, checked, &system, vec, stations, run),
+        Ok(system) => built_text(rt, gate, shelf, checked, &system, asked),
         Err(stop) => Err(stop),
     }
 }
@@ -135,141 +130,41 @@ fn read_text<'a, R: Threads + AllocGlobal + Sync, S: Shelf, G: Gate>(
     gate: &G,
     shelf: &mut S,
     design: Design,
-    vec: &'a str,
-    stations: &'a Option<Text>,
-    root: &Option<Name>,
-    run: HeldRun<'a>,
+    asked: &Asked<'a>,
 ) -> Result<Vec<u8>, Stop<'a>>
     requires formed { IsWellFormed design }
-    requires sound { IsSoundRun run }
-    ensures ok { IfOk result (λ text. HasText (S.held shelf.old) (check_step root.now design (λ checked. built_step checked vec.now stations.now (script_for run.entry checked))) text.items) }
-    ensures err { IfErr result (IsCause (S.held shelf.old) (check_step root.now design (λ checked. built_step checked vec.now stations.now (script_for run.entry checked))) (S.faults shelf.old) (S.faults shelf.new)) }
+    requires sound { IsSoundRun asked.now.run }
+    ensures ok { IfOk result (λ text. HasText (S.held shelf.old) (check_step asked.now.root.now design (λ checked. built_step checked asked.now.vec.now asked.now.stations.now (script_for asked.now.run checked))) text.items) }
+    ensures err { IfErr result (IsCause (S.held shelf.old) (check_step asked.now.root.now design (λ checked. built_step checked asked.now.vec.now asked.now.stations.now (script_for asked.now.run checked))) (S.faults shelf.old) (S.faults shelf.new)) }
     ensures kept { S.held shelf.new ≡ S.held shelf.old }
     ensures grows { (q : List ℕ) → S.faults shelf.old q ≤ S.faults shelf.new q }
 {
-    match accept(rt.alloc(), design, root) {
-        Ok(checked) => checked_text(rt, gate, shelf, &checked, vec, stations, run),
+    match accept(rt.alloc(), design, asked.root) {
+        Ok(checked) => checked_text(rt, gate, shelf, &checked, asked),
         Err(stop) => Err(stop),
     }
 }
 
-/// What a run writes.
-fn held_text<'a, R: Threads + AllocGlobal + Sync, S: Shelf, G: Gate>(
+/// What a run writes that holds its rows: along a schedule (`walk`), by free workers (`free`), or clock by clock
+/// as a value change dump (`wave`).
+///
+/// # Errors
+/// As the script of the run has them: the first fault of a file, in the order netlist, stations, rows and
+/// schedule, a limit, or that memory is wanting.
+pub fn run_text<'a, R: Threads + AllocGlobal + Sync, S: Shelf, G: Gate>(
     rt: &R,
     gate: &G,
     shelf: &mut S,
-    net: &'a str,
-    vec: &'a str,
-    stations: &'a Option<Text>,
-    root: &Option<Name>,
-    run: HeldRun<'a>,
+    asked: &Asked<'a>,
 ) -> Result<Vec<u8>, Stop<'a>>
-    requires { IsSoundRun run }
-    ensures ok { IfOk result (λ text. HasText (S.held shelf.old) (held_step net.now vec.now stations.now root.now (script_for run.entry)) text.items) }
-    ensures err { IfErr result (IsCause (S.held shelf.old) (held_step net.now vec.now stations.now root.now (script_for run.entry)) (S.faults shelf.old) (S.faults shelf.new)) }
+    requires { IsSoundRun asked.now.run }
+    ensures ok { IfOk result (λ text. HasText (S.held shelf.old) (asked_script asked.now) text.items) }
+    ensures err { IfErr result (IsCause (S.held shelf.old) (asked_script asked.now) (S.faults shelf.old) (S.faults shelf.new)) }
     ensures kept { S.held shelf.new ≡ S.held shelf.old }
     ensures grows { (q : List ℕ) → S.faults shelf.old q ≤ S.faults shelf.new q }
 {
-    match read_net(rt.alloc(), shelf, net) {
-        Ok(design) => read_text(rt, gate, shelf, design, vec, stations, root, run),
+    match read_net(rt.alloc(), shelf, asked.net) {
+        Ok(design) => read_text(rt, gate, shelf, design, asked),
         Err(stop) => Err(stop),
     }
-}
-
-/// What `free` writes, of 1 to 64 workers and at most 1,000,000 rounds.
-#[tactic(auto, unfolding(lid_script::specs::Scripts::free_script))]
-pub fn free_text<'a, R: Threads + AllocGlobal + Sync, S: Shelf, G: Gate>(
-    rt: &R,
-    gate: &G,
-    shelf: &mut S,
-    net: &'a str,
-    vec: &'a str,
-    stations: &'a Option<Text>,
-    workers: u32,
-    rounds: u64,
-    tally: bool,
-    root: &Option<Name>,
-) -> Result<Vec<u8>, Stop<'a>>
-    requires some { 1 ≤ workers }
-    requires most { workers ≤ 64 }
-    requires few { rounds ≤ 1000000 }
-    ensures ok { IfOk result (λ text. HasText (S.held shelf.old) (free_script net.now vec.now stations.now workers rounds tally root.now) text.items) }
-    ensures err { IfErr result (IsCause (S.held shelf.old) (free_script net.now vec.now stations.now workers rounds tally root.now) (S.faults shelf.old) (S.faults shelf.new)) }
-    ensures kept { S.held shelf.new ≡ S.held shelf.old }
-    ensures grows { (q : List ℕ) → S.faults shelf.old q ≤ S.faults shelf.new q }
-{
-    held_text(
-        rt,
-        gate,
-        shelf,
-        net,
-        vec,
-        stations,
-        root,
-        HeldRun::Free {
-            workers,
-            rounds,
-            tally,
-        },
-    )
-}
-
-/// What `walk` writes.
-#[tactic(auto, unfolding(lid_script::specs::Scripts::walk_script))]
-pub fn walk_text<'a, R: Threads + AllocGlobal + Sync, S: Shelf, G: Gate>(
-    rt: &R,
-    gate: &G,
-    shelf: &mut S,
-    net: &'a str,
-    vec: &'a str,
-    schedule: &'a str,
-    stations: &'a Option<Text>,
-    root: &Option<Name>,
-) -> Result<Vec<u8>, Stop<'a>>
-    ensures ok { IfOk result (λ text. HasText (S.held shelf.old) (walk_script net.now vec.now schedule.now stations.now root.now) text.items) }
-    ensures err { IfErr result (IsCause (S.held shelf.old) (walk_script net.now vec.now schedule.now stations.now root.now) (S.faults shelf.old) (S.faults shelf.new)) }
-    ensures kept { S.held shelf.new ≡ S.held shelf.old }
-    ensures grows { (q : List ℕ) → S.faults shelf.old q ≤ S.faults shelf.new q }
-{
-    held_text(
-        rt,
-        gate,
-        shelf,
-        net,
-        vec,
-        stations,
-        root,
-        HeldRun::Walk(schedule),
-    )
-}
-
-/// What `wave` writes, of a trace of 1 to 1,048,576 cycles.
-#[tactic(auto, unfolding(lid_script::specs::Scripts::wave_script))]
-pub fn wave_text<'a, R: Threads + AllocGlobal + Sync, S: Shelf, G: Gate>(
-    rt: &R,
-    gate: &G,
-    shelf: &mut S,
-    net: &'a str,
-    vec: &'a str,
-    stations: &'a Option<Text>,
-    cycles: u64,
-    root: &Option<Name>,
-) -> Result<Vec<u8>, Stop<'a>>
-    requires some { 1 ≤ cycles }
-    requires few { cycles ≤ 1048576 }
-    ensures ok { IfOk result (λ text. HasText (S.held shelf.old) (wave_script net.now vec.now stations.now cycles root.now) text.items) }
-    ensures err { IfErr result (IsCause (S.held shelf.old) (wave_script net.now vec.now stations.now cycles root.now) (S.faults shelf.old) (S.faults shelf.new)) }
-    ensures kept { S.held shelf.new ≡ S.held shelf.old }
-    ensures grows { (q : List ℕ) → S.faults shelf.old q ≤ S.faults shelf.new q }
-{
-    held_text(
-        rt,
-        gate,
-        shelf,
-        net,
-        vec,
-        stations,
-        root,
-        HeldRun::Wave(cycles),
-    )
 }

@@ -7,4 +7,5 @@ mod run;
 mod walking;
 mod waving;
 
-pub use held::{free_text, walk_text, wave_text};
+pub use held::run_text;
+pub use run::{Asked, HeldRun};

@@ -7,15 +7,38 @@ ghost use Rattle.lid_script.specs.Causes.{IsCause};
 ghost use Rattle.lid_script.specs.Statuses.{HasText};
 ghost use Rattle.lid_top.specs.Held.{is_held};
 
-use lid_base::{Gate, Shelf};
+use lid_base::{Gate, Name, Shelf, Text};
 use lid_cli::Job;
 use lid_emitting::emit_text;
 use lid_generating::gen_text;
-use lid_heldruns::{free_text, walk_text, wave_text};
+use lid_heldruns::{Asked, HeldRun, run_text};
 use lid_script::Stop;
 use lid_waving::unwave_text;
 use std::convert::AsStr;
 use std::thread::Threads;
+
+/// What a run that holds its rows is asked for.
+fn asked<'a>(
+    net: &'a Text,
+    vec: &'a Text,
+    stations: &'a Option<Text>,
+    root: &'a Option<Name>,
+    run: HeldRun<'a>,
+) -> Asked<'a>
+    ensures net { result.net.now ≡ net.now }
+    ensures vec { result.vec.now ≡ vec.now }
+    ensures stations { result.stations.now ≡ stations.now }
+    ensures root { result.root.now ≡ root.now }
+    ensures run { result.run ≡ run }
+{
+    Asked {
+        net: net.as_str(),
+        vec: vec.as_str(),
+        stations,
+        root,
+        run,
+    }
+}
 
 /// What `emit`, `free`, `gen`, `unwave`, `walk` or `wave` writes.
 pub fn held_text<'a, R: Threads + AllocGlobal + Sync, S: Shelf, G: Gate>(
@@ -45,18 +68,14 @@ pub fn held_text<'a, R: Threads + AllocGlobal + Sync, S: Shelf, G: Gate>(
             rounds,
             tally,
             root,
-        } => free_text(
-            rt,
-            gate,
-            shelf,
-            net.as_str(),
-            vec.as_str(),
-            stations,
-            *workers as u32,
-            *rounds,
-            *tally,
-            root,
-        ),
+        } => {
+            let run = HeldRun::Free {
+                workers: *workers as u32,
+                rounds: *rounds,
+                tally: *tally,
+            };
+            run_text(rt, gate, shelf, &asked(net, vec, stations, root, run))
+        }
         Job::Gen { seed, shells, run } => gen_text(rt.alloc(), *seed, *shells, run),
         Job::Unwave { file } => unwave_text(rt.alloc(), shelf, file.as_str()),
         Job::Walk {
@@ -65,32 +84,20 @@ pub fn held_text<'a, R: Threads + AllocGlobal + Sync, S: Shelf, G: Gate>(
             schedule,
             stations,
             root,
-        } => walk_text(
-            rt,
-            gate,
-            shelf,
-            net.as_str(),
-            vec.as_str(),
-            schedule.as_str(),
-            stations,
-            root,
-        ),
+        } => {
+            let run = HeldRun::Walk(schedule.as_str());
+            run_text(rt, gate, shelf, &asked(net, vec, stations, root, run))
+        }
         Job::Wave {
             net,
             vec,
             stations,
             trace,
             root,
-        } => wave_text(
-            rt,
-            gate,
-            shelf,
-            net.as_str(),
-            vec.as_str(),
-            stations,
-            *trace,
-            root,
-        ),
+        } => {
+            let run = HeldRun::Wave(*trace);
+            run_text(rt, gate, shelf, &asked(net, vec, stations, root, run))
+        }
         _ => unreachable!(),
     }
 }

@@ -1,14 +1,14 @@
 use Rattle.std.proofs.Common.{[], refl, sym, ◌∙◌, ap, subst}
 use Rattle.lid_base.specs.Outside.{Rose}
 use Rattle.lid_base.proofs.Results.{if_err}
-use Rattle.lid_clockrun.specs.Runnings.{run_of}
+use Rattle.lid_clockrun.specs.Runnings.{run_by}
 use Rattle.lid_clockrun.proofs.Living.{none_given}
 use Rattle.lid_clockrun.proofs.Tellings.{rose_later, cause_later, stopped_later, part_of_none}
 use Rattle.lid_clockrun.proofs.whole.run.Goals as goal
 
 pub returns-in-Err-clause-err : goal.returns-in-Err-clause-err
 returns-in-Err-clause-err g c =
-    let run = run_of c.args.system.now c.args.placement.now c.args.columns.now c.args.rows c.args.trace c.args.stalls (g.S.Shelf.held c.args.shelf.now c.args.feed.now.name) in
+    let run = run_by c.args.task.now c.args.stalls (g.S.Shelf.held c.args.shelf.now c.args.feed.now.name) in
     let reads = Rose (g.S.Shelf.faults c.args.shelf.now c.args.feed.now.name) (g.S.Shelf.faults c.start.new.shelf c.args.feed.now.name) in
     record {
       rows = [];
@@ -21,7 +21,7 @@ returns-in-Err-clause-err g c =
 
 pub returns-in_default-clause-err : goal.returns-in_default-clause-err
 returns-in_default-clause-err g c =
-    let run = run_of c.args.system.now c.args.placement.now c.args.columns.now c.args.rows c.args.trace c.args.stalls (g.S.Shelf.held c.args.shelf.now c.args.feed.now.name) in
+    let run = run_by c.args.task.now c.args.stalls (g.S.Shelf.held c.args.shelf.now c.args.feed.now.name) in
     record {
       rows = [];
       given = none_given run;
@@ -32,21 +32,21 @@ returns-in_default-clause-err g c =
 -- the feed's file is the same one, and holds the same, once the run has begun
 pub tell_run-requires-clause-fed : goal.tell_run-requires-clause-fed
 tell_run-requires-clause-fed g c κs within =
-    let run = run_of c.args.system.now c.args.placement.now c.args.columns.now c.args.rows c.args.trace c.args.stalls (g.S.Shelf.held c.args.shelf.now c.args.feed.now.name) in
+    let run = run_by c.args.task.now c.args.stalls (g.S.Shelf.held c.args.shelf.now c.args.feed.now.name) in
     let same = ap (g.S.Shelf.held c.args.shelf.now) (sym c.in-Ok.ensures.name) ∙ ap (λ h. h c.start.new.feed.name) (sym c.in-Ok.ensures.kept) in
     let has = c.in-Ok.ensures.ok run refl refl refl refl refl refl c.requires.feeds in
     (run, has.0, record { of = refl; named = refl }, record { told = same; running = has.1; feeds = has.2 })
 
 pub returns-clause-ok : goal.returns-clause-ok
 returns-clause-ok g c =
-    let run = run_of c.args.system.now c.args.placement.now c.args.columns.now c.args.rows c.args.trace c.args.stalls (g.S.Shelf.held c.args.shelf.now c.args.feed.now.name) in
+    let run = run_by c.args.task.now c.args.stalls (g.S.Shelf.held c.args.shelf.now c.args.feed.now.name) in
     let same = ap (g.S.Shelf.held c.args.shelf.now) (sym c.in-Ok.ensures.name) ∙ ap (λ h. h c.start.new.feed.name) (sym c.in-Ok.ensures.kept) in
     let has = c.in-Ok.ensures.ok run refl refl refl refl refl refl c.requires.feeds in
     c.tell_run.ensures.ok run has.0 (record { of = refl; named = refl }) (record { told = same; running = has.1; feeds = has.2 })
 
 pub returns-clause-err : goal.returns-clause-err
 returns-clause-err g c =
-    let run = run_of c.args.system.now c.args.placement.now c.args.columns.now c.args.rows c.args.trace c.args.stalls (g.S.Shelf.held c.args.shelf.now c.args.feed.now.name) in
+    let run = run_by c.args.task.now c.args.stalls (g.S.Shelf.held c.args.shelf.now c.args.feed.now.name) in
     let same = ap (g.S.Shelf.held c.args.shelf.now) (sym c.in-Ok.ensures.name) ∙ ap (λ h. h c.start.new.feed.name) (sym c.in-Ok.ensures.kept) in
     let has = c.in-Ok.ensures.ok run refl refl refl refl refl refl c.requires.feeds in
     let first = g.S.Shelf.faults c.args.shelf.now in

@@ -14,7 +14,7 @@ returns-in-Err-clause-err g c = λ r given of fed.
     record {
       rows = given;
       given = fed.running.rows;
-      told = λ l b. header_breaks r fed.running.rules.ascend given l b c.args.columns.now of.named (g.O.Sink.written c.args.out.now) (g.O.Sink.written c.tell_header.new.out) c.args.telling.now.writer c.requires.held c.in-Err.ensures.err;
+      told = λ l b. header_breaks r fed.running.rules.ascend given l b c.args.task.now.columns.now of.named (g.O.Sink.written c.args.out.now) (g.O.Sink.written c.tell_header.new.out) c.args.telling.now.writer c.requires.held c.in-Err.ensures.err;
       cause = cause_of_telling r given (Rose (g.S.Shelf.faults c.args.shelf.now c.args.feed.now.name) (g.S.Shelf.faults c.args.shelf.now c.args.feed.now.name)) (Rose (g.O.Sink.faults c.args.out.now) (g.O.Sink.faults c.tell_header.new.out)) (Rose (g.O.Sink.faults c.args.out.now) (g.O.Sink.faults c.tell_header.new.out)) c.in-Err.fault (λ rose. rose) c.in-Err.ensures.cause;
     }
 
@@ -27,7 +27,7 @@ loop-run-init g c =
         told = λ l b.
             subst (λ (k : ℕ). HasPushed (g.O.Sink.written c.args.out.now) (g.O.Sink.written c.tell_header.new.out) c.tell_header.new.self.writer (rows_text r.columns (first_outputs l (fired_after l k (sink l)))))
             (sym c.requires.none)
-            (header_told r fed.running.rules.ascend given l b c.args.columns.now of.named (g.O.Sink.written c.args.out.now) (g.O.Sink.written c.tell_header.new.out) c.args.telling.now.writer c.tell_header.new.self.writer c.requires.held c.in_default.ensures.ok);
+            (header_told r fed.running.rules.ascend given l b c.args.task.now.columns.now of.named (g.O.Sink.written c.args.out.now) (g.O.Sink.written c.tell_header.new.out) c.args.telling.now.writer c.tell_header.new.self.writer c.requires.held c.in_default.ensures.ok);
         line = c.in_default.ensures.none;
       };
       name = refl;
@@ -71,7 +71,7 @@ returns-in-Err-tell_last-clause-err g c = λ r given of fed.
       told = λ l b.
           last_breaks r gone.running.rules.ascend gone.given l b made (lent c.last.result)
           (subst (λ (k : ℕ). IsLast l k (lent c.last.result)) gone.one (c.last.ensures l c.go.new.self.made (length gone.given) (gone.running.lives l b).ran))
-          (g.O.Sink.written c.args.out.now) (g.O.Sink.written c.loop-run.out) (g.O.Sink.written c.tell_last.new.out) c.loop-run.telling.writer (t.told l (gone.further l b)) c.args.columns.now of.named c.in-Err-tell_last.ensures.err;
+          (g.O.Sink.written c.args.out.now) (g.O.Sink.written c.loop-run.out) (g.O.Sink.written c.tell_last.new.out) c.loop-run.telling.writer (t.told l (gone.further l b)) c.args.task.now.columns.now of.named c.in-Err-tell_last.ensures.err;
       cause =
           cause_of_telling r gone.given (Rose (g.S.Shelf.faults c.args.shelf.now c.args.feed.now.name) (g.S.Shelf.faults c.go.new.shelf c.args.feed.now.name)) (Rose (g.O.Sink.faults c.loop-run.out) (g.O.Sink.faults c.tell_last.new.out)) (Rose (g.O.Sink.faults c.args.out.now) (g.O.Sink.faults c.tell_last.new.out)) c.in-Err-tell_last.fault
           (λ rose. rose_later (g.O.Sink.faults c.args.out.now) (g.O.Sink.faults c.loop-run.out) (g.O.Sink.faults c.tell_last.new.out) c.loop-run.invariant.rises rose) c.in-Err-tell_last.ensures.cause;
@@ -108,7 +108,7 @@ loop-run-preserved g c =
                 (sym gone.one)
                 (last_told r gone.running.rules.ascend gone.given l b made (lent c.last.result)
                 (subst (λ (k : ℕ). IsLast l k (lent c.last.result)) gone.one (c.last.ensures l c.go.new.self.made (length gone.given) (gone.running.lives l b).ran))
-                (g.O.Sink.written c.args.out.now) (g.O.Sink.written c.loop-run.out) (g.O.Sink.written c.tell_last.new.out) c.loop-run.telling.writer (t.told l (gone.further l b)) c.args.columns.now of.named c.tell_last.new.self.writer c.in_default-tell_last.ensures.ok);
+                (g.O.Sink.written c.args.out.now) (g.O.Sink.written c.loop-run.out) (g.O.Sink.written c.tell_last.new.out) c.loop-run.telling.writer (t.told l (gone.further l b)) c.args.task.now.columns.now of.named c.tell_last.new.self.writer c.in_default-tell_last.ensures.ok);
             line = c.in_default-tell_last.ensures.none;
           };
       name = c.in_default-go.ensures.name ∙ c.loop-run.invariant.name;

@@ -7,7 +7,7 @@ use Rattle.lid_clockrun.proofs.whole.tell_run.Given as goal
 -- each run that begins so is told as far as its cycles go
 abbrev pub invariant-loop-run : goal.invariant-loop-run
 invariant-loop-run g l = record {
-  telling : (r : Run) (given : List (List Bool)) → IsRunOf r l.fn.system l.fn.columns → IsFed r (g.S.Shelf.held l.fn.shelf l.fn.feed.name) l.fn.run l.fn.feed given
+  telling : (r : Run) (given : List (List Bool)) → IsRunOf r l.fn.task.system.now l.fn.task.columns.now → IsFed r (g.S.Shelf.held l.fn.shelf l.fn.feed.name) l.fn.run l.fn.feed given
       → IsTelling r (g.S.Shelf.held l.shelf l.feed.name) l.run l.feed l.telling (g.O.Sink.written l.fn.out) (g.O.Sink.written l.out);
   name : l.feed.name ≡ l.fn.feed.name;
   kept : g.S.Shelf.held l.shelf ≡ g.S.Shelf.held l.fn.shelf;
