@@ -7,9 +7,9 @@ ghost use Rattle.lid_rate.specs.Rates.{AreLabels};
 ghost use Rattle.lid_forward.specs.ForwardParts.{HasStations, AreForwardRatios};
 ghost use Rattle.lid_forward.specs.ForwardWalks.{HasForwardWalk, AreWalksBelow, MeetForwardRule};
 
-use crate::walks::{are_forward, is_closed, is_forward, lowest, tokens_on, walk_at, walk_start};
+use crate::walks::{are_forward, is_closed, is_forward, walk_at, walk_start};
 use lid_graph::{Edge, Graph};
-use lid_ratio::{Ratio, edge};
+use lid_ratio::{Ratio, edge, lowest, tokens_on};
 use lid_sizeguess::Forwards;
 use std::alloc::{AllocError, Global};
 

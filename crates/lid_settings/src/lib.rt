@@ -7,7 +7,7 @@ mod placing;
 mod rows;
 mod run;
 
-pub use netlists::{ONE, RING, system_of};
-pub use placing::placement_of;
+pub use netlists::{DIAMOND, MADE, ONE, RING, system_of};
+pub use placing::{Placed, placed_of, placement_of};
 pub use rows::{are_rows, rows_of};
 pub use run::{Run, run_of};

@@ -3,9 +3,8 @@
 ghost use Rattle.std.specs.Prelude.{IfSome};
 ghost use Rattle.lid_settings.specs.Runs.{IsRun};
 
-use crate::netlists::system_of;
+use crate::placing::{Placed, placed_of};
 use crate::rows::{are_rows, rows_of, width_of};
-use lid_placetext::read_stations;
 use lid_stations::Placement;
 use lid_system::System;
 use lid_texts::Rows;
@@ -27,10 +26,7 @@ pub struct Run {
 pub fn run_of(alloc: Global, netlist: &[u8], stations: &[u8], letters: &[u8]) -> Option<Run>
     ensures { IfSome result (λ run. IsRun run.system run.placement run.rows.bits) }
 {
-    let Some(system) = system_of(alloc, netlist) else {
-        return None;
-    };
-    let Ok(placement) = read_stations(alloc, stations, &system) else {
+    let Some(Placed { system, placement }) = placed_of(alloc, netlist, stations) else {
         return None;
     };
     let Some(rows) = rows_of(alloc, letters, width_of(&system)) else {

@@ -5,40 +5,21 @@ ghost use Rattle.std.specs.Prelude.{IfSome};
 ghost use Rattle.lid_graph.specs.Rateable.{IsRateable};
 
 use lid_graph::Graph;
-use lid_placetext::read_stations;
 use lid_rate::find;
 use lid_ratio::Ratio;
-use lid_settings::{RING, system_of};
+use lid_settings::{DIAMOND, MADE, RING, placed_of};
 use lid_size::{SizeEnd, size};
 use lid_sizeguess::{Sizes, propose_forwards, propose_sizes};
 use lid_stations::{Placement, marking};
 use std::alloc::{AllocError, Global};
 
-/// Two ways from u0 to u1, with the channels `in u0 0`, `u0 u1 0`, `u0 u2 0`, `u1 out 0` and `u2 u1 0`.
-const DIAMOND: &[u8] =
-    b".model dia\n.inputs x\n.outputs y\n.subckt reg d=x q=a\n.subckt xr a=a b=b q=y\n\
-.subckt reg d=a q=b\n.end\n\
-.model reg\n.inputs d\n.outputs q\n.latch d q 0\n.end\n\
-.model xr\n.inputs a b\n.outputs q\n.names a b n\n10 1\n01 1\n.latch n q 0\n.end\n";
-
-/// The same two ways, from a register that keeps its bit. The source has no channel, so it is a component
+/// The two ways of `DIAMOND`, from a register that keeps its bit. The source has no channel, so it is a component
 /// of its own, and the first one.
 const APART: &[u8] =
     b".model dia\n.inputs x\n.outputs y\n.subckt reg d=a q=a\n.subckt xr a=a b=b q=y\n\
 .subckt reg d=a q=b\n.end\n\
 .model reg\n.inputs d\n.outputs q\n.latch d q 0\n.end\n\
 .model xr\n.inputs a b\n.outputs q\n.names a b n\n10 1\n01 1\n.latch n q 0\n.end\n";
-
-/// What `gen 209 --shells 2` makes, without the models that it does not use. Its channels are `in u0 0`, `in u1 0`,
-/// `in out 0`, `u0 u1 0`, `u0 out 0` and `u1 u0 0`, and the last draws give them 0, 2, 0, 0, 1 and 1 relay stations.
-const MADE: &[u8] =
-    b".model gen\n.inputs x0 x1 x2 x3\n.outputs y0 y1 y2 y3\n.names x3 y0\n1 1\n.names n0_q y1\n1 1\n\
-.names n0_r y2\n1 1\n.names n0_q y3\n1 1\n.subckt cel1 a=x0 b=n1_r q=n0_q r=n0_r\n\
-.subckt cel2 a=n0_q b=x0 q=n1_q r=n1_r\n.end\n\
-.model cel1\n.inputs a b\n.outputs q r\n.names a b dq\n11 1\n.names b q dr\n10 1\n01 1\n\
-.latch dq q 0\n.latch dr r 1\n.end\n\
-.model cel2\n.inputs a b\n.outputs q r\n.names a b dq\n1- 1\n-1 1\n.names b q dr\n10 1\n01 1\n\
-.latch dq q 0\n.latch dr r 1\n.end\n";
 
 /// A netlist, its stations as a text, and the relay stations and capacities that are answered.
 type Reached = (&'static [u8], &'static [u8], &'static [u32], &'static [u32]);
@@ -130,13 +111,10 @@ static FORWARDS: [Forward; 3] = [
 
 /// What sizing answers for a netlist and its stations.
 fn sized(alloc: Global, netlist: &[u8], stations: &[u8]) -> Option<SizeEnd> {
-    let Some(system) = system_of(alloc, netlist) else {
+    let Some(placed) = placed_of(alloc, netlist, stations) else {
         return None;
     };
-    let Ok(placement) = read_stations(alloc, stations, &system) else {
-        return None;
-    };
-    match size(alloc, &system, &placement) {
+    match size(alloc, &placed.system, &placed.placement) {
         Ok(end) => Some(end),
         Err(_) => None,
     }
@@ -185,13 +163,10 @@ fn falls(alloc: Global, netlist: &[u8], stations: &[u8]) -> Option<Falls> {
 fn graph_of(alloc: Global, netlist: &[u8], stations: &[u8]) -> Option<Graph>
     ensures { IfSome result IsRateable }
 {
-    let Some(system) = system_of(alloc, netlist) else {
+    let Some(placed) = placed_of(alloc, netlist, stations) else {
         return None;
     };
-    let Ok(placement) = read_stations(alloc, stations, &system) else {
-        return None;
-    };
-    match marking(alloc, &system, &placement) {
+    match marking(alloc, &placed.system, &placed.placement) {
         Ok(graph) => Some(graph),
         Err(_) => None,
     }

@@ -4,31 +4,13 @@ ghost use Rattle.std.specs.Prelude.{◌<◌, length};
 ghost use Rattle.lid_system.specs.Systems.{IsWellFormed};
 ghost use Rattle.lid_stations.specs.Placements.{Fits};
 
-use lid_placetext::read_stations;
 use lid_ratio::Ratio;
-use lid_settings::{RING, system_of};
+use lid_settings::{DIAMOND, MADE, RING, placed_of};
 use lid_slack::{Certified, certify, slack, slack_and_next};
 use lid_slackguess::propose_slack;
 use lid_stations::Placement;
 use lid_system::System;
 use std::alloc::Global;
-
-/// Two ways from `u0` to `u1`, with the channels `in u0 0`, `u0 u1 0`, `u0 u2 0`, `u1 out 0` and `u2 u1 0`.
-const TWO_WAYS: &[u8] =
-    b".model dia\n.inputs x\n.outputs y\n.subckt reg d=x q=a\n.subckt xr a=a b=b q=y\n.subckt reg d=a q=b\n.end\n\
-.model reg\n.inputs d\n.outputs q\n.latch d q 0\n.end\n\
-.model xr\n.inputs a b\n.outputs q\n.names a b n\n10 1\n01 1\n.latch n q 0\n.end\n";
-
-/// What `gen 209 --shells 2` makes, without the models that it does not use. Its channels are `in u0 0`, `in u1 0`,
-/// `in out 0`, `u0 u1 0`, `u0 out 0` and `u1 u0 0`, and the last draws give them 0, 2, 0, 0, 1 and 1 relay stations.
-const MADE: &[u8] =
-    b".model gen\n.inputs x0 x1 x2 x3\n.outputs y0 y1 y2 y3\n.names x3 y0\n1 1\n.names n0_q y1\n1 1\n\
-.names n0_r y2\n1 1\n.names n0_q y3\n1 1\n.subckt cel1 a=x0 b=n1_r q=n0_q r=n0_r\n\
-.subckt cel2 a=n0_q b=x0 q=n1_q r=n1_r\n.end\n\
-.model cel1\n.inputs a b\n.outputs q r\n.names a b dq\n11 1\n.names b q dr\n10 1\n01 1\n\
-.latch dq q 0\n.latch dr r 1\n.end\n\
-.model cel2\n.inputs a b\n.outputs q r\n.names a b dq\n1- 1\n-1 1\n.names b q dr\n10 1\n01 1\n\
-.latch dq q 0\n.latch dr r 1\n.end\n";
 
 /// The slack of a channel, and the ratio with one more, or 0/0.
 type Case = (u32, u32, u64, u64);
@@ -136,24 +118,18 @@ fn have_slacks(alloc: Global, system: &System, placement: &Placement, cases: &[C
 
 /// The same of a netlist with stations as a text.
 fn are_slacks(alloc: Global, netlist: &[u8], stations: &[u8], cases: &[Case]) -> bool {
-    let Some(system) = system_of(alloc, netlist) else {
-        return false;
-    };
-    match read_stations(alloc, stations, &system) {
-        Ok(placement) => have_slacks(alloc, &system, &placement, cases),
-        Err(_) => false,
+    match placed_of(alloc, netlist, stations) {
+        Some(placed) => have_slacks(alloc, &placed.system, &placed.placement, cases),
+        None => false,
     }
 }
 
 /// The certificate of a netlist with stations as a text.
 fn certified(alloc: Global, netlist: &[u8], stations: &[u8]) -> Option<Certified> {
-    let Some(system) = system_of(alloc, netlist) else {
+    let Some(placed) = placed_of(alloc, netlist, stations) else {
         return None;
     };
-    let Ok(placement) = read_stations(alloc, stations, &system) else {
-        return None;
-    };
-    match certify(alloc, &system, &placement) {
+    match certify(alloc, &placed.system, &placed.placement) {
         Ok(present) => Some(present),
         Err(_) => None,
     }
@@ -211,7 +187,7 @@ fn the_shorter_of_two_ways_has_slack(rt: HostRuntime) {
     assert!(rt;
         are_slacks(
             rt.alloc(),
-            TWO_WAYS,
+            DIAMOND,
             b"lid-stations 1\nu0 u1 0 3\n",
             &TWO_WAYS_CASES
         )
@@ -260,7 +236,7 @@ fn the_slack_of_the_shorter_way_is_guessed(rt: HostRuntime) {
     assert!(rt;
         are_guessed(
             rt.alloc(),
-            TWO_WAYS,
+            DIAMOND,
             b"lid-stations 1\nu0 u1 0 3\n",
             0,
             &TWO_WAYS_GUESSES

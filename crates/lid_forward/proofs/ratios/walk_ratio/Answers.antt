@@ -12,4 +12,4 @@ returns c =
     forward_walk c.args.graph.now c.args.stations c.requires.graph c.args.least.now c.requires.labels c.args.label c.args.walk.now c.tokens_on.result c.lowest.result
     (c.is_closed.ensures c.if-not-is_closed.false) (c.are_forward.ensures c.if-not-are_forward.false)
     (ap (λ (v : ℕ). get_or c.args.least.now v 0) (sym c.walk_start.ensures) ∙ c.if-least-walk_start.false)
-    c.tokens_on.ensures.is c.tokens_on.ensures.few (omega (arith, c.if-walk-gt262144.false)) c.lowest.ensures
+    c.tokens_on.ensures.tokens c.tokens_on.ensures.most (omega (arith, c.if-walk-gt262144.false)) c.lowest.ensures
