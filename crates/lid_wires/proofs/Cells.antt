@@ -325,37 +325,34 @@ module _ (q : Plan) (con : IsConnected q) where
     flat_formed : (c : FlatCover) → Among c f.covers → (wire : ℕ → Wire) → IsCover c.cover × (c.cover.inputs ≡ length (map wire c.ins))
     flat_formed c i wire = let is = all_among IsFlatCover f.covers c (con.rules v).covers i in (is.0, is.1 ∙ sym (length-map c.ins wire))
 
-    now_cover : (k : ℕ) → IsCoverNet q v k → IsCell q (now v k)
-    unfolding emitted
-    now_cover k cover =
+    -- a wire that the cover of a net drives, which reads such wires of nets
+    cover_cell : (k : ℕ) → (cover : IsCoverNet q v k) → (w : Wire) → (put : Driver ℕ → List (Driver Wire)) → (wire : ℕ → Wire) → (most : ℕ → ℕ)
+        → emitted q w ≡ flat_map put (flat_drivers f k)
+        → put (from_cover cover.0.cover cover.0.ins) ≡ within (not (q.skips v k)) (gate cover.0.cover (map wire cover.0.ins))
+        → ((j : ℕ) → rank q v k ≡ suc j → most j < height q w)
+        → ((j : ℕ) (c : FlatCover) → slice_get f.covers j ≡ Some c → (x : ℕ) → Among x c.ins → IsCalm q (most j) (wire x))
+        → IsCell q w
+    cover_cell k cover w put wire most driven puts above calm =
         let c = cover.0 in
         let at = among_get f.covers c cover.1 in
         let its_rank : rank q v k ≡ suc at.0 = ap (rank q v) (sym cover.2) ∙ rank_of_cover f (con.rules v) at.0 c at.1 in
         record {
-          source = from_cover c.cover (map (q.here v) c.ins);
-          only = ap (flat_map (now_from q v k)) (cover_alone k c cover.1 cover.2) ∙ kept_one (from_cover c.cover (map (q.here v) c.ins)) (q.skips v k) cover.3;
+          source = from_cover c.cover (map wire c.ins);
+          only = driven ∙ ap (flat_map put) (cover_alone k c cover.1 cover.2) ∙ ap (λ (xs : List (Driver Wire)). xs ++ []) puts ∙ kept_one (from_cover c.cover (map wire c.ins)) (q.skips v k) cover.3;
           cell = tt;
-          formed = flat_formed c cover.1 (q.here v);
-          reads = all_nil_append (IsKnown q) (map (q.here v) c.ins) (all_map (IsKnown q) (q.here v) c.ins (λ x i. (here_at q con v at.0 c at.1 x i).known));
-          lower = all_map (λ r. height q r < height q (now v k)) (q.here v) c.ins (λ x i. omega (arith, (here_at q con v at.0 c at.1 x i).low, its_rank));
-          apart = all_map (λ r. is_late r ≡ true → is_late (now v k) ≡ true) (q.here v) c.ins (λ x i. calm_apart (now v k) at.0 (q.here v x) (here_at q con v at.0 c at.1 x i));
+          formed = flat_formed c cover.1 wire;
+          reads = all_nil_append (IsKnown q) (map wire c.ins) (all_map (IsKnown q) wire c.ins (λ x i. (calm at.0 c at.1 x i).known));
+          lower = all_map (λ r. height q r < height q w) wire c.ins (λ x i. omega (arith, (calm at.0 c at.1 x i).low, above at.0 its_rank));
+          apart = all_map (λ r. is_late r ≡ true → is_late w ≡ true) wire c.ins (λ x i. calm_apart w (most at.0) (wire x) (calm at.0 c at.1 x i));
         }
+
+    now_cover : (k : ℕ) → IsCoverNet q v k → IsCell q (now v k)
+    unfolding emitted
+    now_cover k cover = cover_cell k cover (now v k) (now_from q v k) (q.here v) (λ j. j) refl refl (λ j is. omega (arith, is)) (here_at q con v)
 
     later_cell : (k : ℕ) → IsCoverNet q v k → IsCell q (later v k)
     unfolding emitted
-    later_cell k cover =
-        let c = cover.0 in
-        let at = among_get f.covers c cover.1 in
-        let its_rank : rank q v k ≡ suc at.0 = ap (rank q v) (sym cover.2) ∙ rank_of_cover f (con.rules v) at.0 c at.1 in
-        record {
-          source = from_cover c.cover (map (q.after v) c.ins);
-          only = ap (flat_map (later_from q v k)) (cover_alone k c cover.1 cover.2) ∙ kept_one (from_cover c.cover (map (q.after v) c.ins)) (q.skips v k) cover.3;
-          cell = tt;
-          formed = flat_formed c cover.1 (q.after v);
-          reads = all_nil_append (IsKnown q) (map (q.after v) c.ins) (all_map (IsKnown q) (q.after v) c.ins (λ x i. (after_at q con v at.0 c at.1 x i).known));
-          lower = all_map (λ r. height q r < height q (later v k)) (q.after v) c.ins (λ x i. omega (arith, (after_at q con v at.0 c at.1 x i).low, its_rank));
-          apart = all_map (λ r. is_late r ≡ true → is_late (later v k) ≡ true) (q.after v) c.ins (λ x i. calm_apart (later v k) ((cover_count q v + 1) + at.0) (q.after v x) (after_at q con v at.0 c at.1 x i));
-        }
+    later_cell k cover = cover_cell k cover (later v k) (later_from q v k) (q.after v) (λ j. (cover_count q v + 1) + j) refl refl (λ j is. omega (arith, is)) (after_at q con v)
 
   shown_cell : (j : ℕ) → j < length q.shows → IsCell q (shown j)
   unfolding emitted
