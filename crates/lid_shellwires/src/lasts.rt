@@ -10,7 +10,7 @@ use std::alloc::{AllocError, Global};
 ///
 /// # Errors
 /// Where there is no memory.
-pub(crate) fn last_stations(alloc: Global, relays: &[u32]) -> Result<Vec<u32>, AllocError>
+pub fn last_stations(alloc: Global, relays: &[u32]) -> Result<Vec<u32>, AllocError>
     requires { station_count relays.now ≤ 65536 }
     ensures { IfOk result (λ lasts. lasts.items ≡ lasts_from 0 relays.now) }
 {
