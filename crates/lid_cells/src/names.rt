@@ -21,7 +21,7 @@ pub struct Naming<'a> {
 ///
 /// # Errors
 /// Where there is no memory.
-pub fn wire_name(alloc: Global, naming: Naming<'_>, wire: Wire) -> Result<Name, AllocError>
+pub(crate) fn wire_name(alloc: Global, naming: Naming<'_>, wire: Wire) -> Result<Name, AllocError>
     ensures { IfOk result (λ name. name ≡ name_in naming.entry.inputs.now naming.entry.outputs.now naming.entry.prefix.now wire) }
 {
     match wire {
