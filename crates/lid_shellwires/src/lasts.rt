@@ -6,7 +6,8 @@ ghost use Rattle.lid_shellwires.specs.Reading.{lasts_from};
 
 use std::alloc::{AllocError, Global};
 
-/// The last station of each channel, of channels with so many relay stations.
+/// The last station of each channel, of channels with so many relay stations. There are at most 65,536
+/// stations, numbered from 0.
 ///
 /// # Errors
 /// Where there is no memory.

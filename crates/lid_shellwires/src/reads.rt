@@ -20,7 +20,8 @@ fn read_wire(lasts: &[u32], read: InBit) -> Wire
     }
 }
 
-/// The wires that some inputs read.
+/// The wires that some inputs read, by the last stations of channels. Each reads a constant, or one of
+/// these channels.
 ///
 /// # Errors
 /// Where there is no memory.
