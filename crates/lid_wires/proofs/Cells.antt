@@ -36,6 +36,12 @@ all_nil_append : {A : Type 0} (P : A → Type 0) (xs : List A) → AllByRecursio
 all_nil_append P [] all = tt
 all_nil_append P (x ∷ xs) all = (all.0, all_nil_append P xs all.1)
 
+-- an item stands at each place of a list
+slice_at : {A : Type 0} (xs : List A) (i : ℕ) → i < length xs → (x : A) × (slice_get xs i ≡ Some x)
+slice_at [] i h = absurd (omega arith)
+slice_at (x ∷ xs) zero h = (x, refl)
+slice_at (x ∷ xs) (suc i) h = slice_at xs i (omega arith)
+
 abbrev sources_if : Bool → List (Driver Wire) → List (Driver Wire)
 sources_if there sources = cond there sources []
 
@@ -78,16 +84,8 @@ module _ (q : Plan) (con : IsConnected q) where
 
   next_may : (v i : ℕ) → v < q.actors → i < length (ends q v) → IsCell q (may v (suc i))
   unfolding emitted
-  next_may v i there within = by (ends_at v i within).0 (ends_at v i within).1
+  next_may v i there within = by (slice_at (ends q v) i within).0 (slice_at (ends q v) i within).1
     where
-      ends_at : (v i : ℕ) → i < length (ends q v) → (e : End) × (slice_get (ends q v) i ≡ Some e)
-      ends_at v i within = (slice_at (ends q v) i within)
-        where
-          slice_at : {A : Type 0} (xs : List A) (i : ℕ) → i < length xs → (x : A) × (slice_get xs i ≡ Some x)
-          slice_at [] i h = absurd (omega arith)
-          slice_at (x ∷ xs) zero h = (x, refl)
-          slice_at (x ∷ xs) (suc i) h = slice_at xs i (omega arith)
-
       linked : (e : End) → slice_get (ends q v) i ≡ Some e → emitted q (may v (suc i)) ≡ link q v i e
       linked e here = ap (λ (b : Bool). sources_if b (option_map_or (link q v i) (slice_get (ends q v) i) [])) (lt-ltb v q.actors there) ∙ ap (λ (o : Option End). option_map_or (link q v i) o []) here
 
@@ -356,13 +354,8 @@ module _ (q : Plan) (con : IsConnected q) where
 
   shown_cell : (j : ℕ) → j < length q.shows → IsCell q (shown j)
   unfolding emitted
-  shown_cell j below = by (at q.shows j below).0 (at q.shows j below).1
+  shown_cell j below = by (slice_at q.shows j below).0 (slice_at q.shows j below).1
     where
-      at : {A : Type 0} (xs : List A) (i : ℕ) → i < length xs → (x : A) × (slice_get xs i ≡ Some x)
-      at [] i h = absurd (omega arith)
-      at (x ∷ xs) zero h = (x, refl)
-      at (x ∷ xs) (suc i) h = at xs i (omega arith)
-
       by : (wire : Wire) → slice_get q.shows j ≡ Some wire → IsCell q (shown j)
       by wire here =
           let calm = read_calm q wire 0 (con.shows wire (get_among q.shows j wire here)) in

@@ -1,11 +1,10 @@
 -- What is shown is what the sink reads.
-use Rattle.std.proofs.Common.{◌≡◌, ℕ, List, length, map, sym, subst, ap, ◌∙◌, arith}
+use Rattle.std.proofs.Common.{ℕ, List, length, map, sym, subst, ap, ◌∙◌, arith}
 use Rattle.std.specs.List.{AllByRecursion}
 use Rattle.std.proofs.lemmas.List.{length-map}
 use Rattle.lid_system.specs.declared.InBit.{InBit}
 use Rattle.lid_wrapped.specs.Nets.{read_wire}
 use Rattle.lid_wrapped.specs.Wrapping.{sink_reads}
-use Rattle.lid_cells.specs.declared.wire.Wire.{Wire}
 use Rattle.lid_cells.specs.Shown.{wire_of}
 use Rattle.lid_shellwires.specs.Reading.{lasts_from, wire_by, IsBelow}
 use Rattle.lid_shellwires.proofs.Lasting.{length_lasts, told_wires}
@@ -28,4 +27,4 @@ returns-clause-is c =
 pub returns-clause-few : goal.returns-clause-few
 returns-clause-few c =
     let long = ap length (returns-clause-is c) in
-    omega (arith, long, length-map _ wire_of, length-map (sink_reads c.args.system.now) (read_wire c.args.placement.now), ap length c.sink_reads-reads.ensures, c.if-reads-gt-MOST.false)
+    omega (arith, long, length-map c.from_vec.result wire_of, length-map (sink_reads c.args.system.now) (read_wire c.args.placement.now), ap length c.sink_reads-reads.ensures, c.if-reads-gt-MOST.false)
