@@ -20,7 +20,7 @@ use Rattle.lid_wiring.proofs.Clocking.{model_at_number}
 use Rattle.lid_flaws.proofs.Geometry.{place_number}
 use Rattle.lid_acceptance.proofs.Sets.{once_counted}
 use Rattle.lid_acceptance.proofs.Nets.{distinct_kept, firsts_apart}
-use Rattle.lid_acceptance.proofs.Counted.{sum_flat, sum_less}
+use Rattle.lid_acceptance.proofs.Counted.{sum_flat, sum_less, sum_mapped}
 
 -- a latch or a cover
 abbrev pub is_cell : {C : Type 0} → Driver C → Bool
@@ -139,14 +139,6 @@ module _ (d : Design) where
           let e = sum_by-cons (λ (cell : Cell). cond (bytes_eq (cell_out cell) x) 1 0) cell cells in
           let f = split xs in
           omega arith
-
-  sum_mapped : {A B : Type 0} (f : B → ℕ) (g : A → B) (xs : List A) → sum_by f (map g xs) ≡ sum_by (λ x. f (g x)) xs
-  sum_mapped f g [] = refl
-  sum_mapped f g (x ∷ xs) =
-      let a = sum_by-cons f (g x) (map g xs) in
-      let b = sum_by-cons (λ x. f (g x)) x xs in
-      let c = sum_mapped f g xs in
-      omega arith
 
   place_few : (p : Instance) → number_from d d.root p.path ≡ Some p.model → sum_by (cell_drivers d) (columns_at d p) ≤ cells_of d p.model
   unfolding drivers nets

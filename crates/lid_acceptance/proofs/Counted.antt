@@ -36,6 +36,14 @@ sum_numbered h i (x ∷ xs) =
     let whole = sum_by-cons h x xs in
     omega arith
 
+pub sum_mapped : {A B : Type 0} (f : B → ℕ) (g : A → B) (xs : List A) → sum_by f (map g xs) ≡ sum_by (λ x. f (g x)) xs
+sum_mapped f g [] = refl
+sum_mapped f g (x ∷ xs) =
+    let a = sum_by-cons f (g x) (map g xs) in
+    let b = sum_by-cons (λ x. f (g x)) x xs in
+    let c = sum_mapped f g xs in
+    omega arith
+
 pub sum_less : {A : Type 0} (f g : A → ℕ) (xs : List A) → ((x : A) → Among x xs → f x ≤ g x) → sum_by f xs ≤ sum_by g xs
 sum_less f g [] less = omega arith
 sum_less f g (x ∷ xs) less =

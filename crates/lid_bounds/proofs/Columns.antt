@@ -20,7 +20,7 @@ use Rattle.lid_wiring.proofs.Clocking.{model_at_number}
 use Rattle.lid_flaws.proofs.Geometry.{place_number}
 use Rattle.lid_acceptance.proofs.Sets.{once_counted}
 use Rattle.lid_acceptance.proofs.Nets.{distinct_kept, firsts_apart}
-use Rattle.lid_acceptance.proofs.Counted.{sum_flat, sum_less, sum_same}
+use Rattle.lid_acceptance.proofs.Counted.{sum_flat, sum_less, sum_mapped, sum_same}
 use Rattle.lid_emission.specs.Sizes.{cell_size, cells_size, cells_in}
 use Rattle.lid_bounds.proofs.Sums.{sum_where}
 
@@ -50,14 +50,6 @@ nothing_flat f (x ∷ xs) none =
     let a = two_sizes (f x) (flat_map f xs) in
     let b = none x in
     let c = nothing_flat f xs none in
-    omega arith
-
-sum_mapped : {A B : Type 0} (f : B → ℕ) (g : A → B) (xs : List A) → sum_by f (map g xs) ≡ sum_by (λ x. f (g x)) xs
-sum_mapped f g [] = refl
-sum_mapped f g (x ∷ xs) =
-    let a = sum_by-cons f (g x) (map g xs) in
-    let b = sum_by-cons (λ x. f (g x)) x xs in
-    let c = sum_mapped f g xs in
     omega arith
 
 no_sum : {A : Type 0} (xs : List A) → sum_by (λ (x : A). 0) xs ≤ 0

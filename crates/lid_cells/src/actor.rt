@@ -123,7 +123,7 @@ fn push_links(
 }
 
 /// Pushes all cells of an actor; `last` says whether it is the sink.
-pub fn push_actor(
+pub(crate) fn push_actor(
     alloc: Global,
     naming: Naming<'_>,
     v: u32,

@@ -15,7 +15,7 @@ use lid_design::{Cell, Init, LatchKind};
 use std::alloc::{AllocError, Global};
 
 /// A latch that drives a wire, with its first bit.
-pub fn latch_cell(
+pub(crate) fn latch_cell(
     alloc: Global,
     naming: Naming<'_>,
     wire: Wire,
@@ -43,7 +43,7 @@ fn init_of(first: bool) -> Init
 }
 
 /// A cover that drives a wire, and reads others.
-pub fn cover_cell(
+pub(crate) fn cover_cell(
     alloc: Global,
     naming: Naming<'_>,
     wire: Wire,
@@ -69,7 +69,7 @@ fn names_of(alloc: Global, naming: Naming<'_>, wires: &[Wire]) -> Result<Items<N
 }
 
 /// A cover that is 1 where some of these cubes agrees with its inputs.
-pub fn cover_of(alloc: Global, inputs: u32, cubes: &[Cube]) -> Result<Cover, AllocError>
+pub(crate) fn cover_of(alloc: Global, inputs: u32, cubes: &[Cube]) -> Result<Cover, AllocError>
     ensures { IfOk result (λ cover. cover ≡ record { inputs = inputs; on = true; cubes = cubes.now }) }
 {
     let cubes = Vec::from_slice(alloc, cubes)?;
@@ -98,7 +98,7 @@ pub(crate) fn push_gate(
 }
 
 /// A cover of the same values that can be written.
-pub fn copy_cover(alloc: Global, cover: &Cover) -> Result<Cover, AllocError>
+pub(crate) fn copy_cover(alloc: Global, cover: &Cover) -> Result<Cover, AllocError>
     ensures { IfOk result (λ copy. copy ≡ written cover.now) }
 {
     if !cover.on && cover.cubes.is_empty() {

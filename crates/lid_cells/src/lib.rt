@@ -10,11 +10,10 @@ mod shell;
 mod station;
 mod wire;
 
-pub use actor::{Actor, Fill, push_actor};
+pub use actor::{Actor, Fill};
 pub use all::{All, make_cells};
-pub use cell::{copy_cover, cover_cell, cover_of, latch_cell};
-pub use names::{Naming, wire_name};
-pub use outer::{Outer, push_outer};
-pub use shell::{Shell, push_shell};
-pub use station::{Bit, Station, push_constant, push_station};
+pub use names::Naming;
+pub use outer::Outer;
+pub use shell::Shell;
+pub use station::{Bit, Station};
 pub use wire::Wire;

@@ -6,6 +6,7 @@ ghost use Rattle.lid_cells.specs.Shown.{name_in};
 
 use crate::wire::Wire;
 use lid_base::{Items, Name, append_number, copy_name};
+use lid_emission::{BLOCK_NAME, OFFER_NAME, STOP_NAME, VALID_NAME};
 use std::alloc::{AllocError, Global};
 
 /// What names are made of: those of the data inputs and outputs, and a prefix with which no port's name begins.
@@ -20,16 +21,16 @@ pub struct Naming<'a> {
 ///
 /// # Errors
 /// Where there is no memory.
-pub fn wire_name(alloc: Global, naming: Naming<'_>, wire: Wire) -> Result<Name, AllocError>
+pub(crate) fn wire_name(alloc: Global, naming: Naming<'_>, wire: Wire) -> Result<Name, AllocError>
     ensures { IfOk result (λ name. name ≡ name_in naming.entry.inputs.now naming.entry.outputs.now naming.entry.prefix.now wire) }
 {
     match wire {
         Wire::Entry(j) => port_name(alloc, naming.inputs, j),
         Wire::Shown(j) => port_name(alloc, naming.outputs, j),
-        Wire::Offer => copy_name(alloc, b"li_in_valid"),
-        Wire::Block => copy_name(alloc, b"li_out_stop"),
-        Wire::Valid => copy_name(alloc, b"li_out_valid"),
-        Wire::Stop => copy_name(alloc, b"li_in_stop"),
+        Wire::Offer => copy_name(alloc, OFFER_NAME),
+        Wire::Block => copy_name(alloc, BLOCK_NAME),
+        Wire::Valid => copy_name(alloc, VALID_NAME),
+        Wire::Stop => copy_name(alloc, STOP_NAME),
         Wire::Given(j) => name_one(alloc, naming.prefix, b'd', j),
         Wire::Steady(bit) => name_one(alloc, naming.prefix, b'c', u32::from(bit)),
         Wire::Fire(v) => name_one(alloc, naming.prefix, b'f', v),

@@ -137,7 +137,7 @@ fn push_showns(
 }
 
 /// Pushes all cells at the outside.
-pub fn push_outer(
+pub(crate) fn push_outer(
     alloc: Global,
     naming: Naming<'_>,
     outer: &Outer,

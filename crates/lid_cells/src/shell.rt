@@ -125,7 +125,7 @@ fn push_cover(
 }
 
 /// Pushes all cells of a shell.
-pub fn push_shell(
+pub(crate) fn push_shell(
     alloc: Global,
     naming: Naming<'_>,
     v: u32,

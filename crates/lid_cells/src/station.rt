@@ -38,7 +38,7 @@ pub struct Station {
 }
 
 /// Pushes a constant.
-pub fn push_constant(
+pub(crate) fn push_constant(
     alloc: Global,
     naming: Naming<'_>,
     wire: Wire,
@@ -265,7 +265,7 @@ fn push_bits(
 }
 
 /// Pushes all cells of a station.
-pub fn push_station(
+pub(crate) fn push_station(
     alloc: Global,
     naming: Naming<'_>,
     s: u32,

@@ -2,5 +2,7 @@
 #![tactic(auto)]
 
 mod fault;
+mod ports;
 
 pub use fault::EmitFault;
+pub use ports::{BLOCK_NAME, OFFER_NAME, STOP_NAME, VALID_NAME};

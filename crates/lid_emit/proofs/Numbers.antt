@@ -1,5 +1,5 @@
 -- The numbers of the wires of a plan are small.
-use Rattle.std.proofs.Common.{◌≡◌, ℕ, zero, suc, ◌^◌, ◌<◌, ◌≤◌, true, false, List, [], ◌∷◌, length, map, inl, inr, refl, sym, ◌∙◌, ap, subst, arith, length-append}
+use Rattle.std.proofs.Common.{◌≡◌, ℕ, zero, suc, ◌^◌, ◌<◌, ◌≤◌, true, false, length, map, inl, inr, refl, sym, ◌∙◌, ap, subst, arith, length-append}
 use Rattle.std.specs.Prelude.{Option, Some, None, slice_get}
 use Rattle.std.specs.List.{AllByRecursion}
 use Rattle.std.specs.Option.{option_map_or}
@@ -15,6 +15,7 @@ use Rattle.lid_wiring.specs.Judged.{IsJudged}
 use Rattle.lid_wiring.proofs.Limits.{few_columns}
 use Rattle.lid_elab.specs.Numbers.{start_of, columns_in}
 use Rattle.lid_elab.proofs.Numbering.{numbering}
+use Rattle.lid_elab.proofs.Outer.{get_of}
 use Rattle.lid_parts.proofs.Columns.{stands_few}
 use Rattle.lid_check.specs.Flats.{IsFlatOf}
 use Rattle.lid_system.specs.declared.System.{System}
@@ -50,11 +51,6 @@ nets_few d s p n judged flats v = by (slice_get s.nodes v) refl
     by (Some (Shell pearl ins)) here = let flat = flats v pearl ins here in flat_few d judged flat.0 (n.flat v) flat.2
     by (Some (Sink columns ins)) here = omega arith
 
-there : {A : Type 0} (xs : List A) (i : ℕ) → i < length xs → (x : A) × (slice_get xs i ≡ Some x)
-there [] i below = absurd (omega (arith, below))
-there (x ∷ xs) zero below = (x, refl)
-there (x ∷ xs) (suc i) below = there xs i (omega (arith, below))
-
 module _ (q : Plan) (con : IsConnected q) (few : (v : ℕ) → (q.flat v).nets ≤ 1048576) (all : All) (is : IsAllOf q all) (sound : IsSound all) (narrow : q.inputs ≤ 16384) where
   record IsSmallStation (s : ℕ) : Type 0 where
     number : s < 2 ^ 32
@@ -63,7 +59,7 @@ module _ (q : Plan) (con : IsConnected q) (few : (v : ℕ) → (q.flat v).nets �
 
   station_small : (s : ℕ) → s < q.stations → IsSmallStation s
   station_small s below =
-      let at = there all.stations s (omega (arith, below, is.stations)) in
+      let at = get_of all.stations s (omega (arith, below, is.stations)) in
       let one = is.each_station s at.0 at.1 in
       let small = sound.stations s at.0 at.1 in
       record {
@@ -78,7 +74,7 @@ module _ (q : Plan) (con : IsConnected q) (few : (v : ℕ) → (q.flat v).nets �
 
   actor_small : (v : ℕ) → v < q.actors → IsSmallActor v
   actor_small v below =
-      let at = there all.actors v (omega (arith, below, is.actors)) in
+      let at = get_of all.actors v (omega (arith, below, is.actors)) in
       let one = is.each_actor v at.0 at.1 in
       let small = sound.actors v at.0 at.1 in
       let both = length-append (map drains (q.ins v)) (map fills (q.outs v)) in

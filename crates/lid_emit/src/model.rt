@@ -7,6 +7,7 @@ ghost use Rattle.lid_emission.specs.Ports.{input_names, output_names};
 use lid_base::{Items, Name, copy_name, push_copies};
 use lid_check::Checked;
 use lid_design::{Cell, Design, Model};
+use lid_emission::{BLOCK_NAME, OFFER_NAME, STOP_NAME, VALID_NAME};
 use std::alloc::{AllocError, Global};
 
 /// A model of some cells, with the name of the root, its ports, and those of its environment.
@@ -73,14 +74,14 @@ fn name_of_root(alloc: Global, checked: &Checked) -> Result<Name, AllocError>
 fn inputs_of(alloc: Global, checked: &Checked) -> Result<Items<Name>, AllocError>
     ensures { IfOk result (λ names. names ≡ input_names checked.now) }
 {
-    names_and_two(alloc, checked.inputs(), b"li_in_valid", b"li_out_stop")
+    names_and_two(alloc, checked.inputs(), OFFER_NAME, BLOCK_NAME)
 }
 
 /// The data outputs of the root, and then whether a row is offered, and whether none is taken.
 fn outputs_of(alloc: Global, checked: &Checked) -> Result<Items<Name>, AllocError>
     ensures { IfOk result (λ names. names ≡ output_names checked.now) }
 {
-    names_and_two(alloc, checked.outputs(), b"li_out_valid", b"li_in_stop")
+    names_and_two(alloc, checked.outputs(), VALID_NAME, STOP_NAME)
 }
 
 /// Some names, and two after them.

@@ -49,17 +49,20 @@ both_letters prefix (name ∷ names) =
     let all = sum_by-cons (λ x. bit (begins prefix x)) name names in
     omega arith
 
+two_letters : (prefix a b : List ℕ) (names : List (List ℕ)) → a ≡ prefix ++ 97 ∷ [] → b ≡ prefix ++ 98 ∷ [] → count_with a names + count_with b names ≤ count_with prefix names
+two_letters prefix a b names is_a is_b =
+    let both = both_letters prefix names in
+    let x : count_with a names ≡ count_with (prefix ++ 97 ∷ []) names = ap (λ p. count_with p names) is_a in
+    let y : count_with b names ≡ count_with (prefix ++ 98 ∷ []) names = ap (λ p. count_with p names) is_b in
+    omega arith
+
 -- the letter with which fewer names go on
 pub fewer_a : (prefix a b : List ℕ) (names : List (List ℕ)) → a ≡ prefix ++ 97 ∷ [] → b ≡ prefix ++ 98 ∷ [] → count_with a names ≤ count_with b names → IsLonger prefix a names
 fewer_a prefix a b names is_a is_b fewer = record {
   last = 97;
   letter = inl refl;
   is = is_a;
-  half =
-      let both = both_letters prefix names in
-      let x : count_with a names ≡ count_with (prefix ++ 97 ∷ []) names = ap (λ p. count_with p names) is_a in
-      let y : count_with b names ≡ count_with (prefix ++ 98 ∷ []) names = ap (λ p. count_with p names) is_b in
-      omega arith;
+  half = let both = two_letters prefix a b names is_a is_b in omega arith;
 }
 
 pub fewer_b : (prefix a b : List ℕ) (names : List (List ℕ)) → a ≡ prefix ++ 97 ∷ [] → b ≡ prefix ++ 98 ∷ [] → count_with b names < count_with a names → IsLonger prefix b names
@@ -67,11 +70,7 @@ fewer_b prefix a b names is_a is_b fewer = record {
   last = 98;
   letter = inr refl;
   is = is_b;
-  half =
-      let both = both_letters prefix names in
-      let x : count_with a names ≡ count_with (prefix ++ 97 ∷ []) names = ap (λ p. count_with p names) is_a in
-      let y : count_with b names ≡ count_with (prefix ++ 98 ∷ []) names = ap (λ p. count_with p names) is_b in
-      omega arith;
+  half = let both = two_letters prefix a b names is_a is_b in omega arith;
 }
 
 -- a prefix with which no name begins

@@ -8,6 +8,7 @@ ghost use Rattle.lid_emitsize.specs.Taken.{is_taken, taken_in};
 
 use lid_base::{Name, copy_name};
 use lid_check::Checked;
+use lid_emission::{BLOCK_NAME, OFFER_NAME, STOP_NAME, VALID_NAME};
 use lid_names::{NameSet, set_of};
 use std::alloc::{AllocError, Global};
 
@@ -89,8 +90,5 @@ fn first_of<'n>(inputs: &'n [Name], outputs: &NameSet<'_>) -> Option<&'n [u8]>
 fn is_own(name: &[u8]) -> bool
     ensures { result ≡ is_among name.now own_names }
 {
-    name == b"li_in_valid".as_slice()
-        || name == b"li_out_stop".as_slice()
-        || name == b"li_out_valid".as_slice()
-        || name == b"li_in_stop".as_slice()
+    name == OFFER_NAME || name == BLOCK_NAME || name == VALID_NAME || name == STOP_NAME
 }

@@ -3,5 +3,4 @@ pub mod Bits
 pub mod Stations
 pub mod Ends
 pub mod Actors
-pub mod Outside
 pub mod Frames

@@ -64,16 +64,19 @@ fn output_of(shells: &Shells, v: u32, port: u32) -> Wire
     }
 }
 
+/// The port that bit j of the tokens of a channel comes from, and 0 past the last bit.
+fn port_of(channel: &Channel, j: u32) -> u32
+    ensures { result ≡ slice_index_or channel.now.ports j 0 }
+{
+    let ports = channel.ports.as_slice();
+    ports.get(j as usize).copied().unwrap_or(0)
+}
+
 /// What the node from which a channel comes puts for a port.
 fn put_first(system: &System, shells: &Shells, channel: &Channel, j: u32) -> Wire
     ensures { wire_of result ≡ first_put system.now (nets_of shells.now) channel.now j }
 {
-    let port = channel
-        .ports
-        .as_slice()
-        .get(j as usize)
-        .copied()
-        .unwrap_or(0);
+    let port = port_of(channel, j);
     match system.nodes.as_slice().get(channel.from as usize) {
         Some(Node::Shell { .. }) => output_of(shells, channel.from, port),
         Some(_) => Wire::Given(port),
@@ -86,12 +89,7 @@ fn bit_at(system: &System, shells: &Shells, channel: &Channel, site: Site, j: u3
     requires { site.place ≤ site.station }
     ensures { IsBit system.now (nets_of shells.now) channel.now site j result }
 {
-    let port = channel
-        .ports
-        .as_slice()
-        .get(j as usize)
-        .copied()
-        .unwrap_or(0);
+    let port = port_of(channel, j);
     let begins = begins_at(shells, site.filler, port);
     let put = if site.place == 0 {
         put_first(system, shells, channel, j)

@@ -1,10 +1,8 @@
 //! The outside of a wrapped system.
 
 ghost use Rattle.std.specs.Prelude.{◌≡◌, ◌≤◌, ◌<◌, ◌^◌, ◌+◌, ℕ, IfOk, length, map, slice_get, Some};
-ghost use Rattle.std.specs.List.{AllByRecursion};
 ghost use Rattle.lid_system.specs.Systems.{IsWellFormed};
-ghost use Rattle.lid_stations.specs.declared.placement.Placement.{Placement};
-ghost use Rattle.lid_stations.specs.Placements.{Fits, IsPlacement};
+ghost use Rattle.lid_stations.specs.Placements.{Fits};
 ghost use Rattle.lid_circuit.specs.Plans.{Plan, ends};
 ghost use Rattle.lid_wrapped.specs.Nets.{Nets, read_wire};
 ghost use Rattle.lid_wrapped.specs.Wrapping.{plan_of, input_count, sink_reads};
@@ -12,10 +10,10 @@ ghost use Rattle.lid_cells.specs.declared.actor.Actor.{Actor};
 ghost use Rattle.lid_cells.specs.Shown.{wire_of};
 ghost use Rattle.lid_cells.specs.Matches.{IsActorOf, IsSmallActor, IsOuterOf};
 ghost use Rattle.lid_layout.specs.Actors.{AreActorsOf};
-ghost use Rattle.lid_layout.specs.Outside.{AreLasts, IsWithin};
 
 use lid_base::Items;
 use lid_cells::{Actor, Outer, Wire};
+use lid_shellwires::{input_wires, last_stations};
 use lid_stations::Placement;
 use lid_system::{InBit, Node, System, shells_stand_between_source_and_sink};
 use std::alloc::{AllocError, Global};
@@ -47,43 +45,6 @@ fn sink_reads(system: &System) -> &[InBit]
     }
 }
 
-/// The last station of each channel.
-fn last_stations(alloc: Global, placement: &Placement) -> Result<Vec<u32>, AllocError>
-    requires { IsPlacement placement.now }
-    ensures { IfOk result (λ lasts. AreLasts placement.now (length placement.now.relays) lasts.items) }
-{
-    let mut lasts = Vec::new(alloc);
-    let mut first = 0u32;
-    for relays in placement.relays.as_slice() {
-        lasts.push(first + *relays)?;
-        first += *relays + 1;
-    }
-    Ok(lasts)
-}
-
-/// The wire that an input reads, by the last stations of channels.
-fn read_wire(lasts: &[u32], input: InBit) -> Wire
-    requires { IsWithin (length lasts.now) input }
-    ensures { (p : Placement) → AreLasts p (length lasts.now) lasts.now → wire_of result ≡ read_wire p input }
-{
-    match input {
-        InBit::Const(bit) => Wire::Steady(bit),
-        InBit::Port { chan, bit } => Wire::Place(lasts[chan as usize], 0, bit),
-    }
-}
-
-/// The wires that these inputs read.
-fn read_wires(alloc: Global, lasts: &[u32], inputs: &[InBit]) -> Result<Items<Wire>, AllocError>
-    requires { AllByRecursion (IsWithin (length lasts.now)) inputs.now }
-    ensures { IfOk result (λ wires. (p : Placement) → AreLasts p (length lasts.now) lasts.now → map wire_of wires ≡ map (read_wire p) inputs.now) }
-{
-    let mut wires = Vec::new(alloc);
-    for input in inputs {
-        wires.push(read_wire(lasts, *input))?;
-    }
-    Ok(Items::from_vec(wires))
-}
-
 /// What the data outputs show.
 fn make_shows(
     alloc: Global,
@@ -99,9 +60,9 @@ fn make_shows(
     if reads.len() > MOST {
         return Err(AllocError);
     }
-    let lasts = last_stations(alloc, placement)?;
-    let shows = read_wires(alloc, lasts.as_slice(), reads)?;
-    Ok(shows)
+    let lasts = last_stations(alloc, placement.relays.as_slice())?;
+    let shows = input_wires(alloc, lasts.as_slice(), reads)?;
+    Ok(Items::from_vec(shows))
 }
 
 /// How many ends an actor has.

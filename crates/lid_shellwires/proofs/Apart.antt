@@ -10,6 +10,7 @@ use Rattle.lid_design.specs.declared.FlatCover.{FlatCover}
 use Rattle.lid_design.specs.Network.{Driver, from_input, from_latch, from_cover}
 use Rattle.lid_design.specs.Flat.{inputs_at, latch_at, cover_at, flat_drivers, latch_out, IsFlat}
 use Rattle.lid_wires.specs.Lists.{AreOnce}
+use Rattle.lid_wires.proofs.Once.{told_there, told_once}
 use Rattle.lid_shellwires.specs.Filling.{cover_out}
 
 abbrev input_if : ℕ → Bool → List (Driver ℕ)
@@ -33,29 +34,11 @@ inputs_once (n ∷ ks) j few = (
   inputs_once ks (j + 1) (λ k. omega (arith, few k, length-append (input_if j (n == k)) (inputs_at k (j + 1) ks))),
 )
 
-latch_there : (ls : List FlatLatch) (k : ℕ) → Among k (map latch_out ls) → 1 ≤ length (flat_map (latch_at k) ls)
-latch_there [] k none = absurd none
-latch_there (l ∷ ls) k (inl is) = omega (arith, length-append (latch_at k l) (flat_map (latch_at k) ls), ap (λ (b : Bool). length (latch_if l b)) (eq-eqb l.out k (sym is)))
-latch_there (l ∷ ls) k (inr there) = omega (arith, length-append (latch_at k l) (flat_map (latch_at k) ls), latch_there ls k there)
+latch_own : (l : FlatLatch) → 1 ≤ length (latch_at l.out l)
+latch_own l = omega (arith, ap (λ (b : Bool). length (latch_if l b)) (eq-eqb l.out l.out refl))
 
-latches_once : (ls : List FlatLatch) → ((k : ℕ) → length (flat_map (latch_at k) ls) ≤ 1) → AreOnce (map latch_out ls)
-latches_once [] few = tt
-latches_once (l ∷ ls) few = (
-  (λ there. omega (arith, few l.out, length-append (latch_at l.out l) (flat_map (latch_at l.out) ls), ap (λ (b : Bool). length (latch_if l b)) (eq-eqb l.out l.out refl), latch_there ls l.out there)),
-  latches_once ls (λ k. omega (arith, few k, length-append (latch_at k l) (flat_map (latch_at k) ls))),
-)
-
-cover_there : (cs : List FlatCover) (k : ℕ) → Among k (map cover_out cs) → 1 ≤ length (flat_map (cover_at k) cs)
-cover_there [] k none = absurd none
-cover_there (c ∷ cs) k (inl is) = omega (arith, length-append (cover_at k c) (flat_map (cover_at k) cs), ap (λ (b : Bool). length (cover_if c b)) (eq-eqb c.out k (sym is)))
-cover_there (c ∷ cs) k (inr there) = omega (arith, length-append (cover_at k c) (flat_map (cover_at k) cs), cover_there cs k there)
-
-covers_once : (cs : List FlatCover) → ((k : ℕ) → length (flat_map (cover_at k) cs) ≤ 1) → AreOnce (map cover_out cs)
-covers_once [] few = tt
-covers_once (c ∷ cs) few = (
-  (λ there. omega (arith, few c.out, length-append (cover_at c.out c) (flat_map (cover_at c.out) cs), ap (λ (b : Bool). length (cover_if c b)) (eq-eqb c.out c.out refl), cover_there cs c.out there)),
-  covers_once cs (λ k. omega (arith, few k, length-append (cover_at k c) (flat_map (cover_at k) cs))),
-)
+cover_own : (c : FlatCover) → 1 ≤ length (cover_at c.out c)
+cover_own c = omega (arith, ap (λ (b : Bool). length (cover_if c b)) (eq-eqb c.out c.out refl))
 
 module _ (f : Flat) (rules : IsFlat f) where
   few : (k : ℕ) → length (inputs_at k 0 f.ins) + (length (flat_map (latch_at k) f.latches) + length (flat_map (cover_at k) f.covers)) ≤ 1
@@ -67,19 +50,19 @@ module _ (f : Flat) (rules : IsFlat f) where
   each_input_once = inputs_once f.ins 0 (λ k. omega (arith, few k))
 
   pub each_latch_once : AreOnce (map latch_out f.latches)
-  each_latch_once = latches_once f.latches (λ k. omega (arith, few k))
+  each_latch_once = told_once latch_out latch_at latch_own f.latches (λ k. omega (arith, few k))
 
   pub each_cover_once : AreOnce (map cover_out f.covers)
-  each_cover_once = covers_once f.covers (λ k. omega (arith, few k))
+  each_cover_once = told_once cover_out cover_at cover_own f.covers (λ k. omega (arith, few k))
 
   pub no_input_of_latch : (k : ℕ) → Among k f.ins → Among k (map latch_out f.latches) → ⊥
-  no_input_of_latch k i j = omega (arith, few k, input_there f.ins k 0 i, latch_there f.latches k j)
+  no_input_of_latch k i j = omega (arith, few k, input_there f.ins k 0 i, told_there latch_out latch_at latch_own f.latches k j)
 
   pub no_input_of_cover : (k : ℕ) → Among k f.ins → Among k (map cover_out f.covers) → ⊥
-  no_input_of_cover k i j = omega (arith, few k, input_there f.ins k 0 i, cover_there f.covers k j)
+  no_input_of_cover k i j = omega (arith, few k, input_there f.ins k 0 i, told_there cover_out cover_at cover_own f.covers k j)
 
   pub no_latch_of_cover : (k : ℕ) → Among k (map latch_out f.latches) → Among k (map cover_out f.covers) → ⊥
-  no_latch_of_cover k i j = omega (arith, few k, latch_there f.latches k i, cover_there f.covers k j)
+  no_latch_of_cover k i j = omega (arith, few k, told_there latch_out latch_at latch_own f.latches k i, told_there cover_out cover_at cover_own f.covers k j)
 
   pub no_known_of_cover : (k : ℕ) → Among k (f.ins ++ map latch_out f.latches) → Among k (map cover_out f.covers) → ⊥
   no_known_of_cover k there out = by (among_append k f.ins (map latch_out f.latches) there)

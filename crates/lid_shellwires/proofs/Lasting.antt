@@ -1,5 +1,5 @@
 -- The last stations of channels, and what inputs read of them.
-use Rattle.std.proofs.Common.{◌≡◌, ℕ, zero, suc, ◌+◌, ◌<◌, List, [], ◌∷◌, length, take, get_or, refl, ap, subst, arith}
+use Rattle.std.proofs.Common.{◌≡◌, ℕ, zero, suc, ◌+◌, ◌<◌, List, [], ◌∷◌, length, map, take, get_or, refl, ◌∙◌, ap, subst, arith}
 use Rattle.std.specs.List.{AllByRecursion}
 use Rattle.std.proofs.lemmas.List.Sums.{sum_by-cons}
 use Rattle.std.proofs.lemmas.Option.{slice_get_within}
@@ -32,6 +32,12 @@ told_wire p (Const bit) below = refl
 told_wire p (Port chan bit) below =
     let e : get_or (lasts_from 0 p.relays) chan 0 ≡ last_station p chan = (let at = last_at 0 p.relays chan below in omega arith) in
     ap (λ (n : ℕ). circuit.place n 0 bit) e
+
+pub told_wires : (p : Placement) (xs : List InBit) → AllByRecursion (IsBelow (length p.relays)) xs → map wire_of (map (wire_by (lasts_from 0 p.relays)) xs) ≡ map (read_wire p) xs
+told_wires p [] below = refl
+told_wires p (x ∷ xs) below =
+    ap (λ (w : circuit.Wire). w ∷ map wire_of (map (wire_by (lasts_from 0 p.relays)) xs)) (told_wire p x below.0)
+    ∙ ap (λ (ws : List circuit.Wire). read_wire p x ∷ ws) (told_wires p xs below.1)
 
 -- what is read is there
 pub reads_below : (s : System) (v n : ℕ) (ins : List InBit) → length s.channels ≡ n → AllByRecursion (IsRead s v) ins → AllByRecursion (IsBelow n) ins

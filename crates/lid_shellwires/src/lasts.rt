@@ -6,11 +6,12 @@ ghost use Rattle.lid_shellwires.specs.Reading.{lasts_from};
 
 use std::alloc::{AllocError, Global};
 
-/// The last station of each channel, of channels with so many relay stations.
+/// The last station of each channel, of channels with so many relay stations. There are at most 65,536
+/// stations, numbered from 0.
 ///
 /// # Errors
 /// Where there is no memory.
-pub(crate) fn last_stations(alloc: Global, relays: &[u32]) -> Result<Vec<u32>, AllocError>
+pub fn last_stations(alloc: Global, relays: &[u32]) -> Result<Vec<u32>, AllocError>
     requires { station_count relays.now ≤ 65536 }
     ensures { IfOk result (λ lasts. lasts.items ≡ lasts_from 0 relays.now) }
 {

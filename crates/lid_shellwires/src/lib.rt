@@ -6,4 +6,6 @@ mod nets;
 mod reads;
 mod shells;
 
+pub use lasts::last_stations;
+pub use reads::input_wires;
 pub use shells::{Shells, make_shells};

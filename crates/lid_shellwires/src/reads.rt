@@ -20,15 +20,12 @@ fn read_wire(lasts: &[u32], read: InBit) -> Wire
     }
 }
 
-/// The wires that some inputs read.
+/// The wires that some inputs read, by the last stations of channels. Each reads a constant, or one of
+/// these channels.
 ///
 /// # Errors
 /// Where there is no memory.
-pub(crate) fn input_wires(
-    alloc: Global,
-    lasts: &[u32],
-    reads: &[InBit],
-) -> Result<Vec<Wire>, AllocError>
+pub fn input_wires(alloc: Global, lasts: &[u32], reads: &[InBit]) -> Result<Vec<Wire>, AllocError>
     requires { AllByRecursion (IsBelow (length lasts.now)) reads.now }
     ensures { IfOk result (λ wires. wires.items ≡ map (wire_by lasts.now) reads.now) }
 {

@@ -36,6 +36,12 @@ all_nil_append : {A : Type 0} (P : A → Type 0) (xs : List A) → AllByRecursio
 all_nil_append P [] all = tt
 all_nil_append P (x ∷ xs) all = (all.0, all_nil_append P xs all.1)
 
+-- an item stands at each place of a list
+slice_at : {A : Type 0} (xs : List A) (i : ℕ) → i < length xs → (x : A) × (slice_get xs i ≡ Some x)
+slice_at [] i h = absurd (omega arith)
+slice_at (x ∷ xs) zero h = (x, refl)
+slice_at (x ∷ xs) (suc i) h = slice_at xs i (omega arith)
+
 abbrev sources_if : Bool → List (Driver Wire) → List (Driver Wire)
 sources_if there sources = cond there sources []
 
@@ -78,16 +84,8 @@ module _ (q : Plan) (con : IsConnected q) where
 
   next_may : (v i : ℕ) → v < q.actors → i < length (ends q v) → IsCell q (may v (suc i))
   unfolding emitted
-  next_may v i there within = by (ends_at v i within).0 (ends_at v i within).1
+  next_may v i there within = by (slice_at (ends q v) i within).0 (slice_at (ends q v) i within).1
     where
-      ends_at : (v i : ℕ) → i < length (ends q v) → (e : End) × (slice_get (ends q v) i ≡ Some e)
-      ends_at v i within = (slice_at (ends q v) i within)
-        where
-          slice_at : {A : Type 0} (xs : List A) (i : ℕ) → i < length xs → (x : A) × (slice_get xs i ≡ Some x)
-          slice_at [] i h = absurd (omega arith)
-          slice_at (x ∷ xs) zero h = (x, refl)
-          slice_at (x ∷ xs) (suc i) h = slice_at xs i (omega arith)
-
       linked : (e : End) → slice_get (ends q v) i ≡ Some e → emitted q (may v (suc i)) ≡ link q v i e
       linked e here = ap (λ (b : Bool). sources_if b (option_map_or (link q v i) (slice_get (ends q v) i) [])) (lt-ltb v q.actors there) ∙ ap (λ (o : Option End). option_map_or (link q v i) o []) here
 
@@ -325,47 +323,39 @@ module _ (q : Plan) (con : IsConnected q) where
     flat_formed : (c : FlatCover) → Among c f.covers → (wire : ℕ → Wire) → IsCover c.cover × (c.cover.inputs ≡ length (map wire c.ins))
     flat_formed c i wire = let is = all_among IsFlatCover f.covers c (con.rules v).covers i in (is.0, is.1 ∙ sym (length-map c.ins wire))
 
-    now_cover : (k : ℕ) → IsCoverNet q v k → IsCell q (now v k)
-    unfolding emitted
-    now_cover k cover =
+    -- a wire that the cover of a net drives, which reads such wires of nets
+    cover_cell : (k : ℕ) → (cover : IsCoverNet q v k) → (w : Wire) → (put : Driver ℕ → List (Driver Wire)) → (wire : ℕ → Wire) → (most : ℕ → ℕ)
+        → emitted q w ≡ flat_map put (flat_drivers f k)
+        → put (from_cover cover.0.cover cover.0.ins) ≡ within (not (q.skips v k)) (gate cover.0.cover (map wire cover.0.ins))
+        → ((j : ℕ) → rank q v k ≡ suc j → most j < height q w)
+        → ((j : ℕ) (c : FlatCover) → slice_get f.covers j ≡ Some c → (x : ℕ) → Among x c.ins → IsCalm q (most j) (wire x))
+        → IsCell q w
+    cover_cell k cover w put wire most driven puts above calm =
         let c = cover.0 in
         let at = among_get f.covers c cover.1 in
         let its_rank : rank q v k ≡ suc at.0 = ap (rank q v) (sym cover.2) ∙ rank_of_cover f (con.rules v) at.0 c at.1 in
         record {
-          source = from_cover c.cover (map (q.here v) c.ins);
-          only = ap (flat_map (now_from q v k)) (cover_alone k c cover.1 cover.2) ∙ kept_one (from_cover c.cover (map (q.here v) c.ins)) (q.skips v k) cover.3;
+          source = from_cover c.cover (map wire c.ins);
+          only = driven ∙ ap (flat_map put) (cover_alone k c cover.1 cover.2) ∙ ap (λ (xs : List (Driver Wire)). xs ++ []) puts ∙ kept_one (from_cover c.cover (map wire c.ins)) (q.skips v k) cover.3;
           cell = tt;
-          formed = flat_formed c cover.1 (q.here v);
-          reads = all_nil_append (IsKnown q) (map (q.here v) c.ins) (all_map (IsKnown q) (q.here v) c.ins (λ x i. (here_at q con v at.0 c at.1 x i).known));
-          lower = all_map (λ r. height q r < height q (now v k)) (q.here v) c.ins (λ x i. omega (arith, (here_at q con v at.0 c at.1 x i).low, its_rank));
-          apart = all_map (λ r. is_late r ≡ true → is_late (now v k) ≡ true) (q.here v) c.ins (λ x i. calm_apart (now v k) at.0 (q.here v x) (here_at q con v at.0 c at.1 x i));
+          formed = flat_formed c cover.1 wire;
+          reads = all_nil_append (IsKnown q) (map wire c.ins) (all_map (IsKnown q) wire c.ins (λ x i. (calm at.0 c at.1 x i).known));
+          lower = all_map (λ r. height q r < height q w) wire c.ins (λ x i. omega (arith, (calm at.0 c at.1 x i).low, above at.0 its_rank));
+          apart = all_map (λ r. is_late r ≡ true → is_late w ≡ true) wire c.ins (λ x i. calm_apart w (most at.0) (wire x) (calm at.0 c at.1 x i));
         }
+
+    now_cover : (k : ℕ) → IsCoverNet q v k → IsCell q (now v k)
+    unfolding emitted
+    now_cover k cover = cover_cell k cover (now v k) (now_from q v k) (q.here v) (λ j. j) refl refl (λ j is. omega (arith, is)) (here_at q con v)
 
     later_cell : (k : ℕ) → IsCoverNet q v k → IsCell q (later v k)
     unfolding emitted
-    later_cell k cover =
-        let c = cover.0 in
-        let at = among_get f.covers c cover.1 in
-        let its_rank : rank q v k ≡ suc at.0 = ap (rank q v) (sym cover.2) ∙ rank_of_cover f (con.rules v) at.0 c at.1 in
-        record {
-          source = from_cover c.cover (map (q.after v) c.ins);
-          only = ap (flat_map (later_from q v k)) (cover_alone k c cover.1 cover.2) ∙ kept_one (from_cover c.cover (map (q.after v) c.ins)) (q.skips v k) cover.3;
-          cell = tt;
-          formed = flat_formed c cover.1 (q.after v);
-          reads = all_nil_append (IsKnown q) (map (q.after v) c.ins) (all_map (IsKnown q) (q.after v) c.ins (λ x i. (after_at q con v at.0 c at.1 x i).known));
-          lower = all_map (λ r. height q r < height q (later v k)) (q.after v) c.ins (λ x i. omega (arith, (after_at q con v at.0 c at.1 x i).low, its_rank));
-          apart = all_map (λ r. is_late r ≡ true → is_late (later v k) ≡ true) (q.after v) c.ins (λ x i. calm_apart (later v k) ((cover_count q v + 1) + at.0) (q.after v x) (after_at q con v at.0 c at.1 x i));
-        }
+    later_cell k cover = cover_cell k cover (later v k) (later_from q v k) (q.after v) (λ j. (cover_count q v + 1) + j) refl refl (λ j is. omega (arith, is)) (after_at q con v)
 
   shown_cell : (j : ℕ) → j < length q.shows → IsCell q (shown j)
   unfolding emitted
-  shown_cell j below = by (at q.shows j below).0 (at q.shows j below).1
+  shown_cell j below = by (slice_at q.shows j below).0 (slice_at q.shows j below).1
     where
-      at : {A : Type 0} (xs : List A) (i : ℕ) → i < length xs → (x : A) × (slice_get xs i ≡ Some x)
-      at [] i h = absurd (omega arith)
-      at (x ∷ xs) zero h = (x, refl)
-      at (x ∷ xs) (suc i) h = at xs i (omega arith)
-
       by : (wire : Wire) → slice_get q.shows j ≡ Some wire → IsCell q (shown j)
       by wire here =
           let calm = read_calm q wire 0 (con.shows wire (get_among q.shows j wire here)) in

@@ -1,5 +1,5 @@
 -- Lists in which no item stands twice.
-use Rattle.std.proofs.Common.{◌≡◌, ℕ, zero, suc, ◌+◌, ◌≤◌, ◌⊎◌, inl, inr, List, [], ◌∷◌, ◌++◌, map, flat_map, refl, sym, ◌∙◌, subst, arith}
+use Rattle.std.proofs.Common.{◌≡◌, ℕ, zero, suc, ◌+◌, ◌≤◌, ◌⊎◌, inl, inr, List, [], ◌∷◌, ◌++◌, length, length-append, map, flat_map, refl, sym, ◌∙◌, subst, arith}
 use Rattle.lid_base.specs.Lists.{Among}
 use Rattle.lid_base.proofs.Lists.{among_append, among_map, flat_among}
 use Rattle.lid_design.specs.Network.{from_each}
@@ -52,3 +52,17 @@ once_numbers (x ∷ xs) once = (λ there. once.0 (back x xs there), once_numbers
 
 pub once_range : (k n : ℕ) → AreOnce (map (λ (j : ℕ). j) (from_each (λ j. j) k n))
 once_range k n = once_numbers (from_each (λ j. j) k n) (once_each (λ j. j) k n (λ i j same. same))
+
+-- items that each tell of a number: where one of a list has the number, the list tells of it
+pub told_there : {A B : Type 0} (key : A → ℕ) (told : ℕ → A → List B) → ((x : A) → 1 ≤ length (told (key x) x)) → (xs : List A) (k : ℕ) → Among k (map key xs) → 1 ≤ length (flat_map (told k) xs)
+told_there key told own [] k none = absurd none
+told_there key told own (x ∷ xs) k (inl is) = omega (arith, length-append (told k x) (flat_map (told k) xs), subst (λ (n : ℕ). 1 ≤ length (told n x)) (sym is) (own x))
+told_there key told own (x ∷ xs) k (inr there) = omega (arith, length-append (told k x) (flat_map (told k) xs), told_there key told own xs k there)
+
+-- and where the list tells at most once of each number, no two of it have the same
+pub told_once : {A B : Type 0} (key : A → ℕ) (told : ℕ → A → List B) → ((x : A) → 1 ≤ length (told (key x) x)) → (xs : List A) → ((k : ℕ) → length (flat_map (told k) xs) ≤ 1) → AreOnce (map key xs)
+told_once key told own [] few = tt
+told_once key told own (x ∷ xs) few = (
+  (λ there. omega (arith, few (key x), length-append (told (key x) x) (flat_map (told (key x)) xs), own x, told_there key told own xs (key x) there)),
+  told_once key told own xs (λ k. omega (arith, few k, length-append (told k x) (flat_map (told k) xs))),
+)

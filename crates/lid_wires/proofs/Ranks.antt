@@ -1,9 +1,9 @@
 -- The nets of a shell in the order of its covers: their wires, and how high these stand.
-use Rattle.std.proofs.Common.{◌≡◌, ℕ, zero, suc, ◌+◌, ◌<◌, ◌≤◌, inl, inr, Bool, List, [], ◌∷◌, ◌++◌, length, Some, None, slice_get, refl, sym, ◌∙◌, ap, subst, arith, length-append}
+use Rattle.std.proofs.Common.{◌≡◌, ℕ, zero, suc, ◌+◌, ◌<◌, ◌≤◌, inl, inr, Bool, List, [], ◌∷◌, ◌++◌, length, map, Some, None, slice_get, refl, sym, ◌∙◌, ap, subst, arith, length-append}
 use Rattle.std.specs.Prelude.{if◌then◌else◌, flat_map}
 use Rattle.std.proofs.lemmas.Bool.{eq-eqb, ne_eqb}
 use Rattle.lid_base.specs.Lists.{Among}
-use Rattle.lid_base.proofs.Lists.{all_among}
+use Rattle.lid_base.proofs.Lists.{all_among, among_map, get_among}
 use Rattle.lid_design.specs.declared.Flat.{Flat}
 use Rattle.lid_design.specs.declared.FlatLatch.{FlatLatch}
 use Rattle.lid_design.specs.declared.FlatCover.{FlatCover}
@@ -11,6 +11,7 @@ use Rattle.lid_design.specs.Network.{Driver, from_latch, from_cover}
 use Rattle.lid_design.specs.Flat.{flat_drivers, inputs_at, latch_at, cover_at, ReadEarlier, IsFlat}
 use Rattle.lid_design.proofs.Parts.{latch_drives, cover_drives, same_of_one}
 use Rattle.lid_wires.specs.Heights.{rank_in}
+use Rattle.lid_wires.proofs.Once.{told_there}
 
 -- a list of one item is that item
 pub single : {A : Type 0} (xs : List A) (x : A) → length xs ≤ 1 → Among x xs → xs ≡ x ∷ []
@@ -22,13 +23,11 @@ single (y ∷ z ∷ xs) x few there = absurd (omega arith)
 drives_one : (c : FlatCover) (k : ℕ) → c.out ≡ k → length (cover_at k c) ≡ 1
 drives_one c k is = ap (λ (b : Bool). length {A = Driver ℕ} (if b then from_cover c.cover c.ins ∷ [] else [])) (eq-eqb c.out k is)
 
--- as many covers drive a net as have it
+-- a net that a cover of a list has is driven by the list
 one_there : (cs : List FlatCover) (k j : ℕ) (c : FlatCover) → slice_get cs j ≡ Some c → c.out ≡ k → 1 ≤ length (flat_map (cover_at k) cs)
-one_there [] k j c none is = absurd (let e : None ≡ Some c = none in cc)
-one_there (d ∷ cs) k zero c here is =
-    let same : d ≡ c = (let e : Some d ≡ Some c = here in cc) in
-    omega (arith, length-append (cover_at k d) (flat_map (cover_at k) cs), drives_one d k (ap (λ (x : FlatCover). x.out) same ∙ is))
-one_there (d ∷ cs) k (suc j) c here is = omega (arith, length-append (cover_at k d) (flat_map (cover_at k) cs), one_there cs k j c here is)
+one_there cs k j c here is =
+    told_there (λ (c : FlatCover). c.out) cover_at (λ c. omega (arith, drives_one c c.out refl)) cs k
+    (subst (λ (n : ℕ). Among n (map (λ (c : FlatCover). c.out) cs)) is (among_map (λ (c : FlatCover). c.out) c cs (get_among cs j c here)))
 
 two_there : (cs : List FlatCover) (k i j : ℕ) (c d : FlatCover) → i < j → slice_get cs i ≡ Some c → slice_get cs j ≡ Some d → c.out ≡ k → d.out ≡ k → 2 ≤ length (flat_map (cover_at k) cs)
 two_there [] k i j c d less none there is also = absurd (let e : None ≡ Some c = none in cc)
