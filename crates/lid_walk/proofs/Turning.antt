@@ -1,8 +1,6 @@
 -- What a turn of one actor leaves of the others, and of the board.
-use Rattle.std.proofs.Common.{◌≡◌, ℕ, ◌+◌, ◌<◌, List, set, refl, sym, ◌∙◌, ap, subst, arith, length-set}
+use Rattle.std.proofs.Common.{◌≡◌, ℕ, ◌+◌, ◌<◌, List, set, refl, sym, ◌∙◌, ap, subst, arith}
 use Rattle.std.specs.Prelude.{Option, Some, slice_get}
-use mathlib.Core.Logic.{dite}
-use native.Mathlib.Decide.{ℕ_discrete}
 use Rattle.lid_station.specs.Plain.{plain_ends, PlainStands}
 use Rattle.lid_station.specs.declared.pair.Pair.{Pair}
 use Rattle.lid_machine.specs.Plans.{actors_of}
@@ -17,15 +15,14 @@ use Rattle.lid_shell.specs.Actors.{IsActor}
 use Rattle.lid_shell.specs.Steps.{Works, Moves}
 use Rattle.lid_shell.specs.Turns.{fired_at, Turned}
 use Rattle.lid_walk.specs.declared.walk.Walk.{Walk}
-use Rattle.lid_actors.specs.Actors.{AreActors}
-use Rattle.lid_walk.specs.Walks.{IsBoard, Walks}
-use Rattle.lid_walk.proofs.Elements.{set_here, set_there}
-use Rattle.lid_walk.proofs.Stepping.{works, as_many, all_agree}
+use Rattle.lid_walk.specs.Walks.{Walks}
+use Rattle.lid_walk.proofs.Stepping.{works, all_moved}
 
 abbrev pub at_rest : ℕ → Progress
 at_rest fired = record { fired = fired; position = 0 }
 
-as_far : (p q : Progress) → p.fired ≡ q.fired → p.position ≡ q.position → p ≡ q
+-- progress is how often was fired, and where
+pub as_far : (p q : Progress) → p.fired ≡ q.fired → p.position ≡ q.position → p ≡ q
 as_far p q fired position = ap (λ (n : ℕ). let r : Progress = record { fired = n; position = p.position } in r) fired ∙ ap (λ (n : ℕ). let r : Progress = record { fired = q.fired; position = n } in r) position
 
 -- an actor at rest works at the board
@@ -54,32 +51,9 @@ module _ (m : Setup) (st : State) (w : Walk) (v : ℕ) (a b : Actor) (news : Lis
   works_then : Works m v (new v) b (plain_ends news) (PlainStands news)
   works_then = subst (λ (q : Progress). Works m v q b (plain_ends news) (PlainStands news)) (sym far) turned.works
 
-  actors_then : AreActors m new (set w.actors.items v b)
-  actors_then = record {
-    many = length-set w.actors.items v b ∙ walks.actors.many;
-    each = λ u c at. dite (ℕ_discrete u v)
-        (λ same. subst (λ (n : ℕ). IsActor m n (new n) c) (sym same)
-        (subst (λ (d : Actor). IsActor m v (new v) d) (set_here w.actors.items v b c (subst (λ (n : ℕ). slice_get (set w.actors.items v b) n ≡ Some c) same at)) is))
-        (λ other. subst (λ (q : Progress). IsActor m u q c) (sym (left.others u other)) (walks.actors.each u c (sym (set_there w.actors.items v u b other) ∙ at)));
-  }
-
-  module _ (missed : Option ℕ) (moves : Moves a.desk.ins.items a.desk.outs.items missed (plain_ends w.board.pairs.items) (plain_ends news)) where
-    board_then : IsBoard m new news
-    board_then =
-        let was = walks.actors.each v a there in
-        record {
-          many = as_many w.board.pairs.items news moves.none (λ end f e. let g = moves.some end f e in (g.0, g.1)) ∙ walks.board.many;
-          agrees = all_agree m walks.rules st new v a.desk.ins.items a.desk.outs.items (plain_ends w.board.pairs.items) (plain_ends news) was.at.drains was.at.fills moves.others left.others works_then.agrees walks.board.agrees;
-          streams = works_then.streams;
-        }
-
-    pub walks_then : (x : Walk) → x.actors.items ≡ set w.actors.items v b → x.board.pairs.items ≡ news → Walks m new x
-    walks_then x actors board = record {
-      rules = walks.rules;
-      sound = left.sound;
-      actors = subst (AreActors m new) (sym actors) actors_then;
-      board = subst (IsBoard m new) (sym board) board_then;
-    }
+  pub walks_then : (missed : Option ℕ) → Moves a.desk.ins.items a.desk.outs.items missed (plain_ends w.board.pairs.items) (plain_ends news)
+      → (x : Walk) → x.actors.items ≡ set w.actors.items v b → x.board.pairs.items ≡ news → Walks m new x
+  walks_then = all_moved m st new w v a b news walks there left.others left.sound works_then
 
 -- where an actor does not fire in a turn, it has fired as often as before
 pub fired_none : (end : TurnEnd) (fired : ℕ) → (end ≡ Fired → ⊥) → fired_at end fired ≡ fired + 0
