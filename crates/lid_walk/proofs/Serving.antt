@@ -1,5 +1,5 @@
 -- A board that agrees with all actors serves both ends of each station, as the state counts.
-use Rattle.std.proofs.Common.{◌≡◌, ℕ, ◌+◌, ◌*◌, ◌<◌, inl, inr, List, refl, sym, ◌∙◌, ap, subst, arith}
+use Rattle.std.proofs.Common.{◌≡◌, ℕ, ◌<◌, inl, inr, List, refl, sym, ◌∙◌, ap, subst, arith}
 use Rattle.std.specs.Prelude.{Some, slice_get}
 use Rattle.lid_station.specs.Boards.{Ends, fill, drain}
 use Rattle.lid_stations.proofs.Spots.{stands_between}

@@ -14,12 +14,10 @@ use Rattle.lid_shell.specs.declared.turn.TurnEnd.TheVariants.{Fired}
 use Rattle.lid_shell.specs.Actors.{IsActor}
 use Rattle.lid_shell.specs.Steps.{Works, Moves}
 use Rattle.lid_shell.specs.Turns.{fired_at, Turned}
+pub use Rattle.lid_shell.proofs.Along.{resting}
 use Rattle.lid_walk.specs.declared.walk.Walk.{Walk}
 use Rattle.lid_walk.specs.Walks.{Walks}
 use Rattle.lid_walk.proofs.Stepping.{works, all_moved}
-
-abbrev pub at_rest : ℕ → Progress
-at_rest fired = record { fired = fired; position = 0 }
 
 -- progress is how often was fired, and where
 pub as_far : (p q : Progress) → p.fired ≡ q.fired → p.position ≡ q.position → p ≡ q
@@ -27,9 +25,9 @@ as_far p q fired position = ap (λ (n : ℕ). let r : Progress = record { fired 
 
 -- an actor at rest works at the board
 pub works_at_rest : (m : Setup) (st : State) (w : Walk) (v : ℕ) (a : Actor) → Walks m st w → v < actors_of (plan m) → (st v).position ≡ 0 → slice_get w.actors.items v ≡ Some a
-    → Works m v (at_rest (st v).fired) a (plain_ends w.board.pairs.items) (PlainStands w.board.pairs.items)
+    → Works m v (resting (st v).fired) a (plain_ends w.board.pairs.items) (PlainStands w.board.pairs.items)
 works_at_rest m st w v a walks h rests there =
-    subst (λ (q : Progress). Works m v q a (plain_ends w.board.pairs.items) (PlainStands w.board.pairs.items)) (as_far (st v) (at_rest (st v).fired) refl rests) (works m st w v a walks h there)
+    subst (λ (q : Progress). Works m v q a (plain_ends w.board.pairs.items) (PlainStands w.board.pairs.items)) (as_far (st v) (resting (st v).fired) refl rests) (works m st w v a walks h there)
 
 -- actor v has made a turn at the board: so all are as the machine says
 module _ (m : Setup) (st : State) (w : Walk) (v : ℕ) (a b : Actor) (news : List Pair) (end : TurnEnd)
@@ -42,8 +40,8 @@ module _ (m : Setup) (st : State) (w : Walk) (v : ℕ) (a b : Actor) (news : Lis
   left : HasTurned (plan m) v st new
   left = has_turned m walks.rules v h st walks.sound
 
-  far : new v ≡ at_rest (fired_at end (st v).fired)
-  far = as_far (new v) (at_rest (fired_at end (st v).fired)) (sym is.at.fired_is ∙ turned.works.actor.at.fired_is) left.rests
+  far : new v ≡ resting (fired_at end (st v).fired)
+  far = as_far (new v) (resting (fired_at end (st v).fired)) (sym is.at.fired_is ∙ turned.works.actor.at.fired_is) left.rests
 
   pub fired_so : (new v).fired ≡ fired_at end (st v).fired
   fired_so = ap (λ (q : Progress). q.fired) far
