@@ -1,7 +1,8 @@
 -- Which ends fall to a worker, and what hands have once they are given.
-use Rattle.std.proofs.Common.{◌≡◌, ℕ, zero, suc, ◌+◌, ◌%◌, ◌<◌, ◌≤◌, ◌==◌, ◌&&◌, ◌||◌, nat_lt, inl, inr, Bool, true, false, cond, List, [], ◌∷◌, ◌++◌, length, get_or, refl, sym, ◌∙◌, ap, subst, arith, eq-eqb, ne_eqb, lt-ltb, le-ltb}
+use Rattle.std.proofs.Common.{◌≡◌, ℕ, ◌+◌, ◌<◌, ◌≤◌, ◌==◌, ◌&&◌, ◌||◌, nat_lt, inl, inr, Bool, true, false, cond, List, [], ◌∷◌, ◌++◌, length, get_or, refl, sym, ◌∙◌, ap, arith, eq-eqb, ne_eqb, lt-ltb, le-ltb}
 use Rattle.std.specs.Prelude.{if◌then◌else◌, Option, Some, None, option_map}
 use Rattle.std.proofs.lemmas.Bool.{cases_lt, cases_eq}
+use Rattle.std.proofs.lemmas.List.{get_or_past}
 use Rattle.std.proofs.Math.Nat.{mod-lt}
 use Rattle.lid_station.specs.declared.looks.End.{End}
 use Rattle.lid_board.specs.Owners.{IsOwned, ends_of}
@@ -61,12 +62,6 @@ module _ (owners : List ℕ) (workers number end : ℕ) (old new : List End) (x 
 pub none_chosen : (e number : ℕ) (owners : List ℕ) (workers : ℕ) → is_chosen [] e ≡ (nat_lt e 0 && holder workers owners e == number)
 none_chosen e number owners workers = sym (ap (λ (b : Bool). b && holder workers owners e == number) (le-ltb e 0 (omega arith)))
 
--- past the last end nothing is known
-past : {A : Type 0} (xs : List (Option A)) (i : ℕ) → length xs ≤ i → get_or xs i None ≡ None
-past [] i h = refl
-past (x ∷ xs) zero h = absurd (omega (arith, h))
-past (x ∷ xs) (suc i) h = past xs i (omega (arith, h))
-
 -- the ends of one worker were cut off
 module _ (owners : List ℕ) (workers number : ℕ) (all : Ends) (ends : List End)
     (many : length owners ≡ length all) (none_seen : AreUnseen all)
@@ -116,7 +111,7 @@ module _ (owners : List ℕ) (workers number : ℕ) (all : Ends) (ends : List En
                     ∙ sym (ap (λ (b : Bool). cond b (at all e) None) (eq-eqb (holder workers owners e) number is))
                 | inr high ↦
                     gave e ∙ ap (λ (b : Bool). cond b (option_map unseen (at (ends_of old) e)) None) (beyond e high)
-                    ∙ sym (none_either (holder workers owners e == number) (at all e) (past all e (omega (arith, high, many))))
+                    ∙ sym (none_either (holder workers owners e == number) (at all e) (get_or_past all e None (omega (arith, high, many))))
               ]
           | inr other ↦
               gave e ∙ ap (λ (b : Bool). cond b (option_map unseen (at (ends_of old) e)) None) (elsewhere e other)
@@ -140,8 +135,8 @@ module _ (owners : List ℕ) (workers number : ℕ) (all : Ends) (ends : List En
                     ∙ sym (ap (λ (b : Bool). cond b None (at all e)) (lt-ltb (holder workers owners e) (number + 1) (omega (arith, is))))
                 | inr high ↦
                     kept e ∙ ap (λ (b : Bool). cond b None (at (ends_of old) e)) (beyond e high)
-                    ∙ still e (omega (arith, is)) ∙ past all e (omega (arith, high, many))
-                    ∙ sym (none_or (nat_lt (holder workers owners e) (number + 1)) (at all e) (past all e (omega (arith, high, many))))
+                    ∙ still e (omega (arith, is)) ∙ get_or_past all e None (omega (arith, high, many))
+                    ∙ sym (none_or (nat_lt (holder workers owners e) (number + 1)) (at all e) (get_or_past all e None (omega (arith, high, many))))
               ]
           | inr other ↦
               kept e ∙ ap (λ (b : Bool). cond b None (at (ends_of old) e)) (elsewhere e other) ∙ was e
