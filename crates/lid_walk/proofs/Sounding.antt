@@ -1,10 +1,10 @@
 -- Actors and a board that agree are in a state that keeps the rules of the machine.
-use Rattle.std.proofs.Common.{◌≡◌, ℕ, ◌<◌, true, false, List, length, sym, ◌∙◌, ap, arith}
+use Rattle.std.proofs.Common.{◌≡◌, ℕ, ◌<◌, true, false, List, length, arith}
 use Rattle.std.specs.Prelude.{Some, slice_get}
-use Rattle.std.proofs.lemmas.Option.{same_Some, slice_get-get_or}
+use Rattle.std.proofs.lemmas.Option.{slice_get-get_or}
 use Rattle.lid_system.proofs.Shelling.{each_length}
-use Rattle.lid_station.specs.Boards.{Facts, fill, drain}
-use Rattle.lid_station.specs.Plain.{end_facts, plain_ends}
+use Rattle.lid_station.specs.Boards.{fill, drain}
+use Rattle.lid_station.specs.Plain.{end_facts}
 use Rattle.lid_station.specs.declared.pair.Pair.{Pair}
 use Rattle.lid_machine.specs.Plans.{actors_of, stations_of, ins_of, outs_of, room_of}
 use Rattle.lid_machine.specs.Setups.{Setup, IsSetup, plan}
@@ -12,10 +12,11 @@ use Rattle.lid_machine.specs.Machine.{State, in_at, out_at, in_count, out_count}
 use Rattle.lid_machine.specs.Laws.{KeepsPrefixes, IsWithin, FindsStay, IsSound}
 use Rattle.lid_machine.proofs.Places.{drains_at, fills_at}
 use Rattle.lid_shell.specs.declared.actor.Actor.{Actor}
+use Rattle.lid_shell.specs.Boards.{IsDrainedBy, IsFilledBy}
 use Rattle.lid_actors.specs.Actors.{AreActors}
 use Rattle.lid_walk.specs.Walks.{IsBoard}
 use Rattle.lid_walk.proofs.Elements.{there_is}
-use Rattle.lid_walk.proofs.Counting.{shows_fill, shows_drain, put_is, taken_is, size_is}
+use Rattle.lid_walk.proofs.Counting.{shows_fill, shows_drain, told, put_is, taken_is, size_is}
 
 module _ (m : Setup) (st : State) (rules : IsSetup m) (actors : List Actor) (are : AreActors m st actors) (pairs : List Pair) (board : IsBoard m st pairs) where
   -- the pair of a station, which counts as the state does
@@ -36,10 +37,6 @@ module _ (m : Setup) (st : State) (rules : IsSetup m) (actors : List Actor) (are
         taken = taken_is m st rules pairs board station p there;
         size = size_is m st rules pairs board station p there;
       }
-
-  -- what is told of an end twice is the same
-  marked : (end : ℕ) (f g : Facts) → plain_ends pairs end ≡ Some f → plain_ends pairs end ≡ Some g → g.mark ≡ true → f.mark ≡ true
-  marked end f g told again mark = ap (λ (x : Facts). x.mark) (same_Some f g (sym told ∙ again)) ∙ mark
 
   is_within : (v : ℕ) → v < actors_of (plan m) → IsWithin (plan m) st v
   is_within v h =
@@ -65,14 +62,14 @@ module _ (m : Setup) (st : State) (rules : IsSetup m) (actors : List Actor) (are
     tokens = λ i listed passed early.
         let station = in_at (plan m) v i in
         let x = counted station (drains_at (plan m) v i listed).there in
-        let e = (board.agrees v h).drains i station (slice_get-get_or (ins_of (plan m) v) i 0 listed) in
-        let more = x.pair.token_there (marked (drain station) (end_facts false x.pair) e.0 (shows_drain pairs station x.pair x.there) e.1 (e.2.seen passed early)) in
+        let e = told pairs (drain station) (end_facts false x.pair) (IsDrainedBy m v (st v) i station) (shows_drain pairs station x.pair x.there) ((board.agrees v h).drains i station (slice_get-get_or (ins_of (plan m) v) i 0 listed)) in
+        let more = x.pair.token_there (e.seen passed early) in
         omega (arith, x.put, x.taken, more);
     rooms = λ j listed passed early.
         let station = out_at (plan m) v j in
         let x = counted station (fills_at (plan m) v j listed).there in
-        let e = (board.agrees v h).fills j station (slice_get-get_or (outs_of (plan m) v) j 0 listed) in
-        let more = x.pair.room_there (marked (fill station) (end_facts true x.pair) e.0 (shows_fill pairs station x.pair x.there) e.1 (e.2.seen passed early)) in
+        let e = told pairs (fill station) (end_facts true x.pair) (IsFilledBy m v (st v) j station) (shows_fill pairs station x.pair x.there) ((board.agrees v h).fills j station (slice_get-get_or (outs_of (plan m) v) j 0 listed)) in
+        let more = x.pair.room_there (e.seen passed early) in
         omega (arith, x.put, x.taken, x.size, more);
   }
 

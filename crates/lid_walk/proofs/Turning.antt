@@ -1,23 +1,25 @@
 -- What a turn of one actor leaves of the others, and of the board.
-use Rattle.std.proofs.Common.{◌≡◌, ℕ, ◌+◌, ◌<◌, List, set, refl, sym, ◌∙◌, ap, subst, arith}
+use Rattle.std.proofs.Common.{◌≡◌, ℕ, ◌+◌, ◌<◌, List, get_or, set, refl, sym, ◌∙◌, ap, subst, arith}
 use Rattle.std.specs.Prelude.{Option, Some, slice_get}
 use Rattle.lid_station.specs.Plain.{plain_ends, PlainStands}
 use Rattle.lid_station.specs.declared.pair.Pair.{Pair}
 use Rattle.lid_machine.specs.Plans.{actors_of}
 use Rattle.lid_machine.specs.Setups.{Setup, plan}
-use Rattle.lid_machine.specs.Machine.{Progress, State, turn}
+use Rattle.lid_machine.specs.Machine.{Progress, State, turn, turn_answer}
 use Rattle.lid_machine.specs.Laws.{HasTurned}
 use Rattle.lid_machine.proofs.Turns.{has_turned}
 use Rattle.lid_shell.specs.declared.actor.Actor.{Actor}
 use Rattle.lid_shell.specs.declared.turn.TurnEnd.{TurnEnd}
 use Rattle.lid_shell.specs.declared.turn.TurnEnd.TheVariants.{Fired}
 use Rattle.lid_shell.specs.Actors.{IsActor}
+use Rattle.lid_shell.specs.Boards.{ServesAll}
 use Rattle.lid_shell.specs.Steps.{Works, Moves}
-use Rattle.lid_shell.specs.Turns.{fired_at, Turned}
+use Rattle.lid_shell.specs.Turns.{end_at, fired_at, Turned}
 pub use Rattle.lid_shell.proofs.Along.{resting}
 use Rattle.lid_walk.specs.declared.walk.Walk.{Walk}
-use Rattle.lid_walk.specs.Walks.{Walks}
-use Rattle.lid_walk.proofs.Stepping.{works, all_moved}
+use Rattle.lid_walk.specs.Walks.{Walks, HasActor, HasActorAtRest}
+use Rattle.lid_walk.proofs.Elements.{is_there}
+use Rattle.lid_walk.proofs.Stepping.{works, serves, has_place, is_actor, all_moved}
 
 -- progress is how often was fired, and where
 pub as_far : (p q : Progress) → p.fired ≡ q.fired → p.position ≡ q.position → p ≡ q
@@ -43,15 +45,43 @@ module _ (m : Setup) (st : State) (w : Walk) (v : ℕ) (a b : Actor) (news : Lis
   far : new v ≡ resting (fired_at end (st v).fired)
   far = as_far (new v) (resting (fired_at end (st v).fired)) (sym is.at.fired_is ∙ turned.works.actor.at.fired_is) left.rests
 
-  pub fired_so : (new v).fired ≡ fired_at end (st v).fired
+  fired_so : (new v).fired ≡ fired_at end (st v).fired
   fired_so = ap (λ (q : Progress). q.fired) far
 
   works_then : Works m v (new v) b (plain_ends news) (PlainStands news)
   works_then = subst (λ (q : Progress). Works m v q b (plain_ends news) (PlainStands news)) (sym far) turned.works
 
-  pub walks_then : (missed : Option ℕ) → Moves a.desk.ins.items a.desk.outs.items missed (plain_ends w.board.pairs.items) (plain_ends news)
+  walks_then : (missed : Option ℕ) → Moves a.desk.ins.items a.desk.outs.items missed (plain_ends w.board.pairs.items) (plain_ends news)
       → (x : Walk) → x.actors.items ≡ set w.actors.items v b → x.board.pairs.items ≡ news → Walks m new x
   walks_then = all_moved m st new w v a b news walks there left.others left.sound works_then
+
+-- a turn of an actor that is at rest in a walk, by what its contract says
+module _ (w : Walk) (v : ℕ) (a b : Actor) (news : List Pair) (end : TurnEnd) (asked : HasActorAtRest w v) (read : a ≡ get_or w.actors.items v a)
+    (turned : (m : Setup) (u fired : ℕ) → Works m u (resting fired) a (plain_ends w.board.pairs.items) (PlainStands w.board.pairs.items) → Turned m u fired end b (plain_ends news) (PlainStands news))
+    (exact : (m : Setup) (u : ℕ) (st : State) → (st u).position ≡ 0 → Works m u (st u) a (plain_ends w.board.pairs.items) (PlainStands w.board.pairs.items) → ServesAll m st u (plain_ends w.board.pairs.items)
+    → (end ≡ end_at (turn_answer (plan m) st u)) × IsActor m u (turn (plan m) st u u) b) where
+  has : HasActor w v
+  has = let (m, st, walks, h, rests) = asked in (m, st, walks, h)
+
+  at : slice_get w.actors.items v ≡ Some a
+  at = is_there w.actors.items v a (has_place w v has) read
+
+  module _ (m : Setup) (st : State) (walks : Walks m st w) (rests : (st v).position ≡ 0) where
+    below : v < actors_of (plan m)
+    below = is_actor m st w v has walks
+
+    did : Turned m v (st v).fired end b (plain_ends news) (PlainStands news)
+    did = turned m v (st v).fired (works_at_rest m st w v a walks below rests at)
+
+    is_then : IsActor m v (turn (plan m) st v v) b
+    is_then = (exact m v st rests (works m st w v a walks below at) (serves m st w v walks)).1
+
+    pub walks_now : (missed : Option ℕ) → Moves a.desk.ins.items a.desk.outs.items missed (plain_ends w.board.pairs.items) (plain_ends news)
+        → (x : Walk) → x.actors.items ≡ set w.actors.items v b → x.board.pairs.items ≡ news → Walks m (turn (plan m) st v) x
+    walks_now = walks_then m st w v a b news end walks below rests at did is_then
+
+    pub fired_now : (turn (plan m) st v v).fired ≡ fired_at end (st v).fired
+    fired_now = fired_so m st w v a b news end walks below rests at did is_then
 
 -- where an actor does not fire in a turn, it has fired as often as before
 pub fired_none : (end : TurnEnd) (fired : ℕ) → (end ≡ Fired → ⊥) → fired_at end fired ≡ fired + 0
