@@ -21,6 +21,14 @@ chosen_append (x ∷ xs) ys e = by_first (end_number x == e) (chosen_append xs y
     by_first true later = refl
     by_first false later = later
 
+-- what is not the next number is below it where it is below the one before
+same_side : (k n : ℕ) → (k ≡ n → ⊥) → nat_lt k n ≡ nat_lt k (n + 1)
+same_side k n other =
+    elim (cases_lt k n) [
+      | inl low ↦ lt-ltb k n low ∙ sym (lt-ltb k (n + 1) (omega (arith, low)))
+      | inr high ↦ le-ltb k n high ∙ sym (le-ltb k (n + 1) (omega (arith, high, other)))
+    ]
+
 -- one end more was looked at
 module _ (owners : List ℕ) (workers number end : ℕ) (old new : List End) (x : End) (passes : Bool)
     (was : (e : ℕ) → is_chosen old e ≡ (nat_lt e end && holder workers owners e == number))
@@ -49,15 +57,8 @@ module _ (owners : List ℕ) (workers number end : ℕ) (old new : List End) (x 
             ∙ ap (λ (b : Bool). b && holder workers owners e == number) (sym (lt-ltb e (end + 1) (omega (arith, same))))
         | inr other ↦
             ap (λ (b : Bool). is_chosen old e || b) (not_end e other passes) ∙ or_false (is_chosen old e) ∙ was e
-            ∙ ap (λ (b : Bool). b && holder workers owners e == number) (same_side other)
+            ∙ ap (λ (b : Bool). b && holder workers owners e == number) (same_side e end other)
       ]
-    where
-      same_side : (e ≡ end → ⊥) → nat_lt e end ≡ nat_lt e (end + 1)
-      same_side other =
-          elim (cases_lt e end) [
-            | inl low ↦ lt-ltb e end low ∙ sym (lt-ltb e (end + 1) (omega (arith, low)))
-            | inr high ↦ le-ltb e end high ∙ sym (le-ltb e (end + 1) (omega (arith, high, other)))
-          ]
 
 pub none_chosen : (e number : ℕ) (owners : List ℕ) (workers : ℕ) → is_chosen [] e ≡ (nat_lt e 0 && holder workers owners e == number)
 none_chosen e number owners workers = sym (ap (λ (b : Bool). b && holder workers owners e == number) (le-ltb e 0 (omega arith)))
@@ -118,13 +119,6 @@ module _ (owners : List ℕ) (workers number : ℕ) (all : Ends) (ends : List En
               ∙ sym (ap (λ (b : Bool). cond b (at all e) None) (ne_eqb (holder workers owners e) number other))
         ]
 
-    same_side : (e : ℕ) → (holder workers owners e ≡ number → ⊥) → nat_lt (holder workers owners e) number ≡ nat_lt (holder workers owners e) (number + 1)
-    same_side e other =
-        elim (cases_lt (holder workers owners e) number) [
-          | inl low ↦ lt-ltb (holder workers owners e) number low ∙ sym (lt-ltb (holder workers owners e) (number + 1) (omega (arith, low)))
-          | inr high ↦ le-ltb (holder workers owners e) number high ∙ sym (le-ltb (holder workers owners e) (number + 1) (omega (arith, high, other)))
-        ]
-
     pub given_more : HasGiven workers owners all (number + 1) new
     given_more e =
         elim (cases_eq (holder workers owners e) number) [
@@ -140,7 +134,7 @@ module _ (owners : List ℕ) (workers number : ℕ) (all : Ends) (ends : List En
               ]
           | inr other ↦
               kept e ∙ ap (λ (b : Bool). cond b None (at (ends_of old) e)) (elsewhere e other) ∙ was e
-              ∙ ap (λ (b : Bool). cond b None (at all e)) (same_side e other)
+              ∙ ap (λ (b : Bool). cond b None (at all e)) (same_side (holder workers owners e) number other)
         ]
 
   -- the ends to be cut off are owned
