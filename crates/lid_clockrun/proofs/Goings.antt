@@ -42,11 +42,11 @@ module _ (r : Run) (run : Running) (given : List (List Bool)) (at : IsRunning r 
   ran_on s same = subst (RanBy the_life.0 run.made (length given)) (sym same) (at.lives the_life.0 the_life.1).ran
 
   -- where the run goes on, a cycle more can be counted
-  pub few_more : (s : Course) (made : Bool) → s ≡ run.stream → GoesOn r run given → ((l : Life) (k g : ℕ) → RanBy l k g s → (made ≡ true) ↔ IsBelow l k) → ((l : Life) (k g : ℕ) → RanBy l k g s → made ≡ true → k + 1 < 2 ^ 64) → run.made + 1 < 2 ^ 64
-  few_more s made same goes tells counts =
+  pub few_more : (s : Course) (made : Bool) (n : ℕ) → s ≡ run.stream → n ≡ run.made → GoesOn r run given → ((l : Life) (k g : ℕ) → RanBy l k g s → (made ≡ true) ↔ IsBelow l k) → ((l : Life) (k g : ℕ) → RanBy l k g s → made ≡ true → k + 1 < 2 ^ 64) → n + 1 < 2 ^ 64
+  few_more s made n same is goes tells counts =
       let l = the_life.0 in
       let ran = ran_on s same in
-      counts l run.made (length given) ran ((tells l run.made (length given) ran).1 (goes l the_life.1))
+      subst (λ (k : ℕ). k + 1 < 2 ^ 64) (sym is) (counts l run.made (length given) ran ((tells l run.made (length given) ran).1 (goes l the_life.1)))
 
   -- where a row is needed, not all were given
   pub below_all : ((l : Life) (k g : ℕ) → RanBy l k g run.stream → NeedsRow l k g) → length given < r.rows

@@ -2,6 +2,7 @@
 use Rattle.std.proofs.Common.{◌≡◌, ℕ, zero, suc, ◌+◌, ◌-◌, ◌*◌, ◌<◌, ◌≤◌, Bool, List, [], ◌∷◌, ◌++◌, length, length-append, Option, None, Some, min, refl, sym, ◌∙◌, ap, append_assoc, append-nil, add-one, zero-add, arith}
 use Rattle.std.specs.List.{flat_map}
 use Rattle.std.proofs.lemmas.Grind.{flat_map-append}
+use Rattle.std.proofs.lemmas.Option.{same_Some}
 use Rattle.lid_base.specs.declared.runs.Shown.{Shown}
 use Rattle.lid_design.specs.Network.{from_each}
 use Rattle.lid_stations.proofs.Parts.{each_more}
@@ -75,36 +76,27 @@ cells_long l (suc k) =
 pub shown_in : (l : Life) (trace : Option ℕ) (most made : ℕ) (old new : List Shown) → trace ≡ Some most → made < most → old ≡ cells_after l (cycles_traced trace made) → new ≡ old ++ cells_of l made → new ≡ cells_after l (cycles_traced trace (made + 1))
 shown_in l None most made old new is h was now = absurd (let e : None ≡ Some most = is in cc)
 shown_in l (Some n) most made old new is h was now =
-    let same : n ≡ most = some_is is in
+    let same : n ≡ most = same_Some n most is in
     let before : min n made ≡ made = omega arith in
     let after : min n (made + 1) ≡ made + 1 = omega arith in
     now ∙ ap (λ (xs : List Shown). xs ++ cells_of l made) (was ∙ ap (cells_after l) before) ∙ sym (cells_one_more l made) ∙ ap (cells_after l) (sym after)
-  where
-    some_is : Some n ≡ Some most → n ≡ most
-    some_is e = cc
 
 -- the cells of a trace, and its text
 pub cells_traced : (l : Life) (trace : Option ℕ) (most made : ℕ) (cells : List Shown) → trace ≡ Some most → cells ≡ cells_after l (cycles_traced trace made) → cells ≡ cells_after l (min made most)
 cells_traced l None most made cells is was = absurd (let e : None ≡ Some most = is in cc)
 cells_traced l (Some n) most made cells is was =
-    let same : n ≡ most = some_is is in
+    let same : n ≡ most = same_Some n most is in
     was ∙ ap (cells_after l) (let e : min n made ≡ min made most = omega arith in e)
-  where
-    some_is : Some n ≡ Some most → n ≡ most
-    some_is e = cc
 
 pub text_traced : (l : Life) (trace : Option ℕ) (most made stations : ℕ) (cells : List Shown) → trace ≡ Some most → stations ≡ station_count l.placement.relays → cells ≡ cells_after l (min made most)
     → trace_text (record { stations = stations; cycles = min made most; cells = cells }) ≡ traced l trace made
 text_traced l None most made stations cells is many was = absurd (let e : None ≡ Some most = is in cc)
 text_traced l (Some n) most made stations cells is many was =
-    let same : n ≡ most = some_is is in
+    let same : n ≡ most = same_Some n most is in
     let turn : min made most ≡ min n made = omega arith in
     ap (λ (m : ℕ). trace_text (record { stations = m; cycles = min made most; cells = cells })) many
     ∙ ap (λ (xs : List Shown). trace_text (record { stations = station_count l.placement.relays; cycles = min made most; cells = xs })) was
     ∙ ap (λ (k : ℕ). trace_text (record { stations = station_count l.placement.relays; cycles = k; cells = cells_after l k })) turn
-  where
-    some_is : Some n ≡ Some most → n ≡ most
-    some_is e = cc
 
 pub text_untraced : (l : Life) (trace : Option ℕ) (made : ℕ) → trace ≡ None → traced l trace made ≡ []
 text_untraced l None made is = refl

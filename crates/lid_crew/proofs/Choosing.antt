@@ -1,7 +1,8 @@
 -- Which ends fall to a worker, and what hands have once they are given.
-use Rattle.std.proofs.Common.{◌≡◌, ℕ, zero, suc, ◌+◌, ◌%◌, ◌<◌, ◌≤◌, ◌==◌, ◌&&◌, ◌||◌, nat_lt, inl, inr, Bool, true, false, cond, List, [], ◌∷◌, ◌++◌, length, get_or, refl, sym, ◌∙◌, ap, subst, arith, eq-eqb, ne_eqb, lt-ltb, le-ltb}
+use Rattle.std.proofs.Common.{◌≡◌, ℕ, ◌+◌, ◌<◌, ◌≤◌, ◌==◌, ◌&&◌, ◌||◌, nat_lt, inl, inr, Bool, true, false, cond, List, [], ◌∷◌, ◌++◌, length, get_or, refl, sym, ◌∙◌, ap, arith, eq-eqb, ne_eqb, lt-ltb, le-ltb}
 use Rattle.std.specs.Prelude.{if◌then◌else◌, Option, Some, None, option_map}
 use Rattle.std.proofs.lemmas.Bool.{cases_lt, cases_eq}
+use Rattle.std.proofs.lemmas.List.{get_or_past}
 use Rattle.std.proofs.Math.Nat.{mod-lt}
 use Rattle.lid_station.specs.declared.looks.End.{End}
 use Rattle.lid_board.specs.Owners.{IsOwned, ends_of}
@@ -19,6 +20,14 @@ chosen_append (x ∷ xs) ys e = by_first (end_number x == e) (chosen_append xs y
     by_first : (b : Bool) → is_chosen (xs ++ ys) e ≡ (is_chosen xs e || is_chosen ys e) → (b || is_chosen (xs ++ ys) e) ≡ ((b || is_chosen xs e) || is_chosen ys e)
     by_first true later = refl
     by_first false later = later
+
+-- what is not the next number is below it where it is below the one before
+same_side : (k n : ℕ) → (k ≡ n → ⊥) → nat_lt k n ≡ nat_lt k (n + 1)
+same_side k n other =
+    elim (cases_lt k n) [
+      | inl low ↦ lt-ltb k n low ∙ sym (lt-ltb k (n + 1) (omega (arith, low)))
+      | inr high ↦ le-ltb k n high ∙ sym (le-ltb k (n + 1) (omega (arith, high, other)))
+    ]
 
 -- one end more was looked at
 module _ (owners : List ℕ) (workers number end : ℕ) (old new : List End) (x : End) (passes : Bool)
@@ -48,24 +57,11 @@ module _ (owners : List ℕ) (workers number end : ℕ) (old new : List End) (x 
             ∙ ap (λ (b : Bool). b && holder workers owners e == number) (sym (lt-ltb e (end + 1) (omega (arith, same))))
         | inr other ↦
             ap (λ (b : Bool). is_chosen old e || b) (not_end e other passes) ∙ or_false (is_chosen old e) ∙ was e
-            ∙ ap (λ (b : Bool). b && holder workers owners e == number) (same_side other)
+            ∙ ap (λ (b : Bool). b && holder workers owners e == number) (same_side e end other)
       ]
-    where
-      same_side : (e ≡ end → ⊥) → nat_lt e end ≡ nat_lt e (end + 1)
-      same_side other =
-          elim (cases_lt e end) [
-            | inl low ↦ lt-ltb e end low ∙ sym (lt-ltb e (end + 1) (omega (arith, low)))
-            | inr high ↦ le-ltb e end high ∙ sym (le-ltb e (end + 1) (omega (arith, high, other)))
-          ]
 
 pub none_chosen : (e number : ℕ) (owners : List ℕ) (workers : ℕ) → is_chosen [] e ≡ (nat_lt e 0 && holder workers owners e == number)
 none_chosen e number owners workers = sym (ap (λ (b : Bool). b && holder workers owners e == number) (le-ltb e 0 (omega arith)))
-
--- past the last end nothing is known
-past : {A : Type 0} (xs : List (Option A)) (i : ℕ) → length xs ≤ i → get_or xs i None ≡ None
-past [] i h = refl
-past (x ∷ xs) zero h = absurd (omega (arith, h))
-past (x ∷ xs) (suc i) h = past xs i (omega (arith, h))
 
 -- the ends of one worker were cut off
 module _ (owners : List ℕ) (workers number : ℕ) (all : Ends) (ends : List End)
@@ -116,18 +112,11 @@ module _ (owners : List ℕ) (workers number : ℕ) (all : Ends) (ends : List En
                     ∙ sym (ap (λ (b : Bool). cond b (at all e) None) (eq-eqb (holder workers owners e) number is))
                 | inr high ↦
                     gave e ∙ ap (λ (b : Bool). cond b (option_map unseen (at (ends_of old) e)) None) (beyond e high)
-                    ∙ sym (none_either (holder workers owners e == number) (at all e) (past all e (omega (arith, high, many))))
+                    ∙ sym (none_either (holder workers owners e == number) (at all e) (get_or_past all e None (omega (arith, high, many))))
               ]
           | inr other ↦
               gave e ∙ ap (λ (b : Bool). cond b (option_map unseen (at (ends_of old) e)) None) (elsewhere e other)
               ∙ sym (ap (λ (b : Bool). cond b (at all e) None) (ne_eqb (holder workers owners e) number other))
-        ]
-
-    same_side : (e : ℕ) → (holder workers owners e ≡ number → ⊥) → nat_lt (holder workers owners e) number ≡ nat_lt (holder workers owners e) (number + 1)
-    same_side e other =
-        elim (cases_lt (holder workers owners e) number) [
-          | inl low ↦ lt-ltb (holder workers owners e) number low ∙ sym (lt-ltb (holder workers owners e) (number + 1) (omega (arith, low)))
-          | inr high ↦ le-ltb (holder workers owners e) number high ∙ sym (le-ltb (holder workers owners e) (number + 1) (omega (arith, high, other)))
         ]
 
     pub given_more : HasGiven workers owners all (number + 1) new
@@ -140,12 +129,12 @@ module _ (owners : List ℕ) (workers number : ℕ) (all : Ends) (ends : List En
                     ∙ sym (ap (λ (b : Bool). cond b None (at all e)) (lt-ltb (holder workers owners e) (number + 1) (omega (arith, is))))
                 | inr high ↦
                     kept e ∙ ap (λ (b : Bool). cond b None (at (ends_of old) e)) (beyond e high)
-                    ∙ still e (omega (arith, is)) ∙ past all e (omega (arith, high, many))
-                    ∙ sym (none_or (nat_lt (holder workers owners e) (number + 1)) (at all e) (past all e (omega (arith, high, many))))
+                    ∙ still e (omega (arith, is)) ∙ get_or_past all e None (omega (arith, high, many))
+                    ∙ sym (none_or (nat_lt (holder workers owners e) (number + 1)) (at all e) (get_or_past all e None (omega (arith, high, many))))
               ]
           | inr other ↦
               kept e ∙ ap (λ (b : Bool). cond b None (at (ends_of old) e)) (elsewhere e other) ∙ was e
-              ∙ ap (λ (b : Bool). cond b None (at all e)) (same_side e other)
+              ∙ ap (λ (b : Bool). cond b None (at all e)) (same_side (holder workers owners e) number other)
         ]
 
   -- the ends to be cut off are owned

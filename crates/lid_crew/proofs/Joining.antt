@@ -1,5 +1,5 @@
 -- The hands of the last workers were joined to one.
-use Rattle.std.proofs.Common.{◌≡◌, ℕ, zero, suc, ◌+◌, ◌-◌, ◌<◌, ◌≤◌, nat_lt, inl, inr, Bool, true, false, cond, List, [], ◌∷◌, ◌++◌, length, map, take, set, refl, sym, ◌∙◌, ap, subst, arith, lt-ltb, le-ltb, length-set}
+use Rattle.std.proofs.Common.{◌≡◌, ℕ, zero, suc, ◌+◌, ◌-◌, ◌<◌, ◌≤◌, nat_lt, inl, inr, Bool, cond, List, [], ◌∷◌, ◌++◌, length, map, set, refl, sym, ◌∙◌, ap, arith, lt-ltb, le-ltb, length-append, length-set}
 use Rattle.std.specs.Prelude.{Option, Some, None, option_map, slice_get}
 use Rattle.std.proofs.lemmas.Bool.{cases_lt, cases_eq}
 use Rattle.std.proofs.lemmas.Option.{same_Some, slice_get_within}
@@ -13,7 +13,7 @@ use Rattle.lid_walk.proofs.Elements.{set_there}
 use Rattle.lid_work.specs.declared.worker.Worker.{Worker}
 use Rattle.lid_crew.specs.Shares.{holder}
 use Rattle.lid_crew.specs.Crews.{AreShared, HasNone, HasJoined}
-use Rattle.lid_crew.proofs.Lists.{at_snoc, length_snoc}
+use Rattle.lid_crew.proofs.Lists.{set_at, mapped}
 
 pub record AreJoinedFrom (all left : List Worker) (keeper : Hand) (tallies : List Tally) : Type 0 where
   pub few : length left ≤ length all
@@ -39,11 +39,6 @@ or_none : {A : Type 0} (o : Option A) → or_else o None ≡ o
 or_none None = refl
 or_none (Some x) = refl
 
-set_at : {X : Type 0} (xs : List X) (i : ℕ) (x : X) → i < length xs → slice_get (set xs i x) i ≡ Some x
-set_at [] i x within = absurd (omega (arith, within))
-set_at (y ∷ xs) zero x within = refl
-set_at (y ∷ xs) (suc i) x within = set_at xs i x (omega (arith, within))
-
 snoc_last : {X : Type 0} (xs : List X) (y : X) → slice_get (xs ++ y ∷ []) (length xs) ≡ Some y
 snoc_last [] y = refl
 snoc_last (x ∷ xs) y = snoc_last xs y
@@ -58,7 +53,7 @@ module _ (all left next : List Worker) (w : Worker) (keeper then_ : Hand) (talli
     (so : AreJoinedFrom all left keeper tallies) (popped : left ≡ next ++ w ∷ [])
     (join : (end : ℕ) → at (ends_of then_) end ≡ or_else (at (ends_of keeper) end) (option_map unseen (at (ends_of w.hand) end))) where
   long : length left ≡ length next + 1
-  long = ap length popped ∙ length_snoc next w
+  long = ap length popped ∙ length-append next (w ∷ [])
 
   at_last : slice_get all (length next) ≡ Some w
   at_last = sym (so.first (length next) (omega (arith, long))) ∙ ap (λ (l : List Worker). slice_get l (length next)) popped ∙ snoc_last next w
@@ -107,15 +102,6 @@ module _ (all left next : List Worker) (w : Worker) (keeper then_ : Hand) (talli
         ];
   }
 
-same_map : (all : List Worker) (tallies : List Tally) → length tallies ≡ length all → ((i : ℕ) (w : Worker) → slice_get all i ≡ Some w → slice_get tallies i ≡ Some w.tally) → tallies ≡ map (λ w. w.tally) all
-same_map [] [] long each = refl
-same_map [] (t ∷ tallies) long each = absurd (omega (arith, long))
-same_map (w ∷ all) [] long each = absurd (omega (arith, long))
-same_map (w ∷ all) (t ∷ tallies) long each =
-    let head : t ≡ w.tally = same_Some t w.tally (each 0 w refl) in
-    let tail = same_map all tallies (omega (arith, long)) (λ i u at_u. each (suc i) u at_u) in
-    ap (λ (x : Tally). x ∷ tallies) head ∙ ap (λ (l : List Tally). w.tally ∷ l) tail
-
 -- all were joined
 module _ (all left : List Worker) (keeper : Hand) (tallies : List Tally) (so : AreJoinedFrom all left keeper tallies) (none : length left ≡ 0) where
   pub all_joined : (owners : List ℕ) → AreShared (length all) owners all → HasJoined (length all) owners all keeper
@@ -124,4 +110,4 @@ module _ (all left : List Worker) (keeper : Hand) (tallies : List Tally) (so : A
       ∙ ap (λ (b : Bool). cond b None (option_map unseen (at (ends_of w.hand) end))) (le-ltb (holder (length all) owners end) (length left) (omega (arith, none)))
 
   pub all_noted : tallies ≡ map (λ w. w.tally) all
-  all_noted = same_map all tallies so.long (λ i w at_w. so.noted i w (omega (arith, none)) at_w)
+  all_noted = mapped (λ (w : Worker). w.tally) all tallies so.long (λ i w at_w. so.noted i w (omega (arith, none)) at_w)

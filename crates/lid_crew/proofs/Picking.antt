@@ -1,16 +1,15 @@
 -- Shares of lists that grow at either end.
-use Rattle.std.proofs.Common.{◌≡◌, ℕ, zero, suc, ◌+◌, ◌%◌, ◌<◌, ◌≤◌, ◌==◌, inl, inr, Bool, true, false, List, [], ◌∷◌, ◌++◌, length, get_or, reverse, set, refl, sym, ◌∙◌, ap, subst, arith, eq-eqb, ne_eqb, length-set}
+use Rattle.std.proofs.Common.{◌≡◌, ℕ, zero, suc, ◌+◌, ◌%◌, ◌<◌, inl, inr, Bool, true, false, List, [], ◌∷◌, ◌++◌, length, reverse, set, refl, sym, ◌∙◌, ap, subst, arith, eq-eqb, ne_eqb, length-append, length-set}
 use Rattle.std.specs.Prelude.{if◌then◌else◌, Some, slice_get}
 use Rattle.std.proofs.lemmas.Bool.{cases_eq}
 use Rattle.std.proofs.lemmas.Option.{slice_get_within}
-use Rattle.std.proofs.lemmas.List.{length-reverse, reverse-append}
+use Rattle.std.proofs.lemmas.List.{append-nil, length-reverse, reverse-append}
 use Rattle.lid_design.specs.Network.{from_each}
 use Rattle.lid_shell.specs.declared.actor.Actor.{Actor}
 use Rattle.lid_walk.proofs.Elements.{set_here, set_there, there_is}
 use Rattle.lid_work.specs.declared.worker.Worker.{Worker}
 use Rattle.lid_crew.specs.Shares.{is_own, picked, share, numbers_of}
 use Rattle.lid_crew.specs.Crews.{IsSameBut, AreDealt, AreBack}
-use Rattle.lid_crew.proofs.Lists.{length_snoc}
 
 pub picked_snoc : {A : Type 0} (p : ℕ → Bool) (k : ℕ) (xs : List A) (y : A) → picked p k (xs ++ y ∷ []) ≡ picked p k xs ++ (if p (k + length xs) then y ∷ [] else [])
 picked_snoc p k [] y = let e : k ≡ k + 0 = omega arith in ap (λ (n : ℕ). if p n then y ∷ [] else []) e
@@ -24,10 +23,6 @@ picked_snoc p k (x ∷ xs) y =
     by_first true later = ap (λ (l : List _). x ∷ l) later
     by_first false later = later
 
-no_more : {A : Type 0} (xs : List A) → xs ++ [] ≡ xs
-no_more [] = refl
-no_more (x ∷ xs) = ap (λ (l : List _). x ∷ l) (no_more xs)
-
 -- one element more falls to one worker alone
 pub share_mine : {A : Type 0} (workers i : ℕ) (xs : List A) (y : A) → length xs % workers ≡ i → share workers i (xs ++ y ∷ []) ≡ share workers i xs ++ y ∷ []
 share_mine workers i xs y mine =
@@ -40,7 +35,7 @@ share_other workers i xs y other =
     let e : 0 + length xs ≡ length xs = omega arith in
     picked_snoc (is_own workers i) 0 xs y ∙ ap (λ (n : ℕ). share workers i xs ++ (if is_own workers i n then y ∷ [] else [])) e
     ∙ ap (λ (b : Bool). share workers i xs ++ (if b then y ∷ [] else [])) (ne_eqb (length xs % workers) i other)
-    ∙ no_more (share workers i xs)
+    ∙ append-nil (share workers i xs)
 
 same_then : (w x y : Worker) → IsSameBut w x → IsSameBut x y → IsSameBut w y
 same_then w x y one two = record { number = two.number ∙ one.number; hand = two.hand ∙ one.hand; tally = two.tally ∙ one.tally }
@@ -109,13 +104,13 @@ module _ (n many : ℕ) (into : List Actor) (old now : List Worker) (back : AreB
       let (u, at_u) = there_is old k (omega arith) in
       let was = back.each k u w at_u at_k in
       let mine = ap (length {A = ℕ}) (ap (λ (m : ℕ). numbers_of (length old) m (suc n)) is ∙ numbers_mine (length old) n) in
-      let long = length_snoc (numbers_of (length old) (n % length old) n) n in
+      let long = length-append (numbers_of (length old) (n % length old) n) (n ∷ []) in
       let count = was.2 in
       omega arith
 
   pub back_more : (a : Actor) → IsSameBut w x → w.actors.items ≡ x.actors.items ++ a ∷ [] → AreBackFrom n many (into ++ a ∷ []) old (set now k x)
   back_more a same popped = record {
-    many_are = let e = length_snoc into a in let m = back.many_are in omega arith;
+    many_are = let e = length-append into (a ∷ []) in let m = back.many_are in omega arith;
     crew_many = length-set now k x ∙ back.crew_many;
     each = λ i u y at_u at_y.
         let turned : reverse (into ++ a ∷ []) ≡ a ∷ reverse into = reverse-append into (a ∷ []) in
@@ -129,9 +124,9 @@ module _ (n many : ℕ) (into : List Actor) (old now : List Worker) (back : AreB
               ∙ snoc_cons x.actors.items a (picked (is_own (length old) i) (suc n) (reverse into))
               ∙ ap (λ (l : List Actor). l ++ picked (is_own (length old) i) (suc n) (reverse into)) (sym popped) ∙ was.1 in
               let mine = ap (length {A = ℕ}) (ap (λ (m : ℕ). numbers_of (length old) m (suc n)) (here ∙ is) ∙ numbers_mine (length old) n) in
-              let long = length_snoc (numbers_of (length old) (n % length old) n) n in
+              let long = length-append (numbers_of (length old) (n % length old) n) (n ∷ []) in
               let count = was.2 in
-              let less = ap (length {A = Actor}) popped ∙ length_snoc x.actors.items a in
+              let less = ap (length {A = Actor}) popped ∙ length-append x.actors.items (a ∷ []) in
               let one = ap (λ (m : ℕ). length (numbers_of (length old) m n)) (here ∙ is) in
               let rest : length x.actors.items ≡ length (numbers_of (length old) i n) = omega arith in
               subst (λ (z : Worker). IsSameBut u z × (z.actors.items ++ picked (is_own (length old) i) n (reverse (into ++ a ∷ [])) ≡ u.actors.items) × (length z.actors.items ≡ length (numbers_of (length old) i n))) is_x

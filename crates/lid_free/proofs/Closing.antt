@@ -1,26 +1,20 @@
 -- The hands are joined, and the board is closed.
-use Rattle.std.proofs.Common.{◌≡◌, ℕ, zero, suc, ◌+◌, ◌*◌, ◌/◌, ◌%◌, ◌<◌, ◌≤◌, ◌==◌, Bool, true, false, cond, List, [], ◌∷◌, length, get_or, map, refl, sym, ◌∙◌, ap, subst, arith, inl, inr, ne_eqb}
+use Rattle.std.proofs.Common.{◌≡◌, ℕ, ◌%◌, ◌<◌, Bool, false, cond, List, length, refl, sym, ◌∙◌, ap, subst, arith, ne_eqb}
 use Rattle.std.specs.Prelude.{Option, Some, None, option_map, slice_get}
-use Rattle.std.specs.List.{sum_by}
-use Rattle.std.proofs.lemmas.Bool.{cases_lt}
 use Rattle.std.proofs.lemmas.Option.{same_Some, slice_get_within}
-use Rattle.lid_base.specs.declared.runs.Tally.{Tally}
 use Rattle.lid_station.specs.Boards.{Facts, fill, drain}
 use Rattle.lid_station.specs.Plain.{plain_ends, PlainStands}
 use Rattle.lid_station.specs.declared.pair.Pair.{Pair}
-use Rattle.lid_stations.specs.Stations.{start_count}
 use Rattle.lid_board.specs.Closing.{closed_facts}
-use Rattle.lid_board.specs.Owners.{IsOf, IsOwned, ends_of, plan_of}
+use Rattle.lid_board.specs.Owners.{IsOwned, ends_of, plan_of}
 use Rattle.lid_board.specs.Parting.{unseen}
 use Rattle.lid_board.specs.Relation.{cap_of}
-use Rattle.lid_board.specs.Standing.{StandsFor}
-use Rattle.lid_board.specs.Views.{Ends, at, facts, held, held_of}
+use Rattle.lid_board.specs.Views.{at, facts, held, held_of}
 use Rattle.lid_board.specs.declared.board.Board.{Board}
 use Rattle.lid_board.specs.declared.hand.Hand.{Hand}
 use Rattle.lid_board.specs.declared.view.Held.{Held}
-use Rattle.lid_machine.specs.Plans.{actors_of, stations_of, ins_of, outs_of, cap, start_of, room_of, stream}
-use Rattle.lid_machine.specs.Setups.{Setup, IsSetup, plan}
-use Rattle.lid_machine.specs.Machine.{Progress, State}
+use Rattle.lid_machine.specs.Plans.{actors_of, stations_of, cap, stream}
+use Rattle.lid_machine.specs.Setups.{Setup, plan}
 use Rattle.lid_shell.specs.declared.actor.Actor.{Actor}
 use Rattle.lid_shell.specs.Boards.{HasEnd, IsDrainedBy, IsFilledBy, Agrees}
 use Rattle.lid_walk.specs.Walks.{IsBoard}
@@ -28,13 +22,13 @@ use Rattle.lid_walk.proofs.Elements.{there_is}
 use Rattle.lid_walk.proofs.Serving.{drains_by, fills_by}
 use Rattle.lid_work.specs.declared.worker.Worker.{Worker}
 use Rattle.lid_work.specs.Posts.{known}
+use Rattle.lid_work.proofs.Misses.{held_there}
 use Rattle.lid_crew.specs.Shares.{share, holder}
-use Rattle.lid_crew.specs.Crews.{HasWorked, HaveWorked, HasJoined, AreShared}
+use Rattle.lid_crew.specs.Crews.{HaveWorked, HasJoined, AreShared}
 use Rattle.lid_free.specs.Settings.{IsStarted, IsPlain, IsCrew}
 use Rattle.lid_free.specs.FreeRuns.{state_at}
 use Rattle.lid_free.specs.Gathering.{fired_of}
-use Rattle.lid_free.proofs.Crewing.{all_owned}
-use Rattle.lid_free.proofs.Parallel.{held_there, HasPair, pair_of, holder_low, mod_low, works_after, IsKept, kept}
+use Rattle.lid_free.proofs.Parallel.{HasPair, pair_of, holder_low, mod_low, works_after, kept}
 use Rattle.lid_free.proofs.Ready.{drain_holder, fill_holder}
 
 module _ (m : Setup) (board : Board) (workers : ℕ) (owners : List ℕ) (before : List Actor) (olds news : List Worker) (made : ℕ) (actors : List Actor)

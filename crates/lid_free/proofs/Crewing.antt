@@ -1,17 +1,17 @@
 -- The ends of a board at its start, and the crew to which they are given.
-use Rattle.std.proofs.Common.{◌≡◌, ℕ, zero, suc, ◌+◌, ◌*◌, ◌/◌, ◌%◌, ◌<◌, ◌≤◌, ◌==◌, inl, inr, Bool, false, List, [], ◌∷◌, length, get_or, refl, sym, ◌∙◌, ap, subst, arith}
-use Rattle.std.specs.Prelude.{Option, Some, None, slice_get}
+use Rattle.std.proofs.Common.{◌≡◌, ℕ, ◌+◌, ◌*◌, ◌/◌, ◌%◌, ◌<◌, inl, inr, Bool, false, List, length, sym, ◌∙◌, ap, subst, arith}
+use Rattle.std.specs.Prelude.{Option, Some, None}
 use Rattle.std.proofs.lemmas.Bool.{cases_lt, cases_eq}
+use Rattle.std.proofs.lemmas.List.{get_or_past}
 use Rattle.std.proofs.lemmas.Option.{same_Some, slice_get_within}
 use Rattle.lid_system.specs.declared.System.{System}
-use Rattle.lid_station.specs.Boards.{fill, drain}
 use Rattle.lid_stations.specs.declared.placement.Placement.{Placement}
 use Rattle.lid_board.specs.Owners.{IsOf, IsOwned, plan_of}
 use Rattle.lid_board.specs.Parting.{unseen}
-use Rattle.lid_board.specs.Views.{Ends, at, held, held_of}
+use Rattle.lid_board.specs.Views.{at, held_of}
 use Rattle.lid_board.specs.declared.board.Board.{Board}
 use Rattle.lid_board.specs.declared.view.Held.{Held}
-use Rattle.lid_machine.specs.Plans.{stations_of, actors_of}
+use Rattle.lid_machine.specs.Plans.{stations_of}
 use Rattle.lid_machine.specs.Setups.{Setup, plan}
 use Rattle.lid_machine.specs.Machine.{begun}
 use Rattle.lid_shell.specs.declared.actor.Actor.{Actor}
@@ -21,12 +21,7 @@ use Rattle.lid_walk.proofs.Elements.{there_is}
 use Rattle.lid_work.specs.declared.worker.Worker.{Worker}
 use Rattle.lid_crew.specs.Shares.{share}
 use Rattle.lid_crew.specs.Crews.{HasShare, AreUnseen, AreHired, AreDealt}
-use Rattle.lid_free.specs.Settings.{IsStart, IsStarted, AreOwners, IsCrew}
-
-past : {A : Type 0} (xs : List (Option A)) (i : ℕ) → length xs ≤ i → get_or xs i None ≡ None
-past [] i h = refl
-past (x ∷ xs) zero h = absurd (omega (arith, h))
-past (x ∷ xs) (suc i) h = past xs i (omega (arith, h))
+use Rattle.lid_free.specs.Settings.{IsStarted, AreOwners, IsCrew}
 
 module _ (m : Setup) (board : Board) (started : IsStarted m board) where
   -- what is known at each end
@@ -57,7 +52,7 @@ module _ (m : Setup) (board : Board) (started : IsStarted m board) where
             (let (x, at_x, none) = at_start end within in
             let same : x ≡ h = same_Some x h (sym at_x ∙ at_h) in
             same_unseen h (ap (λ (y : Held). y.mark) (sym same) ∙ none))
-        | inr high ↦ absurd (let none : Some h ≡ None = sym at_h ∙ past (plan_of board) end high in cc)
+        | inr high ↦ absurd (let none : Some h ≡ None = sym at_h ∙ get_or_past (plan_of board) end None high in cc)
       ]
 
 -- a crew that was hired and dealt to

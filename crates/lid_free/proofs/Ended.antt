@@ -1,28 +1,25 @@
 -- How a run ends that was gathered and settled.
-use Rattle.std.proofs.Common.{◌≡◌, ℕ, zero, suc, ◌+◌, ◌-◌, ◌*◌, ◌<◌, ◌≤◌, ◌==◌, nat_lt, inl, inr, Bool, true, false, cond, List, [], ◌∷◌, length, map, get_or, refl, sym, ◌∙◌, ap, subst, arith, eq-eqb, le-ltb}
-use Rattle.std.specs.Prelude.{Option, Some, None, option_map, slice_get}
-use Rattle.std.specs.List.{All, sum_by}
+use Rattle.std.proofs.Common.{◌≡◌, ℕ, zero, suc, ◌+◌, ◌-◌, ◌*◌, ◌<◌, ◌≤◌, nat_lt, inl, inr, Bool, true, false, cond, List, [], ◌∷◌, length, map, get_or, refl, sym, ◌∙◌, ap, subst, arith, eq-eqb, le-ltb}
+use Rattle.std.specs.Prelude.{Some, slice_get}
+use Rattle.std.specs.List.{sum_by}
 use Rattle.std.proofs.Math.Nat.{zero-mul}
 use Rattle.std.proofs.lemmas.Bool.{cases_lt}
-use Rattle.std.proofs.lemmas.List.Sums.{sum_by-cons}
-use Rattle.std.proofs.lemmas.Option.{same_Some, slice_get_within, slice_get-get_or}
+use Rattle.std.proofs.lemmas.Option.{same_Some, slice_get-get_or}
 use Rattle.lid_base.specs.declared.runs.Tally.{Tally}
-use Rattle.lid_design.specs.Network.{from_each}
-use Rattle.lid_graph.specs.Firings.{no_hold}
 use Rattle.lid_station.specs.declared.pair.Pair.{Pair}
-use Rattle.lid_runs.specs.Runs.{place_in, fired_in}
+use Rattle.lid_runs.specs.Runs.{place_in}
 use Rattle.lid_stations.proofs.Spots.{stands_between}
-use Rattle.lid_machine.specs.Plans.{actors_of, stations_of, sink, ins_of, outs_of, drainer_of, filler_of, cap, start_of, room_of}
+use Rattle.lid_machine.specs.Plans.{actors_of, stations_of, sink, ins_of, outs_of, drainer_of, filler_of, cap, start_of}
 use Rattle.lid_machine.specs.Setups.{Setup, IsSetup, plan, output_rows}
 use Rattle.lid_machine.specs.Machine.{Progress, State, begun, takes_from, puts_from, taken_by, in_count, out_count}
-use Rattle.lid_machine.specs.Laws.{AllRest, IsSettled, IsSound, sweeps}
+use Rattle.lid_machine.specs.Laws.{sweeps}
 use Rattle.lid_machine.proofs.Sweeps.{many, settles}
 use Rattle.lid_machine.proofs.Sound.{sound_begun}
 use Rattle.lid_shell.specs.declared.actor.Actor.{Actor}
 use Rattle.lid_shell.specs.Parts.{AreColumns}
 use Rattle.lid_machine.proofs.Counts.{early}
+use Rattle.lid_walk.proofs.Turning.{as_far}
 use Rattle.lid_walk.specs.declared.walk.Walk.{Walk}
-use Rattle.lid_walk.specs.Walks.{Walks, firings_between}
 use Rattle.lid_walk.proofs.Elements.{there_is}
 use Rattle.lid_walk.proofs.Numbers.{sink_there}
 use Rattle.lid_walk.proofs.Sweeping.{count, count_more}
@@ -89,9 +86,6 @@ module _ (m : Setup) (workers made : ℕ) (pairs : List Pair) (actors : List Act
     some = λ station h. let k = g.sound.stations station h in let p = passed_is station h in let i = in_is station in let o = k.ordered in omega arith;
     few = λ station h. let k = g.sound.stations station h in let p = passed_is station h in let i = in_is station in let o = k.few in omega arith;
   }
-
-  as_far : (p q : Progress) → p.fired ≡ q.fired → p.position ≡ q.position → p ≡ q
-  as_far p q f o = ap (λ (n : ℕ). let r : Progress = record { fired = n; position = p.position } in r) f ∙ ap (λ (n : ℕ). let r : Progress = record { fired = q.fired; position = n } in r) o
 
   pub alone_so : workers ≡ 1 → AreSweeps (plan m) made tallies fired passed
   alone_so one =

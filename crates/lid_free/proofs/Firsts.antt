@@ -1,7 +1,6 @@
 -- Nothing stops the first turn of an actor that drains home stations only.
-use Rattle.std.proofs.Common.{◌≡◌, ℕ, zero, suc, ◌+◌, ◌*◌, ◌/◌, ◌%◌, ◌<◌, ◌≤◌, ◌==◌, ◌-◌, min, nat_lt, Bool, true, false, cond, List, [], ◌∷◌, length, get_or, refl, sym, ◌∙◌, ap, subst, arith, eq-eqb, ne_eqb}
-use Rattle.std.specs.Prelude.{Option, Some, None, option_map, slice_get}
-use Rattle.std.specs.Option.{unwrap_or}
+use Rattle.std.proofs.Common.{◌≡◌, ℕ, zero, suc, ◌+◌, ◌*◌, ◌%◌, ◌<◌, ◌≤◌, ◌-◌, nat_lt, Bool, true, false, cond, List, length, get_or, refl, sym, ◌∙◌, ap, subst, arith, eq-eqb, ne_eqb}
+use Rattle.std.specs.Prelude.{Some, option_map, slice_get}
 use Rattle.std.specs.List.{sum_by}
 use Rattle.std.proofs.lemmas.Option.{same_Some}
 use Rattle.lid_station.specs.Boards.{Facts, fill, drain}
@@ -9,12 +8,12 @@ use Rattle.lid_stations.specs.Stations.{start_count, spot_at}
 use Rattle.lid_stations.proofs.Spots.{starts_small, cap_range}
 use Rattle.lid_board.specs.Owners.{ends_of, plan_of}
 use Rattle.lid_board.specs.Standing.{StandsFor}
-use Rattle.lid_board.specs.Views.{Ends, at, facts, sure}
+use Rattle.lid_board.specs.Views.{at, facts, sure}
 use Rattle.lid_board.specs.declared.board.Board.{Board}
 use Rattle.lid_board.specs.declared.hand.Hand.{Hand}
 use Rattle.lid_board.specs.declared.view.Held.{Held}
-use Rattle.lid_machine.specs.Plans.{actors_of, stations_of, ins_of, outs_of, cap, start_of, room_of}
-use Rattle.lid_machine.specs.Setups.{Setup, IsSetup, plan}
+use Rattle.lid_machine.specs.Plans.{actors_of, ins_of, outs_of, cap, start_of, room_of}
+use Rattle.lid_machine.specs.Setups.{Setup, plan}
 use Rattle.lid_machine.specs.Machine.{takes_from, puts_from}
 use Rattle.lid_shell.specs.declared.actor.Actor.{Actor}
 use Rattle.lid_shell.specs.Steps.{Works}
@@ -23,28 +22,26 @@ use Rattle.lid_walk.proofs.Elements.{there_is}
 use Rattle.lid_walk.proofs.Serving.{drains_by, fills_by}
 use Rattle.lid_work.specs.declared.worker.Worker.{Worker}
 use Rattle.lid_work.specs.Posts.{known}
-use Rattle.lid_work.specs.Tallies.{misses_in, misses_at, misses_of}
+use Rattle.lid_work.specs.Tallies.{misses_in, misses_at}
 use Rattle.lid_work.proofs.Sums.{sum_none}
-use Rattle.lid_crew.specs.Shares.{share, holder}
+use Rattle.lid_work.proofs.Misses.{held_there}
+use Rattle.lid_crew.specs.Shares.{share}
 use Rattle.lid_crew.specs.Crews.{HaveWorked}
 use Rattle.lid_free.specs.Settings.{IsCrew}
 use Rattle.lid_free.specs.FreeRuns.{FirstTurnsFire, state_at}
 use Rattle.lid_free.specs.Gathering.{fired_of}
-use Rattle.lid_free.proofs.Parallel.{held_there, fired_read, HasPair, pair_of, mod_low, run_of, none_fired, works_after, kept}
-use Rattle.lid_free.proofs.Ready.{drain_holder, fill_holder}
+use Rattle.lid_free.proofs.Parallel.{fired_read, HasPair, pair_of, mod_low, run_of, works_after, kept}
+use Rattle.lid_free.proofs.Ready.{drain_holder}
 
 module _ (m : Setup) (board : Board) (workers : ℕ) (owners : List ℕ) (before : List Actor) (olds news : List Worker) (made : ℕ) (actors : List Actor)
     (c : IsCrew m board workers owners before olds) (worked : HaveWorked board made olds news)
     (long : length actors ≡ actors_of (plan m))
     (shares : (i : ℕ) (w : Worker) → slice_get news i ≡ Some w → share workers i actors ≡ w.actors.items) where
-  abbrev Pair_ : ℕ → Type 0
-  Pair_ i = HasPair m board workers owners before olds news made actors c worked long shares i
-
   -- an early look does not miss
   early_none : (hand : Hand) (end : ℕ) (x : Held) → at (ends_of hand) end ≡ Some x → x.passed < sure end x → misses_at (known hand) end ≡ 0
   early_none hand end x at_x low = ap misses_in (ap (option_map facts) at_x) ∙ hand.early end x at_x low
 
-  module _ (v : ℕ) (b : Actor) (at_b : slice_get actors v ≡ Some b) (none : b.desk.fired ≡ 0) (p : Pair_ (v % workers)) where
+  module _ (v : ℕ) (b : Actor) (at_b : slice_get actors v ≡ Some b) (none : b.desk.fired ≡ 0) (p : HasPair m board workers owners before olds news made actors c worked long shares (v % workers)) where
     w : Works m v (state_at (fired_of actors) v) b (known p.new.hand) (StandsFor (plan_of board))
     w = works_after m board workers owners before olds news made actors c worked long shares v b at_b p
 
@@ -99,7 +96,7 @@ module _ (m : Setup) (board : Board) (workers : ℕ) (owners : List ℕ) (before
           some_rows true s = omega (arith, s)
           some_rows false s = s
 
-      fires : (v : ℕ) (b : Actor) (at_b : slice_get actors v ≡ Some b) (p : Pair_ (v % workers)) (n : ℕ) → b.desk.fired ≡ n → 0 < cap (plan m) v
+      fires : (v : ℕ) (b : Actor) (at_b : slice_get actors v ≡ Some b) (p : HasPair m board workers owners before olds news made actors c worked long shares (v % workers)) (n : ℕ) → b.desk.fired ≡ n → 0 < cap (plan m) v
           → ((i station : ℕ) → slice_get (ins_of (plan m) v) i ≡ Some station → start_of (plan m) station ≡ 1) → 0 < n
       fires v b at_b p (suc n) is some_cap home = omega arith
       fires v b at_b p zero is some_cap home =

@@ -1,16 +1,15 @@
 -- Which actor owns each end.
-use Rattle.std.proofs.Common.{◌≡◌, ℕ, zero, suc, ◌+◌, ◌*◌, ◌/◌, ◌%◌, ◌<◌, ◌==◌, inl, inr, Bool, true, false, cond, List, [], ◌∷◌, ◌++◌, length, get_or, refl, sym, ◌∙◌, ap, subst, arith, eq-eqb, ne_eqb}
+use Rattle.std.proofs.Common.{◌≡◌, ℕ, zero, suc, ◌+◌, ◌*◌, ◌/◌, ◌%◌, ◌<◌, inl, inr, Bool, cond, List, [], ◌∷◌, ◌++◌, length, get_or, refl, sym, ◌∙◌, ap, arith, eq-eqb, ne_eqb, length-append}
 use Rattle.std.proofs.lemmas.Bool.{cases_eq}
 use Rattle.lid_graph.specs.declared.graph.Edge.{Edge}
 use Rattle.lid_graph.specs.declared.graph.Graph.{Graph}
-use Rattle.lid_graph.specs.Walks.{no_edge, edge_at}
+use Rattle.lid_graph.specs.Walks.{edge_at}
 use Rattle.lid_system.specs.declared.System.{System}
 use Rattle.lid_stations.specs.declared.placement.Placement.{Placement}
 use Rattle.lid_stations.specs.Placements.{links_of, station_count}
 use Rattle.lid_stations.specs.Stations.{filler, drainer}
 use Rattle.lid_stations.specs.Markings.{marking}
 use Rattle.lid_stations.specs.Laws.{StationsHaveTwoEdges}
-use Rattle.lid_crew.proofs.Lists.{length_snoc}
 use Rattle.lid_free.specs.Settings.{owner, AreOwners}
 
 get_snoc : (xs : List ℕ) (y : ℕ) → get_or (xs ++ y ∷ []) (length xs) 0 ≡ y
@@ -41,7 +40,7 @@ module _ (s : System) (p : Placement) (edges : StationsHaveTwoEdges) where
 
   pub owners_more : (end : ℕ) (old new : List ℕ) (x : ℕ) (g : Graph) → AreOwners s p end old → new ≡ old ++ x ∷ [] → g ≡ marking (links_of s) p → x ≡ (edge_at g end).from → end < 2 * station_count p.relays → AreOwners s p (end + 1) new
   owners_more end old new x g so pushed is read within = record {
-    many_are = ap length pushed ∙ length_snoc old x ∙ ap (λ (n : ℕ). n + 1) so.many_are;
+    many_are = ap length pushed ∙ length-append old (x ∷ []) ∙ ap (λ (n : ℕ). n + 1) so.many_are;
     each = λ k low.
         ap (λ (l : List ℕ). get_or l k 0) pushed
         ∙ elim (cases_eq k end) [

@@ -1,46 +1,38 @@
 -- What the actors and the hands are after the parallel phase.
-use Rattle.std.proofs.Common.{◌≡◌, ℕ, zero, suc, ◌+◌, ◌*◌, ◌/◌, ◌%◌, ◌<◌, ◌≤◌, ◌==◌, Bool, true, cond, List, [], ◌∷◌, length, get_or, map, refl, sym, ◌∙◌, ap, subst, arith, eq-eqb}
-use Rattle.std.specs.Prelude.{Option, Some, None, option_map, slice_get}
+use Rattle.std.proofs.Common.{◌≡◌, ℕ, zero, suc, ◌+◌, ◌*◌, ◌%◌, ◌<◌, ◌≤◌, ◌==◌, true, cond, List, [], ◌∷◌, length, get_or, refl, sym, ◌∙◌, ap, subst, arith, eq-eqb}
+use Rattle.std.specs.Prelude.{Some, option_map, slice_get}
 use Rattle.std.specs.List.{sum_by}
 use Rattle.std.proofs.Math.Nat.{mod-lt}
-use Rattle.std.proofs.lemmas.Option.{same_Some, slice_get_within, get_or_from_slice_get}
-use Rattle.lid_base.specs.declared.runs.Tally.{Tally}
+use Rattle.std.proofs.lemmas.Option.{same_Some, slice_get_within}
 use Rattle.lid_design.specs.Network.{from_each}
-use Rattle.lid_station.specs.Boards.{Facts, fill, drain}
-use Rattle.lid_stations.specs.Stations.{start_count}
-use Rattle.lid_board.specs.Owners.{IsOf, IsOwned, ends_of, plan_of}
+use Rattle.lid_station.specs.Boards.{Facts}
+use Rattle.lid_board.specs.Owners.{ends_of, plan_of}
 use Rattle.lid_board.specs.Standing.{StandsFor}
-use Rattle.lid_board.specs.Views.{Ends, at, facts, held, held_of}
+use Rattle.lid_board.specs.Views.{at, facts}
 use Rattle.lid_board.specs.declared.board.Board.{Board}
-use Rattle.lid_board.specs.declared.hand.Hand.{Hand}
 use Rattle.lid_board.specs.declared.view.Held.{Held}
-use Rattle.lid_machine.specs.Plans.{actors_of, stations_of, ins_of, outs_of, cap, start_of, room_of}
-use Rattle.lid_machine.specs.Setups.{Setup, IsSetup, plan}
-use Rattle.lid_machine.specs.Machine.{Progress, State, begun}
+use Rattle.lid_machine.specs.Plans.{actors_of, cap}
+use Rattle.lid_machine.specs.Setups.{Setup, plan}
+use Rattle.lid_machine.specs.Machine.{Progress}
 use Rattle.lid_shell.specs.declared.actor.Actor.{Actor}
-use Rattle.lid_shell.specs.Actors.{IsActor}
-use Rattle.lid_shell.specs.Boards.{Agrees}
 use Rattle.lid_shell.specs.Steps.{Works}
 use Rattle.lid_actors.specs.Actors.{AreActors}
 use Rattle.lid_walk.proofs.Elements.{there_is}
 use Rattle.lid_work.specs.declared.worker.Worker.{Worker}
-use Rattle.lid_work.specs.Posts.{known, resting, AgreesAt, KeepsEnd}
-use Rattle.lid_work.specs.Tallies.{fired_by, done_among, IsTallyOf}
+use Rattle.lid_work.specs.Posts.{known, resting, AgreesAt}
+use Rattle.lid_work.specs.Tallies.{fired_by, done_among}
 use Rattle.lid_work.specs.Turns.{HasGone}
+use Rattle.lid_work.proofs.Misses.{held_there}
 use Rattle.lid_work.proofs.Sums.{sum_none}
 use Rattle.lid_system.proofs.Shelling.{each_length}
 use Rattle.lid_crew.specs.Shares.{is_own, share, numbers_of, holder}
 use Rattle.lid_crew.specs.Crews.{HasWorked, HaveWorked}
-use Rattle.lid_free.specs.Settings.{IsStart, IsStarted, IsSetOutAs, IsCrew}
+use Rattle.lid_free.specs.Settings.{IsCrew}
 use Rattle.lid_free.specs.FreeRuns.{IsShareTally, state_at}
 use Rattle.lid_free.specs.Gathering.{fired_of}
 use Rattle.lid_free.proofs.Shares.{rank, picked_at, picked_length, picks_sum}
 use Rattle.lid_free.proofs.Ready.{works_at_start, held_here}
 use Rattle.lid_free.proofs.Crewing.{at_start}
-
-pub held_there : (o : Option Held) (f : Facts) → option_map facts o ≡ Some f → (h : Held) × (o ≡ Some h) × (facts h ≡ f)
-held_there None f e = absurd (cc)
-held_there (Some h) f e = (h, refl, same_Some (facts h) f e)
 
 pub fired_read : (actors : List Actor) (v : ℕ) (a : Actor) → slice_get actors v ≡ Some a → get_or (fired_of actors) v 0 ≡ a.desk.fired
 fired_read [] v a h = absurd (cc)

@@ -3,8 +3,10 @@ use Rattle.std.proofs.Common.{◌≡◌, ℕ, ◌%◌, ◌<◌, ◌≤◌, List,
 use Rattle.std.specs.Prelude.{Some, option_map, slice_get}
 use Rattle.std.specs.List.{sum_by}
 use Rattle.lid_station.specs.Boards.{fill, drain}
-use Rattle.lid_board.specs.Views.{facts}
+use Rattle.lid_board.specs.Owners.{plan_of}
+use Rattle.lid_board.specs.Views.{at, facts}
 use Rattle.lid_board.specs.declared.board.Board.{Board}
+use Rattle.lid_board.specs.declared.view.Held.{Held}
 use Rattle.lid_machine.specs.Plans.{actors_of, ins_of, outs_of}
 use Rattle.lid_machine.specs.Setups.{Setup, plan}
 use Rattle.lid_shell.specs.declared.actor.Actor.{Actor}
@@ -14,7 +16,7 @@ use Rattle.lid_work.specs.declared.worker.Worker.{Worker}
 use Rattle.lid_work.specs.Posts.{known}
 use Rattle.lid_work.specs.Tallies.{misses_in, misses_at, misses_of}
 use Rattle.lid_work.proofs.Sums.{sum_none}
-use Rattle.lid_crew.specs.Shares.{share}
+use Rattle.lid_crew.specs.Shares.{share, holder}
 use Rattle.lid_crew.specs.Crews.{HaveWorked}
 use Rattle.lid_free.specs.Settings.{IsCrew}
 use Rattle.lid_free.specs.Gathering.{fired_of}
@@ -24,17 +26,18 @@ use Rattle.lid_free.proofs.Ready.{drain_holder, fill_holder, held_here}
 module _ (m : Setup) (board : Board) (workers : ℕ) (owners : List ℕ) (before : List Actor) (olds : List Worker) (c : IsCrew m board workers owners before olds) where
   -- no look has missed before the run
   module _ (v : ℕ) (w : Worker) (at_w : slice_get olds (v % workers) ≡ Some w) where
+    unmissed : (end : ℕ) (x : Held) → at (plan_of board) end ≡ Some x → x.misses ≡ 0 → holder workers owners end ≡ v % workers → misses_at (known w.hand) end ≡ 0
+    unmissed end x at_x none mine = ap misses_in (ap (option_map facts) (held_here m board workers owners before olds c (v % workers) w at_w end x mine at_x)) ∙ none
+
     drain_unmissed : (k station : ℕ) → slice_get (ins_of (plan m) v) k ≡ Some station → misses_at (known w.hand) (drain station) ≡ 0
     drain_unmissed k station h =
         let (x, at_x, start) = c.started.drains station (drains_by (plan m) v k station h).there in
-        let here = held_here m board workers owners before olds c (v % workers) w at_w (drain station) x (drain_holder m board workers owners before olds c v k station h) at_x in
-        ap misses_in (ap (option_map facts) here) ∙ start.misses
+        unmissed (drain station) x at_x start.misses (drain_holder m board workers owners before olds c v k station h)
 
     fill_unmissed : (k station : ℕ) → slice_get (outs_of (plan m) v) k ≡ Some station → misses_at (known w.hand) (fill station) ≡ 0
     fill_unmissed k station h =
         let (x, at_x, start) = c.started.fills station (fills_by (plan m) v k station h).there in
-        let here = held_here m board workers owners before olds c (v % workers) w at_w (fill station) x (fill_holder m board workers owners before olds c v k station h) at_x in
-        ap misses_in (ap (option_map facts) here) ∙ start.misses
+        unmissed (fill station) x at_x start.misses (fill_holder m board workers owners before olds c v k station h)
 
     none_missed : (a : Actor) → slice_get before v ≡ Some a → misses_of (known w.hand) a ≡ 0
     none_missed a at_a =

@@ -198,9 +198,7 @@ later_goes line stations variables at k zero next before (cell ∷ cells) here a
 later_goes line stations variables at k (suc left) next before cells here after early wide long below few all each =
     let row = take stations cells in
     let rest = drop stations cells in
-    let cut = first_row stations left cells long in
-    let across : length row ≡ stations = cut.0 in
-    let longer : length rest ≡ stations * left = cut.1 in
+    let (across, longer) = first_row stations left cells long in
     let room : 3 * length row ≤ variables = omega arith in
     next_cycle line stations variables at k left next before row rest cells (any_differs before row) refl here after early (wide ∙ sym across) room few all (all_take stations cells each) (take-append-drop stations cells)
     (λ to n h. later_goes n stations variables k (k + 1) left to row rest h (omega arith) (omega arith) across longer below few (all_take stations cells each) (all_drop stations cells each))

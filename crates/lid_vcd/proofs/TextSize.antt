@@ -169,9 +169,7 @@ later_size stations k zero before cells long small = let time = time_size k (ome
 later_size stations k (suc left) before cells long small =
     let row = take stations cells in
     let after = drop stations cells in
-    let cut = first_row stations left cells long in
-    let across : length row ≡ stations = cut.0 in
-    let longer : length after ≡ stations * left = cut.1 in
+    let (across, longer) = first_row stations left cells long in
     let first = cycle_size k before row (omega arith) in
     let rest = later_size stations (k + 1) left row after (omega arith) (omega arith) in
     let sum = two_parts (cycle_lines k before row) (later_lines stations (k + 1) left row after) in
@@ -182,9 +180,7 @@ body_size stations zero cells long few = let time = time_size 0 (omega arith) in
 body_size stations (suc left) cells long few =
     let row = take stations cells in
     let after = drop stations cells in
-    let cut = first_row stations left cells long in
-    let across : length row ≡ stations = cut.0 in
-    let longer : length after ≡ stations * left = cut.1 in
+    let (across, longer) = first_row stations left cells long in
     let time = time_size 0 (omega arith) in
     let all = all_size 0 row in
     let rest = later_size stations 1 left row after (omega arith) (omega arith) in

@@ -1,5 +1,5 @@
 -- The numbers of plain stations are those of the state.
-use Rattle.std.proofs.Common.{◌≡◌, ℕ, ◌+◌, ◌*◌, ◌/◌, ◌%◌, ◌<◌, ◌==◌, Bool, true, false, List, length, refl, sym, ◌∙◌, ap, arith, eq-eqb, ne_eqb}
+use Rattle.std.proofs.Common.{◌≡◌, ℕ, ◌+◌, ◌*◌, ◌/◌, ◌%◌, ◌<◌, ◌==◌, Bool, true, false, List, length, refl, sym, ◌∙◌, ap, subst, arith, eq-eqb, ne_eqb}
 use Rattle.std.specs.Prelude.{Some, option_map, slice_get}
 use Rattle.std.proofs.lemmas.Option.{same_Some, slice_get_within}
 use Rattle.lid_station.specs.Boards.{Facts, fill, drain}
@@ -10,6 +10,7 @@ use Rattle.lid_runs.proofs.Ends.{filled_there}
 use Rattle.lid_machine.specs.Plans.{stations_of, room_of, filler_of}
 use Rattle.lid_machine.specs.Setups.{Setup, IsSetup, plan}
 use Rattle.lid_machine.specs.Machine.{State, in_count, out_count}
+use Rattle.lid_shell.specs.Boards.{HasEnd, IsFilledBy}
 use Rattle.lid_walk.specs.Walks.{IsBoard}
 use Rattle.lid_walk.proofs.Serving.{filled_end, drained_end}
 
@@ -30,26 +31,23 @@ shows_drain pairs station p there =
     ∙ ap (option_map (end_facts ((2 * station + 1) % 2 == 0))) there
     ∙ ap (λ (b : Bool). Some (end_facts b p)) (ne_eqb ((2 * station + 1) % 2) 0 (λ is. omega (arith, is, odd)))
 
+-- what holds of what is told of an end holds of what its station shows there
+pub told : (pairs : List Pair) (end : ℕ) (g : Facts) (P : Facts → Type 0) → plain_ends pairs end ≡ Some g → HasEnd (plain_ends pairs) end P → P g
+told pairs end g P shows (f, at, is) = subst P (same_Some f g (sym at ∙ shows)) is
+
 module _ (m : Setup) (st : State) (rules : IsSetup m) (pairs : List Pair) (board : IsBoard m st pairs) (station : ℕ) (p : Pair) (there : slice_get pairs station ≡ Some p) where
   pub within : station < stations_of (plan m)
   within = let h = slice_get_within pairs station p there in omega (arith, h, board.many)
 
   pub put_is : p.put ≡ in_count (plan m) st station
-  put_is =
-      let e = filled_end m rules st (plain_ends pairs) board.agrees station within in
-      let f = same_Some (end_facts true p) e.0 (sym (shows_fill pairs station p there) ∙ e.1) in
-      ap (λ (x : Facts). x.passed) f ∙ e.2
+  put_is = told pairs (fill station) (end_facts true p) (λ f. f.passed ≡ in_count (plan m) st station) (shows_fill pairs station p there) (filled_end m rules st (plain_ends pairs) board.agrees station within)
 
   pub taken_is : p.taken ≡ out_count (plan m) st station
-  taken_is =
-      let e = drained_end m rules st (plain_ends pairs) board.agrees station within in
-      let f = same_Some (end_facts false p) e.0 (sym (shows_drain pairs station p there) ∙ e.1) in
-      ap (λ (x : Facts). x.passed) f ∙ e.2
+  taken_is = told pairs (drain station) (end_facts false p) (λ f. f.passed ≡ out_count (plan m) st station) (shows_drain pairs station p there) (drained_end m rules st (plain_ends pairs) board.agrees station within)
 
   pub size_is : length p.places.items ≡ room_of (plan m) station
   size_is =
       let u = filler_of (plan m) station in
       let place = filled_there (plan m).links (plan m).placement u station within refl in
-      let e = (board.agrees u (stands_between m.system m.placement rules.system rules.fits station within).filled).fills place.0 station place.1 in
-      let f = same_Some (end_facts true p) e.0 (sym (shows_fill pairs station p there) ∙ e.1) in
-      ap (λ (x : Facts). x.cap) f ∙ e.2.capacity
+      (told pairs (fill station) (end_facts true p) (IsFilledBy m u (st u) place.0 station) (shows_fill pairs station p there)
+      ((board.agrees u (stands_between m.system m.placement rules.system rules.fits station within).filled).fills place.0 station place.1)).capacity

@@ -1,5 +1,5 @@
--- What a step of one actor leaves of the others, and of the board.
-use Rattle.std.proofs.Common.{◌≡◌, ◌≢◌, ℕ, ◌*◌, ◌/◌, ◌%◌, ◌<◌, ◌≤◌, ◌==◌, nat_lt, inl, inr, Bool, true, false, List, [], ◌∷◌, length, get_or, set, refl, sym, ◌∙◌, ap, subst, arith, length-set, eq-eqb}
+-- What a move of one actor leaves of the others, and of the board: a step, or more of them.
+use Rattle.std.proofs.Common.{◌≡◌, ◌≢◌, ℕ, ◌*◌, ◌/◌, ◌%◌, ◌<◌, ◌≤◌, ◌==◌, nat_lt, Bool, true, false, List, [], ◌∷◌, length, get_or, set, refl, sym, ◌∙◌, ap, subst, arith, length-set, eq-eqb}
 use Rattle.std.specs.Prelude.{Option, Some, None, option_map, slice_get}
 use Rattle.std.proofs.lemmas.Option.{slice_get-get_or, slice_get_past}
 use Rattle.std.proofs.lemmas.Bool.{ltb-true, ltb-false}
@@ -9,9 +9,10 @@ use Rattle.lid_base.specs.declared.runs.Answer.{Answer}
 use Rattle.lid_station.specs.Boards.{Facts, Ends, fill, drain}
 use Rattle.lid_station.specs.Plain.{end_facts, plain_ends, PlainStands}
 use Rattle.lid_station.specs.declared.pair.Pair.{Pair}
-use Rattle.lid_machine.specs.Plans.{actors_of, ins_of, outs_of, drainer_of, filler_of, cap}
+use Rattle.lid_machine.specs.Plans.{actors_of, ins_of, outs_of, cap}
 use Rattle.lid_machine.specs.Setups.{Setup, IsSetup, plan}
 use Rattle.lid_machine.specs.Machine.{Progress, State, answer_as, after_as, answer_of, finds, next}
+use Rattle.lid_machine.specs.Laws.{IsSound}
 use Rattle.lid_machine.proofs.Moves.{here, elsewhere}
 use Rattle.lid_machine.proofs.Sound.{sound_after}
 use Rattle.lid_shell.specs.declared.actor.Actor.{Actor}
@@ -22,7 +23,7 @@ use Rattle.lid_walk.specs.declared.walk.Walk.{Walk}
 use Rattle.lid_actors.specs.Actors.{AreActors}
 use Rattle.lid_walk.specs.Walks.{IsBoard, Walks, HasActor}
 use Rattle.lid_walk.proofs.Elements.{set_here, set_there}
-use Rattle.lid_walk.proofs.Serving.{drains_by, fills_by, serves_all}
+use Rattle.lid_walk.proofs.Serving.{drains_by, fills_by, drain_apart, fill_apart, serves_all}
 
 -- an actor of a walk works at the board
 pub works : (m : Setup) (st : State) (w : Walk) (v : ℕ) (a : Actor) → Walks m st w → v < actors_of (plan m) → slice_get w.actors.items v ≡ Some a
@@ -91,24 +92,10 @@ module _ (m : Setup) (rules : IsSetup m) (st new : State) (v : ℕ) (ins outs : 
     (others : (end : ℕ) → (IsOwn ins outs end → ⊥) → then_ end ≡ ends end)
     (same : (w : ℕ) → w ≢ v → new w ≡ st w) where
   not_drained : (w i station : ℕ) → w ≢ v → slice_get (ins_of (plan m) w) i ≡ Some station → then_ (drain station) ≡ ends (drain station)
-  not_drained w i station other h = others (drain station) not_own
-    where
-      not_own : IsOwn ins outs (drain station) → ⊥
-      not_own (s, k, inl own) =
-          let is : s ≡ station = omega (arith, own.1) in
-          let mine = drains_by (plan m) v k s (subst (λ (l : List ℕ). slice_get l k ≡ Some s) in_is own.0) in
-          other (sym (drains_by (plan m) w i station h).drainer ∙ ap (drainer_of (plan m)) (sym is) ∙ mine.drainer)
-      not_own (s, k, inr own) = omega (arith, own.1)
+  not_drained w i station other h = others (drain station) (drain_apart m v ins outs in_is out_is station (λ mine. other (sym (drains_by (plan m) w i station h).drainer ∙ mine)))
 
   not_filled : (w j station : ℕ) → w ≢ v → slice_get (outs_of (plan m) w) j ≡ Some station → then_ (fill station) ≡ ends (fill station)
-  not_filled w j station other h = others (fill station) not_own
-    where
-      not_own : IsOwn ins outs (fill station) → ⊥
-      not_own (s, k, inl own) = omega (arith, own.1)
-      not_own (s, k, inr own) =
-          let is : s ≡ station = omega (arith, own.1) in
-          let mine = fills_by (plan m) v k s (subst (λ (l : List ℕ). slice_get l k ≡ Some s) out_is own.0) in
-          other (sym (fills_by (plan m) w j station h).filler ∙ ap (filler_of (plan m)) (sym is) ∙ mine.filler)
+  not_filled w j station other h = others (fill station) (fill_apart m v ins outs in_is out_is station (λ mine. other (sym (fills_by (plan m) w j station h).filler ∙ mine)))
 
   agrees_else : (w : ℕ) → w ≢ v → Agrees m w (st w) ends → Agrees m w (new w) then_
   agrees_else w other agrees =
@@ -123,6 +110,38 @@ module _ (m : Setup) (rules : IsSetup m) (st new : State) (v : ℕ) (ins outs : 
       dite (ℕ_discrete w v)
       (λ is. subst (λ (u : ℕ). Agrees m u (new u) then_) (sym is) mine)
       (λ other. agrees_else w other (before w h))
+
+-- actor v has moved at the board, and is as far as a sound state says that leaves the others as they were: so all are as it says
+module _ (m : Setup) (st new : State) (w : Walk) (v : ℕ) (a b : Actor) (news : List Pair)
+    (walks : Walks m st w) (there : slice_get w.actors.items v ≡ Some a)
+    (same : (u : ℕ) → u ≢ v → new u ≡ st u) (sound : IsSound (plan m) new)
+    (works_then : Works m v (new v) b (plain_ends news) (PlainStands news)) where
+  actors_then : AreActors m new (set w.actors.items v b)
+  actors_then = record {
+    many = length-set w.actors.items v b ∙ walks.actors.many;
+    each = λ u c at. dite (ℕ_discrete u v)
+        (λ is. subst (λ (n : ℕ). IsActor m n (new n) c) (sym is)
+        (subst (λ (d : Actor). IsActor m v (new v) d) (set_here w.actors.items v b c (subst (λ (n : ℕ). slice_get (set w.actors.items v b) n ≡ Some c) is at)) works_then.actor))
+        (λ other. subst (λ (q : Progress). IsActor m u q c) (sym (same u other)) (walks.actors.each u c (sym (set_there w.actors.items v u b other) ∙ at)));
+  }
+
+  module _ (missed : Option ℕ) (moves : Moves a.desk.ins.items a.desk.outs.items missed (plain_ends w.board.pairs.items) (plain_ends news)) where
+    board_then : IsBoard m new news
+    board_then =
+        let was = walks.actors.each v a there in
+        record {
+          many = as_many w.board.pairs.items news moves.none (λ end f e. let g = moves.some end f e in (g.0, g.1)) ∙ walks.board.many;
+          agrees = all_agree m walks.rules st new v a.desk.ins.items a.desk.outs.items (plain_ends w.board.pairs.items) (plain_ends news) was.at.drains was.at.fills moves.others same works_then.agrees walks.board.agrees;
+          streams = works_then.streams;
+        }
+
+    pub all_moved : (x : Walk) → x.actors.items ≡ set w.actors.items v b → x.board.pairs.items ≡ news → Walks m new x
+    all_moved x actors board = record {
+      rules = walks.rules;
+      sound = sound;
+      actors = subst (AreActors m new) (sym actors) actors_then;
+      board = subst (IsBoard m new) (sym board) board_then;
+    }
 
 -- actor v has made a step at the board: so all are as the machine says
 module _ (m : Setup) (st : State) (w : Walk) (v : ℕ) (a b : Actor) (news : List Pair) (answer : Answer)
@@ -146,29 +165,6 @@ module _ (m : Setup) (st : State) (w : Walk) (v : ℕ) (a b : Actor) (news : Lis
       subst (λ (q : Progress). Works m v q b (plain_ends news) (PlainStands news))
       (as_found (after_as (plan m) v (st v)) (λ at. rw (eq-eqb (st v).fired (cap (plan m) v) at) refl) ∙ sym (here (plan m) st v)) step_of.works
 
-  pub actors_then : AreActors m (next (plan m) st v) (set w.actors.items v b)
-  actors_then = record {
-    many = length-set w.actors.items v b ∙ walks.actors.many;
-    each = λ u c at. dite (ℕ_discrete u v)
-        (λ is. subst (λ (n : ℕ). IsActor m n (next (plan m) st v n) c) (sym is)
-        (subst (λ (d : Actor). IsActor m v (next (plan m) st v v) d) (set_here w.actors.items v b c (subst (λ (n : ℕ). slice_get (set w.actors.items v b) n ≡ Some c) is at)) works_then.actor))
-        (λ other. subst (λ (q : Progress). IsActor m u q c) (sym (elsewhere (plan m) st v u other)) (walks.actors.each u c (sym (set_there w.actors.items v u b other) ∙ at)));
-  }
-
-  module _ (missed : Option ℕ) (moves : Moves a.desk.ins.items a.desk.outs.items missed (plain_ends w.board.pairs.items) (plain_ends news)) where
-    board_then : IsBoard m (next (plan m) st v) news
-    board_then =
-        let was = walks.actors.each v a there in
-        record {
-          many = as_many w.board.pairs.items news moves.none (λ end f e. let g = moves.some end f e in (g.0, g.1)) ∙ walks.board.many;
-          agrees = all_agree m walks.rules st (next (plan m) st v) v a.desk.ins.items a.desk.outs.items (plain_ends w.board.pairs.items) (plain_ends news) was.at.drains was.at.fills moves.others (elsewhere (plan m) st v) works_then.agrees walks.board.agrees;
-          streams = works_then.streams;
-        }
-
-    pub walks_then : (x : Walk) → x.actors.items ≡ set w.actors.items v b → x.board.pairs.items ≡ news → Walks m (next (plan m) st v) x
-    walks_then x actors board = record {
-      rules = walks.rules;
-      sound = sound_after m walks.rules st v h walks.sound;
-      actors = subst (AreActors m (next (plan m) st v)) (sym actors) actors_then;
-      board = subst (IsBoard m (next (plan m) st v)) (sym board) board_then;
-    }
+  pub walks_then : (missed : Option ℕ) → Moves a.desk.ins.items a.desk.outs.items missed (plain_ends w.board.pairs.items) (plain_ends news)
+      → (x : Walk) → x.actors.items ≡ set w.actors.items v b → x.board.pairs.items ≡ news → Walks m (next (plan m) st v) x
+  walks_then = all_moved m st (next (plan m) st v) w v a b news walks there (elsewhere (plan m) st v) (sound_after m walks.rules st v h walks.sound) works_then

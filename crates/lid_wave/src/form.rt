@@ -1,6 +1,6 @@
 //! What each word of a dump may be, by what was read before it.
 
-ghost use Rattle.std.specs.Prelude.{◌≡◌, ℕ, ◌∷◌, Option};
+ghost use Rattle.std.specs.Prelude.{◌≡◌, ℕ, ◌∷◌, Option, if◌then◌else◌};
 ghost use Rattle.lid_base.specs.Numbers.{number_below};
 ghost use Rattle.lid_wave.specs.Ids.{variable_of, token_of};
 ghost use Rattle.lid_wave.specs.Form.{later, bit_set, token_read, token_set, change, in_body, step, start, is_time};
@@ -59,12 +59,12 @@ fn later(variables: u32, at: u32, digits: &[u8]) -> Option<Place>
     }
 }
 
-/// The place after a change of a bit.
-fn bit_set(variables: u32, at: u32, value: u32, id: &[u8]) -> Option<Place>
-    ensures { result ≡ bit_set variables at value (variable_of variables id.now) }
+/// The place after a change of a variable, which is a token, or else a bit.
+fn variable_set(variables: u32, at: u32, value: u32, id: &[u8], token: bool) -> Option<Place>
+    ensures { result ≡ (if token then token_set variables at value (variable_of variables id.now) else bit_set variables at value (variable_of variables id.now)) }
 {
     match variable_of(variables, id) {
-        Some(variable) if !is_token(variable) => Some(Place {
+        Some(variable) if is_token(variable) == token => Some(Place {
             variables,
             next: Next::Set {
                 at,
@@ -89,29 +89,12 @@ fn token_read(variables: u32, at: u32, bits: &[u8]) -> Option<Place>
     }
 }
 
-/// The place after the ID of a token.
-fn token_set(variables: u32, at: u32, value: u32, id: &[u8]) -> Option<Place>
-    ensures { result ≡ token_set variables at value (variable_of variables id.now) }
-{
-    match variable_of(variables, id) {
-        Some(variable) if is_token(variable) => Some(Place {
-            variables,
-            next: Next::Set {
-                at,
-                variable,
-                value,
-            },
-        }),
-        _ => None,
-    }
-}
-
 /// The place after the first word of a change.
 fn change(variables: u32, at: u32, mark: u8, rest: &[u8]) -> Option<Place>
     ensures { result ≡ change variables at mark rest.now }
 {
     if mark == b'0' || mark == b'1' {
-        return bit_set(variables, at, u32::from(mark - b'0'), rest);
+        return variable_set(variables, at, u32::from(mark - b'0'), rest, false);
     }
     if mark == b'b' {
         return token_read(variables, at, rest);
@@ -149,7 +132,7 @@ pub fn step(place: Place, word: &[u8]) -> Option<Place>
         Next::Note { section } => Some(in_note(variables, section, word)),
         Next::Inside { section, words } => in_section(variables, section, words, word),
         Next::Time { at } | Next::Set { at, .. } => in_body(variables, at, word),
-        Next::Bits { at, value } => token_set(variables, at, value, word),
+        Next::Bits { at, value } => variable_set(variables, at, value, word, true),
     }
 }
 

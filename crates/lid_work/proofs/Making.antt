@@ -1,6 +1,6 @@
 -- What one turn of an actor does to it and to what is counted.
-use Rattle.std.proofs.Common.{◌≡◌, ◌↔◌, ℕ, ◌+◌, ◌*◌, ◌<◌, ◌≤◌, ◌==◌, Bool, true, false, cond, List, refl, sym, ◌∙◌, ap, subst, arith, eq-eqb, ne_eqb}
-use Rattle.std.specs.Prelude.{Option, Some, None, slice_get}
+use Rattle.std.proofs.Common.{◌≡◌, ◌↔◌, ℕ, ◌+◌, ◌*◌, ◌<◌, ◌≤◌, Bool, cond, List, refl, sym, ◌∙◌, ap, subst, arith, eq-eqb, ne_eqb}
+use Rattle.std.specs.Prelude.{Option, Some, slice_get}
 use Rattle.std.specs.List.{sum_by}
 use Rattle.lid_base.specs.declared.runs.Tally.{Tally}
 use Rattle.lid_station.specs.Boards.{Facts, Ends, fill, drain}
@@ -9,7 +9,7 @@ use Rattle.lid_board.specs.Standing.{StandsFor}
 use Rattle.lid_board.specs.declared.board.Board.{Board}
 use Rattle.lid_machine.specs.Plans.{ins_of, outs_of, cap}
 use Rattle.lid_machine.specs.Setups.{Setup, plan}
-use Rattle.lid_machine.specs.Machine.{Progress, State, turn, turn_answer}
+use Rattle.lid_machine.specs.Machine.{State, turn, turn_answer}
 use Rattle.lid_shell.specs.declared.actor.Actor.{Actor}
 use Rattle.lid_shell.specs.declared.turn.TurnEnd.{TurnEnd}
 use Rattle.lid_shell.specs.declared.turn.TurnEnd.TheVariants.{Fired, Void, Stop, Done}
@@ -18,15 +18,13 @@ use Rattle.lid_shell.specs.Boards.{Agrees, ServesAll}
 use Rattle.lid_shell.specs.Steps.{Works, Moves, missed_end}
 use Rattle.lid_shell.specs.Turns.{answer_at, end_at, fired_at, EndsSo, Turned}
 use Rattle.lid_walk.proofs.Serving.{drains_by, fills_by}
-use Rattle.lid_work.specs.Posts.{stations_of, resting, AgreesAt, IsAtWork}
+use Rattle.lid_walk.proofs.Turning.{resting}
+use Rattle.lid_work.specs.Posts.{stations_of, AgreesAt, IsAtWork}
 use Rattle.lid_work.specs.Tallies.{sum_below, counted, fired_one, void_one, stop_one, done_one, misses_at, misses_of, void_misses, stop_misses}
 use Rattle.lid_work.specs.Turns.{HasGone}
-use Rattle.lid_work.specs.Order.{at_cap, EndsTurn, MakesTurn}
+use Rattle.lid_work.specs.Order.{at_cap, MakesTurn}
 use Rattle.lid_work.proofs.Sums.{sum_none, sum_one, below_none, below_one}
-use Rattle.lid_work.proofs.Misses.{missed_one, missed_here, missed_else, AreCounted, drains_more, fills_more, voids_more, stops_more}
-
-abbrev pub at_rest : ℕ → Progress
-at_rest fired = record { fired = fired; position = 0 }
+use Rattle.lid_work.proofs.Misses.{missed_one, missed_here, missed_else, AreCounted, sums_more, belows_more}
 
 fired_more : (end : TurnEnd) (n : ℕ) → fired_at end n ≡ n + fired_one end
 fired_more Fired n = refl
@@ -84,7 +82,7 @@ module _ (m : Setup) (v fired : ℕ) where
       (λ i t at_i other. missed_else (fill station) (fill t) (filled_once j i station t at at_i other))
   fills_one Done so = sum_none (λ s. 0) (outs_of (plan m) v) (λ i s at. refl)
 
-  module _ (before : Ends) (agrees : Agrees m v (at_rest fired) before) where
+  module _ (before : Ends) (agrees : Agrees m v (resting fired) before) where
     missed_there : (end : TurnEnd) → EndsSo m v fired end → (e : ℕ) → missed end ≡ Some e → (f : Facts) × (before e ≡ Some f)
     missed_there Fired so e is = absurd (cc)
     missed_there (Void station told) (i, at, word) e is =
@@ -128,9 +126,9 @@ is_at_cap a is = ap (λ (b : Bool). cond b 1 0) (eq-eqb a.desk.fired a.desk.cap 
 module _ (board : Board) (before now : Ends) (then_stands : (ℕ → List ℕ) → Type 0) (a b : Actor) (end : TurnEnd) (was is : Tally)
     (counts : AreCounted before)
     (inside : (e : ℕ) (f : Facts) → before e ≡ Some f → e < 2 * stations_of board)
-    (turns : (m : Setup) (v fired : ℕ) → Works m v (at_rest fired) a before (StandsFor (plan_of board)) → Turned m v fired end b now then_stands)
+    (turns : (m : Setup) (v fired : ℕ) → Works m v (resting fired) a before (StandsFor (plan_of board)) → Turned m v fired end b now then_stands)
     (moves : Moves a.desk.ins.items a.desk.outs.items (missed_end (answer_at end)) before now) where
-  module _ (m : Setup) (v fired : ℕ) (w : Works m v (at_rest fired) a before (StandsFor (plan_of board))) where
+  module _ (m : Setup) (v fired : ℕ) (w : Works m v (resting fired) a before (StandsFor (plan_of board))) where
     t : Turned m v fired end b now then_stands
     t = turns m v fired w
 
@@ -168,11 +166,13 @@ module _ (board : Board) (before now : Ends) (then_stands : (ℕ → List ℕ) �
           (λ at. t.done.1 (sym fired_is ∙ at ∙ capped)),
         )
 
+    missed_known : (e : ℕ) → missed_end (answer_at end) ≡ Some e → (f : Facts) × (before e ≡ Some f)
+    missed_known = missed_there m v fired before w.agrees end t.ends_so
+
     misses_is : misses_of now b ≡ misses_of before a + void_one end + stop_one end
     misses_is =
-        let there = missed_there m v fired before w.agrees end t.ends_so in
-        let drains = drains_more a.desk.ins.items a.desk.outs.items (missed_end (answer_at end)) before now counts moves there (ins_of (plan m) v) in
-        let fills = fills_more a.desk.ins.items a.desk.outs.items (missed_end (answer_at end)) before now counts moves there (outs_of (plan m) v) in
+        let drains = sums_more a.desk.ins.items a.desk.outs.items (missed_end (answer_at end)) before now counts moves missed_known drain (ins_of (plan m) v) in
+        let fills = sums_more a.desk.ins.items a.desk.outs.items (missed_end (answer_at end)) before now counts moves missed_known fill (outs_of (plan m) v) in
         let void = drains_one m v fired end t.ends_so in
         let stop = fills_one m v fired end t.ends_so in
         let new_ins = ap (sum_by (λ s. misses_at now (drain s))) t.works.actor.at.drains in
@@ -183,25 +183,21 @@ module _ (board : Board) (before now : Ends) (then_stands : (ℕ → List ℕ) �
 
     voids_is : void_misses now (stations_of board) ≡ void_misses before (stations_of board) + void_one end
     voids_is =
-        let there = missed_there m v fired before w.agrees end t.ends_so in
-        let more = voids_more a.desk.ins.items a.desk.outs.items (missed_end (answer_at end)) before now counts moves there (stations_of board) in
-        let one = voids_one m v fired before w.agrees (stations_of board) inside end t.ends_so in
-        omega (arith, more, one)
+        belows_more a.desk.ins.items a.desk.outs.items (missed_end (answer_at end)) before now counts moves missed_known drain (stations_of board)
+        ∙ ap (λ (n : ℕ). void_misses before (stations_of board) + n) (voids_one m v fired before w.agrees (stations_of board) inside end t.ends_so)
 
     stops_is : stop_misses now (stations_of board) ≡ stop_misses before (stations_of board) + stop_one end
     stops_is =
-        let there = missed_there m v fired before w.agrees end t.ends_so in
-        let more = stops_more a.desk.ins.items a.desk.outs.items (missed_end (answer_at end)) before now counts moves there (stations_of board) in
-        let one = stops_one m v fired before w.agrees (stations_of board) inside end t.ends_so in
-        omega (arith, more, one)
+        belows_more a.desk.ins.items a.desk.outs.items (missed_end (answer_at end)) before now counts moves missed_known fill (stations_of board)
+        ∙ ap (λ (n : ℕ). stop_misses before (stations_of board) + n) (stops_one m v fired before w.agrees (stations_of board) inside end t.ends_so)
 
   agrees_is : (m : Setup) (v : ℕ) → AgreesAt m v board before a → AgreesAt m v board now b
   agrees_is m v w =
       let t = turns m v a.desk.fired w in
       let far : fired_at end a.desk.fired ≡ b.desk.fired = sym t.works.actor.at.fired_is in
       record {
-        actor = subst (λ (n : ℕ). IsActor m v (at_rest n) b) far t.works.actor;
-        agrees = subst (λ (n : ℕ). Agrees m v (at_rest n) now) far t.works.agrees;
+        actor = subst (λ (n : ℕ). IsActor m v (resting n) b) far t.works.actor;
+        agrees = subst (λ (n : ℕ). Agrees m v (resting n) now) far t.works.agrees;
         streams = w.streams;
       }
 

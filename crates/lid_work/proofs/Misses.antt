@@ -1,12 +1,10 @@
 -- Where a look missed, and how many more misses are counted there.
-use Rattle.std.proofs.Common.{◌≡◌, ℕ, ◌+◌, ◌*◌, ◌<◌, ◌==◌, Bool, true, false, cond, List, length, refl, sym, ◌∙◌, ap, arith, eq-eqb, ne_eqb}
-use Rattle.std.specs.Prelude.{Option, Some, None, option_map, slice_get, if◌then◌else◌}
+use Rattle.std.proofs.Common.{◌≡◌, ℕ, ◌+◌, ◌*◌, ◌<◌, ◌==◌, Bool, true, false, cond, List, refl, sym, ◌∙◌, ap, arith, eq-eqb, ne_eqb}
+use Rattle.std.specs.Prelude.{Option, Some, None, option_map, if◌then◌else◌}
 use Rattle.std.specs.Option.{unwrap_or}
 use Rattle.std.specs.List.{sum_by}
 use Rattle.std.proofs.lemmas.Option.{same_Some}
-use mathlib.Core.Logic.{dite}
-use native.Mathlib.Decide.{ℕ_discrete}
-use Rattle.lid_station.specs.Boards.{Facts, Ends, fill, drain}
+use Rattle.lid_station.specs.Boards.{Facts, Ends}
 use Rattle.lid_board.specs.Owners.{IsOf, ends_of}
 use Rattle.lid_board.specs.Standing.{served_within}
 use Rattle.lid_board.specs.Views.{at, facts}
@@ -15,7 +13,7 @@ use Rattle.lid_board.specs.declared.hand.Hand.{Hand}
 use Rattle.lid_board.specs.declared.view.Held.{Held}
 use Rattle.lid_shell.specs.Steps.{Moves, misses_after}
 use Rattle.lid_work.specs.Posts.{known, stations_of}
-use Rattle.lid_work.specs.Tallies.{sum_below, misses_in, misses_at, void_misses, stop_misses}
+use Rattle.lid_work.specs.Tallies.{sum_below, misses_in, misses_at}
 use Rattle.lid_work.proofs.Sums.{sums_add, belows_add}
 
 -- one more at the end at which a look missed
@@ -33,15 +31,16 @@ missed_else e k other = ap (λ (b : Bool). cond b 1 0) (ne_eqb k e other)
 abbrev pub AreCounted : Ends → Type 0
 AreCounted ends = (end : ℕ) (f : Facts) → ends end ≡ Some f → (n : ℕ) × (f.misses ≡ Some n)
 
-there : (o : Option Held) (f : Facts) → option_map facts o ≡ Some f → (h : Held) × (facts h ≡ f)
-there None f e = absurd (cc)
-there (Some h) f e = (h, same_Some (facts h) f e)
+-- what is told of an end is told of what is held there
+pub held_there : (o : Option Held) (f : Facts) → option_map facts o ≡ Some f → (h : Held) × (o ≡ Some h) × (facts h ≡ f)
+held_there None f e = absurd (cc)
+held_there (Some h) f e = (h, refl, same_Some (facts h) f e)
 
 -- as a hand counts them
 pub hand_counts : (hand : Hand) → AreCounted (known hand)
 hand_counts hand end f e =
-    let h = there (at (ends_of hand) end) f e in
-    (h.0.misses, ap (λ (g : Facts). g.misses) (sym h.1))
+    let (h, at_h, is) = held_there (at (ends_of hand) end) f e in
+    (h.misses, ap (λ (g : Facts). g.misses) (sym is))
 
 -- an end of a hand is one of the stations of its board
 pub hand_inside : (board : Board) (hand : Hand) → IsOf hand board → (end : ℕ) (f : Facts) → known hand end ≡ Some f → end < 2 * stations_of board
@@ -78,16 +77,10 @@ module _ (ins outs : List ℕ) (missed : Option ℕ) (before now : Ends) (counts
   pub misses_more : (k : ℕ) → misses_at now k ≡ misses_at before k + missed_one missed k
   misses_more k = by_end k (before k) refl ∙ refl
 
-  -- at the ends of stations of a list
-  pub drains_more : (stations : List ℕ) → sum_by (λ s. misses_at now (drain s)) stations ≡ sum_by (λ s. misses_at before (drain s)) stations + sum_by (λ s. missed_one missed (drain s)) stations
-  drains_more stations = sums_add (λ s. misses_at before (drain s)) (λ s. misses_at now (drain s)) (λ s. missed_one missed (drain s)) stations (λ s. misses_more (drain s))
+  -- at one end each of stations of a list
+  pub sums_more : (end : ℕ → ℕ) (stations : List ℕ) → sum_by (λ s. misses_at now (end s)) stations ≡ sum_by (λ s. misses_at before (end s)) stations + sum_by (λ s. missed_one missed (end s)) stations
+  sums_more end stations = sums_add (λ s. misses_at before (end s)) (λ s. misses_at now (end s)) (λ s. missed_one missed (end s)) stations (λ s. misses_more (end s))
 
-  pub fills_more : (stations : List ℕ) → sum_by (λ s. misses_at now (fill s)) stations ≡ sum_by (λ s. misses_at before (fill s)) stations + sum_by (λ s. missed_one missed (fill s)) stations
-  fills_more stations = sums_add (λ s. misses_at before (fill s)) (λ s. misses_at now (fill s)) (λ s. missed_one missed (fill s)) stations (λ s. misses_more (fill s))
-
-  -- at those of all stations
-  pub voids_more : (n : ℕ) → void_misses now n ≡ void_misses before n + sum_below (λ s. missed_one missed (drain s)) n
-  voids_more n = belows_add (λ s. misses_at before (drain s)) (λ s. misses_at now (drain s)) (λ s. missed_one missed (drain s)) n (λ s. misses_more (drain s))
-
-  pub stops_more : (n : ℕ) → stop_misses now n ≡ stop_misses before n + sum_below (λ s. missed_one missed (fill s)) n
-  stops_more n = belows_add (λ s. misses_at before (fill s)) (λ s. misses_at now (fill s)) (λ s. missed_one missed (fill s)) n (λ s. misses_more (fill s))
+  -- at that of all stations
+  pub belows_more : (end : ℕ → ℕ) (n : ℕ) → sum_below (λ s. misses_at now (end s)) n ≡ sum_below (λ s. misses_at before (end s)) n + sum_below (λ s. missed_one missed (end s)) n
+  belows_more end n = belows_add (λ s. misses_at before (end s)) (λ s. misses_at now (end s)) (λ s. missed_one missed (end s)) n (λ s. misses_more (end s))

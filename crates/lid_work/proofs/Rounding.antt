@@ -1,5 +1,5 @@
 -- Turns one after another: how many each actor has made, and what was counted.
-use Rattle.std.proofs.Common.{◌≡◌, ℕ, zero, suc, ◌+◌, ◌*◌, ◌<◌, ◌≤◌, ◌==◌, nat_lt, inl, inr, Bool, true, false, cond, List, [], ◌∷◌, length, get_or, set, refl, sym, ◌∙◌, ap, subst, arith, length-set, eq-eqb, lt-ltb, le-ltb}
+use Rattle.std.proofs.Common.{◌≡◌, ℕ, zero, suc, ◌+◌, ◌*◌, ◌<◌, ◌≤◌, ◌==◌, nat_lt, inl, inr, Bool, true, false, cond, List, [], ◌∷◌, length, set, refl, sym, ◌∙◌, ap, subst, arith, length-set, eq-eqb, lt-ltb, le-ltb}
 use Rattle.std.specs.Prelude.{Some, slice_get}
 use Rattle.std.specs.List.{sum_by}
 use Rattle.std.proofs.lemmas.List.Sums.{sum_by-cons, sum_by-set}
@@ -9,7 +9,7 @@ use Rattle.std.proofs.Math.Nat.{mul-add}
 use mathlib.Core.Logic.{dite}
 use native.Mathlib.Decide.{ℕ_discrete}
 use Rattle.lid_base.specs.declared.runs.Tally.{Tally}
-use Rattle.lid_station.specs.Boards.{Facts, Ends, fill, drain}
+use Rattle.lid_station.specs.Boards.{Ends, fill, drain}
 use Rattle.lid_board.specs.declared.board.Board.{Board}
 use Rattle.lid_machine.specs.Plans.{ins_of, outs_of}
 use Rattle.lid_machine.specs.Setups.{Setup, plan}
@@ -19,10 +19,10 @@ use Rattle.lid_shell.specs.Boards.{Agrees}
 use Rattle.lid_shell.specs.Steps.{IsOwn}
 use Rattle.lid_shell.specs.declared.turn.TurnEnd.{TurnEnd}
 use Rattle.lid_walk.proofs.Elements.{set_here, set_there, there_is}
-use Rattle.lid_work.specs.Posts.{stations_of, resting, AgreesAt, IsEndOf, AreApart, KeepsEnds}
-use Rattle.lid_work.specs.Tallies.{AddsUp, counted, fired_one, void_one, stop_one, done_one, misses_in, misses_at, misses_of, void_misses, stop_misses, fired_by, done_among}
+use Rattle.lid_work.specs.Posts.{resting, IsEndOf, AreApart, KeepsEnds}
+use Rattle.lid_work.specs.Tallies.{AddsUp, counted, done_one, misses_in, misses_at, misses_of, fired_by, done_among}
 use Rattle.lid_work.specs.Turns.{HasGone}
-use Rattle.lid_work.specs.Order.{at_cap, EndsTurn, MakesTurn}
+use Rattle.lid_work.specs.Order.{at_cap, EndsTurn}
 use Rattle.lid_work.specs.Rounds.{done_turns, Made}
 use Rattle.lid_work.proofs.Making.{one_of_four}
 
@@ -192,6 +192,23 @@ keeps_more first before now so one = record {
       (h, at_h, record { cap = too.cap ∙ kept.cap; start = too.start ∙ kept.start });
 }
 
+-- tallies that are one count the same
+pub record AreAlike (s t : Tally) : Type 0 where
+  pub turns : s.turns ≡ t.turns
+  pub fired : s.fired ≡ t.fired
+  pub voids : s.voids ≡ t.voids
+  pub stops : s.stops ≡ t.stops
+  pub dones : s.dones ≡ t.dones
+
+pub alike : (s t : Tally) → s ≡ t → AreAlike s t
+alike s t same = record {
+  turns = ap (λ (x : Tally). x.turns) same;
+  fired = ap (λ (x : Tally). x.fired) same;
+  voids = ap (λ (x : Tally). x.voids) same;
+  stops = ap (λ (x : Tally). x.stops) same;
+  dones = ap (λ (x : Tally). x.dones) same;
+}
+
 -- actor k makes a turn
 module _ (board : Board) (turns next : ℕ → ℕ) (total : ℕ) (first : Ends) (firsts : List Actor) (none : Tally) (before : Ends) (olds : List Actor) (was : Tally) (now : Ends) (is : Tally)
     (k : ℕ) (a b : Actor) (made : Made board turns total first firsts none before olds was) (apart : AreApart olds)
@@ -244,23 +261,19 @@ module _ (board : Board) (turns next : ℕ → ℕ) (total : ℕ) (first : Ends)
 
   pub one_made : Made board next (total + 1) first firsts none now (set olds k b) is
   one_made =
-      let turns_so = ap (λ (t : Tally). t.turns) turn.counts in
-      let fired_so = ap (λ (t : Tally). t.fired) turn.counts in
-      let voids_so = ap (λ (t : Tally). t.voids) turn.counts in
-      let stops_so = ap (λ (t : Tally). t.stops) turn.counts in
-      let dones_so = ap (λ (t : Tally). t.dones) turn.counts in
+      let so = alike is _ turn.counts in
       let four = one_of_four end in
       record {
         many = length-set olds k b ∙ made.many;
         each = each_then;
         keeps = keeps_more first before now made.keeps turn.keeps;
         others = others_then;
-        turns_are = omega (arith, turns_so, made.turns_are);
+        turns_are = omega (arith, so.turns, made.turns_are);
         fired_are = fired_then;
-        voids_are = omega (arith, voids_so, made.voids_are, turn.voids);
-        stops_are = omega (arith, stops_so, made.stops_are, turn.stops);
-        adds_up = omega (arith, turns_so, fired_so, voids_so, stops_so, dones_so, four, made.adds_up);
-        dones_most = omega (arith, dones_so, made.dones_most, done_more turns next olds k (done_one end) a b at_k here other stays_at_cap turn.done_late);
+        voids_are = omega (arith, so.voids, made.voids_are, turn.voids);
+        stops_are = omega (arith, so.stops, made.stops_are, turn.stops);
+        adds_up = omega (arith, so.turns, so.fired, so.voids, so.stops, so.dones, four, made.adds_up);
+        dones_most = omega (arith, so.dones, made.dones_most, done_more turns next olds k (done_one end) a b at_k here other stays_at_cap turn.done_late);
       }
 
 -- a round, of which the first k turns are made

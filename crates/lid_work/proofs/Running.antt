@@ -1,29 +1,29 @@
 -- What a worker does that shares no station: what the interleaving machine does.
-use Rattle.std.proofs.Common.{◌≡◌, ◌≢◌, ℕ, zero, suc, ◌+◌, ◌<◌, ◌==◌, inl, inr, Bool, true, false, List, [], ◌∷◌, length, set, take, refl, sym, ◌∙◌, ap, subst, arith, length-set}
+use Rattle.std.proofs.Common.{◌≡◌, ◌≢◌, ℕ, zero, suc, ◌+◌, ◌<◌, ◌==◌, Bool, true, false, List, [], ◌∷◌, length, set, take, refl, sym, ◌∙◌, ap, subst, arith, length-set}
 use Rattle.std.specs.Prelude.{Some, slice_get, if◌then◌else◌}
 use Rattle.std.proofs.lemmas.Option.{same_Some}
 use mathlib.Core.Logic.{dite}
 use native.Mathlib.Decide.{ℕ_discrete}
 use Rattle.lid_base.specs.declared.runs.Tally.{Tally}
-use Rattle.lid_station.specs.Boards.{Facts, Ends, fill, drain}
+use Rattle.lid_station.specs.Boards.{Ends, fill, drain}
 use Rattle.lid_board.specs.Owners.{plan_of}
 use Rattle.lid_board.specs.Standing.{StandsFor}
 use Rattle.lid_board.specs.declared.board.Board.{Board}
 use Rattle.lid_runs.specs.Runs.{place_in}
-use Rattle.lid_runs.proofs.Ends.{drained_there, filled_there}
 use Rattle.lid_machine.specs.Plans.{Plan, stations_of, ins_of, outs_of, drainer_of, filler_of, start_of}
-use Rattle.lid_machine.specs.Setups.{Setup, IsSetup, plan}
+use Rattle.lid_machine.specs.Setups.{Setup, plan}
 use Rattle.lid_machine.specs.Machine.{Progress, State, next, until_rest, positions, turn, turn_answer, taken_by, put_by, out_count, in_count}
-use Rattle.lid_machine.proofs.Moves.{elsewhere, out_here, in_here}
+use Rattle.lid_machine.proofs.Moves.{elsewhere}
 use Rattle.lid_shell.specs.declared.actor.Actor.{Actor}
 use Rattle.lid_shell.specs.declared.turn.TurnEnd.{TurnEnd}
 use Rattle.lid_shell.specs.Actors.{IsActor}
-use Rattle.lid_shell.specs.Boards.{HasEnd, Agrees, ServesBoth, ServesAll}
+use Rattle.lid_shell.specs.Boards.{HasEnd, ServesBoth}
 use Rattle.lid_shell.specs.Steps.{Works}
 use Rattle.lid_shell.specs.Turns.{end_at}
 use Rattle.lid_walk.proofs.Elements.{set_here, set_there}
-use Rattle.lid_walk.proofs.Serving.{drains_by, fills_by}
-use Rattle.lid_work.specs.Posts.{resting, AgreesAt, IsEndOf, AreApart}
+use Rattle.lid_walk.proofs.Serving.{drains_by, fills_by, drain_apart, fill_apart, drained_own, filled_own}
+use Rattle.lid_walk.proofs.Turning.{as_far}
+use Rattle.lid_work.specs.Posts.{resting, AgreesAt, IsEndOf}
 use Rattle.lid_work.specs.Tallies.{counted}
 use Rattle.lid_work.specs.Turns.{HasGone}
 use Rattle.lid_work.specs.Alone.{Run, turned, round_of, AreAlone}
@@ -44,9 +44,6 @@ until_else m v (suc fuel) st w other =
 
 pub turn_else : (m : Plan) (st : State) (v w : ℕ) → w ≢ v → turn m st v w ≡ st w
 turn_else m st v w other = until_else m v (positions m v) st w other
-
-as_far : (p q : Progress) → p.fired ≡ q.fired → p.position ≡ q.position → p ≡ q
-as_far p q fired position = ap (λ (n : ℕ). let r : Progress = record { fired = n; position = p.position } in r) fired ∙ ap (λ (n : ℕ). let r : Progress = record { fired = q.fired; position = n } in r) position
 
 -- one turn more of a round
 pub round_more : (m : Plan) (numbers : List ℕ) (k v : ℕ) (r : Run) → slice_get numbers k ≡ Some v → round_of m (take (k + 1) numbers) r ≡ turned m v (round_of m (take k numbers) r)
@@ -90,46 +87,28 @@ module _ (m : Setup) (numbers : List ℕ) (st : State) (board : Board) (before n
   not_v : (i u : ℕ) → (i ≡ k → ⊥) → slice_get numbers i ≡ Some u → u ≢ v
   not_v i u not_k at_u same = not_k (alone.once i k v (subst (λ (n : ℕ). slice_get numbers i ≡ Some n) same at_u) at_v)
 
+  -- an end at which as many tokens passed as v counts, or as another counts, which left it as it was
+  end_then : (end owner count more : ℕ) → ((owner ≡ v → ⊥) → IsEndOf a end → ⊥) → ((owner ≡ v → ⊥) → more ≡ count) → (owner ≡ v → HasEnd now end (λ f. f.passed ≡ more))
+      → HasEnd before end (λ f. f.passed ≡ count) → HasEnd now end (λ f. f.passed ≡ more)
+  end_then end owner count more apart same own (f, at, passed) =
+      dite (ℕ_discrete owner v) own (λ other. (f, others end (apart other) ∙ at, passed ∙ sym (same other)))
+
   -- the two ends of a station
   filled_then : (station : ℕ) → station < stations_of (plan m) → HasEnd before (fill station) (λ f. f.passed ≡ in_count (plan m) st station) → HasEnd now (fill station) (λ f. f.passed ≡ in_count (plan m) new station)
-  filled_then station h (f, at, passed) =
-      dite (ℕ_discrete (filler_of (plan m) station) v)
-      (λ mine.
-      let place = filled_there (plan m).links (plan m).placement v station h mine in
-      let served = works_then.agrees.fills place.0 station place.1 in
-      (served.0, served.1, served.2.passed ∙ sym (in_here (plan m) st v new v place.0 station (fills_by (plan m) v place.0 station place.1))))
-      (λ not_mine. (
-        f,
-        others (fill station) (not_own not_mine) ∙ at,
-        passed ∙ ap (λ (q : Progress). start_of (plan m) station + put_by (plan m) (filler_of (plan m) station) q (place_in (outs_of (plan m) (filler_of (plan m) station)) station)) (sym (turn_else (plan m) st v (filler_of (plan m) station) not_mine)),
-      ))
-    where
-      not_own : (filler_of (plan m) station ≡ v → ⊥) → IsEndOf a (fill station) → ⊥
-      not_own not_mine (s, j, inl own) = omega (arith, own.1)
-      not_own not_mine (s, j, inr own) =
-          let same : s ≡ station = omega (arith, own.1) in
-          let there = fills_by (plan m) v j s (subst (λ (l : List ℕ). slice_get l j ≡ Some s) was.actor.at.fills own.0) in
-          not_mine (ap (filler_of (plan m)) (sym same) ∙ there.filler)
+  filled_then station h =
+      let u = filler_of (plan m) station in
+      end_then (fill station) u (in_count (plan m) st station) (in_count (plan m) new station)
+      (fill_apart m v a.desk.ins.items a.desk.outs.items was.actor.at.drains was.actor.at.fills station)
+      (λ other. ap (λ (q : Progress). start_of (plan m) station + put_by (plan m) u q (place_in (outs_of (plan m) u) station)) (turn_else (plan m) st v u other))
+      (filled_own m new now v works_then.agrees station h)
 
   drained_then : (station : ℕ) → station < stations_of (plan m) → HasEnd before (drain station) (λ f. f.passed ≡ out_count (plan m) st station) → HasEnd now (drain station) (λ f. f.passed ≡ out_count (plan m) new station)
-  drained_then station h (f, at, passed) =
-      dite (ℕ_discrete (drainer_of (plan m) station) v)
-      (λ mine.
-      let place = drained_there (plan m).links (plan m).placement v station h mine in
-      let served = works_then.agrees.drains place.0 station place.1 in
-      (served.0, served.1, served.2.passed ∙ sym (out_here (plan m) st v new v place.0 station (drains_by (plan m) v place.0 station place.1))))
-      (λ not_mine. (
-        f,
-        others (drain station) (not_own not_mine) ∙ at,
-        passed ∙ ap (λ (q : Progress). taken_by (plan m) (drainer_of (plan m) station) q (place_in (ins_of (plan m) (drainer_of (plan m) station)) station)) (sym (turn_else (plan m) st v (drainer_of (plan m) station) not_mine)),
-      ))
-    where
-      not_own : (drainer_of (plan m) station ≡ v → ⊥) → IsEndOf a (drain station) → ⊥
-      not_own not_mine (s, j, inr own) = omega (arith, own.1)
-      not_own not_mine (s, j, inl own) =
-          let same : s ≡ station = omega (arith, own.1) in
-          let there = drains_by (plan m) v j s (subst (λ (l : List ℕ). slice_get l j ≡ Some s) was.actor.at.drains own.0) in
-          not_mine (ap (drainer_of (plan m)) (sym same) ∙ there.drainer)
+  drained_then station h =
+      let u = drainer_of (plan m) station in
+      end_then (drain station) u (out_count (plan m) st station) (out_count (plan m) new station)
+      (drain_apart m v a.desk.ins.items a.desk.outs.items was.actor.at.drains was.actor.at.fills station)
+      (λ other. ap (λ (q : Progress). taken_by (plan m) u q (place_in (ins_of (plan m) u) station)) (turn_else (plan m) st v u other))
+      (drained_own m new now v works_then.agrees station h)
 
   both_then : (station : ℕ) → station < stations_of (plan m) → ServesBoth m st before station → ServesBoth m new now station
   both_then station h both = record { filled = filled_then station h both.filled; drained = drained_then station h both.drained }

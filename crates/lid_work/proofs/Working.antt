@@ -1,6 +1,5 @@
 -- A worker that has made so many rounds.
-use Rattle.std.proofs.Common.{◌≡◌, ℕ, zero, suc, ◌+◌, ◌*◌, ◌<◌, ◌≤◌, List, length, refl, sym, ◌∙◌, ap, subst, arith}
-use Rattle.std.specs.Prelude.{Some, slice_get}
+use Rattle.std.proofs.Common.{◌≡◌, ℕ, suc, ◌+◌, ◌*◌, List, length, refl, sym, ◌∙◌, subst, arith}
 use Rattle.std.proofs.Math.Nat.{add-mul}
 use Rattle.lid_base.specs.declared.runs.Tally.{Tally}
 use Rattle.lid_station.specs.Boards.{Ends}
@@ -9,14 +8,14 @@ use Rattle.lid_board.specs.Owners.{IsOf}
 use Rattle.lid_board.specs.declared.board.Board.{Board}
 use Rattle.lid_machine.specs.Setups.{Setup, plan}
 use Rattle.lid_machine.specs.Machine.{State}
-use Rattle.lid_work.specs.Posts.{known, stations_of, no_turns, IsReady, StaysAt}
-use Rattle.lid_work.specs.Tallies.{AddsUp, fired_by, void_misses, stop_misses, done_among, IsTallyOf}
+use Rattle.lid_work.specs.Posts.{known, no_turns, IsReady, StaysAt}
+use Rattle.lid_work.specs.Tallies.{AddsUp, IsTallyOf}
 use Rattle.lid_work.specs.Turns.{HaveGone}
 use Rattle.lid_work.specs.Alone.{Run, run_from, round_of, rounds_of, WorksAlone, MakesRounds}
 use Rattle.lid_work.specs.Order.{stage_of, TurnsMade, WorksInOrder}
 use Rattle.lid_work.specs.Rounds.{Made, IsRun, GoesRound}
 use Rattle.lid_work.specs.declared.worker.Worker.{Worker}
-use Rattle.lid_work.proofs.Rounding.{none_made, made_as, done_each}
+use Rattle.lid_work.proofs.Rounding.{none_made, made_as, done_each, alike}
 use Rattle.lid_work.proofs.Ordering.{no_rounds_made, one_round_made}
 
 -- what a worker has made since its start
@@ -93,19 +92,15 @@ module _ (board : Board) (rounds : ℕ) (old new : Worker) (ready : IsReady boar
 
   pub tallied : IsTallyOf board rounds old new
   tallied =
-      let turns = ap (λ (t : Tally). t.turns) ready.none in
-      let fired = ap (λ (t : Tally). t.fired) ready.none in
-      let voids = ap (λ (t : Tally). t.voids) ready.none in
-      let stops = ap (λ (t : Tally). t.stops) ready.none in
-      let dones = ap (λ (t : Tally). t.dones) ready.none in
+      let so = alike old.tally _ ready.none in
       let each = done_each rounds new.actors.items in
       record {
-        turns_are = omega (arith, turns, at.made.turns_are);
-        fired_are = omega (arith, fired, at.made.fired_are);
-        voids_are = omega (arith, voids, at.made.voids_are);
-        stops_are = omega (arith, stops, at.made.stops_are);
+        turns_are = omega (arith, so.turns, at.made.turns_are);
+        fired_are = omega (arith, so.fired, at.made.fired_are);
+        voids_are = omega (arith, so.voids, at.made.voids_are);
+        stops_are = omega (arith, so.stops, at.made.stops_are);
         adds_up = at.made.adds_up;
-        dones_most = omega (arith, dones, each, at.made.dones_most);
+        dones_most = omega (arith, so.dones, each, at.made.dones_most);
       }
 
   pub alone : (m : Setup) (numbers : List ℕ) (st : State) → WorksAlone m numbers st board old → MakesRounds m numbers st board rounds new

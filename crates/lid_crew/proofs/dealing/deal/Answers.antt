@@ -1,9 +1,6 @@
-use Rattle.std.proofs.Common.{◌≡◌, ℕ, ◌+◌, ◌%◌, ◌<◌, [], ◌∷◌, ◌++◌, subst, length, get_or, refl, sym, ◌∙◌, ap, arith, length-set}
+use Rattle.std.proofs.Common.{◌≡◌, ℕ, ◌+◌, ◌%◌, ◌<◌, [], ◌∷◌, ◌++◌, subst, length, get_or, refl, sym, ◌∙◌, ap, arith, length-append, length-set}
 use Rattle.std.proofs.lemmas.Option.{slice_get-get_or}
 use Rattle.std.proofs.Math.Nat.{mod-lt, mod-add-mod}
-use Rattle.lid_work.specs.declared.worker.Worker.{Worker}
-use Rattle.lid_crew.specs.Crews.{AreDealt}
-use Rattle.lid_crew.proofs.Lists.{length_snoc}
 use Rattle.lid_crew.proofs.Picking.{dealt_more}
 use Rattle.lid_crew.proofs.dealing.deal.Goals as goal
 
@@ -22,5 +19,5 @@ loop-actor-preserved c =
       next =
           subst (λ (n : ℕ). (k + 1) % n ≡ length (c.loop-actor.yielded ++ c.in-Some.actor ∷ []) % n) (sym (length-set now k _))
           (ap (λ (n : ℕ). (n + 1) % length now) next ∙ mod-add-mod (length c.loop-actor.yielded) (length now) 1
-          ∙ ap (λ (n : ℕ). n % length now) (sym (length_snoc c.loop-actor.yielded c.in-Some.actor)));
+          ∙ ap (λ (n : ℕ). n % length now) (sym (length-append c.loop-actor.yielded (c.in-Some.actor ∷ []))));
     }

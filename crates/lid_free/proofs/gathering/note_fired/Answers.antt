@@ -1,12 +1,12 @@
-use Rattle.std.proofs.Common.{◌≡◌, arith}
+use Rattle.std.proofs.Common.{arith}
 use Rattle.std.proofs.lemmas.Option.{slice_get_within}
 use Rattle.lid_shell.specs.declared.actor.Actor.{Actor}
-use Rattle.lid_free.proofs.Noting.{all_noted}
+use Rattle.lid_crew.proofs.Lists.{mapped}
 use Rattle.lid_free.proofs.gathering.note_fired.Goals as goal
 
 pub returns : goal.returns
 returns c =
-    all_noted (λ (a : Actor). a.desk.fired) c.args.actors.now c.loop-actor.fired c.loop-actor.invariant.many
+    mapped (λ (a : Actor). a.desk.fired) c.args.actors.now c.loop-actor.fired c.loop-actor.invariant.many
     (λ v a at_a.
     let within = slice_get_within c.args.actors.now v a at_a in
     let past = c.loop-actor-test.false in

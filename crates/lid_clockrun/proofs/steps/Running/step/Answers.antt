@@ -19,16 +19,14 @@ cycle-requires-clause-can g c κs within =
 pub overflow_add-self : goal.overflow_add-self
 overflow_add-self g c =
     let (r, given, at, can, goes) = c.requires.ready in
-    let few = few_more r c.args.self.now given at _ _ (ap (λ run. run.stream) c.show.ensures.rest) goes c.cycle.ensures.made c.cycle.ensures.counts in
-    let same = ap (λ run. run.made) c.show.ensures.rest in
-    omega (arith, few, same)
+    let few = few_more r c.args.self.now given at _ _ _ (ap (λ run. run.stream) c.show.ensures.rest) (ap (λ run. run.made) c.show.ensures.rest) goes c.cycle.ensures.made c.cycle.ensures.counts in
+    omega (arith, few)
 
 pub returns-clause-few : goal.returns-clause-few
 returns-clause-few g c =
     let (r, given, at, can, goes) = c.requires.ready in
-    let few = few_more r c.args.self.now given at _ _ (ap (λ run. run.stream) c.show.ensures.rest) goes c.cycle.ensures.made c.cycle.ensures.counts in
-    let same = ap (λ run. run.made) c.show.ensures.rest in
-    omega (arith, few, same)
+    let few = few_more r c.args.self.now given at _ _ _ (ap (λ run. run.stream) c.show.ensures.rest) (ap (λ run. run.made) c.show.ensures.rest) goes c.cycle.ensures.made c.cycle.ensures.counts in
+    omega (arith, few)
 
 pub returns-clause-ok : goal.returns-clause-ok
 returns-clause-ok g c = λ r given at ready goes.
