@@ -1,2 +1,3 @@
+pub mod Scripted
 pub mod Walked
 pub mod Waved

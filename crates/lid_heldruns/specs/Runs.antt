@@ -1,5 +1,5 @@
 -- What runs that hold their rows do once the rows are read.
-use Rattle.std.specs.Prelude.{⊤, ◌≡◌, ◌≤◌, Bool, List, length}
+use Rattle.std.specs.Prelude.{⊤, ◌≡◌, ◌≤◌, ℕ, Bool, List, Option, length}
 use Rattle.std.specs.List.{AllByRecursion}
 use Rattle.lid_agree.specs.Agreement.{IsSystemOf}
 use Rattle.lid_design.specs.declared.Design.{Design}
@@ -7,7 +7,7 @@ use Rattle.lid_design.specs.Columns.{root_inputs}
 use Rattle.lid_system.specs.Systems.{IsWellFormed}
 use Rattle.lid_stations.specs.declared.placement.Placement.{Placement}
 use Rattle.lid_stations.specs.Placements.{Links, Fits}
-use Rattle.lid_script.specs.Scripts.{Script, held_step, freeing_script, schedule_script, waving_script}
+use Rattle.lid_script.specs.Scripts.{Script, freeing_script, schedule_script, waving_script, free_script, walk_script, wave_script}
 use Rattle.lid_heldruns.specs.declared.run.Asked.{Asked}
 use Rattle.lid_heldruns.specs.declared.run.Fed.{Fed}
 use Rattle.lid_heldruns.specs.declared.run.HeldRun.{HeldRun}
@@ -19,9 +19,15 @@ script_for (Free workers rounds tally) d l p rows = freeing_script d l p workers
 script_for (Walk schedule) d l p rows = schedule_script d l p schedule.now rows
 script_for (Wave cycles) d l p rows = waving_script d l p cycles rows
 
--- the steps of a run from its netlist on
+-- the script of the command
+abbrev pub script_by : List ℕ → List ℕ → Option (List ℕ) → Option (List ℕ) → HeldRun → Script
+script_by net vec stations root (Free workers rounds tally) = free_script net vec stations workers rounds tally root
+script_by net vec stations root (Walk schedule) = walk_script net vec schedule.now stations root
+script_by net vec stations root (Wave cycles) = wave_script net vec stations cycles root
+
+-- that of what is asked for
 abbrev pub asked_script : Asked → Script
-asked_script a = held_step a.net.now a.vec.now a.stations.now a.root.now (script_for a.run)
+asked_script a = script_by a.net.now a.vec.now a.stations.now a.root.now a.run
 
 -- there are some workers, and not too many of them or of their rounds; a trace has some cycles and not too many
 abbrev pub IsSoundRun : HeldRun → Type 0

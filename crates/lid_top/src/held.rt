@@ -7,7 +7,7 @@ ghost use Rattle.lid_script.specs.Causes.{IsCause};
 ghost use Rattle.lid_script.specs.Statuses.{HasText};
 ghost use Rattle.lid_top.specs.Held.{is_held};
 
-use lid_base::{Gate, Name, Shelf, Text};
+use lid_base::{Gate, Shelf};
 use lid_cli::Job;
 use lid_emitting::emit_text;
 use lid_generating::gen_text;
@@ -16,29 +16,6 @@ use lid_script::Stop;
 use lid_waving::unwave_text;
 use std::convert::AsStr;
 use std::thread::Threads;
-
-/// What a run that holds its rows is asked for.
-fn asked<'a>(
-    net: &'a Text,
-    vec: &'a Text,
-    stations: &'a Option<Text>,
-    root: &'a Option<Name>,
-    run: HeldRun<'a>,
-) -> Asked<'a>
-    ensures net { result.net.now ≡ net.now }
-    ensures vec { result.vec.now ≡ vec.now }
-    ensures stations { result.stations.now ≡ stations.now }
-    ensures root { result.root.now ≡ root.now }
-    ensures run { result.run ≡ run }
-{
-    Asked {
-        net: net.as_str(),
-        vec: vec.as_str(),
-        stations,
-        root,
-        run,
-    }
-}
 
 /// What `emit`, `free`, `gen`, `unwave`, `walk` or `wave` writes.
 pub fn held_text<'a, R: Threads + AllocGlobal + Sync, S: Shelf, G: Gate>(
@@ -74,7 +51,14 @@ pub fn held_text<'a, R: Threads + AllocGlobal + Sync, S: Shelf, G: Gate>(
                 rounds: *rounds,
                 tally: *tally,
             };
-            run_text(rt, gate, shelf, &asked(net, vec, stations, root, run))
+            let asked = Asked {
+                net: net.as_str(),
+                vec: vec.as_str(),
+                stations,
+                root,
+                run,
+            };
+            run_text(rt, gate, shelf, &asked)
         }
         Job::Gen { seed, shells, run } => gen_text(rt.alloc(), *seed, *shells, run),
         Job::Unwave { file } => unwave_text(rt.alloc(), shelf, file.as_str()),
@@ -85,8 +69,14 @@ pub fn held_text<'a, R: Threads + AllocGlobal + Sync, S: Shelf, G: Gate>(
             stations,
             root,
         } => {
-            let run = HeldRun::Walk(schedule.as_str());
-            run_text(rt, gate, shelf, &asked(net, vec, stations, root, run))
+            let asked = Asked {
+                net: net.as_str(),
+                vec: vec.as_str(),
+                stations,
+                root,
+                run: HeldRun::Walk(schedule.as_str()),
+            };
+            run_text(rt, gate, shelf, &asked)
         }
         Job::Wave {
             net,
@@ -95,8 +85,14 @@ pub fn held_text<'a, R: Threads + AllocGlobal + Sync, S: Shelf, G: Gate>(
             trace,
             root,
         } => {
-            let run = HeldRun::Wave(*trace);
-            run_text(rt, gate, shelf, &asked(net, vec, stations, root, run))
+            let asked = Asked {
+                net: net.as_str(),
+                vec: vec.as_str(),
+                stations,
+                root,
+                run: HeldRun::Wave(*trace),
+            };
+            run_text(rt, gate, shelf, &asked)
         }
         _ => unreachable!(),
     }
