@@ -20,7 +20,7 @@ use Rattle.lid_shell.specs.Steps.{IsOwn}
 use Rattle.lid_shell.specs.declared.turn.TurnEnd.{TurnEnd}
 use Rattle.lid_walk.proofs.Elements.{set_here, set_there, there_is}
 use Rattle.lid_work.specs.Posts.{resting, IsEndOf, AreApart, KeepsEnds}
-use Rattle.lid_work.specs.Tallies.{AddsUp, counted, done_one, misses_in, misses_at, misses_of, fired_by, done_among}
+use Rattle.lid_work.specs.Tallies.{AddsUp, counted, fired_one, done_one, misses_in, misses_at, misses_of, fired_by, done_among}
 use Rattle.lid_work.specs.Turns.{HasGone}
 use Rattle.lid_work.specs.Order.{at_cap, EndsTurn}
 use Rattle.lid_work.specs.Rounds.{done_turns, Made}
