@@ -160,8 +160,7 @@ module _ (board : Board) (before now : Ends) (then_stands : (ℕ → List ℕ) �
     ends_done : (end ≡ Done) ↔ (a.desk.fired ≡ a.desk.cap)
     ends_done =
         let fired_is : a.desk.fired ≡ fired = w.actor.at.fired_is in
-        let capped : a.desk.cap ≡ cap (plan m) v = w.actor.at.capped in
-        (
+        let capped : a.desk.cap ≡ cap (plan m) v = w.actor.at.capped in (
           (λ e. fired_is ∙ t.done.0 e ∙ sym capped),
           (λ at. t.done.1 (sym fired_is ∙ at ∙ capped)),
         )
