@@ -1,16 +1,15 @@
 //! `check`: whether a netlist is accepted, and its nodes and channels.
 
-ghost use Rattle.std.specs.Prelude.{◌≡◌, ◌≤◌, ◌<◌, ℕ, List, Option, Some, length, map, slice_get, IfOk, IfErr};
+ghost use Rattle.std.specs.Prelude.{◌≡◌, ◌≤◌, ◌<◌, Option, length, map, IfOk, IfErr};
 ghost use Rattle.std.specs.List.{AllByRecursion};
 ghost use Rattle.lid_design.specs.WellFormed.{IsWellFormed};
-ghost use Rattle.lid_design.specs.declared.Model.{Model};
 ghost use Rattle.lid_reports.specs.Runs.{report_text};
 ghost use Rattle.lid_system.specs.Systems.{IsWellFormed as IsSystem};
 ghost use Rattle.lid_script.specs.Outputs.{channel_line, report_of, root_name};
 ghost use Rattle.lid_script.specs.Scripts.{report_script, check_step, check_script};
+ghost use Rattle.lid_script.specs.Whole.{RunsWhole, RunsAnywhere};
 ghost use Rattle.lid_commands.specs.Reported.{IsReported};
-ghost use Rattle.lid_script.specs.Causes.{IsCause, IsWant, FailsNet};
-ghost use Rattle.lid_script.specs.Statuses.{HasText};
+ghost use Rattle.lid_script.specs.Causes.{FailsNet};
 
 use lid_base::{Items, Name, Shelf, copy_name};
 use lid_check::Checked;
@@ -100,8 +99,7 @@ fn system_text<'a>(alloc: Global, checked: &Checked) -> Result<Vec<u8>, Stop<'a>
 /// What `check` writes after it has read a netlist, whatever the shelf holds.
 fn checked_text<'a>(alloc: Global, design: Design, root: &Option<Name>) -> Result<Vec<u8>, Stop<'a>>
     requires { IsWellFormed design }
-    ensures ok { IfOk result (λ text. (held : List ℕ → Option (List ℕ)) → HasText held (check_step root.now design report_script) text.items) }
-    ensures err { IfErr result (λ stop. (held : List ℕ → Option (List ℕ)) (before after : List ℕ → ℕ) → IsCause held (check_step root.now design report_script) before after stop) }
+    ensures { RunsAnywhere (check_step root.now design report_script) result }
 {
     match accept(alloc, design, root) {
         Ok(checked) => system_text(alloc, &checked),
@@ -116,10 +114,7 @@ pub fn check_text<'a, S: Shelf>(
     net: &'a str,
     root: &Option<Name>,
 ) -> Result<Vec<u8>, Stop<'a>>
-    ensures ok { IfOk result (λ text. HasText (S.held shelf.old) (check_script net.now root.now) text.items) }
-    ensures err { IfErr result (IsCause (S.held shelf.old) (check_script net.now root.now) (S.faults shelf.old) (S.faults shelf.new)) }
-    ensures kept { S.held shelf.new ≡ S.held shelf.old }
-    ensures grows { (q : List ℕ) → S.faults shelf.old q ≤ S.faults shelf.new q }
+    ensures { RunsWhole (S.held shelf.old) (S.held shelf.new) (check_script net.now root.now) (S.faults shelf.old) (S.faults shelf.new) result }
 {
     match read_net(alloc, shelf, net) {
         Ok(design) => checked_text(alloc, design, root),

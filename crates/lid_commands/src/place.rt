@@ -1,10 +1,10 @@
 //! `place`: the relay stations that wires of such lengths need.
 
-ghost use Rattle.std.specs.Prelude.{◌≡◌, ℕ, ◌≤◌, List, IfOk, IfErr};
+ghost use Rattle.std.specs.Prelude.{◌≡◌, ◌≤◌, IfOk, IfErr};
 ghost use Rattle.lid_placetext.specs.Written.{stations_text};
-ghost use Rattle.lid_script.specs.Causes.{IsCause, IsWant};
+ghost use Rattle.lid_script.specs.Causes.{IsWant};
 ghost use Rattle.lid_script.specs.Scripts.{wires_script, place_script};
-ghost use Rattle.lid_script.specs.Statuses.{HasText};
+ghost use Rattle.lid_script.specs.Whole.{RunsWhole};
 ghost use Rattle.lid_stations.specs.Placements.{links_of, Fits};
 ghost use Rattle.lid_system.specs.Systems.{IsWellFormed as IsSystem};
 
@@ -42,10 +42,7 @@ fn wires_text<'a, S: Shelf>(
 ) -> Result<Vec<u8>, Stop<'a>>
     requires system { IsSystem system.now }
     requires reach { 1 ≤ reach }
-    ensures ok { IfOk result (λ text. HasText (S.held shelf.old) (wires_script (links_of system.now) wires.now reach) text.items) }
-    ensures err { IfErr result (IsCause (S.held shelf.old) (wires_script (links_of system.now) wires.now reach) (S.faults shelf.old) (S.faults shelf.new)) }
-    ensures kept { S.held shelf.new ≡ S.held shelf.old }
-    ensures grows { (q : List ℕ) → S.faults shelf.old q ≤ S.faults shelf.new q }
+    ensures { RunsWhole (S.held shelf.old) (S.held shelf.new) (wires_script (links_of system.now) wires.now reach) (S.faults shelf.old) (S.faults shelf.new) result }
 {
     match read_wires(alloc, shelf, system, wires, reach) {
         Ok(placement) => stations_text(alloc, system, &placement),
@@ -63,10 +60,7 @@ pub fn place_text<'a, S: Shelf>(
     root: &Option<Name>,
 ) -> Result<Vec<u8>, Stop<'a>>
     requires { 1 ≤ reach }
-    ensures ok { IfOk result (λ text. HasText (S.held shelf.old) (place_script net.now wires.now reach root.now) text.items) }
-    ensures err { IfErr result (IsCause (S.held shelf.old) (place_script net.now wires.now reach root.now) (S.faults shelf.old) (S.faults shelf.new)) }
-    ensures kept { S.held shelf.new ≡ S.held shelf.old }
-    ensures grows { (q : List ℕ) → S.faults shelf.old q ≤ S.faults shelf.new q }
+    ensures { RunsWhole (S.held shelf.old) (S.held shelf.new) (place_script net.now wires.now reach root.now) (S.faults shelf.old) (S.faults shelf.new) result }
 {
     match read_system(alloc, shelf, net, root) {
         Ok(system) => wires_text(alloc, shelf, &system, wires, reach),

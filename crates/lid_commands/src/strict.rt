@@ -1,11 +1,11 @@
 //! `strict`: the strict outputs of a netlist.
 
-ghost use Rattle.std.specs.Prelude.{◌≡◌, ℕ, ◌≤◌, List, IfOk, IfErr};
+ghost use Rattle.std.specs.Prelude.{IfOk, IfErr};
 ghost use Rattle.lid_design.specs.WellFormed.{IsWellFormed};
 ghost use Rattle.lid_script.specs.Outputs.{IsStrictText};
 ghost use Rattle.lid_script.specs.Scripts.{rows_script, checked_script, strict_script};
-ghost use Rattle.lid_script.specs.Causes.{IsCause, IsWant};
-ghost use Rattle.lid_script.specs.Statuses.{HasText};
+ghost use Rattle.lid_script.specs.Whole.{RunsWhole};
+ghost use Rattle.lid_script.specs.Causes.{IsWant};
 
 use lid_base::{Name, Shelf};
 use lid_check::Checked;
@@ -37,10 +37,7 @@ fn rows_text<'a, S: Shelf>(
     checked: &Checked,
     vec: &'a str,
 ) -> Result<Vec<u8>, Stop<'a>>
-    ensures ok { IfOk result (λ text. HasText (S.held shelf.old) (rows_script checked.now vec.now) text.items) }
-    ensures err { IfErr result (IsCause (S.held shelf.old) (rows_script checked.now vec.now) (S.faults shelf.old) (S.faults shelf.new)) }
-    ensures kept { S.held shelf.new ≡ S.held shelf.old }
-    ensures grows { (q : List ℕ) → S.faults shelf.old q ≤ S.faults shelf.new q }
+    ensures { RunsWhole (S.held shelf.old) (S.held shelf.new) (rows_script checked.now vec.now) (S.faults shelf.old) (S.faults shelf.new) result }
 {
     match read_vec(alloc, shelf, checked, vec) {
         Ok(rows) => outputs_text(alloc, checked, &rows),
@@ -57,10 +54,7 @@ fn checked_text<'a, S: Shelf>(
     root: &Option<Name>,
 ) -> Result<Vec<u8>, Stop<'a>>
     requires { IsWellFormed design }
-    ensures ok { IfOk result (λ text. HasText (S.held shelf.old) (checked_script design vec.now root.now) text.items) }
-    ensures err { IfErr result (IsCause (S.held shelf.old) (checked_script design vec.now root.now) (S.faults shelf.old) (S.faults shelf.new)) }
-    ensures kept { S.held shelf.new ≡ S.held shelf.old }
-    ensures grows { (q : List ℕ) → S.faults shelf.old q ≤ S.faults shelf.new q }
+    ensures { RunsWhole (S.held shelf.old) (S.held shelf.new) (checked_script design vec.now root.now) (S.faults shelf.old) (S.faults shelf.new) result }
 {
     match accept(alloc, design, root) {
         Ok(checked) => rows_text(alloc, shelf, &checked, vec),
@@ -76,10 +70,7 @@ pub fn strict_text<'a, S: Shelf>(
     vec: &'a str,
     root: &Option<Name>,
 ) -> Result<Vec<u8>, Stop<'a>>
-    ensures ok { IfOk result (λ text. HasText (S.held shelf.old) (strict_script net.now vec.now root.now) text.items) }
-    ensures err { IfErr result (IsCause (S.held shelf.old) (strict_script net.now vec.now root.now) (S.faults shelf.old) (S.faults shelf.new)) }
-    ensures kept { S.held shelf.new ≡ S.held shelf.old }
-    ensures grows { (q : List ℕ) → S.faults shelf.old q ≤ S.faults shelf.new q }
+    ensures { RunsWhole (S.held shelf.old) (S.held shelf.new) (strict_script net.now vec.now root.now) (S.faults shelf.old) (S.faults shelf.new) result }
 {
     match read_net(alloc, shelf, net) {
         Ok(design) => checked_text(alloc, shelf, design, vec, root),

@@ -1,11 +1,11 @@
 //! `rate`, `size` and `slack`: what is told of a system and its stations.
 
-ghost use Rattle.std.specs.Prelude.{◌≡◌, ℕ, ◌≤◌, List, IfOk, IfErr};
+ghost use Rattle.std.specs.Prelude.{IfOk, IfErr};
 ghost use Rattle.lid_commands.specs.Telling.{output_of};
-ghost use Rattle.lid_script.specs.Causes.{IsCause, IsWant};
+ghost use Rattle.lid_script.specs.Causes.{IsWant};
 ghost use Rattle.lid_script.specs.Outputs.{throughput, sized, slacks, IsTextOf};
 ghost use Rattle.lid_script.specs.Scripts.{placement_step, told_script, telling_script};
-ghost use Rattle.lid_script.specs.Statuses.{HasText};
+ghost use Rattle.lid_script.specs.Whole.{RunsWhole};
 ghost use Rattle.lid_stations.specs.Markings.{marking};
 ghost use Rattle.lid_stations.specs.Placements.{links_of, Fits};
 ghost use Rattle.lid_system.specs.Systems.{IsWellFormed as IsSystem};
@@ -87,10 +87,7 @@ fn placed_text<'a, S: Shelf>(
     stations: &'a Option<Text>,
 ) -> Result<Vec<u8>, Stop<'a>>
     requires { IsSystem system.now }
-    ensures ok { IfOk result (λ text. HasText (S.held shelf.old) (placement_step (links_of system.now) stations.now (told_script (output_of asked) (links_of system.now))) text.items) }
-    ensures err { IfErr result (IsCause (S.held shelf.old) (placement_step (links_of system.now) stations.now (told_script (output_of asked) (links_of system.now))) (S.faults shelf.old) (S.faults shelf.new)) }
-    ensures kept { S.held shelf.new ≡ S.held shelf.old }
-    ensures grows { (q : List ℕ) → S.faults shelf.old q ≤ S.faults shelf.new q }
+    ensures { RunsWhole (S.held shelf.old) (S.held shelf.new) (placement_step (links_of system.now) stations.now (told_script (output_of asked) (links_of system.now))) (S.faults shelf.old) (S.faults shelf.new) result }
 {
     match read_placement(alloc, shelf, system, stations) {
         Ok(placement) => told_text(alloc, asked, system, &placement),
@@ -107,10 +104,7 @@ fn telling_text<'a, S: Shelf>(
     stations: &'a Option<Text>,
     root: &Option<Name>,
 ) -> Result<Vec<u8>, Stop<'a>>
-    ensures ok { IfOk result (λ text. HasText (S.held shelf.old) (telling_script (output_of asked) net.now stations.now root.now) text.items) }
-    ensures err { IfErr result (IsCause (S.held shelf.old) (telling_script (output_of asked) net.now stations.now root.now) (S.faults shelf.old) (S.faults shelf.new)) }
-    ensures kept { S.held shelf.new ≡ S.held shelf.old }
-    ensures grows { (q : List ℕ) → S.faults shelf.old q ≤ S.faults shelf.new q }
+    ensures { RunsWhole (S.held shelf.old) (S.held shelf.new) (telling_script (output_of asked) net.now stations.now root.now) (S.faults shelf.old) (S.faults shelf.new) result }
 {
     match read_system(alloc, shelf, net, root) {
         Ok(system) => placed_text(alloc, asked, shelf, &system, stations),
@@ -126,10 +120,7 @@ pub fn rate_text<'a, S: Shelf>(
     stations: &'a Option<Text>,
     root: &Option<Name>,
 ) -> Result<Vec<u8>, Stop<'a>>
-    ensures ok { IfOk result (λ text. HasText (S.held shelf.old) (telling_script throughput net.now stations.now root.now) text.items) }
-    ensures err { IfErr result (IsCause (S.held shelf.old) (telling_script throughput net.now stations.now root.now) (S.faults shelf.old) (S.faults shelf.new)) }
-    ensures kept { S.held shelf.new ≡ S.held shelf.old }
-    ensures grows { (q : List ℕ) → S.faults shelf.old q ≤ S.faults shelf.new q }
+    ensures { RunsWhole (S.held shelf.old) (S.held shelf.new) (telling_script throughput net.now stations.now root.now) (S.faults shelf.old) (S.faults shelf.new) result }
 {
     telling_text(alloc, Asked::Rate, shelf, net, stations, root)
 }
@@ -142,10 +133,7 @@ pub fn size_text<'a, S: Shelf>(
     stations: &'a Option<Text>,
     root: &Option<Name>,
 ) -> Result<Vec<u8>, Stop<'a>>
-    ensures ok { IfOk result (λ text. HasText (S.held shelf.old) (telling_script sized net.now stations.now root.now) text.items) }
-    ensures err { IfErr result (IsCause (S.held shelf.old) (telling_script sized net.now stations.now root.now) (S.faults shelf.old) (S.faults shelf.new)) }
-    ensures kept { S.held shelf.new ≡ S.held shelf.old }
-    ensures grows { (q : List ℕ) → S.faults shelf.old q ≤ S.faults shelf.new q }
+    ensures { RunsWhole (S.held shelf.old) (S.held shelf.new) (telling_script sized net.now stations.now root.now) (S.faults shelf.old) (S.faults shelf.new) result }
 {
     telling_text(alloc, Asked::Size, shelf, net, stations, root)
 }
@@ -158,10 +146,7 @@ pub fn slack_text<'a, S: Shelf>(
     stations: &'a Option<Text>,
     root: &Option<Name>,
 ) -> Result<Vec<u8>, Stop<'a>>
-    ensures ok { IfOk result (λ text. HasText (S.held shelf.old) (telling_script slacks net.now stations.now root.now) text.items) }
-    ensures err { IfErr result (IsCause (S.held shelf.old) (telling_script slacks net.now stations.now root.now) (S.faults shelf.old) (S.faults shelf.new)) }
-    ensures kept { S.held shelf.new ≡ S.held shelf.old }
-    ensures grows { (q : List ℕ) → S.faults shelf.old q ≤ S.faults shelf.new q }
+    ensures { RunsWhole (S.held shelf.old) (S.held shelf.new) (telling_script slacks net.now stations.now root.now) (S.faults shelf.old) (S.faults shelf.new) result }
 {
     telling_text(alloc, Asked::Slack, shelf, net, stations, root)
 }

@@ -1,11 +1,11 @@
 //! `verify`: whether a certificate shows the throughput.
 
-ghost use Rattle.std.specs.Prelude.{◌≡◌, ℕ, ◌≤◌, true, List, Option, IfOk, IfErr};
+ghost use Rattle.std.specs.Prelude.{◌≡◌, true, Option, IfOk, IfErr};
 ghost use Rattle.std.specs.List.{All};
 ghost use Rattle.lid_cert.specs.Certificates.{ascends, IsInRange};
-ghost use Rattle.lid_script.specs.Causes.{IsCause, IsWant};
+ghost use Rattle.lid_script.specs.Causes.{IsWant};
 ghost use Rattle.lid_script.specs.Scripts.{IsJudged, placement_step, judging_script, cert_script, verify_script};
-ghost use Rattle.lid_script.specs.Statuses.{HasText};
+ghost use Rattle.lid_script.specs.Whole.{RunsWhole, RunsAnywhere};
 ghost use Rattle.lid_stations.specs.Markings.{marking};
 ghost use Rattle.lid_stations.specs.Placements.{links_of, Fits};
 ghost use Rattle.lid_system.specs.Systems.{IsWellFormed as IsSystem};
@@ -59,8 +59,7 @@ fn judged_text<'a>(
     requires system { IsSystem system.now }
     requires fits { Fits system.now placement.now }
     requires range { IsInRange cert.now }
-    ensures ok { IfOk result (λ text. (held : List ℕ → Option (List ℕ)) → HasText held (judging_script (links_of system.now) placement.now cert.now) text.items) }
-    ensures err { IfErr result (λ stop. (held : List ℕ → Option (List ℕ)) (before after : List ℕ → ℕ) → IsCause held (judging_script (links_of system.now) placement.now cert.now) before after stop) }
+    ensures { RunsAnywhere (judging_script (links_of system.now) placement.now cert.now) result }
 {
     match judge(alloc, system, placement, cert) {
         Ok(true) => shown_text(alloc, cert, system.nodes.len() as u32 - 1),
@@ -79,10 +78,7 @@ fn cert_text<'a, S: Shelf>(
 ) -> Result<Vec<u8>, Stop<'a>>
     requires system { IsSystem system.now }
     requires fits { Fits system.now placement.now }
-    ensures ok { IfOk result (λ text. HasText (S.held shelf.old) (cert_script (links_of system.now) placement.now cert.now) text.items) }
-    ensures err { IfErr result (IsCause (S.held shelf.old) (cert_script (links_of system.now) placement.now cert.now) (S.faults shelf.old) (S.faults shelf.new)) }
-    ensures kept { S.held shelf.new ≡ S.held shelf.old }
-    ensures grows { (q : List ℕ) → S.faults shelf.old q ≤ S.faults shelf.new q }
+    ensures { RunsWhole (S.held shelf.old) (S.held shelf.new) (cert_script (links_of system.now) placement.now cert.now) (S.faults shelf.old) (S.faults shelf.new) result }
 {
     match read_cert(alloc, shelf, cert) {
         Ok(cert) => judged_text(alloc, system, placement, &cert),
@@ -99,10 +95,7 @@ fn placed_text<'a, S: Shelf>(
     cert: &'a str,
 ) -> Result<Vec<u8>, Stop<'a>>
     requires { IsSystem system.now }
-    ensures ok { IfOk result (λ text. HasText (S.held shelf.old) (placement_step (links_of system.now) stations.now (λ p. cert_script (links_of system.now) p cert.now)) text.items) }
-    ensures err { IfErr result (IsCause (S.held shelf.old) (placement_step (links_of system.now) stations.now (λ p. cert_script (links_of system.now) p cert.now)) (S.faults shelf.old) (S.faults shelf.new)) }
-    ensures kept { S.held shelf.new ≡ S.held shelf.old }
-    ensures grows { (q : List ℕ) → S.faults shelf.old q ≤ S.faults shelf.new q }
+    ensures { RunsWhole (S.held shelf.old) (S.held shelf.new) (placement_step (links_of system.now) stations.now (λ p. cert_script (links_of system.now) p cert.now)) (S.faults shelf.old) (S.faults shelf.new) result }
 {
     match read_placement(alloc, shelf, system, stations) {
         Ok(placement) => cert_text(alloc, shelf, system, &placement, cert),
@@ -119,10 +112,7 @@ pub fn verify_text<'a, S: Shelf>(
     stations: &'a Option<Text>,
     root: &Option<Name>,
 ) -> Result<Vec<u8>, Stop<'a>>
-    ensures ok { IfOk result (λ text. HasText (S.held shelf.old) (verify_script net.now cert.now stations.now root.now) text.items) }
-    ensures err { IfErr result (IsCause (S.held shelf.old) (verify_script net.now cert.now stations.now root.now) (S.faults shelf.old) (S.faults shelf.new)) }
-    ensures kept { S.held shelf.new ≡ S.held shelf.old }
-    ensures grows { (q : List ℕ) → S.faults shelf.old q ≤ S.faults shelf.new q }
+    ensures { RunsWhole (S.held shelf.old) (S.held shelf.new) (verify_script net.now cert.now stations.now root.now) (S.faults shelf.old) (S.faults shelf.new) result }
 {
     match read_system(alloc, shelf, net, root) {
         Ok(system) => placed_text(alloc, shelf, &system, stations, cert),

@@ -1,13 +1,13 @@
 //! `emit`: the wrapped design as a netlist.
 
-ghost use Rattle.std.specs.Prelude.{◌≡◌, ℕ, ◌≤◌, List, Option, IfOk, IfErr};
+ghost use Rattle.std.specs.Prelude.{◌≡◌, Option, IfOk, IfErr};
 ghost use Rattle.lid_agree.specs.Agreement.{IsSystemOf};
 ghost use Rattle.lid_blifout.specs.Canonical.{canonical_text};
 ghost use Rattle.lid_blifout.specs.Writable.{IsWritable};
 ghost use Rattle.lid_design.specs.WellFormed.{IsWellFormed};
-ghost use Rattle.lid_script.specs.Causes.{IsCause, IsWant};
+ghost use Rattle.lid_script.specs.Causes.{IsWant};
 ghost use Rattle.lid_script.specs.Scripts.{placement_step, wrapping_script, wrapped_script, check_step, emit_script};
-ghost use Rattle.lid_script.specs.Statuses.{HasText};
+ghost use Rattle.lid_script.specs.Whole.{RunsWhole, RunsAnywhere};
 ghost use Rattle.lid_stations.specs.Placements.{links_of, Fits};
 ghost use Rattle.lid_system.specs.Systems.{IsWellFormed as IsSystem};
 ghost use Rattle.lid_emitting.specs.Spelling.{HasSpelledPorts};
@@ -46,8 +46,7 @@ fn wrapped_text<'a>(
     requires system { IsSystem system.now }
     requires fits { Fits system.now placement.now }
     requires spelled { HasSpelledPorts checked.now }
-    ensures ok { IfOk result (λ text. (held : List ℕ → Option (List ℕ)) → HasText held (wrapping_script checked.now (links_of system.now) placement.now) text.items) }
-    ensures err { IfErr result (λ stop. (held : List ℕ → Option (List ℕ)) (before after : List ℕ → ℕ) → IsCause held (wrapping_script checked.now (links_of system.now) placement.now) before after stop) }
+    ensures { RunsAnywhere (wrapping_script checked.now (links_of system.now) placement.now) result }
 {
     match emit(alloc, checked, system, placement) {
         Ok(design) => design_text(alloc, &design),
@@ -66,10 +65,7 @@ fn placed_text<'a, S: Shelf>(
     requires of { IsSystemOf checked.now system.now }
     requires system { IsSystem system.now }
     requires spelled { HasSpelledPorts checked.now }
-    ensures ok { IfOk result (λ text. HasText (S.held shelf.old) (placement_step (links_of system.now) stations.now (wrapping_script checked.now (links_of system.now))) text.items) }
-    ensures err { IfErr result (IsCause (S.held shelf.old) (placement_step (links_of system.now) stations.now (wrapping_script checked.now (links_of system.now))) (S.faults shelf.old) (S.faults shelf.new)) }
-    ensures kept { S.held shelf.new ≡ S.held shelf.old }
-    ensures grows { (q : List ℕ) → S.faults shelf.old q ≤ S.faults shelf.new q }
+    ensures { RunsWhole (S.held shelf.old) (S.held shelf.new) (placement_step (links_of system.now) stations.now (wrapping_script checked.now (links_of system.now))) (S.faults shelf.old) (S.faults shelf.new) result }
 {
     match read_placement(alloc, shelf, system, stations) {
         Ok(placement) => wrapped_text(alloc, checked, system, &placement),
@@ -85,10 +81,7 @@ fn built_text<'a, S: Shelf>(
     stations: &'a Option<Text>,
 ) -> Result<Vec<u8>, Stop<'a>>
     requires { HasSpelledPorts checked.now }
-    ensures ok { IfOk result (λ text. HasText (S.held shelf.old) (wrapped_script checked.now stations.now) text.items) }
-    ensures err { IfErr result (IsCause (S.held shelf.old) (wrapped_script checked.now stations.now) (S.faults shelf.old) (S.faults shelf.new)) }
-    ensures kept { S.held shelf.new ≡ S.held shelf.old }
-    ensures grows { (q : List ℕ) → S.faults shelf.old q ≤ S.faults shelf.new q }
+    ensures { RunsWhole (S.held shelf.old) (S.held shelf.new) (wrapped_script checked.now stations.now) (S.faults shelf.old) (S.faults shelf.new) result }
 {
     match build_system(alloc, checked) {
         Ok(system) => placed_text(alloc, shelf, checked, &system, stations),
@@ -106,10 +99,7 @@ fn read_text<'a, S: Shelf>(
 ) -> Result<Vec<u8>, Stop<'a>>
     requires formed { IsWellFormed design }
     requires spelled { HasSpelledPorts design }
-    ensures ok { IfOk result (λ text. HasText (S.held shelf.old) (check_step root.now design (λ checked. wrapped_script checked stations.now)) text.items) }
-    ensures err { IfErr result (IsCause (S.held shelf.old) (check_step root.now design (λ checked. wrapped_script checked stations.now)) (S.faults shelf.old) (S.faults shelf.new)) }
-    ensures kept { S.held shelf.new ≡ S.held shelf.old }
-    ensures grows { (q : List ℕ) → S.faults shelf.old q ≤ S.faults shelf.new q }
+    ensures { RunsWhole (S.held shelf.old) (S.held shelf.new) (check_step root.now design (λ checked. wrapped_script checked stations.now)) (S.faults shelf.old) (S.faults shelf.new) result }
 {
     match accept(alloc, design, root) {
         Ok(checked) => built_text(alloc, shelf, &checked, stations),
@@ -129,10 +119,7 @@ pub fn emit_text<'a, S: Shelf>(
     stations: &'a Option<Text>,
     root: &Option<Name>,
 ) -> Result<Vec<u8>, Stop<'a>>
-    ensures ok { IfOk result (λ text. HasText (S.held shelf.old) (emit_script net.now stations.now root.now) text.items) }
-    ensures err { IfErr result (IsCause (S.held shelf.old) (emit_script net.now stations.now root.now) (S.faults shelf.old) (S.faults shelf.new)) }
-    ensures kept { S.held shelf.new ≡ S.held shelf.old }
-    ensures grows { (q : List ℕ) → S.faults shelf.old q ≤ S.faults shelf.new q }
+    ensures { RunsWhole (S.held shelf.old) (S.held shelf.new) (emit_script net.now stations.now root.now) (S.faults shelf.old) (S.faults shelf.new) result }
 {
     match read_net(alloc, shelf, net) {
         Ok(design) => read_text(alloc, shelf, design, stations, root),

@@ -1,13 +1,12 @@
 //! `free`: the strict output rows, by threads that turn actors at shared stations.
 
-ghost use Rattle.std.specs.Prelude.{◌≡◌, ◌++◌, ℕ, ◌≤◌, if◌then◌else◌, List, [], Option, IfOk, IfErr};
+ghost use Rattle.std.specs.Prelude.{◌≡◌, ◌++◌, ◌≤◌, if◌then◌else◌, [], IfOk};
 ghost use Rattle.lid_heldruns.specs.Runs.{IsFed};
 ghost use Rattle.lid_reports.specs.Runs.{tallies_text};
 ghost use Rattle.lid_texts.specs.RowsText.{rows_text};
-ghost use Rattle.lid_script.specs.Causes.{IsCause};
 ghost use Rattle.lid_script.specs.Freed.{IsFreeText};
 ghost use Rattle.lid_script.specs.Scripts.{freeing_script};
-ghost use Rattle.lid_script.specs.Statuses.{HasText};
+ghost use Rattle.lid_script.specs.Whole.{RunsAnywhere};
 ghost use Rattle.lid_stations.specs.Placements.{links_of};
 
 use crate::run::Fed;
@@ -77,8 +76,7 @@ pub(crate) fn freed_text<'a, R: Threads + AllocGlobal + Sync, G: Gate>(
     requires some { 1 ≤ workers }
     requires most { workers ≤ 64 }
     requires rounds { rounds ≤ 1000000 }
-    ensures ok { IfOk result (λ text. (held : List ℕ → Option (List ℕ)) → HasText held (freeing_script fed.now.checked.now (links_of fed.now.system.now) fed.now.placement.now workers rounds tally fed.now.rows.now.bits) text.items) }
-    ensures err { IfErr result (λ stop. (held : List ℕ → Option (List ℕ)) (before after : List ℕ → ℕ) → IsCause held (freeing_script fed.now.checked.now (links_of fed.now.system.now) fed.now.placement.now workers rounds tally fed.now.rows.now.bits) before after stop) }
+    ensures { RunsAnywhere (freeing_script fed.now.checked.now (links_of fed.now.system.now) fed.now.placement.now workers rounds tally fed.now.rows.now.bits) result }
 {
     match run_text(rt, gate, fed, workers, rounds, tally) {
         Ok(text) => Ok(text),

@@ -1,11 +1,9 @@
 //! The steps of a run that holds its rows: from the netlist to the text.
 
-ghost use Rattle.std.specs.Prelude.{◌≡◌, ℕ, ◌≤◌, List, IfOk, IfErr};
 ghost use Rattle.lid_agree.specs.Agreement.{IsSystemOf};
 ghost use Rattle.lid_design.specs.WellFormed.{IsWellFormed};
-ghost use Rattle.lid_script.specs.Causes.{IsCause};
 ghost use Rattle.lid_script.specs.Scripts.{rows_step, placement_step, built_step, check_step};
-ghost use Rattle.lid_script.specs.Statuses.{HasText};
+ghost use Rattle.lid_script.specs.Whole.{RunsWhole};
 ghost use Rattle.lid_stations.specs.Placements.{links_of, Fits};
 ghost use Rattle.lid_system.specs.Systems.{IsWellFormed as IsSystem};
 ghost use Rattle.lid_heldruns.specs.Runs.{script_for, asked_script, IsFed, IsSoundRun};
@@ -32,10 +30,7 @@ fn fed_text<'a, R: Threads + AllocGlobal + Sync, S: Shelf, G: Gate>(
 ) -> Result<Vec<u8>, Stop<'a>>
     requires fed { IsFed fed.now }
     requires sound { IsSoundRun run }
-    ensures ok { IfOk result (λ text. HasText (S.held shelf.old) (script_for run.entry fed.now.checked.now (links_of fed.now.system.now) fed.now.placement.now fed.now.rows.now.bits) text.items) }
-    ensures err { IfErr result (IsCause (S.held shelf.old) (script_for run.entry fed.now.checked.now (links_of fed.now.system.now) fed.now.placement.now fed.now.rows.now.bits) (S.faults shelf.old) (S.faults shelf.new)) }
-    ensures kept { S.held shelf.new ≡ S.held shelf.old }
-    ensures grows { (q : List ℕ) → S.faults shelf.old q ≤ S.faults shelf.new q }
+    ensures { RunsWhole (S.held shelf.old) (S.held shelf.new) (script_for run.entry fed.now.checked.now (links_of fed.now.system.now) fed.now.placement.now fed.now.rows.now.bits) (S.faults shelf.old) (S.faults shelf.new) result }
 {
     match run {
         HeldRun::Walk(schedule) => walked_text(rt.alloc(), shelf, fed, schedule),
@@ -62,10 +57,7 @@ fn placed_text<'a, R: Threads + AllocGlobal + Sync, S: Shelf, G: Gate>(
     requires fits { Fits system.now placement.now }
     requires of { IsSystemOf checked.now system.now }
     requires sound { IsSoundRun asked.now.run }
-    ensures ok { IfOk result (λ text. HasText (S.held shelf.old) (rows_step checked.now asked.now.vec.now (script_for asked.now.run checked.now (links_of system.now) placement.now)) text.items) }
-    ensures err { IfErr result (IsCause (S.held shelf.old) (rows_step checked.now asked.now.vec.now (script_for asked.now.run checked.now (links_of system.now) placement.now)) (S.faults shelf.old) (S.faults shelf.new)) }
-    ensures kept { S.held shelf.new ≡ S.held shelf.old }
-    ensures grows { (q : List ℕ) → S.faults shelf.old q ≤ S.faults shelf.new q }
+    ensures { RunsWhole (S.held shelf.old) (S.held shelf.new) (rows_step checked.now asked.now.vec.now (script_for asked.now.run checked.now (links_of system.now) placement.now)) (S.faults shelf.old) (S.faults shelf.new) result }
 {
     match read_vec(rt.alloc(), shelf, checked, asked.vec) {
         Ok(rows) => {
@@ -93,10 +85,7 @@ fn built_text<'a, R: Threads + AllocGlobal + Sync, S: Shelf, G: Gate>(
     requires system { IsSystem system.now }
     requires of { IsSystemOf checked.now system.now }
     requires sound { IsSoundRun asked.now.run }
-    ensures ok { IfOk result (λ text. HasText (S.held shelf.old) (placement_step (links_of system.now) asked.now.stations.now (λ p. rows_step checked.now asked.now.vec.now (script_for asked.now.run checked.now (links_of system.now) p))) text.items) }
-    ensures err { IfErr result (IsCause (S.held shelf.old) (placement_step (links_of system.now) asked.now.stations.now (λ p. rows_step checked.now asked.now.vec.now (script_for asked.now.run checked.now (links_of system.now) p))) (S.faults shelf.old) (S.faults shelf.new)) }
-    ensures kept { S.held shelf.new ≡ S.held shelf.old }
-    ensures grows { (q : List ℕ) → S.faults shelf.old q ≤ S.faults shelf.new q }
+    ensures { RunsWhole (S.held shelf.old) (S.held shelf.new) (placement_step (links_of system.now) asked.now.stations.now (λ p. rows_step checked.now asked.now.vec.now (script_for asked.now.run checked.now (links_of system.now) p))) (S.faults shelf.old) (S.faults shelf.new) result }
 {
     match read_placement(rt.alloc(), shelf, system, asked.stations) {
         Ok(placement) => placed_text(rt, gate, shelf, checked, system, &placement, asked),
@@ -113,10 +102,7 @@ fn checked_text<'a, R: Threads + AllocGlobal + Sync, S: Shelf, G: Gate>(
     asked: &Asked<'a>,
 ) -> Result<Vec<u8>, Stop<'a>>
     requires { IsSoundRun asked.now.run }
-    ensures ok { IfOk result (λ text. HasText (S.held shelf.old) (built_step checked.now asked.now.vec.now asked.now.stations.now (script_for asked.now.run checked.now)) text.items) }
-    ensures err { IfErr result (IsCause (S.held shelf.old) (built_step checked.now asked.now.vec.now asked.now.stations.now (script_for asked.now.run checked.now)) (S.faults shelf.old) (S.faults shelf.new)) }
-    ensures kept { S.held shelf.new ≡ S.held shelf.old }
-    ensures grows { (q : List ℕ) → S.faults shelf.old q ≤ S.faults shelf.new q }
+    ensures { RunsWhole (S.held shelf.old) (S.held shelf.new) (built_step checked.now asked.now.vec.now asked.now.stations.now (script_for asked.now.run checked.now)) (S.faults shelf.old) (S.faults shelf.new) result }
 {
     match build_system(rt.alloc(), checked) {
         Ok(system) => built_text(rt, gate, shelf, checked, &system, asked),
@@ -134,10 +120,7 @@ fn read_text<'a, R: Threads + AllocGlobal + Sync, S: Shelf, G: Gate>(
 ) -> Result<Vec<u8>, Stop<'a>>
     requires formed { IsWellFormed design }
     requires sound { IsSoundRun asked.now.run }
-    ensures ok { IfOk result (λ text. HasText (S.held shelf.old) (check_step asked.now.root.now design (λ checked. built_step checked asked.now.vec.now asked.now.stations.now (script_for asked.now.run checked))) text.items) }
-    ensures err { IfErr result (IsCause (S.held shelf.old) (check_step asked.now.root.now design (λ checked. built_step checked asked.now.vec.now asked.now.stations.now (script_for asked.now.run checked))) (S.faults shelf.old) (S.faults shelf.new)) }
-    ensures kept { S.held shelf.new ≡ S.held shelf.old }
-    ensures grows { (q : List ℕ) → S.faults shelf.old q ≤ S.faults shelf.new q }
+    ensures { RunsWhole (S.held shelf.old) (S.held shelf.new) (check_step asked.now.root.now design (λ checked. built_step checked asked.now.vec.now asked.now.stations.now (script_for asked.now.run checked))) (S.faults shelf.old) (S.faults shelf.new) result }
 {
     match accept(rt.alloc(), design, asked.root) {
         Ok(checked) => checked_text(rt, gate, shelf, &checked, asked),
@@ -158,10 +141,7 @@ pub fn run_text<'a, R: Threads + AllocGlobal + Sync, S: Shelf, G: Gate>(
     asked: &Asked<'a>,
 ) -> Result<Vec<u8>, Stop<'a>>
     requires { IsSoundRun asked.now.run }
-    ensures ok { IfOk result (λ text. HasText (S.held shelf.old) (asked_script asked.now) text.items) }
-    ensures err { IfErr result (IsCause (S.held shelf.old) (asked_script asked.now) (S.faults shelf.old) (S.faults shelf.new)) }
-    ensures kept { S.held shelf.new ≡ S.held shelf.old }
-    ensures grows { (q : List ℕ) → S.faults shelf.old q ≤ S.faults shelf.new q }
+    ensures { RunsWhole (S.held shelf.old) (S.held shelf.new) (asked_script asked.now) (S.faults shelf.old) (S.faults shelf.new) result }
 {
     match read_net(rt.alloc(), shelf, asked.net) {
         Ok(design) => read_text(rt, gate, shelf, design, asked),

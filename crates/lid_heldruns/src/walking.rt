@@ -1,14 +1,13 @@
 //! `walk`: what actors answer along a schedule.
 
-ghost use Rattle.std.specs.Prelude.{◌≡◌, ◌++◌, ◌<◌, ℕ, ◌≤◌, List, IfOk, IfErr, OnOk};
+ghost use Rattle.std.specs.Prelude.{◌≡◌, ◌++◌, ◌<◌, IfOk, OnOk};
 ghost use Rattle.std.specs.List.{AllByRecursion};
 ghost use Rattle.lid_heldruns.specs.Runs.{IsFed};
 ghost use Rattle.lid_machine.specs.Plans.{actors_of};
 ghost use Rattle.lid_machine.specs.Setups.{Setup, plan};
 ghost use Rattle.lid_machine.specs.Machine.{State, answers, after_all};
-ghost use Rattle.lid_script.specs.Causes.{IsCause, IsWant};
 ghost use Rattle.lid_script.specs.Scripts.{schedule_script};
-ghost use Rattle.lid_script.specs.Statuses.{HasText};
+ghost use Rattle.lid_script.specs.Whole.{RunsWhole};
 ghost use Rattle.lid_script.specs.Walked.{answer_lines, IsWalkText};
 ghost use Rattle.lid_stations.specs.Placements.{links_of, Fits};
 ghost use Rattle.lid_stations.specs.Stations.{actor_count};
@@ -68,10 +67,7 @@ pub(crate) fn walked_text<'a, S: Shelf>(
     schedule: &'a str,
 ) -> Result<Vec<u8>, Stop<'a>>
     requires { IsFed fed.now }
-    ensures ok { IfOk result (λ text. HasText (S.held shelf.old) (schedule_script fed.now.checked.now (links_of fed.now.system.now) fed.now.placement.now schedule.now fed.now.rows.now.bits) text.items) }
-    ensures err { IfErr result (IsCause (S.held shelf.old) (schedule_script fed.now.checked.now (links_of fed.now.system.now) fed.now.placement.now schedule.now fed.now.rows.now.bits) (S.faults shelf.old) (S.faults shelf.new)) }
-    ensures kept { S.held shelf.new ≡ S.held shelf.old }
-    ensures grows { (q : List ℕ) → S.faults shelf.old q ≤ S.faults shelf.new q }
+    ensures { RunsWhole (S.held shelf.old) (S.held shelf.new) (schedule_script fed.now.checked.now (links_of fed.now.system.now) fed.now.placement.now schedule.now fed.now.rows.now.bits) (S.faults shelf.old) (S.faults shelf.new) result }
 {
     match read_schedule_file(alloc, shelf, actors_of(fed.system, fed.placement), schedule) {
         Ok(list) => match lines_text(alloc, fed, list.as_slice()) {

@@ -1,10 +1,9 @@
 //! `wave`: the trace of the clocked run as a value change dump.
 
-ghost use Rattle.std.specs.Prelude.{◌≡◌, ℕ, ◌≤◌, List, Option, IfOk, IfErr};
+ghost use Rattle.std.specs.Prelude.{◌≤◌};
 ghost use Rattle.lid_heldruns.specs.Runs.{IsFed};
-ghost use Rattle.lid_script.specs.Causes.{IsCause};
 ghost use Rattle.lid_script.specs.Scripts.{waving_script};
-ghost use Rattle.lid_script.specs.Statuses.{HasText};
+ghost use Rattle.lid_script.specs.Whole.{RunsAnywhere};
 ghost use Rattle.lid_stations.specs.Placements.{links_of};
 
 use crate::run::Fed;
@@ -17,8 +16,7 @@ pub(crate) fn waved_text<'a>(alloc: Global, fed: &Fed<'_>, cycles: u64) -> Resul
     requires fed { IsFed fed.now }
     requires some { 1 ≤ cycles }
     requires most { cycles ≤ 1048576 }
-    ensures ok { IfOk result (λ text. (held : List ℕ → Option (List ℕ)) → HasText held (waving_script fed.now.checked.now (links_of fed.now.system.now) fed.now.placement.now cycles fed.now.rows.now.bits) text.items) }
-    ensures err { IfErr result (λ stop. (held : List ℕ → Option (List ℕ)) (before after : List ℕ → ℕ) → IsCause held (waving_script fed.now.checked.now (links_of fed.now.system.now) fed.now.placement.now cycles fed.now.rows.now.bits) before after stop) }
+    ensures { RunsAnywhere (waving_script fed.now.checked.now (links_of fed.now.system.now) fed.now.placement.now cycles fed.now.rows.now.bits) result }
 {
     match judge_trace(fed.placement, &Some(cycles)) {
         Ok(()) => match dump_text(

@@ -1,6 +1,8 @@
 -- A script that ends as another one may, and reaches the files that the other one reaches: what the run of
 -- the other one shows, it shows.
-use Rattle.std.proofs.Common.{◌≡◌, ℕ, ◌≤◌, true, List, Option, Some, None, Result, Err, IfOk, IfErr, inl, inr, refl, sym, subst}
+use Rattle.std.proofs.Common.{◌≡◌, ℕ, ◌≤◌, true, List, Option, Some, None, Result, Err, IfOk, IfErr, inl, inr, refl, sym, ◌∙◌, subst, arith}
+use Rattle.std.specs.declared.alloc.Global.{Global}
+use Rattle.std.specs.declared.vec.Vec.{Vec}
 use Rattle.lid_base.proofs.Results.{if_ok, on_ok, if_err}
 use Rattle.lid_design.specs.declared.Design.{Design}
 use Rattle.lid_system.specs.declared.Channel.{Channel}
@@ -14,10 +16,11 @@ use Rattle.lid_script.specs.declared.fault.End.{End}
 use Rattle.lid_script.specs.declared.fault.End.TheVariants.{Stopped, Unwritten}
 use Rattle.lid_script.specs.Outputs.{Output, IsTextOf}
 use Rattle.lid_script.specs.Scripts.{Ending, refuses, denies, gives, Script, decide, end as ended, Reading, good, step, read_step, net_limit, net_reading, check_step, net_step, system_step, IsChecked, IsUnchecked, HasChannels, IsOverfull, links, text_limit, stations_read, placement_step, stalls_read, stalls_step, EndsIn, Reaches}
-use Rattle.lid_script.specs.Causes.{Got, GotSystem, GotPlacement, GotStalls, IsCause, IsEnd}
+use Rattle.lid_script.specs.Causes.{Got, GotSystem, GotPlacement, GotStalls, IsCause, IsEnd, IsWant}
 use Rattle.lid_script.specs.Statuses.{HasText, Writes, WritesPrefix, TellsAll, Leaves}
 use Rattle.lid_script.specs.Early.{RunsEarly}
-use Rattle.lid_script.proofs.Composition.{rose_later}
+use Rattle.lid_script.specs.Whole.{RunsWhole, RunsAnywhere}
+use Rattle.lid_script.proofs.Composition.{rose_later, want_anywhere}
 
 pub record Within (held : List ℕ → Option (List ℕ)) (inner outer : Script) : Type 0 where
   pub ends : (ending : Ending) → EndsIn held inner ending → EndsIn held outer ending
@@ -144,18 +147,45 @@ module _ {held : List ℕ → Option (List ℕ)} {inner outer : Script} (w : Wit
   cause_within result before mid after same grows h =
       if_err result (λ stop x. same_cause held inner outer w before mid after stop grows (subst (λ (v : List ℕ → Option (List ℕ)). IsCause v inner mid after stop) same x)) h
 
-  -- whatever the shelf holds
-  pub text_anywhere : {A E : Type 0} (items : A → List ℕ) (result : Result A E) → IfOk result (λ a. (v : List ℕ → Option (List ℕ)) → HasText v inner (items a)) → IfOk result (λ a. HasText held outer (items a))
-  text_anywhere items result h = if_ok result (λ a x. has_text held inner outer w (items a) (x held)) h
+-- a whole run of the inner script, over the shelf that a step has left
+pub whole_within : {held now later : List ℕ → Option (List ℕ)} {inner outer : Script} {before mid after : List ℕ → ℕ} {result : Result (Vec ℕ Global) Stop} → Within held inner outer → now ≡ held
+    → ((q : List ℕ) → before q ≤ mid q) → RunsWhole now later inner mid after result → RunsWhole held later outer before after result
+whole_within {before = before} {mid = mid} {after = after} {result = result} w same grows r = record {
+  ok = text_within w (λ text. text.items) result same r.ok;
+  err = cause_within w result before mid after same grows r.err;
+  kept = r.kept ∙ same;
+  grows = λ q. let first = grows q in let then = r.grows q in omega (arith, first, then);
+}
 
-  pub cause_anywhere : {A : Type 0} (result : Result A Stop) (before after : List ℕ → ℕ) → ((q : List ℕ) → before q ≤ after q)
-      → IfErr result (λ stop. (v : List ℕ → Option (List ℕ)) (b a : List ℕ → ℕ) → IsCause v inner b a stop) → IfErr result (λ stop. IsCause held outer before after stop)
-  cause_anywhere result before after grows h = if_err result (λ stop x. same_cause held inner outer w before after after stop grows (x held after after)) h
+-- a run that stops at a step
+pub whole_stopped : {held now : List ℕ → Option (List ℕ)} {script : Script} {before after : List ℕ → ℕ} {stop : Stop} → IsCause held script before after stop → now ≡ held
+    → ((q : List ℕ) → before q ≤ after q) → RunsWhole held now script before after (Err stop)
+whole_stopped cause same grows = record { ok = tt; err = cause; kept = same; grows = grows }
+
+-- a run without a shelf
+pub whole_anywhere : {held now : List ℕ → Option (List ℕ)} {inner outer : Script} {before after : List ℕ → ℕ} {result : Result (Vec ℕ Global) Stop} → Within held inner outer
+    → RunsAnywhere inner result → now ≡ held → ((q : List ℕ) → before q ≤ after q) → RunsWhole held now outer before after result
+whole_anywhere {held = held} {inner = inner} {outer = outer} {before = before} {after = after} {result = result} w r same grows = record {
+  ok = if_ok result (λ text has. has_text held inner outer w text.items (has held)) r.ok;
+  err = if_err result (λ stop cause. same_cause held inner outer w before after after stop grows (cause held after after)) r.err;
+  kept = same;
+  grows = grows;
+}
 
 -- the same of a call that gives the output in which the script ends
 module _ {held : List ℕ → Option (List ℕ)} {output : Output} {outer : Script} (w : Within held (ended (gives output)) outer) where
   pub text_given : {A E : Type 0} (items : A → List ℕ) (result : Result A E) → IfOk result (λ a. IsTextOf output (items a)) → IfOk result (λ a. HasText held outer (items a))
   text_given items result h = if_ok result (λ a x. has_text held (ended (gives output)) outer w (items a) (record { output = output; ends = refl; text_of = x })) h
+
+-- a run whose last call wants nothing but memory
+pub whole_given : {held now : List ℕ → Option (List ℕ)} {output : Output} {outer : Script} {before after : List ℕ → ℕ} {result : Result (Vec ℕ Global) Stop} → Within held (ended (gives output)) outer
+    → IfOk result (λ text. IsTextOf output text.items) → IfErr result IsWant → now ≡ held → ((q : List ℕ) → before q ≤ after q) → RunsWhole held now outer before after result
+whole_given {held = held} {outer = outer} {before = before} {after = after} {result = result} w given wants same grows = record {
+  ok = text_given w (λ text. text.items) result given;
+  err = if_err result (want_anywhere held outer before after) wants;
+  kept = same;
+  grows = grows;
+}
 
 -- the run stops before anything is written
 pub runs_stopped : {O : Type 0} (held : List ℕ → Option (List ℕ)) (script : Script) (before after : List ℕ → ℕ) (written : O → Option (List ℕ)) (writes : O → ℕ) (out : O) (stop : Stop)

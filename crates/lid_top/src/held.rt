@@ -1,10 +1,9 @@
 //! Jobs whose output is told by what their runs hold.
 
-ghost use Rattle.std.specs.Prelude.{◌≡◌, ℕ, ◌≤◌, true, List, IfOk, IfErr};
+ghost use Rattle.std.specs.Prelude.{◌≡◌, true};
 ghost use Rattle.lid_cli.specs.Jobs.{IsSound};
 ghost use Rattle.lid_script.specs.Scripts.{script_of};
-ghost use Rattle.lid_script.specs.Causes.{IsCause};
-ghost use Rattle.lid_script.specs.Statuses.{HasText};
+ghost use Rattle.lid_script.specs.Whole.{RunsWhole};
 ghost use Rattle.lid_top.specs.Held.{is_held};
 
 use lid_base::{Gate, Shelf};
@@ -26,10 +25,7 @@ pub fn held_text<'a, R: Threads + AllocGlobal + Sync, S: Shelf, G: Gate>(
 ) -> Result<Vec<u8>, Stop<'a>>
     requires held { is_held job.now ≡ true }
     requires sound { IsSound job.now }
-    ensures ok { IfOk result (λ text. HasText (S.held shelf.old) (script_of job.now) text.items) }
-    ensures err { IfErr result (IsCause (S.held shelf.old) (script_of job.now) (S.faults shelf.old) (S.faults shelf.new)) }
-    ensures kept { S.held shelf.new ≡ S.held shelf.old }
-    ensures grows { (q : List ℕ) → S.faults shelf.old q ≤ S.faults shelf.new q }
+    ensures { RunsWhole (S.held shelf.old) (S.held shelf.new) (script_of job.now) (S.faults shelf.old) (S.faults shelf.new) result }
 {
     match job {
         Job::Emit {

@@ -1,11 +1,12 @@
 //! Jobs and their outputs.
 
-ghost use Rattle.std.specs.Prelude.{◌≡◌, ℕ, ◌≤◌, false, List, [], OnOk, OnErr, IfOk, IfErr};
+ghost use Rattle.std.specs.Prelude.{◌≡◌, false, [], OnOk, OnErr, IfErr};
 ghost use Rattle.lid_base.specs.Outside.{Rose, Appended, AppendedPrefix};
 ghost use Rattle.lid_cli.specs.Jobs.{IsSound};
 ghost use Rattle.lid_script.specs.Scripts.{script_of};
-ghost use Rattle.lid_script.specs.Causes.{IsCause, IsEnd, IsStopped, IsRefusal};
-ghost use Rattle.lid_script.specs.Statuses.{HasText, Writes, WritesPrefix, TellsAll, Leaves, writes_early};
+ghost use Rattle.lid_script.specs.Whole.{RunsWhole};
+ghost use Rattle.lid_script.specs.Causes.{IsEnd, IsStopped, IsRefusal};
+ghost use Rattle.lid_script.specs.Statuses.{Writes, WritesPrefix, TellsAll, Leaves, writes_early};
 
 use crate::held::held_text;
 use lid_base::{Gate, Shelf, Sink, SinkFailed};
@@ -29,10 +30,7 @@ fn text_of<'a, R: Threads + AllocGlobal + Sync, S: Shelf, G: Gate>(
 ) -> Result<Vec<u8>, Stop<'a>>
     requires whole { writes_early job.now ≡ false }
     requires sound { IsSound job.now }
-    ensures ok { IfOk result (λ text. HasText (S.held shelf.old) (script_of job.now) text.items) }
-    ensures err { IfErr result (IsCause (S.held shelf.old) (script_of job.now) (S.faults shelf.old) (S.faults shelf.new)) }
-    ensures kept { S.held shelf.new ≡ S.held shelf.old }
-    ensures grows { (q : List ℕ) → S.faults shelf.old q ≤ S.faults shelf.new q }
+    ensures { RunsWhole (S.held shelf.old) (S.held shelf.new) (script_of job.now) (S.faults shelf.old) (S.faults shelf.new) result }
 {
     match job {
         Job::Check { net, root } => check_text(rt.alloc(), shelf, net.as_str(), root),

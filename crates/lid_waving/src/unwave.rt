@@ -2,9 +2,9 @@
 
 ghost use Rattle.std.specs.Prelude.{◌≡◌, ℕ, ◌≤◌, List, IfOk, IfErr};
 ghost use Rattle.lid_reports.specs.Runs.{trace_text};
-ghost use Rattle.lid_script.specs.Causes.{Declines, Got, IsCause, IsWant, Misses};
+ghost use Rattle.lid_script.specs.Causes.{Declines, Got, IsWant, Misses};
 ghost use Rattle.lid_script.specs.Scripts.{good, dump_limit, dump_read, unwave_script};
-ghost use Rattle.lid_script.specs.Statuses.{HasText};
+ghost use Rattle.lid_script.specs.Whole.{RunsWhole};
 ghost use Rattle.lid_wave.specs.Writable.{IsWritable};
 
 use lid_base::Shelf;
@@ -65,10 +65,7 @@ pub fn unwave_text<'a, S: Shelf>(
     shelf: &mut S,
     file: &'a str,
 ) -> Result<Vec<u8>, Stop<'a>>
-    ensures ok { IfOk result (λ text. HasText (S.held shelf.old) (unwave_script file.now) text.items) }
-    ensures err { IfErr result (IsCause (S.held shelf.old) (unwave_script file.now) (S.faults shelf.old) (S.faults shelf.new)) }
-    ensures kept { S.held shelf.new ≡ S.held shelf.old }
-    ensures grows { (q : List ℕ) → S.faults shelf.old q ≤ S.faults shelf.new q }
+    ensures { RunsWhole (S.held shelf.old) (S.held shelf.new) (unwave_script file.now) (S.faults shelf.old) (S.faults shelf.new) result }
 {
     match read_dump(alloc, shelf, file) {
         Ok(trace) => text_of(alloc, &trace),
