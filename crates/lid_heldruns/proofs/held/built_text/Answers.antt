@@ -22,5 +22,5 @@ returns-in-Err g c =
     let l = links_of c.args.system.now in
     whole_stopped
     (cause_unplaced (g.S.Shelf.held c.args.shelf.now) l (next c.args.asked.now c.args.checked.now l) c.args.asked.now.stations.now (g.S.Shelf.faults c.args.shelf.now) (g.S.Shelf.faults c.read_placement.new.shelf)
-        c.in-Err.stop c.in-Err.ensures.err)
+    c.in-Err.stop c.in-Err.ensures.err)
     c.in-Err.ensures.kept c.in-Err.ensures.grows

@@ -17,5 +17,5 @@ returns-in-Err g c =
     let d = c.args.checked.now in
     whole_stopped
     (cause_here (g.S.Shelf.held c.args.shelf.now) c.args.asked.now.vec.now rows_limit (vec_reading d) (script_for c.args.asked.now.run d (links_of c.args.system.now) c.args.placement.now)
-        (g.S.Shelf.faults c.args.shelf.now) (g.S.Shelf.faults c.read_vec.new.shelf) c.in-Err.stop c.in-Err.ensures.err)
+    (g.S.Shelf.faults c.args.shelf.now) (g.S.Shelf.faults c.read_vec.new.shelf) c.in-Err.stop c.in-Err.ensures.err)
     c.in-Err.ensures.kept c.in-Err.ensures.grows

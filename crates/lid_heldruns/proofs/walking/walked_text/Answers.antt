@@ -34,5 +34,5 @@ returns g c =
     let after = g.S.Shelf.faults c.read_schedule_file.new.shelf in
     whole_stopped
     (cause_here held c.args.schedule.now text_limit (schedule_read (actor_count (links_of f.system.now) f.placement.now)) (next f) before after c.in-Err.stop
-        (subst (λ (n : ℕ). Misses held c.args.schedule.now text_limit (schedule_read n) before after c.in-Err.stop) c.actors_of.ensures c.in-Err.ensures.err))
+    (subst (λ (n : ℕ). Misses held c.args.schedule.now text_limit (schedule_read n) before after c.in-Err.stop) c.actors_of.ensures c.in-Err.ensures.err))
     c.in-Err.ensures.kept c.in-Err.ensures.grows
