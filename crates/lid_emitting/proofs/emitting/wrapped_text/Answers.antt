@@ -21,19 +21,20 @@ emit-requires c = record {
 pub design_text-requires : goal.design_text-requires
 design_text-requires c = let is = c.in-Ok.ensures.ok.1 in is.writable
 
-pub returns-in-Ok-clause-ok : goal.returns-in-Ok-clause-ok
-returns-in-Ok-clause-ok c =
-    if_ok c.design_text.result
-    (λ text h held. emit_has_text held c.args.checked.now (links_of c.args.system.now) c.args.placement.now c.in-Ok.design text.items c.in-Ok.ensures.ok.0 c.in-Ok.ensures.ok.1 h)
-    c.design_text.ensures.ok
+pub returns-in-Ok : goal.returns-in-Ok
+returns-in-Ok c =
+    let l = links_of c.args.system.now in
+    record {
+      ok = if_ok c.design_text.result (λ text h held. emit_has_text held c.args.checked.now l c.args.placement.now c.in-Ok.design text.items c.in-Ok.ensures.ok.0 c.in-Ok.ensures.ok.1 h) c.design_text.ensures.ok;
+      err = if_err c.design_text.result (λ stop h held before after. want_anywhere held (wrapping_script c.args.checked.now l c.args.placement.now) before after stop h) c.design_text.ensures.err;
+    }
 
-pub returns-in-Ok-clause-err : goal.returns-in-Ok-clause-err
-returns-in-Ok-clause-err c =
-    if_err c.design_text.result
-    (λ stop h held before after. want_anywhere held (wrapping_script c.args.checked.now (links_of c.args.system.now) c.args.placement.now) before after stop h)
-    c.design_text.ensures.err
-
-pub returns-in-Err-clause-err : goal.returns-in-Err-clause-err
-returns-in-Err-clause-err c = λ held before after.
-    subst (IsCause held (wrapping_script c.args.checked.now (links_of c.args.system.now) c.args.placement.now) before after) (sym c.emit_stop.ensures)
-    (emit_has_cause held c.args.checked.now (links_of c.args.system.now) c.args.placement.now before after c.in-Err.fault c.in-Err.ensures.err)
+pub returns-in-Err : goal.returns-in-Err
+returns-in-Err c =
+    let l = links_of c.args.system.now in
+    record {
+      ok = tt;
+      err = λ held before after.
+          subst (IsCause held (wrapping_script c.args.checked.now l c.args.placement.now) before after) (sym c.emit_stop.ensures)
+          (emit_has_cause held c.args.checked.now l c.args.placement.now before after c.in-Err.fault c.in-Err.ensures.err);
+    }
