@@ -95,7 +95,12 @@ fn placed_text<'a, S: Shelf>(
     }
 }
 
-/// What `rate`, `size` or `slack` writes.
+/// What `rate`, `size` or `slack` writes. The netlist is read, whose root may be named, and its system built; then
+/// the stations are read, where a file of them is named. Each file has at most 16,777,216 bytes.
+///
+/// # Errors
+/// As the script has them: a file that is not read, the first fault of the netlist or of the stations, too many
+/// channels; and want of memory.
 pub fn telling_text<'a, S: Shelf>(
     alloc: Global,
     shelf: &mut S,
