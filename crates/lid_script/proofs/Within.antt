@@ -138,24 +138,12 @@ module _ (held : List ℕ → Option (List ℕ)) (inner outer : Script) (w : Wit
     runs_within now before mid after out out_after result same grows r =
         runs_on before mid after out out_after result grows (subst (λ (h : List ℕ → Option (List ℕ)). RunsEarly h inner mid after written writes out out_after result) same r)
 
--- what a call gives that ends as the inner script does
-module _ {held : List ℕ → Option (List ℕ)} {inner outer : Script} (w : Within held inner outer) where
-  -- over a shelf that holds the same
-  pub text_within : {A E : Type 0} {now : List ℕ → Option (List ℕ)} (items : A → List ℕ) (result : Result A E) → now ≡ held → IfOk result (λ a. HasText now inner (items a)) → IfOk result (λ a. HasText held outer (items a))
-  text_within items result same h = if_ok result (λ a x. has_text held inner outer w (items a) (subst (λ (v : List ℕ → Option (List ℕ)). HasText v inner (items a)) same x)) h
-
-  -- and after counts have grown
-  pub cause_within : {A : Type 0} {now : List ℕ → Option (List ℕ)} (result : Result A Stop) (before mid after : List ℕ → ℕ) → now ≡ held → ((q : List ℕ) → before q ≤ mid q)
-      → IfErr result (λ stop. IsCause now inner mid after stop) → IfErr result (λ stop. IsCause held outer before after stop)
-  cause_within result before mid after same grows h =
-      if_err result (λ stop x. same_cause held inner outer w before mid after stop grows (subst (λ (v : List ℕ → Option (List ℕ)). IsCause v inner mid after stop) same x)) h
-
 -- a whole run of the inner script, over the shelf that a step has left
 pub whole_within : {held now later : List ℕ → Option (List ℕ)} {inner outer : Script} {before mid after : List ℕ → ℕ} {result : Result (Vec ℕ Global) Stop} → Within held inner outer → now ≡ held
     → ((q : List ℕ) → before q ≤ mid q) → RunsWhole now later inner mid after result → RunsWhole held later outer before after result
-whole_within {before = before} {mid = mid} {after = after} {result = result} w same grows r = record {
-  ok = text_within w (λ text. text.items) result same r.ok;
-  err = cause_within w result before mid after same grows r.err;
+whole_within {held = held} {inner = inner} {outer = outer} {before = before} {mid = mid} {after = after} {result = result} w same grows r = record {
+  ok = if_ok result (λ text has. has_text held inner outer w text.items (subst (λ (v : List ℕ → Option (List ℕ)). HasText v inner text.items) same has)) r.ok;
+  err = if_err result (λ stop cause. same_cause held inner outer w before mid after stop grows (subst (λ (v : List ℕ → Option (List ℕ)). IsCause v inner mid after stop) same cause)) r.err;
   kept = r.kept ∙ same;
   grows = λ q. let first = grows q in let then = r.grows q in omega (arith, first, then);
 }
@@ -175,19 +163,27 @@ whole_anywhere {held = held} {inner = inner} {outer = outer} {before = before} {
   grows = grows;
 }
 
--- the same of a call that gives the output in which the script ends
-module _ {held : List ℕ → Option (List ℕ)} {output : Output} {outer : Script} (w : Within held (ended (gives output)) outer) where
-  pub text_given : {A E : Type 0} (items : A → List ℕ) (result : Result A E) → IfOk result (λ a. IsTextOf output (items a)) → IfOk result (λ a. HasText held outer (items a))
-  text_given items result h = if_ok result (λ a x. has_text held (ended (gives output)) outer w (items a) (record { output = output; ends = refl; text_of = x })) h
-
 -- a run whose last call wants nothing but memory
 pub whole_given : {held now : List ℕ → Option (List ℕ)} {output : Output} {outer : Script} {before after : List ℕ → ℕ} {result : Result (Vec ℕ Global) Stop} → Within held (ended (gives output)) outer
     → IfOk result (λ text. IsTextOf output text.items) → IfErr result IsWant → now ≡ held → ((q : List ℕ) → before q ≤ after q) → RunsWhole held now outer before after result
-whole_given {held = held} {outer = outer} {before = before} {after = after} {result = result} w given wants same grows = record {
-  ok = text_given w (λ text. text.items) result given;
+whole_given {held = held} {output = output} {outer = outer} {before = before} {after = after} {result = result} w given wants same grows = record {
+  ok = if_ok result (λ text is. has_text held (ended (gives output)) outer w text.items (record { output = output; ends = refl; text_of = is })) given;
   err = if_err result (want_anywhere held outer before after) wants;
   kept = same;
   grows = grows;
+}
+
+-- without a shelf too: a run of the inner script, and the end of a script, which wants nothing but memory
+pub anywhere_within : {inner outer : Script} {result : Result (Vec ℕ Global) Stop} → ((held : List ℕ → Option (List ℕ)) → Within held inner outer) → RunsAnywhere inner result → RunsAnywhere outer result
+anywhere_within {inner = inner} {outer = outer} {result = result} w r = record {
+  ok = if_ok result (λ text has held. has_text held inner outer (w held) text.items (has held)) r.ok;
+  err = if_err result (λ stop cause held before after. same_cause held inner outer (w held) before before after stop (λ q. omega arith) (cause held before after)) r.err;
+}
+
+pub anywhere_given : {output : Output} {result : Result (Vec ℕ Global) Stop} → IfOk result (λ text. IsTextOf output text.items) → IfErr result IsWant → RunsAnywhere (ended (gives output)) result
+anywhere_given {output = output} {result = result} given wants = record {
+  ok = if_ok result (λ text is held. record { output = output; ends = refl; text_of = is }) given;
+  err = if_err result (λ stop want held before after. want_anywhere held (ended (gives output)) before after stop want) wants;
 }
 
 -- the run stops before anything is written

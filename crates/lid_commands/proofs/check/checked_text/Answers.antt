@@ -1,6 +1,5 @@
 use Rattle.lid_script.proofs.Composition.{cause_unchecked}
-use Rattle.lid_script.proofs.Within.{within_checked}
-use Rattle.lid_commands.proofs.Anywhere.{anywhere_within}
+use Rattle.lid_script.proofs.Within.{within_checked, anywhere_within}
 use Rattle.lid_commands.proofs.check.checked_text.Goals as goal
 
 pub returns-in-Ok : goal.returns-in-Ok

@@ -1,8 +1,7 @@
 use Rattle.lid_script.specs.Outputs.{report}
 use Rattle.lid_script.specs.Scripts.{end as ended, gives, HasChannels, IsOverfull, report_script}
 use Rattle.lid_script.proofs.Composition.{cause_undecided}
-use Rattle.lid_script.proofs.Within.{within_decided}
-use Rattle.lid_commands.proofs.Anywhere.{anywhere_within, anywhere_given}
+use Rattle.lid_script.proofs.Within.{within_decided, anywhere_within, anywhere_given}
 use Rattle.lid_commands.proofs.check.system_text.Goals as goal
 
 pub returns-in-Ok-print_system : goal.returns-in-Ok-print_system

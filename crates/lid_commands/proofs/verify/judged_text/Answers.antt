@@ -5,8 +5,7 @@ use Rattle.lid_stations.specs.Placements.{links_of}
 use Rattle.lid_throughput.specs.Throughput.{verdict_text}
 use Rattle.lid_script.specs.Outputs.{verdict}
 use Rattle.lid_script.specs.Scripts.{IsJudged, NoLine, judged_script, judging_script}
-use Rattle.lid_script.proofs.Within.{within_decided}
-use Rattle.lid_commands.proofs.Anywhere.{anywhere_within, anywhere_given}
+use Rattle.lid_script.proofs.Within.{within_decided, anywhere_within, anywhere_given}
 use Rattle.lid_commands.proofs.verify.judged_text.Goals as goal
 
 pub returns-in-Ok-true : goal.returns-in-Ok-true
