@@ -31,7 +31,7 @@ pub record Run : Type 0 where
 abbrev pub run_of : System → Placement → List (List ℕ) → ℕ → Option ℕ → Option (List Stall) → Option (List ℕ) → Run
 run_of s p columns rows trace stalls held = record { system = s; placement = p; columns = columns; rows = rows; trace = trace; stalls = stalls; held = held }
 
--- a run of what is task for
+-- the run of a task, with these stalls, over a file that holds this
 abbrev pub run_by : Task → Option (List Stall) → Option (List ℕ) → Run
 run_by task stalls held = run_of task.system.now task.placement.now task.columns.now task.rows task.trace stalls held
 

@@ -15,6 +15,6 @@ pub struct Task<'s> {
     pub columns: &'s [Name],
     /// The number of rows, at most 1,000,000.
     pub rows: u64,
-    /// For how many cycles at most a trace is told, where one is wanted.
+    /// For how many cycles at most a trace is told, where one is wanted. No limit is judged here.
     pub trace: Option<u64>,
 }

@@ -1,4 +1,4 @@
--- What runs that hold their rows do once the rows are read.
+-- The scripts of runs that hold their rows: that of the command, and the steps that are left once the rows are read.
 use Rattle.std.specs.Prelude.{⊤, ◌≡◌, ◌≤◌, ℕ, Bool, List, Option, length}
 use Rattle.std.specs.List.{AllByRecursion}
 use Rattle.lid_agree.specs.Agreement.{IsSystemOf}

@@ -132,8 +132,9 @@ fn read_text<'a, R: Threads + AllocGlobal + Sync, S: Shelf, G: Gate>(
 /// as a value change dump (`wave`).
 ///
 /// # Errors
-/// As the script of the run has them: the first fault of a file, in the order netlist, stations, rows and
-/// schedule, a limit, or that memory is wanting.
+/// The first step that fails, in the order of the run's script. `Refused`: the netlist, its design, the number of
+/// its channels, the stations, the rows, and then the schedule (`walk`) or the length of the trace (`wave`).
+/// `Read`, with the file's name: a fetch failed. `Memory`: at any step. `Denied` does not come.
 pub fn run_text<'a, R: Threads + AllocGlobal + Sync, S: Shelf, G: Gate>(
     rt: &R,
     gate: &G,

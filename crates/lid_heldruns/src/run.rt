@@ -15,7 +15,7 @@ pub enum HeldRun<'a> {
         rounds: u64,
         tally: bool,
     },
-    /// The answers along the schedule in a file of this name.
+    /// The answers along the schedule in a file of this name, and the rows that the sink has given then.
     Walk(&'a str),
     /// The trace of 1 to 1,048,576 cycles of the clocked run as a value change dump.
     Wave(u64),

@@ -26,7 +26,8 @@ pub const DIAMOND: &[u8] =
 .model xr\n.inputs a b\n.outputs q\n.names a b n\n10 1\n01 1\n.latch n q 0\n.end\n";
 
 /// What `gen 209 --shells 2` makes, without the models that it does not use. Its channels are `in u0 0`, `in u1 0`,
-/// `in out 0`, `u0 u1 0`, `u0 out 0` and `u1 u0 0`, and the last draws give them 0, 2, 0, 0, 1 and 1 relay stations.
+/// `in out 0`, `u0 u1 0`, `u0 out 0` and `u1 u0 0`, and in a run of no rows the last draws give them 0, 2, 0, 0, 1 and 1
+/// relay stations.
 pub const MADE: &[u8] =
     b".model gen\n.inputs x0 x1 x2 x3\n.outputs y0 y1 y2 y3\n.names x3 y0\n1 1\n.names n0_q y1\n1 1\n\
 .names n0_r y2\n1 1\n.names n0_q y3\n1 1\n.subckt cel1 a=x0 b=n1_r q=n0_q r=n0_r\n\

@@ -20,7 +20,8 @@ pub struct Placed {
     pub placement: Placement,
 }
 
-/// The system of a netlist with its stations. None where one of the texts is refused, and for want of memory.
+/// The system of a netlist with its stations. None where one of the texts is refused, where the design is not
+/// accepted or has too many channels, and for want of memory.
 pub fn placed_of(alloc: Global, netlist: &[u8], stations: &[u8]) -> Option<Placed>
     ensures system { IfSome result (λ placed. IsWellFormed placed.system) }
     ensures fits { IfSome result (λ placed. Fits placed.system placed.placement) }

@@ -1,4 +1,4 @@
--- The last stations of channels, and the wires that inputs read: these serve loops.
+-- The last stations of channels, and the wires that inputs read.
 use Rattle.std.specs.Prelude.{⊤, ℕ, ◌+◌, ◌<◌, List, [], ◌∷◌, slice_index_or}
 use Rattle.lid_system.specs.declared.InBit.{InBit}
 use Rattle.lid_system.specs.declared.InBit.TheVariants.{Const, Port}

@@ -1,4 +1,4 @@
-//! The wires that stand for the nets of shells in a wrapped system.
+//! The wires that stand for the nets of shells in a wrapped system, and those that inputs read.
 #![tactic(auto)]
 
 mod lasts;
