@@ -10,5 +10,5 @@ mod verify;
 pub use check::check_text;
 pub use place::place_text;
 pub use strict::strict_text;
-pub use telling::{rate_text, size_text, slack_text};
+pub use telling::{Telling, telling_text};
 pub use verify::verify_text;

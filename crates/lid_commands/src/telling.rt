@@ -3,7 +3,7 @@
 ghost use Rattle.std.specs.Prelude.{IfOk, IfErr};
 ghost use Rattle.lid_commands.specs.Telling.{output_of};
 ghost use Rattle.lid_script.specs.Causes.{IsWant};
-ghost use Rattle.lid_script.specs.Outputs.{throughput, sized, slacks, IsTextOf};
+ghost use Rattle.lid_script.specs.Outputs.{IsTextOf};
 ghost use Rattle.lid_script.specs.Scripts.{placement_step, told_script, telling_script};
 ghost use Rattle.lid_script.specs.Whole.{RunsWhole};
 ghost use Rattle.lid_stations.specs.Markings.{marking};
@@ -17,14 +17,14 @@ use lid_stations::{Placement, marking};
 use lid_system::System;
 use std::alloc::{AllocError, Global};
 
-/// What is asked of a system and its stations.
+/// What is told of a system and its stations.
 #[derive(Clone, Copy)]
-pub(crate) enum Asked {
-    /// A certificate of the throughput.
+pub enum Telling {
+    /// What `rate` writes: a certificate of the throughput.
     Rate,
-    /// The least capacities that keep it.
+    /// What `size` writes: the least capacities that keep the throughput.
     Size,
-    /// The slack of each channel.
+    /// What `slack` writes: the slack of each channel.
     Slack,
 }
 
@@ -45,34 +45,34 @@ fn certified_text(
 /// What is told of a system and its stations.
 fn told_of(
     alloc: Global,
-    asked: Asked,
     system: &System,
     placement: &Placement,
+    telling: Telling,
 ) -> Result<Vec<u8>, AllocError>
     requires system { IsSystem system.now }
     requires fits { Fits system.now placement.now }
-    ensures { IfOk result (λ text. IsTextOf (output_of asked (links_of system.now) placement.now) text.items) }
+    ensures { IfOk result (λ text. IsTextOf (output_of telling (links_of system.now) placement.now) text.items) }
 {
-    match asked {
-        Asked::Rate => certified_text(alloc, system, placement),
-        Asked::Size => lid_margins::size_text(alloc, system, placement),
-        Asked::Slack => lid_margins::slack_text(alloc, system, placement),
+    match telling {
+        Telling::Rate => certified_text(alloc, system, placement),
+        Telling::Size => lid_margins::size_text(alloc, system, placement),
+        Telling::Slack => lid_margins::slack_text(alloc, system, placement),
     }
 }
 
 /// The same, with want of memory as a reason to stop.
 fn told_text<'a>(
     alloc: Global,
-    asked: Asked,
     system: &System,
     placement: &Placement,
+    telling: Telling,
 ) -> Result<Vec<u8>, Stop<'a>>
     requires system { IsSystem system.now }
     requires fits { Fits system.now placement.now }
-    ensures ok { IfOk result (λ text. IsTextOf (output_of asked (links_of system.now) placement.now) text.items) }
+    ensures ok { IfOk result (λ text. IsTextOf (output_of telling (links_of system.now) placement.now) text.items) }
     ensures err { IfErr result IsWant }
 {
-    match told_of(alloc, asked, system, placement) {
+    match told_of(alloc, system, placement, telling) {
         Ok(text) => Ok(text),
         Err(_) => Err(Stop::Memory),
     }
@@ -81,72 +81,33 @@ fn told_text<'a>(
 /// What is told of a system, once its stations are read.
 fn placed_text<'a, S: Shelf>(
     alloc: Global,
-    asked: Asked,
     shelf: &mut S,
     system: &System,
     stations: &'a Option<Text>,
+    telling: Telling,
 ) -> Result<Vec<u8>, Stop<'a>>
     requires { IsSystem system.now }
-    ensures { RunsWhole (S.held shelf.old) (S.held shelf.new) (placement_step (links_of system.now) stations.now (told_script (output_of asked) (links_of system.now))) (S.faults shelf.old) (S.faults shelf.new) result }
+    ensures { RunsWhole (S.held shelf.old) (S.held shelf.new) (placement_step (links_of system.now) stations.now (told_script (output_of telling) (links_of system.now))) (S.faults shelf.old) (S.faults shelf.new) result }
 {
     match read_placement(alloc, shelf, system, stations) {
-        Ok(placement) => told_text(alloc, asked, system, &placement),
+        Ok(placement) => told_text(alloc, system, &placement, telling),
         Err(stop) => Err(stop),
     }
 }
 
-/// What is told of the system of a netlist and its stations.
-fn telling_text<'a, S: Shelf>(
+/// What `rate`, `size` or `slack` writes.
+pub fn telling_text<'a, S: Shelf>(
     alloc: Global,
-    asked: Asked,
     shelf: &mut S,
     net: &'a str,
     stations: &'a Option<Text>,
     root: &Option<Name>,
+    telling: Telling,
 ) -> Result<Vec<u8>, Stop<'a>>
-    ensures { RunsWhole (S.held shelf.old) (S.held shelf.new) (telling_script (output_of asked) net.now stations.now root.now) (S.faults shelf.old) (S.faults shelf.new) result }
+    ensures { RunsWhole (S.held shelf.old) (S.held shelf.new) (telling_script (output_of telling) net.now stations.now root.now) (S.faults shelf.old) (S.faults shelf.new) result }
 {
     match read_system(alloc, shelf, net, root) {
-        Ok(system) => placed_text(alloc, asked, shelf, &system, stations),
+        Ok(system) => placed_text(alloc, shelf, &system, stations, telling),
         Err(stop) => Err(stop),
     }
-}
-
-/// What `rate` writes.
-pub fn rate_text<'a, S: Shelf>(
-    alloc: Global,
-    shelf: &mut S,
-    net: &'a str,
-    stations: &'a Option<Text>,
-    root: &Option<Name>,
-) -> Result<Vec<u8>, Stop<'a>>
-    ensures { RunsWhole (S.held shelf.old) (S.held shelf.new) (telling_script throughput net.now stations.now root.now) (S.faults shelf.old) (S.faults shelf.new) result }
-{
-    telling_text(alloc, Asked::Rate, shelf, net, stations, root)
-}
-
-/// What `size` writes.
-pub fn size_text<'a, S: Shelf>(
-    alloc: Global,
-    shelf: &mut S,
-    net: &'a str,
-    stations: &'a Option<Text>,
-    root: &Option<Name>,
-) -> Result<Vec<u8>, Stop<'a>>
-    ensures { RunsWhole (S.held shelf.old) (S.held shelf.new) (telling_script sized net.now stations.now root.now) (S.faults shelf.old) (S.faults shelf.new) result }
-{
-    telling_text(alloc, Asked::Size, shelf, net, stations, root)
-}
-
-/// What `slack` writes.
-pub fn slack_text<'a, S: Shelf>(
-    alloc: Global,
-    shelf: &mut S,
-    net: &'a str,
-    stations: &'a Option<Text>,
-    root: &Option<Name>,
-) -> Result<Vec<u8>, Stop<'a>>
-    ensures { RunsWhole (S.held shelf.old) (S.held shelf.new) (telling_script slacks net.now stations.now root.now) (S.faults shelf.old) (S.faults shelf.new) result }
-{
-    telling_text(alloc, Asked::Slack, shelf, net, stations, root)
 }

@@ -1,13 +1,12 @@
 //! `gen`: the design of a seed, or what a run of it shows.
 
-ghost use Rattle.std.specs.Prelude.{◌≡◌, ℕ, ◌≤◌, List, Option, None, IfSome, IfOk, IfErr};
+ghost use Rattle.std.specs.Prelude.{◌≡◌, ◌≤◌, Option, None, IfSome, IfOk};
 ghost use Rattle.lid_blifout.specs.Canonical.{canonical_text};
 ghost use Rattle.lid_blifout.specs.Writable.{IsWritable};
 ghost use Rattle.lid_gen.specs.Designs.{generated, size_fault};
-ghost use Rattle.lid_script.specs.Causes.{IsCause, IsWant};
 ghost use Rattle.lid_script.specs.Outputs.{IsTextOf};
 ghost use Rattle.lid_script.specs.Scripts.{gen_script, generating};
-ghost use Rattle.lid_script.specs.Statuses.{HasText};
+ghost use Rattle.lid_script.specs.Whole.{RunsAnywhere};
 
 use crate::running::run_text;
 use lid_blifout::write;
@@ -61,8 +60,7 @@ pub fn gen_text<'a>(
 ) -> Result<Vec<u8>, Stop<'a>>
     requires few { shells ≤ 4294967295 }
     requires run { IfSome run.now (λ rows. (1 ≤ rows) × (rows ≤ 1000000)) }
-    ensures ok { IfOk result (λ text. (held : List ℕ → Option (List ℕ)) → HasText held (gen_script seed shells run.now) text.items) }
-    ensures err { IfErr result (λ stop. (held : List ℕ → Option (List ℕ)) (before after : List ℕ → ℕ) → IsCause held (gen_script seed shells run.now) before after stop) }
+    ensures { RunsAnywhere (gen_script seed shells run.now) result }
 {
     let design = match make(alloc, seed, shells as u32) {
         Ok(design) => design,

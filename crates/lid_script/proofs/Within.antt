@@ -26,6 +26,9 @@ pub record Within (held : List ℕ → Option (List ℕ)) (inner outer : Script)
   pub ends : (ending : Ending) → EndsIn held inner ending → EndsIn held outer ending
   pub reaches : (file : List ℕ) → Reaches held inner file → Reaches held outer file
 
+pub within_same : {held : List ℕ → Option (List ℕ)} {script : Script} → Within held script script
+within_same = record { ends = λ ending e. e; reaches = λ file r. r }
+
 -- a file was fetched and read
 pub within_read : {A : Type 0} (held : List ℕ → Option (List ℕ)) (name : List ℕ) (limit : ℕ) (read : List ℕ → Reading A) (next : A → Script) (a : A) → Got held name limit read a → Within held (next a) (read_step name limit read next)
 within_read held name limit read next a g = record {

@@ -12,9 +12,7 @@ use crate::held::held_text;
 use lid_base::{Gate, Shelf, Sink, SinkFailed};
 use lid_cli::Job;
 use lid_clocking::{Asked, Workers, run_clock};
-use lid_commands::{
-    check_text, place_text, rate_text, size_text, slack_text, strict_text, verify_text,
-};
+use lid_commands::{Telling, check_text, place_text, strict_text, telling_text, verify_text};
 use lid_io::PieceWriter;
 use lid_script::{End, Stop};
 use std::alloc::Global;
@@ -58,17 +56,38 @@ fn text_of<'a, R: Threads + AllocGlobal + Sync, S: Shelf, G: Gate>(
             net,
             stations,
             root,
-        } => rate_text(rt.alloc(), shelf, net.as_str(), stations, root),
+        } => telling_text(
+            rt.alloc(),
+            shelf,
+            net.as_str(),
+            stations,
+            root,
+            Telling::Rate,
+        ),
         Job::Size {
             net,
             stations,
             root,
-        } => size_text(rt.alloc(), shelf, net.as_str(), stations, root),
+        } => telling_text(
+            rt.alloc(),
+            shelf,
+            net.as_str(),
+            stations,
+            root,
+            Telling::Size,
+        ),
         Job::Slack {
             net,
             stations,
             root,
-        } => slack_text(rt.alloc(), shelf, net.as_str(), stations, root),
+        } => telling_text(
+            rt.alloc(),
+            shelf,
+            net.as_str(),
+            stations,
+            root,
+            Telling::Slack,
+        ),
         Job::Strict { net, vec, root } => {
             strict_text(rt.alloc(), shelf, net.as_str(), vec.as_str(), root)
         }

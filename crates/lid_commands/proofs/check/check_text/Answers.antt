@@ -1,25 +1,12 @@
-use Rattle.lid_design.specs.declared.Design.{Design}
-use Rattle.lid_script.specs.Scripts.{Script, net_limit, net_reading, check_step, report_script, check_script}
+use Rattle.lid_script.specs.Scripts.{check_script}
 use Rattle.lid_script.proofs.Composition.{cause_here}
-use Rattle.lid_script.proofs.Within.{within_read, text_anywhere, cause_anywhere}
+use Rattle.lid_script.proofs.Within.{within_read, whole_anywhere, whole_stopped}
 use Rattle.lid_commands.proofs.check.check_text.Goals as goal
 
-pub returns-in-Ok-clause-ok : goal.returns-in-Ok-clause-ok
+pub returns-in-Ok : goal.returns-in-Ok
 unfolding check_script
-returns-in-Ok-clause-ok g c =
-    let next : Design → Script = λ d. check_step c.args.root.now d report_script in
-    text_anywhere (within_read (g.S.Shelf.held c.args.shelf.now) c.args.net.now net_limit net_reading next c.in-Ok.design c.in-Ok.ensures.ok) (λ text. text.items) c.checked_text.result c.checked_text.ensures.ok
+returns-in-Ok g c = whole_anywhere (within_read _ _ _ _ _ _ c.in-Ok.ensures.ok) c.checked_text.ensures c.in-Ok.ensures.kept c.in-Ok.ensures.grows
 
-pub returns-in-Ok-clause-err : goal.returns-in-Ok-clause-err
+pub returns-in-Err : goal.returns-in-Err
 unfolding check_script
-returns-in-Ok-clause-err g c =
-    let next : Design → Script = λ d. check_step c.args.root.now d report_script in
-    cause_anywhere (within_read (g.S.Shelf.held c.args.shelf.now) c.args.net.now net_limit net_reading next c.in-Ok.design c.in-Ok.ensures.ok) c.checked_text.result
-    (g.S.Shelf.faults c.args.shelf.now) (g.S.Shelf.faults c.read_net.new.shelf) c.in-Ok.ensures.grows c.checked_text.ensures.err
-
-pub returns-in-Err-clause-err : goal.returns-in-Err-clause-err
-unfolding check_script
-returns-in-Err-clause-err g c =
-    let next : Design → Script = λ d. check_step c.args.root.now d report_script in
-    cause_here (g.S.Shelf.held c.args.shelf.now) c.args.net.now net_limit net_reading next (g.S.Shelf.faults c.args.shelf.now)
-    (g.S.Shelf.faults c.read_net.new.shelf) c.in-Err.stop c.in-Err.ensures.err
+returns-in-Err g c = whole_stopped (cause_here _ _ _ _ _ _ _ _ c.in-Err.ensures.err) c.in-Err.ensures.kept c.in-Err.ensures.grows

@@ -1,30 +1,12 @@
-use Rattle.lid_base.proofs.Results.{if_err}
-use Rattle.lid_stations.specs.declared.placement.Placement.{Placement}
-use Rattle.lid_stations.specs.Placements.{links_of}
-use Rattle.lid_script.specs.Outputs.{placed}
-use Rattle.lid_script.specs.Scripts.{Script, end, gives, text_limit, wires_read, wires_script}
-use Rattle.lid_script.proofs.Composition.{cause_here, want_anywhere}
-use Rattle.lid_script.proofs.Within.{within_read, text_given}
+use Rattle.lid_script.specs.Scripts.{wires_script}
+use Rattle.lid_script.proofs.Composition.{cause_here}
+use Rattle.lid_script.proofs.Within.{within_read, whole_given, whole_stopped}
 use Rattle.lid_commands.proofs.place.wires_text.Goals as goal
 
-pub returns-in-Ok-clause-ok : goal.returns-in-Ok-clause-ok
+pub returns-in-Ok : goal.returns-in-Ok
 unfolding wires_script
-returns-in-Ok-clause-ok g c =
-    let l = links_of c.args.system.now in
-    let next : Placement → Script = λ p. end (gives (placed l p)) in
-    text_given (within_read (g.S.Shelf.held c.args.shelf.now) c.args.wires.now text_limit (wires_read c.args.reach l) next c.in-Ok.placement c.in-Ok.ensures.ok) (λ text. text.items) c.stations_text.result
-    c.stations_text.ensures.ok
+returns-in-Ok g c = whole_given (within_read _ _ _ _ _ _ c.in-Ok.ensures.ok) c.stations_text.ensures.ok c.stations_text.ensures.err c.in-Ok.ensures.kept c.in-Ok.ensures.grows
 
-pub returns-in-Ok-clause-err : goal.returns-in-Ok-clause-err
-returns-in-Ok-clause-err g c =
-    if_err c.stations_text.result
-    (want_anywhere (g.S.Shelf.held c.args.shelf.now) (wires_script (links_of c.args.system.now) c.args.wires.now c.args.reach) (g.S.Shelf.faults c.args.shelf.now) (g.S.Shelf.faults c.read_wires.new.shelf))
-    c.stations_text.ensures.err
-
-pub returns-in-Err-clause-err : goal.returns-in-Err-clause-err
+pub returns-in-Err : goal.returns-in-Err
 unfolding wires_script
-returns-in-Err-clause-err g c =
-    let l = links_of c.args.system.now in
-    let next : Placement → Script = λ p. end (gives (placed l p)) in
-    cause_here (g.S.Shelf.held c.args.shelf.now) c.args.wires.now text_limit (wires_read c.args.reach l) next (g.S.Shelf.faults c.args.shelf.now)
-    (g.S.Shelf.faults c.read_wires.new.shelf) c.in-Err.stop c.in-Err.ensures.err
+returns-in-Err g c = whole_stopped (cause_here _ _ _ _ _ _ _ _ c.in-Err.ensures.err) c.in-Err.ensures.kept c.in-Err.ensures.grows

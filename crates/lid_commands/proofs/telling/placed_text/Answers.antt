@@ -1,28 +1,11 @@
-use Rattle.lid_base.proofs.Results.{if_err}
-use Rattle.lid_stations.specs.Placements.{links_of}
-use Rattle.lid_script.specs.Scripts.{placement_step, told_script}
-use Rattle.lid_script.proofs.Composition.{want_anywhere}
+use Rattle.lid_script.specs.Scripts.{told_script}
 use Rattle.lid_script.proofs.Placements.{cause_unplaced}
-use Rattle.lid_script.proofs.Within.{within_placed, text_given}
-use Rattle.lid_commands.specs.Telling.{output_of}
+use Rattle.lid_script.proofs.Within.{within_placed, whole_given, whole_stopped}
 use Rattle.lid_commands.proofs.telling.placed_text.Goals as goal
 
-pub returns-in-Ok-clause-ok : goal.returns-in-Ok-clause-ok
+pub returns-in-Ok : goal.returns-in-Ok
 unfolding told_script
-returns-in-Ok-clause-ok g c =
-    let l = links_of c.args.system.now in
-    text_given {output = output_of c.args.asked l c.in-Ok.placement}
-    (within_placed (g.S.Shelf.held c.args.shelf.now) l (told_script (output_of c.args.asked) l) c.args.stations.now c.in-Ok.placement c.in-Ok.ensures.ok) (λ text. text.items) c.told_text.result
-    c.told_text.ensures.ok
+returns-in-Ok g c = whole_given (within_placed _ _ _ _ _ c.in-Ok.ensures.ok) c.told_text.ensures.ok c.told_text.ensures.err c.in-Ok.ensures.kept c.in-Ok.ensures.grows
 
-pub returns-in-Ok-clause-err : goal.returns-in-Ok-clause-err
-returns-in-Ok-clause-err g c =
-    let l = links_of c.args.system.now in
-    if_err c.told_text.result
-    (want_anywhere (g.S.Shelf.held c.args.shelf.now) (placement_step l c.args.stations.now (told_script (output_of c.args.asked) l)) (g.S.Shelf.faults c.args.shelf.now) (g.S.Shelf.faults c.read_placement.new.shelf))
-    c.told_text.ensures.err
-
-pub returns-in-Err-clause-err : goal.returns-in-Err-clause-err
-returns-in-Err-clause-err g c =
-    let l = links_of c.args.system.now in
-    cause_unplaced (g.S.Shelf.held c.args.shelf.now) l (told_script (output_of c.args.asked) l) c.args.stations.now (g.S.Shelf.faults c.args.shelf.now) (g.S.Shelf.faults c.read_placement.new.shelf) c.in-Err.stop c.in-Err.ensures.err
+pub returns-in-Err : goal.returns-in-Err
+returns-in-Err g c = whole_stopped (cause_unplaced _ _ _ _ _ _ _ c.in-Err.ensures.err) c.in-Err.ensures.kept c.in-Err.ensures.grows

@@ -5,22 +5,23 @@ use Rattle.lid_stations.specs.Placements.{links_of}
 use Rattle.lid_throughput.specs.Throughput.{verdict_text}
 use Rattle.lid_script.specs.Outputs.{verdict}
 use Rattle.lid_script.specs.Scripts.{IsJudged, NoLine, judged_script, judging_script}
-use Rattle.lid_script.proofs.Within.{within_decided, has_text}
+use Rattle.lid_script.proofs.Within.{within_decided}
+use Rattle.lid_commands.proofs.Anywhere.{anywhere_within, anywhere_given}
 use Rattle.lid_commands.proofs.verify.judged_text.Goals as goal
 
-pub returns-in-Ok-true-clause-ok : goal.returns-in-Ok-true-clause-ok
+pub returns-in-Ok-true : goal.returns-in-Ok-true
 unfolding judging_script
-returns-in-Ok-true-clause-ok c =
+returns-in-Ok-true c =
     let l = links_of c.args.system.now in
-    let g = marking l c.args.placement.now in
     let cert = c.args.cert.now in
-    let holds : IsJudged g cert true = subst (IsJudged g cert) c.in-Ok-true.field-0-test (c.in-Ok-true.ensures.ok) in
-    if_ok c.shown_text.result
-    (λ text h held. has_text held (judged_script l cert true) (judging_script l c.args.placement.now cert) (within_decided held (IsJudged g cert) NoLine (judged_script l cert) true holds) text.items
-    (record { output = verdict l cert; ends = refl; text_of = h ∙ ap (λ n. verdict_text cert (n - 1)) c.len.ensures }))
-    c.shown_text.ensures.ok
+    let judged = IsJudged (marking l c.args.placement.now) cert in
+    anywhere_within (λ held. within_decided held judged NoLine (judged_script l cert) true (subst judged c.in-Ok-true.field-0-test c.in-Ok-true.ensures.ok))
+    (anywhere_given {output = verdict l cert} (if_ok c.shown_text.result (λ text is. is ∙ ap (λ n. verdict_text cert (n - 1)) c.len.ensures) c.shown_text.ensures.ok) c.shown_text.ensures.err)
 
-pub returns-in-Ok-false-clause-err : goal.returns-in-Ok-false-clause-err
+pub returns-in-Ok-false : goal.returns-in-Ok-false
 unfolding judging_script
-returns-in-Ok-false-clause-err c = λ held before after.
-    inl (false, subst (IsJudged (marking (links_of c.args.system.now) c.args.placement.now) c.args.cert.now) c.in-Ok-false.field-0-test (c.in-Ok-false.ensures.ok), refl)
+returns-in-Ok-false c = record {
+  ok = tt;
+  err = λ held before after.
+      inl (false, subst (IsJudged (marking (links_of c.args.system.now) c.args.placement.now) c.args.cert.now) c.in-Ok-false.field-0-test c.in-Ok-false.ensures.ok, refl);
+}

@@ -1,30 +1,25 @@
-use Rattle.std.proofs.Common.{List, refl, arith}
-use Rattle.lid_system.specs.declared.Channel.{Channel}
+use Rattle.std.proofs.Common.{refl, arith}
+use Rattle.lid_design.specs.declared.Design.{Design}
 use Rattle.lid_stations.specs.Placements.{Links, links_of}
 use Rattle.lid_script.specs.Scripts.{Script, HasChannels, IsOverfull, links, placement_step, rows_step}
 use Rattle.lid_script.proofs.Composition.{cause_undecided}
-use Rattle.lid_script.proofs.Within.{within_linked, text_within, cause_within}
+use Rattle.lid_script.proofs.Within.{within_linked, whole_within, whole_stopped}
+use Rattle.lid_heldruns.specs.declared.run.Asked.{Asked}
 use Rattle.lid_heldruns.specs.Runs.{script_for}
 use Rattle.lid_heldruns.proofs.held.checked_text.Goals as goal
 
-pub returns-in-Ok-clause-ok : goal.returns-in-Ok-clause-ok
-returns-in-Ok-clause-ok g c =
-    let d = c.args.checked.now in
-    let next : Links → Script = λ l. placement_step l c.args.asked.now.stations.now (λ p. rows_step d c.args.asked.now.vec.now (script_for c.args.asked.now.run d l p)) in
-    text_within (within_linked (g.S.Shelf.held c.args.shelf.now) d next c.in-Ok.system.channels (links_of c.in-Ok.system) c.in-Ok.ensures.ok c.in-Ok.ensures.links) (λ text. text.items) c.built_text.result refl
-    c.built_text.ensures.ok
+abbrev next : Asked → Design → Links → Script
+next a d l = placement_step l a.stations.now (λ p. rows_step d a.vec.now (script_for a.run d l p))
 
-pub returns-in-Ok-clause-err : goal.returns-in-Ok-clause-err
-returns-in-Ok-clause-err g c =
+pub returns-in-Ok : goal.returns-in-Ok
+returns-in-Ok g c =
     let d = c.args.checked.now in
-    let next : Links → Script = λ l. placement_step l c.args.asked.now.stations.now (λ p. rows_step d c.args.asked.now.vec.now (script_for c.args.asked.now.run d l p)) in
-    let before = g.S.Shelf.faults c.args.shelf.now in
-    cause_within (within_linked (g.S.Shelf.held c.args.shelf.now) d next c.in-Ok.system.channels (links_of c.in-Ok.system) c.in-Ok.ensures.ok c.in-Ok.ensures.links) c.built_text.result before before
-    (g.S.Shelf.faults c.built_text.new.shelf) refl (λ q. omega arith) c.built_text.ensures.err
+    whole_within (within_linked (g.S.Shelf.held c.args.shelf.now) d (next c.args.asked.now d) c.in-Ok.system.channels (links_of c.in-Ok.system) c.in-Ok.ensures.ok c.in-Ok.ensures.links) refl (λ q. omega arith)
+    c.built_text.ensures
 
-pub returns-in-Err-clause-err : goal.returns-in-Err-clause-err
-returns-in-Err-clause-err g c =
+pub returns-in-Err : goal.returns-in-Err
+returns-in-Err g c =
     let d = c.args.checked.now in
-    let next : List Channel → Script = λ channels. placement_step (links d channels) c.args.asked.now.stations.now (λ p. rows_step d c.args.asked.now.vec.now (script_for c.args.asked.now.run d (links d channels) p)) in
     let before = g.S.Shelf.faults c.args.shelf.now in
-    cause_undecided (g.S.Shelf.held c.args.shelf.now) (HasChannels d) (IsOverfull d) next before before c.in-Err.stop c.in-Err.ensures.err
+    whole_stopped (cause_undecided (g.S.Shelf.held c.args.shelf.now) (HasChannels d) (IsOverfull d) (λ channels. next c.args.asked.now d (links d channels)) before before c.in-Err.stop c.in-Err.ensures.err) refl
+    (λ q. omega arith)
