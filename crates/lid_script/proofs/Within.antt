@@ -132,12 +132,6 @@ module _ (held : List ℕ → Option (List ℕ)) (inner outer : Script) (w : Wit
       unwritten = if_err result (λ end h refused tells. h refused (all_told tells)) r.unwritten;
     }
 
-    -- the same over a shelf that holds the same
-    pub runs_within : (now : List ℕ → Option (List ℕ)) (before mid after : List ℕ → ℕ) (out out_after : O) (result : Result (Unit {0}) End) → now ≡ held → ((q : List ℕ) → before q ≤ mid q)
-        → RunsEarly now inner mid after written writes out out_after result → RunsEarly held outer before after written writes out out_after result
-    runs_within now before mid after out out_after result same grows r =
-        runs_on before mid after out out_after result grows (subst (λ (h : List ℕ → Option (List ℕ)). RunsEarly h inner mid after written writes out out_after result) same r)
-
 -- what a call gives that ends as the inner script does
 module _ {held : List ℕ → Option (List ℕ)} {inner outer : Script} (w : Within held inner outer) where
   -- over a shelf that holds the same
@@ -149,6 +143,12 @@ module _ {held : List ℕ → Option (List ℕ)} {inner outer : Script} (w : Wit
       → IfErr result (λ stop. IsCause now inner mid after stop) → IfErr result (λ stop. IsCause held outer before after stop)
   cause_within result before mid after same grows h =
       if_err result (λ stop x. same_cause held inner outer w before mid after stop grows (subst (λ (v : List ℕ → Option (List ℕ)). IsCause v inner mid after stop) same x)) h
+
+  -- a run that writes while it runs, over such a shelf and after counts have grown
+  pub runs_within : {O : Type 0} {now : List ℕ → Option (List ℕ)} {before mid after : List ℕ → ℕ} {written : O → Option (List ℕ)} {writes : O → ℕ} {out out_after : O} {result : Result (Unit {0}) End} → now ≡ held
+      → ((q : List ℕ) → before q ≤ mid q) → RunsEarly now inner mid after written writes out out_after result → RunsEarly held outer before after written writes out out_after result
+  runs_within {before = before} {mid = mid} {after = after} {written = written} {writes = writes} {out = out} {out_after = out_after} {result = result} same grows r =
+      runs_on held inner outer w written writes before mid after out out_after result grows (subst (λ (h : List ℕ → Option (List ℕ)). RunsEarly h inner mid after written writes out out_after result) same r)
 
 -- a whole run of the inner script, over the shelf that a step has left
 pub whole_within : {held now later : List ℕ → Option (List ℕ)} {inner outer : Script} {before mid after : List ℕ → ℕ} {result : Result (Vec ℕ Global) Stop} → Within held inner outer → now ≡ held
@@ -191,9 +191,9 @@ whole_given {held = held} {outer = outer} {before = before} {after = after} {res
 }
 
 -- the run stops before anything is written
-pub runs_stopped : {O : Type 0} (held : List ℕ → Option (List ℕ)) (script : Script) (before after : List ℕ → ℕ) (written : O → Option (List ℕ)) (writes : O → ℕ) (out : O) (stop : Stop)
+pub runs_stopped : {O : Type 0} {held : List ℕ → Option (List ℕ)} {script : Script} {before after : List ℕ → ℕ} {written : O → Option (List ℕ)} {writes : O → ℕ} {out : O} {stop : Stop}
     → IsCause held script before after stop → RunsEarly held script before after written writes out out (Err (Stopped stop))
-runs_stopped held script before after written writes out stop cause = record {
+runs_stopped cause = record {
   done = tt;
   fails = cause;
   left = λ stopped. inl refl;

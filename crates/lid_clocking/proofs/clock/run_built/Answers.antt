@@ -5,8 +5,8 @@ use Rattle.lid_clocking.proofs.clock.run_built.Goals as goal
 
 pub returns-in-Ok-clause-ran : goal.returns-in-Ok-clause-ran
 unfolding placed_script
-returns-in-Ok-clause-ran g c = runs_within _ _ _ (within_placed _ _ _ _ c.in-Ok.placement c.in-Ok.ensures.ok) _ _ _ _ _ _ _ _ _ c.in-Ok.ensures.kept c.in-Ok.ensures.grows c.run_stalled.ensures.ran
+returns-in-Ok-clause-ran g c = runs_within (within_placed _ _ _ _ c.in-Ok.placement c.in-Ok.ensures.ok) c.in-Ok.ensures.kept c.in-Ok.ensures.grows c.run_stalled.ensures.ran
 
 pub returns-in-Err-clause-ran : goal.returns-in-Err-clause-ran
 unfolding placed_script
-returns-in-Err-clause-ran g c = runs_stopped _ _ _ _ _ _ _ _ (cause_unplaced _ _ _ _ _ _ c.in-Err.stop c.in-Err.ensures.err)
+returns-in-Err-clause-ran g c = runs_stopped (cause_unplaced _ _ _ _ _ _ c.in-Err.stop c.in-Err.ensures.err)

@@ -10,8 +10,8 @@ unfolding built_script
 returns-in-Ok-clause-ran g c =
     let a = c.args.asked.now in
     let next : Links → Script = λ l. placed_script c.args.checked.now l a.vec.now a.stations.now a.stalls.now a.trace in
-    runs_within _ _ _ (within_linked _ c.args.checked.now next c.in-Ok.system.channels _ c.in-Ok.ensures.ok c.in-Ok.ensures.links) _ _ _ _ _ _ _ _ _ refl (λ q. omega arith) c.run_built.ensures.ran
+    runs_within (within_linked _ c.args.checked.now next c.in-Ok.system.channels _ c.in-Ok.ensures.ok c.in-Ok.ensures.links) refl (λ q. omega arith) c.run_built.ensures.ran
 
 pub returns-in-Err-clause-ran : goal.returns-in-Err-clause-ran
 unfolding built_script
-returns-in-Err-clause-ran g c = runs_stopped _ _ _ _ _ _ _ _ (cause_undecided _ _ _ _ _ _ c.in-Err.stop c.in-Err.ensures.err)
+returns-in-Err-clause-ran g c = runs_stopped (cause_undecided _ _ _ _ _ _ c.in-Err.stop c.in-Err.ensures.err)

@@ -5,8 +5,8 @@ use Rattle.lid_clocking.proofs.clock.run_clock.Goals as goal
 
 pub returns-in-Ok-clause-ran : goal.returns-in-Ok-clause-ran
 unfolding clock_script
-returns-in-Ok-clause-ran g c = runs_within _ _ _ (within_read _ _ _ _ _ c.in-Ok.design c.in-Ok.ensures.ok) _ _ _ _ _ _ _ _ _ c.in-Ok.ensures.kept c.in-Ok.ensures.grows c.run_read.ensures.ran
+returns-in-Ok-clause-ran g c = runs_within (within_read _ _ _ _ _ c.in-Ok.design c.in-Ok.ensures.ok) c.in-Ok.ensures.kept c.in-Ok.ensures.grows c.run_read.ensures.ran
 
 pub returns-in-Err-clause-ran : goal.returns-in-Err-clause-ran
 unfolding clock_script
-returns-in-Err-clause-ran g c = runs_stopped _ _ _ _ _ _ _ _ (cause_here _ _ _ _ _ _ _ c.in-Err.stop c.in-Err.ensures.err)
+returns-in-Err-clause-ran g c = runs_stopped (cause_here _ _ _ _ _ _ _ c.in-Err.stop c.in-Err.ensures.err)

@@ -10,8 +10,8 @@ unfolding vec_script
 returns-in-Ok-clause-ran g c =
     let has = c.in-Ok.ensures.ok in
     let still = subst (λ (held : List ℕ → Option (List ℕ)). Got held c.args.asked.now.vec.now rows_limit (vec_reading c.args.wrapped.now.checked.now) has.rows) (sym c.in-Ok.ensures.kept) has.got in
-    runs_within _ _ _ (within_read _ _ _ _ _ has.rows has.got) _ _ _ _ _ _ _ _ _ c.in-Ok.ensures.kept c.in-Ok.ensures.grows (c.run_counted.ensures.ran has.rows still has.many)
+    runs_within (within_read _ _ _ _ _ has.rows has.got) c.in-Ok.ensures.kept c.in-Ok.ensures.grows (c.run_counted.ensures.ran has.rows still has.many)
 
 pub returns-in-Err-clause-ran : goal.returns-in-Err-clause-ran
 unfolding vec_script
-returns-in-Err-clause-ran g c = runs_stopped _ _ _ _ _ _ _ _ (cause_here _ _ _ _ _ _ _ c.in-Err.stop c.in-Err.ensures.err)
+returns-in-Err-clause-ran g c = runs_stopped (cause_here _ _ _ _ _ _ _ c.in-Err.stop c.in-Err.ensures.err)

@@ -4,7 +4,7 @@ use Rattle.lid_script.proofs.Within.{within_checked, runs_within, runs_stopped}
 use Rattle.lid_clocking.proofs.clock.run_read.Goals as goal
 
 pub returns-in-Ok-clause-ran : goal.returns-in-Ok-clause-ran
-returns-in-Ok-clause-ran g c = runs_within _ _ _ (within_checked _ _ _ _ c.in-Ok.checked c.in-Ok.ensures.ok) _ _ _ _ _ _ _ _ _ refl (λ q. omega arith) c.run_checked.ensures.ran
+returns-in-Ok-clause-ran g c = runs_within (within_checked _ _ _ _ c.in-Ok.checked c.in-Ok.ensures.ok) refl (λ q. omega arith) c.run_checked.ensures.ran
 
 pub returns-in-Err-clause-ran : goal.returns-in-Err-clause-ran
-returns-in-Err-clause-ran g c = runs_stopped _ _ _ _ _ _ _ _ (cause_unchecked _ _ _ _ _ _ c.in-Err.stop c.in-Err.ensures.err)
+returns-in-Err-clause-ran g c = runs_stopped (cause_unchecked _ _ _ _ _ _ c.in-Err.stop c.in-Err.ensures.err)

@@ -1,6 +1,5 @@
-use Rattle.lid_script.specs.declared.fault.Stop.TheVariants.{Memory}
 use Rattle.lid_script.proofs.Within.{runs_stopped}
 use Rattle.lid_clocking.proofs.rerun.run_again.Goals as goal
 
 pub returns-in-Err-clause-ran : goal.returns-in-Err-clause-ran
-returns-in-Err-clause-ran g c = λ rows got many. runs_stopped _ _ _ _ _ _ _ Memory tt
+returns-in-Err-clause-ran g c = λ rows got many. runs_stopped tt
