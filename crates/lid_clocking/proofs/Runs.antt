@@ -1,5 +1,5 @@
 -- The run that a file feeds is a run of the script that reads the file again.
-use Rattle.std.proofs.Common.{◌≡◌, ℕ, ◌≤◌, Bool, List, [], length, Option, IsSome, Result, Ok, Err, inl, inr, refl, sym, ◌∙◌, ap, arith}
+use Rattle.std.proofs.Common.{◌≡◌, ℕ, ◌≤◌, Bool, List, [], length, Option, IsSome, Result, Ok, Err, inl, inr, refl, sym, ◌∙◌, ap, subst, arith}
 use Rattle.std.specs.Borrow.{Bor}
 use Rattle.std.specs.Option.{option_map_or}
 use Rattle.std.specs.List.{AllByRecursion}
@@ -23,7 +23,7 @@ use Rattle.lid_feed.specs.declared.fault.FeedFault.TheVariants as feed
 use Rattle.lid_feed.specs.Feeds.{IsText}
 use Rattle.lid_clockrun.specs.declared.fault.RunFault.{RunFault}
 use Rattle.lid_clockrun.specs.declared.fault.RunFault.TheVariants as run
-use Rattle.lid_clockrun.specs.Runnings.{Run, columns_of, source_columns, AreGiven, Begins, WritesPart, HasRun, HasStopped, IsCause}
+use Rattle.lid_clockrun.specs.Runnings.{Run, run_of, columns_of, source_columns, AreGiven, Begins, WritesPart, HasRun, HasStopped, IsCause}
 use Rattle.lid_clockrun.specs.RunTexts.{IsRunText}
 use Rattle.lid_script.specs.declared.fault.Stop.{Stop}
 use Rattle.lid_script.specs.declared.fault.Stop.TheVariants.{Refused, Read, Memory, Denied}
@@ -45,6 +45,9 @@ pub source_named : (d : Design) (s : System) → IsSystemOf d s → IsWellFormed
 source_named d s of well =
     let first = first_node s well in
     ap (λ o. option_map_or columns_of o []) first.1 ∙ of.source 0 first.0 first.1
+
+along : {A B : Type 0} {a c : A} {b d : B} (P : A → B → Type 0) → a ≡ c → b ≡ d → P a b → P c d
+along {c = c} {b = b} P first second h = subst (P c) second (subst (λ x. P x b) first h)
 
 module _ (held : List ℕ → Option (List ℕ)) (d : Design) (s : System) (p : Placement) (file : Bor (List ℕ)) (stalls : Option (List Stall)) (trace : Option ℕ) (count : ℕ) (rows : List (List Bool))
     (of : IsSystemOf d s) (well : IsWellFormed s) (fits : Fits s p) (few : count ≤ 1000000) (has : HasTable (drivers d)) (got : Got held file.now rows_limit (vec_reading d) rows) (many : count ≡ length rows) where
@@ -115,9 +118,16 @@ module _ (held : List ℕ → Option (List ℕ)) (d : Design) (s : System) (p : 
     abbrev Failed : Type 0
     Failed = Rose (writes out) (writes out_after) × WritesPrefix held script (written out) (written out_after)
 
-    pub runs_whole : HasRun r (written out) (written out_after) → Runs (Ok tt)
-    runs_whole ran = record {
-      done = all_written (written out) (written out_after) ran;
+    -- of such columns, over a file of such a name
+    abbrev Ran : List (List ℕ) → List ℕ → Type 0
+    Ran columns name = HasRun (run_of s p columns count trace stalls (held name)) (written out) (written out_after)
+
+    abbrev Stops : RunFault → List (List ℕ) → List ℕ → Type 0
+    Stops fault columns name = HasStopped (run_of s p columns count trace stalls (held name)) (written out) (written out_after) (Rose (before name) (after name)) (Rose (writes out) (writes out_after)) fault
+
+    pub runs_whole : {columns : List (List ℕ)} {name : List ℕ} → columns ≡ root_outputs d → name ≡ vec → Ran columns name → Runs (Ok tt)
+    runs_whole same named ran = record {
+      done = all_written (written out) (written out_after) (along Ran same named ran);
       fails = tt;
       left = tt;
       unwritten = tt;
@@ -156,6 +166,9 @@ module _ (held : List ℕ → Option (List ℕ)) (d : Design) (s : System) (p : 
       by_cause given run.Memory cause = ended (Stopped Memory) tt (λ refused told. refused)
       by_cause given run.Write cause = ended Unwritten (cause, part) (λ refused told. refused)
 
-    pub runs_in_part : (fault : RunFault) → HasStopped r (written out) (written out_after) (Rose (before vec) (after vec)) (Rose (writes out) (writes out_after)) fault → Runs (Err (end_of_run file count fault))
-    runs_in_part fault stopped =
+    in_part : (fault : RunFault) → Stops fault (root_outputs d) vec → Runs (Err (end_of_run file count fault))
+    in_part fault stopped =
         by_cause (part_written stopped.rows stopped.given (written out) (written out_after) stopped.told) stopped.rows fault stopped.cause
+
+    pub runs_in_part : {columns : List (List ℕ)} {name : List ℕ} {end : End} (fault : RunFault) → end ≡ end_of_run file count fault → columns ≡ root_outputs d → name ≡ vec → Stops fault columns name → Runs (Err end)
+    runs_in_part fault is same named stopped = subst (λ end. Runs (Err end)) (sym is) (in_part fault (along (Stops fault) same named stopped))

@@ -1,21 +1,25 @@
 //! What a run of `clock` is asked for, and what it runs.
 
-use lid_base::Text;
+use lid_base::{Name, Text};
 use lid_check::Checked;
 use lid_stations::Placement;
 use lid_system::System;
 
-/// The names of the files of a run but for its netlist, and how many cycles its trace has.
+/// What a run is asked for: the names of its files, its root model, and how many cycles its trace has.
 #[derive(Clone, Copy)]
-pub(crate) struct Asked<'a> {
-    /// The file of its rows.
-    pub(crate) vec: &'a str,
+pub struct Asked<'a> {
+    /// The file of its netlist.
+    pub net: &'a str,
+    /// That of its rows.
+    pub vec: &'a str,
     /// That of its stations, where there is one.
-    pub(crate) stations: &'a Option<Text>,
-    /// That of its stalls, where there is one.
-    pub(crate) stalls: &'a Option<Text>,
-    /// The cycles of its trace, where there is one.
-    pub(crate) trace: Option<u64>,
+    pub stations: &'a Option<Text>,
+    /// That of its stalls, where the environment stalls.
+    pub stalls: &'a Option<Text>,
+    /// The cycles of its trace, 1 to 1,048,576, where one is asked for.
+    pub trace: Option<u64>,
+    /// The name of its root model, where it is not the first.
+    pub root: &'a Option<Name>,
 }
 
 /// An accepted design with its system and the stations of that.

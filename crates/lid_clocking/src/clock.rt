@@ -15,7 +15,7 @@ ghost use Rattle.lid_system.specs.Systems.{IsWellFormed as IsSystem};
 use crate::asked::{Asked, Wrapped};
 use crate::counting::count_rows;
 use crate::rerun::run_again;
-use lid_base::{Gate, Items, Name, Shelf, Sink, Text};
+use lid_base::{Gate, Items, Shelf, Sink};
 use lid_check::Checked;
 use lid_clockrun::Workers;
 use lid_design::Design;
@@ -143,43 +143,35 @@ fn run_read<'a, S: Shelf, O: Sink, R: Threads + AllocGlobal + Sync, G: Gate>(
     out: &mut O,
     design: Design,
     asked: &Asked<'a>,
-    root: &Option<Name>,
 ) -> Result<(), End<'a>>
     requires some { 0 < workers.now.many }
     requires formed { IsWellFormed design }
-    ensures ran { RunsEarly (S.held shelf.old) (check_step root.now design (λ checked. built_script checked asked.now.vec.now asked.now.stations.now asked.now.stalls.now asked.now.trace)) (S.faults shelf.old) (S.faults shelf.new) O.written O.faults out.old out.new result }
+    ensures ran { RunsEarly (S.held shelf.old) (check_step asked.now.root.now design (λ checked. built_script checked asked.now.vec.now asked.now.stations.now asked.now.stalls.now asked.now.trace)) (S.faults shelf.old) (S.faults shelf.new) O.written O.faults out.old out.new result }
     ensures kept { S.held shelf.new ≡ S.held shelf.old }
 {
-    match accept(workers.rt.alloc(), design, root) {
+    match accept(workers.rt.alloc(), design, asked.root) {
         Ok(checked) => run_checked(workers, shelf, out, &checked, asked),
         Err(stop) => Err(End::Stopped(stop)),
     }
 }
 
 /// Runs `clock`: what it tells goes to `out`, as it runs.
+///
+/// # Errors
+/// As the script of `clock` has them: the first fault of a file, in the order netlist, stations, stalls and rows,
+/// a limit, or that memory is wanting; and a write that failed.
 pub fn run_clock<'a, S: Shelf, O: Sink, R: Threads + AllocGlobal + Sync, G: Gate>(
     workers: &Workers<'_, R, G>,
     shelf: &mut S,
     out: &mut O,
-    net: &'a str,
-    vec: &'a str,
-    stations: &'a Option<Text>,
-    stalls: &'a Option<Text>,
-    trace: &Option<u64>,
-    root: &Option<Name>,
+    asked: &Asked<'a>,
 ) -> Result<(), End<'a>>
     requires some { 0 < workers.now.many }
-    ensures ran { RunsEarly (S.held shelf.old) (clock_script net.now vec.now stations.now stalls.now trace.now root.now) (S.faults shelf.old) (S.faults shelf.new) O.written O.faults out.old out.new result }
+    ensures ran { RunsEarly (S.held shelf.old) (clock_script asked.now.net.now asked.now.vec.now asked.now.stations.now asked.now.stalls.now asked.now.trace asked.now.root.now) (S.faults shelf.old) (S.faults shelf.new) O.written O.faults out.old out.new result }
     ensures kept { S.held shelf.new ≡ S.held shelf.old }
 {
-    let asked = Asked {
-        vec,
-        stations,
-        stalls,
-        trace: *trace,
-    };
-    match read_net(workers.rt.alloc(), shelf, net) {
-        Ok(design) => run_read(workers, shelf, out, design, &asked, root),
+    match read_net(workers.rt.alloc(), shelf, asked.net) {
+        Ok(design) => run_read(workers, shelf, out, design, asked),
         Err(stop) => Err(End::Stopped(stop)),
     }
 }

@@ -7,5 +7,6 @@ mod counting;
 mod rerun;
 mod stops;
 
+pub use asked::Asked;
 pub use clock::run_clock;
 pub use lid_clockrun::Workers;

@@ -132,11 +132,11 @@ module _ (held : List ℕ → Option (List ℕ)) (inner outer : Script) (w : Wit
       unwritten = if_err result (λ end h refused tells. h refused (all_told tells)) r.unwritten;
     }
 
-    -- the same over a shelf that holds the same
-    pub runs_within : (now : List ℕ → Option (List ℕ)) (before mid after : List ℕ → ℕ) (out out_after : O) (result : Result (Unit {0}) End) → now ≡ held → ((q : List ℕ) → before q ≤ mid q)
-        → RunsEarly now inner mid after written writes out out_after result → RunsEarly held outer before after written writes out out_after result
-    runs_within now before mid after out out_after result same grows r =
-        runs_on before mid after out out_after result grows (subst (λ (h : List ℕ → Option (List ℕ)). RunsEarly h inner mid after written writes out out_after result) same r)
+-- a run that writes while it runs, over the shelf that a step has left
+pub runs_within : {held now : List ℕ → Option (List ℕ)} {inner outer : Script} {O : Type 0} {before mid after : List ℕ → ℕ} {written : O → Option (List ℕ)} {writes : O → ℕ} {out out_after : O} {result : Result (Unit {0}) End} → Within held inner outer → now ≡ held
+    → ((q : List ℕ) → before q ≤ mid q) → RunsEarly now inner mid after written writes out out_after result → RunsEarly held outer before after written writes out out_after result
+runs_within {held = held} {inner = inner} {outer = outer} {before = before} {mid = mid} {after = after} {written = written} {writes = writes} {out = out} {out_after = out_after} {result = result} w same grows r =
+    runs_on held inner outer w written writes before mid after out out_after result grows (subst (λ (h : List ℕ → Option (List ℕ)). RunsEarly h inner mid after written writes out out_after result) same r)
 
 -- a whole run of the inner script, over the shelf that a step has left
 pub whole_within : {held now later : List ℕ → Option (List ℕ)} {inner outer : Script} {before mid after : List ℕ → ℕ} {result : Result (Vec ℕ Global) Stop} → Within held inner outer → now ≡ held
@@ -187,9 +187,9 @@ anywhere_given {output = output} {result = result} given wants = record {
 }
 
 -- the run stops before anything is written
-pub runs_stopped : {O : Type 0} (held : List ℕ → Option (List ℕ)) (script : Script) (before after : List ℕ → ℕ) (written : O → Option (List ℕ)) (writes : O → ℕ) (out : O) (stop : Stop)
+pub runs_stopped : {O : Type 0} {held : List ℕ → Option (List ℕ)} {script : Script} {before after : List ℕ → ℕ} {written : O → Option (List ℕ)} {writes : O → ℕ} {out : O} {stop : Stop}
     → IsCause held script before after stop → RunsEarly held script before after written writes out out (Err (Stopped stop))
-runs_stopped held script before after written writes out stop cause = record {
+runs_stopped cause = record {
   done = tt;
   fails = cause;
   left = λ stopped. inl refl;

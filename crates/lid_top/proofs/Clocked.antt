@@ -9,8 +9,8 @@ use Rattle.lid_script.specs.Causes.{IsEnd, IsStopped, IsRefusal}
 use Rattle.lid_script.specs.Statuses.{Writes, WritesPrefix, TellsAll, Leaves, writes_early}
 use Rattle.lid_script.specs.Early.{RunsEarly}
 
-module _ {O : Type 0} (held : List ℕ → Option (List ℕ)) (before after : List ℕ → ℕ) (written : O → Option (List ℕ)) (writes : O → ℕ) (out out_after : O) (result : Result (Unit {0}) End)
-    (job : Job) (net vec first second : List ℕ) (stations stalls : Option (List ℕ)) (workers : ℕ) (trace : Option ℕ) (root : Option (List ℕ)) (is : job ≡ Clock net vec stations stalls workers trace root) (first_is : first ≡ net) (second_is : second ≡ vec)
+module _ {O : Type 0} {held : List ℕ → Option (List ℕ)} {before after : List ℕ → ℕ} {written : O → Option (List ℕ)} {writes : O → ℕ} {out out_after : O} {result : Result (Unit {0}) End}
+    {job : Job} {net vec first second : List ℕ} {stations stalls : Option (List ℕ)} {workers : ℕ} {trace : Option ℕ} {root : Option (List ℕ)} (is : job ≡ Clock net vec stations stalls workers trace root) (first_is : first ≡ net) (second_is : second ≡ vec)
     (ran : RunsEarly held (clock_script first second stations stalls trace root) before after written writes out out_after result) where
   asked : job ≡ Clock first second stations stalls workers trace root
   asked = is ∙ ap₂ (λ a b. Clock a b stations stalls workers trace root) (sym first_is) (sym second_is)

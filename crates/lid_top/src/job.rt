@@ -11,7 +11,7 @@ ghost use Rattle.lid_script.specs.Statuses.{Writes, WritesPrefix, TellsAll, Leav
 use crate::held::held_text;
 use lid_base::{Gate, Shelf, Sink, SinkFailed};
 use lid_cli::Job;
-use lid_clocking::{Workers, run_clock};
+use lid_clocking::{Asked, Workers, run_clock};
 use lid_commands::{Telling, check_text, place_text, strict_text, telling_text, verify_text};
 use lid_io::PieceWriter;
 use lid_script::{End, Stop};
@@ -191,21 +191,22 @@ where
             workers,
             trace,
             root,
-        } => run_clock(
-            &Workers {
+        } => {
+            let workers = Workers {
                 rt,
                 gate,
                 many: *workers as u32,
-            },
-            shelf,
-            out,
-            net.as_str(),
-            vec.as_str(),
-            stations,
-            stalls,
-            trace,
-            root,
-        ),
+            };
+            let asked = Asked {
+                net: net.as_str(),
+                vec: vec.as_str(),
+                stations,
+                stalls,
+                trace: *trace,
+                root,
+            };
+            run_clock(&workers, shelf, out, &asked)
+        }
         Job::Check { .. }
         | Job::Emit { .. }
         | Job::Free { .. }
