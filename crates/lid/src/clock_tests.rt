@@ -1,7 +1,7 @@
 //! Clocked runs, through the top call. What is expected is worked out by hand from the firing counts and the
 //! strict tables.
 
-ghost use Rattle.std.specs.Prelude.{None};
+ghost use Rattle.std.specs.Prelude.{None, false};
 
 use crate::net_tests::{ONE_RELAY, PIPE, RING, counted_rows, late_rows};
 use crate::report_tests::DIAMOND;
@@ -239,6 +239,10 @@ impl Shelf for Shrinking {
     ghost held = { λ _ _. None };
 
     ghost faults = { λ _ _. 0 };
+
+    ghost fetches = { λ _. None };
+
+    ghost whole = { false };
 
     fn fetch(&mut self, name: &str, at: u64, into: &mut [u8]) -> Result<usize, ShelfFailed> {
         let file: &[u8] = if name == "one.blif" {

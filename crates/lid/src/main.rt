@@ -1,4 +1,4 @@
-//! lid: latency-insensitive design from BLIF netlists (Berkeley Logic Interchange Format).
+//! The program `lid`: latency-insensitive design of netlists in BLIF (Berkeley Logic Interchange Format).
 //!
 //! `lid check NET` prints the nodes and channels of a netlist that is accepted, `lid strict NET VEC` its
 //! strict outputs for rows of input bits, `lid clock NET VEC` those of the wrapped design with its cycles,

@@ -1,6 +1,6 @@
 //! Runs of the top call over files and sinks in memory.
 
-ghost use Rattle.std.specs.Prelude.{None};
+ghost use Rattle.std.specs.Prelude.{None, false};
 
 use lid_base::{
     File, Gate, Items, MeetGate, MemShelf, MemSink, OpenGate, Shelf, ShelfFailed, Text,
@@ -532,6 +532,10 @@ impl Shelf for Drip<'_> {
     ghost held = { λ _ _. None };
 
     ghost faults = { λ _ _. 0 };
+
+    ghost fetches = { λ _. None };
+
+    ghost whole = { false };
 
     fn fetch(&mut self, name: &str, at: u64, into: &mut [u8]) -> Result<usize, ShelfFailed> {
         let file = if name == "one.blif" {

@@ -1,6 +1,13 @@
+pub mod Alls
 pub mod Cutting
+pub mod Each
 pub mod Joining
 pub mod Lists
 pub mod Numbers
+pub mod Once
+pub mod Options
+pub mod Places
 pub mod Results
+pub mod Sums
+pub mod Upto
 pub mod Writes

@@ -1,11 +1,13 @@
 -- Items of lists, by what they are and by their places.
-use Rattle.std.proofs.Common.{◌≡◌, ◌⊎◌, ℕ, zero, suc, ◌+◌, ◌<◌, Bool, true, false, not, cond, List, [], ◌∷◌, ◌++◌, length, take, append_assoc, append-nil, get_or, map, filter, Option, Some, None, slice_get, option_and_then, inl, inr, refl, sym, ◌∙◌, ap, subst, arith}
+use Rattle.std.proofs.Common.{◌≡◌, ◌⊎◌, ℕ, zero, suc, ◌+◌, ◌<◌, Bool, true, false, not, cond, List, [], ◌∷◌, ◌++◌, length, take, append_assoc, append-nil, get_or, map, filter, Option, Some, None, slice_get, option_and_then, inl, inr, refl, sym, ◌∙◌, ap, subst, arith, ◌≤◌, drop}
 use Rattle.std.specs.List.{AllByRecursion, flat_map, enumerate_from, list_any}
 use Rattle.std.specs.Str.{bytes_eq}
 use Rattle.std.proofs.Math.Seq.{take-append_seam}
-use Rattle.std.proofs.lemmas.Bool.{or_from}
+use Rattle.std.proofs.lemmas.Bool.{or_from, or_left, or_right, or_cases}
 use Rattle.std.proofs.lemmas.Slice.Eq.{bytes_eq-Decides}
 use Rattle.lid_base.specs.Lists.{Among, ExtendsByPart}
+use Rattle.std.specs.Prelude.{find}
+use Rattle.std.proofs.lemmas.Grind.{flat_map-append}
 
 pub among_left : {A : Type 0} (x : A) (xs ys : List A) → Among x xs → Among x (xs ++ ys)
 among_left x [] ys i = absurd i
@@ -184,3 +186,98 @@ pub partway_part : {A : Type 0} (old new more left : List A) → IsPartway old n
 partway_part {A} old new more left so =
     let cut : take (length so.done) more ≡ so.done = subst (λ (ys : List A). take (length so.done) ys ≡ so.done) so.whole (take-append_seam so.done left) in
     (length so.done, so.added ∙ ap (λ (ys : List A). old ++ ys) (sym cut))
+
+pub among_one : {A : Type 0} (x y : A) → Among x (y ∷ []) → x ≡ y
+among_one x y (inl same) = same
+among_one x y (inr none) = absurd none
+
+-- a list that is not empty has an item
+pub some_item : {A : Type 0} (xs : List A) → 0 < length xs → (x : A) × Among x xs
+some_item [] h = absurd (omega arith)
+some_item (x ∷ xs) h = (x, inl refl)
+
+pub among_alone : {A : Type 0} (xs : List A) (x : A) → length xs ≤ 1 → Among x xs → xs ≡ x ∷ []
+among_alone [] x few among = absurd among
+among_alone {A} (y ∷ []) x few (inl same) = ap (λ (z : A). z ∷ []) (sym same)
+among_alone (y ∷ []) x few (inr none) = absurd none
+among_alone (y ∷ z ∷ ys) x few among = absurd (omega arith)
+
+-- a list of one item where a test passes, and of none where it fails
+pub among_if : {A : Type 0} (b : Bool) (x : A) → b ≡ true → Among x (cond b (x ∷ []) [])
+among_if true x h = inl refl
+among_if false x h = absurd (let e : false ≡ true = h in cc)
+
+pub if_among : {A : Type 0} (b : Bool) (x y : A) → Among x (cond b (y ∷ []) []) → (b ≡ true) × (x ≡ y)
+if_among true x y (inl same) = (refl, same)
+if_among true x y (inr none) = absurd none
+if_among false x y none = absurd none
+
+pub among_take : {A : Type 0} (xs : List A) (i : ℕ) (x : A) → Among x (take i xs) → Among x xs
+among_take xs zero x among = absurd among
+among_take [] (suc i) x among = absurd among
+among_take (y ∷ ys) (suc i) x (inl same) = inl same
+among_take (y ∷ ys) (suc i) x (inr later) = inr (among_take ys i x later)
+
+pub found_among : {A : Type 0} (p : A → Bool) (xs : List A) (x : A) → find p xs ≡ Some x → Among x xs
+found_among p [] x h = absurd (let e : None ≡ Some x = h in cc)
+found_among {A} p (y ∷ ys) x h = by (p y) h (found_among p ys x)
+  where
+    by : (b : Bool) → cond b (Some y) (find p ys) ≡ Some x → (find p ys ≡ Some x → Among x ys) → Among x (y ∷ ys)
+    by true e later = inl (let f : Some y ≡ Some x = e in cc)
+    by false e later = inr (later e)
+
+pub any_true : {A : Type 0} (p : A → Bool) (xs : List A) (x : A) → Among x xs → p x ≡ true → list_any p xs ≡ true
+any_true p [] x among h = absurd among
+any_true p (y ∷ ys) x (inl same) h = or_left (p y) (list_any p ys) (ap p (sym same) ∙ h)
+any_true p (y ∷ ys) x (inr later) h = or_right (p y) (list_any p ys) (any_true p ys x later h)
+
+pub any_some : {A : Type 0} (p : A → Bool) (xs : List A) → list_any p xs ≡ true → (x : A) × Among x xs × (p x ≡ true)
+any_some p [] none = absurd (let e : false ≡ true = none in cc)
+any_some {A} p (x ∷ xs) some = by (or_cases (p x) (list_any p xs) some) (any_some p xs)
+  where
+    by : (p x ≡ true) ⊎ (list_any p xs ≡ true) → (list_any p xs ≡ true → (y : A) × Among y xs × (p y ≡ true)) → (y : A) × Among y (x ∷ xs) × (p y ≡ true)
+    by (inl here) next = (x, inl refl, here)
+    by (inr later) next = let found = next later in (found.0, inr found.1, found.2)
+
+-- a filter
+pub filter_le : {A : Type 0} (p : A → Bool) (xs : List A) → length (filter p xs) ≤ length xs
+filter_le p [] = omega arith
+filter_le p (x ∷ xs) =
+    let later = filter_le p xs in
+    elim (p x) as (λ b. length (cond b (x ∷ filter p xs) (filter p xs)) ≤ suc (length xs)) [ true ↦ omega arith | false ↦ omega arith ]
+
+pub filter_whole : {A : Type 0} (p : A → Bool) (xs : List A) → ((x : A) → Among x xs → p x ≡ true) → filter p xs ≡ xs
+filter_whole p [] all = refl
+filter_whole {A} p (x ∷ xs) all =
+    ap (λ (b : Bool). cond b (x ∷ filter p xs) (filter p xs)) (all x (inl refl)) ∙ ap (λ (ys : List A). x ∷ ys) (filter_whole p xs (λ y among. all y (inr among)))
+
+-- functions that agree on the items
+pub map_same : {A B : Type 0} (f g : A → B) (xs : List A) → ((x : A) → Among x xs → f x ≡ g x) → map f xs ≡ map g xs
+map_same f g [] same = refl
+map_same f g (x ∷ xs) same =
+    let head = same x (inl refl) in
+    let tail = map_same f g xs (λ y among. same y (inr among)) in
+    cc
+
+pub map_twice : {A B C : Type 0} (f : B → C) (g : A → B) (xs : List A) → map f (map g xs) ≡ map (λ x. f (g x)) xs
+map_twice f g [] = refl
+map_twice {A} {B} {C} f g (x ∷ xs) = ap (λ (ys : List C). f (g x) ∷ ys) (map_twice f g xs)
+
+pub flat_same : {A B : Type 0} (f g : A → List B) (xs : List A) → ((x : A) → f x ≡ g x) → flat_map f xs ≡ flat_map g xs
+flat_same f g [] same = refl
+flat_same f g (x ∷ xs) same =
+    let head = same x in
+    let tail = flat_same f g xs same in
+    cc
+
+pub flat_flat : {A B C : Type 0} (g : B → List C) (f : A → List B) (xs : List A) → flat_map g (flat_map f xs) ≡ flat_map (λ x. flat_map g (f x)) xs
+flat_flat g f [] = refl
+flat_flat {A} {B} {C} g f (x ∷ xs) = flat_map-append g (f x) (flat_map f xs) ∙ ap (λ (zs : List C). flat_map g (f x) ++ zs) (flat_flat g f xs)
+
+-- a list that was written whole over one of its length
+pub refilled : {A : Type 0} (n : ℕ) (new old : List A) → length new ≡ n → take n (new ++ drop (length new) old) ≡ new
+refilled {A} n new old long = ap (λ (m : ℕ). take m (new ++ drop (length new) old)) (sym long) ∙ take-append_seam new (drop (length new) old)
+
+-- two pieces that were appended one after the other
+pub appended : {A : Type 0} (old mid new xs ys : List A) → mid ≡ old ++ xs → new ≡ mid ++ ys → new ≡ old ++ (xs ++ ys)
+appended {A} old mid new xs ys first next = next ∙ ap (λ (zs : List A). zs ++ ys) first ∙ append_assoc old xs ys

@@ -1,4 +1,5 @@
 pub mod Cuts
+pub mod Each
 pub mod Joins
 pub mod Lines
 pub mod Lists

@@ -1,10 +1,15 @@
 -- Items of lists, and lists that grow.
-use Rattle.std.specs.Prelude.{◌≡◌, ◌⊎◌, ℕ, List, [], ◌∷◌, ◌++◌, length, take}
+use Rattle.std.specs.Prelude.{◌≡◌, ◌⊎◌, ⊤, ℕ, List, [], ◌∷◌, ◌++◌, length, take}
 
 -- x is one of the list
 abbrev pub Among : {A : Type 0} → A → List A → Type 0
 Among x [] = ⊥
 Among x (y ∷ ys) = (x ≡ y) ⊎ Among x ys
+
+-- no item stands twice
+abbrev pub AreOnce : {A : Type 0} → List A → Type 0
+AreOnce [] = ⊤
+AreOnce (x ∷ xs) = (¬ Among x xs) × AreOnce xs
 
 -- items were appended to the first list
 abbrev pub Extends : {A : Type 0} → List A → List A → Type 0

@@ -1,9 +1,9 @@
 //! A shelf and a sink that are kept in memory. Calls of both can be made to fail, by their numbers.
 
-ghost use Rattle.std.specs.Prelude.{◌≡◌, ℕ, ◌≤◌, List, [], length, take, drop, Some, is_err, IfOk, OnOk, OnErr};
+ghost use Rattle.std.specs.Prelude.{◌≡◌, ℕ, ◌≤◌, ◌-◌, min, true, List, [], length, Some, None, is_err, IfOk, OnOk, OnErr};
 ghost use Rattle.std.specs.Option.{option_copied};
 ghost use Rattle.lid_base.specs.Memory.{bytes_held};
-ghost use Rattle.lid_base.specs.Outside.{Rose, FetchedFrom, Appended, AppendedPrefix};
+ghost use Rattle.lid_base.specs.Outside.{Rose, FetchedFrom, Appended, AppendedPrefix, IsFetchedFrom};
 
 use crate::items::{Bytes, Name};
 use crate::outside::{Shelf, ShelfFailed, Sink, SinkFailed};
@@ -17,8 +17,9 @@ pub struct File {
     pub bytes: Bytes,
 }
 
-/// A shelf of files in memory, which tells what they hold. Of files with the same name the first
-/// counts.
+/// A shelf of files in memory, which tells what they hold, and gives as many bytes as there is room
+/// for or as are left. It tells no calls, since it takes no memory to note them. Of files with the
+/// same name the first counts.
 ///
 /// A contract sees the files, the numbers of the calls that fail, how many calls were made, and two
 /// counts: the failed fetches of names that are held, which is the count of each of these names,
@@ -62,7 +63,7 @@ fn find_bytes<'a>(files: &'a [File], name: &[u8]) -> Option<&'a [u8]>
 /// Copies bytes from the place `at`, as many as `into` takes or as are left, and answers how many.
 fn copy_from(bytes: &[u8], at: u64, into: &mut [u8]) -> usize
     ensures within { result ≤ length into.new }
-    ensures copied { take result into.new ≡ take (length into.new) (drop at bytes.now) }
+    ensures copied { IsFetchedFrom true bytes.now at into.new result }
 {
     if at >= bytes.len() as u64 {
         return 0;
@@ -97,12 +98,17 @@ impl Shelf for MemShelf {
 
     ghost faults = { fault_count };
 
+    ghost fetches = { λ _. None };
+
+    ghost whole = { true };
+
     /// # Errors
     /// Exactly the calls with listed numbers and the fetches of missing names fail.
     fn fetch(&mut self, name: &str, at: u64, into: &mut [u8]) -> Result<usize, ShelfFailed>
         ensures within { IfOk result (λ n. n ≤ length into.new) }
-        ensures bytes { IfOk result (λ n. FetchedFrom (bytes_held self.old.files name.now) at into.new n) }
+        ensures bytes { IfOk result (λ n. FetchedFrom true (bytes_held self.old.files name.now) at into.new n) }
         ensures failed { OnErr result (Rose (fault_count self.old name.now) (fault_count self.new name.now)) }
+        ensures still { OnOk result ((q : List ℕ) → fault_count self.new q ≡ fault_count self.old q) }
         ensures kept { bytes_held self.new.files ≡ bytes_held self.old.files }
         ensures grows { (q : List ℕ) → fault_count self.old q ≤ fault_count self.new q }
         ensures fails { is_err result ≡ fetch_fails self.old name.now }
@@ -126,7 +132,7 @@ impl Shelf for MemShelf {
     }
 }
 
-/// A sink that keeps its bytes in memory, and tells them.
+/// A sink that keeps its bytes in memory, and tells them. It does not tell in which pieces they came.
 ///
 /// A contract sees the bytes written, how many more fit, the numbers of the calls that fail, how
 /// many calls were made, and how many of them failed. Calls are numbered from 1. Their number and
@@ -194,6 +200,8 @@ impl Sink for MemSink {
 
     ghost faults = { λ s. s.faults };
 
+    ghost pieces = { λ _. None };
+
     /// # Errors
     /// Exactly the calls with listed numbers and the pieces that do not fit in the room left fail.
     /// They append nothing.
@@ -201,6 +209,7 @@ impl Sink for MemSink {
         ensures ok { OnOk result (Appended (Some self.old.bytes) (Some self.new.bytes) piece.now) }
         ensures err { OnErr result (AppendedPrefix (Some self.old.bytes) (Some self.new.bytes) piece.now) }
         ensures failed { OnErr result (Rose self.old.faults self.new.faults) }
+        ensures still { OnOk result (self.new.faults ≡ self.old.faults) }
         ensures grows { self.old.faults ≤ self.new.faults }
         ensures fails { is_err result ≡ write_fails self.old piece.now }
         ensures after { self.new ≡ after_write self.old piece.now }

@@ -1,6 +1,6 @@
 //! The real files, and the real outputs.
 
-ghost use Rattle.std.specs.Prelude.{◌≡◌, ℕ, ◌≤◌, length, None, IfOk};
+ghost use Rattle.std.specs.Prelude.{◌≡◌, ℕ, ◌≤◌, length, false, None, IfOk};
 
 use crate::outside::{Shelf, ShelfFailed, Sink, SinkFailed};
 use std::io::{Read, Seek, SeekFrom, Write};
@@ -48,8 +48,8 @@ fn open_file<R: Files + AllocGlobal>(rt: &R, name: &str) -> io::Result<LastFile<
     })
 }
 
-/// The files of the system. What they hold is not told. One count, of all fetches that failed, is
-/// the count of every name. A contract sees this count.
+/// The files of the system. What they hold is not told, and which calls were made is not either. One
+/// count, of all fetches that failed, is the count of every name. A contract sees this count.
 ///
 /// The file that was read last stays open, and a fetch of its next bytes reads on. A fetch from the
 /// first byte again opens it anew. Of a pipe, which can be read once, from its first byte to its
@@ -104,6 +104,10 @@ impl<R: Files + AllocGlobal> Shelf for DirShelf<'_, R> {
 
     ghost faults = { λ s _. s };
 
+    ghost fetches = { λ _. None };
+
+    ghost whole = { false };
+
     fn fetch(&mut self, name: &str, at: u64, into: &mut [u8]) -> Result<usize, ShelfFailed> {
         match self.read(name, at, into) {
             Ok(count) => Ok(count),
@@ -118,8 +122,8 @@ impl<R: Files + AllocGlobal> Shelf for DirShelf<'_, R> {
 /// An output of the system, behind a writer.
 ///
 /// A contract sees what was written, where the writer tells what it holds, and how many writes
-/// failed. The writers over standard output and over files tell nothing. The count stays at
-/// 2^64 - 1 once it is there.
+/// failed. The writers over standard output and over files tell nothing, and which pieces came is
+/// not told. The count stays at 2^64 - 1 once it is there.
 #[derive(Drop)]
 pub struct StdSink<W: Write + Drop> {
     writer: W,
@@ -149,6 +153,8 @@ impl<W: Write + Drop> Sink for StdSink<W> {
     ghost written = { λ s. s.written };
 
     ghost faults = { λ s. s.faults };
+
+    ghost pieces = { λ _. None };
 
     /// # Errors
     /// The writer failed, or took nothing of what was left of the piece.

@@ -1,6 +1,6 @@
 -- The cells that lines without fault stand for are well formed.
 use Rattle.std.proofs.Common.{◌≡◌, ℕ, zero, suc, ◌+◌, ◌*◌, ◌^◌, ◌<◌, ◌≤◌, Bool, true, false, cond, List, [], ◌∷◌, length, take, drop, refl, sym, ap, ◌∙◌, arith, length-take, length-drop}
-use Rattle.std.specs.Prelude.{map, filter, not, ◌==◌, bit_and}
+use Rattle.std.specs.Prelude.{map, not, ◌==◌, bit_and}
 use Rattle.std.specs.List.{AllByRecursion}
 use Rattle.std.proofs.lemmas.List.{length-map}
 use Rattle.std.proofs.lemmas.Nat.{and_block}
@@ -17,6 +17,7 @@ use Rattle.lid_blif.specs.Words.{keyword_of, is_line, inputs_of, leading, is_inn
 use Rattle.lid_blif.specs.Designs.{IsNarrow, mask_of, is_cared_for, is_character_one, cube_of, cover_of, names_cell, cell_before, cells_of, insts_of, model_of, models_of}
 use Rattle.lid_design.specs.WellFormed.{IsWellFormedCell}
 use Rattle.lid_blif.proofs.Masks.{mask_below}
+use Rattle.lid_base.proofs.Lists.{filter_le}
 
 -- the value of a character is 1 only where it is cared for
 value_cared : (c : ℕ) → bit_and (cond (c == 49) 1 0) (cond (not (c == 45)) 1 0) ≡ cond (c == 49) 1 0
@@ -99,12 +100,6 @@ models_formed (l ∷ ls) h =
       | true ↦ (here, later)
       | false ↦ later
     ]
-
-pub filter_le : {X : Type 0} (p : X → Bool) (xs : List X) → length (filter p xs) ≤ length xs
-filter_le p [] = omega arith
-filter_le p (x ∷ xs) =
-    let later = filter_le p xs in
-    elim (p x) as (λ b. length (cond b (x ∷ filter p xs) (filter p xs)) ≤ suc (length xs)) [ true ↦ omega arith | false ↦ omega arith ]
 
 leading_le : (p : Line → Bool) (ls : List Line) → length (leading p ls) ≤ length ls
 leading_le p [] = omega arith

@@ -1,9 +1,9 @@
 -- What holds of lines without fault.
-use Rattle.std.proofs.Common.{◌≡◌, ℕ, ◌+◌, ◌<◌, ◌≤◌, ◌||◌, Bool, true, false, cond, List, [], ◌∷◌, ◌++◌, length, refl, sym, ◌∙◌, subst, arith, append_assoc}
+use Rattle.std.proofs.Common.{◌≡◌, ℕ, ◌+◌, ◌<◌, ◌≤◌, Bool, true, false, cond, List, [], ◌∷◌, ◌++◌, length, refl, sym, ◌∙◌, subst, arith, append_assoc}
 use Rattle.std.specs.Prelude.{Option, Some, None, map, bytes_eq, nat_lt, ◌==◌, not}
 use Rattle.std.specs.List.{list_any, AllByRecursion, IsDistinct}
 use Rattle.std.proofs.lemmas.List.{append-nil, length_push}
-use Rattle.std.proofs.lemmas.Bool.{ltb-false}
+use Rattle.std.proofs.lemmas.Bool.{ltb-false, or_parts}
 use Rattle.lid_base.specs.declared.line.Line.{Line}
 use Rattle.lid_base.specs.declared.which.Which.TheVariants.{Models}
 use Rattle.lid_blif.specs.declared.fault.BlifFault.TheVariants.{Arity, TooManyInputs, DuplicateModel, Limit}
@@ -64,10 +64,6 @@ line_fault_opens End l context names e out h = absurd (let clear = rw (← e, ou
 line_fault_opens Unknown l context names e out h = absurd (let clear = rw (← e, out) at h in cc)
 line_fault_opens Row l context names e out h = absurd (let clear = rw (← e, out) at h in cc)
 
-or_none : (a b : Bool) → (a || b) ≡ false → (a ≡ false) × (b ≡ false)
-or_none false b h = (refl, h)
-or_none true b h = absurd (let e : true ≡ false = h in cc)
-
 all_push : (p : List ℕ → Bool) (names : List (List ℕ)) (name : List ℕ) → AllByRecursion (λ y. p y ≡ false) names → p name ≡ false → AllByRecursion (λ y. p y ≡ false) (names ++ name ∷ [])
 all_push p [] name h e = (e, tt)
 all_push p (x ∷ xs) name h e = (h.0, all_push p xs name h.1 e)
@@ -76,7 +72,7 @@ distinct_push : (names : List (List ℕ)) (name : List ℕ) → IsDistinct bytes
 unfolding IsDistinct
 distinct_push [] name d h = (tt, tt)
 distinct_push (x ∷ xs) name d h =
-    let parts = or_none (bytes_eq x name) (list_any (λ other. bytes_eq other name) xs) h in
+    let parts = or_parts (bytes_eq x name) (list_any (λ other. bytes_eq other name) xs) h in
     (all_push (bytes_eq x) xs name d.0 parts.0, distinct_push xs name d.1 parts.1)
 
 pub context_models : (before : List Line) → (context_of before).models ≡ length (model_names before)

@@ -17,7 +17,8 @@ use Rattle.lid_blif.specs.Faults.{lines_fault, after_text, blif_fault}
 use Rattle.lid_blif.specs.Designs.{models_of, design_of}
 use Rattle.lid_design.specs.WellFormed.{model_name, IsWellFormed}
 use Rattle.lid_blif.proofs.Faults.{AreNames, names_of_models, some_model, narrow_lines}
-use Rattle.lid_blif.proofs.Cubes.{filter_le, models_formed, models_insts}
+use Rattle.lid_blif.proofs.Cubes.{models_formed, models_insts}
+use Rattle.lid_base.proofs.Lists.{filter_le}
 
 onto_first_join_le : {A : Type 0} (p : A) (joins : List (List A)) (n : ℕ) → length joins ≤ n → length (onto_first_join p joins) ≤ suc n
 onto_first_join_le p [] n h = omega arith

@@ -1,7 +1,7 @@
 -- The design of a test is writable.
 use Rattle.std.proofs.Common.{◌≡◌, refl, arith}
 use Rattle.lid_design.specs.declared.Design.{Design}
-use Rattle.lid_lines.specs.Texts.{line_text}
+use Rattle.lid_base_lines.specs.Texts.{line_text}
 use Rattle.lid_blifout.specs.Canonical.{canonical_text}
 use Rattle.lid_blifout.specs.Writable.{IsWritable}
 use Rattle.lid_blif_tests.specs.Examples.{lone_design, lone_model}

@@ -25,7 +25,7 @@ use Rattle.lid_blif.specs.Faults.{ends_in_zero}
 use Rattle.lid_blif.specs.Designs.{mask_of, is_cared_for, is_character_one, cube_of, cover_of, names_cell, latch_cell, bind_of, inst_of, control_named, init_named, model_of, models_of}
 use Rattle.lid_blifout.specs.Canonical.{listed, cube_line, control_word, kind_words, init_word, cell_lines, bind_word, inst_line, body_lines, models_lines}
 use Rattle.lid_blifout.specs.Writable.{IsControl, IsWritableCover, IsWritableLatch, IsWritableCell, IsWritableBind, IsWritableInst, IsWritableModel}
-use Rattle.lid_lines.specs.Texts.{Words, numbered}
+use Rattle.lid_base_lines.specs.Texts.{Words, numbered_lines}
 use Rattle.lid_blifout.proofs.LineWords.{is_row_line, last_word_after, formal_back, actual_back}
 use Rattle.lid_blifout.proofs.CubeBack.{cared_back, value_back}
 use Rattle.lid_blifout.proofs.FaultLaw.{line_at}
@@ -58,31 +58,31 @@ model_of_cons Row l later name e = rw (← e)
 
 -- what a model's lines stand for, whatever their numbers
 abbrev Means : ModelOf → List Words → Type 0
-Means m lines = (n : ℕ) → model_of m.name (numbered n lines) ≡ m
+Means m lines = (n : ℕ) → model_of m.name (numbered_lines n lines) ≡ m
 
 module _ (name : List ℕ) (lines : List Words) where
   means_inputs : (ns outputs clocks : Words) (cells : List Cell) (insts : List Inst) → Means (made name [] outputs clocks cells insts) lines → Means (made name ns outputs clocks cells insts) (listed (codes ".inputs") ns ++ lines)
   unfolding named_keyword
   means_inputs [] outputs clocks cells insts h = h
   means_inputs (x ∷ xs) outputs clocks cells insts h = λ n.
-      model_of_cons Inputs (line_at n (codes ".inputs" ∷ x ∷ xs)) (numbered (n + 1) lines) name refl
-      ∙ ap (with_line Inputs (codes ".inputs" ∷ x ∷ xs) (numbered (n + 1) lines)) (h (n + 1))
+      model_of_cons Inputs (line_at n (codes ".inputs" ∷ x ∷ xs)) (numbered_lines (n + 1) lines) name refl
+      ∙ ap (with_line Inputs (codes ".inputs" ∷ x ∷ xs) (numbered_lines (n + 1) lines)) (h (n + 1))
       ∙ ap (λ (ns : Words). made name ns outputs clocks cells insts) (append-nil (x ∷ xs))
 
   means_outputs : (ns clocks : Words) (cells : List Cell) (insts : List Inst) → Means (made name [] [] clocks cells insts) lines → Means (made name [] ns clocks cells insts) (listed (codes ".outputs") ns ++ lines)
   unfolding named_keyword
   means_outputs [] clocks cells insts h = h
   means_outputs (x ∷ xs) clocks cells insts h = λ n.
-      model_of_cons Outputs (line_at n (codes ".outputs" ∷ x ∷ xs)) (numbered (n + 1) lines) name refl
-      ∙ ap (with_line Outputs (codes ".outputs" ∷ x ∷ xs) (numbered (n + 1) lines)) (h (n + 1))
+      model_of_cons Outputs (line_at n (codes ".outputs" ∷ x ∷ xs)) (numbered_lines (n + 1) lines) name refl
+      ∙ ap (with_line Outputs (codes ".outputs" ∷ x ∷ xs) (numbered_lines (n + 1) lines)) (h (n + 1))
       ∙ ap (λ (ns : Words). made name [] ns clocks cells insts) (append-nil (x ∷ xs))
 
   means_clocks : (ns : Words) (cells : List Cell) (insts : List Inst) → Means (made name [] [] [] cells insts) lines → Means (made name [] [] ns cells insts) (listed (codes ".clock") ns ++ lines)
   unfolding named_keyword
   means_clocks [] cells insts h = h
   means_clocks (x ∷ xs) cells insts h = λ n.
-      model_of_cons Clock (line_at n (codes ".clock" ∷ x ∷ xs)) (numbered (n + 1) lines) name refl
-      ∙ ap (with_line Clock (codes ".clock" ∷ x ∷ xs) (numbered (n + 1) lines)) (h (n + 1))
+      model_of_cons Clock (line_at n (codes ".clock" ∷ x ∷ xs)) (numbered_lines (n + 1) lines) name refl
+      ∙ ap (with_line Clock (codes ".clock" ∷ x ∷ xs) (numbered_lines (n + 1) lines)) (h (n + 1))
       ∙ ap (λ (ns : Words). made name [] [] ns cells insts) (append-nil (x ∷ xs))
 
 -- instances
@@ -101,8 +101,8 @@ means_insts : (name : List ℕ) (lines : List Words) (insts : List Inst) → All
 unfolding named_keyword
 means_insts name lines [] w h = h
 means_insts name lines (inst ∷ insts) w h = λ n.
-    model_of_cons Subckt (line_at n (inst_line inst)) (numbered (n + 1) (map inst_line insts ++ lines)) name refl
-    ∙ ap (with_line Subckt (inst_line inst) (numbered (n + 1) (map inst_line insts ++ lines))) (means_insts name lines insts w.1 h (n + 1))
+    model_of_cons Subckt (line_at n (inst_line inst)) (numbered_lines (n + 1) (map inst_line insts ++ lines)) name refl
+    ∙ ap (with_line Subckt (inst_line inst) (numbered_lines (n + 1) (map inst_line insts ++ lines))) (means_insts name lines insts w.1 h (n + 1))
     ∙ ap (λ (i : Inst). made name [] [] [] [] (i ∷ insts)) (inst_back inst w.0)
 
 -- latches
@@ -133,9 +133,9 @@ take_front (x ∷ xs) ys = ap (λ (zs : Words). x ∷ zs) (take_front xs ys)
 
 -- the next line is no row
 abbrev NoRow : List Words → Type 0
-NoRow lines = (n : ℕ) → leading (is_line Row) (numbered n lines) ≡ []
+NoRow lines = (n : ℕ) → leading (is_line Row) (numbered_lines n lines) ≡ []
 
-leading_rows : (inputs : ℕ) (on : Bool) (cubes : List Cube) (lines : List Words) (n : ℕ) → NoRow lines → leading (is_line Row) (numbered n (map (cube_line inputs on) cubes ++ lines)) ≡ numbered n (map (cube_line inputs on) cubes)
+leading_rows : (inputs : ℕ) (on : Bool) (cubes : List Cube) (lines : List Words) (n : ℕ) → NoRow lines → leading (is_line Row) (numbered_lines n (map (cube_line inputs on) cubes ++ lines)) ≡ numbered_lines n (map (cube_line inputs on) cubes)
 leading_rows inputs on [] lines n h = h n
 leading_rows inputs on (cube ∷ cubes) lines n h =
     let row = is_row_line inputs on cube in
@@ -153,30 +153,30 @@ cube_back inputs n on cube w =
     both : {a b c d : ℕ} → a ≡ c → b ≡ d → ◌≡◌ {A = Cube} (record { care = a; value = b }) (record { care = c; value = d })
     both e f = cc
 
-cubes_back : (inputs n : ℕ) (on : Bool) (cubes : List Cube) → AllByRecursion (IsCube inputs) cubes → map (cube_of inputs) (numbered n (map (cube_line inputs on) cubes)) ≡ cubes
+cubes_back : (inputs n : ℕ) (on : Bool) (cubes : List Cube) → AllByRecursion (IsCube inputs) cubes → map (cube_of inputs) (numbered_lines n (map (cube_line inputs on) cubes)) ≡ cubes
 cubes_back inputs n on [] w = refl
 cubes_back inputs n on (cube ∷ cubes) w =
-    ap (λ (c : Cube). c ∷ map (cube_of inputs) (numbered (n + 1) (map (cube_line inputs on) cubes))) (cube_back inputs n on cube w.0)
+    ap (λ (c : Cube). c ∷ map (cube_of inputs) (numbered_lines (n + 1) (map (cube_line inputs on) cubes))) (cube_back inputs n on cube w.0)
     ∙ ap (λ (cs : List Cube). cube ∷ cs) (cubes_back inputs (n + 1) on cubes w.1)
 
 ends_so : (inputs n : ℕ) (on : Bool) (cube : Cube) → ends_in_zero (line_at n (cube_line inputs on cube)) ≡ not on
 ends_so inputs n true cube = ap is_zero (is_row_line inputs true cube).output
 ends_so inputs n false cube = ap is_zero (is_row_line inputs false cube).output
 
-no_zero : (inputs n : ℕ) (cubes : List Cube) → list_any ends_in_zero (numbered n (map (cube_line inputs true) cubes)) ≡ false
+no_zero : (inputs n : ℕ) (cubes : List Cube) → list_any ends_in_zero (numbered_lines n (map (cube_line inputs true) cubes)) ≡ false
 no_zero inputs n [] = refl
 no_zero inputs n (cube ∷ cubes) = or_from _ _ (ends_so inputs n true cube) (no_zero inputs (n + 1) cubes)
 
-on_back : (inputs n : ℕ) (on : Bool) (cubes : List Cube) → (cubes ≡ [] → on ≡ true) → not (list_any ends_in_zero (numbered n (map (cube_line inputs on) cubes))) ≡ on
+on_back : (inputs n : ℕ) (on : Bool) (cubes : List Cube) → (cubes ≡ [] → on ≡ true) → not (list_any ends_in_zero (numbered_lines n (map (cube_line inputs on) cubes))) ≡ on
 on_back inputs n true cubes h = ap not (no_zero inputs n cubes)
 on_back inputs n false [] h = sym (h refl)
 on_back inputs n false (cube ∷ cubes) h = let first = ends_so inputs n false cube in not_from_true _ (or_left _ _ first)
 
 cover_back : (inputs : Words) (out : List ℕ) (cover : Cover) (n : ℕ) → IsWritableCover inputs out cover
-    → names_cell (codes ".names" ∷ (inputs ++ out ∷ [])) (numbered n (map (cube_line cover.inputs cover.on) cover.cubes)) ≡ NamesCell inputs out cover
+    → names_cell (codes ".names" ∷ (inputs ++ out ∷ [])) (numbered_lines n (map (cube_line cover.inputs cover.on) cover.cubes)) ≡ NamesCell inputs out cover
 cover_back inputs out cover n w =
     let words = codes ".names" ∷ (inputs ++ out ∷ []) in
-    let rows = numbered n (map (cube_line cover.inputs cover.on) cover.cubes) in
+    let rows = numbered_lines n (map (cube_line cover.inputs cover.on) cover.cubes) in
     let long = length-append inputs (out ∷ []) in
     let count : inputs_of words ≡ length inputs = omega (arith, long) in
     let narrow : cover.inputs ≤ 64 = w.rules.width in
@@ -196,7 +196,7 @@ means_rows : (m : ModelOf) (inputs : ℕ) (on : Bool) (cubes : List Cube) (lines
 means_rows m inputs on [] lines h = h
 means_rows m inputs on (cube ∷ cubes) lines h = λ n.
     let row = is_row_line inputs on cube in
-    model_of_cons Row (line_at n (cube_line inputs on cube)) (numbered (n + 1) (map (cube_line inputs on) cubes ++ lines)) m.name (sym row.keyword)
+    model_of_cons Row (line_at n (cube_line inputs on cube)) (numbered_lines (n + 1) (map (cube_line inputs on) cubes ++ lines)) m.name (sym row.keyword)
     ∙ means_rows m inputs on cubes lines h (n + 1)
 
 means_cell : (name : List ℕ) (cell : Cell) (cells : List Cell) (insts : List Inst) (lines : List Words) → IsWritableCell cell
@@ -204,15 +204,15 @@ means_cell : (name : List ℕ) (cell : Cell) (cells : List Cell) (insts : List I
 unfolding named_keyword
 means_cell name (NamesCell inputs out cover) cells insts lines w none h = λ n.
     let words = codes ".names" ∷ (inputs ++ out ∷ []) in
-    let later = numbered (n + 1) (map (cube_line cover.inputs cover.on) cover.cubes ++ lines) in
+    let later = numbered_lines (n + 1) (map (cube_line cover.inputs cover.on) cover.cubes ++ lines) in
     model_of_cons Names (line_at n words) later name refl
     ∙ ap (with_line Names words later) (means_rows (made name [] [] [] cells insts) cover.inputs cover.on cover.cubes lines h (n + 1))
     ∙ ap (λ (ls : List Line). made name [] [] [] (names_cell words ls ∷ cells) insts) (leading_rows cover.inputs cover.on cover.cubes lines (n + 1) none)
     ∙ ap (λ (c : Cell). made name [] [] [] (c ∷ cells) insts) (cover_back inputs out cover (n + 1) w)
 means_cell name (LatchCell input out kind control init) cells insts lines w none h = λ n.
     let words = codes ".latch" ∷ input ∷ out ∷ kind_words kind control ++ init_word init ∷ [] in
-    model_of_cons Latch (line_at n words) (numbered (n + 1) lines) name refl
-    ∙ ap (with_line Latch words (numbered (n + 1) lines)) (h (n + 1))
+    model_of_cons Latch (line_at n words) (numbered_lines (n + 1) lines) name refl
+    ∙ ap (with_line Latch words (numbered_lines (n + 1) lines)) (h (n + 1))
     ∙ ap (λ (c : Cell). made name [] [] [] (c ∷ cells) insts) (latch_back input out kind control init w)
 
 no_row_cells : (cells : List Cell) (lines : List Words) → NoRow lines → NoRow (flat_map cell_lines cells ++ lines)
@@ -242,7 +242,7 @@ no_row_end : NoRow ((codes ".end" ∷ []) ∷ [])
 unfolding named_keyword
 no_row_end = λ n. refl
 
-pub model_back : (m : ModelOf) (n : ℕ) → IsWritableModel m → model_of m.name (numbered n (body_lines m)) ≡ m
+pub model_back : (m : ModelOf) (n : ℕ) → IsWritableModel m → model_of m.name (numbered_lines n (body_lines m)) ≡ m
 model_back m n w =
     let insts = means_insts m.name _ m.insts w.insts (means_end m.name) in
     let cells = means_cells m.name m.cells m.insts _ w.cells (no_row_insts m.insts _ no_row_end) insts in
@@ -294,26 +294,26 @@ body_inner m =
     (all_append IsInner _ _ (outputs_inner m.outputs)
     (all_append IsInner _ _ (clocks_inner m.clocks) (all_append IsInner _ _ (cells_inner m.cells) (all_append IsInner _ _ (insts_inner m.insts) end_inner))))
 
-leading_body : (body rest : List Words) (n : ℕ) → AllByRecursion IsInner body → ((k : ℕ) → leading is_inner (numbered k rest) ≡ []) → leading is_inner (numbered n (body ++ rest)) ≡ numbered n body
+leading_body : (body rest : List Words) (n : ℕ) → AllByRecursion IsInner body → ((k : ℕ) → leading is_inner (numbered_lines k rest) ≡ []) → leading is_inner (numbered_lines n (body ++ rest)) ≡ numbered_lines n body
 leading_body [] rest n h stops = stops n
 leading_body (words ∷ body) rest n h stops =
     cond-true (is_inner (line_at n words)) _ _ (not_from_false _ h.0) ∙ ap (λ (ls : List Line). line_at n words ∷ ls) (leading_body body rest (n + 1) h.1 stops)
 
-models_skip : (body rest : List Words) (ms : List ModelOf) (n : ℕ) → AllByRecursion IsInner body → ((k : ℕ) → models_of (numbered k rest) ≡ ms) → models_of (numbered n (body ++ rest)) ≡ ms
+models_skip : (body rest : List Words) (ms : List ModelOf) (n : ℕ) → AllByRecursion IsInner body → ((k : ℕ) → models_of (numbered_lines k rest) ≡ ms) → models_of (numbered_lines n (body ++ rest)) ≡ ms
 models_skip [] rest ms n h later = later n
 models_skip (words ∷ body) rest ms n h later = cond-false (is_line Model (line_at n words)) _ _ h.0 ∙ models_skip body rest ms (n + 1) h.1 later
 
-models_stop : (ms : List ModelOf) (k : ℕ) → leading is_inner (numbered k (models_lines ms)) ≡ []
+models_stop : (ms : List ModelOf) (k : ℕ) → leading is_inner (numbered_lines k (models_lines ms)) ≡ []
 unfolding named_keyword
 models_stop [] k = refl
 models_stop (m ∷ ms) k = refl
 
 -- the models that the lines of models stand for
-pub models_back : (ms : List ModelOf) (n : ℕ) → AllByRecursion IsWritableModel ms → models_of (numbered n (models_lines ms)) ≡ ms
+pub models_back : (ms : List ModelOf) (n : ℕ) → AllByRecursion IsWritableModel ms → models_of (numbered_lines n (models_lines ms)) ≡ ms
 unfolding named_keyword
 models_back [] n w = refl
 models_back (m ∷ ms) n w =
-    let later = numbered (n + 1) (body_lines m ++ models_lines ms) in
+    let later = numbered_lines (n + 1) (body_lines m ++ models_lines ms) in
     let here : model_of m.name (leading is_inner later) ≡ m = ap (model_of m.name) (leading_body (body_lines m) (models_lines ms) (n + 1) (body_inner m) (models_stop ms)) ∙ model_back m (n + 1) w.0 in
     let rest : models_of later ≡ ms = models_skip (body_lines m) (models_lines ms) ms (n + 1) (body_inner m) (λ k. models_back ms k w.1) in
     ap (λ (x : ModelOf). x ∷ models_of later) here ∙ ap (λ (xs : List ModelOf). m ∷ xs) rest

@@ -29,8 +29,9 @@ use Rattle.lid_blif.proofs.Contexts.{next_context, context_of_cons, first_fault_
 use Rattle.lid_blif.proofs.Faults.{context_models}
 use Rattle.lid_blifout.specs.Canonical.{listed, output_word, cube_line, control_word, init_word, cell_lines, inst_line, body_lines, models_lines}
 use Rattle.lid_blifout.specs.Writable.{IsWritableCover, IsWritableCell, IsWritableInst, IsWritableModel, cell_rows, cells_rows, model_rows}
-use Rattle.lid_lines.specs.Texts.{Words, numbered}
+use Rattle.lid_base_lines.specs.Texts.{Words, numbered_lines}
 use Rattle.lid_blifout.proofs.LineWords.{IsRowLine, is_row_line, init_is, are_bound}
+use Rattle.lid_base.proofs.Alls.{all_middle}
 
 -- where a line stands: inside a model or not, after models of these names, and after so many rows
 pub record At (inside : Bool) (names : Words) (rows : ℕ) (before : List Line) : Type 0 where
@@ -40,7 +41,7 @@ pub record At (inside : Bool) (names : Words) (rows : ℕ) (before : List Line) 
 
 -- no fault in these lines, wherever they stand so
 abbrev pub Clear : Bool → Words → ℕ → List Words → Type 0
-Clear inside names rows lines = (n : ℕ) (before : List Line) → At inside names rows before → first_fault before (numbered n lines) ≡ None
+Clear inside names rows lines = (n : ℕ) (before : List Line) → At inside names rows before → first_fault before (numbered_lines n lines) ≡ None
 
 abbrev pub line_at : ℕ → Words → Line
 line_at n words = record { number = n; words = words }
@@ -88,7 +89,7 @@ clear_line k words lines inside names rows e m r ok later n before at =
     let l = line_at n words in
     let same : line_fault (context_of before) (model_names before) l ≡ told (cases_of k (context_of before) names l) =
     ap (λ (ns : Words). line_fault (context_of before) ns l) at.names_are ∙ ap (λ (q : Keyword). told (cases_of q (context_of before) names l)) (sym e) in
-    first_fault_pass before l (numbered (n + 1) lines) (same ∙ ok (context_of before) n at.inside_is)
+    first_fault_pass before l (numbered_lines (n + 1) lines) (same ∙ ok (context_of before) n at.inside_is)
     ∙ later (n + 1) (l ∷ before) (at_after k l inside names rows before e m r at)
 
 clear_inputs : (ns : Words) (lines : List Words) (names : Words) (rows : ℕ) → Clear true names rows lines → Clear true names rows (listed (codes ".inputs") ns ++ lines)
@@ -187,7 +188,7 @@ cover_row inputs on l before e out cover =
     }
 
 abbrev ClearRows : ℕ → Bool → Words → ℕ → List Words → Type 0
-ClearRows inputs on names rows lines = (n : ℕ) (before : List Line) → At true names rows before → InCover inputs on before → first_fault before (numbered n lines) ≡ None
+ClearRows inputs on names rows lines = (n : ℕ) (before : List Line) → At true names rows before → InCover inputs on before → first_fault before (numbered_lines n lines) ≡ None
 
 clear_rows : (cubes : List Cube) (inputs : ℕ) (on : Bool) (lines : List Words) (names : Words) (rows : ℕ) → rows + length cubes ≤ 1048576
     → Clear true names (rows + length cubes) lines → ClearRows inputs on names rows (map (cube_line inputs on) cubes ++ lines)
@@ -201,7 +202,7 @@ clear_rows (cube ∷ cubes) inputs on lines names rows few h n before at cover =
     let l = line_at n words in
     let more : rows + suc (length cubes) ≡ (rows + 1) + length cubes = omega arith in
     let left : Clear true names ((rows + 1) + length cubes) lines = subst (λ (k : ℕ). Clear true names k lines) more h in
-    first_fault_pass before l (numbered (n + 1) (map (cube_line inputs on) cubes ++ lines)) (row_ok inputs on cube words n before names rows row at cover (omega arith))
+    first_fault_pass before l (numbered_lines (n + 1) (map (cube_line inputs on) cubes ++ lines)) (row_ok inputs on cube words n before names rows row at cover (omega arith))
     ∙ clear_rows cubes inputs on lines names (rows + 1) (omega arith) left (n + 1) (l ∷ before) (at_row l names rows before (sym row.keyword) at) (cover_row inputs on l before (sym row.keyword) row.output cover)
 
 clear_cover : (inputs : Words) (out : List ℕ) (cover : Cover) (lines : List Words) (names : Words) (rows : ℕ)
@@ -229,7 +230,7 @@ clear_cover inputs out cover lines names rows w few h n before at =
       inputs_are = ap (λ (q : Context). q.inputs) p ∙ same;
       unmixed = ap (λ (q : Context). cond cover.on q.zeros q.ones) p ∙ same_false cover.on;
     } in
-    first_fault_pass before l (numbered (n + 1) (map (cube_line cover.inputs cover.on) cover.cubes ++ lines)) clean
+    first_fault_pass before l (numbered_lines (n + 1) (map (cube_line cover.inputs cover.on) cover.cubes ++ lines)) clean
     ∙ clear_rows cover.cubes cover.inputs cover.on lines names rows few h (n + 1) (l ∷ before) inside begun
   where
     same_false : (b : Bool) → cond b false false ≡ false
@@ -274,10 +275,6 @@ clear_body m lines names rows w few h =
     let inputs = clear_inputs m.inputs _ names rows outputs in
     subst (Clear true names rows) (sym (body_before_is m lines)) inputs
 
-all_middle : {X : Type 0} (P : X → Type 0) (xs : List X) (y : X) (ys : List X) → AllByRecursion P (xs ++ y ∷ ys) → P y
-all_middle P [] y ys h = h.0
-all_middle P (x ∷ xs) y ys h = all_middle P xs y ys h.1
-
 new_name : (names : Words) (name : List ℕ) (later : Words) → IsDistinct bytes_eq (names ++ name ∷ later) → list_any (λ other. bytes_eq other name) names ≡ false
 unfolding IsDistinct
 new_name [] name later d = refl
@@ -304,7 +301,7 @@ clear_title name lines inside names rows fresh few h n before at =
       names_are = ap (λ (ns : Words). ns ++ name ∷ []) at.names_are;
       rows_are = ap (λ (q : Context). q.rows) p ∙ at.rows_are;
     } in
-    first_fault_pass before l (numbered (n + 1) lines) clean ∙ h (n + 1) (l ∷ before) opened
+    first_fault_pass before l (numbered_lines (n + 1) lines) clean ∙ h (n + 1) (l ∷ before) opened
 
 clear_models : (ms : List ModelOf) (inside : Bool) (names : Words) (rows : ℕ) → AllByRecursion IsWritableModel ms → IsDistinct bytes_eq (names ++ map model_name ms)
     → length names + length ms ≤ 4096 → rows + sum_by model_rows ms ≤ 1048576 → Clear inside names rows (models_lines ms)
@@ -323,5 +320,5 @@ unfolding context_of
 start = record { inside_is = refl; names_are = refl; rows_are = refl }
 
 -- no line of writable models is at fault
-pub models_clear : (ms : List ModelOf) → AllByRecursion IsWritableModel ms → IsDistinct bytes_eq (map model_name ms) → length ms ≤ 4096 → sum_by model_rows ms ≤ 1048576 → first_fault [] (numbered 1 (models_lines ms)) ≡ None
+pub models_clear : (ms : List ModelOf) → AllByRecursion IsWritableModel ms → IsDistinct bytes_eq (map model_name ms) → length ms ≤ 4096 → sum_by model_rows ms ≤ 1048576 → first_fault [] (numbered_lines 1 (models_lines ms)) ≡ None
 models_clear ms w d few_models few_rows = clear_models ms false [] 0 w d (omega arith) (omega arith) 1 [] start

@@ -13,17 +13,17 @@ use Rattle.lid_blif.specs.Faults.{first_fault, lines_fault, after_text, blif_fau
 use Rattle.lid_blif.specs.Designs.{design_of}
 use Rattle.lid_blifout.specs.Canonical.{models_lines, canonical_text}
 use Rattle.lid_blifout.specs.Writable.{IsWritable}
-use Rattle.lid_lines.specs.Texts.{numbered}
-use Rattle.lid_lines.proofs.ReadBack.{text_law, text_clean}
+use Rattle.lid_base_lines.specs.Texts.{numbered_lines}
+use Rattle.lid_base_lines.proofs.ReadBack.{text_law, text_clean}
 use Rattle.lid_blifout.proofs.SpelledLines.{models_spelled}
 use Rattle.lid_blifout.proofs.FaultLaw.{models_clear}
 use Rattle.lid_blifout.proofs.DesignLaw.{models_back}
 
-some_lines : (ms : List Model) → 0 < length ms → lines_fault (numbered 1 (models_lines ms)) ≡ first_fault [] (numbered 1 (models_lines ms))
+some_lines : (ms : List Model) → 0 < length ms → lines_fault (numbered_lines 1 (models_lines ms)) ≡ first_fault [] (numbered_lines 1 (models_lines ms))
 some_lines [] h = absurd (omega arith)
 some_lines (m ∷ ms) h = refl
 
-lines_back : (d : Design) → IsWritable d → logical_lines (canonical_text d) ≡ numbered 1 (models_lines d.models)
+lines_back : (d : Design) → IsWritable d → logical_lines (canonical_text d) ≡ numbered_lines 1 (models_lines d.models)
 unfolding canonical_text
 lines_back d w = text_law 1024 (models_lines d.models) (models_spelled d.models w.models)
 

@@ -14,7 +14,7 @@ use Rattle.lid_design.specs.declared.Init.TheVariants.{Zero, One, DontCare, Unkn
 use Rattle.lid_blif.specs.declared.keyword.Keyword.TheVariants.{Row}
 use Rattle.lid_base.specs.Words.{word_at, last_word}
 use Rattle.lid_blif.specs.Words.{named_keyword, keyword_of, is_zero, is_one, is_input_character, is_row_of, is_latch_init, is_equals, is_empty, is_binding}
-use Rattle.lid_lines.specs.Texts.{Words}
+use Rattle.lid_base_lines.specs.Texts.{Words}
 use Rattle.lid_blifout.specs.Canonical.{character, characters, output_word, cube_line, init_word, bind_word}
 use Rattle.lid_blifout.specs.Writable.{IsWritableBind}
 

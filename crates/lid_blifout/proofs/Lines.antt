@@ -5,10 +5,11 @@ use Rattle.std.specs.List.{flat_map}
 use Rattle.lid_cover.specs.declared.Cube.{Cube}
 use Rattle.lid_design.specs.declared.Model.{Model}
 use Rattle.lid_design.specs.declared.Bind.{Bind}
-use Rattle.lid_lines.specs.Texts.{Words, line_text, lines_text, spaced}
-use Rattle.lid_lines.proofs.Pieces.{line_text_cons, lines_text_append, appended, spaced_push}
+use Rattle.lid_base_lines.specs.Texts.{Words, line_text, lines_text, spaced}
+use Rattle.lid_base_lines.proofs.Pieces.{line_text_cons, lines_text_append, spaced_push}
 use Rattle.lid_blifout.specs.Canonical.{bind_word, character, characters, cube_line, output_word, cell_lines, inst_line, listed, model_lines}
 use Rattle.lid_blifout.specs.Pieces.{spaced_binds, asked_text}
+use Rattle.lid_base.proofs.Lists.{appended}
 
 pub spaced_bound : (binds : List Bind) → spaced (map bind_word binds) ≡ spaced_binds binds
 spaced_bound [] = refl

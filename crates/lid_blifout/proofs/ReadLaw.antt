@@ -25,11 +25,12 @@ use Rattle.lid_blif.specs.Faults.{context_of, model_names, row_count, ends_in_ze
 use Rattle.lid_blif.specs.Designs.{cube_of, names_of, kind_named, control_named, kind_of, control_of, bind_of, inst_of, latch_cell, names_cell, cell_before, cells_of, insts_of, model_of, models_of}
 use Rattle.lid_design.specs.WellFormed.{IsWellFormedCell}
 use Rattle.lid_blif.proofs.Faults.{told-none, first_fault_none, same_as, names_clear}
-use Rattle.lid_lines.specs.Texts.{Words}
+use Rattle.lid_base_lines.specs.Texts.{Words}
 use Rattle.lid_blifout.specs.Canonical.{bind_word}
 use Rattle.lid_blifout.specs.Writable.{IsControl, IsWritableLatch, IsWritableBind, IsWritableInst, IsWritableCell, IsWritableModel, cell_rows, cells_rows, model_rows}
-use Rattle.lid_lines.specs.Spelled.{IsSpelled, AreSpelled}
-use Rattle.lid_lines.proofs.ReadWords.{all_both, all_take, all_drop, before_fails}
+use Rattle.lid_base_lines.specs.Spelled.{IsSpelled, AreSpelled}
+use Rattle.lid_base_lines.proofs.ReadWords.{before_fails}
+use Rattle.lid_base.proofs.Alls.{all_take, all_drop, all_both}
 
 -- what holds of the words of a line without fault
 pub record IsShaped (l : Line) : Type 0 where

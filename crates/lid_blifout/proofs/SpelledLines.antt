@@ -15,9 +15,9 @@ use Rattle.lid_design.specs.declared.Init.{Init}
 use Rattle.lid_design.specs.declared.Init.TheVariants.{Zero, One, DontCare, Unknown}
 use Rattle.lid_design.specs.declared.Inst.{Inst}
 use Rattle.lid_design.specs.declared.Bind.{Bind}
-use Rattle.lid_lines.specs.Texts.{Words}
-use Rattle.lid_lines.specs.Spelled.{is_word_byte, IsSpelled, AreSpelled}
-use Rattle.lid_lines.proofs.Numbers.{spelled_word, no_mark}
+use Rattle.lid_base_lines.specs.Texts.{Words}
+use Rattle.lid_base_lines.specs.Spelled.{is_word_byte, IsSpelled, AreSpelled}
+use Rattle.lid_base_lines.proofs.Numbers.{spelled_word, no_mark}
 use Rattle.lid_blifout.specs.Canonical.{listed, characters, output_word, cube_line, control_word, kind_words, init_word, cell_lines, bind_word, inst_line, body_lines, models_lines}
 use Rattle.lid_blifout.specs.Writable.{IsControl, IsWritableCell, IsWritableBind, IsWritableInst, IsWritableModel}
 use Rattle.lid_blifout.proofs.LineWords.{length_characters, of_characters}

@@ -12,7 +12,7 @@ use Rattle.lid_blif.specs.Designs.{models_of, design_of}
 use Rattle.lid_blif.proofs.Texts.{text_formed, text_few}
 use Rattle.lid_blifout.specs.Canonical.{canonical_text}
 use Rattle.lid_blifout.specs.Writable.{IsWritable, HasPlainFormals}
-use Rattle.lid_lines.proofs.ReadWords.{text_words}
+use Rattle.lid_base_lines.proofs.ReadWords.{text_words}
 use Rattle.lid_blifout.proofs.ReadLaw.{AreRead, models_read, models_rows_few, lines_read}
 
 passed : (b : Bool) (fault : BlifFault) (later : Option BlifFault) → cond b (Some fault) later ≡ None → later ≡ None

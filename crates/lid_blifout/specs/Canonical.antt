@@ -13,7 +13,7 @@ use Rattle.lid_design.specs.declared.Init.{Init}
 use Rattle.lid_design.specs.declared.Init.TheVariants.{Zero, One, DontCare, Unknown}
 use Rattle.lid_design.specs.declared.Inst.{Inst}
 use Rattle.lid_design.specs.declared.Bind.{Bind}
-use Rattle.lid_lines.specs.Texts.{Words, lines_text}
+use Rattle.lid_base_lines.specs.Texts.{Words, lines_text}
 
 -- the names after their keyword, where there are names
 abbrev pub listed : List ℕ → List (List ℕ) → List Words

@@ -12,7 +12,7 @@ use Rattle.lid_design.specs.declared.LatchKind.{LatchKind}
 use Rattle.lid_design.specs.declared.LatchKind.TheVariants.{Plain}
 use Rattle.lid_design.specs.declared.Inst.{Inst}
 use Rattle.lid_design.specs.declared.Bind.{Bind}
-use Rattle.lid_lines.specs.Spelled.{IsSpelled}
+use Rattle.lid_base_lines.specs.Spelled.{IsSpelled}
 use Rattle.lid_blif.specs.Words.{is_equals}
 use Rattle.lid_design.specs.WellFormed.{model_name}
 use Rattle.lid_blifout.specs.Canonical.{bind_word, canonical_text}

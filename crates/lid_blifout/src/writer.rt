@@ -8,15 +8,15 @@ ghost use Rattle.lid_blif.specs.Faults.{blif_fault};
 ghost use Rattle.lid_blif.specs.Designs.{design_of};
 ghost use Rattle.lid_design.specs.declared.Design.{Design};
 ghost use Rattle.lid_design.specs.declared.Cell.TheVariants.{Names, Latch};
-ghost use Rattle.lid_lines.specs.Texts.{line_text, lines_text, spaced};
+ghost use Rattle.lid_base_lines.specs.Texts.{line_text, lines_text, spaced};
 ghost use Rattle.lid_blifout.specs.Canonical.{listed, characters, cube_line, control_word, kind_words, init_word, output_word, character, bind_word, cell_lines, inst_line, body_lines, model_lines, models_lines, canonical_text};
 ghost use Rattle.lid_blifout.specs.Writable.{IsWritable, HasPlainFormals};
 ghost use Rattle.lid_blifout.specs.Pieces.{spaced_binds, asked_text};
 
 use lid_base::Name;
+use lid_base_lines::{append_keyword_line, append_word, append_words, cut_back};
 use lid_cover::{Cover, Cube};
 use lid_design::{Bind, Cell, Design, Init, Inst, LatchKind, Model};
-use lid_lines::{append_keyword_line, append_word, append_words, cut_back};
 use std::alloc::AllocError;
 
 /// Appends a line with a keyword and names, where there are names.
@@ -207,7 +207,7 @@ fn append_cell(cell: &Cell, into: &mut Vec<u8>) -> Result<(), AllocError>
 }
 
 /// Appends the lines of the cells.
-#[tactic(auto, using(lid_lines::proofs::Pieces::lines_text_append))]
+#[tactic(auto, using(lid_base_lines::proofs::Pieces::lines_text_append))]
 fn append_cells(cells: &[Cell], into: &mut Vec<u8>) -> Result<(), AllocError>
     ensures ok { OnOk result (into.new.items ≡ into.old.items ++ lines_text (flat_map cell_lines cells.now)) }
     ensures kept { Keeps into.old.items into.new.items }
@@ -288,7 +288,7 @@ fn append_model(model: &Model, into: &mut Vec<u8>) -> Result<(), AllocError>
 }
 
 /// Appends the lines of the models.
-#[tactic(auto, using(lid_lines::proofs::Pieces::lines_text_append))]
+#[tactic(auto, using(lid_base_lines::proofs::Pieces::lines_text_append))]
 pub fn append_models(models: &[Model], into: &mut Vec<u8>) -> Result<(), AllocError>
     ensures ok { OnOk result (into.new.items ≡ into.old.items ++ lines_text (models_lines models.now)) }
     ensures kept { Keeps into.old.items into.new.items }

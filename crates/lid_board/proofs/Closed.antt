@@ -8,19 +8,19 @@ use Rattle.std.proofs.lemmas.List.{get_or-set_same, get_or-set_other}
 use Rattle.atomic_table.specs.Seated.{TableId}
 use Rattle.atomic_table.specs.Table.{State}
 use Rattle.lid_station.specs.Boards.{Facts, fill, drain}
-use Rattle.lid_station.specs.Plain.{end_facts, plain_ends, Holds, PlainStands}
+use Rattle.lid_station.specs.Plain.{end_facts, plain_ends, HoldsTokensOf, PlainStands}
 use Rattle.lid_station.specs.PlainLaws.{ends_even, ends_odd}
 use Rattle.lid_station.specs.declared.pair.Pair.{Pair}
 use Rattle.lid_station.proofs.PlainStations.{station_there, set_here, set_there}
 use Rattle.lid_board.specs.Closing.{CanRestore, IsRestored, Restored, number_at, closed_facts}
-use Rattle.lid_board.specs.Halves.{shown}
+use Rattle.lid_board.specs.Halves.{word_half}
 use Rattle.lid_board.specs.Owners.{IsOwned}
-use Rattle.lid_board.specs.Relation.{Kept, Related, words_of, first_word, cap_of, stream_of}
-use Rattle.lid_board.specs.Standing.{StandsFor}
-use Rattle.lid_board.specs.Ties.{IsTied, IsLaid}
+use Rattle.lid_board.specs.Relation.{Kept, Related, word_count, first_word, cap_of, stream_of}
+use Rattle.lid_board.specs.Standing.{AreStreamsOf}
+use Rattle.lid_board.specs.Ties.{IsTied, IsLaidTable}
 use Rattle.lid_board.specs.Views.{Ends, at, held}
-use Rattle.lid_board.specs.declared.view.Held.{Held}
-use Rattle.lid_board.specs.declared.view.View.{View}
+use Rattle.lid_board.specs.declared.view.EndFacts.{EndFacts}
+use Rattle.lid_board.specs.declared.view.HandView.{HandView}
 use Rattle.lid_board.proofs.Frames.{apart}
 use Rattle.lid_board.proofs.Halving.{shown_word, held_there}
 use mathlib.Core.Option.{some, some-injective, some-ne-none}
@@ -34,7 +34,7 @@ elem_is (y ∷ ys) zero x e = some-injective y x e
 elem_is (y ∷ ys) (suc i) x e = elem_is ys i x e
 
 -- a plain station that was restored holds the tokens of the stream
-pub restored_holds : (words : List ℕ) (first : ℕ) (f d : Held) (p : Pair) → Kept words first f d → IsRestored words first f.passed d.passed f.cap p → Holds p f.stream
+pub restored_holds : (words : List ℕ) (first : ℕ) (f d : EndFacts) (p : Pair) → Kept words first f d → IsRestored words first f.passed d.passed f.cap p → HoldsTokensOf p f.stream
 restored_holds words first f d p k r =
     let put = r.put in
     let taken = r.taken in
@@ -48,7 +48,7 @@ restored_holds words first f d p k r =
           let two = k.fixed.two in
           let room = k.room in
           let below : i % f.cap < f.cap = omega arith in
-          let shows = ap (shown (i % f.cap)) (k.shows (i % f.cap / 2) (omega arith)) ∙ shown_word f.cap f.stream f.passed d.passed (i % f.cap) k.ordered k.within k.fixed.small ∙ held_there f.cap f.stream f.passed d.passed i (omega arith) (omega arith) k.within k.room in
+          let shows = ap (word_half (i % f.cap)) (k.shows (i % f.cap / 2) (omega arith)) ∙ shown_word f.cap f.stream f.passed d.passed (i % f.cap) k.ordered k.within k.fixed.small ∙ held_there f.cap f.stream f.passed d.passed i (omega arith) (omega arith) k.within k.room in
           ap (λ (n : ℕ). get_or p.places.items (i % n) 0) size
           ∙ r.places (i % f.cap) below
           ∙ ap (λ (n : ℕ). n - 2147483648) shows
@@ -56,15 +56,15 @@ restored_holds words first f d p k r =
     }
 
 -- one place more was copied
-pub copied_more : (words : List ℕ) (first : ℕ) (places : List ℕ) (place token found : ℕ) → place < length places → token ≡ shown place found - 2147483648 → get_elem? words (first + place / 2) ≡ some found
-    → ((k : ℕ) → k < place → get_or places k 0 ≡ shown k (get_or words (first + k / 2) 0) - 2147483648)
-    → (k : ℕ) → k < place + 1 → get_or (set places place token) k 0 ≡ shown k (get_or words (first + k / 2) 0) - 2147483648
+pub copied_more : (words : List ℕ) (first : ℕ) (places : List ℕ) (place token found : ℕ) → place < length places → token ≡ word_half place found - 2147483648 → get_elem? words (first + place / 2) ≡ some found
+    → ((k : ℕ) → k < place → get_or places k 0 ≡ word_half k (get_or words (first + k / 2) 0) - 2147483648)
+    → (k : ℕ) → k < place + 1 → get_or (set places place token) k 0 ≡ word_half k (get_or words (first + k / 2) 0) - 2147483648
 copied_more words first places place token found inside is here before k below =
     dite (ℕ_discrete k place)
     (λ hit.
     ap (λ (n : ℕ). get_or (set places place token) n 0) hit ∙ get_or-set_same places place token 0 inside ∙ is
-    ∙ ap (λ (n : ℕ). shown place n - 2147483648) (sym (elem_is words (first + place / 2) found here))
-    ∙ ap (λ (n : ℕ). shown n (get_or words (first + n / 2) 0) - 2147483648) (sym hit))
+    ∙ ap (λ (n : ℕ). word_half place n - 2147483648) (sym (elem_is words (first + place / 2) found here))
+    ∙ ap (λ (n : ℕ). word_half n (get_or words (first + n / 2) 0) - 2147483648) (sym hit))
     (λ miss. get_or-set_other places place k token 0 miss ∙ before k (omega arith))
 
 pub small_more : (places : List ℕ) (place token : ℕ) → place < length places → token < 2147483648 → All (λ t. t < 2147483648) places → All (λ t. t < 2147483648) (set places place token)
@@ -103,35 +103,35 @@ restored_more words firsts numbers old now i put taken p q r at put_is taken_is 
     }
 
 -- what is known of an end by its parts
-facts_are : (cap passed : ℕ) (mark : Bool) (h : Held) → cap ≡ h.cap → passed ≡ h.passed → mark ≡ false → ◌≡◌ {A = Facts} (record { cap = cap; start = 0; passed = passed; mark = mark; misses = None }) (closed_facts h)
+facts_are : (cap passed : ℕ) (mark : Bool) (h : EndFacts) → cap ≡ h.cap → passed ≡ h.passed → mark ≡ false → ◌≡◌ {A = Facts} (record { cap = cap; start = 0; passed = passed; mark = mark; misses = None }) (closed_facts h)
 facts_are cap passed mark h a b c =
     let A : ℕ → Facts = λ x. record { cap = x; start = 0; passed = passed; mark = mark; misses = None } in
     let B : ℕ → Facts = λ x. record { cap = h.cap; start = 0; passed = x; mark = mark; misses = None } in
     let C : Bool → Facts = λ x. record { cap = h.cap; start = 0; passed = h.passed; mark = x; misses = None } in
     ap A a ∙ ap B b ∙ ap C c
 
-module _ {S : Type 0} (plan : Ends) (caps firsts : List ℕ) (table : TableId) (laid : IsLaid plan caps firsts table) (st : State S View) (id : ℕ) (v : View) (r : Related plan st)
+module _ {S : Type 0} (plan : Ends) (caps firsts : List ℕ) (table : TableId) (laid : IsLaidTable plan caps firsts table) (st : State S HandView) (id : ℕ) (v : HandView) (r : Related plan st)
     (here : get_elem? st.views id ≡ some v) (numbers : List (Option ℕ)) (tied : IsTied numbers v.ends) (all : (end : ℕ) → end < length plan → IsOwned v.ends end) (n : ℕ) (many : length plan ≡ 2 * n) where
   close_kept : (i : ℕ) → i < n → Kept st.words (first_word plan i) (held v.ends (fill i)) (held v.ends (drain i))
   close_kept i there =
       let f : held v.ends (fill i) ≡ r.truth (fill i) = r.agree id v (fill i) (held v.ends (fill i)) here (all (fill i) (omega arith)) in
       let d : held v.ends (drain i) ≡ r.truth (drain i) = r.agree id v (drain i) (held v.ends (drain i)) here (all (drain i) (omega arith)) in
       let ends = r.ends in
-      subst (λ (y : Held). Kept st.words (first_word plan i) y (held v.ends (drain i))) (sym f)
-      (subst (λ (y : Held). Kept st.words (first_word plan i) (r.truth (fill i)) y) (sym d) (r.kept i (omega arith)))
+      subst (λ (y : EndFacts). Kept st.words (first_word plan i) y (held v.ends (drain i))) (sym f)
+      (subst (λ (y : EndFacts). Kept st.words (first_word plan i) (r.truth (fill i)) y) (sym d) (r.kept i (omega arith)))
 
   close_cap : (i : ℕ) → i < n → (held v.ends (fill i)).cap ≡ cap_of plan i
   close_cap i there =
       let f : held v.ends (fill i) ≡ r.truth (fill i) = r.agree id v (fill i) (held v.ends (fill i)) here (all (fill i) (omega arith)) in
-      ap (λ (y : Held). y.cap) f ∙ (r.planned (fill i) (omega arith)).cap
+      ap (λ (y : EndFacts). y.cap) f ∙ (r.planned (fill i) (omega arith)).cap
 
   close_stream : (i : ℕ) → i < n → (held v.ends (fill i)).stream ≡ stream_of plan i
   close_stream i there =
       let f : held v.ends (fill i) ≡ r.truth (fill i) = r.agree id v (fill i) (held v.ends (fill i)) here (all (fill i) (omega arith)) in
-      ap (λ (y : Held). y.stream) f ∙ (r.planned (fill i) (omega arith)).stream
+      ap (λ (y : EndFacts). y.stream) f ∙ (r.planned (fill i) (omega arith)).stream
 
   close_number : (end : ℕ) → end < length plan → number_at numbers end ≡ (held v.ends end).passed
-  close_number end inside = ap (λ (o : Option ℕ). unwrap_or o 0) (tied end ∙ ap (option_map (λ (h : Held). h.passed)) (all end inside))
+  close_number end inside = ap (λ (o : Option ℕ). unwrap_or o 0) (tied end ∙ ap (option_map (λ (h : EndFacts). h.passed)) (all end inside))
 
   close_first : (i : ℕ) → i < n → get_or firsts i 0 ≡ first_word plan i
   close_first i there = let ends = laid.ends in laid.starts i (omega arith)
@@ -148,7 +148,7 @@ module _ {S : Type 0} (plan : Ends) (caps firsts : List ℕ) (table : TableId) (
       let gap = apart plan i (length caps) (omega arith) in
       let ordered = k.ordered in
       let room = k.room in
-      let wide : words_of (length p.places.items) ≡ words_of (cap_of plan i) = ap words_of size in
+      let wide : word_count (length p.places.items) ≡ word_count (cap_of plan i) = ap word_count size in
       record { inside = omega arith; ordered = omega arith; room = omega arith }
 
   close_restored : (words : List ℕ) → st.words ≡ words → (i : ℕ) (p q : Pair) → i < n → length p.places.items ≡ cap_of plan i
@@ -164,20 +164,20 @@ module _ {S : Type 0} (plan : Ends) (caps firsts : List ℕ) (table : TableId) (
         size = one.size ∙ cap;
         places = λ place below.
             one.places place (omega arith)
-            ∙ ap (λ (k : ℕ). shown place (get_or words (k + place / 2) 0) - 2147483648) (close_first i there)
-            ∙ ap (λ (ws : List ℕ). shown place (get_or ws (first_word plan i + place / 2) 0) - 2147483648) (sym are);
+            ∙ ap (λ (k : ℕ). word_half place (get_or words (k + place / 2) 0) - 2147483648) (close_first i there)
+            ∙ ap (λ (ws : List ℕ). word_half place (get_or ws (first_word plan i + place / 2) 0) - 2147483648) (sym are);
       }
 
   -- the plain stations stand for the streams
   pub close_stands : (words : List ℕ) (old new : List Pair) → st.words ≡ words → length old ≡ n → ((i : ℕ) (p : Pair) → slice_get old i ≡ Some p → length p.places.items ≡ cap_of plan i)
-      → Restored words firsts numbers old new (length old) → (streams : ℕ → List ℕ) → StandsFor plan streams → PlainStands new streams
+      → Restored words firsts numbers old new (length old) → (streams : ℕ → List ℕ) → AreStreamsOf plan streams → PlainStands new streams
   close_stands words old new are same sizes done streams stands i q at =
       let within = slice_get_within new i q at in
       let long = done.many in
       let was = station_there old i (omega arith) in
       let there : i < n = omega arith in
       let one = close_restored words are i was.0 q there (sizes i was.0 was.1) (done.done i was.0 q (omega arith) was.1 at) in
-      subst (Holds q) (close_stream i there ∙ stands i (omega arith)) (restored_holds st.words (first_word plan i) (held v.ends (fill i)) (held v.ends (drain i)) q (close_kept i there) one)
+      subst (HoldsTokensOf q) (close_stream i there ∙ stands i (omega arith)) (restored_holds st.words (first_word plan i) (held v.ends (fill i)) (held v.ends (drain i)) q (close_kept i there) one)
 
   -- and they show the numbers at their ends
   pub close_ends : (words : List ℕ) (old new : List Pair) → st.words ≡ words → length old ≡ n → ((i : ℕ) (p : Pair) → slice_get old i ≡ Some p → length p.places.items ≡ cap_of plan i)

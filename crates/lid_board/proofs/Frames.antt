@@ -7,10 +7,10 @@ use Rattle.std.proofs.lemmas.Option.{same_Some}
 use Rattle.atomic_table.specs.Table.{State}
 use Rattle.atomic_table.proofs.Lists.{at_set}
 use Rattle.lid_station.specs.Boards.{fill, drain}
-use Rattle.lid_board.specs.Relation.{AreWithin, Kept, Related, IsPlanned, words_of, first_word, cap_of, stream_of}
+use Rattle.lid_board.specs.Relation.{AreWithin, Kept, Related, IsPlanned, word_count, first_word, cap_of, stream_of}
 use Rattle.lid_board.specs.Views.{Ends, at, held, one_of, has, changed, sure, IsEarly}
-use Rattle.lid_board.specs.declared.view.Held.{Held}
-use Rattle.lid_board.specs.declared.view.View.{View}
+use Rattle.lid_board.specs.declared.view.EndFacts.{EndFacts}
+use Rattle.lid_board.specs.declared.view.HandView.{HandView}
 use Rattle.lid_board.proofs.Stations.{kept_frame}
 use mathlib.Core.Option.{some, some-ne-none, some-injective}
 use mathlib.Core.Logic.{dite}
@@ -18,28 +18,28 @@ use native.Mathlib.Decide.{dec_le, ℕ_discrete}
 use lib.ListN.{get_elem?}
 
 -- views by their numbers
-pub view_within : (views : List View) (id : ℕ) (v : View) → get_elem? views id ≡ some v → id < length views
+pub view_within : (views : List HandView) (id : ℕ) (v : HandView) → get_elem? views id ≡ some v → id < length views
 view_within [] id v e = absurd (some-ne-none v (sym e))
 view_within (x ∷ xs) zero v e = omega arith
 view_within (x ∷ xs) (suc id) v e = let h = view_within xs id v e in omega arith
 
-view-is : (views : List View) (id : ℕ) (v : View) → get_elem? views id ≡ some v → get_or views id v ≡ v
+view-is : (views : List HandView) (id : ℕ) (v : HandView) → get_elem? views id ≡ some v → get_or views id v ≡ v
 view-is [] id v e = absurd (some-ne-none v (sym e))
 view-is (x ∷ xs) zero v e = some-injective x v e
 view-is (x ∷ xs) (suc id) v e = view-is xs id v e
 
-pub sum_set : (f : View → ℕ) (views : List View) (id : ℕ) (v w : View) → get_elem? views id ≡ some v → sum_by f (set views id w) + f v ≡ sum_by f views + f w
+pub sum_set : (f : HandView → ℕ) (views : List HandView) (id : ℕ) (v w : HandView) → get_elem? views id ≡ some v → sum_by f (set views id w) + f v ≡ sum_by f views + f w
 sum_set f views id v w e =
     let s = sum_by-set f views id w v (view_within views id v e) in
     let same : f (get_or views id v) ≡ f v = ap f (view-is views id v e) in
     omega arith
 
-pub sum_one : (f : View → ℕ) (views : List View) (id : ℕ) (v : View) → get_elem? views id ≡ some v → f v ≤ sum_by f views
+pub sum_one : (f : HandView → ℕ) (views : List HandView) (id : ℕ) (v : HandView) → get_elem? views id ≡ some v → f v ≤ sum_by f views
 sum_one f [] id v e = absurd (some-ne-none v (sym e))
 sum_one f (x ∷ xs) zero v e = let same : f x ≡ f v = ap f (some-injective x v e) in let s = sum_by-cons f x xs in omega arith
 sum_one f (x ∷ xs) (suc id) v e = let h = sum_one f xs id v e in let s = sum_by-cons f x xs in omega arith
 
-pub sum_two : (f : View → ℕ) (views : List View) (i j : ℕ) (v w : View) → (i ≡ j → ⊥) → get_elem? views i ≡ some v → get_elem? views j ≡ some w → f v + f w ≤ sum_by f views
+pub sum_two : (f : HandView → ℕ) (views : List HandView) (i j : ℕ) (v w : HandView) → (i ≡ j → ⊥) → get_elem? views i ≡ some v → get_elem? views j ≡ some w → f v + f w ≤ sum_by f views
 sum_two f [] i j v w other e g = absurd (some-ne-none v (sym e))
 sum_two f (x ∷ xs) zero zero v w other e g = absurd (other refl)
 sum_two f (x ∷ xs) zero (suc j) v w other e g = let same : f x ≡ f v = ap f (some-injective x v e) in let h = sum_one f xs j w g in let s = sum_by-cons f x xs in omega arith
@@ -47,19 +47,19 @@ sum_two f (x ∷ xs) (suc i) zero v w other e g = let same : f x ≡ f w = ap f 
 sum_two f (x ∷ xs) (suc i) (suc j) v w other e g = let h = sum_two f xs i j v w (λ q. other (ap suc q)) e g in let s = sum_by-cons f x xs in omega arith
 
 -- an end that is there is within the list
-pub at-within : (ends : Ends) (end : ℕ) (h : Held) → at ends end ≡ Some h → end < length ends
+pub at-within : (ends : Ends) (end : ℕ) (h : EndFacts) → at ends end ≡ Some h → end < length ends
 at-within [] end h e = absurd (cc)
 at-within (x ∷ xs) zero h e = omega arith
 at-within (x ∷ xs) (suc end) h e = let l = at-within xs end h e in omega arith
 
-pub at_changed : (ends : Ends) (end : ℕ) (h g : Held) → at ends end ≡ Some h → at (changed ends end g) end ≡ Some g
+pub at_changed : (ends : Ends) (end : ℕ) (h g : EndFacts) → at ends end ≡ Some h → at (changed ends end g) end ≡ Some g
 at_changed ends end h g e = get_or-set_same ends end (Some g) None (at-within ends end h e)
 
-pub at-other : (ends : Ends) (end k : ℕ) (g : Held) → (k ≡ end → ⊥) → at (changed ends end g) k ≡ at ends k
+pub at-other : (ends : Ends) (end k : ℕ) (g : EndFacts) → (k ≡ end → ⊥) → at (changed ends end g) k ≡ at ends k
 at-other ends end k g other = get_or-set_other ends end k (Some g) None other
 
 -- a change at an end gives and takes no end
-pub has_changed : (ends : Ends) (end k : ℕ) (h g : Held) → at ends end ≡ Some h → one_of (at (changed ends end g) k) ≡ one_of (at ends k)
+pub has_changed : (ends : Ends) (end k : ℕ) (h g : EndFacts) → at ends end ≡ Some h → one_of (at (changed ends end g) k) ≡ one_of (at ends k)
 has_changed ends end k h g e =
     dite (ℕ_discrete k end)
     (λ same.
@@ -67,22 +67,22 @@ has_changed ends end k h g e =
     (λ other. ap one_of (at-other ends end k g other))
 
 -- the truth, changed at one end
-abbrev pub swapped : (ℕ → Held) → ℕ → Held → ℕ → Held
+abbrev pub swapped : (ℕ → EndFacts) → ℕ → EndFacts → ℕ → EndFacts
 swapped truth end h k = cond (k == end) h (truth k)
 
-pub swapped_here : (truth : ℕ → Held) (end : ℕ) (h : Held) → swapped truth end h end ≡ h
+pub swapped_here : (truth : ℕ → EndFacts) (end : ℕ) (h : EndFacts) → swapped truth end h end ≡ h
 swapped_here truth end h = rw (eq-eqb end end refl) refl
 
-pub swapped_else : (truth : ℕ → Held) (end k : ℕ) (h : Held) → (k ≡ end → ⊥) → swapped truth end h k ≡ truth k
+pub swapped_else : (truth : ℕ → EndFacts) (end k : ℕ) (h : EndFacts) → (k ≡ end → ⊥) → swapped truth end h k ≡ truth k
 swapped_else truth end k h other = rw (ne_eqb k end other) refl
 
 module _ (plan : Ends) where
   -- the words of two stations lie apart
-  pub apart : (one two : ℕ) → one < two → first_word plan one + words_of (cap_of plan one) ≤ first_word plan two
+  pub apart : (one two : ℕ) → one < two → first_word plan one + word_count (cap_of plan one) ≤ first_word plan two
   apart one zero less = absurd (omega arith)
   apart one (suc two) less =
       dite (ℕ_discrete one two)
-      (λ last. let e : first_word plan one + words_of (cap_of plan one) ≡ first_word plan two + words_of (cap_of plan two) = ap (λ (n : ℕ). first_word plan n + words_of (cap_of plan n)) last in omega arith)
+      (λ last. let e : first_word plan one + word_count (cap_of plan one) ≡ first_word plan two + word_count (cap_of plan two) = ap (λ (n : ℕ). first_word plan n + word_count (cap_of plan n)) last in omega arith)
       (λ earlier. let h = apart one two (omega arith) in omega arith)
 
   pub first-some : (station : ℕ) → 1 ≤ first_word plan station
@@ -90,7 +90,7 @@ module _ (plan : Ends) where
   first-some (suc station) = let h = first-some station in omega arith
 
   -- one word of one station changed; of another station all words are as they were
-  untouched : (words : List ℕ) (one two number k n : ℕ) → (one ≡ two → ⊥) → k < words_of (cap_of plan one) → number < words_of (cap_of plan two)
+  untouched : (words : List ℕ) (one two number k n : ℕ) → (one ≡ two → ⊥) → k < word_count (cap_of plan one) → number < word_count (cap_of plan two)
       → get_or (set words (first_word plan one + k) n) (first_word plan two + number) 0 ≡ get_or words (first_word plan two + number) 0
   untouched words one two number k n other inside below =
       get_or-set_other words (first_word plan one + k) (first_word plan two + number) n 0
@@ -101,7 +101,7 @@ module _ (plan : Ends) where
 
 module _ {S : Type 0} (plan : Ends) where
   -- who has an end knows the truth of it, and the end is of the board
-  pub end_within : (st : State S View) (id : ℕ) (v : View) (end : ℕ) (h : Held) → Related plan st → get_elem? st.views id ≡ some v → at v.ends end ≡ Some h → end < length plan
+  pub end_within : (st : State S HandView) (id : ℕ) (v : HandView) (end : ℕ) (h : EndFacts) → Related plan st → get_elem? st.views id ≡ some v → at v.ends end ≡ Some h → end < length plan
   end_within st id v end h r here e =
       dite (dec_le (length plan) end)
       (λ past.
@@ -112,13 +112,13 @@ module _ {S : Type 0} (plan : Ends) where
       (λ inside. lt_of_not-le inside)
 
   -- one end has changed, and each station is kept
-  pub steps : (st : State S View) (words : List ℕ) (homes : List (mathlib.Core.Option.Option S)) (id : ℕ) (v : View) (end : ℕ) (h g : Held) → (r : Related plan st)
+  pub steps : (st : State S HandView) (words : List ℕ) (homes : List (mathlib.Core.Option.Option S)) (id : ℕ) (v : HandView) (end : ℕ) (h g : EndFacts) → (r : Related plan st)
       → get_elem? st.views id ≡ some v → at v.ends end ≡ Some h → IsPlanned h g
       → length words ≡ length st.words → get_or words 0 0 ≡ 0
       → ((station : ℕ) → station < r.stations → Kept words (first_word plan station) (swapped r.truth end g (fill station)) (swapped r.truth end g (drain station)))
       → Related plan (record { words = words; homes = homes; views = set st.views id (record { ends = changed v.ends end g }) })
   steps st words homes id v end h g r here e same long free kept =
-      let w : View = record { ends = changed v.ends end g } in
+      let w : HandView = record { ends = changed v.ends end g } in
       let counts : (k : ℕ) → sum_by (has k) (set st.views id w) ≡ sum_by (has k) st.views =
       λ k. (let s = sum_set (has k) st.views id v w here in let t : has k w ≡ has k v = has_changed v.ends end k h g e in omega arith) in
       record {
@@ -132,7 +132,7 @@ module _ {S : Type 0} (plan : Ends) where
         agree = λ j u k x there is.
             elim (at_set st.views id j w u there) [
               | inl mine ↦
-                  let known : at w.ends k ≡ Some x = ap (λ (y : View). at y.ends k) mine.1 ∙ is in
+                  let known : at w.ends k ≡ Some x = ap (λ (y : HandView). at y.ends k) mine.1 ∙ is in
                   dite (ℕ_discrete k end)
                   (λ hit.
                   same_Some x g (sym known ∙ ap (λ (n : ℕ). at w.ends n) hit ∙ at_changed v.ends end h g e)
@@ -157,16 +157,16 @@ module _ {S : Type 0} (plan : Ends) where
             let now : swapped r.truth end g k ≡ g = ap (λ (n : ℕ). swapped r.truth end g n) hit ∙ swapped_here r.truth end g in
             let old : r.truth k ≡ h = ap r.truth hit ∙ sym true_h in
             record {
-              stream = ap (λ (y : Held). y.stream) now ∙ same.stream ∙ sym (ap (λ (y : Held). y.stream) old) ∙ was.stream;
-              start = ap (λ (y : Held). y.start) now ∙ same.start ∙ sym (ap (λ (y : Held). y.start) old) ∙ was.start;
-              cap = ap (λ (y : Held). y.cap) now ∙ same.cap ∙ sym (ap (λ (y : Held). y.cap) old) ∙ was.cap;
+              stream = ap (λ (y : EndFacts). y.stream) now ∙ same.stream ∙ sym (ap (λ (y : EndFacts). y.stream) old) ∙ was.stream;
+              start = ap (λ (y : EndFacts). y.start) now ∙ same.start ∙ sym (ap (λ (y : EndFacts). y.start) old) ∙ was.start;
+              cap = ap (λ (y : EndFacts). y.cap) now ∙ same.cap ∙ sym (ap (λ (y : EndFacts). y.cap) old) ∙ was.cap;
             })
             (λ miss. subst (IsPlanned (held plan k)) (sym (swapped_else r.truth end k g miss)) (r.planned k inside));
         kept = kept;
       }
 
   -- each station but one is kept, and that one too
-  each_kept : (st : State S View) (one k n end : ℕ) (g : Held) → (r : Related plan st) → k < words_of (cap_of plan one) → (end / 2 ≡ one)
+  each_kept : (st : State S HandView) (one k n end : ℕ) (g : EndFacts) → (r : Related plan st) → k < word_count (cap_of plan one) → (end / 2 ≡ one)
       → Kept (set st.words (first_word plan one + k) n) (first_word plan one) (swapped r.truth end g (fill one)) (swapped r.truth end g (drain one))
       → (station : ℕ) → station < r.stations
       → Kept (set st.words (first_word plan one + k) n) (first_word plan station) (swapped r.truth end g (fill station)) (swapped r.truth end g (drain station))
@@ -179,12 +179,12 @@ module _ {S : Type 0} (plan : Ends) where
       let drains : swapped r.truth end g (drain station) ≡ r.truth (drain station) = swapped_else r.truth end (drain station) g (λ e. other (omega arith)) in
       let cap : (r.truth (fill station)).cap ≡ cap_of plan station = (r.planned (fill station) (omega arith)).cap in
       let was = kept_frame st.words (set st.words (first_word plan one + k) n) (first_word plan station) (r.truth (fill station)) (r.truth (drain station)) (r.kept station there)
-      (λ number below. untouched plan st.words one station number k n other inside (let e : words_of (r.truth (fill station)).cap ≡ words_of (cap_of plan station) = ap words_of cap in omega arith)) in
-      subst (λ (y : Held). Kept (set st.words (first_word plan one + k) n) (first_word plan station) y (swapped r.truth end g (drain station))) (sym fills)
-      (subst (λ (y : Held). Kept (set st.words (first_word plan one + k) n) (first_word plan station) (r.truth (fill station)) y) (sym drains) was))
+      (λ number below. untouched plan st.words one station number k n other inside (let e : word_count (r.truth (fill station)).cap ≡ word_count (cap_of plan station) = ap word_count cap in omega arith)) in
+      subst (λ (y : EndFacts). Kept (set st.words (first_word plan one + k) n) (first_word plan station) y (swapped r.truth end g (drain station))) (sym fills)
+      (subst (λ (y : EndFacts). Kept (set st.words (first_word plan one + k) n) (first_word plan station) (r.truth (fill station)) y) (sym drains) was))
 
   -- no look missed early at the ends of a hand
-  pub is_early : (st : State S View) (id : ℕ) (v : View) → Related plan st → get_elem? st.views id ≡ some v → IsEarly v.ends
+  pub is_early : (st : State S HandView) (id : ℕ) (v : HandView) → Related plan st → get_elem? st.views id ≡ some v → IsEarly v.ends
   is_early st id v r here end h is early =
       let inside = end_within st id v end h r here is in
       let ends = r.ends in
@@ -196,19 +196,19 @@ module _ {S : Type 0} (plan : Ends) where
       let number : end ≡ fill station = omega arith in
       let x : h ≡ r.truth (fill station) = true_h ∙ ap r.truth number in
       let limit : sure end h ≡ h.cap = ap (λ (b : Bool). cond b h.cap h.start) (eq-eqb (end % 2) 0 even) in
-      let cap = ap (λ (y : Held). y.cap) x in
-      let passed = ap (λ (y : Held). y.passed) x in
-      ap (λ (y : Held). y.misses) x ∙ k.room_early (omega arith))
+      let cap = ap (λ (y : EndFacts). y.cap) x in
+      let passed = ap (λ (y : EndFacts). y.passed) x in
+      ap (λ (y : EndFacts). y.misses) x ∙ k.room_early (omega arith))
       (λ odd.
       let number : end ≡ drain station = omega arith in
       let x : h ≡ r.truth (drain station) = true_h ∙ ap r.truth number in
       let limit : sure end h ≡ h.start = ap (λ (b : Bool). cond b h.cap h.start) (ne_eqb (end % 2) 0 odd) in
-      let start = ap (λ (y : Held). y.start) x in
-      let passed = ap (λ (y : Held). y.passed) x in
-      ap (λ (y : Held). y.misses) x ∙ k.token_early (omega arith))
+      let start = ap (λ (y : EndFacts). y.start) x in
+      let passed = ap (λ (y : EndFacts). y.passed) x in
+      ap (λ (y : EndFacts). y.misses) x ∙ k.token_early (omega arith))
 
   -- no end of a hand was passed by more tokens than the stream has
-  pub are_within : (st : State S View) (id : ℕ) (v : View) → Related plan st → get_elem? st.views id ≡ some v → AreWithin plan v.ends
+  pub are_within : (st : State S HandView) (id : ℕ) (v : HandView) → Related plan st → get_elem? st.views id ≡ some v → AreWithin plan v.ends
   are_within st id v r here end h is =
       let inside = end_within st id v end h r here is in
       let ends = r.ends in
@@ -217,7 +217,7 @@ module _ {S : Type 0} (plan : Ends) where
       let within = k.within in
       let ordered = k.ordered in
       let long : length (r.truth (fill station)).stream ≡ length (stream_of plan station) = ap (λ (s : List ℕ). length s) (r.planned (fill station) (omega arith)).stream in
-      let known : h.passed ≡ (r.truth end).passed = ap (λ (y : Held). y.passed) (r.agree id v end h here is) in
+      let known : h.passed ≡ (r.truth end).passed = ap (λ (y : EndFacts). y.passed) (r.agree id v end h here is) in
       dite (ℕ_discrete (end % 2) 0)
       (λ even.
       let number : end ≡ fill station = omega arith in
@@ -229,8 +229,8 @@ module _ {S : Type 0} (plan : Ends) where
       omega arith)
 
   -- a step at an end that writes a word of its station
-  steps_at : (st : State S View) (homes : List (mathlib.Core.Option.Option S)) (id : ℕ) (v : View) (station k n end : ℕ) (h e : Held) → (r : Related plan st)
-      → get_elem? st.views id ≡ some v → at v.ends end ≡ Some h → IsPlanned h e → k < words_of (cap_of plan station) → end / 2 ≡ station
+  steps_at : (st : State S HandView) (homes : List (mathlib.Core.Option.Option S)) (id : ℕ) (v : HandView) (station k n end : ℕ) (h e : EndFacts) → (r : Related plan st)
+      → get_elem? st.views id ≡ some v → at v.ends end ≡ Some h → IsPlanned h e → k < word_count (cap_of plan station) → end / 2 ≡ station
       → Kept (set st.words (first_word plan station + k) n) (first_word plan station) (swapped r.truth end e (fill station)) (swapped r.truth end e (drain station))
       → Related plan (record { words = set st.words (first_word plan station + k) n; homes = homes; views = set st.views id (record { ends = changed v.ends end e }) })
   steps_at st homes id v station k n end h e r here is same inside side kept =
@@ -241,21 +241,21 @@ module _ {S : Type 0} (plan : Ends) where
       (each_kept st station k n end e r inside side kept)
 
   -- a step at a drained end
-  pub steps_in : (st : State S View) (homes : List (mathlib.Core.Option.Option S)) (id : ℕ) (v : View) (station k n : ℕ) (d e : Held) → (r : Related plan st)
-      → get_elem? st.views id ≡ some v → at v.ends (drain station) ≡ Some d → IsPlanned d e → k < words_of (cap_of plan station)
+  pub steps_in : (st : State S HandView) (homes : List (mathlib.Core.Option.Option S)) (id : ℕ) (v : HandView) (station k n : ℕ) (d e : EndFacts) → (r : Related plan st)
+      → get_elem? st.views id ≡ some v → at v.ends (drain station) ≡ Some d → IsPlanned d e → k < word_count (cap_of plan station)
       → Kept (set st.words (first_word plan station + k) n) (first_word plan station) (r.truth (fill station)) e
       → Related plan (record { words = set st.words (first_word plan station + k) n; homes = homes; views = set st.views id (record { ends = changed v.ends (drain station) e }) })
   steps_in st homes id v station k n d e r here is same inside kept =
       steps_at st homes id v station k n (drain station) d e r here is same inside (omega arith)
-      (subst (λ (y : Held). Kept (set st.words (first_word plan station + k) n) (first_word plan station) y (swapped r.truth (drain station) e (drain station))) (sym (swapped_else r.truth (drain station) (fill station) e (λ z. omega arith)))
-      (subst (λ (y : Held). Kept (set st.words (first_word plan station + k) n) (first_word plan station) (r.truth (fill station)) y) (sym (swapped_here r.truth (drain station) e)) kept))
+      (subst (λ (y : EndFacts). Kept (set st.words (first_word plan station + k) n) (first_word plan station) y (swapped r.truth (drain station) e (drain station))) (sym (swapped_else r.truth (drain station) (fill station) e (λ z. omega arith)))
+      (subst (λ (y : EndFacts). Kept (set st.words (first_word plan station + k) n) (first_word plan station) (r.truth (fill station)) y) (sym (swapped_here r.truth (drain station) e)) kept))
 
   -- a step at a filled end
-  pub steps_out : (st : State S View) (homes : List (mathlib.Core.Option.Option S)) (id : ℕ) (v : View) (station k n : ℕ) (f e : Held) → (r : Related plan st)
-      → get_elem? st.views id ≡ some v → at v.ends (fill station) ≡ Some f → IsPlanned f e → k < words_of (cap_of plan station)
+  pub steps_out : (st : State S HandView) (homes : List (mathlib.Core.Option.Option S)) (id : ℕ) (v : HandView) (station k n : ℕ) (f e : EndFacts) → (r : Related plan st)
+      → get_elem? st.views id ≡ some v → at v.ends (fill station) ≡ Some f → IsPlanned f e → k < word_count (cap_of plan station)
       → Kept (set st.words (first_word plan station + k) n) (first_word plan station) e (r.truth (drain station))
       → Related plan (record { words = set st.words (first_word plan station + k) n; homes = homes; views = set st.views id (record { ends = changed v.ends (fill station) e }) })
   steps_out st homes id v station k n f e r here is same inside kept =
       steps_at st homes id v station k n (fill station) f e r here is same inside (omega arith)
-      (subst (λ (y : Held). Kept (set st.words (first_word plan station + k) n) (first_word plan station) y (swapped r.truth (fill station) e (drain station))) (sym (swapped_here r.truth (fill station) e))
-      (subst (λ (y : Held). Kept (set st.words (first_word plan station + k) n) (first_word plan station) e y) (sym (swapped_else r.truth (fill station) (drain station) e (λ z. omega arith))) kept))
+      (subst (λ (y : EndFacts). Kept (set st.words (first_word plan station + k) n) (first_word plan station) y (swapped r.truth (fill station) e (drain station))) (sym (swapped_here r.truth (fill station) e))
+      (subst (λ (y : EndFacts). Kept (set st.words (first_word plan station + k) n) (first_word plan station) e y) (sym (swapped_else r.truth (fill station) (drain station) e (λ z. omega arith))) kept))

@@ -8,7 +8,7 @@ use Rattle.std.proofs.lemmas.List.Elements.{All-get_or}
 use Rattle.std.proofs.lemmas.Nat.Bits.{and_high_mask}
 use Rattle.lid_station.specs.Words.{half, half_of, word}
 use Rattle.lid_station.proofs.Words.{half_small, half_empty, half_token, half_free, half_full, one_turn}
-use Rattle.lid_board.specs.Halves.{shown, others, filling}
+use Rattle.lid_board.specs.Halves.{word_half, others, filling}
 use mathlib.Core.Logic.{dite}
 use native.Mathlib.Decide.{ℕ_discrete}
 
@@ -90,11 +90,11 @@ small_half cap stream put taken place ordered within small =
     let fits = half_small cap stream taken (put - taken) place small in
     omega arith
 
-even_shown : (place low high : ℕ) → place % 2 ≡ 0 → low < 4294967296 → shown place (low + 4294967296 * high) ≡ low
+even_shown : (place low high : ℕ) → place % 2 ≡ 0 → low < 4294967296 → word_half place (low + 4294967296 * high) ≡ low
 even_shown place low high even fits =
     ap (λ (b : Bool). cond b ((low + 4294967296 * high) % 4294967296) ((low + 4294967296 * high) / 4294967296)) (eq-eqb (place % 2) 0 even) ∙ omega arith
 
-odd_shown : (place low high : ℕ) → place % 2 ≡ 1 → low < 4294967296 → shown place (low + 4294967296 * high) ≡ high
+odd_shown : (place low high : ℕ) → place % 2 ≡ 1 → low < 4294967296 → word_half place (low + 4294967296 * high) ≡ high
 odd_shown place low high odd fits =
     ap (λ (b : Bool). cond b ((low + 4294967296 * high) % 4294967296) ((low + 4294967296 * high) / 4294967296)) (ne_eqb (place % 2) 0 (λ e. omega arith)) ∙ omega arith
 
@@ -127,7 +127,7 @@ odd_filled place low token odd fits =
 
 -- a word has the half of each of its places
 pub shown_word : (cap : ℕ) (stream : List ℕ) (put taken place : ℕ) → taken ≤ put → put ≤ length stream → All (λ token. token < 2147483648) stream
-    → shown place (word cap (take put stream) (take taken stream) (place / 2)) ≡ half_of cap (take put stream) (take taken stream) place
+    → word_half place (word cap (take put stream) (take taken stream) (place / 2)) ≡ half_of cap (take put stream) (take taken stream) place
 unfolding word
 shown_word cap stream put taken place ordered within small =
     let low = half_of cap (take put stream) (take taken stream) (2 * (place / 2)) in

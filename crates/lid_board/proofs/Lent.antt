@@ -3,7 +3,7 @@ use Rattle.std.proofs.Common.{◌≡◌, ℕ, zero, suc, ◌*◌, ◌/◌, List,
 use base.Stored.{Gv, gnum, gcons, coded_ℕ, coded_list}
 use Rattle.atomic_table.specs.Seated.{table_id_coded}
 use Rattle.lid_board.specs.Lending.{LentHandsComeBack}
-use Rattle.lid_board.specs.Owners.{plan_of, streams_in}
+use Rattle.lid_board.specs.Owners.{start_ends, streams_in}
 use Rattle.lid_board.specs.Relation.{AreWithin, stream_of}
 use Rattle.lid_board.specs.Views.{Ends, at, held_of}
 
@@ -29,16 +29,16 @@ same_made a b n m x y s t e = (cc, cc, cc, cc)
 pub come_back : LentHandsComeBack
 come_back lent back old new before after same of_old of_new =
     let made = same_made back lent (length new.ends.items) (length old.ends.items) (table_id_coded.code new.seat.table_id) (table_id_coded.code old.seat.table_id)
-    ((coded_list (coded_list coded_ℕ)).code (streams_in (plan_of after))) ((coded_list (coded_list coded_ℕ)).code (streams_in (plan_of before))) same in
+    ((coded_list (coded_list coded_ℕ)).code (streams_in (start_ends after))) ((coded_list (coded_list coded_ℕ)).code (streams_in (start_ends before))) same in
     let table : new.seat.table_id ≡ old.seat.table_id = table_id_coded.inj new.seat.table_id old.seat.table_id made.2 in
-    let streams : streams_in (plan_of after) ≡ streams_in (plan_of before) = (coded_list (coded_list coded_ℕ)).inj (streams_in (plan_of after)) (streams_in (plan_of before)) made.3 in
+    let streams : streams_in (start_ends after) ≡ streams_in (start_ends before) = (coded_list (coded_list coded_ℕ)).inj (streams_in (start_ends after)) (streams_in (start_ends before)) made.3 in
     record {
       same = made.0;
       of =
           record {
             table = table ∙ of_old.table;
             room = made.1 ∙ of_old.room;
-            within = within_too (plan_of after) (plan_of before) new.seat.me.0.ends streams of_new.within;
+            within = within_too (start_ends after) (start_ends before) new.seat.me.0.ends streams of_new.within;
           };
       ends = made.1;
     }

@@ -1,18 +1,17 @@
 -- The numbers that a hand keeps, where ends go from hand to hand.
 use Rattle.std.proofs.Common.{◌≡◌, ℕ, zero, suc, ◌+◌, ◌/◌, ◌<◌, ◌≤◌, ◌==◌, ◌||◌, cond, nat_lt, Bool, true, false, List, [], ◌∷◌, ◌++◌, length, get_or, take, drop, set, refl, sym, ◌∙◌, ap, subst, arith, eq-eqb, ne_eqb, lt-ltb, le-ltb, lt_of_not-le, get_or-set_same, get_or-set_other}
 use Rattle.std.specs.Prelude.{Option, Some, None, option_map}
-use Rattle.std.proofs.lemmas.List.{append-nil, take_all}
 use Rattle.std.proofs.lemmas.Option.{same_Some}
-use Rattle.std.proofs.Math.ListN.{drop_of_length-le}
 use Rattle.lid_station.specs.declared.looks.End.{End}
 use Rattle.lid_board.specs.Parting.{end_number, is_chosen, or_else, unseen, left_from, right_from, merged}
 use Rattle.lid_board.specs.Relation.{AreWithin, stream_of}
 use Rattle.lid_board.specs.Ties.{IsTied}
 use Rattle.lid_board.specs.Views.{Ends, at, sure, IsEarly}
-use Rattle.lid_board.specs.declared.view.Held.{Held}
+use Rattle.lid_board.specs.declared.view.EndFacts.{EndFacts}
 use Rattle.lid_board.proofs.Parting.{at_left, at_right, at_merged}
 use mathlib.Core.Logic.{dite}
 use native.Mathlib.Decide.{ℕ_discrete, dec_le}
+use Rattle.lid_base.proofs.Lists.{refilled}
 
 or_true : (b : Bool) → (b || true) ≡ true
 or_true true = refl
@@ -84,39 +83,32 @@ module _ (ends : List End) (i number : ℕ) (d : End) (inside : i < length ends)
       ∙ sym (ap (λ (b : Bool). cond b (get_or old k None) None) (chosen_here k hit)))
       (λ miss. get_or-set_other into number k z None miss ∙ after k ∙ sym (ap (λ (b : Bool). cond b (get_or old k None) None) (chosen_else k miss)))
 
--- a vector that was written through a slice
-pub written : {A : Type 0} (xs ys : List A) (n : ℕ) → length xs ≡ n → length ys ≡ n → take n (xs ++ drop (length xs) ys) ≡ xs
-written {A = A} xs ys n long same =
-    ap (λ (zs : List A). take n (xs ++ zs)) (drop_of_length-le ys (omega arith))
-    ∙ ap (take n) (append-nil xs)
-    ∙ take_all n xs (omega arith)
-
 -- and how long it is
 pub written_long : {A : Type 0} (xs ys : List A) (n : ℕ) → length xs ≡ n → length ys ≡ n → length (take n (xs ++ drop (length xs) ys)) ≡ length ys
-written_long {A = A} xs ys n long same = ap (λ (zs : List A). length zs) (written xs ys n long same) ∙ long ∙ sym same
+written_long {A = A} xs ys n long same = ap (λ (zs : List A). length zs) (refilled n xs ys long) ∙ long ∙ sym same
 
-abbrev passed_of : Option Held → Option ℕ
-passed_of o = option_map (λ (h : Held). h.passed) o
+abbrev passed_of : Option EndFacts → Option ℕ
+passed_of o = option_map (λ (h : EndFacts). h.passed) o
 
-passed_unseen : (o : Option Held) → passed_of (option_map unseen o) ≡ passed_of o
+passed_unseen : (o : Option EndFacts) → passed_of (option_map unseen o) ≡ passed_of o
 passed_unseen None = refl
 passed_unseen (Some h) = refl
 
-passed_left : (b : Bool) (o : Option Held) → cond b None (passed_of o) ≡ passed_of (cond b None o)
+passed_left : (b : Bool) (o : Option EndFacts) → cond b None (passed_of o) ≡ passed_of (cond b None o)
 passed_left true o = refl
 passed_left false o = refl
 
-passed_right : (b : Bool) (o : Option Held) → cond b (passed_of o) None ≡ passed_of (cond b (option_map unseen o) None)
+passed_right : (b : Bool) (o : Option EndFacts) → cond b (passed_of o) None ≡ passed_of (cond b (option_map unseen o) None)
 passed_right true o = sym (passed_unseen o)
 passed_right false o = refl
 
-passed_else : (o x : Option Held) → or_else (passed_of o) (passed_of x) ≡ passed_of (or_else o (option_map unseen x))
+passed_else : (o x : Option EndFacts) → or_else (passed_of o) (passed_of x) ≡ passed_of (or_else o (option_map unseen x))
 passed_else None x = sym (passed_unseen x)
 passed_else (Some h) x = refl
 
 -- what a vector that was written through a slice has at a place
 pub written_at : (xs ys : List (Option ℕ)) (n k : ℕ) (x : Option ℕ) → length xs ≡ n → length ys ≡ n → get_or xs k None ≡ x → get_or (take n (xs ++ drop (length xs) ys)) k None ≡ x
-written_at xs ys n k x long same is = ap (λ (zs : List (Option ℕ)). get_or zs k None) (written xs ys n long same) ∙ is
+written_at xs ys n k x long same is = ap (λ (zs : List (Option ℕ)). get_or zs k None) (refilled n xs ys long) ∙ is
 
 -- the numbers of the ends that stay
 pub tied_left : (old new : List (Option ℕ)) (ends : Ends) (chosen : ℕ → Bool) → IsTied old ends → ((k : ℕ) → get_or new k None ≡ cond (chosen k) None (get_or old k None)) → IsTied new (left_from chosen 0 ends)
@@ -133,40 +125,40 @@ pub tied_merged : (old others new : List (Option ℕ)) (ends more : Ends) → Is
 tied_merged old others new ends more tied tied_more taken k =
     taken k ∙ ap (λ (o : Option ℕ). or_else o (get_or others k None)) (tied k) ∙ ap (or_else (passed_of (at ends k))) (tied_more k) ∙ passed_else (at ends k) (at more k) ∙ sym (ap passed_of (at_merged ends more k))
 
-left_early : (b : Bool) (o : Option Held) (h : Held) → cond b None o ≡ Some h → o ≡ Some h
+left_early : (b : Bool) (o : Option EndFacts) (h : EndFacts) → cond b None o ≡ Some h → o ≡ Some h
 left_early true o h e = absurd (cc)
 left_early false o h e = e
 
-right_early : (b : Bool) (o : Option Held) (h : Held) → cond b (option_map unseen o) None ≡ Some h → (x : Held) × (o ≡ Some x) × (unseen x ≡ h)
+right_early : (b : Bool) (o : Option EndFacts) (h : EndFacts) → cond b (option_map unseen o) None ≡ Some h → (x : EndFacts) × (o ≡ Some x) × (unseen x ≡ h)
 right_early true None h e = absurd (cc)
 right_early true (Some x) h e = (x, refl, same_Some (unseen x) h e)
 right_early false o h e = absurd (cc)
 
 -- what holds at each end of a hand, whether or not it was seen there, holds at each end that stays, and
 -- at each that goes
-each_left : (P : ℕ → Held → Type 0) (ends : Ends) (chosen : ℕ → Bool) → ((k : ℕ) (h : Held) → at ends k ≡ Some h → P k h)
-    → (k : ℕ) (h : Held) → at (left_from chosen 0 ends) k ≡ Some h → P k h
+each_left : (P : ℕ → EndFacts → Type 0) (ends : Ends) (chosen : ℕ → Bool) → ((k : ℕ) (h : EndFacts) → at ends k ≡ Some h → P k h)
+    → (k : ℕ) (h : EndFacts) → at (left_from chosen 0 ends) k ≡ Some h → P k h
 each_left P ends chosen each k h is = each k h (left_early (chosen k) (at ends k) h (sym (at_left chosen ends k) ∙ is))
 
-each_right : (P : ℕ → Held → Type 0) (ends : Ends) (chosen : ℕ → Bool) → ((k : ℕ) (h : Held) → at ends k ≡ Some h → P k (unseen h))
-    → (k : ℕ) (h : Held) → at (right_from chosen 0 ends) k ≡ Some h → P k h
+each_right : (P : ℕ → EndFacts → Type 0) (ends : Ends) (chosen : ℕ → Bool) → ((k : ℕ) (h : EndFacts) → at ends k ≡ Some h → P k (unseen h))
+    → (k : ℕ) (h : EndFacts) → at (right_from chosen 0 ends) k ≡ Some h → P k h
 each_right P ends chosen each k h is =
     let was = right_early (chosen k) (at ends k) h (sym (at_right chosen ends k) ∙ is) in
     subst (P k) was.2 (each k was.0 was.1)
 
-merged_early : (o x : Option Held) (h : Held) → or_else o (option_map unseen x) ≡ Some h → (P : Held → Type 0) → ((y : Held) → o ≡ Some y → P y) → ((y : Held) → x ≡ Some y → P (unseen y)) → P h
+merged_early : (o x : Option EndFacts) (h : EndFacts) → or_else o (option_map unseen x) ≡ Some h → (P : EndFacts → Type 0) → ((y : EndFacts) → o ≡ Some y → P y) → ((y : EndFacts) → x ≡ Some y → P (unseen y)) → P h
 merged_early None None h e P one two = absurd (cc)
 merged_early None (Some y) h e P one two = subst P (same_Some (unseen y) h e) (two y refl)
 merged_early (Some z) x h e P one two = subst P (same_Some z h e) (one z refl)
 
 -- and at each end of two hands
-each_merged : (P : ℕ → Held → Type 0) (ends more : Ends) → ((k : ℕ) (h : Held) → at ends k ≡ Some h → P k h) → ((k : ℕ) (h : Held) → at more k ≡ Some h → P k (unseen h))
-    → (k : ℕ) (h : Held) → at (merged ends more) k ≡ Some h → P k h
+each_merged : (P : ℕ → EndFacts → Type 0) (ends more : Ends) → ((k : ℕ) (h : EndFacts) → at ends k ≡ Some h → P k h) → ((k : ℕ) (h : EndFacts) → at more k ≡ Some h → P k (unseen h))
+    → (k : ℕ) (h : EndFacts) → at (merged ends more) k ≡ Some h → P k h
 each_merged P ends more one two k h is =
     merged_early (at ends k) (at more k) h (sym (at_merged ends more k) ∙ is) (P k) (one k) (two k)
 
 -- no look missed early at the ends
-abbrev early_at : ℕ → Held → Type 0
+abbrev early_at : ℕ → EndFacts → Type 0
 early_at k h = h.passed < sure k h → h.misses ≡ 0
 
 pub early_left : (ends : Ends) (chosen : ℕ → Bool) → IsEarly ends → IsEarly (left_from chosen 0 ends)

@@ -11,21 +11,21 @@ use Rattle.lid_station.specs.Boards.{fill, drain}
 use Rattle.lid_board.specs.Prefixes.{Prefix, StationsKeepPrefixes, passed_list}
 use Rattle.lid_board.specs.Relation.{Kept, cap_of, stream_of}
 use Rattle.lid_board.specs.Views.{at, has, one_of}
-use Rattle.lid_board.specs.declared.view.Held.{Held}
-use Rattle.lid_board.specs.declared.view.View.{View}
+use Rattle.lid_board.specs.declared.view.EndFacts.{EndFacts}
+use Rattle.lid_board.specs.declared.view.HandView.{HandView}
 
 -- one of the views has an end that is counted
-abbrev HolderOf : List View → ℕ → Type 0
-HolderOf views end = (h : Held) × (j : ℕ) × (v : View) × (get_elem? views j ≡ some v) × (at v.ends end ≡ Some h)
+abbrev HolderOf : List HandView → ℕ → Type 0
+HolderOf views end = (h : EndFacts) × (j : ℕ) × (v : HandView) × (get_elem? views j ≡ some v) × (at v.ends end ≡ Some h)
 
-later : (v : View) (vs : List View) (end : ℕ) → HolderOf vs end → HolderOf (v ∷ vs) end
+later : (v : HandView) (vs : List HandView) (end : ℕ) → HolderOf vs end → HolderOf (v ∷ vs) end
 later v vs end t = (t.0, suc t.1, t.2, t.3, t.4)
 
-first_or : (v : View) (vs : List View) (end : ℕ) (o : Option Held) → at v.ends end ≡ o → (one_of o ≡ 0 → HolderOf vs end) → HolderOf (v ∷ vs) end
+first_or : (v : HandView) (vs : List HandView) (end : ℕ) (o : Option EndFacts) → at v.ends end ≡ o → (one_of o ≡ 0 → HolderOf vs end) → HolderOf (v ∷ vs) end
 first_or v vs end None is more = later v vs end (more refl)
 first_or v vs end (Some h) is more = (h, 0, v, refl, is)
 
-holder : (views : List View) (end : ℕ) → 1 ≤ sum_by (has end) views → HolderOf views end
+holder : (views : List HandView) (end : ℕ) → 1 ≤ sum_by (has end) views → HolderOf views end
 holder [] end le = absurd (omega arith)
 holder (v ∷ vs) end le =
     let s = sum_by-cons (has end) v vs in
@@ -43,7 +43,7 @@ part_of_all : (xs : List ℕ) (n : ℕ) → Extends (take n xs) xs
 part_of_all xs n = (drop n xs, sym (take-append-drop n xs))
 
 -- one station
-kept_prefix : (words : List ℕ) (first : ℕ) (f d : Held) → Kept words first f d → Prefix f.cap (passed_list f) (passed_list d) f.stream
+kept_prefix : (words : List ℕ) (first : ℕ) (f d : EndFacts) → Kept words first f d → Prefix f.cap (passed_list f) (passed_list d) f.stream
 kept_prefix words first f d k =
     let same : d.stream ≡ f.stream = k.fixed.stream in
     let in_long = length-take-le f.passed f.stream k.within in
@@ -75,6 +75,6 @@ keep_prefixes plan st r station inside =
           let here : Prefix (cap_of plan station) (passed_list (r.truth (fill station))) (passed_list (r.truth (drain station))) (stream_of plan station) =
           subst (λ (cap : ℕ). Prefix cap (passed_list (r.truth (fill station))) (passed_list (r.truth (drain station))) (stream_of plan station)) p.cap
           (subst (λ (s : List ℕ). Prefix (r.truth (fill station)).cap (passed_list (r.truth (fill station))) (passed_list (r.truth (drain station))) s) p.stream truly) in
-          subst (λ (g : Held). Prefix (cap_of plan station) (passed_list g) (passed_list d) (stream_of plan station)) (sym f_is)
-          (subst (λ (g : Held). Prefix (cap_of plan station) (passed_list (r.truth (fill station))) (passed_list g) (stream_of plan station)) (sym d_is) here);
+          subst (λ (g : EndFacts). Prefix (cap_of plan station) (passed_list g) (passed_list d) (stream_of plan station)) (sym f_is)
+          (subst (λ (g : EndFacts). Prefix (cap_of plan station) (passed_list (r.truth (fill station))) (passed_list g) (stream_of plan station)) (sym d_is) here);
     }

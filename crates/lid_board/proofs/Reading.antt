@@ -6,23 +6,23 @@ use Rattle.std.proofs.lemmas.List.Elements.{All-get_or, All-take}
 use Rattle.std.proofs.lemmas.Option.{slice_get-get_or, slice_get_within, get_or_from_slice_get}
 use Rattle.lid_station.specs.Words.{half_of, word, word_number}
 use Rattle.lid_station.proofs.Words.{word_nothing, word_full_even, word_full_odd}
-use Rattle.lid_board.specs.Halves.{shown, others, filling}
+use Rattle.lid_board.specs.Halves.{word_half, others, filling}
 use Rattle.lid_board.specs.Relation.{Kept}
 use Rattle.lid_station.specs.Boards.{HasFullBits}
 use Rattle.lid_board.specs.Told.{ShowsNext}
 use Rattle.lid_board.specs.Views.{passing}
-use Rattle.lid_board.specs.declared.view.Held.{Held}
+use Rattle.lid_board.specs.declared.view.EndFacts.{EndFacts}
 use Rattle.lid_board.proofs.Halving.{shown_word, token-there, room-there, full_there}
 use Rattle.lid_board.proofs.Stations.{place_within, kept_taken, kept_put}
 
-module _ (words : List ℕ) (first : ℕ) (f d : Held) where
+module _ (words : List ℕ) (first : ℕ) (f d : EndFacts) where
   -- the word that has a place of the station
   word-at : (passed place : ℕ) → Kept words first f d → place ≡ passed % f.cap → get_or words (first + place / 2) 0 ≡ word f.cap (take f.passed f.stream) (take d.passed f.stream) (place / 2)
   word-at passed place k is = k.shows (place / 2) (let w = place_within f.cap passed k.fixed.two in let e : place / 2 ≡ passed % f.cap / 2 = ap (λ (n : ℕ). n / 2) is in omega arith)
 
-  half-at : (passed place : ℕ) → Kept words first f d → place ≡ passed % f.cap → shown place (get_or words (first + place / 2) 0) ≡ half_of f.cap (take f.passed f.stream) (take d.passed f.stream) (passed % f.cap)
+  half-at : (passed place : ℕ) → Kept words first f d → place ≡ passed % f.cap → word_half place (get_or words (first + place / 2) 0) ≡ half_of f.cap (take f.passed f.stream) (take d.passed f.stream) (passed % f.cap)
   half-at passed place k is =
-      ap (shown place) (word-at passed place k is)
+      ap (word_half place) (word-at passed place k is)
       ∙ shown_word f.cap f.stream f.passed d.passed place k.ordered k.within k.fixed.small
       ∙ ap (half_of f.cap (take f.passed f.stream) (take d.passed f.stream)) is
 
@@ -34,7 +34,7 @@ module _ (words : List ℕ) (first : ℕ) (f d : Held) where
       ∙ word_nothing f.cap (take f.passed f.stream) (take d.passed f.stream) (place / 2) (let e : length (take f.passed f.stream) ≡ length (take d.passed f.stream) = ap (λ (n : ℕ). length (take n f.stream)) same in omega arith)
 
   -- else the place shows the next token
-  pub reads_token : (place : ℕ) → Kept words first f d → place ≡ d.passed % f.cap → d.passed < f.passed → ShowsNext d (shown place (get_or words (first + place / 2) 0))
+  pub reads_token : (place : ℕ) → Kept words first f d → place ≡ d.passed % f.cap → d.passed < f.passed → ShowsNext d (word_half place (get_or words (first + place / 2) 0))
   reads_token place k is some =
       let shows = half-at d.passed place k is ∙ token-there f.cap f.stream f.passed d.passed some k.within k.room in
       let inside : d.passed < length f.stream = (let w = k.within in omega arith) in
@@ -49,11 +49,11 @@ module _ (words : List ℕ) (first : ℕ) (f d : Held) where
       }
 
   -- a station with room shows 0 in the place of the next token that is put
-  pub reads_room : (place : ℕ) → Kept words first f d → place ≡ f.passed % f.cap → f.passed < d.passed + f.cap → shown place (get_or words (first + place / 2) 0) ≡ 0
+  pub reads_room : (place : ℕ) → Kept words first f d → place ≡ f.passed % f.cap → f.passed < d.passed + f.cap → word_half place (get_or words (first + place / 2) 0) ≡ 0
   reads_room place k is some = half-at f.passed place k is ∙ room-there f.cap f.stream f.passed d.passed k.ordered k.within some
 
   -- a full one does not
-  pub reads_full : (place : ℕ) → Kept words first f d → place ≡ f.passed % f.cap → d.passed + f.cap ≤ f.passed → 2147483648 ≤ shown place (get_or words (first + place / 2) 0)
+  pub reads_full : (place : ℕ) → Kept words first f d → place ≡ f.passed % f.cap → d.passed + f.cap ≤ f.passed → 2147483648 ≤ word_half place (get_or words (first + place / 2) 0)
   reads_full place k is full =
       let shows = half-at f.passed place k is in
       let two = k.fixed.two in
@@ -89,7 +89,7 @@ module _ (words : List ℕ) (first : ℕ) (f d : Held) where
       }
 
   -- a load changes no word
-  pub kept_load : (spot : ℕ) (e g : Held) → Kept words first e g → Kept (set words spot (get_or words spot 0)) first e g
+  pub kept_load : (spot : ℕ) (e g : EndFacts) → Kept words first e g → Kept (set words spot (get_or words spot 0)) first e g
   kept_load spot e g k = subst (λ (ws : List ℕ). Kept ws first e g) (sym (set-get_or words spot 0)) k
 
   pub kept_taken_at : (place : ℕ) → Kept words first f d → place ≡ d.passed % f.cap → d.passed < f.passed → first + place / 2 < length words

@@ -12,37 +12,37 @@ use Rattle.lid_station.specs.Starts.{start_count}
 use Rattle.lid_station.specs.Words.{word}
 use Rattle.lid_station.proofs.Words.{word_nothing}
 use Rattle.lid_board.specs.Halves.{filling}
-use Rattle.lid_board.specs.Relation.{AreWithin, Kept, Related, words_of, first_word, cap_of, stream_of}
-use Rattle.lid_board.specs.Starts.{starts_from, starts, start_fill, start_drain, start_word, first_of, Begins, AreLaid, AreFirsts, AreNumbers, HasLaid}
-use Rattle.lid_board.specs.Ties.{IsTied, IsLaid}
+use Rattle.lid_board.specs.Relation.{AreWithin, Kept, Related, word_count, first_word, cap_of, stream_of}
+use Rattle.lid_board.specs.Starts.{starts_from, starts, start_fill, start_drain, start_word, first_of, AreStreamsFor, AreLaid, AreFirsts, AreNumbers, HasLaidWords}
+use Rattle.lid_board.specs.Ties.{IsTied, IsLaidTable}
 use Rattle.lid_board.specs.Views.{Ends, at, has, held, held_of, one_of, IsEarly}
-use Rattle.lid_board.specs.declared.view.Held.{Held}
-use Rattle.lid_board.specs.declared.view.View.{View}
+use Rattle.lid_board.specs.declared.view.EndFacts.{EndFacts}
+use Rattle.lid_board.specs.declared.view.HandView.{HandView}
 use Rattle.lid_board.proofs.Halving.{put_here, put_else}
 use mathlib.Core.Option.{some, some-injective, some-ne-none}
 use mathlib.Core.Logic.{dite}
 use native.Mathlib.Decide.{dec_le, ℕ_discrete}
 use lib.ListN.{get_elem?}
 
-first_of_apart : (caps : List ℕ) (one two : ℕ) → one < two → first_of caps one + words_of (get_or caps one 0) ≤ first_of caps two
+first_of_apart : (caps : List ℕ) (one two : ℕ) → one < two → first_of caps one + word_count (get_or caps one 0) ≤ first_of caps two
 first_of_apart caps one zero less = absurd (omega arith)
 first_of_apart caps one (suc two) less =
     dite (ℕ_discrete one two)
-    (λ last. let e : first_of caps one + words_of (get_or caps one 0) ≡ first_of caps two + words_of (get_or caps two 0) = ap (λ (n : ℕ). first_of caps n + words_of (get_or caps n 0)) last in omega arith)
+    (λ last. let e : first_of caps one + word_count (get_or caps one 0) ≡ first_of caps two + word_count (get_or caps two 0) = ap (λ (n : ℕ). first_of caps n + word_count (get_or caps n 0)) last in omega arith)
     (λ earlier. let h = first_of_apart caps one two (omega arith) in omega arith)
 
 first_of_some : (caps : List ℕ) (station : ℕ) → 1 ≤ first_of caps station
 first_of_some caps zero = omega arith
 first_of_some caps (suc station) = let h = first_of_some caps station in omega arith
 
-first_of_next : (caps : List ℕ) (station : ℕ) → first_of caps (station + 1) ≡ first_of caps station + words_of (get_or caps station 0)
+first_of_next : (caps : List ℕ) (station : ℕ) → first_of caps (station + 1) ≡ first_of caps station + word_count (get_or caps station 0)
 first_of_next caps station = let e : station + 1 ≡ suc station = omega arith in ap (first_of caps) e
 
 -- the words of one station more
 pub are_laid_more : (firsts : List (Option ℕ)) (caps words now : List ℕ) (stations : ℕ) → ((s : ℕ) → s < stations + 1 → 2 ≤ get_or caps s 0) → AreLaid firsts caps words stations
-    → (n cap : ℕ) → n ≡ start_word (get_or firsts stations None) → cap ≡ get_or caps stations 0 → HasLaid words n (words_of cap) now → AreLaid firsts caps now (stations + 1)
+    → (n cap : ℕ) → n ≡ start_word (get_or firsts stations None) → cap ≡ get_or caps stations 0 → HasLaidWords words n (word_count cap) now → AreLaid firsts caps now (stations + 1)
 are_laid_more firsts caps words now stations two a n cap n_is cap_is h =
-    let wide : words_of cap ≡ words_of (get_or caps stations 0) = ap words_of cap_is in
+    let wide : word_count cap ≡ word_count (get_or caps stations 0) = ap word_count cap_is in
     let long = a.long in
     let longer = h.long in
     let next = first_of_next caps stations in
@@ -84,7 +84,7 @@ are_firsts_more caps numbers stations first a is =
           (λ earlier. get_or_append_left numbers (first ∷ []) 0 station (omega arith) ∙ a.each station (omega arith));
     }
 
-only : (v u : View) (j : ℕ) → get_elem? (v ∷ []) j ≡ some u → v ≡ u
+only : (v u : HandView) (j : ℕ) → get_elem? (v ∷ []) j ≡ some u → v ≡ u
 only v u zero e = some-injective v u e
 only v u (suc j) e = absurd (some-ne-none u (sym e))
 
@@ -125,16 +125,16 @@ module _ (firsts : List (Option ℕ)) (caps : List ℕ) (streams : List (List �
         ∙ ap (λ (n : ℕ). Some (start_drain firsts caps streams n)) (let e : 0 + station ≡ station = omega arith in e)
 
     plan_cap : (station : ℕ) → station < length firsts → cap_of plan station ≡ get_or caps station 0
-    plan_cap station there = ap (λ (o : Option Held). (held_of o).cap) (plan_fill station there)
+    plan_cap station there = ap (λ (o : Option EndFacts). (held_of o).cap) (plan_fill station there)
 
     pub plan_stream : (station : ℕ) → station < length firsts → stream_of plan station ≡ get_or streams station []
-    plan_stream station there = ap (λ (o : Option Held). (held_of o).stream) (plan_fill station there)
+    plan_stream station there = ap (λ (o : Option EndFacts). (held_of o).stream) (plan_fill station there)
 
     plan_first : (station : ℕ) → station ≤ length firsts → first_word plan station ≡ first_of caps station
     plan_first zero le = refl
     plan_first (suc station) le =
-        ap (λ (n : ℕ). n + words_of (cap_of plan station)) (plan_first station (omega arith))
-        ∙ ap (λ (n : ℕ). first_of caps station + words_of n) (plan_cap station (omega arith))
+        ap (λ (n : ℕ). n + word_count (cap_of plan station)) (plan_first station (omega arith))
+        ∙ ap (λ (n : ℕ). first_of caps station + word_count n) (plan_cap station (omega arith))
 
     low_first : ((s : ℕ) → s < length firsts → get_or caps s 0 ≤ 16) → (station : ℕ) → station ≤ length firsts → first_of caps station ≤ 1 + 8 * station
     low_first most zero le = omega arith
@@ -142,7 +142,7 @@ module _ (firsts : List (Option ℕ)) (caps : List ℕ) (streams : List (List �
 
     -- the board keeps what the plan says
     pub plan_laid : (firsts_kept : List ℕ) (table : TableId) (words : List ℕ) → length firsts < 2 ^ 32 → length caps ≡ length firsts → All (λ cap. 2 ≤ cap) caps → All (λ cap. cap ≤ 16) caps
-        → AreFirsts caps firsts_kept (length firsts) → AreLaid firsts caps words (length firsts) → table.words ≡ length words → table.slots ≡ 0 → IsLaid plan caps firsts_kept table
+        → AreFirsts caps firsts_kept (length firsts) → AreLaid firsts caps words (length firsts) → table.words ≡ length words → table.slots ≡ 0 → IsLaidTable plan caps firsts_kept table
     plan_laid firsts_kept table words few same two most numbers laid many slots =
         let long = plan_long in
         let count = numbers.many in
@@ -167,7 +167,7 @@ module _ (firsts : List (Option ℕ)) (caps : List ℕ) (streams : List (List �
     plan_tied numbers a end =
         let long = a.long in
         let ends = plan_long in
-        let passed : Option Held → Option ℕ = option_map (λ (h : Held). h.passed) in
+        let passed : Option EndFacts → Option ℕ = option_map (λ (h : EndFacts). h.passed) in
         dite (dec_le (2 * length firsts) end)
         (λ past. get_or_past numbers end None (omega arith) ∙ sym (ap passed (get_or_past plan end None (omega arith))))
         (λ inside.
@@ -191,8 +191,8 @@ module _ (firsts : List (Option ℕ)) (caps : List ℕ) (streams : List (List �
 
     -- the words of a station at its start
     start_shows : (first : Option ℕ) (cap : ℕ) (stream words : List ℕ) (spot : ℕ) → 2 ≤ cap → All (λ token. token < 2 ^ 31) stream → ((token : ℕ) → first ≡ Some token → slice_get stream 0 ≡ Some token)
-        → get_or words spot 0 ≡ start_word first → ((number : ℕ) → number + 1 < words_of cap → get_or words (spot + (number + 1)) 0 ≡ 0)
-        → (number : ℕ) → number < words_of cap → get_or words (spot + number) 0 ≡ word cap (take (start_count first) stream) (take 0 stream) number
+        → get_or words spot 0 ≡ start_word first → ((number : ℕ) → number + 1 < word_count cap → get_or words (spot + (number + 1)) 0 ≡ 0)
+        → (number : ℕ) → number < word_count cap → get_or words (spot + number) 0 ≡ word cap (take (start_count first) stream) (take 0 stream) number
     start_shows None cap stream words spot two small begins here others number inside =
         dite (ℕ_discrete number 0)
         (λ none. ap (λ (n : ℕ). get_or words n 0) (let e : spot + number ≡ spot = omega arith in e) ∙ here ∙ sym (word_nothing cap (take 0 stream) (take 0 stream) number (omega arith)))
@@ -217,10 +217,10 @@ module _ (firsts : List (Option ℕ)) (caps : List ℕ) (streams : List (List �
         ∙ sym (put_else cap stream 0 0 number (omega arith) within (λ e. more (e ∙ ap (λ (p : ℕ). p / 2) place)) ∙ nothing number (omega arith)))
 
     -- a start token is the first of its stream
-    start_begins : Begins firsts streams → (station : ℕ) → station < length firsts → (token : ℕ) → get_or firsts station None ≡ Some token → slice_get (get_or streams station []) 0 ≡ Some token
+    start_begins : AreStreamsFor firsts streams → (station : ℕ) → station < length firsts → (token : ℕ) → get_or firsts station None ≡ Some token → slice_get (get_or streams station []) 0 ≡ Some token
     start_begins b station there token e = b.first station token (slice_get-get_or firsts station None there ∙ ap (λ (o : Option ℕ). Some o) e)
 
-    start_kept : (words : List ℕ) (station : ℕ) → station < length firsts → Begins firsts streams → length caps ≡ length firsts → All (λ cap. 2 ≤ cap) caps → All (λ cap. cap ≤ 16) caps → AreLaid firsts caps words (length firsts)
+    start_kept : (words : List ℕ) (station : ℕ) → station < length firsts → AreStreamsFor firsts streams → length caps ≡ length firsts → All (λ cap. 2 ≤ cap) caps → All (λ cap. cap ≤ 16) caps → AreLaid firsts caps words (length firsts)
         → Kept words (first_word plan station) (start_fill firsts caps streams station) (start_drain firsts caps streams station)
     start_kept words station there begins same two most laid =
         let first = get_or firsts station None in
@@ -258,7 +258,7 @@ module _ (firsts : List (Option ℕ)) (caps : List ℕ) (streams : List (List �
         }
 
     -- the board is related to the plan at its start
-    pub start_related : {S : Type 0} (words : List ℕ) (homes : List (mathlib.Core.Option.Option S)) (v : View) → v.ends ≡ plan → Begins firsts streams → length caps ≡ length firsts → All (λ cap. 2 ≤ cap) caps → All (λ cap. cap ≤ 16) caps → AreLaid firsts caps words (length firsts)
+    pub start_related : {S : Type 0} (words : List ℕ) (homes : List (mathlib.Core.Option.Option S)) (v : HandView) → v.ends ≡ plan → AreStreamsFor firsts streams → length caps ≡ length firsts → All (λ cap. 2 ≤ cap) caps → All (λ cap. cap ≤ 16) caps → AreLaid firsts caps words (length firsts)
         → Related plan (record { words = words; homes = homes; views = v ∷ [] })
     start_related words homes v ends begins same two most laid =
         let long = plan_long in
@@ -288,12 +288,12 @@ module _ (firsts : List (Option ℕ)) (caps : List ℕ) (streams : List (List �
               omega arith;
           agree = λ j u end h here e.
               let u_is : v ≡ u = only v u j here in
-              let known : at plan end ≡ Some h = ap (λ (p : Ends). at p end) (sym ends ∙ ap (λ (y : View). y.ends) u_is) ∙ e in
+              let known : at plan end ≡ Some h = ap (λ (p : Ends). at p end) (sym ends ∙ ap (λ (y : HandView). y.ends) u_is) ∙ e in
               sym (ap held_of known);
           planned = λ end inside. record { stream = refl; start = refl; cap = refl };
           kept = λ station there.
-              subst (λ (y : Held). Kept words (first_word plan station) y (held plan (drain station))) (sym (ap held_of (plan_fill station there)))
-              (subst (λ (y : Held). Kept words (first_word plan station) (start_fill firsts caps streams station) y) (sym (ap held_of (plan_drain station there)))
+              subst (λ (y : EndFacts). Kept words (first_word plan station) y (held plan (drain station))) (sym (ap held_of (plan_fill station there)))
+              (subst (λ (y : EndFacts). Kept words (first_word plan station) (start_fill firsts caps streams station) y) (sym (ap held_of (plan_drain station there)))
               (start_kept words station there begins same two most laid));
         }
 
@@ -308,14 +308,14 @@ module _ (firsts : List (Option ℕ)) (caps : List ℕ) (streams : List (List �
         (λ even.
         let number : end ≡ 2 * (end / 2) = omega arith in
         let is : start_fill firsts caps streams (end / 2) ≡ h = same_Some _ h (sym (plan_fill (end / 2) (omega arith)) ∙ ap (at plan) (sym number) ∙ here) in
-        sym (ap (λ (y : Held). y.misses) is))
+        sym (ap (λ (y : EndFacts). y.misses) is))
         (λ odd.
         let number : end ≡ 2 * (end / 2) + 1 = omega arith in
         let is : start_drain firsts caps streams (end / 2) ≡ h = same_Some _ h (sym (plan_drain (end / 2) (omega arith)) ∙ ap (at plan) (sym number) ∙ here) in
-        sym (ap (λ (y : Held). y.misses) is)))
+        sym (ap (λ (y : EndFacts). y.misses) is)))
 
     -- no more tokens have passed than the streams have
-    pub plan_within : Begins firsts streams → AreWithin plan plan
+    pub plan_within : AreStreamsFor firsts streams → AreWithin plan plan
     plan_within begins end h here =
         let long = plan_long in
         dite (dec_le (2 * length firsts) end)
@@ -326,11 +326,11 @@ module _ (firsts : List (Option ℕ)) (caps : List ℕ) (streams : List (List �
         (λ even.
         let number : end ≡ 2 * (end / 2) = omega arith in
         let is : start_fill firsts caps streams (end / 2) ≡ h = same_Some _ h (sym (plan_fill (end / 2) (omega arith)) ∙ ap (at plan) (sym number) ∙ here) in
-        let passed : start_count (get_or firsts (end / 2) None) ≡ h.passed = ap (λ (y : Held). y.passed) is in
+        let passed : start_count (get_or firsts (end / 2) None) ≡ h.passed = ap (λ (y : EndFacts). y.passed) is in
         let le = start-count (get_or firsts (end / 2) None) (get_or streams (end / 2) []) (start_begins begins (end / 2) (omega arith)) in
         omega arith)
         (λ odd.
         let number : end ≡ 2 * (end / 2) + 1 = omega arith in
         let is : start_drain firsts caps streams (end / 2) ≡ h = same_Some _ h (sym (plan_drain (end / 2) (omega arith)) ∙ ap (at plan) (sym number) ∙ here) in
-        let passed : 0 ≡ h.passed = ap (λ (y : Held). y.passed) is in
+        let passed : 0 ≡ h.passed = ap (λ (y : EndFacts). y.passed) is in
         omega arith))

@@ -3,8 +3,8 @@ use Rattle.std.specs.Prelude.{◌≡◌, ℕ, ◌+◌, ◌-◌, ◌*◌, ◌/◌
 use Rattle.std.specs.Option.{unwrap_or}
 use Rattle.lid_station.specs.Boards.{Facts}
 use Rattle.lid_station.specs.declared.pair.Pair.{Pair}
-use Rattle.lid_board.specs.Halves.{shown}
-use Rattle.lid_board.specs.declared.view.Held.{Held}
+use Rattle.lid_board.specs.Halves.{word_half}
+use Rattle.lid_board.specs.declared.view.EndFacts.{EndFacts}
 
 -- the number that a hand keeps of an end, 0 where it keeps none
 abbrev pub number_at : List (Option ℕ) → ℕ → ℕ
@@ -12,7 +12,7 @@ number_at numbers end = unwrap_or (slice_index_or numbers end None) 0
 
 -- what is known at an end once the board is closed: nothing is seen, the start count is not known,
 -- and misses are not counted
-abbrev pub closed_facts : Held → Facts
+abbrev pub closed_facts : EndFacts → Facts
 closed_facts h = record { cap = h.cap; start = 0; passed = h.passed; mark = false; misses = None }
 
 -- whether a plain station can hold what a station holds that so many tokens passed
@@ -30,7 +30,7 @@ pub record IsRestored (words : List ℕ) (first so_put so_taken cap : ℕ) (p : 
   pub size : length p.places.items ≡ cap
   pub places :
       (place : ℕ) → place < cap
-      → slice_index p.places.items place ≡ shown place (slice_index words (first + place / 2)) - 2147483648
+      → slice_index p.places.items place ≡ word_half place (slice_index words (first + place / 2)) - 2147483648
 
 -- whether the first plain stations hold that, and the others are as they were
 pub record Restored (words firsts : List ℕ) (numbers : List (Option ℕ)) (old new : List Pair) (count : ℕ) : Type 0 where

@@ -2,8 +2,8 @@
 use Rattle.std.specs.Prelude.{ℕ, ◌+◌, ◌*◌, ◌/◌, ◌%◌, ◌==◌, cond}
 
 -- what a word shows of a place: its lower half for an even place, its upper half for an odd one
-abbrev pub shown : ℕ → ℕ → ℕ
-shown place number = cond (place % 2 == 0) (number % 4294967296) (number / 4294967296)
+abbrev pub word_half : ℕ → ℕ → ℕ
+word_half place number = cond (place % 2 == 0) (number % 4294967296) (number / 4294967296)
 
 -- the bits that stay where a place is emptied: those of the other half
 abbrev pub others : ℕ → ℕ

@@ -7,7 +7,7 @@ use Rattle.lid_board.specs.Views.{Ends, at, held, held_of}
 use Rattle.lid_board.specs.declared.board.Board.{Board}
 use Rattle.lid_board.specs.declared.calls.Spot.{Spot}
 use Rattle.lid_board.specs.declared.hand.Hand.{Hand}
-use Rattle.lid_board.specs.declared.view.Held.{Held}
+use Rattle.lid_board.specs.declared.view.EndFacts.{EndFacts}
 
 -- what is known at the ends that a hand owns
 abbrev pub ends_of : Hand → Ends
@@ -19,8 +19,8 @@ IsAtWord mine table word = (mine ≡ table) × (word < table.words)
 
 -- what was known at the ends of a board at its start: the streams, start counts and capacities,
 -- which never change
-abbrev pub plan_of : Board → Ends
-plan_of board = board.table.shared.key.me.0.ends
+abbrev pub start_ends : Board → Ends
+start_ends board = board.table.shared.key.me.0.ends
 
 -- the streams at the ends of a plan, in order
 abbrev pub streams_in : Ends → List (List ℕ)
@@ -32,14 +32,14 @@ abbrev pub identity_of : ℕ → Hand → Board → Gv
 identity_of ghost_name hand board =
     gcons (gnum ghost_name)
     (gcons (gnum (length hand.ends.items))
-    (gcons (table_id_coded.code hand.seat.table_id) ((coded_list (coded_list coded_ℕ)).code (streams_in (plan_of board)))))
+    (gcons (table_id_coded.code hand.seat.table_id) ((coded_list (coded_list coded_ℕ)).code (streams_in (start_ends board)))))
 
 -- whether a hand is one of a board: of its table, with room for all its ends, and passed by no more
 -- tokens at an end than the board's stream has
 pub record IsOf (hand : Hand) (board : Board) : Type 0 where
   pub table : hand.seat.table_id ≡ board.table.shared.table_id
   pub room : length hand.ends.items ≡ 2 * length board.caps.items
-  pub within : AreWithin (plan_of board) (ends_of hand)
+  pub within : AreWithin (start_ends board) (ends_of hand)
 
 -- whether an end is among these
 abbrev pub IsOwned : Ends → ℕ → Type 0
@@ -51,7 +51,7 @@ pub record HasEnd (hand : Hand) (board : Board) (end : ℕ) : Type 0 where
   pub owned : IsOwned (ends_of hand) end
 
 -- where the next token of an end is: its place, and the word of that place
-pub record IsSpot (plan : Ends) (station : ℕ) (h : Held) (spot : Spot) : Type 0 where
+pub record IsSpot (plan : Ends) (station : ℕ) (h : EndFacts) (spot : Spot) : Type 0 where
   pub passed : spot.passed ≡ h.passed
   pub place : spot.place ≡ h.passed % cap_of plan station
   pub word : spot.word ≡ first_word plan station + spot.place / 2

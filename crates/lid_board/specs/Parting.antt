@@ -5,7 +5,7 @@ use Rattle.lid_station.specs.declared.looks.End.{End}
 use Rattle.lid_station.specs.declared.looks.Side.{Side}
 use Rattle.lid_station.specs.declared.looks.Side.TheVariants.{Fill, Drain}
 use Rattle.lid_board.specs.Views.{Ends}
-use Rattle.lid_board.specs.declared.view.Held.{Held}
+use Rattle.lid_board.specs.declared.view.EndFacts.{EndFacts}
 
 -- the number of a side's end of a station
 abbrev pub side_number : Side → ℕ → ℕ
@@ -22,7 +22,7 @@ is_chosen [] end = false
 is_chosen (e ∷ es) end = (end_number e == end) || is_chosen es end
 
 -- what was seen is not seen any more
-abbrev pub unseen : Held → Held
+abbrev pub unseen : EndFacts → EndFacts
 unseen h = record h { mark = false }
 
 -- the first that is there

@@ -2,22 +2,22 @@
 use Rattle.std.specs.Prelude.{◌≡◌, ℕ, zero, suc, ◌+◌, ◌*◌, ◌^◌, ◌<◌, ◌≤◌, false, List, [], ◌∷◌, length, Option, Some, None, slice_get, slice_index, slice_index_or, IfSome}
 use Rattle.std.specs.List.{All}
 use Rattle.lid_station.specs.Starts.{start_count}
-use Rattle.lid_board.specs.Relation.{words_of}
+use Rattle.lid_board.specs.Relation.{word_count}
 use Rattle.lid_board.specs.Views.{Ends}
-use Rattle.lid_board.specs.declared.view.Held.{Held}
+use Rattle.lid_board.specs.declared.view.EndFacts.{EndFacts}
 
 -- what is known at an end that so many tokens passed, of a station at its start
-abbrev pub started : Option ℕ → ℕ → List ℕ → ℕ → Held
+abbrev pub started : Option ℕ → ℕ → List ℕ → ℕ → EndFacts
 started first cap stream passed =
     record { stream = stream; start = start_count first; cap = cap; passed = passed; mark = false; misses = 0 }
 
 -- what is known at the filled end of a station at its start, where its start token has passed, and
 -- at its drained end
-abbrev pub start_fill : List (Option ℕ) → List ℕ → List (List ℕ) → ℕ → Held
+abbrev pub start_fill : List (Option ℕ) → List ℕ → List (List ℕ) → ℕ → EndFacts
 start_fill firsts caps streams station =
     started (slice_index_or firsts station None) (slice_index caps station) (slice_index_or streams station []) (start_count (slice_index_or firsts station None))
 
-abbrev pub start_drain : List (Option ℕ) → List ℕ → List (List ℕ) → ℕ → Held
+abbrev pub start_drain : List (Option ℕ) → List ℕ → List (List ℕ) → ℕ → EndFacts
 start_drain firsts caps streams station =
     started (slice_index_or firsts station None) (slice_index caps station) (slice_index_or streams station []) 0
 
@@ -34,7 +34,7 @@ starts firsts caps streams = starts_from firsts caps streams 0 (length firsts)
 
 -- whether streams are those of a course for these start tokens: one of 31-bit tokens for each
 -- station, of fewer than 2^64, which begins with the start token
-pub record Begins (firsts : List (Option ℕ)) (streams : List (List ℕ)) : Type 0 where
+pub record AreStreamsFor (firsts : List (Option ℕ)) (streams : List (List ℕ)) : Type 0 where
   pub many : length streams ≡ length firsts
   pub short : All (λ stream. length stream < 2 ^ 64) streams
   pub small : All (λ stream. All (λ token. token < 2 ^ 31) stream) streams
@@ -53,7 +53,7 @@ pub record CanStart (firsts : List (Option ℕ)) (caps : List ℕ) : Type 0 wher
 -- the number of the first word of a station, by the capacities of the stations before it
 abbrev pub first_of : List ℕ → ℕ → ℕ
 first_of caps zero = 1
-first_of caps (suc station) = first_of caps station + words_of (slice_index caps station)
+first_of caps (suc station) = first_of caps station + word_count (slice_index caps station)
 
 -- the first word of a station that starts with a token, or with none
 abbrev pub start_word : Option ℕ → ℕ
@@ -66,7 +66,7 @@ pub record AreLaid (firsts : List (Option ℕ)) (caps words : List ℕ) (station
   pub free : slice_index words 0 ≡ 0
   pub first : (station : ℕ) → station < stations → slice_index words (first_of caps station) ≡ start_word (slice_index_or firsts station None)
   pub rest :
-      (station number : ℕ) → station < stations → number + 1 < words_of (slice_index caps station)
+      (station number : ℕ) → station < stations → number + 1 < word_count (slice_index caps station)
       → slice_index words (first_of caps station + (number + 1)) ≡ 0
 
 -- the numbers of the first words of the first stations
@@ -75,7 +75,7 @@ pub record AreFirsts (caps numbers : List ℕ) (stations : ℕ) : Type 0 where
   pub each : (station : ℕ) → station < stations → slice_index numbers station ≡ first_of caps station
 
 -- the words of one station were added, of which the first is `word` and the others are 0
-pub record HasLaid (old : List ℕ) (word count : ℕ) (now : List ℕ) : Type 0 where
+pub record HasLaidWords (old : List ℕ) (word count : ℕ) (now : List ℕ) : Type 0 where
   pub long : length now ≡ length old + count
   pub before : (i : ℕ) → i < length old → slice_index now i ≡ slice_index old i
   pub first : slice_index now (length old) ≡ word

@@ -3,14 +3,14 @@ use Rattle.std.specs.Prelude.{◌≡◌, ℕ, ◌+◌, ◌*◌, ◌^◌, ◌<◌
 use Rattle.atomic_table.specs.Seated.{TableId}
 use Rattle.lid_board.specs.Relation.{first_word, cap_of}
 use Rattle.lid_board.specs.Views.{Ends, at}
-use Rattle.lid_board.specs.declared.view.Held.{Held}
+use Rattle.lid_board.specs.declared.view.EndFacts.{EndFacts}
 
 -- the numbers that a hand keeps are those of the tokens that passed its ends
 abbrev pub IsTied : List (Option ℕ) → Ends → Type 0
-IsTied numbers ends = (end : ℕ) → slice_index_or numbers end None ≡ option_map (λ (h : Held). h.passed) (at ends end)
+IsTied numbers ends = (end : ℕ) → slice_index_or numbers end None ≡ option_map (λ (h : EndFacts). h.passed) (at ends end)
 
 -- the capacities and the first words that a board keeps are those of the plan
-pub record IsLaid (plan : Ends) (caps firsts : List ℕ) (table : TableId) : Type 0 where
+pub record IsLaidTable (plan : Ends) (caps firsts : List ℕ) (table : TableId) : Type 0 where
   pub ends : length plan ≡ 2 * length caps
   pub few : length caps < 2 ^ 32
   pub many : length firsts ≡ length caps

@@ -1,7 +1,7 @@
 //! A hand at its board.
 
-ghost use Rattle.lid_board.specs.Owners.{IsOf, ends_of, plan_of, identity_of};
-ghost use Rattle.lid_board.specs.Standing.{StandsFor, Admits, attended_next, attended_within};
+ghost use Rattle.lid_board.specs.Owners.{IsOf, ends_of, start_ends, identity_of};
+ghost use Rattle.lid_board.specs.Standing.{AreStreamsOf, Admits, attended_next, attended_within};
 ghost use Rattle.lid_board.specs.Views.{facts_at};
 
 use crate::board::Board;
@@ -24,9 +24,9 @@ pub struct Attended<'b> {
 impl<'b> Stations for Attended<'b> {
     ghost ends = { λ a. facts_at (ends_of a.hand.now) };
 
-    ghost stands = { λ a. StandsFor (plan_of a.board.now) };
+    ghost stands = { λ a. AreStreamsOf (start_ends a.board.now) };
 
-    ghost admits = { λ a. Admits (plan_of a.board.now) (ends_of a.hand.now) };
+    ghost admits = { λ a. Admits (start_ends a.board.now) (ends_of a.hand.now) };
 
     ghost identity = { λ a. identity_of a.hand.ghost_name a.hand.now a.board.now };
 

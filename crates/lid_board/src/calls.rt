@@ -2,7 +2,7 @@
 
 ghost use Rattle.std.specs.Prelude.{◌≡◌, ℕ, ◌/◌, ◌+◌, ◌-◌, ◌^◌, ◌<◌, true, Some, slice_get, ◌↔◌};
 ghost use Rattle.lid_station.specs.Boards.{Facts, fill, drain, advanced, Changes, looked_in, looked_out, IsToken, IsVoid, IsRoom, IsStop, FindsIn, FindsOut, HasSmallToken, TellsNothing, TellsFull, HasFilled, HasDrained};
-ghost use Rattle.lid_board.specs.Owners.{IsOf, IsOwned, HasEnd, IsSpot, ends_of, plan_of};
+ghost use Rattle.lid_board.specs.Owners.{IsOf, IsOwned, HasEnd, IsSpot, ends_of, start_ends};
 ghost use Rattle.lid_board.specs.Relation.{stream_of};
 ghost use Rattle.lid_board.specs.Views.{facts, facts_at, held};
 
@@ -29,7 +29,7 @@ impl Board {
     pub(crate) fn spot(&self, hand: &Hand, station: u32, end: usize) -> Spot
         requires has_end { HasEnd hand.now self.now end }
         requires side { end / 2 ≡ station }
-        ensures spot { IsSpot (plan_of self.now) station (held (ends_of hand.now) end) result }
+        ensures spot { IsSpot (start_ends self.now) station (held (ends_of hand.now) end) result }
         ensures inside { result.word < self.now.table.shared.table_id.words }
     {
         let passed = hand.ends[end].unwrap_or(0);
@@ -47,7 +47,7 @@ impl Board {
         requires has_end { HasEnd hand.old self.now (drain station) }
         ensures of { IsOf hand.new self.now }
         ensures changed { Changes (facts_at (ends_of hand.old)) (drain station) (looked_in result) (facts_at (ends_of hand.new)) }
-        ensures found { FindsIn result (facts (held (ends_of hand.old) (drain station))) (stream_of (plan_of self.now) station) }
+        ensures found { FindsIn result (facts (held (ends_of hand.old) (drain station))) (stream_of (start_ends self.now) station) }
         ensures small { HasSmallToken result }
         ensures nothing { TellsNothing result }
         ensures drained { HasDrained result (facts (held (ends_of hand.old) (drain station))) }
@@ -71,7 +71,7 @@ impl Board {
         requires has_end { HasEnd hand.old self.now (fill station) }
         ensures of { IsOf hand.new self.now }
         ensures changed { Changes (facts_at (ends_of hand.old)) (fill station) (looked_out result) (facts_at (ends_of hand.new)) }
-        ensures found { FindsOut result (facts (held (ends_of hand.old) (fill station))) (stream_of (plan_of self.now) station) }
+        ensures found { FindsOut result (facts (held (ends_of hand.old) (fill station))) (stream_of (start_ends self.now) station) }
         ensures filled { HasFilled result (facts (held (ends_of hand.old) (fill station))) }
         ensures full { TellsFull result (facts (held (ends_of hand.old) (fill station))) }
         ensures again { (held (ends_of hand.old) (fill station)).mark ≡ true → IsRoom result }
@@ -93,7 +93,7 @@ impl Board {
         requires seen { (held (ends_of hand.old) (drain station)).mark ≡ true }
         ensures of { IsOf hand.new self.now }
         ensures changed { Changes (facts_at (ends_of hand.old)) (drain station) advanced (facts_at (ends_of hand.new)) }
-        ensures token { slice_get (stream_of (plan_of self.now) station) (held (ends_of hand.old) (drain station)).passed ≡ Some result }
+        ensures token { slice_get (stream_of (start_ends self.now) station) (held (ends_of hand.old) (drain station)).passed ≡ Some result }
         ensures small { result < 2 ^ 31 }
     {
         let end = 2 * station as usize + 1;
@@ -110,7 +110,7 @@ impl Board {
         requires has_end { HasEnd hand.old self.now (fill station) }
         requires seen { (held (ends_of hand.old) (fill station)).mark ≡ true }
         requires small { token < 2 ^ 31 }
-        requires next { slice_get (stream_of (plan_of self.now) station) (held (ends_of hand.old) (fill station)).passed ≡ Some token }
+        requires next { slice_get (stream_of (start_ends self.now) station) (held (ends_of hand.old) (fill station)).passed ≡ Some token }
         ensures of { IsOf hand.new self.now }
         ensures changed { Changes (facts_at (ends_of hand.old)) (fill station) advanced (facts_at (ends_of hand.new)) }
     {

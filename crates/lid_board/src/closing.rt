@@ -6,10 +6,10 @@ ghost use Rattle.std.specs.Mem.Slots.{slots_items, slots_len, IsFull};
 ghost use Rattle.lid_station.specs.Plain.{plain_ends, PlainStands};
 ghost use Rattle.lid_station.specs.declared.pair.Pair.{Pair};
 ghost use Rattle.lid_board.specs.Closing.{CanRestore, IsRestored, Restored, number_at, closed_facts};
-ghost use Rattle.lid_board.specs.Halves.{shown};
-ghost use Rattle.lid_board.specs.Owners.{IsOf, IsOwned, ends_of, plan_of};
+ghost use Rattle.lid_board.specs.Halves.{word_half};
+ghost use Rattle.lid_board.specs.Owners.{IsOf, IsOwned, ends_of, start_ends};
 ghost use Rattle.lid_board.specs.Relation.{cap_of};
-ghost use Rattle.lid_board.specs.Standing.{StandsFor};
+ghost use Rattle.lid_board.specs.Standing.{AreStreamsOf};
 ghost use Rattle.lid_board.specs.Views.{held};
 
 use crate::board::Board;
@@ -21,7 +21,7 @@ use std::alloc::Global;
 
 /// The token that a word shows in a place; 0 where the place is empty.
 fn token_at(place: u64, word: u64) -> u32
-    ensures token { result ≡ shown place word - 2147483648 }
+    ensures token { result ≡ word_half place word - 2147483648 }
     ensures small { result < 2 ^ 31 }
 {
     let half = half_at(place, word);
@@ -33,7 +33,7 @@ fn copy_places(closed: &Closed<(), Global>, first: usize, places: &mut [u32])
     requires full { IsFull closed.now.words }
     requires inside { first + (length places.old + 1) / 2 ≤ slots_len closed.now.words }
     requires small { All (λ token. token < 2 ^ 31) places.old }
-    ensures each { (place : ℕ) → place < length places.new → slice_index places.new place ≡ shown place (slice_index (slots_items closed.now.words) (first + place / 2)) - 2147483648 }
+    ensures each { (place : ℕ) → place < length places.new → slice_index places.new place ≡ word_half place (slice_index (slots_items closed.now.words) (first + place / 2)) - 2147483648 }
     ensures small { All (λ token. token < 2 ^ 31) places.new }
 {
     for place in 0..places.len() {
@@ -80,12 +80,12 @@ impl Board {
     /// the same capacities.
     pub fn close(self, hand: Hand, into: &mut PlainBoard)
         requires of { IsOf hand self }
-        requires all { (end : ℕ) → end < length (plan_of self) → IsOwned (ends_of hand) end }
-        requires many { length (plan_of self) ≡ 2 * length into.old.pairs.items }
-        requires caps { (station : ℕ) → (p : Pair) → slice_get into.old.pairs.items station ≡ Some p → length p.places.items ≡ cap_of (plan_of self) station }
+        requires all { (end : ℕ) → end < length (start_ends self) → IsOwned (ends_of hand) end }
+        requires many { length (start_ends self) ≡ 2 * length into.old.pairs.items }
+        requires caps { (station : ℕ) → (p : Pair) → slice_get into.old.pairs.items station ≡ Some p → length p.places.items ≡ cap_of (start_ends self) station }
         ensures many { length into.new.pairs.items ≡ length into.old.pairs.items }
-        ensures ends { (end : ℕ) → end < length (plan_of self) → plain_ends into.new.pairs.items end ≡ Some (closed_facts (held (ends_of hand) end)) }
-        ensures stands { (streams : ℕ → List ℕ) → StandsFor (plan_of self) streams → PlainStands into.new.pairs.items streams }
+        ensures ends { (end : ℕ) → end < length (start_ends self) → plain_ends into.new.pairs.items end ≡ Some (closed_facts (held (ends_of hand) end)) }
+        ensures stands { (streams : ℕ → List ℕ) → AreStreamsOf (start_ends self) streams → PlainStands into.new.pairs.items streams }
     {
         let Board {
             table,

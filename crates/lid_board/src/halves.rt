@@ -1,7 +1,7 @@
 //! The two halves of a word.
 
 ghost use Rattle.std.specs.Prelude.{◌≡◌, ◌^◌, ◌<◌};
-ghost use Rattle.lid_board.specs.Halves.{shown, others, filling};
+ghost use Rattle.lid_board.specs.Halves.{word_half, others, filling};
 
 /// The full bit of an even place.
 pub(crate) const FULL: u64 = 1 << 31;
@@ -11,7 +11,7 @@ const HALF: u64 = 1 << 32;
 
 /// What a word shows of a place.
 pub(crate) fn half_at(place: u64, word: u64) -> u64
-    ensures { result ≡ shown place word }
+    ensures { result ≡ word_half place word }
 {
     if place % 2 == 0 {
         word % HALF

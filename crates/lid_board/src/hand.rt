@@ -4,7 +4,7 @@ ghost use Rattle.std.specs.Prelude.{◌≡◌, []};
 ghost use Rattle.lid_board.specs.Ties.{IsTied};
 ghost use Rattle.lid_board.specs.Views.{IsEarly};
 
-use crate::view::View;
+use crate::view::HandView;
 use atomic_table::Seat;
 
 /// The owner of some ends of a board, with the number of tokens that passed each.
@@ -14,7 +14,7 @@ use atomic_table::Seat;
 /// passed than the station started with, and at a filled end which fewer passed than the capacity.
 #[derive(Drop)]
 pub struct Hand {
-    pub(crate) seat: Seat<(), View>,
+    pub(crate) seat: Seat<(), HandView>,
     /// How many tokens passed each end that is owned, by the end's number.
     pub(crate) ends: Vec<Option<u64>>,
     ghost tied: { IsTied ends.items seat.me.0.ends },

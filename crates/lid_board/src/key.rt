@@ -5,10 +5,10 @@
 
 ghost use Rattle.std.specs.Prelude.{◌≡◌, [], IfOk, length};
 ghost use Rattle.lid_board.specs.Starts.{starts};
-ghost use Rattle.lid_board.specs.declared.view.View.{View};
+ghost use Rattle.lid_board.specs.declared.view.HandView.{HandView};
 
 use crate::course::Course;
-use crate::view::View;
+use crate::view::HandView;
 use atomic_table::{Play, Seat, Table, TableRule};
 use std::alloc::{AllocError, Global};
 use std::marker::{Brand, PhantomData};
@@ -16,7 +16,7 @@ use std::marker::{Brand, PhantomData};
 /// A rule that always holds.
 struct Anything;
 
-impl TableRule<(), View, ()> for Anything {
+impl TableRule<(), HandView, ()> for Anything {
     ghost holds = { λ _ _. Unit {0} };
 
     ghost first = { λ _. record { ends = [] } };
@@ -24,7 +24,7 @@ impl TableRule<(), View, ()> for Anything {
 
 /// What is known at the start.
 trait Sighting {
-    ghost sight: { View };
+    ghost sight: { HandView };
 }
 
 impl Sighting for Brand {
@@ -35,7 +35,7 @@ struct Sees<J> {
     sighting: PhantomData<J>,
 }
 
-impl<J: Sighting> Play<(), View> for Sees<J> {
+impl<J: Sighting> Play<(), HandView> for Sees<J> {
     ghost then = { λ _ _ _ n. n.0 ≡ J.sight };
 }
 
@@ -44,11 +44,11 @@ fn key_as<J: Sighting, C: Course>(
     _firsts: &[Option<u32>],
     _caps: &[u32],
     _course: &C,
-) -> Result<Seat<(), View>, AllocError>
+) -> Result<Seat<(), HandView>, AllocError>
     ensures { IfOk result (λ seat. seat.me.0 ≡ J.sight) }
 {
     let words = [0u64];
-    let (table, _seat) = Table::<(), View, (), Anything, Global>::of_words(
+    let (table, _seat) = Table::<(), HandView, (), Anything, Global>::of_words(
         alloc,
         words.as_slice(),
         &(),
@@ -62,7 +62,7 @@ pub(crate) fn key_of<C: Course>(
     firsts: &[Option<u32>],
     caps: &[u32],
     course: &C,
-) -> Result<Seat<(), View>, AllocError>
+) -> Result<Seat<(), HandView>, AllocError>
     ensures { IfOk result (λ seat. seat.me.0.ends ≡ starts firsts.now caps.now (C.streams course.now)) }
 {
     key_as::<Brand, C>(alloc, firsts, caps, course)

@@ -21,4 +21,4 @@ pub use course::Course;
 pub use hand::Hand;
 pub use laws::{lent_hands_come_back, stations_keep_prefixes};
 pub use steps::Order;
-pub use view::{Held, View};
+pub use view::{EndFacts, HandView};

@@ -1,10 +1,10 @@
 //! How ends go from hand to hand.
 
 ghost use Rattle.std.specs.Prelude.{◌≡◌, ℕ, ◌+◌, ◌*◌, ◌^◌, ◌<◌, ◌≤◌, cond, length, None, Option, option_map, slice_index_or, IfOk, OnOk, OnErr, MatchResult, true};
-ghost use Rattle.lid_board.specs.Owners.{IsOf, IsOwned, ends_of, plan_of};
+ghost use Rattle.lid_board.specs.Owners.{IsOf, IsOwned, ends_of, start_ends};
 ghost use Rattle.lid_board.specs.Parting.{end_number, is_chosen, or_else, unseen};
 ghost use Rattle.lid_board.specs.Views.{at};
-ghost use Rattle.lid_board.specs.declared.view.Held.{Held};
+ghost use Rattle.lid_board.specs.declared.view.EndFacts.{EndFacts};
 
 use crate::board::Board;
 use crate::hand::Hand;
@@ -63,7 +63,7 @@ fn merge_numbers(into: &mut [Option<u64>], from: &[Option<u64>])
 impl Hand {
     /// How many tokens passed an end; none where another hand has it.
     pub fn passed(&self, end: End) -> Option<u64>
-        ensures { result ≡ option_map (λ (h : Held). h.passed) (at (ends_of self.now) (end_number end)) }
+        ensures { result ≡ option_map (λ (h : EndFacts). h.passed) (at (ends_of self.now) (end_number end)) }
     {
         let number = number_of(end);
         if number < self.ends.len() {

@@ -3,10 +3,10 @@
 ghost use Rattle.std.specs.Prelude.{◌≡◌, ℕ, ◌+◌, ◌*◌, ◌^◌, ◌<◌, ◌≤◌, List, length, Some, slice_index_or, IfSome, IfOk, OnOk, []};
 ghost use Rattle.std.specs.List.{All};
 ghost use Rattle.lid_station.specs.Boards.{fill, drain};
-ghost use Rattle.lid_board.specs.Owners.{IsOf, ends_of, plan_of};
-ghost use Rattle.lid_board.specs.Relation.{words_of};
-ghost use Rattle.lid_board.specs.Standing.{StandsFor};
-ghost use Rattle.lid_board.specs.Starts.{starts, start_fill, start_drain, start_word, Begins, AreLaid, AreFirsts, AreNumbers, CanStart, HasLaid};
+ghost use Rattle.lid_board.specs.Owners.{IsOf, ends_of, start_ends};
+ghost use Rattle.lid_board.specs.Relation.{word_count};
+ghost use Rattle.lid_board.specs.Standing.{AreStreamsOf};
+ghost use Rattle.lid_board.specs.Starts.{starts, start_fill, start_drain, start_word, AreStreamsFor, AreLaid, AreFirsts, AreNumbers, CanStart, HasLaidWords};
 ghost use Rattle.lid_board.specs.Views.{at};
 
 use crate::board::Board;
@@ -39,7 +39,7 @@ fn word_of(first: Option<u32>) -> u64
 fn lay_station(words: &mut Vec<u64>, word: u64, cap: u32) -> Result<(), AllocError>
     requires two { 2 ≤ cap }
     requires few { cap ≤ 16 }
-    ensures { OnOk result (HasLaid words.old.items word (words_of cap) words.new.items) }
+    ensures { OnOk result (HasLaidWords words.old.items word (word_count cap) words.new.items) }
 {
     words.push(word)?;
     for _number in 1..(cap + 1) / 2 {
@@ -125,14 +125,14 @@ impl Board {
         requires two { All (λ cap. 2 ≤ cap) caps.now }
         requires few { All (λ cap. cap ≤ 16) caps.now }
         requires small { All (λ first. IfSome first (λ token. token < 2 ^ 31)) firsts.now }
-        requires course { Begins firsts.now (C.streams course.now) }
+        requires course { AreStreamsFor firsts.now (C.streams course.now) }
         ensures of { IfOk result (λ r. IsOf r.1 r.0) }
-        ensures plan { IfOk result (λ r. plan_of r.0 ≡ starts firsts.now caps.now (C.streams course.now)) }
-        ensures many { IfOk result (λ r. length (plan_of r.0) ≡ 2 * length firsts.now) }
-        ensures all { IfOk result (λ r. ends_of r.1 ≡ plan_of r.0) }
+        ensures plan { IfOk result (λ r. start_ends r.0 ≡ starts firsts.now caps.now (C.streams course.now)) }
+        ensures many { IfOk result (λ r. length (start_ends r.0) ≡ 2 * length firsts.now) }
+        ensures all { IfOk result (λ r. ends_of r.1 ≡ start_ends r.0) }
         ensures fills { IfOk result (λ r. (station : ℕ) → station < length firsts.now → at (ends_of r.1) (fill station) ≡ Some (start_fill firsts.now caps.now (C.streams course.now) station)) }
         ensures drains { IfOk result (λ r. (station : ℕ) → station < length firsts.now → at (ends_of r.1) (drain station) ≡ Some (start_drain firsts.now caps.now (C.streams course.now) station)) }
-        ensures stands { IfOk result (λ r. StandsFor (plan_of r.0) (λ station. slice_index_or (C.streams course.now) station [])) }
+        ensures stands { IfOk result (λ r. AreStreamsOf (start_ends r.0) (λ station. slice_index_or (C.streams course.now) station [])) }
     {
         let key = key_of(alloc, firsts, caps, course)?;
         let ground = lay_ground(alloc, firsts, caps)?;

@@ -6,9 +6,9 @@ ghost use Rattle.lid_board.specs.Owners.{IsOwned, IsAtWord};
 ghost use Rattle.lid_board.specs.Parting.{left_from, right_from, merged};
 ghost use Rattle.lid_board.specs.Relation.{Related};
 ghost use Rattle.lid_board.specs.Views.{IsEarly};
-ghost use Rattle.lid_board.specs.declared.view.View.{View};
+ghost use Rattle.lid_board.specs.declared.view.HandView.{HandView};
 
-use crate::view::View;
+use crate::view::HandView;
 use atomic_table::{Join, Play, Seat, Shared, Split, TableRule};
 use lid_station::End;
 use std::marker::{Brand, PhantomData};
@@ -16,18 +16,18 @@ use std::marker::{Brand, PhantomData};
 /// The rule of a board, which holds between any two steps. The key has what was known at the start.
 pub struct Order;
 
-impl TableRule<(), View, Seat<(), View>> for Order {
+impl TableRule<(), HandView, Seat<(), HandView>> for Order {
     ghost holds = { λ key. Related key.me.0.ends };
 
     ghost first = { λ key. key.me.0 };
 }
 
 /// The table of a board, as threads share it.
-pub(crate) type Cells = Shared<(), View, Seat<(), View>, Order>;
+pub(crate) type Cells = Shared<(), HandView, Seat<(), HandView>, Order>;
 
 /// What a step tells: of the number found, and of the view after it.
 pub(crate) trait Telling {
-    ghost told: { ℕ → View → Type 0 };
+    ghost told: { ℕ → HandView → Type 0 };
 }
 
 impl Telling for Brand {
@@ -38,14 +38,14 @@ struct Tells<J> {
     telling: PhantomData<J>,
 }
 
-impl<J: Telling> Play<(), View> for Tells<J> {
+impl<J: Telling> Play<(), HandView> for Tells<J> {
     ghost then = { λ _ m found n. (n.1 ≡ m.1) × J.told found n.0 };
 }
 
 /// Loads a word. The station and the place are for contracts alone.
 pub(crate) fn load_as<J: Telling>(
     cells: &Cells,
-    seat: &mut Seat<(), View>,
+    seat: &mut Seat<(), HandView>,
     word: usize,
     _station: u32,
     _place: u64,
@@ -62,7 +62,7 @@ pub(crate) fn load_as<J: Telling>(
 /// alone.
 pub(crate) fn and_as<J: Telling>(
     cells: &Cells,
-    seat: &mut Seat<(), View>,
+    seat: &mut Seat<(), HandView>,
     word: usize,
     bits: u64,
     _station: u32,
@@ -79,7 +79,7 @@ pub(crate) fn and_as<J: Telling>(
 /// Sets these bits of a word. The station is for contracts alone.
 pub(crate) fn or_as<J: Telling>(
     cells: &Cells,
-    seat: &mut Seat<(), View>,
+    seat: &mut Seat<(), HandView>,
     word: usize,
     bits: u64,
     _station: u32,
@@ -105,7 +105,7 @@ struct Parts<J> {
     choosing: PhantomData<J>,
 }
 
-impl<J: Choosing> Split<View> for Parts<J> {
+impl<J: Choosing> Split<HandView> for Parts<J> {
     ghost left = { λ v. record { ends = left_from J.chosen 0 v.ends } };
 
     ghost right = { λ v. record { ends = right_from J.chosen 0 v.ends } };
@@ -114,9 +114,9 @@ impl<J: Choosing> Split<View> for Parts<J> {
 /// Cuts what a seat knows in two. The ends are for contracts alone.
 pub(crate) fn split_as<J: Choosing>(
     cells: &Cells,
-    seat: &mut Seat<(), View>,
+    seat: &mut Seat<(), HandView>,
     _ends: &[End],
-) -> Seat<(), View>
+) -> Seat<(), HandView>
     requires here { IsAtWord seat.old.table_id cells.now.table_id 0 }
     requires owned { (end : ℕ) → J.chosen end ≡ true → IsOwned seat.old.me.0.ends end }
     ensures seat { (seat.new.table_id ≡ seat.old.table_id) × (seat.new.me.1 ≡ seat.old.me.1) × (result.table_id ≡ seat.old.table_id) × (result.me.1 ≡ []) }
@@ -129,14 +129,14 @@ pub(crate) fn split_as<J: Choosing>(
 
 struct Both;
 
-impl Join<View> for Both {
+impl Join<HandView> for Both {
     ghost both = { λ v w. record { ends = merged v.ends w.ends } };
 
     ghost spent = { record { ends = [] } };
 }
 
 /// Makes what two seats know one.
-pub(crate) fn join_both(cells: &Cells, seat: &mut Seat<(), View>, other: Seat<(), View>)
+pub(crate) fn join_both(cells: &Cells, seat: &mut Seat<(), HandView>, other: Seat<(), HandView>)
     requires here { IsAtWord seat.old.table_id cells.now.table_id 0 }
     requires other { other.table_id ≡ cells.now.table_id }
     requires no_slot { other.me.1 ≡ [] }

@@ -4,7 +4,7 @@
 use std::collections::LinkedList;
 
 /// What is known at one end of a station.
-pub struct Held {
+pub struct EndFacts {
     /// The tokens of the station, of which `passed` have passed here: the first ones.
     pub stream: LinkedList<u32>,
     /// How many tokens the station started with.
@@ -20,6 +20,6 @@ pub struct Held {
 }
 
 /// What is known at the ends that one hand has, by their numbers: nothing where another has it.
-pub struct View {
-    pub ends: LinkedList<Option<Held>>,
+pub struct HandView {
+    pub ends: LinkedList<Option<EndFacts>>,
 }

@@ -17,10 +17,10 @@ use Rattle.lid_graph.proofs.Journeys.{joined_step, joined_back}
 use Rattle.lid_cert.specs.declared.cert.Part.{Part}
 use Rattle.lid_cert.specs.declared.cert.Cert.{Cert}
 use Rattle.lid_cert.specs.Certificates.{has_node, lag_of, lead_of, depth_of, via_of, IsPart, IsVia, parts_with}
-use Rattle.lid_cert.specs.Laws.{Shows, EachIsShown, WalksMeetRatio, RatioIsShown, LagsAreShown, LeadsBoundFirings, LagsBoundFirings, CapsAreReached}
+use Rattle.lid_cert.specs.Laws.{ShowsTransition, EachIsShown, WalksMeetRatio, RatioIsShown, LagsAreShown, LeadsBoundFirings, LagsBoundFirings, CapsAreReached}
 use Rattle.lid_cert.proofs.Parts.{node_within, node_met, edge_met, stays_forth, stays_back, lag_along}
 
-part_of : (g : Graph) (cert : Cert) (part : Part) (v : ℕ) → Shows g cert part v → IsPart g part
+part_of : (g : Graph) (cert : Cert) (part : Part) (v : ℕ) → ShowsTransition g cert part v → IsPart g part
 part_of g cert part v shows = All-contains (IsPart g) cert.parts part shows.certifies.parts shows.stands
 
 -- with a lead for the last cycle but one of a turn, a count of at most one for each cycle is within the lead

@@ -11,7 +11,7 @@ use Rattle.lid_cert.specs.declared.cert.Cert.{Cert}
 use Rattle.lid_cert.specs.Certificates.{Certifies, has_node, lag_of, lead_of}
 
 -- the certificate certifies the paired graph, and the transition stands in this part of it
-pub record Shows (g : Graph) (cert : Cert) (part : Part) (v : ℕ) : Type 0 where
+pub record ShowsTransition (g : Graph) (cert : Cert) (part : Part) (v : ℕ) : Type 0 where
   pub paired : IsPaired g
   pub certifies : Certifies g cert
   pub stands : Contains cert.parts part
@@ -19,25 +19,25 @@ pub record Shows (g : Graph) (cert : Cert) (part : Part) (v : ℕ) : Type 0 wher
 
 -- each transition of a graph that is certified stands in a part
 abbrev pub EachIsShown : Type 0
-EachIsShown = (g : Graph) (cert : Cert) (v : ℕ) → IsPaired g → Certifies g cert → v < g.nodes → (part : Part) × Shows g cert part v
+EachIsShown = (g : Graph) (cert : Cert) (v : ℕ) → IsPaired g → Certifies g cert → v < g.nodes → (part : Part) × ShowsTransition g cert part v
 
 -- each closed walk of a part has at least p tokens for q edges
 abbrev pub WalksMeetRatio : Type 0
 WalksMeetRatio =
     (g : Graph) (cert : Cert) (part : Part) (ks : List ℕ)
-    → Shows g cert part (walk_start g ks)
+    → ShowsTransition g cert part (walk_start g ks)
     → IsClosedWalk g ks
     → part.p * length ks ≤ walk_tokens g ks * part.q
 
 -- p/q is the ratio of the component
 abbrev pub RatioIsShown : Type 0
-RatioIsShown = (g : Graph) (cert : Cert) (part : Part) (v : ℕ) → Shows g cert part v → IsRatio g v part.p part.q
+RatioIsShown = (g : Graph) (cert : Cert) (part : Part) (v : ℕ) → ShowsTransition g cert part v → IsRatio g v part.p part.q
 
 -- a lag is no less than p*edges - q*tokens of any walk that ends at the transition
 abbrev pub LagsAreShown : Type 0
 LagsAreShown =
     (g : Graph) (cert : Cert) (part : Part) (v u : ℕ) (ks : List ℕ)
-    → Shows g cert part v
+    → ShowsTransition g cert part v
     → IsWalk g u ks v
     → part.p * length ks ≤ lag_of part v + part.q * walk_tokens g ks
 
@@ -45,7 +45,7 @@ LagsAreShown =
 abbrev pub LeadsBoundFirings : Type 0
 LeadsBoundFirings =
     (g : Graph) (cert : Cert) (part : Part) (v : ℕ) (cap : Counts) (k : ℕ)
-    → Shows g cert part v
+    → ShowsTransition g cert part v
     → AreFitCaps g cap
     → part.q * firings g cap no_hold k v ≤ part.p * k + lead_of part v
 
@@ -53,7 +53,7 @@ LeadsBoundFirings =
 abbrev pub LagsBoundFirings : Type 0
 LagsBoundFirings =
     (g : Graph) (cert : Cert) (part : Part) (v : ℕ) (cap : Counts) (k : ℕ)
-    → Shows g cert part v
+    → ShowsTransition g cert part v
     → AreFitCaps g cap
     → firings g cap no_hold k v < cap v
     → part.p * k ≤ part.q * firings g cap no_hold k v + lag_of part v
@@ -63,7 +63,7 @@ LagsBoundFirings =
 abbrev pub CapsAreReached : Type 0
 CapsAreReached =
     (g : Graph) (cert : Cert) (part : Part) (v : ℕ) (cap : Counts)
-    → Shows g cert part v
+    → ShowsTransition g cert part v
     → AreFitCaps g cap
     → 0 < part.p
     → (k : ℕ) × IsFirstAtCap g cap no_hold v k × (k ≤ div_ceil (part.q * cap v + lag_of part v) part.p)

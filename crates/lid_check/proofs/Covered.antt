@@ -1,11 +1,11 @@
 -- The covers that drive columns meet the rules of covers.
-use Rattle.std.proofs.Common.{◌≡◌, ℕ, zero, suc, ◌+◌, Bool, true, false, cond, ◌&&◌, List, [], ◌∷◌, ◌++◌, length, map, flat_map, find, Option, Some, None, option_and_then, slice_get, inl, inr, refl, sym, ◌∙◌}
+use Rattle.std.proofs.Common.{◌≡◌, ℕ, ◌+◌, Bool, true, false, cond, ◌&&◌, List, [], ◌∷◌, ◌++◌, length, map, flat_map, Option, Some, None, option_and_then, slice_get, refl, sym, ◌∙◌}
 use Rattle.std.specs.Option.{option_map_or}
 use Rattle.std.specs.List.{AllByRecursion, enumerate_from}
 use Rattle.std.specs.Str.{bytes_eq}
 use Rattle.std.proofs.lemmas.List.{length-map}
 use Rattle.lid_base.specs.Lists.{Among}
-use Rattle.lid_base.proofs.Lists.{all_among, all_append, then_some}
+use Rattle.lid_base.proofs.Lists.{all_among, all_append, then_some, get_among, found_among}
 use Rattle.lid_cover.specs.Cover.{IsCover}
 use Rattle.lid_design.specs.declared.Design.{Design}
 use Rattle.lid_design.specs.declared.Model.{Model}
@@ -16,6 +16,7 @@ use Rattle.lid_design.specs.declared.Bind.{Bind}
 use Rattle.lid_design.specs.Network.{Driver, from_input, from_latch, from_cover, from_connection}
 use Rattle.lid_design.specs.Columns.{Column, column, is_among, model_named, instance_model, model_at, is_clock, places_of, cell_at, output_at, actuals_of, port_at, drivers_in, drivers, data_inputs, first_bit}
 use Rattle.lid_design.specs.WellFormed.{IsWellFormed, IsWellFormedCell}
+use Rattle.lid_base.proofs.Alls.{all_flat}
 
 -- a cover that a driver evaluates meets the rules of covers, with as many inputs as it reads
 abbrev pub IsCovered : {C : Type 0} → Driver C → Type 0
@@ -24,27 +25,10 @@ IsCovered (from_latch first input) = Unit {0}
 IsCovered (from_cover cover inputs) = IsCover cover × (cover.inputs ≡ length inputs)
 IsCovered (from_connection c) = Unit {0}
 
-all_flat : {A B : Type 0} (P : B → Type 0) (f : A → List B) (xs : List A) → ((x : A) → Among x xs → AllByRecursion P (f x)) → AllByRecursion P (flat_map f xs)
-all_flat P f [] each = tt
-all_flat P f (x ∷ xs) each = all_append P (f x) (flat_map f xs) (each x (inl refl)) (all_flat P f xs (λ y i. each y (inr i)))
-
-found_among : {A : Type 0} (p : A → Bool) (xs : List A) (x : A) → find p xs ≡ Some x → Among x xs
-found_among p [] x h = absurd (let e : None ≡ Some x = h in cc)
-found_among {A} p (y ∷ ys) x h = by (p y) h (found_among p ys x)
-  where
-    by : (b : Bool) → cond b (Some y) (find p ys) ≡ Some x → (find p ys ≡ Some x → Among x ys) → Among x (y ∷ ys)
-    by true e later = inl (let f : Some y ≡ Some x = e in cc)
-    by false e later = inr (later e)
-
-pub got_among : {A : Type 0} (xs : List A) (i : ℕ) (x : A) → slice_get xs i ≡ Some x → Among x xs
-got_among [] i x h = absurd (let e : None ≡ Some x = h in cc)
-got_among (y ∷ ys) zero x h = inl (let f : Some y ≡ Some x = h in cc)
-got_among (y ∷ ys) (suc i) x h = inr (got_among ys i x h)
-
 -- the model at a path is one of the models
 model_among : (d : Design) (path : List ℕ) (m : Model) → model_at d path ≡ Some m → Among m d.models
 unfolding model_at
-model_among d [] m h = got_among d.models d.root m h
+model_among d [] m h = get_among d.models d.root m h
 model_among d (i ∷ path) m h =
     let outer = then_some (model_at d path) (instance_model d i) m h in
     let inst = then_some (slice_get outer.0.insts i) (λ (inst : Inst). model_named d inst.model) m outer.2 in

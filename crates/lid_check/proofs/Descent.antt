@@ -2,7 +2,7 @@
 use Rattle.std.proofs.Common.{◌≡◌, ◌⊎◌, ℕ, zero, suc, ◌<◌, ◌≤◌, List, [], ◌∷◌, length, inl, inr, refl, sym, ◌∙◌, ap, subst, arith}
 use Rattle.lid_base.specs.Lists.{Among}
 use Rattle.lid_design.specs.Network.{Driver}
-use Rattle.lid_design.specs.Walks.{Feeds, Walk, WalksEnd, IsDriven}
+use Rattle.lid_design.specs.Walks.{Feeds, EdgesLead, WalksEnd, IsDriven}
 
 -- a list without one of its items
 pub record Without {A : Type 0} (x : A) (xs : List A) : Type 0 where
@@ -33,10 +33,10 @@ without x (y ∷ ys) (inr later) = with_first x y ys (without x ys later)
 module _ {C : Type 0} (drivers : C → List (Driver C)) where
   -- one or more edges lead from a to c
   abbrev pub Leads : C → C → Type 0
-  Leads a c = (n : ℕ) × Walk drivers (suc n) a c
+  Leads a c = (n : ℕ) × EdgesLead drivers (suc n) a c
 
   -- an edge before a walk
-  edge_before : (n : ℕ) (a b c : C) → Feeds drivers a b → Walk drivers n b c → Walk drivers (suc n) a c
+  edge_before : (n : ℕ) (a b c : C) → Feeds drivers a b → EdgesLead drivers n b c → EdgesLead drivers (suc n) a c
   edge_before zero a b c edge w = (a, refl, subst (λ (x : C). Feeds drivers a x) w edge)
   edge_before (suc n) a b c edge w = (w.0, edge_before n a b w.0 edge w.1, w.2)
 
@@ -68,7 +68,7 @@ module _ {C : Type 0} (drivers : C → List (Driver C)) where
       by (inl leads) = inl (leads_on b c x edge leads)
       by (inr among) = at (split x among)
 
-  no_walk : ((c : C) → Leads c c → ⊥) → (n : ℕ) (rest : List C) → length rest ≤ n → (c : C) → Covers c rest → (a : C) → Walk drivers (suc n) a c → ⊥
+  no_walk : ((c : C) → Leads c c → ⊥) → (n : ℕ) (rest : List C) → length rest ≤ n → (c : C) → Covers c rest → (a : C) → EdgesLead drivers (suc n) a c → ⊥
   no_walk none zero rest few c cover a w = by (cover c (fed_driven w.0 c w.2))
     where
       by : Leads c c ⊎ Among c rest → ⊥

@@ -5,15 +5,13 @@ use Rattle.lid_design.specs.declared.Model.{Model}
 use Rattle.lid_design.specs.Columns.{data_inputs, model_at}
 use Rattle.lid_design.specs.Models.{HasNoRecursion}
 use Rattle.lid_design.specs.Loops.{pearls}
-use Rattle.lid_rules.specs.declared.fault.CheckFault.{CheckFault}
-use Rattle.lid_rules.specs.declared.fault.CheckFault.TheVariants.{Recursive}
-use Rattle.lid_rules.specs.Acceptance.{ModelsPass, IsModelFault, TellsRecursive, fault_before_recursion, fault_after_recursion}
-use Rattle.lid_rules.proofs.Passing.{one_list}
-use Rattle.lid_flaws.specs.Dependence.{TellsLoop, StandsBefore, TellsDependence}
+use Rattle.lid_check_rules.specs.declared.fault.CheckFault.{CheckFault}
+use Rattle.lid_check_rules.specs.declared.fault.CheckFault.TheVariants.{Recursive}
+use Rattle.lid_check_rules.specs.Acceptance.{ModelsPass, IsModelFault, TellsRecursive, fault_before_recursion, fault_after_recursion}
+use Rattle.lid_check_rules.proofs.Passing.{one_list}
+use Rattle.lid_check_loops.specs.Dependence.{TellsLoop, StandsBefore, TellsDependence}
 use Rattle.lid_check.specs.Acceptance.{IsAccepted, IsRefusal}
-
-some_one : {A : Type 0} (o : Option A) (a b : A) → o ≡ Some a → o ≡ Some b → a ≡ b
-some_one o a b h g = let e : Some a ≡ Some b = sym h ∙ g in cc
+use Rattle.lid_base.proofs.Options.{same_some}
 
 some_none : {A : Type 0} (o : Option A) (a : A) → o ≡ Some a → o ≡ None → ⊥
 some_none o a h g = absurd (let e : Some a ≡ None = sym h ∙ g in cc)
@@ -42,12 +40,12 @@ recursive_one d f g a b = by (either_way a.0 b.0)
     by : (a.0 < b.0) ⊎ (a.0 ≡ b.0) ⊎ (b.0 < a.0) → f ≡ g
     by (inl lt) = absurd (b.1.first a.0 lt a.1.reached a.1.itself)
     by (inr (inl same)) =
-        some_one (option_map (λ (m : Model). Recursive m.name) (slice_get d.models a.0)) f g a.2
+        same_some (option_map (λ (m : Model). Recursive m.name) (slice_get d.models a.0)) f g a.2
         (ap (λ (k : ℕ). option_map (λ (m : Model). Recursive m.name) (slice_get d.models k)) same ∙ b.2)
     by (inr (inr gt)) = absurd (a.1.first b.0 gt b.1.reached b.1.itself)
 
 tells_one : (d : Design) (ks : List ℕ) (f g : CheckFault) → TellsOf d ks f → TellsOf d ks g → f ≡ g
-tells_one d ks f g (inl a) (inl b) = some_one (fault_before_recursion d ks) f g a b
+tells_one d ks f g (inl a) (inl b) = same_some (fault_before_recursion d ks) f g a b
 tells_one d ks f g (inl a) (inr (inl b)) = absurd (some_none (fault_before_recursion d ks) f a b.0)
 tells_one d ks f g (inl a) (inr (inr b)) = absurd (some_none (fault_before_recursion d ks) f a b.0)
 tells_one d ks f g (inr (inl a)) (inl b) = absurd (some_none (fault_before_recursion d ks) g b a.0)
@@ -55,7 +53,7 @@ tells_one d ks f g (inr (inl a)) (inr (inl b)) = recursive_one d f g a.1 b.1
 tells_one d ks f g (inr (inl a)) (inr (inr b)) = absurd (b.1 a.1.0 a.1.1.reached a.1.1.itself)
 tells_one d ks f g (inr (inr a)) (inl b) = absurd (some_none (fault_before_recursion d ks) g b a.0)
 tells_one d ks f g (inr (inr a)) (inr (inl b)) = absurd (a.1 b.1.0 b.1.1.reached b.1.1.itself)
-tells_one d ks f g (inr (inr a)) (inr (inr b)) = some_one (fault_after_recursion d ks) f g a.2 b.2
+tells_one d ks f g (inr (inr a)) (inr (inr b)) = same_some (fault_after_recursion d ks) f g a.2 b.2
 
 model_one : (d : Design) (f g : CheckFault) → IsModelFault d f → IsModelFault d g → f ≡ g
 model_one d f g a b =
@@ -76,7 +74,7 @@ loop_one d f g a b = by (either_way a.k b.k)
     by : (a.k < b.k) ⊎ (a.k ≡ b.k) ⊎ (b.k < a.k) → f ≡ g
     by (inl lt) = absurd (b.is.first a.k a.is.c lt a.is.here a.is.on)
     by (inr (inl same)) =
-        let c : a.is.c ≡ b.is.c = some_one _ a.is.c b.is.c a.is.here (ap (slice_get _) same ∙ b.is.here) in
+        let c : a.is.c ≡ b.is.c = same_some _ a.is.c b.is.c a.is.here (ap (slice_get _) same ∙ b.is.here) in
         let e = a.told in let h = b.told in cc
     by (inr (inr gt)) = absurd (a.is.first b.k b.is.c gt b.is.here b.is.on)
 
@@ -91,10 +89,10 @@ dependence_one d f g a b = by (either_way a.is.p b.is.p) (either_way a.o b.o) (e
 
     equal : a.is.p ≡ b.is.p → a.o ≡ b.o → a.i ≡ b.i → f ≡ g
     equal p o i =
-        let path : a.is.on.path ≡ b.is.on.path = some_one (slice_get (pearls d) a.is.p) _ _ a.is.on.pearl (ap (slice_get (pearls d)) p ∙ b.is.on.pearl) in
-        let m : a.is.m ≡ b.is.m = some_one (model_at d a.is.on.path) _ _ a.is.on.model (ap (model_at d) path ∙ b.is.on.model) in
-        let output : a.is.output ≡ b.is.output = some_one (slice_get a.is.m.outputs a.o) _ _ a.is.on.out (ap (λ (x : Model). slice_get x.outputs a.o) m ∙ ap (slice_get b.is.m.outputs) o ∙ b.is.on.out) in
-        let input : a.is.input ≡ b.is.input = some_one (slice_get (data_inputs d a.is.m) a.i) _ _ a.is.on.given (ap (λ (x : Model). slice_get (data_inputs d x) a.i) m ∙ ap (slice_get (data_inputs d b.is.m)) i ∙ b.is.on.given) in
+        let path : a.is.on.path ≡ b.is.on.path = same_some (slice_get (pearls d) a.is.p) _ _ a.is.on.pearl (ap (slice_get (pearls d)) p ∙ b.is.on.pearl) in
+        let m : a.is.m ≡ b.is.m = same_some (model_at d a.is.on.path) _ _ a.is.on.model (ap (model_at d) path ∙ b.is.on.model) in
+        let output : a.is.output ≡ b.is.output = same_some (slice_get a.is.m.outputs a.o) _ _ a.is.on.out (ap (λ (x : Model). slice_get x.outputs a.o) m ∙ ap (slice_get b.is.m.outputs) o ∙ b.is.on.out) in
+        let input : a.is.input ≡ b.is.input = same_some (slice_get (data_inputs d a.is.m) a.i) _ _ a.is.on.given (ap (λ (x : Model). slice_get (data_inputs d x) a.i) m ∙ ap (slice_get (data_inputs d b.is.m)) i ∙ b.is.on.given) in
         let e = a.told in let h = b.told in let name = ap (λ (x : Model). x.name) m in cc
 
     by : (a.is.p < b.is.p) ⊎ (a.is.p ≡ b.is.p) ⊎ (b.is.p < a.is.p) → (a.o < b.o) ⊎ (a.o ≡ b.o) ⊎ (b.o < a.o) → (a.i < b.i) ⊎ (a.i ≡ b.i) ⊎ (b.i < a.i) → f ≡ g

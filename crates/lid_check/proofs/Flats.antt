@@ -1,41 +1,41 @@
 -- The flat part of a pearl of an accepted design.
-use Rattle.std.proofs.Common.{◌≡◌, ◌⊎◌, ℕ, zero, suc, ◌+◌, ◌<◌, ◌≤◌, nat_lt, Bool, true, false, List, [], ◌∷◌, length, map, Some, option_map, slice_get, inl, inr, refl, sym, ◌∙◌, ap, subst, arith}
+use Rattle.std.proofs.Common.{◌≡◌, ◌⊎◌, ℕ, zero, suc, ◌+◌, ◌<◌, ◌≤◌, List, [], ◌∷◌, length, map, Some, option_map, slice_get, inl, inr, refl, sym, ◌∙◌, ap, subst, arith}
 use Rattle.std.specs.Prelude.{slice_index_or}
 use Rattle.std.specs.List.{AllByRecursion, range_with_len}
-use Rattle.std.proofs.lemmas.Bool.{ltb-false, ltb-true}
+use Rattle.std.proofs.lemmas.Bool.{cases_lt}
 use Rattle.std.proofs.lemmas.List.{length-map}
 use Rattle.std.proofs.lemmas.Option.{slice_get_within, slice_get-get_or, slice_get-map, get_or_from_slice_get}
 use Rattle.lid_base.specs.Lists.{Among}
-use Rattle.lid_base.proofs.Lists.{among_map, get_among, among_get}
+use Rattle.lid_base.proofs.Lists.{among_map, get_among, among_get, map_twice, among_one}
 use Rattle.lid_design.specs.declared.Design.{Design}
 use Rattle.lid_design.specs.declared.Flat.{Flat}
 use Rattle.lid_design.specs.Network.{Driver, from_input, from_latch, from_cover, from_connection}
 use Rattle.lid_design.specs.Columns.{Column, column, data_inputs, drivers}
 use Rattle.lid_design.specs.WellFormed.{IsWellFormed}
-use Rattle.lid_design.specs.Walks.{read_now, Feeds, Walk}
+use Rattle.lid_design.specs.Walks.{read_now, Feeds, EdgesLead}
 use Rattle.lid_design.specs.Elaboration.{columns}
 use Rattle.lid_design.specs.Loops.{pearls, IsInside, WalkInside}
 use Rattle.lid_design.specs.Flat.{flat_drivers, IsFlat}
-use Rattle.lid_digraph.specs.Graphs.{HasNoLoop, IsOrder}
-use Rattle.lid_digraph.proofs.Orders.{order_has_none}
-use Rattle.lid_elab.specs.declared.driver.ColumnDriver.{ColumnDriver}
-use Rattle.lid_elab.specs.declared.driver.ColumnDriver.TheVariants.{Input, Latch, Cover as OfCover, Connection}
-use Rattle.lid_elab.specs.Numbers.{columns_in}
-use Rattle.lid_elab.specs.Elaborations.{driver_reads, shown_driver, map_driver, column_at, IsElaborated}
-use Rattle.lid_elab.proofs.Outer.{get_of}
-use Rattle.lid_flatten.specs.declared.part.Part.{Part}
-use Rattle.lid_flatten.specs.Standing.{IsInput, StandsFor, StandsForAll}
-use Rattle.lid_flatten.specs.Parts.{driver_at, HasCover, IsPart, IsFlattened}
-use Rattle.lid_flatten.proofs.Lists.{all_of_each}
-use Rattle.lid_parts.specs.PearlParts.{ArePortsApart, IsPearlPart}
-use Rattle.lid_parts.proofs.Inside.{column_inside}
-use Rattle.lid_parts.proofs.Columns.{col as col_of, own_at, input_at, output_at, all_are, ins_are, outs_are}
-use Rattle.lid_flaws.specs.Dependence.{HasNoDependence}
+use Rattle.lid_check_digraph.specs.Graphs.{HasNoLoop, IsOrder}
+use Rattle.lid_check_digraph.proofs.Orders.{order_has_none}
+use Rattle.lid_check_elab.specs.declared.driver.ColumnDriver.{ColumnDriver}
+use Rattle.lid_check_elab.specs.declared.driver.ColumnDriver.TheVariants.{Input, Latch, Cover as OfCover, Connection}
+use Rattle.lid_check_elab.specs.Numbers.{columns_in}
+use Rattle.lid_check_elab.specs.Elaborations.{driver_reads, shown_driver, map_driver, column_at, IsElaborated}
+use Rattle.lid_check_parts.specs.declared.part.PearlPart.{PearlPart}
+use Rattle.lid_check_parts.specs.Standing.{IsInput, StandsFor, StandsForAll}
+use Rattle.lid_check_parts.specs.Parts.{driver_at, HasCover, IsNetworkPart, IsFlattened}
+use Rattle.lid_check_parts.specs.PearlParts.{ArePortsApart, IsPearlPart}
+use Rattle.lid_check_parts.proofs.Inside.{column_inside}
+use Rattle.lid_check_parts.proofs.Columns.{col as col_of, own_at, input_at, output_at, all_are, ins_are, outs_are}
+use Rattle.lid_check_loops.specs.Dependence.{HasNoDependence}
 use Rattle.lid_check.specs.declared.judging.Facts.{Facts}
 use Rattle.lid_check.specs.Facts.{AreFacts}
 use Rattle.lid_check.specs.Flats.{IsFlatOf}
 use Rattle.lid_check.proofs.Covered.{IsCovered, all_covered}
-use Rattle.lid_flaws.proofs.Numbered.{reads_shown}
+use Rattle.lid_check_loops.proofs.Numbered.{reads_shown}
+use Rattle.lid_base.proofs.Places.{item_at}
+use Rattle.lid_base.proofs.Alls.{all_from_among}
 
 -- no data input of a pearl is an output where no output depends on an input
 pub ports_apart : (d : Design) → HasNoDependence d → ArePortsApart d
@@ -44,21 +44,10 @@ ports_apart d none p path net m pearl model given out =
     let output = among_get m.outputs net out in
     none p output.0 input.0 m net net (record { path = path; pearl = pearl; model = model; out = output.1; given = input.1; walk = (0, (refl, ([], refl))) })
 
-below_or_not : (k n : ℕ) → (k < n) ⊎ (n ≤ k)
-below_or_not k n = by (nat_lt k n) refl
-  where
-    by : (b : Bool) → nat_lt k n ≡ b → (k < n) ⊎ (n ≤ k)
-    by true e = inl (ltb-true k n e)
-    by false e = inr (ltb-false k n e)
-
 range_among : (a n k : ℕ) → Among k (range_with_len a n) → (a ≤ k) × (k < a + n)
 range_among a zero k none = absurd none
 range_among a (suc n) k (inl here) = (omega arith, omega arith)
 range_among a (suc n) k (inr later) = let at = range_among (a + 1) n k later in let low = at.0 in let high = at.1 in (omega arith, omega arith)
-
-map_twice : {A B C : Type 0} (h : B → C) (g : A → B) (xs : List A) → map h (map g xs) ≡ map (λ x. h (g x)) xs
-map_twice h g [] = refl
-map_twice {A} {B} {C} h g (x ∷ xs) = ap (λ (ys : List C). h (g x) ∷ ys) (map_twice h g xs)
 
 -- what stands for a driver of numbers stands for it by the columns of these
 stands_on : {C : Type 0} (g : ℕ → ℕ) (h : ℕ → C) (s r : Driver ℕ) → StandsFor g s r → StandsFor (λ k. h (g k)) s (map_driver h r)
@@ -86,10 +75,6 @@ no_read (from_latch first k) b none read = none
 no_read (from_cover cover ks) b none read = none
 no_read (from_connection k) b none read = none
 
-only : {A : Type 0} (s t : A) → Among s (t ∷ []) → s ≡ t
-only s t (inl same) = same
-only s t (inr none) = absurd none
-
 module _ (d : Design) (list : List ColumnDriver) (starts : List ℕ) (is : IsElaborated d (map (shown_driver d) list) starts) where
   covered : (s : ColumnDriver) → IsCovered (map_driver (column_at d) (shown_driver d s)) → HasCover d s
   covered (Input place) h = tt
@@ -109,7 +94,7 @@ module _ (d : Design) (list : List ColumnDriver) (starts : List ℕ) (is : IsEla
       by.only ∙ ap (λ (x : Driver ℕ). map_driver (column_at d) x ∷ []) same
 
   pub covers : IsWellFormed d → AllByRecursion (HasCover d) list
-  covers formed = all_of_each (HasCover d) list (λ s among. let at = among_get list s among in each at.0 s at.1)
+  covers formed = all_from_among (HasCover d) list (λ s among. let at = among_get list s among in each at.0 s at.1)
     where
       each : (k : ℕ) (s : ColumnDriver) → slice_get list k ≡ Some s → HasCover d s
       each k s here =
@@ -120,7 +105,7 @@ module _ (d : Design) (list : List ColumnDriver) (starts : List ℕ) (is : IsEla
   pub loops : (order : List ℕ) → IsOrder (map read_now (map (shown_driver d) list)) order → HasNoLoop (map driver_reads list)
   loops order ordered = subst (λ (g : List (List ℕ)). HasNoLoop g) (sym (reads_shown d list)) (order_has_none (map read_now (map (shown_driver d) list)) order ordered)
 
-  module _ (p : ℕ) (part : Part) (pearl : IsPearlPart d p part) (is_part : IsPart list part) where
+  module _ (p : ℕ) (part : PearlPart) (pearl : IsPearlPart d p part) (is_part : IsNetworkPart list part) where
     abbrev own : List Column
     own = columns_in (length d.models) d pearl.of.path pearl.of.number
 
@@ -130,12 +115,12 @@ module _ (d : Design) (list : List ColumnDriver) (starts : List ℕ) (is : IsEla
     inside : (k : ℕ) → k < part.nets → IsInside pearl.of.path (col k).path
     inside k h =
         let long = pearl.long in
-        let c = get_of own k (omega arith) in
+        let c = item_at own k (omega arith) in
         subst (λ (x : Column). IsInside pearl.of.path x.path) (sym (own_at d p part pearl k c.0 c.1)) (column_inside d (length d.models) pearl.of.path pearl.of.number c.0 (get_among own k c.0 c.1))
 
     module _ (f : Flat) (flattened : IsFlattened d list part f) where
       driven_net : (k : ℕ) (s : Driver ℕ) → Among s (flat_drivers f k) → k < part.nets
-      driven_net k s among = elim (below_or_not k part.nets) [
+      driven_net k s among = elim (cases_lt k part.nets) [
         | inl here ↦ here
         | inr past ↦ absurd (subst (λ (xs : List (Driver ℕ)). Among s xs) (flattened.past k (let e = flattened.nets in omega arith)) among)
       ]
@@ -150,7 +135,7 @@ module _ (d : Design) (list : List ColumnDriver) (starts : List ℕ) (is : IsEla
             | inr (r, one, stands) ↦
                 inr (
                   map_driver (column_at d) r,
-                  subst (λ (ss : List (Driver Column)). Among (map_driver (column_at d) r) ss) (sym only_driver) (inl (ap (map_driver (column_at d)) (only r (shown_driver d (driver_at list (part.start + k))) one))),
+                  subst (λ (ss : List (Driver Column)). Among (map_driver (column_at d) r) ss) (sym only_driver) (inl (ap (map_driver (column_at d)) (among_one r (shown_driver d (driver_at list (part.start + k))) one))),
                   stands_on (λ k. part.start + k) (column_at d) s r stands,
                 )
           ]
@@ -161,15 +146,15 @@ module _ (d : Design) (list : List ColumnDriver) (starts : List ℕ) (is : IsEla
         | inr (r, here, stands) ↦ (r, here, read_on col s r b stands read)
       ]
 
-      end_below : (n a k : ℕ) → a < part.nets → Walk (flat_drivers f) n a k → k < part.nets
+      end_below : (n a k : ℕ) → a < part.nets → EdgesLead (flat_drivers f) n a k → k < part.nets
       end_below zero a k below w = subst (λ (x : ℕ). x < part.nets) w below
       end_below (suc n) a k below w = driven_net k w.2.0 w.2.1
 
-      walk_inside : (n a k : ℕ) → a < part.nets → Walk (flat_drivers f) n a k → WalkInside d pearl.of.path n (col a) (col k)
+      walk_inside : (n a k : ℕ) → a < part.nets → EdgesLead (flat_drivers f) n a k → WalkInside d pearl.of.path n (col a) (col k)
       walk_inside zero a k below w = (ap col w, inside k (end_below zero a k below w))
       walk_inside (suc n) a k below w = (col w.0, walk_inside n a w.0 below w.1, feeds w.0 k w.2, inside k (end_below (suc n) a k below w))
 
-      apart : HasNoDependence d → (n input output : ℕ) → Among input f.ins → Among output f.outs → Walk (flat_drivers f) n input output → ⊥
+      apart : HasNoDependence d → (n input output : ℕ) → Among input f.ins → Among output f.outs → EdgesLead (flat_drivers f) n input output → ⊥
       apart none n input output given out walk =
           let in_range = range_among 0 part.inputs input (subst (λ (ks : List ℕ). Among input ks) flattened.ins given) in
           let out_range = range_among part.inputs part.outputs output (subst (λ (ks : List ℕ). Among output ks) flattened.outs out) in
@@ -179,10 +164,10 @@ module _ (d : Design) (list : List ColumnDriver) (starts : List ℕ) (is : IsEla
           let ports = is_part.ports in
           let counted = pearl.inputs in
           let counted_outs = pearl.outputs in
-          let name = get_of (data_inputs d pearl.of.model) input (omega arith) in
+          let name = item_at (data_inputs d pearl.of.model) input (omega arith) in
           let place : (j : ℕ) × (output ≡ part.inputs + j) = from_low part.inputs output out_low in
           let at = place.1 in
-          let out_name = get_of pearl.of.model.outputs place.0 (omega arith) in
+          let out_name = item_at pearl.of.model.outputs place.0 (omega arith) in
           let in_column : col input ≡ column pearl.of.path name.0 = input_at d p part pearl input (column pearl.of.path name.0) (slice_get-map (column pearl.of.path) (data_inputs d pearl.of.model) input ∙ ap (option_map (column pearl.of.path)) name.1) in
           let out_column : col output ≡ column pearl.of.path out_name.0 = ap col at ∙ output_at d p part pearl place.0 (column pearl.of.path out_name.0) (slice_get-map (column pearl.of.path) pearl.of.model.outputs place.0 ∙ ap (option_map (column pearl.of.path)) out_name.1) in
           let inner = walk_inside n input output (omega arith) walk in
@@ -221,11 +206,11 @@ module _ (d : Design) (list : List ColumnDriver) (starts : List ℕ) (is : IsEla
       }
 
 -- the part of a pearl among those of all
-pub part_of_pearl : (d : Design) (facts : Facts) → AreFacts d facts → (p : ℕ) (other : Part) → p < length (pearls d) → IsPearlPart d p (slice_index_or facts.parts p other) × IsPart facts.network.columns.drivers (slice_index_or facts.parts p other)
+pub part_of_pearl : (d : Design) (facts : Facts) → AreFacts d facts → (p : ℕ) (other : PearlPart) → p < length (pearls d) → IsPearlPart d p (slice_index_or facts.parts p other) × IsNetworkPart facts.network.columns.drivers (slice_index_or facts.parts p other)
 part_of_pearl d facts are p other below = let count = are.parts.count in are.parts.each p (slice_index_or facts.parts p other) (slice_get-get_or facts.parts p other (omega arith))
 
 -- what is made of the part of a pearl is its flat part
-pub flat_made : (d : Design) (facts : Facts) → AreFacts d facts → (p : ℕ) (other : Part) → p < length (pearls d) → (f : Flat) → IsFlattened d facts.network.columns.drivers (slice_index_or facts.parts p other) f → IsFlat f × IsFlatOf d p f
+pub flat_made : (d : Design) (facts : Facts) → AreFacts d facts → (p : ℕ) (other : PearlPart) → p < length (pearls d) → (f : Flat) → IsFlattened d facts.network.columns.drivers (slice_index_or facts.parts p other) f → IsFlat f × IsFlatOf d p f
 flat_made d facts are p other below f flattened =
     let part = part_of_pearl d facts are p other below in
     let list = facts.network.columns.drivers in

@@ -8,10 +8,10 @@ use Rattle.lid_design.specs.declared.Design.{Design}
 use Rattle.lid_design.specs.declared.Inst.{Inst}
 use Rattle.lid_design.specs.WellFormed.{IsWellFormed}
 use Rattle.lid_design.specs.Models.{Ascend, AreReached, HasNoRecursion, IsReached, insts_of, number_named, instance_number, number_from}
-use Rattle.lid_hierarchy.specs.Surveys.{StandsAfterItsModels, IsModelOrder}
-use Rattle.lid_wiring.proofs.Shallow.{IsShallow}
+use Rattle.lid_check_hierarchy.specs.Surveys.{StandsAfterItsModels, IsModelOrder}
+use Rattle.lid_check_drivers.proofs.Shallow.{IsShallow}
 use Rattle.lid_check.proofs.Descent.{without}
-use Rattle.lid_hierarchy.proofs.Walks.{reached_below}
+use Rattle.lid_check_hierarchy.proofs.Walks.{reached_below}
 
 module _ (d : Design) where
   -- one or more instances lead from model x to model k

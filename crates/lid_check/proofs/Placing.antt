@@ -18,11 +18,11 @@ use Rattle.lid_design.specs.Columns.{Column, column, root_outputs}
 use Rattle.lid_design.specs.WellFormed.{IsWellFormed}
 use Rattle.lid_design.specs.Models.{nets, number_from}
 use Rattle.lid_design.specs.Elaboration.{columns, model_nets}
-use Rattle.lid_wiring.specs.Judged.{IsJudged}
-use Rattle.lid_elab.specs.Elaborations.{column_at, IsElaborated}
-use Rattle.lid_wiring.proofs.Names.{position_get}
-use Rattle.lid_wiring.proofs.Wired.{output_read, read_is_net}
-use Rattle.lid_flaws.proofs.Numbered.{column_is, within}
+use Rattle.lid_check_drivers.specs.Judged.{IsJudged}
+use Rattle.lid_check_elab.specs.Elaborations.{column_at, IsElaborated}
+use Rattle.lid_check_drivers.proofs.Names.{position_get}
+use Rattle.lid_check_drivers.proofs.Wired.{output_read, read_is_net}
+use Rattle.lid_check_loops.proofs.Numbered.{column_is, within}
 
 module _ (d : Design) (network : List (Driver ℕ)) (starts : List ℕ) (is : IsElaborated d network starts) where
   at_root : (name : List ℕ) (place : ℕ) → position (bytes_eq name) (model_nets d d.root) ≡ Some place → slice_get (columns d) place ≡ Some (column [] name)

@@ -1,12 +1,12 @@
 -- A design whose models pass the conditions is judged.
 use Rattle.lid_design.specs.declared.Design.{Design}
 use Rattle.lid_design.specs.WellFormed.{IsWellFormed}
-use Rattle.lid_hierarchy.specs.Surveys.{AreKnown}
-use Rattle.lid_rules.specs.Conditions.{duplicate_name, unknown_model}
-use Rattle.lid_rules.specs.Acceptance.{ModelsPass, fault_before_recursion}
-use Rattle.lid_rules.proofs.Passing.{known_by}
-use Rattle.lid_wiring.specs.Judged.{IsJudged}
-use Rattle.lid_wiring.proofs.Passing.{or_none}
+use Rattle.lid_check_hierarchy.specs.Surveys.{AreKnown}
+use Rattle.lid_check_rules.specs.Conditions.{duplicate_name, unknown_model}
+use Rattle.lid_check_rules.specs.Acceptance.{ModelsPass, fault_before_recursion}
+use Rattle.lid_check_rules.proofs.Passing.{known_by}
+use Rattle.lid_check_drivers.specs.Judged.{IsJudged}
+use Rattle.lid_check_drivers.proofs.Passing.{or_none}
 use Rattle.lid_check.proofs.Levels.{model_order}
 
 known_of : (d : Design) → ModelsPass d → AreKnown d

@@ -6,7 +6,7 @@ use Rattle.std.specs.Str.{bytes_eq}
 use Rattle.std.specs.Cmp.{IsEquivalence}
 use Rattle.std.proofs.lemmas.List.{length-append, length-map}
 use Rattle.std.proofs.lemmas.Map.Made.{length-le_from_is_member}
-use Rattle.lid_base.specs.Lists.{Among}
+use Rattle.lid_base.specs.Lists.{Among, AreOnce}
 use Rattle.lid_base.proofs.Lists.{same_bytes, bytes_same}
 use Rattle.lid_design.specs.declared.Design.{Design}
 use Rattle.lid_design.specs.declared.Model.{Model}
@@ -15,32 +15,19 @@ use Rattle.lid_design.specs.Models.{nets, IsReached}
 use Rattle.lid_design.specs.Elaboration.{model_nets, columns}
 use Rattle.lid_design.specs.WellFormed.{IsWellFormed}
 use Rattle.lid_design.proofs.Reached.{root_reached}
-use Rattle.lid_hierarchy.proofs.Numbers.{bytes_eq_comm}
-use Rattle.lid_rules.specs.Acceptance.{ModelsPass}
-use Rattle.lid_wiring.specs.Judged.{IsJudged}
-use Rattle.lid_wiring.proofs.Names.{to_among, from_among}
-use Rattle.lid_wiring.proofs.Wired.{output_read, read_is_net}
-use Rattle.lid_wiring.proofs.Limits.{few_columns}
-use Rattle.lid_elab.specs.Numbers.{start_of, columns_in}
-use Rattle.lid_elab.proofs.Numbering.{numbering}
-use Rattle.lid_parts.proofs.Columns.{stands_few}
-use Rattle.lid_parts.proofs.Beginning.{AreApart, apart_filter, inputs_apart, outputs_apart, columns_begin}
-use Rattle.lid_flaws.proofs.Geometry.{input_net}
+use Rattle.lid_check_hierarchy.proofs.Numbers.{bytes_eq_comm}
+use Rattle.lid_check_rules.specs.Acceptance.{ModelsPass}
+use Rattle.lid_check_drivers.specs.Judged.{IsJudged}
+use Rattle.lid_check_drivers.proofs.Names.{to_among, from_among}
+use Rattle.lid_check_drivers.proofs.Wired.{output_read, read_is_net}
+use Rattle.lid_check_drivers.proofs.Limits.{few_columns}
+use Rattle.lid_check_elab.specs.Numbers.{start_of, columns_in}
+use Rattle.lid_check_elab.proofs.Numbering.{numbering}
+use Rattle.lid_check_parts.proofs.Columns.{stands_few}
+use Rattle.lid_check_parts.proofs.Beginning.{inputs_apart, outputs_apart, columns_begin}
+use Rattle.lid_base.proofs.Once.{once_filter, once_distinct}
+use Rattle.lid_check_loops.proofs.Geometry.{input_net}
 use Rattle.lid_check.proofs.Sound.{judged_of}
-
--- names of which none stands twice are distinct
-distinct : (xs : List (List ℕ)) → AreApart xs → IsDistinct bytes_eq xs
-unfolding IsDistinct
-distinct [] apart = tt
-distinct (x ∷ xs) apart = (others xs apart.0, distinct xs apart.1)
-  where
-    other : (y : List ℕ) → (x ≡ y → ⊥) → (b : Bool) → bytes_eq x y ≡ b → bytes_eq x y ≡ false
-    other y differ true e = absurd (differ (same_bytes x y e))
-    other y differ false e = e
-
-    others : (ys : List (List ℕ)) → (Among x ys → ⊥) → AllByRecursion (λ y. bytes_eq x y ≡ false) ys
-    others [] none = tt
-    others (y ∷ ys) none = (other y (λ same. none (inl same)) (bytes_eq x y) refl, others ys (λ among. none (inr among)))
 
 pub names_equal : IsEquivalence bytes_eq
 names_equal = record {
@@ -61,9 +48,9 @@ module _ (d : Design) (judged : IsJudged d) where
       let few = few_columns d judged in
       omega arith
 
-  few_names : (names : List (List ℕ)) → AreApart names → ((net : List ℕ) → Among net names → Among net (model_nets d d.root)) → length names ≤ 1048576
+  few_names : (names : List (List ℕ)) → AreOnce names → ((net : List ℕ) → Among net names → Among net (model_nets d d.root)) → length names ≤ 1048576
   few_names names apart among =
-      let few = length-le_from_is_member names_equal names (model_nets d d.root) (distinct names apart) (λ net is. from_among net (model_nets d d.root) (among net (to_among net names is))) in
+      let few = length-le_from_is_member names_equal names (model_nets d d.root) (once_distinct names apart) (λ net is. from_among net (model_nets d d.root) (among net (to_among net names is))) in
       let all = nets_few d.root (root_reached d) in
       omega arith
 
@@ -77,7 +64,7 @@ module _ (d : Design) (judged : IsJudged d) where
   inputs_few : (m : Model) → slice_get d.models d.root ≡ Some m → length (data_inputs d m) ≤ 1048576
   unfolding data_inputs
   inputs_few m here =
-      few_names (data_inputs d m) (apart_filter (λ net. not (is_clock d m net)) m.inputs (inputs_apart d judged d.root (root_reached d) m here)) (λ net among.
+      few_names (data_inputs d m) (once_filter (λ net. not (is_clock d m net)) m.inputs (inputs_apart d judged d.root (root_reached d) m here)) (λ net among.
       input_net d d.root net (subst (λ (o : Option Model). Among net (option_map_or (data_inputs d) o [])) (sym here) among))
 
 -- an accepted design has at most as many outputs as columns

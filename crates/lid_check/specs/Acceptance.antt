@@ -3,10 +3,10 @@ use Rattle.std.specs.Prelude.{◌≡◌, ℕ, ◌⊎◌, List, Option, Some, Non
 use Rattle.lid_design.specs.declared.Design.{Design}
 use Rattle.lid_design.specs.Models.{number_named}
 use Rattle.lid_design.specs.Loops.{HasNoLoop}
-use Rattle.lid_rules.specs.declared.fault.CheckFault.{CheckFault}
-use Rattle.lid_rules.specs.declared.fault.CheckFault.TheVariants.{NoRoot}
-use Rattle.lid_rules.specs.Acceptance.{ModelsPass, IsModelFault}
-use Rattle.lid_flaws.specs.Dependence.{TellsLoop, HasNoDependence, TellsDependence}
+use Rattle.lid_check_rules.specs.declared.fault.CheckFault.{CheckFault}
+use Rattle.lid_check_rules.specs.declared.fault.CheckFault.TheVariants.{NoRoot}
+use Rattle.lid_check_rules.specs.Acceptance.{ModelsPass, IsModelFault}
+use Rattle.lid_check_loops.specs.Dependence.{TellsLoop, HasNoDependence, TellsDependence}
 
 -- the design with model k as its root
 abbrev pub rooted_at : Design → ℕ → Design

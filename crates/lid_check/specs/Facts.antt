@@ -5,10 +5,10 @@ use Rattle.lid_design.specs.Columns.{root_inputs}
 use Rattle.lid_design.specs.Loops.{pearls}
 use Rattle.lid_design.specs.Elaboration.{count_latches, count_defaulted}
 use Rattle.lid_design.specs.WellFormed.{IsWellFormed}
-use Rattle.lid_digraph.specs.Graphs.{IsOrder}
-use Rattle.lid_elab.specs.declared.driver.ColumnDriver.{ColumnDriver}
-use Rattle.lid_elab.specs.Elaborations.{driver_reads}
-use Rattle.lid_parts.specs.PearlParts.{ArePearlParts}
+use Rattle.lid_check_digraph.specs.Graphs.{IsOrder}
+use Rattle.lid_check_elab.specs.declared.driver.ColumnDriver.{ColumnDriver}
+use Rattle.lid_check_elab.specs.Elaborations.{driver_reads}
+use Rattle.lid_check_parts.specs.PearlParts.{ArePearlParts}
 use Rattle.lid_check.specs.declared.judging.Counts.{Counts}
 use Rattle.lid_check.specs.declared.judging.Ports.{Ports}
 use Rattle.lid_check.specs.declared.judging.Findings.{Findings}
@@ -23,7 +23,7 @@ pub record AreCounts (d : Design) (counts : Counts) : Type 0 where
 
 -- the inputs of the root, the numbers of its outputs, and the columns of each pearl, where the network has
 -- these drivers
-pub record ArePorts (d : Design) (drivers : List ColumnDriver) (ports : Ports) : Type 0 where
+pub record AreDesignPorts (d : Design) (drivers : List ColumnDriver) (ports : Ports) : Type 0 where
   pub inputs : ports.inputs ≡ root_inputs d
   pub outputs : AreNumbersOf d (length drivers) ports.outputs
   pub parts : ArePearlParts d drivers ports.parts
@@ -33,7 +33,7 @@ pub record ArePorts (d : Design) (drivers : List ColumnDriver) (ports : Ports) :
 pub record AreFindings (d : Design) (drivers : List ColumnDriver) (findings : Findings) : Type 0 where
   pub accepted : IsAccepted d
   pub counts : AreCounts d findings.counts
-  pub ports : ArePorts d drivers findings.ports
+  pub ports : AreDesignPorts d drivers findings.ports
   pub order : IsOrder (map driver_reads drivers) findings.order
 
 -- the design is accepted, and these are its inputs, counts and columns

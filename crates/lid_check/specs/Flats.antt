@@ -4,9 +4,9 @@ use Rattle.std.specs.List.{range_with_len}
 use Rattle.lid_design.specs.declared.Design.{Design}
 use Rattle.lid_design.specs.declared.Flat.{Flat}
 use Rattle.lid_design.specs.Columns.{Column, column, data_inputs, drivers}
-use Rattle.lid_elab.specs.Numbers.{columns_in}
-use Rattle.lid_flatten.specs.Standing.{StandsForAll}
-use Rattle.lid_parts.specs.PearlParts.{IsPearl}
+use Rattle.lid_check_elab.specs.Numbers.{columns_in}
+use Rattle.lid_check_parts.specs.Standing.{StandsForAll}
+use Rattle.lid_check_parts.specs.PearlParts.{IsPearl}
 
 -- a flat part is that of a pearl: its nets stand, in order, for the columns of the pearl and of all
 -- instances in it, its inputs and outputs for those of the pearl's model, and its drivers for theirs

@@ -6,8 +6,8 @@ ghost use Rattle.lid_design.specs.Flat.{IsFlat};
 ghost use Rattle.lid_design.specs.Loops.{pearls};
 ghost use Rattle.lid_design.specs.Elaboration.{count_latches, count_defaulted};
 ghost use Rattle.lid_design.specs.WellFormed.{IsWellFormed};
-ghost use Rattle.lid_rules.specs.declared.fault.CheckFault.TheVariants.{Memory};
-ghost use Rattle.lid_parts.specs.PearlParts.{IsPearlPart};
+ghost use Rattle.lid_check_rules.specs.declared.fault.CheckFault.TheVariants.{Memory};
+ghost use Rattle.lid_check_parts.specs.PearlParts.{IsPearlPart};
 ghost use Rattle.lid_check.specs.Flats.{IsFlatOf};
 ghost use Rattle.lid_check.specs.Networks.{IsNetwork};
 ghost use Rattle.lid_check.specs.Acceptance.{rooted_at, with_root, IsAccepted, IsRefused};
@@ -15,9 +15,9 @@ ghost use Rattle.lid_check.specs.Acceptance.{rooted_at, with_root, IsAccepted, I
 use crate::judging::{Facts, accept};
 use crate::network::Network;
 use lid_base::Name;
+use lid_check_parts::{PearlPart, flatten};
+use lid_check_rules::CheckFault;
 use lid_design::{Design, Flat};
-use lid_flatten::{Part, flatten};
-use lid_rules::CheckFault;
 use std::alloc::{AllocError, Global};
 use std::marker::Model;
 
@@ -156,7 +156,7 @@ impl Checked {
     }
 
     /// The columns of a pearl and of all instances in it, which have consecutive numbers.
-    pub fn part(&self, pearl: u32) -> Part
+    pub fn part(&self, pearl: u32) -> PearlPart
         requires { pearl < length (pearls self.now) }
         ensures { IsPearlPart self.now pearl result }
     {

@@ -1,22 +1,22 @@
 ghost use Rattle.std.specs.Prelude.{◌≡◌, ◌⊎◌, length, map, IfOk, IfErr};
 ghost use Rattle.lid_design.specs.Loops.{pearls};
 ghost use Rattle.lid_design.specs.WellFormed.{IsWellFormed};
-ghost use Rattle.lid_rules.specs.declared.fault.CheckFault.TheVariants.{Memory};
-ghost use Rattle.lid_digraph.specs.Graphs.{IsOrder};
-ghost use Rattle.lid_elab.specs.Elaborations.{driver_reads};
+ghost use Rattle.lid_check_rules.specs.declared.fault.CheckFault.TheVariants.{Memory};
+ghost use Rattle.lid_check_digraph.specs.Graphs.{IsOrder};
+ghost use Rattle.lid_check_elab.specs.Elaborations.{driver_reads};
 ghost use Rattle.lid_check.specs.Acceptance.{IsAccepted, IsRefusal};
-ghost use Rattle.lid_check.specs.Facts.{AreCounts, AreFindings, ArePorts, AreFacts};
+ghost use Rattle.lid_check.specs.Facts.{AreCounts, AreFindings, AreDesignPorts, AreFacts};
 
 use crate::network::{Network, number_outputs};
 use lid_base::{Items, Name};
+use lid_check_drivers::{Judged, judge};
+use lid_check_elab::{Elaboration, elaborate};
+use lid_check_hierarchy::Survey;
+use lid_check_loops::{Verdict, find_flaw, find_inputs, tell_flaw};
+use lid_check_models::{check_models, count_latches};
+use lid_check_parts::{PearlPart, find_parts};
+use lid_check_rules::CheckFault;
 use lid_design::Design;
-use lid_elab::{Elaboration, elaborate};
-use lid_flaws::{Verdict, find_flaw, find_inputs, tell_flaw};
-use lid_hierarchy::Survey;
-use lid_judge::{check_models, count_latches};
-use lid_parts::{Part, find_parts};
-use lid_rules::CheckFault;
-use lid_wiring::{Judged, judge};
 use std::alloc::{AllocError, Global};
 
 /// Counts of a design, over all paths.
@@ -34,7 +34,7 @@ pub struct Facts {
     pub inputs: Items<Name>,
     pub counts: Counts,
     /// The columns of each pearl.
-    pub parts: Items<Part>,
+    pub parts: Items<PearlPart>,
     pub network: Network,
 }
 
@@ -44,7 +44,7 @@ struct Ports {
     inputs: Items<Name>,
     /// The numbers of the columns of the outputs.
     outputs: Items<u32>,
-    parts: Items<Part>,
+    parts: Items<PearlPart>,
 }
 
 /// What is found of the columns of an accepted design.
@@ -122,7 +122,7 @@ fn findings_of(
 /// The inputs and outputs of the root of an accepted design, and the columns of each pearl.
 fn find_ports(alloc: Global, columns: &Elaboration<'_>) -> Result<Ports, AllocError>
     requires { IsAccepted columns.now.design }
-    ensures { IfOk result (ArePorts columns.now.design columns.now.drivers) }
+    ensures { IfOk result (AreDesignPorts columns.now.design columns.now.drivers) }
 {
     let survey = columns.judged().survey();
     let inputs = find_inputs(alloc, survey, survey.design().root)?;

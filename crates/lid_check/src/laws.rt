@@ -3,7 +3,7 @@
 
 ghost use Rattle.std.specs.Prelude.{◌≡◌};
 ghost use Rattle.lid_design.specs.declared.Design.{Design};
-ghost use Rattle.lid_rules.specs.declared.fault.CheckFault.{CheckFault};
+ghost use Rattle.lid_check_rules.specs.declared.fault.CheckFault.{CheckFault};
 ghost use Rattle.lid_check.specs.Acceptance.{IsAccepted, IsRefusal};
 
 /// An accepted design is not refused, and a design is refused for at most one fault. So which fault is

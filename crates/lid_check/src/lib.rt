@@ -8,6 +8,6 @@ mod network;
 
 pub use checked::{Checked, check};
 pub use laws::acceptance_is_one;
-pub use lid_flatten::Part;
-pub use lid_rules::CheckFault;
+pub use lid_check_parts::PearlPart;
+pub use lid_check_rules::CheckFault;
 pub use network::Network;

@@ -8,8 +8,8 @@ ghost use Rattle.lid_design.specs.Elaboration.{model_nets};
 ghost use Rattle.lid_check.specs.Networks.{AreNumbersOf};
 
 use lid_base::{Items, Name};
-use lid_elab::{Columns, Elaboration};
-use lid_wiring::Judged;
+use lid_check_drivers::Judged;
+use lid_check_elab::{Columns, Elaboration};
 use std::alloc::{AllocError, Global};
 
 /// The columns of an accepted design, as they are run. It borrows nothing.

@@ -1,24 +1,19 @@
 -- What an actor of a life sees of its stations is what the rule of firing asks.
-use Rattle.std.proofs.Common.{◌≡◌, ℕ, ◌+◌, ◌<◌, ◌≤◌, inl, inr, zero, suc, List, [], ◌∷◌, length, get_or, refl, sym, ◌∙◌, ap, subst, arith}
+use Rattle.std.proofs.Common.{◌≡◌, ℕ, ◌+◌, ◌<◌, ◌≤◌, inl, inr, List, length, get_or, sym, ◌∙◌, ap, subst, arith}
 use Rattle.std.specs.Prelude.{Some, slice_get}
 use Rattle.std.proofs.lemmas.Option.{slice_get_within, slice_get-get_or, get_or_from_slice_get}
 use Rattle.lid_stations.specs.Placements.{links_of}
 use Rattle.lid_stations.specs.Stations.{capacity}
-use Rattle.lid_runs.specs.Runs.{cap_of}
-use Rattle.lid_runs.specs.Rules.{MayFire, MayNotFire, FindsVoid, FindsStop}
+use Rattle.lid_shell_laws.specs.Runs.{cap_of}
+use Rattle.lid_shell_laws.specs.Rules.{MayFire, MayNotFire, FindsVoid, FindsStop}
 use Rattle.lid_clock.specs.declared.actor.ClockActor.{ClockActor}
 use Rattle.lid_clock.specs.declared.station.ClockStation.{ClockStation}
-use Rattle.lid_clock.specs.Rings.{IsAt, OneIsEmpty, OneIsFull}
+use Rattle.lid_clock.specs.Rings.{IsStationAt, OneIsEmpty, OneIsFull}
 use Rattle.lid_clock.specs.Actors.{SeesStations, SeesNoBar, SeesBar}
 use Rattle.lid_clock.specs.Lives.{Life, fired_after}
 use Rattle.lid_clock.specs.States.{ins_of, outs_of, put_after, taken_after, stations_of, IsStation, AreStations, IsActor}
-use Rattle.lid_runs.proofs.Ends.{drained_is, filled_is, drained_there, filled_there}
-
--- an element stands at each place of a list
-pub element : {X : Type 0} (xs : List X) (i : ℕ) → i < length xs → (x : X) × (slice_get xs i ≡ Some x)
-element [] i within = absurd (omega arith)
-element (x ∷ xs) zero within = (x, refl)
-element (x ∷ xs) (suc i) within = element xs i (omega arith)
+use Rattle.lid_shell_laws.proofs.Ends.{drained_is, filled_is, drained_there, filled_there}
+use Rattle.lid_base.proofs.Places.{item_at}
 
 -- what stands at a place of two equal lists
 pub stands : (reads own : List ℕ) (i station : ℕ) → reads ≡ own → slice_get own i ≡ Some station → (i < length reads) × (get_or reads i 0 ≡ station)
@@ -50,13 +45,13 @@ sees l k g v fired a stations actor beside =
 at_station : (l : Life) (k station : ℕ) (stations : List ClockStation) → AreStations l k stations → station < stations_of l → (x : ClockStation) × (slice_get stations station ≡ Some x)
 at_station l k station stations beside there =
     let many : length stations ≡ stations_of l = beside.many in
-    element stations station (omega arith)
+    item_at stations station (omega arith)
 
 -- a station that is read at a place
 pub record IsRead (l : Life) (k : ℕ) (reads : List ℕ) (stations : List ClockStation) (place number : ℕ) : Type 0 where
   pub within : place < length reads
   pub station : ClockStation
-  pub at : IsAt reads stations place station
+  pub at : IsStationAt reads stations place station
   pub is : IsStation l number (put_after l k number) (taken_after l k number) station
 
 pub read_at : (l : Life) (k place number : ℕ) (reads own : List ℕ) (stations : List ClockStation) → reads ≡ own → slice_get own place ≡ Some number → AreStations l k stations → number < stations_of l → IsRead l k reads stations place number

@@ -1,24 +1,24 @@
 -- A run that was built is one that has not yet made a cycle.
-use Rattle.std.proofs.Common.{◌≡◌, ◌≢◌, ℕ, suc, ◌+◌, ◌-◌, ◌<◌, ◌≤◌, ◌⊎◌, inl, inr, ◌==◌, min, nat_lt, Bool, true, false, cond, List, [], ◌∷◌, ◌++◌, length, get_or, map, filter, refl, sym, ◌∙◌, ap, subst, zero-add, arith}
+use Rattle.std.proofs.Common.{◌≡◌, ◌≢◌, ℕ, suc, ◌+◌, ◌-◌, ◌<◌, ◌≤◌, ◌⊎◌, inl, inr, ◌==◌, min, nat_lt, Bool, true, false, cond, List, ◌∷◌, ◌++◌, length, get_or, map, filter, refl, sym, ◌∙◌, ap, subst, zero-add, arith}
 use Rattle.std.specs.Prelude.{Option, Some, IfSome, slice_get, ⊤}
 use Rattle.std.proofs.lemmas.Bool.{eq-eqb, ltb-true, ltb-false, false≢true}
 use Rattle.std.proofs.lemmas.List.{length-map, get_or-map}
 use Rattle.std.proofs.lemmas.List.Elements.{filter-append}
 use Rattle.std.proofs.lemmas.Option.{slice_get_within, get_or_from_slice_get, MatchOption-at_some}
-use Rattle.lid_design.specs.Network.{Table, from_each}
+use Rattle.lid_design.specs.Network.{Table}
+use Rattle.lid_base.specs.Each.{from_each}
 use Rattle.lid_graph.specs.Firings.{firings}
 use Rattle.lid_system.specs.declared.System.{System}
 use Rattle.lid_system.specs.Systems.{Point, IsWellFormed}
 use Rattle.lid_system.specs.Streams.{token_at}
-use Rattle.lid_nodes.specs.Nodes.{channels_to, channels_from, tokens_from}
-use Rattle.lid_nodes.specs.Wiring.{IsShellOf, ports_from}
+use Rattle.lid_shell_nodes.specs.Nodes.{channels_to, channels_from, tokens_from}
+use Rattle.lid_shell_nodes.specs.Wiring.{IsShellOf, ports_from}
 use Rattle.lid_stations.specs.declared.placement.Placement.{Placement}
 use Rattle.lid_stations.specs.Placements.{Links, links_of, station_count, Fits}
 use Rattle.lid_stations.specs.Stations.{actor_count, filler, drainer, start_count}
-use Rattle.lid_stations.proofs.Parts.{each_more}
-use Rattle.lid_runs.specs.Runs.{drained_by, filled_by, starts_with, token_of}
-use Rattle.lid_clock.specs.declared.part.Part.{Part}
-use Rattle.lid_clock.specs.declared.part.Part.TheVariants.{Source, Shell, Mover, Sink}
+use Rattle.lid_shell_laws.specs.Runs.{drained_by, filled_by, starts_with, token_of}
+use Rattle.lid_clock.specs.declared.part.Role.{Role}
+use Rattle.lid_clock.specs.declared.part.Role.TheVariants.{Source, Shell, Mover, Sink}
 use Rattle.lid_clock.specs.declared.actor.ClockActor.{ClockActor}
 use Rattle.lid_clock.specs.declared.station.ClockStation.{ClockStation}
 use Rattle.lid_clock.specs.declared.stream.ClockStream.{ClockStream}
@@ -26,16 +26,12 @@ use Rattle.lid_clock.specs.Rings.{token_in}
 use Rattle.lid_clock.specs.Rules.{RunsGoByRules}
 use Rattle.lid_clock.specs.Parts.{IsOfSize}
 use Rattle.lid_clock.specs.Lives.{Life, IsLife, StartsSo, fired_after, sink}
-use Rattle.lid_clock.specs.States.{outs_of, token_of_life, put_after, taken_after, actors_of, stations_of, IsStation, IsPart, IsActor, AreActors, AreStations, IsLatest}
+use Rattle.lid_clock.specs.States.{outs_of, token_of_life, put_after, taken_after, actors_of, stations_of, IsStation, IsRole, IsActor, AreActors, AreStations, IsLatest}
 use Rattle.lid_clock.specs.Ran.{Ran}
-use Rattle.lid_clock.specs.Starts.{IsNewPart, IsNew, AreNew, filled_of, IsJoined, AreJoined, IsLaid, HasLaid, Shows, IsSized, AreReadied, CanGain, HasGained}
-use Rattle.lid_clock.proofs.Bars.{element}
+use Rattle.lid_clock.specs.Starts.{IsNewRole, IsNew, AreNew, filled_of, IsActorJoined, AreJoined, IsLaid, HasLaid, ShowsFirstTokens, IsSized, AreReadied, CanGain, HasGained}
 use Rattle.lid_clock.proofs.Built.{HasBegun, IsBuilt}
-
--- what stands after a list
-after : {X : Type 0} (xs ys : List X) (y : X) → slice_get (xs ++ y ∷ ys) (length xs) ≡ Some y
-after [] ys y = refl
-after (x ∷ xs) ys y = after xs ys y
+use Rattle.lid_base.proofs.Places.{item_at, get_past}
+use Rattle.lid_base.proofs.Each.{each_append}
 
 -- a number that passes stands behind those before it that pass
 stands_behind : (f : ℕ → Bool) (n k : ℕ) → f n ≡ true → slice_get (filter f (from_each (λ j. j) 0 (n + suc k))) (length (filter f (from_each (λ j. j) 0 n))) ≡ Some n
@@ -43,11 +39,11 @@ stands_behind f n k passes =
     let before : List ℕ = filter f (from_each (λ j. j) 0 n) in
     let later : List ℕ = filter f (from_each (λ j. j) (n + 1) k) in
     let whole : filter f (from_each (λ j. j) 0 (n + suc k)) ≡ before ++ n ∷ later =
-    ap (filter f) (each_more (λ j. j) 0 n (suc k))
+    ap (filter f) (each_append (λ j. j) 0 n (suc k))
     ∙ filter-append f (from_each (λ j. j) 0 n) (from_each (λ j. j) (0 + n) (suc k))
     ∙ ap (λ (m : ℕ). before ++ filter f (from_each (λ j. j) m (suc k))) (zero-add n)
     ∙ ap (λ (b : Bool). before ++ cond b (n ∷ later) later) passes in
-    ap (λ (xs : List ℕ). slice_get xs (length before)) whole ∙ after before later n
+    ap (λ (xs : List ℕ). slice_get xs (length before)) whole ∙ get_past before later n
 
 -- the slot of a station is where it stands among those of its filler
 pub slot_at : (l : Links) (p : Placement) (station : ℕ) → station < station_count p.relays → slice_get (filled_by l p (filler l p station)) (length (filled_of l p station (filler l p station))) ≡ Some station
@@ -75,7 +71,7 @@ module _ (r : RunsGoByRules) (s : System) (p : Placement) (well : IsWellFormed s
       ∙ length-map (channels_from s.channels v) (λ c. token_at s no_table c 0)
       ∙ sym (length-map (channels_from s.channels v) (λ c. c.ports))
 
-  sized : (first : Option (List Bool)) (v ins outs : ℕ) (part : Part) → v < actor_count (links_of s) p → ins ≡ length (drained_by (links_of s) p v) → outs ≡ length (filled_by (links_of s) p v) → IsNewPart s first v part → IsOfSize part ins outs
+  sized : (first : Option (List Bool)) (v ins outs : ℕ) (part : Role) → v < actor_count (links_of s) p → ins ≡ length (drained_by (links_of s) p v) → outs ≡ length (filled_by (links_of s) p v) → IsNewRole s first v part → IsOfSize part ins outs
   sized first v ins outs (Source node row) there drains fills new =
       let source : v ≡ 0 = new.0 in
       let least : 2 ≤ length s.nodes = well.least in
@@ -95,7 +91,7 @@ module _ (r : RunsGoByRules) (s : System) (p : Placement) (well : IsWellFormed s
   pub all_sized : (rows : ℕ) (first : Option (List Bool)) (actors : List ClockActor) → AreJoined (links_of s) p (station_count p.relays) actors → AreNew s rows first actors
       → (v : ℕ) (a : ClockActor) → slice_get actors v ≡ Some a → IsSized a
   all_sized rows first actors joined new v a at =
-      let own : IsJoined (links_of s) p (station_count p.relays) v a = joined.each v a at in
+      let own : IsActorJoined (links_of s) p (station_count p.relays) v a = joined.each v a at in
       let within : v < length actors = slice_get_within actors v a at in
       let many : length actors ≡ actor_count (links_of s) p = joined.many in
       sized first v (length a.ins.items) (length a.outs.items) a.part (omega arith) (ap length own.drains) (ap length own.fills) (new v a at).is
@@ -116,7 +112,7 @@ module _ (r : RunsGoByRules) (s : System) (p : Placement) (well : IsWellFormed s
         there = omega arith;
         slot = λ a here.
             let b = readied.each x.filler a here in
-            let joined : IsJoined (links_of s) p (station_count p.relays) x.filler b.0 = laid.joined.each x.filler b.0 b.1 in
+            let joined : IsActorJoined (links_of s) p (station_count p.relays) x.filler b.0 = laid.joined.each x.filler b.0 b.1 in
             let room : length a.tokens.items ≡ length a.outs.items = b.2.places.tokens in
             let same : length a.outs.items ≡ length (filled_by (links_of s) p (filler (links_of s) p i)) = ap length (b.2.same.outs ∙ joined.fills ∙ ap (filled_by (links_of s) p) fills) in
             let slot : x.slot ≡ length (filled_of (links_of s) p i (filler (links_of s) p i)) = own.slot in
@@ -144,11 +140,11 @@ module _ (r : RunsGoByRules) (l : Life) (life : IsLife l) where
   -- the row that the source holds is the first one
   first_held : (row : List Bool) → IfSome (slice_get l.input 0) (λ given. row ≡ given) → 0 < length l.input → slice_get l.input 0 ≡ Some row
   first_held row held some =
-      let given = element l.input 0 some in
+      let given = item_at l.input 0 some in
       let same : row ≡ given.0 = MatchOption-at_some ⊤ (λ (x : List Bool). row ≡ x) given.0 given.1 held in
       given.1 ∙ ap (λ (x : List Bool). Some x) (sym same)
 
-  new_part : (v : ℕ) (part : Part) → IsNewPart l.system (slice_get l.input 0) v part → IsPart l (min 1 (length l.input)) v 0 part
+  new_part : (v : ℕ) (part : Role) → IsNewRole l.system (slice_get l.input 0) v part → IsRole l (min 1 (length l.input)) v 0 part
   new_part v (Source node row) new = (
     new.0,
     new.1,
@@ -165,7 +161,7 @@ module _ (r : RunsGoByRules) (l : Life) (life : IsLife l) where
   new_part v (Sink node row) new = new.0
 
   -- what a node but the sink shows are the tokens of the first row
-  shown : (v : ℕ) (part : Part) (tokens : List ℕ) → IsNewPart l.system (slice_get l.input 0) v part → Shows part tokens → v < length l.system.nodes → v + 1 ≢ length l.system.nodes → 0 < length l.input → tokens ≡ tokens_from l.system l.table v 0
+  shown : (v : ℕ) (part : Role) (tokens : List ℕ) → IsNewRole l.system (slice_get l.input 0) v part → ShowsFirstTokens part tokens → v < length l.system.nodes → v + 1 ≢ length l.system.nodes → 0 < length l.input → tokens ≡ tokens_from l.system l.table v 0
   shown v (Source node row) tokens new shows node_is not_sink some =
       shows l.system l.input l.table 0 life.system new.1 life.table (first_held row.items new.3 some) ∙ ap (λ (u : ℕ). tokens_from l.system l.table u 0) (sym new.0)
   shown v (Shell node) tokens new shows node_is not_sink some = shows l.system l.input l.table v 0 life.system life.table some (new.2 l.table)
@@ -175,7 +171,7 @@ module _ (r : RunsGoByRules) (l : Life) (life : IsLife l) where
   module _ (actors : List ClockActor) (stations : List ClockStation) (is : IsBuilt l.system l.placement (length l.input) (slice_get l.input 0) actors stations) where
     new_actor : (v : ℕ) (a : ClockActor) → slice_get actors v ≡ Some a → IsActor l (min 1 (length l.input)) v (fired_after l 0 v) a
     new_actor v a at =
-        let own : IsJoined (links_of l.system) l.placement (station_count l.placement.relays) v a = is.joined.each v a at in
+        let own : IsActorJoined (links_of l.system) l.placement (station_count l.placement.relays) v a = is.joined.each v a at in
         let new : IsNew l.system (length l.input) (slice_get l.input 0) v a = is.new v a at in
         let within : v < length actors = slice_get_within actors v a at in
         let many : length actors ≡ actors_of l = is.joined.many in
@@ -186,7 +182,7 @@ module _ (r : RunsGoByRules) (l : Life) (life : IsLife l) where
           capped = new.capped;
           fired_is = new.fired_is ∙ sym (none_fired v);
           places = is.places v a at;
-          is = subst (λ (n : ℕ). IsPart l (min 1 (length l.input)) v n a.part) (sym (none_fired v)) (new_part v a.part new.is);
+          is = subst (λ (n : ℕ). IsRole l (min 1 (length l.input)) v n a.part) (sym (none_fired v)) (new_part v a.part new.is);
         }
 
     -- a station that a node fills starts with that node's token of the first row
@@ -217,7 +213,7 @@ module _ (r : RunsGoByRules) (l : Life) (life : IsLife l) where
         let none_taken : fired_after l 0 (drainer links l.placement i) ≡ 0 = none_fired (drainer links l.placement i) in
         let below : filler links l.placement i < actors_of l = (r.between l.system l.placement i life.system life.fits there).filled in
         let many : length actors ≡ actors_of l = is.joined.many in
-        let filling = element actors (filler links l.placement i) (omega arith) in
+        let filling = item_at actors (filler links l.placement i) (omega arith) in
         let at : slice_get actors y.filler ≡ Some filling.0 = ap (slice_get actors) fills ∙ filling.1 in
         let token : token_in x.places.items 0 ≡ token_of_life l i 0 = has.token filling.0 at ∙ first_token i y.slot filling.0 there filling.1 (omega arith) some laid.slot in
         let put : x.put ≡ 1 = has.put_is in

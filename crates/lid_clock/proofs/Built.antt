@@ -4,30 +4,30 @@ use Rattle.std.specs.Prelude.{Option, Some, slice_get}
 use Rattle.lid_system.specs.declared.System.{System}
 use Rattle.lid_stations.specs.declared.placement.Placement.{Placement}
 use Rattle.lid_stations.specs.Placements.{links_of, station_count}
-use Rattle.lid_clock.specs.declared.part.Part.{Part}
+use Rattle.lid_clock.specs.declared.part.Role.{Role}
 use Rattle.lid_clock.specs.declared.actor.ClockActor.{ClockActor}
 use Rattle.lid_clock.specs.declared.station.ClockStation.{ClockStation}
 use Rattle.lid_clock.specs.Actors.{HasPlaces}
-use Rattle.lid_clock.specs.Starts.{IsNewPart, IsNew, AreNew, IsJoined, AreJoined, IsLaid, HasLaid, Shows, IsReadied, AreReadied, Begins, AllBegin}
+use Rattle.lid_clock.specs.Starts.{IsNewRole, IsNew, AreNew, IsActorJoined, AreJoined, IsLaid, HasLaid, ShowsFirstTokens, IsReadied, AreReadied, StationBegins, AllBegin}
 
 -- a station that has begun, as it was laid
 pub record HasBegun (s : System) (p : Placement) (rows : ℕ) (actors : List ClockActor) (i : ℕ) (x : ClockStation) : Type 0 where
   pub was : ClockStation
   pub laid : IsLaid (links_of s) p i was
-  pub begins : Begins (nat_lt 0 rows) (length s.nodes) actors was x
+  pub begins : StationBegins (nat_lt 0 rows) (length s.nodes) actors was x
 
 -- all actors and stations of a run that was built
 pub record IsBuilt (s : System) (p : Placement) (rows : ℕ) (first : Option (List Bool)) (actors : List ClockActor) (stations : List ClockStation) : Type 0 where
   pub joined : AreJoined (links_of s) p (station_count p.relays) actors
   pub new : AreNew s rows first actors
   pub places : (v : ℕ) (a : ClockActor) → slice_get actors v ≡ Some a → HasPlaces a
-  pub shows : 0 < rows → (v : ℕ) (a : ClockActor) → slice_get actors v ≡ Some a → Shows a.part a.tokens.items
+  pub shows : 0 < rows → (v : ℕ) (a : ClockActor) → slice_get actors v ≡ Some a → ShowsFirstTokens a.part a.tokens.items
   pub many : length stations ≡ station_count p.relays
   pub each : (i : ℕ) (x : ClockStation) → slice_get stations i ≡ Some x → HasBegun s p rows actors i x
 
 module _ (s : System) (p : Placement) (rows : ℕ) (first : Option (List Bool)) where
   -- an actor that was readied is as joined and new as it was
-  joined_still : (v : ℕ) (a b : ClockActor) → IsJoined (links_of s) p (station_count p.relays) v a → IsReadied (nat_lt 0 rows) a b → IsJoined (links_of s) p (station_count p.relays) v b
+  joined_still : (v : ℕ) (a b : ClockActor) → IsActorJoined (links_of s) p (station_count p.relays) v a → IsReadied (nat_lt 0 rows) a b → IsActorJoined (links_of s) p (station_count p.relays) v b
   joined_still v a b was is = record { drains = is.same.ins ∙ was.drains; fills = is.same.outs ∙ was.fills }
 
   new_still : (v : ℕ) (a b : ClockActor) → IsNew s rows first v a → IsReadied (nat_lt 0 rows) a b → IsNew s rows first v b
@@ -36,7 +36,7 @@ module _ (s : System) (p : Placement) (rows : ℕ) (first : Option (List Bool)) 
         capped = is.same.cap ∙ was.capped;
         fired_is = is.fired ∙ was.fired_is;
         rests = is.went ∙ was.rests;
-        is = subst (λ (part : Part). IsNewPart s first v part) (sym is.part) was.is;
+        is = subst (λ (part : Role). IsNewRole s first v part) (sym is.part) was.is;
       }
 
   -- actors that were joined, and then readied, and stations that then began

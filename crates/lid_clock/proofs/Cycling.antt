@@ -11,15 +11,15 @@ use Rattle.lid_clock.specs.Ran.{Ran}
 use Rattle.lid_clock.specs.Cycles.{held_at, CanDecideAll, AllDecide, CanSettleAll, AllSettle}
 use Rattle.lid_graph.specs.Firings.{Hold}
 use Rattle.lid_clock.proofs.Held.{held_so, replaced, replaced_agrees, replaced_holds, begins_alike, actors_alike, stations_alike}
-use Rattle.lid_clock.proofs.Bars.{element}
 use Rattle.lid_clock.proofs.Told.{fired_is}
+use Rattle.lid_base.proofs.Places.{item_at}
 
 -- the source of a run
 pub source_of : (l : Life) (k g : ℕ) (x : ClockStream) → Ran l k g x → (a : ClockActor) × (slice_get x.actors.items 0 ≡ Some a)
 source_of l k g x ran =
     let least : 2 ≤ length l.system.nodes = ran.rules.system.least in
     let many : length x.actors.items ≡ actors_of l = ran.all_actors.many in
-    element x.actors.items 0 (omega arith)
+    item_at x.actors.items 0 (omega arith)
 
 -- whether a row is wanting depends on the run alone
 pub needs_too : (l m : Life) (k g j h : ℕ) (x : ClockStream) → Ran l k g x → Ran m j h x → NeedsRow l k g → NeedsRow m j h

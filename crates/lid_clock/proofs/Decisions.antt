@@ -1,8 +1,7 @@
 -- Actors of a life after their decisions.
-use Rattle.std.proofs.Common.{◌≡◌, ℕ, suc, ◌+◌, ◌⊎◌, Bool, true, false, List, length, refl, sym, ◌∙◌, ap, subst}
-use Rattle.std.proofs.lemmas.Bool.{false≢true}
+use Rattle.std.proofs.Common.{◌≡◌, ℕ, suc, ◌+◌, ◌⊎◌, true, false, List, length, refl, sym, ◌∙◌, ap, subst}
 use Rattle.lid_stations.specs.Placements.{links_of}
-use Rattle.lid_runs.specs.Rules.{MayFire, MayNotFire}
+use Rattle.lid_shell_laws.specs.Rules.{MayFire, MayNotFire}
 use Rattle.lid_clock.specs.declared.actor.ClockActor.{ClockActor}
 use Rattle.lid_clock.specs.declared.station.ClockStation.{ClockStation}
 use Rattle.lid_clock.specs.Actors.{SeesNoBar, Fires}
@@ -13,16 +12,13 @@ use Rattle.lid_clock.proofs.Bars.{may_fire}
 use Rattle.lid_clock.proofs.Tokens.{took}
 use Rattle.lid_clock.proofs.Staying.{stays}
 use Rattle.lid_clock.proofs.Made.{IsFiring, IsMade, made}
+use borrow.Author.Clash.{clash}
 
 -- an actor that did not go is still what it is
 still : (l : Life) (g v fired : ℕ) (a : ClockActor) → IsActor l g v fired a → IsActor l g v fired (record a { went = false })
 still l g v fired a actor =
     let places = actor.places in
     stays l g g v fired fired a (record a { went = false }) actor (record { ins = refl; outs = refl; cap = refl }) actor.fired_is (record { taken = places.taken; tokens = places.tokens; size = places.size }) actor.is
-
--- true is not false
-not_both : {A : Type 0} (b : Bool) → b ≡ true → b ≡ false → A
-not_both b is_true is_false = absurd (false≢true (sym is_false ∙ is_true))
 
 -- an actor that is held, or may not fire, has decided
 pub rested : (r : RunsGoByRules) (l : Life) (k g v : ℕ) (a : ClockActor) → MayBegin l k g → IsActor l g v (fired_after l k v) a
@@ -31,10 +27,10 @@ rested r l k g v a begins actor why =
     let same : fired_after l (suc k) v ≡ fired_after l k v = r.rests l.system l.placement (length l.input) l.hold k v begins.rules.system begins.rules.fits actor.there why in
     record {
       actor = subst (λ (n : ℕ). IsActor l g v n (record a { went = false })) (sym same) (still l g v (fired_after l k v) a actor);
-      goes = λ h. not_both false h refl;
+      goes = λ h. clash false h refl;
       rests = λ _. same;
-      offers = λ h. not_both false h refl;
-      row = λ h. not_both false h refl;
+      offers = λ h. clash false h refl;
+      row = λ h. clash false h refl;
     }
 
 -- an actor that fires has decided
@@ -49,7 +45,7 @@ fired r l k g v a stations new begins actor beside free clear fires =
     record {
       actor = subst (λ (n : ℕ). IsActor l g v n new) (sym goes) now;
       goes = λ _. goes;
-      rests = λ h. not_both new.went fires.went h;
+      rests = λ h. clash new.went fires.went h;
       offers = λ _. done.puts;
       row = λ _. done.row;
     }

@@ -2,32 +2,32 @@
 use Rattle.std.proofs.Common.{◌≡◌, ℕ, ◌+◌, ◌-◌, ◌<◌, ◌≤◌, Bool, List, length, set, refl, sym, ◌∙◌, ap, subst, arith, length-set}
 use Rattle.std.specs.Prelude.{Some, slice_get}
 use Rattle.std.proofs.lemmas.Option.{slice_get_within}
-use Rattle.lid_nodes.specs.Wiring.{IsSourceOf}
-use Rattle.lid_clock.specs.declared.part.Part.{Part}
-use Rattle.lid_clock.specs.declared.part.Part.TheVariants.{Source, Shell, Mover, Sink}
+use Rattle.lid_shell_nodes.specs.Wiring.{IsSourceOf}
+use Rattle.lid_clock.specs.declared.part.Role.{Role}
+use Rattle.lid_clock.specs.declared.part.Role.TheVariants.{Source, Shell, Mover, Sink}
 use Rattle.lid_clock.specs.declared.actor.ClockActor.{ClockActor}
 use Rattle.lid_clock.specs.declared.stream.ClockStream.{ClockStream}
 use Rattle.lid_clock.specs.Parts.{IsOfSize}
 use Rattle.lid_clock.specs.Actors.{HasPlaces, IsSameActor}
-use Rattle.lid_clock.specs.Lives.{Life, IsLife, IsWide, NeedsRow, fired_after, sink}
-use Rattle.lid_clock.specs.States.{IsPart, IsActor, AreActors, AreStations}
+use Rattle.lid_clock.specs.Lives.{Life, IsLife, IsSourceWide, NeedsRow, fired_after, sink}
+use Rattle.lid_clock.specs.States.{IsRole, IsActor, AreActors, AreStations}
 use Rattle.lid_clock.specs.Ran.{Ran}
-use Rattle.lid_clock.specs.Cycles.{CanTake, Takes}
+use Rattle.lid_clock.specs.Cycles.{CanTake, TakesRow}
 use Rattle.lid_clock.proofs.Staying.{stays, stays_but_part}
-use Rattle.lid_runs.proofs.Elements.{set_here, set_there}
 use mathlib.Core.Logic.{dite}
 use native.Mathlib.Decide.{ℕ_discrete}
+use Rattle.lid_base.proofs.Places.{set_here, set_there}
 
 -- the source of a life can take a row that is as wide as its columns
-part_can_take : (l : Life) (g fired ins outs : ℕ) (part : Part) (row : List Bool) → IsPart l g 0 fired part → IsOfSize part ins outs → IsWide l.system row → CanTake part (length row)
+part_can_take : (l : Life) (g fired ins outs : ℕ) (part : Role) (row : List Bool) → IsRole l g 0 fired part → IsOfSize part ins outs → IsSourceWide l.system row → CanTake part (length row)
 part_can_take l g fired ins outs (Source node line) row is size wide = size.0 ∙ is.1.wide ∙ sym (wide is.1.columns is.1.node)
 part_can_take l g fired ins outs _ row is size wide = tt
 
-pub can_take : (l : Life) (g fired : ℕ) (a : ClockActor) (row : List Bool) → IsActor l g 0 fired a → IsWide l.system row → CanTake a.part (length row)
+pub can_take : (l : Life) (g fired : ℕ) (a : ClockActor) (row : List Bool) → IsActor l g 0 fired a → IsSourceWide l.system row → CanTake a.part (length row)
 can_take l g fired a row actor wide = part_can_take l g fired _ _ a.part row actor.is actor.places.size wide
 
 -- the source of a life takes the next row
-part_given : (l : Life) (g fired : ℕ) (old new : Part) (row : List Bool) → IsLife l → IsPart l g 0 fired old → g ≡ fired + 1 → slice_get l.input g ≡ Some row → Takes old row new → IsPart l (g + 1) 0 fired new
+part_given : (l : Life) (g fired : ℕ) (old new : Role) (row : List Bool) → IsLife l → IsRole l g 0 fired old → g ≡ fired + 1 → slice_get l.input g ≡ Some row → TakesRow old row new → IsRole l (g + 1) 0 fired new
 part_given l g fired (Source node line) (Source now given) row life is lacks at takes = (
   refl,
   subst (IsSourceOf l.system) (sym takes.0) is.1,
@@ -42,17 +42,17 @@ part_given l g fired (Shell node) new row life is lacks at takes = absurd (omega
 part_given l g fired Mover new row life is lacks at takes = let least : 2 ≤ length l.system.nodes = life.system.least in let past : length l.system.nodes ≤ 0 = is in absurd (omega arith)
 part_given l g fired (Sink node line) new row life is lacks at takes = let least : 2 ≤ length l.system.nodes = life.system.least in let last : 0 + 1 ≡ length l.system.nodes = is.last in absurd (omega arith)
 
-size_given : (old new : Part) (row : List Bool) (ins outs : ℕ) → IsOfSize old ins outs → CanTake old (length row) → Takes old row new → IsOfSize new ins outs
+size_given : (old new : Role) (row : List Bool) (ins outs : ℕ) → IsOfSize old ins outs → CanTake old (length row) → TakesRow old row new → IsOfSize new ins outs
 size_given (Source node line) (Source now given) row ins outs size can takes =
     (ap length takes.1 ∙ sym can ∙ size.0 ∙ ap (λ n. n.width) (sym takes.0), size.1 ∙ ap (λ n. length n.ports) (sym takes.0))
 size_given (Source node line) _ row ins outs size can takes = absurd takes
-size_given (Shell node) new row ins outs size can takes = subst (λ (p : Part). IsOfSize p ins outs) (sym takes) size
-size_given Mover new row ins outs size can takes = subst (λ (p : Part). IsOfSize p ins outs) (sym takes) size
-size_given (Sink node line) new row ins outs size can takes = subst (λ (p : Part). IsOfSize p ins outs) (sym takes) size
+size_given (Shell node) new row ins outs size can takes = subst (λ (p : Role). IsOfSize p ins outs) (sym takes) size
+size_given Mover new row ins outs size can takes = subst (λ (p : Role). IsOfSize p ins outs) (sym takes) size
+size_given (Sink node line) new row ins outs size can takes = subst (λ (p : Role). IsOfSize p ins outs) (sym takes) size
 
 -- the source after it took the row
 source_given : (l : Life) (g fired : ℕ) (old new : ClockActor) (row : List Bool) → IsLife l → IsActor l g 0 fired old → g ≡ fired + 1 → slice_get l.input g ≡ Some row
-    → CanTake old.part (length row) → Takes old.part row new.part → new ≡ record old { part = new.part } → IsActor l (g + 1) 0 fired new
+    → CanTake old.part (length row) → TakesRow old.part row new.part → new ≡ record old { part = new.part } → IsActor l (g + 1) 0 fired new
 source_given l g fired old new row life actor lacks at can takes rest =
     let taken : length new.taken.items ≡ length old.taken.items = ap (λ (a : ClockActor). length a.taken.items) rest in
     let tokens : length new.tokens.items ≡ length old.tokens.items = ap (λ (a : ClockActor). length a.tokens.items) rest in
@@ -68,7 +68,7 @@ source_given l g fired old new row life actor lacks at can takes rest =
     stays l g (g + 1) 0 fired fired old new actor same (ap (λ (a : ClockActor). a.fired) rest ∙ actor.fired_is) places (part_given l g fired old.part new.part row life actor.is lacks at takes)
 
 -- the other actors do not depend on how many rows were given
-part_else : (l : Life) (g v fired : ℕ) (part : Part) → IsPart l g v fired part → 0 < v → IsPart l (g + 1) v fired part
+part_else : (l : Life) (g v fired : ℕ) (part : Role) → IsRole l g v fired part → 0 < v → IsRole l (g + 1) v fired part
 part_else l g v fired (Source node line) is later = let first : v ≡ 0 = is.0 in absurd (omega arith)
 part_else l g v fired (Shell node) is later = is
 part_else l g v fired Mover is later = is
@@ -91,7 +91,7 @@ actors_given l k g actors new all source =
 
 -- a run that is given the next row of a life
 pub gave : (l : Life) (k g : ℕ) (x new : ClockStream) (old source : ClockActor) (row : List Bool) → Ran l k g x → NeedsRow l k g → slice_get l.input g ≡ Some row → slice_get x.actors.items 0 ≡ Some old
-    → CanTake old.part (length row) → Takes old.part row source.part → source ≡ record old { part = source.part }
+    → CanTake old.part (length row) → TakesRow old.part row source.part → source ≡ record old { part = source.part }
     → new.actors.items ≡ set x.actors.items 0 source → new.stations ≡ x.stations → new.rows ≡ x.rows → new.given ≡ x.given + 1 → new.sink ≡ x.sink → Ran l k (g + 1) new
 gave l k g x new old source row ran needs at there can takes rest is_actors is_stations rows given sunk =
     let within : g < length l.input = slice_get_within l.input g row at in

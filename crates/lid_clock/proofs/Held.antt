@@ -4,14 +4,14 @@ use Rattle.std.proofs.Math.Path.{fun_ext}
 use Rattle.lid_graph.specs.Firings.{Hold, Counts, firings, least_into}
 use Rattle.lid_graph.specs.declared.graph.Edge.{Edge}
 use Rattle.lid_stations.specs.Markings.{marking}
-use Rattle.lid_runs.specs.Runs.{cap_of, in_count, out_count}
+use Rattle.lid_shell_laws.specs.Runs.{cap_of, in_count, out_count}
 use Rattle.lid_stations.specs.Placements.{links_of}
-use Rattle.lid_clock.specs.declared.part.Part.{Part}
-use Rattle.lid_clock.specs.declared.part.Part.TheVariants.{Source, Shell, Mover, Sink}
+use Rattle.lid_clock.specs.declared.part.Role.{Role}
+use Rattle.lid_clock.specs.declared.part.Role.TheVariants.{Source, Shell, Mover, Sink}
 use Rattle.lid_clock.specs.declared.actor.ClockActor.{ClockActor}
 use Rattle.lid_clock.specs.declared.station.ClockStation.{ClockStation}
 use Rattle.lid_clock.specs.Lives.{Life, IsLife, Holds, fired_after, sink}
-use Rattle.lid_clock.specs.States.{HoldsLast, IsPart, IsActor, AreActors, IsStation, AreStations, MayBegin, put_after, taken_after}
+use Rattle.lid_clock.specs.States.{HoldsLast, IsRole, IsActor, AreActors, IsStation, AreStations, MayBegin, put_after, taken_after}
 use Rattle.lid_clock.specs.Cycles.{held_at}
 
 -- a life with another hold
@@ -41,7 +41,7 @@ rules_alike l hold life = record { system = life.system; fits = life.fits; few =
 last_alike : (l : Life) (hold : Hold) (g fired : ℕ) (row : List Bool) → HoldsLast l g fired row → HoldsLast (held_so l hold) g fired row
 last_alike l hold g fired row last = record { next = last.next; near = last.near; is = last.is }
 
-part_alike : (l : Life) (hold : Hold) (g v fired : ℕ) (part : Part) → IsPart l g v fired part → IsPart (held_so l hold) g v fired part
+part_alike : (l : Life) (hold : Hold) (g v fired : ℕ) (part : Role) → IsRole l g v fired part → IsRole (held_so l hold) g v fired part
 part_alike l hold g v fired (Source node row) is = (is.0, is.1, λ some. last_alike l hold g fired row.items (is.2 some))
 part_alike l hold g v fired (Shell node) is = is
 part_alike l hold g v fired Mover is = is

@@ -1,24 +1,22 @@
 -- Actors to which stations were joined, and the stations as they were laid.
-use Rattle.std.proofs.Common.{◌≡◌, ℕ, ◌+◌, ◌<◌, ◌≤◌, ◌==◌, Bool, true, false, cond, List, [], ◌∷◌, ◌++◌, length, get_or, set, filter, refl, sym, ◌∙◌, ap, subst, zero-add, arith}
+use Rattle.std.proofs.Common.{◌≡◌, ℕ, ◌+◌, ◌<◌, ◌≤◌, ◌==◌, Bool, true, false, cond, List, [], ◌∷◌, ◌++◌, length, get_or, set, refl, sym, ◌∙◌, ap, subst, arith}
 use Rattle.std.proofs.lemmas.Option.{slice_get-get_or, get_or_from_slice_get}
 use Rattle.std.proofs.lemmas.Bool.{eq-eqb, ne_eqb}
-use Rattle.std.proofs.lemmas.List.{append-nil, length-set}
-use Rattle.std.proofs.lemmas.List.Elements.{filter-append}
+use Rattle.std.proofs.lemmas.List.{append-nil, length-set, length_push}
 use Rattle.std.proofs.lemmas.List.Sums.{length-filter, count_by-le-length}
-use Rattle.lid_design.specs.Network.{from_each}
+use Rattle.lid_base.specs.Each.{from_each}
 use Rattle.lid_system.specs.declared.System.{System}
 use Rattle.lid_system.specs.Systems.{IsWellFormed}
-use Rattle.lid_system.proofs.Shelling.{each_length}
 use Rattle.lid_stations.specs.declared.placement.Placement.{Placement}
 use Rattle.lid_stations.specs.Placements.{Links, links_of, station_count, Fits}
 use Rattle.lid_stations.specs.Stations.{actor_count, filler, drainer, capacity}
-use Rattle.lid_stations.proofs.Parts.{each_more}
 use Rattle.lid_stations.proofs.Spots.{stands_between}
 use Rattle.lid_clock.specs.declared.actor.ClockActor.{ClockActor}
 use Rattle.lid_clock.specs.declared.station.ClockStation.{ClockStation}
-use Rattle.lid_clock.specs.Starts.{IsNew, drained_of, filled_of, IsJoined, AreJoined, IsEmptyBetween, IsLaid, HasLaid, KeepsNew, IsJoinedBy, Joins, IsNextSlot, CanJoin}
-use Rattle.lid_clock.proofs.Bars.{element}
-use Rattle.lid_clock.proofs.Pushing.{each_pushed, length_pushed, each_set}
+use Rattle.lid_clock.specs.Starts.{IsNew, drained_of, filled_of, IsActorJoined, AreJoined, IsEmptyBetween, IsLaid, HasLaid, KeepsNew, IsJoinedBy, Joins, IsNextSlot, CanJoin}
+use Rattle.lid_base.proofs.Upto.{each_set}
+use Rattle.lid_base.proofs.Places.{item_at, each_push}
+use Rattle.lid_base.proofs.Each.{each_filtered, each_length}
 
 -- an actor that neither drains nor fills a station
 none_joined : (station : ℕ) (drains fills : Bool) (a : ClockActor) → drains ≡ false → fills ≡ false → IsJoinedBy drains fills station a a
@@ -80,28 +78,21 @@ joins actors station filler drainer d e x y filled drained outs out_rest ins in_
           (first.0, first.1, both_joined station (drainer == v) (filler == v) first.0 second.0 z first.2 second.2);
     }
 
--- of one number more, that one passes or not
-one_more : (f : ℕ → Bool) (n : ℕ) → filter f (from_each (λ j. j) 0 (n + 1)) ≡ filter f (from_each (λ j. j) 0 n) ++ cond (f n) (n ∷ []) []
-one_more f n =
-    ap (filter f) (each_more (λ j. j) 0 n 1)
-    ∙ ap (λ (m : ℕ). filter f (from_each (λ j. j) 0 n ++ m ∷ [])) (zero-add n)
-    ∙ filter-append f (from_each (λ j. j) 0 n) (n ∷ [])
-
 module _ (l : Links) (p : Placement) where
   -- an actor to which the next station was joined
-  joined_next : (n v : ℕ) (a b : ClockActor) (from to : ℕ) → from ≡ filler l p n → to ≡ drainer l p n → IsJoined l p n v a → IsJoinedBy (to == v) (from == v) n a b → IsJoined l p (n + 1) v b
+  joined_next : (n v : ℕ) (a b : ClockActor) (from to : ℕ) → from ≡ filler l p n → to ≡ drainer l p n → IsActorJoined l p n v a → IsJoinedBy (to == v) (from == v) n a b → IsActorJoined l p (n + 1) v b
   joined_next n v a b from to fills drains was by =
       record {
         drains =
             by.ins
             ∙ ap (λ (xs : List ℕ). xs ++ cond (to == v) (n ∷ []) []) was.drains
             ∙ ap (λ (u : ℕ). drained_of l p n v ++ cond (u == v) (n ∷ []) []) drains
-            ∙ sym (one_more (λ station. drainer l p station == v) n);
+            ∙ sym (each_filtered (λ station. drainer l p station == v) n);
         fills =
             by.outs
             ∙ ap (λ (xs : List ℕ). xs ++ cond (from == v) (n ∷ []) []) was.fills
             ∙ ap (λ (u : ℕ). filled_of l p n v ++ cond (u == v) (n ∷ []) []) fills
-            ∙ sym (one_more (λ station. filler l p station == v) n);
+            ∙ sym (each_filtered (λ station. filler l p station == v) n);
       }
 
   pub all_joined : (n from to : ℕ) (old new : List ClockActor) → from ≡ filler l p n → to ≡ drainer l p n → AreJoined l p n old → Joins n from to old new → AreJoined l p (n + 1) new
@@ -117,16 +108,16 @@ module _ (l : Links) (p : Placement) where
       → HasLaid l p n old stations → Joins n from to old new → IsEmptyBetween from to cap x → IsNextSlot from old x.slot
       → HasLaid l p (n + 1) new (stations ++ x ∷ [])
   laid_next n from to cap old new stations x fills drains caps there was by empty slot =
-      let a = element old from there in
-      let own : IsJoined l p n from a.0 = was.joined.each from a.0 a.1 in
+      let a = item_at old from there in
+      let own : IsActorJoined l p n from a.0 = was.joined.each from a.0 a.1 in
       let next : IsLaid l p n x = record {
         empty = record { filled = empty.filled ∙ fills; drained = empty.drained ∙ drains; put_is = empty.put_is; taken_is = empty.taken_is; size = empty.size ∙ caps };
         slot = slot a.0 a.1 ∙ ap length own.fills ∙ ap (λ (u : ℕ). length (filled_of l p n u)) fills;
       } in
       record {
         joined = all_joined n from to old new fills drains was.joined by;
-        many = length_pushed stations x ∙ ap (λ (m : ℕ). m + 1) was.many;
-        each = each_pushed (λ i y. IsLaid l p i y) stations x was.each (subst (λ (m : ℕ). IsLaid l p m x) (sym was.many) next);
+        many = length_push stations x ∙ ap (λ (m : ℕ). m + 1) was.many;
+        each = each_push (λ i y. IsLaid l p i y) stations x was.each (subst (λ (m : ℕ). IsLaid l p m x) (sym was.many) next);
       }
 
 -- actors that were new still are
@@ -149,7 +140,7 @@ can_join s p n from to actors well fits there fills drains joined =
       filled = omega arith;
       drained = omega arith;
       few = λ a at.
-          let own : IsJoined (links_of s) p n from a = joined.each from a at in
+          let own : IsActorJoined (links_of s) p n from a = joined.each from a at in
           let as_many : length a.outs.items ≡ length (filled_of (links_of s) p n from) = ap length own.fills in
           let counted = length-filter (λ station. filler (links_of s) p station == from) (from_each (λ j. j) 0 n) in
           let least = count_by-le-length (λ station. filler (links_of s) p station == from) (from_each (λ j. j) 0 n) in

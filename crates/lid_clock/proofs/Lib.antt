@@ -1,3 +1,6 @@
+pub mod FreeLives
+pub mod Kept
+pub mod Steps
 pub mod Elements
 pub mod Readings
 pub mod Bars
@@ -6,12 +9,10 @@ pub mod Made
 pub mod Staying
 pub mod Decisions
 pub mod Settled
-pub mod Pointwise
 pub mod Told
 pub mod Held
 pub mod Cycling
 pub mod Giving
-pub mod Pushing
 pub mod Joined
 pub mod Alone
 pub mod Laid

@@ -3,24 +3,24 @@ use Rattle.std.proofs.Common.{◌≡◌, ℕ, ◌+◌, ◌-◌, ◌<◌, ◌≤�
 use Rattle.std.specs.Prelude.{Some, slice_get}
 use Rattle.std.specs.Global.{Vec}
 use Rattle.lid_system.specs.Streams.{output_row}
-use Rattle.lid_nodes.specs.Nodes.{tokens_to, tokens_from}
-use Rattle.lid_nodes.specs.Wiring.{SourceView, ShellView, SinkView, IsSourceOf, IsSinkOf}
+use Rattle.lid_shell_nodes.specs.Nodes.{tokens_to, tokens_from}
+use Rattle.lid_shell_nodes.specs.Wiring.{SourceView, ShellView, SinkView, IsSourceOf, IsSinkOf}
 use Rattle.lid_stations.specs.Placements.{links_of}
-use Rattle.lid_runs.specs.Runs.{cap_of}
-use Rattle.lid_clock.specs.declared.part.Part.{Part}
-use Rattle.lid_clock.specs.declared.part.Part.TheVariants.{Source, Shell, Mover, Sink}
+use Rattle.lid_shell_laws.specs.Runs.{cap_of}
+use Rattle.lid_clock.specs.declared.part.Role.{Role}
+use Rattle.lid_clock.specs.declared.part.Role.TheVariants.{Source, Shell, Mover, Sink}
 use Rattle.lid_clock.specs.Rules.{RunsGoByRules}
 use Rattle.lid_clock.specs.Lives.{Life, fired_after, sink, NeedsRow}
 use Rattle.lid_clock.specs.Parts.{Passes, row_of}
-use Rattle.lid_clock.specs.States.{outs_of, token_of_life, put_after, actors_of, HoldsLast, IsPart, MayBegin}
-use Rattle.lid_runs.proofs.Ends.{filled_is}
+use Rattle.lid_clock.specs.States.{outs_of, token_of_life, put_after, actors_of, HoldsLast, IsRole, MayBegin}
+use Rattle.lid_shell_laws.proofs.Ends.{filled_is}
 use Rattle.lid_clock.proofs.Tokens.{tokens_in, offers, node_next, mover_next, sink_fills_none, node_takes, node_puts, mover_puts}
 use mathlib.Core.Logic.{dite}
 use native.Mathlib.Decide.{ℕ_discrete}
 
 -- what a firing makes
-pub record IsMade (l : Life) (k g v : ℕ) (into : List ℕ) (new : Part) : Type 0 where
-  pub is : IsPart l g v (fired_after l k v + 1) new
+pub record IsMade (l : Life) (k g v : ℕ) (into : List ℕ) (new : Role) : Type 0 where
+  pub is : IsRole l g v (fired_after l k v + 1) new
   pub puts : (i station : ℕ) → slice_get (outs_of l v) i ≡ Some station → get_or into i 0 ≡ token_of_life l station (put_after l k station)
   pub row : v ≡ sink l → row_of new ≡ Some (output_row l.system l.table (fired_after l k v))
 
@@ -57,7 +57,7 @@ row_stays l g fired row line holds next same =
     }
 
 source_made : (r : RunsGoByRules) (l : Life) (k g v : ℕ) (taken into : List ℕ) (node now : SourceView) (row line : Vec Bool)
-    → IsFiring l k g v taken → IsPart l g v (fired_after l k v) (Source node row) → Passes (Source node row) taken into (Source now line) → IsMade l k g v into (Source now line)
+    → IsFiring l k g v taken → IsRole l g v (fired_after l k v) (Source node row) → Passes (Source node row) taken into (Source now line) → IsMade l k g v into (Source now line)
 source_made r l k g v taken into node now row line f is passes =
     let first : v ≡ 0 = is.0 in
     let least : 2 ≤ length l.system.nodes = f.begins.rules.system.least in
@@ -79,7 +79,7 @@ source_made r l k g v taken into node now row line f is passes =
     }
 
 shell_made : (r : RunsGoByRules) (l : Life) (k g v : ℕ) (taken into : List ℕ) (node now : ShellView)
-    → IsFiring l k g v taken → IsPart l g v (fired_after l k v) (Shell node) → Passes (Shell node) taken into (Shell now) → IsMade l k g v into (Shell now)
+    → IsFiring l k g v taken → IsRole l g v (fired_after l k v) (Shell node) → Passes (Shell node) taken into (Shell now) → IsMade l k g v into (Shell now)
 shell_made r l k g v taken into node now f is passes =
     let early : v + 1 < length l.system.nodes = is.1 in
     let below : fired_after l k v < cap_of (links_of l.system) (length l.input) v = f.below in
@@ -96,7 +96,7 @@ shell_made r l k g v taken into node now f is passes =
     }
 
 mover_made : (r : RunsGoByRules) (l : Life) (k g v : ℕ) (taken into : List ℕ)
-    → IsFiring l k g v taken → IsPart l g v (fired_after l k v) Mover → Passes Mover taken into Mover → IsMade l k g v into Mover
+    → IsFiring l k g v taken → IsRole l g v (fired_after l k v) Mover → Passes Mover taken into Mover → IsMade l k g v into Mover
 mover_made r l k g v taken into f is passes =
     let past : length l.system.nodes ≤ v = is in
     let least : 2 ≤ length l.system.nodes = f.begins.rules.system.least in
@@ -109,7 +109,7 @@ mover_made r l k g v taken into f is passes =
     }
 
 sink_made : (r : RunsGoByRules) (l : Life) (k g v : ℕ) (taken into : List ℕ) (node now : SinkView) (row line : Vec Bool)
-    → IsFiring l k g v taken → IsPart l g v (fired_after l k v) (Sink node row) → Passes (Sink node row) taken into (Sink now line) → IsMade l k g v into (Sink now line)
+    → IsFiring l k g v taken → IsRole l g v (fired_after l k v) (Sink node row) → Passes (Sink node row) taken into (Sink now line) → IsMade l k g v into (Sink now line)
 sink_made r l k g v taken into node now row line f is passes =
     let last : v + 1 ≡ length l.system.nodes = is.last in
     let below : fired_after l k v < cap_of (links_of l.system) (length l.input) v = f.below in
@@ -123,8 +123,8 @@ sink_made r l k g v taken into node now row line f is passes =
     }
 
 -- a firing makes what it should
-pub made : (r : RunsGoByRules) (l : Life) (k g v : ℕ) (taken into : List ℕ) (old new : Part)
-    → IsFiring l k g v taken → IsPart l g v (fired_after l k v) old → Passes old taken into new → IsMade l k g v into new
+pub made : (r : RunsGoByRules) (l : Life) (k g v : ℕ) (taken into : List ℕ) (old new : Role)
+    → IsFiring l k g v taken → IsRole l g v (fired_after l k v) old → Passes old taken into new → IsMade l k g v into new
 made r l k g v taken into (Source node row) (Source now line) f is passes = source_made r l k g v taken into node now row line f is passes
 made r l k g v taken into (Shell node) (Shell now) f is passes = shell_made r l k g v taken into node now f is passes
 made r l k g v taken into Mover Mover f is passes = mover_made r l k g v taken into f is passes

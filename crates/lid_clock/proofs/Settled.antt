@@ -4,7 +4,7 @@ use Rattle.std.specs.Prelude.{Some, slice_get}
 use Rattle.lid_stations.specs.Placements.{links_of}
 use Rattle.lid_stations.specs.Stations.{filler, drainer, capacity}
 use Rattle.lid_stations.specs.Laws.{StandsBetween}
-use Rattle.lid_runs.specs.Rules.{HoldsFew, MayNotFire}
+use Rattle.lid_shell_laws.specs.Rules.{HoldsFew, MayNotFire}
 use Rattle.lid_station.proofs.Words.{one_turn}
 use Rattle.lid_clock.specs.declared.actor.ClockActor.{ClockActor}
 use Rattle.lid_clock.specs.declared.station.ClockStation.{ClockStation}
@@ -12,10 +12,10 @@ use Rattle.lid_clock.specs.Rings.{token_in}
 use Rattle.lid_clock.specs.Rules.{RunsGoByRules}
 use Rattle.lid_clock.specs.Lives.{Life, IsLife, fired_after}
 use Rattle.lid_clock.specs.States.{outs_of, token_of_life, put_after, taken_after, stations_of, actors_of, IsStation, Decided, AreDecided}
-use Rattle.lid_runs.proofs.Elements.{is_there}
-use Rattle.lid_clock.proofs.Bars.{element, stands}
+use Rattle.lid_clock.proofs.Bars.{stands}
 use mathlib.Core.Logic.{dite}
 use native.Mathlib.Decide.{ℕ_discrete}
+use Rattle.lid_base.proofs.Places.{item_at, item_read}
 
 -- nothing barred an actor that fired
 not_barred : (r : RunsGoByRules) (l : Life) (k v : ℕ) → IsLife l → v < actors_of l → fired_after l (suc k) v ≡ fired_after l k v + 1 → ¬ (MayNotFire (links_of l.system) l.placement (length l.input) (fired_after l k) v)
@@ -53,14 +53,14 @@ module _ (r : RunsGoByRules) (l : Life) (k g station put taken : ℕ) (x : Clock
 
   -- so the actor that is read for either has decided
   pub filler_decided : (a : ClockActor) → a ≡ get_or actors x.filler a → Decided l k g x.filler a
-  filler_decided a read = decided.each x.filler a (is_there actors x.filler a ends_there.0 read)
+  filler_decided a read = decided.each x.filler a (item_read actors x.filler a ends_there.0 read)
 
   pub drainer_decided : (a : ClockActor) → a ≡ get_or actors x.drainer a → Decided l k g x.drainer a
-  drainer_decided a read = decided.each x.drainer a (is_there actors x.drainer a ends_there.1 read)
+  drainer_decided a read = decided.each x.drainer a (item_read actors x.drainer a ends_there.1 read)
 
   -- and a filler there is
   pub some_filler : (a : ClockActor) × Decided l k g x.filler a
-  some_filler = let here = element actors x.filler ends_there.0 in (here.0, decided.each x.filler here.0 here.1)
+  some_filler = let here = item_at actors x.filler ends_there.0 in (here.0, decided.each x.filler here.0 here.1)
 
 -- the slot of a station is one of its filler's tokens
 pub slot_there : (l : Life) (k g station put taken : ℕ) (x : ClockStation) (a : ClockActor) → IsStation l station put taken x → Decided l k g x.filler a → x.slot < length a.tokens.items

@@ -3,10 +3,10 @@ use Rattle.std.proofs.Common.{◌≡◌, ℕ, refl, ◌∙◌}
 use Rattle.lid_clock.specs.declared.actor.ClockActor.{ClockActor}
 use Rattle.lid_clock.specs.Actors.{HasPlaces, IsSameActor}
 use Rattle.lid_clock.specs.Lives.{Life}
-use Rattle.lid_clock.specs.States.{IsPart, IsActor}
+use Rattle.lid_clock.specs.States.{IsRole, IsActor}
 
 -- it is that of a life as before, where its part is
-pub stays : (l : Life) (g h v fired now : ℕ) (old new : ClockActor) → IsActor l g v fired old → IsSameActor old new → new.fired ≡ now → HasPlaces new → IsPart l h v now new.part → IsActor l h v now new
+pub stays : (l : Life) (g h v fired now : ℕ) (old new : ClockActor) → IsActor l g v fired old → IsSameActor old new → new.fired ≡ now → HasPlaces new → IsRole l h v now new.part → IsActor l h v now new
 stays l g h v fired now old new actor same counts places is =
     record {
       there = actor.there;
@@ -19,5 +19,5 @@ stays l g h v fired now old new actor same counts places is =
     }
 
 -- an actor whose part alone is another one's
-pub stays_but_part : (l : Life) (g h v fired : ℕ) (a : ClockActor) → IsActor l g v fired a → IsPart l h v fired a.part → IsActor l h v fired a
+pub stays_but_part : (l : Life) (g h v fired : ℕ) (a : ClockActor) → IsActor l g v fired a → IsRole l h v fired a.part → IsActor l h v fired a
 stays_but_part l g h v fired a actor is = stays l g h v fired fired a a actor (record { ins = refl; outs = refl; cap = refl }) actor.fired_is actor.places is

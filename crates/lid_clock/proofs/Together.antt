@@ -6,7 +6,7 @@ use Rattle.lid_clock.specs.declared.actor.ClockActor.{ClockActor}
 use Rattle.lid_clock.specs.declared.station.ClockStation.{ClockStation}
 use Rattle.lid_clock.specs.States.{CanDecide, Decides, CanSettle, Settles, stations_of}
 use Rattle.lid_clock.specs.Cycles.{held_at, CanDecideAll, AllDecide, CanSettleAll, AllSettle}
-use Rattle.lid_clock.proofs.Bars.{element}
+use Rattle.lid_base.proofs.Places.{item_at}
 
 -- each actor can decide where all can
 pub each_can_decide : (actors : List ClockActor) (stations : List ClockStation) (v : ℕ) (a : ClockActor) → CanDecideAll actors stations → slice_get actors v ≡ Some a → CanDecide a stations
@@ -22,7 +22,7 @@ all_decide olds news stations sunk source last many each l k g begins all beside
       many = many ∙ all.many;
       each = λ v b there.
           let low = slice_get_within news v b there in
-          let old = element olds v (omega arith) in
+          let old = item_at olds v (omega arith) in
           each v old.0 b old.1 there l k g v begins (all.each v old.0 old.1) beside (holds v ∙ ap (λ n. held_at n source last v) (sym sunk_is));
     }
 
@@ -43,6 +43,6 @@ all_settle olds news actors many each l k g life all decided =
       each = λ s y there.
           let low = slice_get_within news s y there in
           let count : length olds ≡ stations_of l = all.many in
-          let old = element olds s (omega arith) in
+          let old = item_at olds s (omega arith) in
           each s old.0 y old.1 there l k g s life (omega arith) (all.each s old.0 old.1) decided;
     }

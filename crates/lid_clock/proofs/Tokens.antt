@@ -4,7 +4,7 @@ use Rattle.std.specs.Prelude.{Some, slice_get}
 use Rattle.std.proofs.lemmas.Option.{slice_get_within, slice_get-get_or, get_or_from_slice_get}
 use Rattle.std.proofs.lemmas.List.{get_or-map, length-map}
 use Rattle.std.proofs.lemmas.Grind.{same_number_lists}
-use Rattle.lid_nodes.specs.Nodes.{tokens_to, tokens_from}
+use Rattle.lid_shell_nodes.specs.Nodes.{tokens_to, tokens_from}
 use Rattle.lid_stations.specs.Placements.{links_of}
 use Rattle.lid_stations.specs.Stations.{filler, start_count}
 use Rattle.lid_clock.specs.declared.actor.ClockActor.{ClockActor}
@@ -13,7 +13,7 @@ use Rattle.lid_clock.specs.Rings.{token_in, AllHold, AreOldest}
 use Rattle.lid_clock.specs.Rules.{RunsGoByRules}
 use Rattle.lid_clock.specs.Lives.{Life, IsLife, fired_after}
 use Rattle.lid_clock.specs.States.{ins_of, outs_of, token_of_life, put_after, taken_after, stations_of, actors_of, IsStation, AreStations, IsActor}
-use Rattle.lid_runs.proofs.Ends.{drained_is, filled_is}
+use Rattle.lid_shell_laws.proofs.Ends.{drained_is, filled_is}
 use Rattle.lid_clock.proofs.Bars.{read_at}
 
 -- the tokens of a number of the stations that an actor drains, and of those that it fills

@@ -8,7 +8,7 @@ use Rattle.lid_clock.specs.declared.actor.ClockActor.{ClockActor}
 use Rattle.lid_clock.specs.declared.station.ClockStation.{ClockStation}
 use Rattle.lid_clock.specs.declared.stream.ClockStream.{ClockStream}
 use Rattle.lid_clock.specs.Rings.{token_in}
-use Rattle.lid_runs.specs.Views.{shown_as}
+use Rattle.lid_shell_laws.specs.Views.{shown_as}
 use Rattle.lid_clock.specs.Parts.{row_of}
 use Rattle.lid_clock.specs.Lives.{Life, NeedsRow, IsBelow, IsLast, fired_after, sink}
 use Rattle.lid_clock.specs.States.{token_of_life, actors_of, stations_of, IsStation, IsLatest}

@@ -1,7 +1,7 @@
 -- What the calls on a run ask, and what a cycle does to all actors and stations.
 use Rattle.std.specs.Prelude.{◌≡◌, ℕ, suc, ◌==◌, Bool, false, if◌then◌else◌, List, length, Some, slice_get}
-use Rattle.lid_clock.specs.declared.part.Part.{Part}
-use Rattle.lid_clock.specs.declared.part.Part.TheVariants.{Source}
+use Rattle.lid_clock.specs.declared.part.Role.{Role}
+use Rattle.lid_clock.specs.declared.part.Role.TheVariants.{Source}
 use Rattle.lid_clock.specs.declared.actor.ClockActor.{ClockActor}
 use Rattle.lid_clock.specs.declared.station.ClockStation.{ClockStation}
 use Rattle.lid_clock.specs.Lives.{Life, IsLife, Holds, sink}
@@ -55,12 +55,12 @@ abbrev pub EachSettles : List ClockStation → List ClockActor → List ClockSta
 EachSettles old actors new = EachChanges (λ x y. Settles x actors y) old new
 
 -- a source can take a row of this width
-abbrev pub CanTake : Part → ℕ → Type 0
+abbrev pub CanTake : Role → ℕ → Type 0
 CanTake (Source node row) width = length row.items ≡ width
 CanTake _ width = Unit {0}
 
 -- a source takes a row
-abbrev pub Takes : Part → List Bool → Part → Type 0
-Takes (Source node row) given (Source now line) = (now ≡ node) × (line.items ≡ given)
-Takes (Source node row) given _ = ⊥
-Takes old given new = new ≡ old
+abbrev pub TakesRow : Role → List Bool → Role → Type 0
+TakesRow (Source node row) given (Source now line) = (now ≡ node) × (line.items ≡ given)
+TakesRow (Source node row) given _ = ⊥
+TakesRow old given new = new ≡ old

@@ -1,3 +1,4 @@
+pub mod Clocks
 pub mod Lives
 pub mod Rings
 pub mod Parts

@@ -12,8 +12,8 @@ use Rattle.lid_system.specs.Tables.{IsTable}
 use Rattle.lid_system.specs.Streams.{output_row}
 use Rattle.lid_stations.specs.declared.placement.Placement.{Placement}
 use Rattle.lid_stations.specs.Placements.{links_of, Fits}
-use Rattle.lid_runs.specs.Runs.{sink_of, token_of, fired_in}
-use Rattle.lid_runs.specs.Views.{shown_at}
+use Rattle.lid_shell_laws.specs.Runs.{sink_of, token_of, fired_in}
+use Rattle.lid_shell_laws.specs.Views.{shown_at}
 
 -- a system with its stations, all input rows, their table, and who is held in each cycle
 pub record Life : Type 0 where
@@ -24,15 +24,15 @@ pub record Life : Type 0 where
   pub hold : Hold
 
 -- a row has the width of the source
-abbrev pub IsWide : System → List Bool → Type 0
-IsWide s row = (columns : List (List ℕ)) → slice_get s.nodes 0 ≡ Some (Source columns) → length row ≡ length columns
+abbrev pub IsSourceWide : System → List Bool → Type 0
+IsSourceWide s row = (columns : List (List ℕ)) → slice_get s.nodes 0 ≡ Some (Source columns) → length row ≡ length columns
 
 -- the rules of lives
 pub record IsLife (l : Life) : Type 0 where
   pub system : IsWellFormed l.system
   pub fits : Fits l.system l.placement
   pub few : length l.input ≤ 1000000
-  pub wide : AllByRecursion (IsWide l.system) l.input
+  pub wide : AllByRecursion (IsSourceWide l.system) l.input
   pub table : IsTable l.system l.input l.table
 
 -- how often each actor has fired after k cycles

@@ -5,13 +5,13 @@ use Rattle.lid_system.specs.declared.System.{System}
 use Rattle.lid_system.specs.Systems.{Point, IsWellFormed}
 use Rattle.lid_system.specs.Tables.{IsTable}
 use Rattle.lid_system.specs.Streams.{output_row}
-use Rattle.lid_nodes.specs.Nodes.{tokens_to, tokens_from}
-use Rattle.lid_nodes.specs.Wiring.{SourceView, ShellView, SinkView, IsSourceOf, IsShellOf, IsSinkOf}
-use Rattle.lid_clock.specs.declared.part.Part.{Part}
-use Rattle.lid_clock.specs.declared.part.Part.TheVariants.{Source, Shell, Mover, Sink}
+use Rattle.lid_shell_nodes.specs.Nodes.{tokens_to, tokens_from}
+use Rattle.lid_shell_nodes.specs.Wiring.{SourceView, ShellView, SinkView, IsSourceOf, IsShellOf, IsSinkOf}
+use Rattle.lid_clock.specs.declared.part.Role.{Role}
+use Rattle.lid_clock.specs.declared.part.Role.TheVariants.{Source, Shell, Mover, Sink}
 
 -- a part takes and puts so many tokens in a firing, and its row is as wide as its node says
-abbrev pub IsOfSize : Part → ℕ → ℕ → Type 0
+abbrev pub IsOfSize : Role → ℕ → ℕ → Type 0
 IsOfSize (Source node row) ins outs = (length row.items ≡ node.width) × (outs ≡ length node.ports)
 IsOfSize (Shell node) ins outs = (ins ≡ node.taken) × (outs ≡ length node.ports)
 IsOfSize Mover ins outs = (ins ≡ 1) × (outs ≡ 1)
@@ -39,7 +39,7 @@ MakesRow node taken row =
     → IsWellFormed s → IsTable s rows b → t < length rows → IsSinkOf s v node → taken ≡ tokens_to s b v t → row ≡ output_row s b t
 
 -- a part that takes these tokens puts those
-abbrev pub Passes : Part → List ℕ → List ℕ → Part → Type 0
+abbrev pub Passes : Role → List ℕ → List ℕ → Role → Type 0
 Passes (Source node row) taken into (Source now line) = (now ≡ node) × (line.items ≡ row.items) × MakesTokens node row.items into
 Passes (Shell node) taken into (Shell now) = GoesOn node now taken into
 Passes Mover taken into Mover = into ≡ taken
@@ -47,6 +47,6 @@ Passes (Sink node row) taken into (Sink now line) = (now ≡ node) × MakesRow n
 Passes _ taken into _ = ⊥
 
 -- the row that a sink made last
-abbrev pub row_of : Part → Option (List Bool)
+abbrev pub row_of : Role → Option (List Bool)
 row_of (Sink node row) = Some row.items
 row_of _ = None

@@ -4,7 +4,7 @@ use Rattle.std.specs.Borrow.{Bor}
 use Rattle.lid_system.specs.declared.System.{System}
 use Rattle.lid_clock.specs.declared.actor.ClockActor.{ClockActor}
 use Rattle.lid_clock.specs.declared.stream.ClockStream.{ClockStream}
-use Rattle.lid_clock.specs.Lives.{Life, IsLife, IsWide, NeedsRow, sink}
+use Rattle.lid_clock.specs.Lives.{Life, IsLife, IsSourceWide, NeedsRow, sink}
 use Rattle.lid_clock.specs.States.{AreActors, AreStations, IsLatest}
 
 -- a run after k cycles and g given rows of a life
@@ -23,13 +23,13 @@ abbrev pub lent : Option (Bor (List Bool)) → Option (List Bool)
 lent = option_map (λ row. row.now)
 
 -- the first of so many rows: there is none where there are no rows, and else it has the width of the source
-abbrev pub IsFirst : System → ℕ → Option (List Bool) → Type 0
-IsFirst s rows None = rows ≡ 0
-IsFirst s rows (Some row) = (0 < rows) × IsWide s row
+abbrev pub IsFirstRow : System → ℕ → Option (List Bool) → Type 0
+IsFirstRow s rows None = rows ≡ 0
+IsFirstRow s rows (Some row) = (0 < rows) × IsSourceWide s row
 
 -- a run that can be given a row: it is one of a life in which a row of this width is wanting
 abbrev pub CanGive : ClockStream → List Bool → Type 0
-CanGive x row = (l : Life) × (k : ℕ) × (g : ℕ) × Ran l k g x × NeedsRow l k g × IsWide l.system row
+CanGive x row = (l : Life) × (k : ℕ) × (g : ℕ) × Ran l k g x × NeedsRow l k g × IsSourceWide l.system row
 
 -- a run that can make a cycle: it is one of a life in which no row is wanting
 abbrev pub CanCycle : ClockStream → Type 0

@@ -11,19 +11,19 @@ abbrev pub AreThere : List ℕ → List ClockStation → Type 0
 AreThere reads stations = (i : ℕ) → i < length reads → get_or reads i 0 < length stations
 
 -- the station at a place of a list of numbers
-abbrev pub IsAt : List ℕ → List ClockStation → ℕ → ClockStation → Type 0
-IsAt reads stations i x = slice_get stations (get_or reads i 0) ≡ Some x
+abbrev pub IsStationAt : List ℕ → List ClockStation → ℕ → ClockStation → Type 0
+IsStationAt reads stations i x = slice_get stations (get_or reads i 0) ≡ Some x
 
 -- each station that is read is so
 abbrev pub AllAre : (ClockStation → Type 0) → List ℕ → List ClockStation → Type 0
-AllAre P reads stations = (i : ℕ) → i < length reads → (x : ClockStation) → IsAt reads stations i x → P x
+AllAre P reads stations = (i : ℕ) → i < length reads → (x : ClockStation) → IsStationAt reads stations i x → P x
 
 -- one of them is so
 pub record OneIs (P : ClockStation → Type 0) (reads : List ℕ) (stations : List ClockStation) : Type 0 where
   pub place : ℕ
   pub within : place < length reads
   pub station : ClockStation
-  pub is : IsAt reads stations place station
+  pub is : IsStationAt reads stations place station
   pub so : P station
 
 -- each station that is read holds a token
@@ -45,4 +45,4 @@ OneIsFull = OneIs (λ x. x.taken + length x.places.items ≤ x.put)
 -- these are the oldest tokens of stations
 pub record AreOldest (reads : List ℕ) (stations : List ClockStation) (tokens : List ℕ) : Type 0 where
   pub many : length tokens ≡ length reads
-  pub each : (i : ℕ) → i < length reads → (x : ClockStation) → IsAt reads stations i x → get_or tokens i 0 ≡ token_in x.places.items x.taken
+  pub each : (i : ℕ) → i < length reads → (x : ClockStation) → IsStationAt reads stations i x → get_or tokens i 0 ≡ token_in x.places.items x.taken

@@ -1,6 +1,6 @@
 -- The laws that clocked runs rest on, in one.
 use Rattle.lid_stations.specs.Laws.{StationsStandBetweenActors}
-use Rattle.lid_runs.specs.Laws.{ActorsFireWhereTheyMay, ActorsRestWhereTheyMayNot, StationsHoldFew, NodesDrainTheirChannels, NodesFillTheirChannels, StationsOfNodesStartWithAToken, MoversMoveTokensOn}
+use Rattle.lid_shell_laws.specs.Laws.{ActorsFireWhereTheyMay, ActorsRestWhereTheyMayNot, StationsHoldFew, NodesDrainTheirChannels, NodesFillTheirChannels, StationsOfNodesStartWithAToken, MoversMoveTokensOn}
 
 pub record RunsGoByRules : Type 0 where
   pub fires : ActorsFireWhereTheyMay

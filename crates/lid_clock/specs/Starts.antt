@@ -1,17 +1,18 @@
 -- How a run is built: its actors, which have not fired, and its stations, which are joined to them one by one.
 use Rattle.std.specs.Prelude.{◌≡◌, ℕ, ◌+◌, ◌<◌, ◌≤◌, ◌⊎◌, ◌==◌, Bool, true, false, if◌then◌else◌, List, [], ◌∷◌, ◌++◌, length, get_or, filter, Option, Some, IfSome, slice_get, ⊤}
-use Rattle.lid_design.specs.Network.{Table, from_each}
+use Rattle.lid_design.specs.Network.{Table}
+use Rattle.lid_base.specs.Each.{from_each}
 use Rattle.lid_system.specs.declared.System.{System}
 use Rattle.lid_system.specs.Systems.{Point, IsWellFormed}
 use Rattle.lid_system.specs.Tables.{IsTable}
-use Rattle.lid_nodes.specs.Nodes.{tokens_from}
-use Rattle.lid_nodes.specs.Wiring.{IsSourceOf, IsShellOf, IsSinkOf}
+use Rattle.lid_shell_nodes.specs.Nodes.{tokens_from}
+use Rattle.lid_shell_nodes.specs.Wiring.{IsSourceOf, IsShellOf, IsSinkOf}
 use Rattle.lid_stations.specs.declared.placement.Placement.{Placement}
 use Rattle.lid_stations.specs.Placements.{Links, links_of}
 use Rattle.lid_stations.specs.Stations.{actor_count, filler, drainer, capacity}
-use Rattle.lid_runs.specs.Runs.{cap_of}
-use Rattle.lid_clock.specs.declared.part.Part.{Part}
-use Rattle.lid_clock.specs.declared.part.Part.TheVariants.{Source, Shell, Mover, Sink}
+use Rattle.lid_shell_laws.specs.Runs.{cap_of}
+use Rattle.lid_clock.specs.declared.part.Role.{Role}
+use Rattle.lid_clock.specs.declared.part.Role.TheVariants.{Source, Shell, Mover, Sink}
 use Rattle.lid_clock.specs.declared.actor.ClockActor.{ClockActor}
 use Rattle.lid_clock.specs.declared.station.ClockStation.{ClockStation}
 use Rattle.lid_clock.specs.Rings.{token_in}
@@ -19,18 +20,18 @@ use Rattle.lid_clock.specs.Parts.{IsOfSize, MakesTokens}
 use Rattle.lid_clock.specs.Actors.{HasPlaces, IsSameActor}
 
 -- the part of an actor that has not fired: the source holds the first row, where there is one
-abbrev pub IsNewPart : System → Option (List Bool) → ℕ → Part → Type 0
-IsNewPart s first v (Source node row) = (v ≡ 0) × IsSourceOf s node × (length row.items ≡ node.width) × IfSome first (λ given. row.items ≡ given)
-IsNewPart s first v (Shell node) = (0 < v) × (v + 1 < length s.nodes) × ((b : Table Point) → IsShellOf s b v 0 node)
-IsNewPart s first v Mover = length s.nodes ≤ v
-IsNewPart s first v (Sink node row) = IsSinkOf s v node × (length row.items ≡ length node.reads)
+abbrev pub IsNewRole : System → Option (List Bool) → ℕ → Role → Type 0
+IsNewRole s first v (Source node row) = (v ≡ 0) × IsSourceOf s node × (length row.items ≡ node.width) × IfSome first (λ given. row.items ≡ given)
+IsNewRole s first v (Shell node) = (0 < v) × (v + 1 < length s.nodes) × ((b : Table Point) → IsShellOf s b v 0 node)
+IsNewRole s first v Mover = length s.nodes ≤ v
+IsNewRole s first v (Sink node row) = IsSinkOf s v node × (length row.items ≡ length node.reads)
 
 -- an actor of a run of so many rows that has not fired
 pub record IsNew (s : System) (rows : ℕ) (first : Option (List Bool)) (v : ℕ) (a : ClockActor) : Type 0 where
   pub capped : a.cap ≡ cap_of (links_of s) rows v
   pub fired_is : a.fired ≡ 0
   pub rests : a.went ≡ false
-  pub is : IsNewPart s first v a.part
+  pub is : IsNewRole s first v a.part
 
 -- all actors are new
 abbrev pub AreNew : System → ℕ → Option (List Bool) → List ClockActor → Type 0
@@ -41,7 +42,7 @@ abbrev pub IsAlone : ClockActor → Type 0
 IsAlone a = (a.ins.items ≡ []) × (a.outs.items ≡ [])
 
 -- so many actors, each new and alone
-pub record AreAlone (s : System) (rows : ℕ) (first : Option (List Bool)) (count : ℕ) (actors : List ClockActor) : Type 0 where
+pub record AreUnjoined (s : System) (rows : ℕ) (first : Option (List Bool)) (count : ℕ) (actors : List ClockActor) : Type 0 where
   pub many : length actors ≡ count
   pub new : AreNew s rows first actors
   pub alone : (v : ℕ) (a : ClockActor) → slice_get actors v ≡ Some a → IsAlone a
@@ -54,14 +55,14 @@ abbrev pub filled_of : Links → Placement → ℕ → ℕ → List ℕ
 filled_of l p n v = filter (λ station. filler l p station == v) (from_each (λ station. station) 0 n)
 
 -- an actor to which the first n stations were joined
-pub record IsJoined (l : Links) (p : Placement) (n v : ℕ) (a : ClockActor) : Type 0 where
+pub record IsActorJoined (l : Links) (p : Placement) (n v : ℕ) (a : ClockActor) : Type 0 where
   pub drains : a.ins.items ≡ drained_of l p n v
   pub fills : a.outs.items ≡ filled_of l p n v
 
 -- all actors, to which the first n stations were joined
 pub record AreJoined (l : Links) (p : Placement) (n : ℕ) (actors : List ClockActor) : Type 0 where
   pub many : length actors ≡ actor_count l p
-  pub each : (v : ℕ) (a : ClockActor) → slice_get actors v ≡ Some a → IsJoined l p n v a
+  pub each : (v : ℕ) (a : ClockActor) → slice_get actors v ≡ Some a → IsActorJoined l p n v a
 
 -- an empty station between two actors, of a capacity
 pub record IsEmptyBetween (filler drainer capacity : ℕ) (x : ClockStation) : Type 0 where
@@ -108,13 +109,13 @@ pub record CanJoin (filler drainer : ℕ) (actors : List ClockActor) : Type 0 wh
   pub few : (a : ClockActor) → slice_get actors filler ≡ Some a → length a.outs.items ≤ 65536
 
 -- what a part shows of its state: the tokens of the first row, where it has not fired
-abbrev pub Shows : Part → List ℕ → Type 0
-Shows (Source node row) tokens = MakesTokens node row.items tokens
-Shows (Shell node) tokens =
+abbrev pub ShowsFirstTokens : Role → List ℕ → Type 0
+ShowsFirstTokens (Source node row) tokens = MakesTokens node row.items tokens
+ShowsFirstTokens (Shell node) tokens =
     (s : System) (rows : List (List Bool)) (b : Table Point) (v t : ℕ)
     → IsWellFormed s → IsTable s rows b → t < length rows → IsShellOf s b v t node → tokens ≡ tokens_from s b v t
-Shows Mover tokens = ⊤
-Shows (Sink node row) tokens = ⊤
+ShowsFirstTokens Mover tokens = ⊤
+ShowsFirstTokens (Sink node row) tokens = ⊤
 
 -- the part of an actor is of the size of its stations
 abbrev pub IsSized : ClockActor → Type 0
@@ -127,7 +128,7 @@ pub record IsReadied (some : Bool) (old new : ClockActor) : Type 0 where
   pub went : new.went ≡ old.went
   pub part : new.part ≡ old.part
   pub places : HasPlaces new
-  pub shows : some ≡ true → Shows new.part new.tokens.items
+  pub shows : some ≡ true → ShowsFirstTokens new.part new.tokens.items
 
 -- all actors were readied
 pub record AreReadied (some : Bool) (old new : List ClockActor) : Type 0 where
@@ -152,11 +153,11 @@ pub record HasGained (actors : List ClockActor) (old new : ClockStation) : Type 
   pub token : (a : ClockActor) → slice_get actors old.filler ≡ Some a → token_in new.places.items 0 ≡ get_or a.tokens.items old.slot 0
 
 -- where there are rows, a station that a node fills starts with a token, and each other with none
-abbrev pub Begins : Bool → ℕ → List ClockActor → ClockStation → ClockStation → Type 0
-Begins some nodes actors old new =
+abbrev pub StationBegins : Bool → ℕ → List ClockActor → ClockStation → ClockStation → Type 0
+StationBegins some nodes actors old new =
     ((some ≡ true) × (old.filler < nodes) × HasGained actors old new) ⊎ (((some ≡ false) ⊎ (nodes ≤ old.filler)) × (new ≡ old))
 
 -- all stations have begun
 pub record AllBegin (some : Bool) (nodes : ℕ) (actors : List ClockActor) (old new : List ClockStation) : Type 0 where
   pub many : length new ≡ length old
-  pub each : (i : ℕ) (x : ClockStation) → slice_get new i ≡ Some x → (y : ClockStation) × (slice_get old i ≡ Some y) × Begins some nodes actors y x
+  pub each : (i : ℕ) (x : ClockStation) → slice_get new i ≡ Some x → (y : ClockStation) × (slice_get old i ≡ Some y) × StationBegins some nodes actors y x

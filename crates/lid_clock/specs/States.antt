@@ -1,12 +1,12 @@
 -- What stands in a clocked run after so many cycles and given rows of a life.
 use Rattle.std.specs.Prelude.{◌≡◌, ℕ, suc, ◌+◌, ◌-◌, ◌<◌, ◌≤◌, Bool, true, false, List, length, get_or, Some, slice_get}
 use Rattle.lid_system.specs.Streams.{output_row}
-use Rattle.lid_nodes.specs.Wiring.{IsSourceOf, IsShellOf, IsSinkOf}
+use Rattle.lid_shell_nodes.specs.Wiring.{IsSourceOf, IsShellOf, IsSinkOf}
 use Rattle.lid_stations.specs.Placements.{links_of, station_count}
 use Rattle.lid_stations.specs.Stations.{actor_count, filler, drainer, capacity}
-use Rattle.lid_runs.specs.Runs.{cap_of, drained_by, filled_by, token_of, in_count, out_count}
-use Rattle.lid_clock.specs.declared.part.Part.{Part}
-use Rattle.lid_clock.specs.declared.part.Part.TheVariants.{Source, Shell, Mover, Sink}
+use Rattle.lid_shell_laws.specs.Runs.{cap_of, drained_by, filled_by, token_of, in_count, out_count}
+use Rattle.lid_clock.specs.declared.part.Role.{Role}
+use Rattle.lid_clock.specs.declared.part.Role.TheVariants.{Source, Shell, Mover, Sink}
 use Rattle.lid_clock.specs.declared.actor.ClockActor.{ClockActor}
 use Rattle.lid_clock.specs.declared.station.ClockStation.{ClockStation}
 use Rattle.lid_clock.specs.Rings.{token_in}
@@ -62,11 +62,11 @@ pub record HoldsLast (l : Life) (g fired : ℕ) (row : List Bool) : Type 0 where
   pub is : slice_get l.input (g - 1) ≡ Some row
 
 -- the part of an actor that has fired so often
-abbrev pub IsPart : Life → ℕ → ℕ → ℕ → Part → Type 0
-IsPart l g v fired (Source node row) = (v ≡ 0) × IsSourceOf l.system node × (0 < length l.input → HoldsLast l g fired row.items)
-IsPart l g v fired (Shell node) = (0 < v) × (v + 1 < length l.system.nodes) × IsShellOf l.system l.table v fired node
-IsPart l g v fired Mover = length l.system.nodes ≤ v
-IsPart l g v fired (Sink node row) = IsSinkOf l.system v node
+abbrev pub IsRole : Life → ℕ → ℕ → ℕ → Role → Type 0
+IsRole l g v fired (Source node row) = (v ≡ 0) × IsSourceOf l.system node × (0 < length l.input → HoldsLast l g fired row.items)
+IsRole l g v fired (Shell node) = (0 < v) × (v + 1 < length l.system.nodes) × IsShellOf l.system l.table v fired node
+IsRole l g v fired Mover = length l.system.nodes ≤ v
+IsRole l g v fired (Sink node row) = IsSinkOf l.system v node
 
 -- an actor that has fired so often
 pub record IsActor (l : Life) (g v fired : ℕ) (a : ClockActor) : Type 0 where
@@ -76,7 +76,7 @@ pub record IsActor (l : Life) (g v fired : ℕ) (a : ClockActor) : Type 0 where
   pub capped : a.cap ≡ cap_of (links_of l.system) (length l.input) v
   pub fired_is : a.fired ≡ fired
   pub places : HasPlaces a
-  pub is : IsPart l g v fired a.part
+  pub is : IsRole l g v fired a.part
 
 -- all actors after k cycles
 pub record AreActors (l : Life) (k g : ℕ) (actors : List ClockActor) : Type 0 where

@@ -4,14 +4,14 @@ ghost use Rattle.std.specs.Prelude.{◌≡◌, ◌+◌, ◌-◌, ◌<◌, ℕ, B
 ghost use Rattle.lid_system.specs.Systems.{IsWellFormed};
 ghost use Rattle.lid_stations.specs.Placements.{links_of, Fits};
 ghost use Rattle.lid_stations.specs.Stations.{actor_count};
-ghost use Rattle.lid_runs.specs.Runs.{cap_of};
-ghost use Rattle.lid_clock.specs.Lives.{IsWide};
+ghost use Rattle.lid_shell_laws.specs.Runs.{cap_of};
+ghost use Rattle.lid_clock.specs.Lives.{IsSourceWide};
 ghost use Rattle.lid_clock.specs.Ran.{lent};
-ghost use Rattle.lid_clock.specs.Starts.{IsNewPart, IsNew, IsAlone, AreAlone};
+ghost use Rattle.lid_clock.specs.Starts.{IsNewRole, IsNew, IsAlone, AreUnjoined};
 
 use crate::actor::ClockActor;
-use crate::part::Part;
-use lid_nodes::{ShellNode, SinkNode, SourceNode};
+use crate::part::Role;
+use lid_shell_nodes::{ShellNode, SinkNode, SourceNode};
 use lid_stations::Placement;
 use lid_system::System;
 use std::alloc::{AllocError, Global};
@@ -29,34 +29,34 @@ fn held_row(alloc: Global, first: Option<&[bool]>, width: usize) -> Result<Vec<b
 }
 
 /// The source, which holds the first row.
-fn source_part(alloc: Global, system: &System, first: Option<&[bool]>) -> Result<Part, AllocError>
+fn source_part(alloc: Global, system: &System, first: Option<&[bool]>) -> Result<Role, AllocError>
     requires system { IsWellFormed system.now }
-    requires first { IfSome (lent first) (IsWide system.now) }
-    ensures { IfOk result (IsNewPart system.now (lent first.entry) 0) }
+    requires first { IfSome (lent first) (IsSourceWide system.now) }
+    ensures { IfOk result (IsNewRole system.now (lent first.entry) 0) }
 {
     let node = SourceNode::of(alloc, system)?;
     let row = held_row(alloc, first, node.width())?;
-    Ok(Part::Source(node, row))
+    Ok(Role::Source(node, row))
 }
 
 /// A shell.
-fn shell_part(alloc: Global, system: &System, v: u32) -> Result<Part, AllocError>
+fn shell_part(alloc: Global, system: &System, v: u32) -> Result<Role, AllocError>
     requires system { IsWellFormed system.now }
     requires shell { (0 < v) × (v + 1 < length system.now.nodes) }
-    ensures { IfOk result (λ part. (first : Option (List Bool)) → IsNewPart system.now first v part) }
+    ensures { IfOk result (λ part. (first : Option (List Bool)) → IsNewRole system.now first v part) }
 {
     let node = ShellNode::of(alloc, system, v)?;
-    Ok(Part::Shell(node))
+    Ok(Role::Shell(node))
 }
 
 /// The sink.
-fn sink_part(alloc: Global, system: &System) -> Result<Part, AllocError>
+fn sink_part(alloc: Global, system: &System) -> Result<Role, AllocError>
     requires { IsWellFormed system.now }
-    ensures { IfOk result (λ part. (first : Option (List Bool)) → IsNewPart system.now first (length system.now.nodes - 1) part) }
+    ensures { IfOk result (λ part. (first : Option (List Bool)) → IsNewRole system.now first (length system.now.nodes - 1) part) }
 {
     let node = SinkNode::of(alloc, system)?;
     let row = Vec::from_elem(alloc, false, node.width())?;
-    Ok(Part::Sink(node, row))
+    Ok(Role::Sink(node, row))
 }
 
 /// The part of an actor.
@@ -65,11 +65,11 @@ fn new_part(
     system: &System,
     first: Option<&[bool]>,
     v: u32,
-) -> Result<Part, AllocError>
+) -> Result<Role, AllocError>
     requires system { IsWellFormed system.now }
-    requires first { IfSome (lent first) (IsWide system.now) }
+    requires first { IfSome (lent first) (IsSourceWide system.now) }
     requires few { v < 2147483648 }
-    ensures { IfOk result (IsNewPart system.now (lent first.entry) v) }
+    ensures { IfOk result (IsNewRole system.now (lent first.entry) v) }
 {
     let nodes = system.nodes.len() as u32;
     if v == 0 {
@@ -79,7 +79,7 @@ fn new_part(
     } else if v < nodes {
         sink_part(alloc, system)
     } else {
-        Ok(Part::Mover)
+        Ok(Role::Mover)
     }
 }
 
@@ -105,7 +105,7 @@ fn new_actor(
     v: u32,
 ) -> Result<ClockActor, AllocError>
     requires system { IsWellFormed system.now }
-    requires first { IfSome (lent first) (IsWide system.now) }
+    requires first { IfSome (lent first) (IsSourceWide system.now) }
     requires few { v < 2147483648 }
     ensures new { IfOk result (IsNew system.now rows (lent first.entry) v) }
     ensures alone { IfOk result IsAlone }
@@ -143,8 +143,8 @@ pub(crate) fn new_actors(
 ) -> Result<Vec<ClockActor>, AllocError>
     requires system { IsWellFormed system.now }
     requires fits { Fits system.now placement.now }
-    requires first { IfSome (lent first) (IsWide system.now) }
-    ensures { IfOk result (λ actors. AreAlone system.now rows (lent first.entry) (actor_count (links_of system.now) placement.now) actors.items) }
+    requires first { IfSome (lent first) (IsSourceWide system.now) }
+    ensures { IfOk result (λ actors. AreUnjoined system.now rows (lent first.entry) (actor_count (links_of system.now) placement.now) actors.items) }
 {
     let mut actors = Vec::new(alloc);
     for v in 0..actors_of(system, placement) {

@@ -1,8 +1,9 @@
-//! The clocked run: all stations and actors in step, a cycle at a time.
+//! The clocked run: all stations and actors in step, a cycle at a time, over rows that are given one by one or are held.
 #![tactic(auto)]
 
 mod actor;
 mod building;
+mod clocked;
 mod cycle;
 mod deciding;
 mod firing;
@@ -19,6 +20,7 @@ mod station;
 mod stream;
 
 pub use actor::ClockActor;
+pub use clocked::Clocked;
 pub use settling::settle_each;
 pub use station::ClockStation;
 pub use stream::ClockStream;

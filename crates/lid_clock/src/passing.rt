@@ -3,9 +3,9 @@
 ghost use Rattle.std.specs.Prelude.{◌≡◌, length};
 ghost use Rattle.lid_clock.specs.Parts.{IsOfSize, Passes};
 
-use crate::part::Part;
+use crate::part::Role;
 
-impl Part {
+impl Role {
     /// Takes tokens, and makes those that are put.
     pub(crate) fn pass(&mut self, taken: &[u32], into: &mut [u32])
         requires { IsOfSize self.old (length taken.now) (length into.old) }
@@ -14,10 +14,10 @@ impl Part {
         ensures passes { Passes self.old taken.now into.new self.new }
     {
         match self {
-            Part::Source(node, row) => node.put(row, into),
-            Part::Shell(node) => node.fire(taken, into),
-            Part::Mover => into[0] = taken[0],
-            Part::Sink(node, row) => node.give(taken, row),
+            Role::Source(node, row) => node.put(row, into),
+            Role::Shell(node) => node.fire(taken, into),
+            Role::Mover => into[0] = taken[0],
+            Role::Sink(node, row) => node.give(taken, row),
         }
     }
 }

@@ -3,24 +3,24 @@
 ghost use Rattle.std.specs.Prelude.{◌≡◌, ℕ, true, length, Some, slice_get, OnOk};
 ghost use Rattle.lid_clock.specs.declared.actor.ClockActor.{ClockActor};
 ghost use Rattle.lid_clock.specs.Parts.{IsOfSize};
-ghost use Rattle.lid_clock.specs.Starts.{Shows, IsSized, IsReadied, AreReadied};
+ghost use Rattle.lid_clock.specs.Starts.{ShowsFirstTokens, IsSized, IsReadied, AreReadied};
 
 use crate::actor::ClockActor;
-use crate::part::Part;
+use crate::part::Role;
 use std::alloc::{AllocError, Global};
 
-impl Part {
+impl Role {
     /// Writes the tokens that it shows.
     fn show(&mut self, into: &mut [u32])
         requires { (ins : ℕ) × IsOfSize self.old ins (length into.old) }
         ensures many { length into.new ≡ length into.old }
         ensures kept { self.new ≡ self.old }
-        ensures shows { Shows self.old into.new }
+        ensures shows { ShowsFirstTokens self.old into.new }
     {
         match self {
-            Part::Source(node, row) => node.put(row, into),
-            Part::Shell(node) => node.show(into),
-            Part::Mover | Part::Sink(_, _) => {}
+            Role::Source(node, row) => node.put(row, into),
+            Role::Shell(node) => node.show(into),
+            Role::Mover | Role::Sink(_, _) => {}
         }
     }
 }

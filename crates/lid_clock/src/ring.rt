@@ -2,7 +2,7 @@
 
 ghost use Rattle.std.specs.Prelude.{◌≡◌, ℕ, ◌+◌, ◌-◌, ◌%◌, ◌^◌, ◌<◌, ◌≤◌, true, false, nat_lt, length, set};
 ghost use Rattle.lid_clock.specs.Rings.{token_in};
-ghost use Rattle.lid_runs.specs.Views.{shown_as};
+ghost use Rattle.lid_shell_laws.specs.Views.{shown_as};
 
 use crate::station::ClockStation;
 use lid_base::Shown;

@@ -2,20 +2,20 @@
 
 ghost use Rattle.std.specs.Prelude.{◌≡◌, true, false, length, Option, None, option_map, if◌then◌else◌};
 ghost use Rattle.lid_clock.specs.Parts.{row_of};
-ghost use Rattle.lid_clock.specs.Cycles.{CanTake, Takes};
+ghost use Rattle.lid_clock.specs.Cycles.{CanTake, TakesRow};
 
 use crate::actor::ClockActor;
-use crate::part::Part;
+use crate::part::Role;
 
-impl Part {
+impl Role {
     /// Takes a row, where this is the source.
     fn take_row(&mut self, row: &[bool])
         requires { CanTake self.old (length row.now) }
-        ensures { Takes self.old row.now self.new }
+        ensures { TakesRow self.old row.now self.new }
     {
         match self {
-            Part::Source(_, line) => line.as_mut_slice().copy_from_slice(row),
-            Part::Shell(_) | Part::Mover | Part::Sink(_, _) => {}
+            Role::Source(_, line) => line.as_mut_slice().copy_from_slice(row),
+            Role::Shell(_) | Role::Mover | Role::Sink(_, _) => {}
         }
     }
 
@@ -24,8 +24,8 @@ impl Part {
         ensures { option_map (λ row. row.now) result ≡ row_of self.now }
     {
         match self {
-            Part::Sink(_, row) => Some(row.as_slice()),
-            Part::Source(_, _) | Part::Shell(_) | Part::Mover => None,
+            Role::Sink(_, row) => Some(row.as_slice()),
+            Role::Source(_, _) | Role::Shell(_) | Role::Mover => None,
         }
     }
 }
@@ -34,7 +34,7 @@ impl ClockActor {
     /// Takes a row, where this is the source.
     pub(crate) fn receive(&mut self, row: &[bool])
         requires { CanTake self.old.part (length row.now) }
-        ensures part { Takes self.old.part row.now self.new.part }
+        ensures part { TakesRow self.old.part row.now self.new.part }
         ensures rest { self.new ≡ record self.old { part = self.new.part } }
     {
         self.part.take_row(row);

@@ -2,7 +2,9 @@
 
 ghost use Rattle.lid_clock.specs.Rules.{RunsGoByRules};
 
-use lid_runs::{actors_fire_by_the_rule, movers_move_tokens_on, nodes_pass_the_tokens_of_channels};
+use lid_shell_laws::{
+    actors_fire_by_the_rule, movers_move_tokens_on, nodes_pass_the_tokens_of_channels,
+};
 use lid_stations::stations_stand_between_actors;
 
 /// What is known of all runs. This does nothing; its contract is what laws say, in one.

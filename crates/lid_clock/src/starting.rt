@@ -5,8 +5,8 @@ ghost use Rattle.lid_system.specs.Systems.{IsWellFormed};
 ghost use Rattle.lid_stations.specs.Placements.{Fits};
 ghost use Rattle.lid_clock.specs.declared.station.ClockStation.{ClockStation};
 ghost use Rattle.lid_clock.specs.Lives.{Life, StartsSo};
-ghost use Rattle.lid_clock.specs.Ran.{Ran, lent, IsFirst};
-ghost use Rattle.lid_clock.specs.Starts.{CanGain, Begins, AllBegin};
+ghost use Rattle.lid_clock.specs.Ran.{Ran, lent, IsFirstRow};
+ghost use Rattle.lid_clock.specs.Starts.{CanGain, StationBegins, AllBegin};
 
 use crate::actor::ClockActor;
 use crate::building::new_actors;
@@ -23,7 +23,7 @@ impl ClockStation {
     /// Gains the first token of its filler, where there are rows and that is a node.
     fn begin(&mut self, actors: &[ClockActor], nodes: u32, some: bool)
         requires { CanGain actors.now self.old }
-        ensures { Begins some nodes actors.now self.old self.new }
+        ensures { StationBegins some nodes actors.now self.old self.new }
     {
         let filler = &actors[self.filler as usize];
         if some && self.filler < nodes {
@@ -58,7 +58,7 @@ impl ClockStream {
         requires system { IsWellFormed system.now }
         requires fits { Fits system.now placement.now }
         requires few { rows ≤ 1000000 }
-        requires first { IsFirst system.now rows (lent first) }
+        requires first { IsFirstRow system.now rows (lent first) }
         ensures { IfOk result (λ stream. (l : Life) → StartsSo l system.now placement.now rows (lent first.entry) → Ran l 0 (min 1 rows) stream) }
     {
         runs_go_by_rules();

@@ -2,7 +2,7 @@
 use Rattle.std.proofs.Common.{◌≡◌, ℕ, ◌+◌, ◌<◌, Bool, List, length, get_or, Some, slice_get, refl, ◌∙◌, ap, arith}
 use Rattle.std.proofs.lemmas.Option.{slice_get_read}
 use Rattle.lid_base.proofs.Lists.{all_at}
-use Rattle.lid_clock.specs.Lives.{Life, IsLife, IsWide, NeedsRow}
+use Rattle.lid_clock.specs.Lives.{Life, IsLife, IsSourceWide, NeedsRow}
 
 module _ (l : Life) (rows : List (List Bool)) (is : l.input ≡ rows) (k g : ℕ) (needs : NeedsRow l k g) where
   pub row_there : g < length rows
@@ -11,8 +11,8 @@ module _ (l : Life) (rows : List (List Bool)) (is : l.input ≡ rows) (k g : ℕ
   pub row_next : (row : List Bool) → row ≡ get_or rows g row → slice_get l.input g ≡ Some row
   row_next row at = ap (λ (xs : List (List Bool)). slice_get xs g) is ∙ slice_get_read rows (length rows) g row refl row_there at
 
-  pub row_wide : IsLife l → (row : List Bool) → row ≡ get_or rows g row → IsWide l.system row
-  row_wide rules row at = all_at (IsWide l.system) l.input g row rules.wide (row_next row at)
+  pub row_wide : IsLife l → (row : List Bool) → row ≡ get_or rows g row → IsSourceWide l.system row
+  row_wide rules row at = all_at (IsSourceWide l.system) l.input g row rules.wide (row_next row at)
 
 -- once it is given none is wanting
 pub fed : (l : Life) (k g : ℕ) → NeedsRow l k g → NeedsRow l k (g + 1) → ⊥

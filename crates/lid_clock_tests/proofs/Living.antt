@@ -7,9 +7,9 @@ use Rattle.lid_system.specs.Systems.{IsWellFormed}
 use Rattle.lid_system.specs.Tables.{system_drivers}
 use Rattle.lid_stations.specs.declared.placement.Placement.{Placement}
 use Rattle.lid_stations.specs.Placements.{Fits}
-use Rattle.lid_clock.specs.Lives.{Life, IsLife, IsWide, Holds}
-use Rattle.lid_clocked.specs.declared.clocked.Clocked.{Clocked}
-use Rattle.lid_clocked.specs.Clocks.{IsFreeLife, Clocks, IsRun}
+use Rattle.lid_clock.specs.Lives.{Life, IsLife, IsSourceWide, Holds}
+use Rattle.lid_clock.specs.declared.clocked.Clocked.{Clocked}
+use Rattle.lid_clock.specs.Clocks.{IsFreeLife, Clocks, IsClockedRun}
 use Rattle.lid_clock_tests.specs.Runs.{IsFreeFrom}
 
 abbrev hold_of : System → Bool → ℕ → ℕ → Bool
@@ -26,7 +26,7 @@ nobody s zero v = both (v == 0) (v == (length s.nodes - 1))
 nobody s (suc k) v = refl
 
 module _ (s : System) (p : Placement) (rows : List (List Bool)) (held : Bool)
-    (formed : IsWellFormed s) (fits : Fits s p) (few : length rows ≤ 1000000) (wide : AllByRecursion (IsWide s) rows) (tables : HasTable (system_drivers s)) where
+    (formed : IsWellFormed s) (fits : Fits s p) (few : length rows ≤ 1000000) (wide : AllByRecursion (IsSourceWide s) rows) (tables : HasTable (system_drivers s)) where
   abbrev pub life : Life
   life = record { system = s; placement = p; input = rows; table = (tables rows).0; hold = hold_of s held }
 
@@ -41,8 +41,8 @@ module _ (s : System) (p : Placement) (rows : List (List Bool)) (held : Bool)
   free (suc k) late = λ v. refl
 
 -- a run over these rows that has started is one of a life in which nobody is held
-pub starts : (s : System) (p : Placement) (rows : List (List Bool)) (formed : IsWellFormed s) (fits : Fits s p) (few : length rows ≤ 1000000) (wide : AllByRecursion (IsWide s) rows) (tables : HasTable (system_drivers s))
-    (c : Clocked) → ((l : Life) → IsFreeLife l rows → l.system ≡ s → l.placement ≡ p → Clocks l 0 c) → IsRun c
+pub starts : (s : System) (p : Placement) (rows : List (List Bool)) (formed : IsWellFormed s) (fits : Fits s p) (few : length rows ≤ 1000000) (wide : AllByRecursion (IsSourceWide s) rows) (tables : HasTable (system_drivers s))
+    (c : Clocked) → ((l : Life) → IsFreeLife l rows → l.system ≡ s → l.placement ≡ p → Clocks l 0 c) → IsClockedRun c
 starts s p rows formed fits few wide tables c started =
     let l = life s p rows false formed fits few wide tables in
     let free : IsFreeLife l rows = record {

@@ -4,21 +4,21 @@ ghost use Rattle.std.specs.Prelude.{◌≤◌, length};
 ghost use Rattle.std.specs.List.{AllByRecursion};
 ghost use Rattle.lid_system.specs.Systems.{IsWellFormed};
 ghost use Rattle.lid_stations.specs.Placements.{Fits};
-ghost use Rattle.lid_clock.specs.Lives.{IsWide};
-ghost use Rattle.lid_clocked.specs.Clocks.{IsRun};
+ghost use Rattle.lid_clock.specs.Lives.{IsSourceWide};
+ghost use Rattle.lid_clock.specs.Clocks.{IsClockedRun};
 
 use crate::letters::{bit_letter, digit, letter, shown_letter};
-use lid_clocked::Clocked;
-use lid_settings::{ONE, are_rows, placement_of, rows_of, system_of};
+use lid_clock::Clocked;
 use lid_stations::{Placement, none};
 use lid_system::{System, systems_have_one_table};
+use lid_tests_fixtures::{ONE, are_rows, placement_of, rows_of, system_of};
 use lid_texts::Rows;
 use std::alloc::Global;
 
 /// Makes a cycle by its parts, where the run is not over.
 fn cycle_by_parts(clocked: &mut Clocked)
-    requires { IsRun clocked.old }
-    ensures { IsRun clocked.new }
+    requires { IsClockedRun clocked.old }
+    ensures { IsClockedRun clocked.new }
 {
     if clocked.ready() {
         clocked.stream.cycle();
@@ -28,8 +28,8 @@ fn cycle_by_parts(clocked: &mut Clocked)
 
 /// Whether a run ends after so many cycles, of which it makes one by its parts and one by itself.
 fn ends_after(clocked: &mut Clocked, cycles: u64) -> bool
-    requires { IsRun clocked.old }
-    ensures { IsRun clocked.new }
+    requires { IsClockedRun clocked.old }
+    ensures { IsClockedRun clocked.new }
 {
     cycle_by_parts(clocked);
     clocked.cycle();
@@ -38,7 +38,7 @@ fn ends_after(clocked: &mut Clocked, cycles: u64) -> bool
 
 /// Whether the stations show this.
 pub(crate) fn show_so(clocked: &Clocked, shown: &[u8]) -> bool
-    requires { IsRun clocked.now }
+    requires { IsClockedRun clocked.now }
 {
     let stations = clocked.stream.stations.as_slice().len();
     if stations > 16 {
@@ -54,7 +54,7 @@ pub(crate) fn show_so(clocked: &Clocked, shown: &[u8]) -> bool
 
 /// Whether the actors have fired so often.
 pub(crate) fn fired_so(clocked: &Clocked, fired: &[u8]) -> bool
-    requires { IsRun clocked.now }
+    requires { IsClockedRun clocked.now }
 {
     let actors = clocked.stream.actors.as_slice().len();
     if actors > 16 {
@@ -94,7 +94,7 @@ fn runs(
     requires system { IsWellFormed system.now }
     requires fits { Fits system.now placement.now }
     requires few { length rows.now.bits ≤ 1000000 }
-    requires wide { AllByRecursion (IsWide system.now) rows.now.bits }
+    requires wide { AllByRecursion (IsSourceWide system.now) rows.now.bits }
 {
     systems_have_one_table();
     let Ok(mut clocked) = Clocked::start(alloc, system, placement, rows) else {

@@ -4,16 +4,16 @@ ghost use Rattle.std.specs.Prelude.{◌<◌, ◌≤◌, length};
 ghost use Rattle.std.specs.List.{AllByRecursion};
 ghost use Rattle.lid_system.specs.Systems.{IsWellFormed};
 ghost use Rattle.lid_stations.specs.Placements.{Fits};
-ghost use Rattle.lid_clock.specs.Lives.{IsWide};
-ghost use Rattle.lid_clocked.specs.Clocks.{IsRun};
+ghost use Rattle.lid_clock.specs.Lives.{IsSourceWide};
+ghost use Rattle.lid_clock.specs.Clocks.{IsClockedRun};
 
 use crate::at_hand::{are_bits, fired_so, show_so};
 use lid_base::{Gate, MeetGate};
-use lid_clocked::Clocked;
+use lid_clock::Clocked;
 use lid_parclock::run_on;
-use lid_settings::{RING, are_rows, placement_of, rows_of, system_of};
 use lid_stations::Placement;
 use lid_system::{System, systems_have_one_table};
+use lid_tests_fixtures::{RING, are_rows, placement_of, rows_of, system_of};
 use lid_texts::Rows;
 use std::alloc::{AllocGlobal, Global};
 use std::sync::atomic::{AtomicU64, Ordering};
@@ -110,7 +110,7 @@ fn comes_to<R: Threads + Sync, G: Gate>(
     gate: &G,
     outcome: &Outcome,
 ) -> bool
-    requires run { IsRun clocked.old }
+    requires run { IsClockedRun clocked.old }
     requires some { 0 < workers }
 {
     run_on(rt, clocked, workers, gate) == outcome.cycles
@@ -133,7 +133,7 @@ fn runs_on<R: Threads + AllocGlobal + Sync, G: Gate>(
     requires system { IsWellFormed system.now }
     requires fits { Fits system.now placement.now }
     requires few { length rows.now.bits ≤ 1000000 }
-    requires wide { AllByRecursion (IsWide system.now) rows.now.bits }
+    requires wide { AllByRecursion (IsSourceWide system.now) rows.now.bits }
     requires some { 0 < workers }
 {
     systems_have_one_table();

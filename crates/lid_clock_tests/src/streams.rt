@@ -4,15 +4,15 @@ ghost use Rattle.std.specs.Prelude.{◌≡◌, ◌≤◌, min, length, option_ma
 ghost use Rattle.std.specs.List.{AllByRecursion};
 ghost use Rattle.lid_system.specs.Systems.{IsWellFormed};
 ghost use Rattle.lid_stations.specs.Placements.{Fits};
-ghost use Rattle.lid_clock.specs.Lives.{IsWide};
-ghost use Rattle.lid_clock_tests.specs.Runs.{IsAlive, IsFed, Feeds, Begins, Goes};
+ghost use Rattle.lid_clock.specs.Lives.{IsSourceWide};
+ghost use Rattle.lid_clock_tests.specs.Runs.{IsAlive, StreamIsFed, FeedsStream, StreamBegins, StreamGoes};
 
 use crate::letters::{digit, letter, row_letter, shown_letter};
 use lid_base::Items;
 use lid_clock::ClockStream;
-use lid_settings::{ONE, RING, are_rows, placement_of, rows_of, system_of};
 use lid_stations::{Placement, none};
 use lid_system::{System, systems_have_one_table};
+use lid_tests_fixtures::{ONE, RING, are_rows, placement_of, rows_of, system_of};
 use std::alloc::Global;
 
 /// The run of the ring: what the stations show as a cycle begins, how often the actors have fired, and the
@@ -86,8 +86,8 @@ fn next_line(stream: &ClockStream, trace: &[u8], start: usize) -> Option<usize>
 
 /// Gives the next row where one is wanting, and answers how many rows were given.
 fn feed(stream: &mut ClockStream, rows: &[Items<bool>], given: usize) -> usize
-    requires { IsFed rows.now given stream.old }
-    ensures { Feeds rows.now given stream.old result stream.new }
+    requires { StreamIsFed rows.now given stream.old }
+    ensures { FeedsStream rows.now given stream.old result stream.new }
 {
     if !stream.needs() {
         return given;
@@ -99,8 +99,8 @@ fn feed(stream: &mut ClockStream, rows: &[Items<bool>], given: usize) -> usize
 /// Makes the first cycle, in which the source may be held. Answers how many rows were given where it made
 /// one.
 fn begin(stream: &mut ClockStream, rows: &[Items<bool>], given: usize, held: bool) -> Option<usize>
-    requires { Begins rows.now held given stream.old }
-    ensures { IfSome result (λ now. Goes rows.now now stream.new) }
+    requires { StreamBegins rows.now held given stream.old }
+    ensures { IfSome result (λ now. StreamGoes rows.now now stream.new) }
 {
     let now = feed(stream, rows, given);
     if stream.cycle_held(held, false) {
@@ -112,8 +112,8 @@ fn begin(stream: &mut ClockStream, rows: &[Items<bool>], given: usize, held: boo
 
 /// Makes a further cycle. Answers how many rows were given where it made one.
 fn go(stream: &mut ClockStream, rows: &[Items<bool>], given: usize) -> Option<usize>
-    requires { Goes rows.now given stream.old }
-    ensures { IfSome result (λ now. Goes rows.now now stream.new) }
+    requires { StreamGoes rows.now given stream.old }
+    ensures { IfSome result (λ now. StreamGoes rows.now now stream.new) }
 {
     let now = feed(stream, rows, given);
     if stream.cycle() { Some(now) } else { None }
@@ -127,7 +127,7 @@ fn goes_so(
     trace: &[u8],
     start: usize,
 ) -> bool
-    requires { Goes rows.now begun stream.old }
+    requires { StreamGoes rows.now begun stream.old }
 {
     let mut given = begun;
     let mut place = start;
@@ -146,7 +146,7 @@ fn goes_so(
 
 /// Whether a run that starts goes as a trace says.
 fn follows(stream: &mut ClockStream, rows: &[Items<bool>], held: bool, trace: &[u8]) -> bool
-    requires { Begins rows.now held (min 1 (length rows.now)) stream.old }
+    requires { StreamBegins rows.now held (min 1 (length rows.now)) stream.old }
 {
     let Some(start) = next_line(stream, trace, 0) else {
         return false;
@@ -179,7 +179,7 @@ fn runs(
     requires system { IsWellFormed system.now }
     requires fits { Fits system.now placement.now }
     requires few { length rows.now ≤ 1000000 }
-    requires wide { AllByRecursion (IsWide system.now) rows.now }
+    requires wide { AllByRecursion (IsSourceWide system.now) rows.now }
 {
     systems_have_one_table();
     match ClockStream::start(alloc, system, placement, rows.len() as u64, first_of(rows)) {

@@ -6,7 +6,7 @@ use Rattle.lid_base.specs.Lists.{Among}
 use Rattle.lid_cover.specs.declared.Cover.{Cover}
 use Rattle.lid_design.specs.declared.Flat.{Flat}
 use Rattle.lid_design.specs.Network.{Driver, from_input, from_latch, from_cover}
-use Rattle.lid_design.specs.Walks.{read_now, Walk, IsDriven, IsDrivenOnce}
+use Rattle.lid_design.specs.Walks.{read_now, EdgesLead, IsDriven, IsDrivenOnce}
 use Rattle.lid_design.specs.Flat.{flat_drivers, IsNumbered, IsFlatCover, IsFlat}
 
 abbrev both : Cover
@@ -38,15 +38,15 @@ driven (suc zero) h = omega arith
 driven (suc (suc zero)) h = omega arith
 driven (suc (suc (suc k))) h = absurd (omega arith)
 
-none_into_latch : (n a : ℕ) → Walk (flat_drivers part) n a 1 → n ≡ 0
+none_into_latch : (n a : ℕ) → EdgesLead (flat_drivers part) n a 1 → n ≡ 0
 unfolding flat_drivers
 none_into_latch zero a w = refl
 none_into_latch (suc n) a w = elim w.2.1 [ inl same ↦ absurd (subst (λ (s : Driver ℕ). Among w.0 (read_now s)) same w.2.2) | inr none ↦ absurd none ]
 
-apart : (n input output : ℕ) → Among input (0 ∷ []) → Among output (1 ∷ []) → ¬ Walk (flat_drivers part) n input output
+apart : (n input output : ℕ) → Among input (0 ∷ []) → Among output (1 ∷ []) → ¬ EdgesLead (flat_drivers part) n input output
 apart zero input output (inl zeroth) (inl first) w = absurd (let e = zeroth in let e' = first in let e'' : input ≡ output = w in omega arith)
 apart (suc n) input output (inl zeroth) (inl first) w =
-    absurd (let e : suc n ≡ 0 = none_into_latch (suc n) input (subst (λ (k : ℕ). Walk (flat_drivers part) (suc n) input k) first w) in omega arith)
+    absurd (let e : suc n ≡ 0 = none_into_latch (suc n) input (subst (λ (k : ℕ). EdgesLead (flat_drivers part) (suc n) input k) first w) in omega arith)
 apart n input output (inr none) there w = absurd none
 apart n input output (inl zeroth) (inr none) w = absurd none
 

@@ -1,17 +1,18 @@
 -- Flat parts: what drives a net, how long walks are, and what each row of a strict table meets.
-use Rattle.std.proofs.Common.{◌≡◌, ℕ, zero, suc, ◌+◌, ◌<◌, ◌≤◌, ◌==◌, ◌⊎◌, inl, inr, Bool, true, false, cond, List, [], ◌∷◌, ◌++◌, length, get_or, map, Some, None, slice_get, refl, sym, ◌∙◌, ap, subst, arith}
+use Rattle.std.proofs.Common.{◌≡◌, ℕ, zero, suc, ◌+◌, ◌<◌, ◌≤◌, ◌==◌, ◌⊎◌, inl, inr, Bool, false, cond, List, [], ◌∷◌, ◌++◌, length, get_or, map, Some, None, slice_get, refl, sym, ◌∙◌, ap, subst, arith}
 use Rattle.std.specs.List.{AllByRecursion, flat_map}
 use Rattle.std.proofs.lemmas.Bool.{eqb-true, eq-eqb}
 use Rattle.std.proofs.lemmas.Option.{slice_get_within, get_or_from_slice_get}
 use Rattle.lid_base.specs.Lists.{Among}
-use Rattle.lid_base.proofs.Lists.{among_left, among_right, among_append, among_flat, flat_among, among_get, map_among, all_among}
+use Rattle.lid_base.proofs.Lists.{among_left, among_right, among_append, among_flat, flat_among, among_get, map_among, all_among, among_if, if_among}
 use Rattle.lid_cover.specs.Cover.{cover_value}
 use Rattle.lid_design.specs.declared.Flat.{Flat}
 use Rattle.lid_design.specs.declared.FlatLatch.{FlatLatch}
 use Rattle.lid_design.specs.declared.FlatCover.{FlatCover}
 use Rattle.lid_design.specs.Network.{Driver, from_input, from_latch, from_cover, Table, bit_of, IsStrict}
-use Rattle.lid_design.specs.Walks.{read_now, read_before, Feeds, Walk, WalksEnd, IsDriven, AreReadsDriven}
+use Rattle.lid_design.specs.Walks.{read_now, read_before, Feeds, EdgesLead, WalksEnd, IsDriven, AreReadsDriven}
 use Rattle.lid_design.specs.Flat.{inputs_at, latch_at, cover_at, flat_drivers, latch_out, latch_input, latch_init, ReadEarlier, IsFlat, state_at, MeetsRow}
+use Rattle.lid_base.proofs.Alls.{all_from_among}
 
 -- a list of at most one item has no two
 pub same_of_one : {A : Type 0} (xs : List A) (x y : A) → length xs ≤ 1 → Among x xs → Among y xs → x ≡ y
@@ -20,20 +21,6 @@ same_of_one (z ∷ []) x y few (inl e) (inl e') = e ∙ sym e'
 same_of_one (z ∷ []) x y few (inl e) (inr j) = absurd j
 same_of_one (z ∷ []) x y few (inr i) j = absurd i
 same_of_one (z ∷ w ∷ xs) x y few i j = absurd (omega arith)
-
-among_if : {A : Type 0} (b : Bool) (x : A) → b ≡ true → Among x (cond b (x ∷ []) [])
-among_if true x h = inl refl
-among_if false x h = absurd (let e : false ≡ true = h in cc)
-
-if_among : {A : Type 0} (b : Bool) (x y : A) → Among y (cond b (x ∷ []) []) → (b ≡ true) × (y ≡ x)
-if_among true x y (inl e) = (refl, e)
-if_among true x y (inr none) = absurd none
-if_among false x y none = absurd none
-
--- what holds of each item holds of all
-all_from_each : {A : Type 0} (P : A → Type 0) (xs : List A) → ((x : A) → Among x xs → P x) → AllByRecursion P xs
-all_from_each P [] each = tt
-all_from_each P (x ∷ xs) each = (each x (inl refl), all_from_each P xs (λ y i. each y (inr i)))
 
 input_at : (k j i : ℕ) (nets : List ℕ) → slice_get nets i ≡ Some k → Among {A = Driver ℕ} (from_input (j + i)) (inputs_at k j nets)
 input_at k j i [] here = absurd (let e : None ≡ Some k = here in cc)
@@ -51,7 +38,7 @@ at_input : (k j : ℕ) (nets : List ℕ) (s : Driver ℕ) → Among s (inputs_at
 at_input k j [] s among = absurd among
 at_input k j (net ∷ nets) s among =
     elim (among_append s (cond (net == k) (from_input j ∷ []) []) (inputs_at k (j + 1) nets) among) [
-      | inl here ↦ (j, (if_among (net == k) (from_input j) s here).1)
+      | inl here ↦ (j, (if_among (net == k) s (from_input j) here).1)
       | inr later ↦ at_input k (j + 1) nets s later
     ]
 
@@ -68,7 +55,7 @@ own_driver {A} out from x xs among =
 driver_of : {A : Type 0} (out : A → ℕ) (from : A → Driver ℕ) (k : ℕ) (s : Driver ℕ) (xs : List A) → Among s (flat_map (Tried out from k) xs) → (x : A) × Among x xs × (out x ≡ k) × (s ≡ from x)
 driver_of {A} out from k s xs here =
     let found = flat_among {A = A} {B = Driver ℕ} (Tried out from k) s xs here in
-    let tells = if_among (out found.0 == k) (from found.0) s found.2 in
+    let tells = if_among (out found.0 == k) s (from found.0) found.2 in
     (found.0, found.1, eqb-true (out found.0) k tells.0, tells.1)
 
 abbrev by_latch : FlatLatch → Driver ℕ
@@ -130,7 +117,7 @@ module _ (f : Flat) where
 
   -- no walk to net k has more than n edges
   abbrev pub IsWithin : ℕ → ℕ → Type 0
-  IsWithin n k = (m a : ℕ) → Walk (flat_drivers f) m a k → m ≤ n
+  IsWithin n k = (m a : ℕ) → EdgesLead (flat_drivers f) m a k → m ≤ n
 
   module _ (flat : IsFlat f) where
     -- a net is one edge further than what its driver reads in the same row
@@ -170,13 +157,13 @@ module _ (f : Flat) where
         first = within_next n d.out (from_cover d.cover d.ins) (cover_drives d (each d (inl refl))) (λ a read. within a (all_among (λ k. Among k known) d.ins a earlier.0 read))
 
         later : (k : ℕ) → Among k (d.out ∷ known) → IsWithin (suc n) k
-        later k (inl same) m a w = first m a (subst (λ (k : ℕ). Walk (flat_drivers f) m a k) same w)
+        later k (inl same) m a w = first m a (subst (λ (k : ℕ). EdgesLead (flat_drivers f) m a k) same w)
         later k (inr among) m a w = let less : m ≤ n = within k among m a w in omega arith
 
         by : ((i : ℕ) (c : FlatCover) → slice_get covers i ≡ Some c → IsWithin (suc n + (i + 1)) c.out) → (i : ℕ) → slice_get (d ∷ covers) i ≡ Some c → IsWithin (n + (i + 1)) c.out
         by next zero here m a w =
             let same : d ≡ c = (let e : Some d ≡ Some c = here in cc) in
-            let less : m ≤ suc n = first m a (subst (λ (c : FlatCover). Walk (flat_drivers f) m a c.out) (sym same) w) in
+            let less : m ≤ suc n = first m a (subst (λ (c : FlatCover). EdgesLead (flat_drivers f) m a c.out) (sym same) w) in
             omega arith
         by next (suc i) here m a w =
             let less : m ≤ suc n + (i + 1) = next i c here m a w in
@@ -188,17 +175,17 @@ module _ (f : Flat) where
         let less : m ≤ 0 + (i + 1) = covers_within (f.ins ++ map latch_out f.latches) 0 f.covers flat.earlier known_within (λ c among. among) i c here m a w in
         omega arith
 
-    walk_past : (n a k : ℕ) (c : FlatCover) → Among c f.covers → c.out ≡ k → Walk (flat_drivers f) n a k → n ≤ length f.covers
+    walk_past : (n a k : ℕ) (c : FlatCover) → Among c f.covers → c.out ≡ k → EdgesLead (flat_drivers f) n a k → n ≤ length f.covers
     walk_past n a k c among drives w = by (among_get f.covers c among).0 (among_get f.covers c among).1
       where
         by : (i : ℕ) → slice_get f.covers i ≡ Some c → n ≤ length f.covers
         by i here =
             let inside : i < length f.covers = slice_get_within f.covers i c here in
-            let less : n ≤ i + 1 = cover_within i c here n a (subst (λ (k : ℕ). Walk (flat_drivers f) n a k) (sym drives) w) in
+            let less : n ≤ i + 1 = cover_within i c here n a (subst (λ (k : ℕ). EdgesLead (flat_drivers f) n a k) (sym drives) w) in
             omega arith
 
     -- no walk has more edges than there are covers
-    flat_walks : (n a k : ℕ) → Walk (flat_drivers f) n a k → n ≤ length f.covers
+    flat_walks : (n a k : ℕ) → EdgesLead (flat_drivers f) n a k → n ≤ length f.covers
     flat_walks zero a k w = omega arith
     flat_walks (suc n) a k w = let fed = fed_by_cover w.0 k w.2 in walk_past (suc n) a k fed.0 fed.1 fed.2 w
 
@@ -246,7 +233,7 @@ map_is_row bit (k ∷ nets) (r ∷ row) wide each =
 
 -- each row of a strict table meets the covers, the latches and the inputs
 pub flat_meets : (f : Flat) (rows : List (List Bool)) (b : Table ℕ) (t : ℕ) → IsStrict (flat_drivers f) rows b → t < length rows → MeetsRow f rows b t
-flat_meets f rows b t strict below = record { covers = all_from_each (λ c. b t c.out ≡ cover_value c.cover (map (b t) c.ins)) f.covers (λ c among. given c.out _ (cover_drives f c among)); latches = state t below; inputs = from_row }
+flat_meets f rows b t strict below = record { covers = all_from_among (λ c. b t c.out ≡ cover_value c.cover (map (b t) c.ins)) f.covers (λ c among. given c.out _ (cover_drives f c among)); latches = state t below; inputs = from_row }
   where
     given_at : (t : ℕ) → t < length rows → (k : ℕ) (s : Driver ℕ) → Among s (flat_drivers f k) → b t k ≡ bit_of rows b t s
     given_at t below k s drives = all_among (λ s. b t k ≡ bit_of rows b t s) (flat_drivers f k) s (strict t k below) drives

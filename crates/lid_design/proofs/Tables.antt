@@ -1,20 +1,12 @@
 -- The law of strict tables: where no walk has n edges, a network that drives no column twice has a
 -- strict table, and one whose reads are driven has at most one.
-use Rattle.std.proofs.Common.{◌≡◌, ℕ, zero, suc, ◌<◌, ◌≤◌, inl, inr, Bool, false, List, [], ◌∷◌, length, map, get_or, refl, sym, ◌∙◌, ap, arith}
+use Rattle.std.proofs.Common.{◌≡◌, ℕ, zero, suc, ◌<◌, ◌≤◌, inl, Bool, false, List, [], ◌∷◌, length, map, get_or, refl, sym, ◌∙◌, ap, arith}
 use Rattle.std.specs.List.{AllByRecursion}
 use Rattle.lid_base.specs.Lists.{Among}
-use Rattle.lid_base.proofs.Lists.{among_left, among_right, all_among}
+use Rattle.lid_base.proofs.Lists.{among_left, among_right, all_among, some_item, map_same}
 use Rattle.lid_cover.specs.Cover.{cover_value}
 use Rattle.lid_design.specs.Network.{Driver, from_input, from_latch, from_cover, from_connection, Table, latch_bit, bit_of, IsStrict}
-use Rattle.lid_design.specs.Walks.{read_now, read_before, Feeds, Walk, HasNoWalk, WalksEnd, IsDriven, IsDrivenOnce, AreReadsDriven, HasTable, HasOneTable}
-
--- a list is mapped alike by functions that agree on it
-pub map_agree : {A : Type 0} (f g : A → Bool) (xs : List A) → ((a : A) → Among a xs → f a ≡ g a) → map f xs ≡ map g xs
-map_agree f g [] agree = refl
-map_agree f g (x ∷ xs) agree =
-    let head : f x ≡ g x = agree x (inl refl) in
-    let tail : map f xs ≡ map g xs = map_agree f g xs (λ a i. agree a (inr i)) in
-    cc
+use Rattle.lid_design.specs.Walks.{read_now, read_before, Feeds, EdgesLead, HasNoWalk, WalksEnd, IsDriven, IsDrivenOnce, AreReadsDriven, HasTable, HasOneTable}
 
 -- what a driver gives, from the input row, the latch bits and the bits of the same row
 abbrev pub bit_by : {C : Type 0} → List Bool → (Bool → C → Bool) → (C → Bool) → Driver C → Bool
@@ -36,7 +28,7 @@ latch_by b (suc t) first input = b t input
 bit_by_agree : {C : Type 0} (row : List Bool) (latch : Bool → C → Bool) (f g : C → Bool) (s : Driver C) → ((a : C) → Among a (read_now s) → f a ≡ g a) → bit_by row latch f s ≡ bit_by row latch g s
 bit_by_agree row latch f g (from_input j) agree = refl
 bit_by_agree row latch f g (from_latch first input) agree = refl
-bit_by_agree row latch f g (from_cover cover inputs) agree = ap (cover_value cover) (map_agree f g inputs agree)
+bit_by_agree row latch f g (from_cover cover inputs) agree = ap (cover_value cover) (map_same f g inputs agree)
 bit_by_agree row latch f g (from_connection c) agree = agree c (inl refl)
 
 first_by_agree : {C : Type 0} (f g : Driver C → Bool) (ss : List (Driver C)) → ((s : Driver C) → Among s ss → f s ≡ g s) → first_by f ss ≡ first_by g ss
@@ -53,13 +45,8 @@ all_from_first v bit (s ∷ r ∷ ss) once e = absurd (omega arith)
 bit_of_agree : {C : Type 0} (rows : List (List Bool)) (b b' : Table C) (t : ℕ) (s : Driver C) → ((a : C) → Among a (read_now s) → b t a ≡ b' t a) → ((first : Bool) (a : C) → Among a (read_before s) → latch_bit b first a t ≡ latch_bit b' first a t) → bit_of rows b t s ≡ bit_of rows b' t s
 bit_of_agree rows b b' t (from_input j) now before = refl
 bit_of_agree rows b b' t (from_latch first input) now before = before first input (inl refl)
-bit_of_agree rows b b' t (from_cover cover inputs) now before = ap (cover_value cover) (map_agree (b t) (b' t) inputs now)
+bit_of_agree rows b b' t (from_cover cover inputs) now before = ap (cover_value cover) (map_same (b t) (b' t) inputs now)
 bit_of_agree rows b b' t (from_connection c) now before = now c (inl refl)
-
--- of a list with an item, one item
-some_item : {A : Type 0} (xs : List A) → 0 < length xs → (x : A) × Among x xs
-some_item [] h = absurd (omega arith)
-some_item (x ∷ xs) h = (x, inl refl)
 
 module _ {C : Type 0} (drivers : C → List (Driver C)) where
   -- a row after so many steps
@@ -132,7 +119,7 @@ module _ {C : Type 0} (drivers : C → List (Driver C)) where
   abbrev pub IsRank : (C → ℕ) → Type 0
   IsRank rank = (a c : C) → Feeds drivers a c → rank a < rank c
 
-  walk_within_rank : (rank : C → ℕ) → IsRank rank → (n : ℕ) (a c : C) → Walk drivers n a c → n ≤ rank c
+  walk_within_rank : (rank : C → ℕ) → IsRank rank → (n : ℕ) (a c : C) → EdgesLead drivers n a c → n ≤ rank c
   walk_within_rank rank rises zero a c w = omega arith
   walk_within_rank rank rises (suc n) a c w =
       let shorter : n ≤ rank w.0 = walk_within_rank rank rises n a w.0 w.1 in

@@ -10,7 +10,8 @@ use Rattle.lid_design.specs.declared.Cell.TheVariants.{Names, Latch}
 use Rattle.lid_design.specs.declared.Init.{Init}
 use Rattle.lid_design.specs.declared.Init.TheVariants.{Zero, One, DontCare, Unknown}
 use Rattle.lid_design.specs.declared.Inst.{Inst}
-use Rattle.lid_design.specs.Network.{Driver, from_input, from_latch, from_cover, from_connection, Table, IsStrict, from_each}
+use Rattle.lid_design.specs.Network.{Driver, from_input, from_latch, from_cover, from_connection, Table, IsStrict}
+use Rattle.lid_base.specs.Each.{from_each}
 
 -- a net of an instance. The path has the instance numbers from the innermost to the root's, so the
 -- path of the instance around it is the tail

@@ -47,8 +47,8 @@ unfoldable pub columns : Design → List Column
 columns d = flat_map (columns_at d) (instances d)
 
 -- the covers, latches and instances of a model
-abbrev pub cells_of : Design → ℕ → ℕ
-cells_of d k = option_map_or (λ m. length m.cells + length m.insts) (slice_get d.models k) 0
+abbrev pub own_cell_count : Design → ℕ → ℕ
+own_cell_count d k = option_map_or (λ m. length m.cells + length m.insts) (slice_get d.models k) 0
 
 abbrev pub is_latch : Cell → Bool
 is_latch (Names inputs out cover) = false
@@ -75,7 +75,7 @@ over_instances f d = sum_by (λ p. f d p.model) (instances d)
 
 -- the covers, latches and instances over all paths
 unfoldable pub count_cells : Design → ℕ
-count_cells d = over_instances cells_of d
+count_cells d = over_instances own_cell_count d
 
 -- the columns
 unfoldable pub count_nets : Design → ℕ

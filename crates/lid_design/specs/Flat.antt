@@ -8,7 +8,7 @@ use Rattle.lid_design.specs.declared.Flat.{Flat}
 use Rattle.lid_design.specs.declared.FlatLatch.{FlatLatch}
 use Rattle.lid_design.specs.declared.FlatCover.{FlatCover}
 use Rattle.lid_design.specs.Network.{Driver, from_input, from_latch, from_cover, Table}
-use Rattle.lid_design.specs.Walks.{Walk, IsDriven, IsDrivenOnce}
+use Rattle.lid_design.specs.Walks.{EdgesLead, IsDriven, IsDrivenOnce}
 
 -- the inputs that are net k, each by its place, where the first of them has place j
 abbrev pub inputs_at : ℕ → ℕ → List ℕ → List (Driver ℕ)
@@ -58,7 +58,7 @@ pub record IsFlat (f : Flat) : Type 0 where
   pub once : IsDrivenOnce (flat_drivers f)
   pub driven : (k : ℕ) → k < f.nets → IsDriven (flat_drivers f) k
   pub earlier : ReadEarlier (f.ins ++ map latch_out f.latches) f.covers
-  pub apart : (n input output : ℕ) → Among input f.ins → Among output f.outs → ¬ Walk (flat_drivers f) n input output
+  pub apart : (n input output : ℕ) → Among input f.ins → Among output f.outs → ¬ EdgesLead (flat_drivers f) n input output
   pub covers : AllByRecursion IsFlatCover f.covers
 
 -- the bits of one row meet covers: the output of each has its value

@@ -3,13 +3,13 @@ use Rattle.std.specs.Prelude.{◌≡◌, ℕ, zero, suc, ◌==◌, if◌then◌e
 use Rattle.std.specs.List.{range_with_len}
 use Rattle.lid_design.specs.declared.Design.{Design}
 use Rattle.lid_design.specs.Columns.{Column, column, drivers}
-use Rattle.lid_design.specs.Walks.{Feeds, Walk}
+use Rattle.lid_design.specs.Walks.{Feeds, EdgesLead}
 use Rattle.lid_design.specs.Models.{insts_of}
 
 -- a column of the elaborated graph lies on a closed walk. An edge leads to each column from those
 -- that its driver reads in the same row
 abbrev pub IsOnLoop : Design → Column → Type 0
-IsOnLoop d c = (n : ℕ) × Walk (drivers d) (suc n) c c
+IsOnLoop d c = (n : ℕ) × EdgesLead (drivers d) (suc n) c c
 
 abbrev pub HasNoLoop : Design → Type 0
 HasNoLoop d = (c : Column) → ¬ IsOnLoop d c

@@ -1,5 +1,5 @@
 -- Synchronous networks: what drives each column, and the tables of bits that meet all drivers.
-use Rattle.std.specs.Prelude.{◌≡◌, ℕ, zero, suc, ◌+◌, ◌<◌, Bool, false, List, [], ◌∷◌, length, map, slice_index_or}
+use Rattle.std.specs.Prelude.{◌≡◌, ℕ, zero, suc, ◌<◌, Bool, false, List, [], length, map, slice_index_or}
 use Rattle.std.specs.List.{AllByRecursion}
 use Rattle.lid_cover.specs.declared.Cover.{Cover}
 use Rattle.lid_cover.specs.Cover.{cover_value}
@@ -32,8 +32,3 @@ bit_of rows b t (from_connection c) = b t c
 abbrev pub IsStrict : {C : Type 0} → (C → List (Driver C)) → List (List Bool) → Table C → Type 0
 IsStrict {C} drivers rows b =
     (t : ℕ) (c : C) → t < length rows → AllByRecursion (λ s. b t c ≡ bit_of rows b t s) (drivers c)
-
--- f at each of so many numbers from k on
-abbrev pub from_each : {A : Type 0} → (ℕ → A) → ℕ → ℕ → List A
-from_each f k zero = []
-from_each f k (suc n) = f k ∷ from_each f (k + 1) n

@@ -22,13 +22,13 @@ abbrev pub Feeds : {C : Type 0} → (C → List (Driver C)) → C → C → Type
 Feeds {C} drivers a c = (s : Driver C) × Among s (drivers c) × Among a (read_now s)
 
 -- so many edges lead from a to c
-abbrev pub Walk : {C : Type 0} → (C → List (Driver C)) → ℕ → C → C → Type 0
-Walk drivers zero a c = a ≡ c
-Walk {C} drivers (suc n) a c = (b : C) × Walk drivers n a b × Feeds drivers b c
+abbrev pub EdgesLead : {C : Type 0} → (C → List (Driver C)) → ℕ → C → C → Type 0
+EdgesLead drivers zero a c = a ≡ c
+EdgesLead {C} drivers (suc n) a c = (b : C) × EdgesLead drivers n a b × Feeds drivers b c
 
 -- no walk of n edges ends at c
 abbrev pub HasNoWalk : {C : Type 0} → (C → List (Driver C)) → ℕ → C → Type 0
-HasNoWalk {C} drivers n c = (a : C) → Walk drivers n a c → ⊥
+HasNoWalk {C} drivers n c = (a : C) → EdgesLead drivers n a c → ⊥
 
 -- no walk has n edges
 abbrev pub WalksEnd : {C : Type 0} → (C → List (Driver C)) → ℕ → Type 0

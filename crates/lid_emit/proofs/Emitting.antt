@@ -8,41 +8,42 @@ use Rattle.lid_base.proofs.Lists.{all_append}
 use Rattle.lid_design.specs.declared.Design.{Design}
 use Rattle.lid_design.specs.declared.Model.{Model}
 use Rattle.lid_design.specs.declared.Cell.{Cell}
-use Rattle.lid_design.specs.Network.{Table, IsStrict, from_each}
+use Rattle.lid_design.specs.Network.{Table, IsStrict}
+use Rattle.lid_base.specs.Each.{from_each}
 use Rattle.lid_design.specs.Columns.{Column, drivers, root_inputs, root_outputs}
 use Rattle.lid_design.specs.WellFormed.{IsWellFormed}
 use Rattle.lid_check.specs.Acceptance.{IsAccepted}
 use Rattle.lid_check.proofs.Sound.{judged_of}
-use Rattle.lid_lines.specs.Spelled.{IsSpelled}
+use Rattle.lid_base_lines.specs.Spelled.{IsSpelled}
 use Rattle.lid_blifout.specs.Canonical.{canonical_text}
 use Rattle.lid_blifout.specs.Writable.{IsWritableCell, IsWritable}
 use Rattle.lid_system.specs.declared.System.{System}
 use Rattle.lid_stations.specs.declared.placement.Placement.{Placement}
 use Rattle.lid_stations.specs.Placements.{Links, links_of}
-use Rattle.lid_circuit.specs.Wires.{Wire, entry, offer, block, shown, valid, stop}
-use Rattle.lid_circuit.specs.Plans.{Plan}
-use Rattle.lid_wires.specs.Connected.{IsConnected}
-use Rattle.lid_wires.specs.Known.{IsKnown}
-use Rattle.lid_wires.specs.Lists.{wires}
-use Rattle.lid_wrapped.specs.Wrapping.{plan_of}
-use Rattle.lid_wrapped.proofs.Connecting.{connected}
-use Rattle.lid_named.specs.Named.{cells_at, input_wires, output_wires, named_design, IsNaming}
-use Rattle.lid_named.specs.Laws.{NamedDesignsAreWellFormed, NamedDesignsAreAccepted}
-use Rattle.lid_named.proofs.Cells.{as_many}
-use Rattle.lid_emitted.specs.Flats.{ArePortNames}
-use Rattle.lid_emitted.specs.Laws.{EmittedDesignsRun}
-use Rattle.lid_bounds.specs.Shortness.{AreShort}
-use Rattle.lid_bounds.specs.Laws.{AreFew, WrappedDesignsAreSmall, WrappedDesignsHaveShortTexts}
-use Rattle.lid_bounds.proofs.Ports.{ports_counted, as_many_inputs, as_many_outputs}
-use Rattle.lid_emission.specs.Runs as emitted
-use Rattle.lid_emission.specs.Ports.{offer_name, block_name, valid_name, stop_name, input_names, output_names, taken_name}
-use Rattle.lid_wirenames.specs.Spelling.{AreSmall}
-use Rattle.lid_wirenames.proofs.Naming.{all_named, is_naming}
-use Rattle.lid_cells.specs.declared.all.All.{All}
-use Rattle.lid_cells.specs.Shown.{ports_of}
-use Rattle.lid_emission.specs.Sizes.{size}
-use Rattle.lid_emission.specs.Emitted.{CanBeEmitted, IsEmitted, IsBegun}
-use Rattle.lid_emit.specs.Steps.{root_name, name_with, IsLaidOut, AreCells, model_with, design_with}
+use Rattle.lid_emit_circuit.specs.Wires.{Wire, entry, offer, block, shown, valid, stop}
+use Rattle.lid_emit_circuit.specs.Plans.{CircuitPlan}
+use Rattle.lid_emit_circuit.specs.Connected.{IsConnected}
+use Rattle.lid_emit_circuit.specs.Known.{IsKnown}
+use Rattle.lid_emit_circuit.specs.Lists.{wires}
+use Rattle.lid_emit_system.specs.Wrapping.{circuit_plan}
+use Rattle.lid_emit_system.proofs.Connecting.{connected}
+use Rattle.lid_emit_names.specs.Named.{cells_driving, input_wires, output_wires, named_design, IsNaming}
+use Rattle.lid_emit_names.specs.Laws.{NamedDesignsAreWellFormed, NamedDesignsAreAccepted}
+use Rattle.lid_emit_names.proofs.Cells.{as_many}
+use Rattle.lid_emit_laws.specs.Flats.{ArePortNames}
+use Rattle.lid_emit_laws.specs.Laws.{EmittedDesignsRun}
+use Rattle.lid_emit_laws.specs.Shortness.{AreShort}
+use Rattle.lid_emit_laws.specs.Bounds.{AreFew, WrappedDesignsAreSmall, WrappedDesignsHaveShortTexts}
+use Rattle.lid_emit_laws.proofs.Ports.{ports_counted, as_many_inputs, as_many_outputs}
+use Rattle.lid_emit_meaning.specs.Runs as emitted
+use Rattle.lid_emit_meaning.specs.Ports.{offer_name, block_name, valid_name, stop_name, input_names, output_names, taken_name}
+use Rattle.lid_emit_names.specs.Spelling.{AreSmall}
+use Rattle.lid_emit_names.proofs.Naming.{all_named, is_naming}
+use Rattle.lid_emit_cells.specs.declared.all.All.{All}
+use Rattle.lid_emit_cells.specs.Shown.{design_ports}
+use Rattle.lid_emit_meaning.specs.Sizes.{size}
+use Rattle.lid_emit_meaning.specs.Emitted.{CanBeEmitted, IsEmitted, IsPlainCell}
+use Rattle.lid_emit.specs.Steps.{root_name, name_with, IsCircuitLaidOut, AreCells, model_with, design_with}
 use Rattle.lid_emit.proofs.Words.{two_inputs, two_outputs, wire_word, wire_short}
 use Rattle.lid_emit.proofs.Written.{cells_written, cells_begun}
 use Rattle.lid_emit.proofs.Ports.{ports_distinct, ports_free}
@@ -58,9 +59,9 @@ alone : (name : List ℕ) → IsDistinct bytes_eq (name ∷ [])
 unfolding IsDistinct
 alone name = (tt, tt)
 
-module _ (d : Design) (s : System) (p : Placement) (can : CanBeEmitted d s p) (formed : IsWellFormed d) (accepted : IsAccepted d) (free : taken_name d ≡ None) (few : size d (links_of s) p ≤ 16384) (all : All) (laid : IsLaidOut d s p all) (made : List Cell) (are : AreCells d all made) where
-  abbrev q : Plan
-  q = plan_of s p laid.nets
+module _ (d : Design) (s : System) (p : Placement) (can : CanBeEmitted d s p) (formed : IsWellFormed d) (accepted : IsAccepted d) (free : taken_name d ≡ None) (few : size d (links_of s) p ≤ 16384) (all : All) (laid : IsCircuitLaidOut d s p all) (made : List Cell) (are : AreCells d all made) where
+  abbrev q : CircuitPlan
+  q = circuit_plan s p laid.nets
 
   abbrev name : Wire → List ℕ
   name = name_with d are.prefix
@@ -81,7 +82,7 @@ module _ (d : Design) (s : System) (p : Placement) (can : CanBeEmitted d s p) (f
   small = are_small q con (nets_few d s p laid.nets (judged_of d formed accepted.models) laid.flats) all laid.plan laid.sound narrow
 
   naming : IsNaming q name
-  naming = is_naming q (ports_of (root_inputs d) (root_outputs d)) are.prefix inputs_same outputs_same (ports_distinct d formed accepted free) (ports_free d are.prefix are.short are.free) small
+  naming = is_naming q (design_ports (root_inputs d) (root_outputs d)) are.prefix inputs_same outputs_same (ports_distinct d formed accepted free) (ports_free d are.prefix are.short are.free) small
 
   port_names : ArePortNames d name
   port_names = record {
@@ -104,7 +105,7 @@ module _ (d : Design) (s : System) (p : Placement) (can : CanBeEmitted d s p) (f
       ∙ ap (λ (xs : List (List ℕ)). xs ++ valid_name ∷ stop_name ∷ []) (ap (λ (m : ℕ). map name (from_each shown 0 m)) outputs_same ∙ port_names.outputs)
 
   abbrev wire_cells : List Cell
-  wire_cells = flat_map (cells_at q name) (wires q)
+  wire_cells = flat_map (cells_driving q name) (wires q)
 
   cells_same : made ≡ wire_cells
   cells_same = are.each q laid.plan
@@ -186,7 +187,7 @@ module _ (d : Design) (s : System) (p : Placement) (can : CanBeEmitted d s p) (f
         outputs = refl;
         clocks = refl;
         insts = refl;
-        latches = subst (AllByRecursion IsBegun) (sym cells_same) (cells_begun q con name words);
+        latches = subst (AllByRecursion IsPlainCell) (sym cells_same) (cells_begun q con name words);
         formed = subst IsWellFormed (sym is_named) (wells q name (root_name d) con);
         accepted = subst IsAccepted (sym is_named) (accepts q name (root_name d) con naming few_wires (omega (arith, narrow)));
         writable = writable;

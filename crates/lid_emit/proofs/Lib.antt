@@ -1,3 +1,7 @@
+pub mod Counting
+pub mod Adding
+pub mod Stationed
+pub mod Pearled
 mod Words
 mod Written
 mod Ports

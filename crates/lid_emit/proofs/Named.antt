@@ -3,22 +3,22 @@ use Rattle.std.proofs.Common.{◌≡◌, ℕ, List, ◌++◌, flat_map, ◌∙�
 use Rattle.lid_design.specs.declared.Design.{Design}
 use Rattle.lid_design.specs.declared.Cell.{Cell}
 use Rattle.lid_design.specs.Columns.{root_inputs, root_outputs}
-use Rattle.lid_circuit.specs.Wires.{Wire}
-use Rattle.lid_circuit.specs.Plans.{Plan}
-use Rattle.lid_wires.specs.Lists.{wires}
-use Rattle.lid_named.specs.Named.{cells_at}
-use Rattle.lid_wirenames.specs.Spelling.{name_of, IsFree}
-use Rattle.lid_cells.specs.declared.all.All.{All}
-use Rattle.lid_cells.specs.Shown.{ports_of}
-use Rattle.lid_cells.specs.Matches.{IsAllOf}
-use Rattle.lid_emitsize.specs.Prefixes.{IsShort}
+use Rattle.lid_emit_circuit.specs.Wires.{Wire}
+use Rattle.lid_emit_circuit.specs.Plans.{CircuitPlan}
+use Rattle.lid_emit_circuit.specs.Lists.{wires}
+use Rattle.lid_emit_names.specs.Named.{cells_driving}
+use Rattle.lid_emit_names.specs.Spelling.{name_of, IsFree}
+use Rattle.lid_emit_cells.specs.declared.all.All.{All}
+use Rattle.lid_emit_cells.specs.Shown.{design_ports}
+use Rattle.lid_emit_cells.specs.Matches.{IsAllOf}
+use Rattle.lid_emit.specs.Prefixes.{IsShortPrefix}
 use Rattle.lid_emit.specs.Steps.{AreCells}
 
 -- the cells of all wires of a plan
-abbrev cells_with : Plan → List (List ℕ) → List (List ℕ) → List ℕ → List Cell
-cells_with q inputs outputs prefix = flat_map (cells_at q (λ (wire : Wire). name_of (ports_of inputs outputs) prefix wire)) (wires q)
+abbrev cells_with : CircuitPlan → List (List ℕ) → List (List ℕ) → List ℕ → List Cell
+cells_with q inputs outputs prefix = flat_map (cells_driving q (λ (wire : Wire). name_of (design_ports inputs outputs) prefix wire)) (wires q)
 
-pub are_cells : (d : Design) (all : All) (cells : List Cell) (inputs outputs : List (List ℕ)) (prefix text : List ℕ) → inputs ≡ root_inputs d → outputs ≡ root_outputs d → text ≡ prefix → IsShort prefix → IsFree prefix (inputs ++ outputs) → ((q : Plan) → IsAllOf q all → cells ≡ cells_with q inputs outputs text) → AreCells d all cells
+pub are_cells : (d : Design) (all : All) (cells : List Cell) (inputs outputs : List (List ℕ)) (prefix text : List ℕ) → inputs ≡ root_inputs d → outputs ≡ root_outputs d → text ≡ prefix → IsShortPrefix prefix → IsFree prefix (inputs ++ outputs) → ((q : CircuitPlan) → IsAllOf q all → cells ≡ cells_with q inputs outputs text) → AreCells d all cells
 are_cells d all cells inputs outputs prefix text ins outs same short free each = record {
   prefix = prefix;
   short = short;

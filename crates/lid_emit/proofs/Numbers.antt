@@ -11,27 +11,27 @@ use Rattle.lid_design.specs.declared.Flat.{Flat}
 use Rattle.lid_design.specs.declared.FlatLatch.{FlatLatch}
 use Rattle.lid_design.specs.declared.FlatCover.{FlatCover}
 use Rattle.lid_design.specs.Elaboration.{columns}
-use Rattle.lid_wiring.specs.Judged.{IsJudged}
-use Rattle.lid_wiring.proofs.Limits.{few_columns}
-use Rattle.lid_elab.specs.Numbers.{start_of, columns_in}
-use Rattle.lid_elab.proofs.Numbering.{numbering}
-use Rattle.lid_elab.proofs.Outer.{get_of}
-use Rattle.lid_parts.proofs.Columns.{stands_few}
+use Rattle.lid_check_drivers.specs.Judged.{IsJudged}
+use Rattle.lid_check_drivers.proofs.Limits.{few_columns}
+use Rattle.lid_check_elab.specs.Numbers.{start_of, columns_in}
+use Rattle.lid_check_elab.proofs.Numbering.{numbering}
+use Rattle.lid_check_parts.proofs.Columns.{stands_few}
 use Rattle.lid_check.specs.Flats.{IsFlatOf}
 use Rattle.lid_system.specs.declared.System.{System}
 use Rattle.lid_system.specs.declared.Node.{Node}
 use Rattle.lid_system.specs.declared.Node.TheVariants.{Source, Shell, Sink}
 use Rattle.lid_stations.specs.declared.placement.Placement.{Placement}
-use Rattle.lid_circuit.specs.Wires.{entry, given, offer, block, steady, may, fire, level, grown, place, moved, now, kept, later, shown, valid, stop, drains, fills}
-use Rattle.lid_circuit.specs.Plans.{Plan, ends}
-use Rattle.lid_wires.specs.Known.{IsLatchNet, IsCoverNet}
-use Rattle.lid_wires.specs.Connected.{IsConnected}
-use Rattle.lid_wrapped.specs.Nets.{Nets}
-use Rattle.lid_wrapped.specs.Wrapping.{flat_in, no_flat, plan_of}
-use Rattle.lid_emitted.specs.Flats.{AreFlatsOf}
-use Rattle.lid_wirenames.specs.Spelling.{AreSmall}
-use Rattle.lid_cells.specs.declared.all.All.{All}
-use Rattle.lid_cells.specs.Matches.{station_of, IsSound, IsAllOf}
+use Rattle.lid_emit_circuit.specs.Wires.{entry, given, offer, block, steady, may, fire, level, grown, place, moved, now, kept, later, shown, valid, stop, drains, fills}
+use Rattle.lid_emit_circuit.specs.Plans.{CircuitPlan, ends}
+use Rattle.lid_emit_circuit.specs.Known.{IsLatchNet, IsCoverNet}
+use Rattle.lid_emit_circuit.specs.Connected.{IsConnected}
+use Rattle.lid_emit_system.specs.Nets.{NetWires}
+use Rattle.lid_emit_system.specs.Wrapping.{flat_in, no_flat, circuit_plan}
+use Rattle.lid_emit_laws.specs.Flats.{AreFlatsOf}
+use Rattle.lid_emit_names.specs.Spelling.{AreSmall}
+use Rattle.lid_emit_cells.specs.declared.all.All.{All}
+use Rattle.lid_emit_cells.specs.Matches.{station_of, AreAllSmall, IsAllOf}
+use Rattle.lid_base.proofs.Places.{item_at}
 
 -- the nets of a flat part are no more than there are columns
 flat_few : (d : Design) → IsJudged d → (pearl : ℕ) (f : Flat) → IsFlatOf d pearl f → f.nets ≤ 1048576
@@ -42,7 +42,7 @@ flat_few d judged pearl f flat =
     let few = few_columns d judged in
     omega (arith, within, whole, few)
 
-pub nets_few : (d : Design) (s : System) (p : Placement) (n : Nets) → IsJudged d → AreFlatsOf d s n → (v : ℕ) → ((plan_of s p n).flat v).nets ≤ 1048576
+pub nets_few : (d : Design) (s : System) (p : Placement) (n : NetWires) → IsJudged d → AreFlatsOf d s n → (v : ℕ) → ((circuit_plan s p n).flat v).nets ≤ 1048576
 nets_few d s p n judged flats v = by (slice_get s.nodes v) refl
   where
     by : (o : Option Node) → slice_get s.nodes v ≡ o → (option_map_or (flat_in n v) o no_flat).nets ≤ 1048576
@@ -51,7 +51,7 @@ nets_few d s p n judged flats v = by (slice_get s.nodes v) refl
     by (Some (Shell pearl ins)) here = let flat = flats v pearl ins here in flat_few d judged flat.0 (n.flat v) flat.2
     by (Some (Sink columns ins)) here = omega arith
 
-module _ (q : Plan) (con : IsConnected q) (few : (v : ℕ) → (q.flat v).nets ≤ 1048576) (all : All) (is : IsAllOf q all) (sound : IsSound all) (narrow : q.inputs ≤ 16384) where
+module _ (q : CircuitPlan) (con : IsConnected q) (few : (v : ℕ) → (q.flat v).nets ≤ 1048576) (all : All) (is : IsAllOf q all) (sound : AreAllSmall all) (narrow : q.inputs ≤ 16384) where
   record IsSmallStation (s : ℕ) : Type 0 where
     number : s < 2 ^ 32
     capacity : q.capacity s ≤ 16
@@ -59,7 +59,7 @@ module _ (q : Plan) (con : IsConnected q) (few : (v : ℕ) → (q.flat v).nets �
 
   station_small : (s : ℕ) → s < q.stations → IsSmallStation s
   station_small s below =
-      let at = get_of all.stations s (omega (arith, below, is.stations)) in
+      let at = item_at all.stations s (omega (arith, below, is.stations)) in
       let one = is.each_station s at.0 at.1 in
       let small = sound.stations s at.0 at.1 in
       record {
@@ -74,7 +74,7 @@ module _ (q : Plan) (con : IsConnected q) (few : (v : ℕ) → (q.flat v).nets �
 
   actor_small : (v : ℕ) → v < q.actors → IsSmallActor v
   actor_small v below =
-      let at = get_of all.actors v (omega (arith, below, is.actors)) in
+      let at = item_at all.actors v (omega (arith, below, is.actors)) in
       let one = is.each_actor v at.0 at.1 in
       let small = sound.actors v at.0 at.1 in
       let both = length-append (map drains (q.ins v)) (map fills (q.outs v)) in

@@ -3,7 +3,7 @@ use Rattle.std.proofs.Common.{◌≡◌, ◌⊎◌, ℕ, ◌<◌, Bool, true, fa
 use Rattle.std.specs.Prelude.{Option, Some, None, slice_get, bytes_eq, not}
 use Rattle.std.specs.List.{AllByRecursion, IsDistinct}
 use Rattle.std.specs.Option.{option_map_or}
-use Rattle.lid_base.specs.Lists.{Among}
+use Rattle.lid_base.specs.Lists.{Among, AreOnce}
 use Rattle.lid_base.proofs.Lists.{among_append, among_left, among_right, same_bytes, bytes_same}
 use Rattle.lid_design.specs.declared.Design.{Design}
 use Rattle.lid_design.specs.declared.Model.{Model}
@@ -12,32 +12,14 @@ use Rattle.lid_design.specs.WellFormed.{IsWellFormed}
 use Rattle.lid_design.proofs.Reached.{root_reached}
 use Rattle.lid_check.specs.Acceptance.{IsAccepted}
 use Rattle.lid_check.proofs.Sound.{judged_of}
-use Rattle.lid_wiring.specs.Judged.{IsJudged}
-use Rattle.lid_wiring.proofs.Names.{none_found, from_among}
-use Rattle.lid_parts.proofs.Beginning.{AreApart, apart_filter, inputs_apart, outputs_apart}
-use Rattle.lid_wires.specs.Lists.{AreOnce}
-use Rattle.lid_wires.proofs.Once.{once_append}
-use Rattle.lid_emission.specs.Ports.{offer_name, block_name, valid_name, stop_name, own_names, input_names, output_names, or_else, taken_name}
-use Rattle.lid_wirenames.specs.Spelling.{IsFree}
-use Rattle.lid_emitsize.specs.Prefixes.{IsShort}
-
-once_apart : (xs : List (List ℕ)) → AreApart xs → AreOnce xs
-once_apart [] apart = tt
-once_apart (x ∷ xs) apart = (apart.0, once_apart xs apart.1)
-
--- names of which none stands twice are distinct
-distinct_once : (xs : List (List ℕ)) → AreOnce xs → IsDistinct bytes_eq xs
-unfolding IsDistinct
-distinct_once [] once = tt
-distinct_once (x ∷ xs) once = (others xs once.0, distinct_once xs once.1)
-  where
-    other : (y : List ℕ) → (x ≡ y → ⊥) → (b : Bool) → bytes_eq x y ≡ b → bytes_eq x y ≡ false
-    other y differ true e = absurd (differ (same_bytes x y e))
-    other y differ false e = e
-
-    others : (ys : List (List ℕ)) → (Among x ys → ⊥) → AllByRecursion (λ y. bytes_eq x y ≡ false) ys
-    others [] none = tt
-    others (y ∷ ys) none = (other y (λ same. none (inl same)) (bytes_eq x y) refl, others ys (λ among. none (inr among)))
+use Rattle.lid_check_drivers.specs.Judged.{IsJudged}
+use Rattle.lid_check_drivers.proofs.Names.{none_found, from_among}
+use Rattle.lid_check_parts.proofs.Beginning.{inputs_apart, outputs_apart}
+use Rattle.lid_base.proofs.Once.{once_append, once_filter, once_distinct}
+use Rattle.lid_emit_meaning.specs.Ports.{offer_name, block_name, valid_name, stop_name, own_names, input_names, output_names, or_else, taken_name}
+use Rattle.lid_emit_names.specs.Spelling.{IsFree}
+use Rattle.lid_emit.specs.Prefixes.{IsShortPrefix}
+use Rattle.std.proofs.lemmas.Bool.{or_parts}
 
 -- names whose bytes differ
 differ : (x y : List ℕ) → bytes_eq x y ≡ false → x ≡ y → ⊥
@@ -55,10 +37,6 @@ neither : {A : Type 0} (a b : Option A) → or_else a b ≡ None → (a ≡ None
 neither None b none = (refl, none)
 neither (Some x) b none = absurd (let e : Some x ≡ None = none in cc)
 
-or_parts : (a b : Bool) → (a || b) ≡ false → (a ≡ false) × (b ≡ false)
-or_parts true b h = absurd (let e : true ≡ false = h in cc)
-or_parts false b h = (refl, h)
-
 module _ (d : Design) (formed : IsWellFormed d) (accepted : IsAccepted d) where
   abbrev judged : IsJudged d
   judged = judged_of d formed accepted.models
@@ -69,14 +47,14 @@ module _ (d : Design) (formed : IsWellFormed d) (accepted : IsAccepted d) where
     where
       by : (o : Option Model) → slice_get d.models d.root ≡ o → AreOnce (option_map_or (data_inputs d) o [])
       by None here = tt
-      by (Some m) here = once_apart (data_inputs d m) (apart_filter (λ net. not (is_clock d m net)) m.inputs (inputs_apart d (judged_of d formed accepted.models) d.root (root_reached d) m here))
+      by (Some m) here = once_filter (λ net. not (is_clock d m net)) m.inputs (inputs_apart d (judged_of d formed accepted.models) d.root (root_reached d) m here)
 
   outputs_once : AreOnce (root_outputs d)
   outputs_once = by (slice_get d.models d.root) refl
     where
       by : (o : Option Model) → slice_get d.models d.root ≡ o → AreOnce (option_map_or (λ m. m.outputs) o [])
       by None here = tt
-      by (Some m) here = once_apart m.outputs (outputs_apart d (judged_of d formed accepted.models) d.root (root_reached d) m here)
+      by (Some m) here = outputs_apart d (judged_of d formed accepted.models) d.root (root_reached d) m here
 
   module _ (free : taken_name d ≡ None) where
     searches : (find (λ name. is_among name own_names || is_among name (root_outputs d)) (root_inputs d) ≡ None) × (find (λ name. is_among name own_names) (root_outputs d) ≡ None)
@@ -130,10 +108,10 @@ module _ (d : Design) (formed : IsWellFormed d) (accepted : IsAccepted d) where
         ins_outs
 
     pub ports_distinct : IsDistinct bytes_eq (input_names d ++ output_names d)
-    ports_distinct = distinct_once (input_names d ++ output_names d) ports_once
+    ports_distinct = once_distinct (input_names d ++ output_names d) ports_once
 
 -- a name that begins with another byte
-other_letter : (prefix rest name : List ℕ) → IsShort prefix → name ≡ prefix ++ rest → (b : ℕ) (bs : List ℕ) → name ≡ b ∷ bs → 98 < b → ⊥
+other_letter : (prefix rest name : List ℕ) → IsShortPrefix prefix → name ≡ prefix ++ rest → (b : ℕ) (bs : List ℕ) → name ≡ b ∷ bs → 98 < b → ⊥
 other_letter [] rest name short is b bs begins high = omega (arith, short.some)
 other_letter (p ∷ ps) rest name short is b bs begins high = by short.letters.0
   where
@@ -144,7 +122,7 @@ other_letter (p ∷ ps) rest name short is b bs begins high = by short.letters.0
     by (inl e) = omega (arith, head, e, high)
     by (inr e) = omega (arith, head, e, high)
 
-module _ (d : Design) (prefix : List ℕ) (short : IsShort prefix) (free : IsFree prefix (root_inputs d ++ root_outputs d)) where
+module _ (d : Design) (prefix : List ℕ) (short : IsShortPrefix prefix) (free : IsFree prefix (root_inputs d ++ root_outputs d)) where
   own_free : (name rest : List ℕ) → Among name own_names → name ≡ prefix ++ rest → ⊥
   own_free name rest (inl own) is = other_letter prefix rest offer_name short (sym own ∙ is) 108 _ refl (omega arith)
   own_free name rest (inr (inl own)) is = other_letter prefix rest block_name short (sym own ∙ is) 108 _ refl (omega arith)

@@ -8,18 +8,18 @@ use Rattle.lid_cover.specs.declared.Cube.{Cube}
 use Rattle.lid_design.specs.declared.Cell.{Cell}
 use Rattle.lid_design.specs.declared.Init.TheVariants.{Zero, One}
 use Rattle.lid_design.specs.Network.{Driver, from_input, from_latch, from_cover, from_connection}
-use Rattle.lid_pearl.proofs.Reordering.{all_from_each}
-use Rattle.lid_lines.specs.Spelled.{IsSpelled}
+use Rattle.lid_base_lines.specs.Spelled.{IsSpelled}
 use Rattle.lid_blifout.specs.Writable.{IsWritableCell}
-use Rattle.lid_circuit.specs.Wires.{Wire}
-use Rattle.lid_circuit.specs.Plans.{Plan}
-use Rattle.lid_circuit.specs.Network.{emitted}
-use Rattle.lid_wires.specs.Known.{IsKnown}
-use Rattle.lid_wires.specs.Connected.{IsConnected, IsFormed}
-use Rattle.lid_emission.specs.Emitted.{IsBegun}
-use Rattle.lid_named.specs.Named.{with_rows, init_of, cell_of}
-use Rattle.lid_named.proofs.Written.{written_formed, written_inputs}
-use Rattle.lid_named.proofs.Cells.{cells, listed_known, listed_cell, from_where, same_source, reads_known}
+use Rattle.lid_emit_circuit.specs.Wires.{Wire}
+use Rattle.lid_emit_circuit.specs.Plans.{CircuitPlan}
+use Rattle.lid_emit_circuit.specs.Network.{emitted}
+use Rattle.lid_emit_circuit.specs.Known.{IsKnown}
+use Rattle.lid_emit_circuit.specs.Connected.{IsConnected, IsFormed}
+use Rattle.lid_emit_meaning.specs.Emitted.{IsPlainCell}
+use Rattle.lid_emit_names.specs.Named.{with_rows, init_of, cell_of}
+use Rattle.lid_emit_names.proofs.Written.{written_formed, written_inputs}
+use Rattle.lid_emit_names.proofs.Cells.{cells, listed_known, listed_cell, from_where, same_source, reads_known}
+use Rattle.lid_base.proofs.Alls.{all_from_among}
 
 -- a cover that is written is on where it has no rows
 on_without_rows : (inputs : ℕ) (on : Bool) (cubes : List Cube) → (with_rows inputs on cubes).cubes ≡ [] → (with_rows inputs on cubes).on ≡ true
@@ -32,7 +32,7 @@ begun : (bit : Bool) → (init_of bit ≡ Zero) ⊎ (init_of bit ≡ One)
 begun true = inr refl
 begun false = inl refl
 
-module _ (q : Plan) (con : IsConnected q) (name : Wire → List ℕ) (words : (w : Wire) → IsKnown q w → IsSpelled 1024 (name w)) where
+module _ (q : CircuitPlan) (con : IsConnected q) (name : Wire → List ℕ) (words : (w : Wire) → IsKnown q w → IsSpelled 1024 (name w)) where
   read_words : (reads : List Wire) → ((r : Wire) → Among r reads → IsKnown q r) → AllByRecursion (IsSpelled 1024) (map name reads)
   read_words [] known = tt
   read_words (r ∷ rs) known = (words r (known r (inl refl)), read_words rs (λ x i. known x (inr i)))
@@ -76,16 +76,16 @@ module _ (q : Plan) (con : IsConnected q) (name : Wire → List ℕ) (words : (w
           constant = on_without_rows cover.inputs cover.on cover.cubes;
         }
 
-    cell_begun : (s : Driver Wire) → Among cell (cell_of name wire s) → IsBegun cell
+    cell_begun : (s : Driver Wire) → Among cell (cell_of name wire s) → IsPlainCell cell
     cell_begun (from_input j) none = absurd none
     cell_begun (from_connection c) none = absurd none
     cell_begun (from_latch first input) (inr none) = absurd none
     cell_begun (from_cover cover reads) (inr none) = absurd none
-    cell_begun (from_latch first input) (inl is) = subst IsBegun (sym is) (refl, refl, begun first)
-    cell_begun (from_cover cover reads) (inl is) = subst IsBegun (sym is) tt
+    cell_begun (from_latch first input) (inl is) = subst IsPlainCell (sym is) (refl, refl, begun first)
+    cell_begun (from_cover cover reads) (inl is) = subst IsPlainCell (sym is) tt
 
-  pub cells_begun : AllByRecursion IsBegun (cells q con name)
-  cells_begun = all_from_each IsBegun (cells q con name) (λ cell among. cell_begun cell among (from_where q con name cell among).source (from_where q con name cell among).is)
+  pub cells_begun : AllByRecursion IsPlainCell (cells q con name)
+  cells_begun = all_from_among IsPlainCell (cells q con name) (λ cell among. cell_begun cell among (from_where q con name cell among).source (from_where q con name cell among).is)
 
   pub cells_written : AllByRecursion IsWritableCell (cells q con name)
-  cells_written = all_from_each IsWritableCell (cells q con name) (λ cell among. cell_written cell among (from_where q con name cell among).source (from_where q con name cell among).drives (from_where q con name cell among).is)
+  cells_written = all_from_among IsWritableCell (cells q con name) (λ cell among. cell_written cell among (from_where q con name cell among).source (from_where q con name cell among).drives (from_where q con name cell among).is)

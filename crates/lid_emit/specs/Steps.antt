@@ -7,43 +7,43 @@ use Rattle.lid_design.specs.declared.Cell.{Cell}
 use Rattle.lid_design.specs.Columns.{root_inputs, root_outputs}
 use Rattle.lid_system.specs.declared.System.{System}
 use Rattle.lid_stations.specs.declared.placement.Placement.{Placement}
-use Rattle.lid_circuit.specs.Wires.{Wire}
-use Rattle.lid_circuit.specs.Plans.{Plan}
-use Rattle.lid_wires.specs.Lists.{wires}
-use Rattle.lid_wrapped.specs.Nets.{Nets, AreNets}
-use Rattle.lid_wrapped.specs.Wrapping.{plan_of}
-use Rattle.lid_named.specs.Named.{cells_at}
-use Rattle.lid_emission.specs.Ports.{input_names, output_names}
-use Rattle.lid_emitted.specs.Flats.{AreFlatsOf}
-use Rattle.lid_bounds.specs.Passing.{SkipBuffers}
-use Rattle.lid_wirenames.specs.Spelling.{name_of, IsFree}
-use Rattle.lid_cells.specs.declared.all.All.{All}
-use Rattle.lid_cells.specs.Shown.{ports_of}
-use Rattle.lid_cells.specs.Matches.{IsSound, IsAllOf}
-use Rattle.lid_emitsize.specs.Prefixes.{IsShort}
+use Rattle.lid_emit_circuit.specs.Wires.{Wire}
+use Rattle.lid_emit_circuit.specs.Plans.{CircuitPlan}
+use Rattle.lid_emit_circuit.specs.Lists.{wires}
+use Rattle.lid_emit_system.specs.Nets.{NetWires, AreNetWires}
+use Rattle.lid_emit_system.specs.Wrapping.{circuit_plan}
+use Rattle.lid_emit_names.specs.Named.{cells_driving}
+use Rattle.lid_emit_meaning.specs.Ports.{input_names, output_names}
+use Rattle.lid_emit_laws.specs.Flats.{AreFlatsOf}
+use Rattle.lid_emit_laws.specs.Passing.{SkipBuffers}
+use Rattle.lid_emit_names.specs.Spelling.{name_of, IsFree}
+use Rattle.lid_emit_cells.specs.declared.all.All.{All}
+use Rattle.lid_emit_cells.specs.Shown.{design_ports}
+use Rattle.lid_emit_cells.specs.Matches.{AreAllSmall, IsAllOf}
+use Rattle.lid_emit.specs.Prefixes.{IsShortPrefix}
 
 abbrev pub root_name : Design → List ℕ
 root_name d = option_map_or (λ m. m.name) (slice_get d.models d.root) []
 
 -- names for wires: ports have those of the root's ports, and the others a prefix
 abbrev pub name_with : Design → List ℕ → Wire → List ℕ
-name_with d prefix wire = name_of (ports_of (root_inputs d) (root_outputs d)) prefix wire
+name_with d prefix wire = name_of (design_ports (root_inputs d) (root_outputs d)) prefix wire
 
 -- stations, actors and shells are those of the plan for some wires of nets
-pub record IsLaidOut (d : Design) (s : System) (p : Placement) (all : All) : Type 0 where
-  pub nets : Nets
-  pub are : AreNets s p nets
+pub record IsCircuitLaidOut (d : Design) (s : System) (p : Placement) (all : All) : Type 0 where
+  pub nets : NetWires
+  pub are : AreNetWires s p nets
   pub flats : AreFlatsOf d s nets
   pub skipped : SkipBuffers s nets
-  pub sound : IsSound all
-  pub plan : IsAllOf (plan_of s p nets) all
+  pub sound : AreAllSmall all
+  pub plan : IsAllOf (circuit_plan s p nets) all
 
 -- cells for the wires of each plan that is laid out so, with a prefix with which no name of a port begins
 pub record AreCells (d : Design) (all : All) (cells : List Cell) : Type 0 where
   pub prefix : List ℕ
-  pub short : IsShort prefix
+  pub short : IsShortPrefix prefix
   pub free : IsFree prefix (root_inputs d ++ root_outputs d)
-  pub each : (q : Plan) → IsAllOf q all → cells ≡ flat_map (cells_at q (name_with d prefix)) (wires q)
+  pub each : (q : CircuitPlan) → IsAllOf q all → cells ≡ flat_map (cells_driving q (name_with d prefix)) (wires q)
 
 abbrev pub model_with : Design → List Cell → Model
 model_with d cells = record { name = root_name d; inputs = input_names d; outputs = output_names d; clocks = []; cells = cells; insts = [] }

@@ -2,12 +2,12 @@
 
 ghost use Rattle.std.specs.Prelude.{◌≡◌, ◌++◌, ◌∷◌, [], IfOk};
 ghost use Rattle.lid_emit.specs.Steps.{root_name, model_with, design_with};
-ghost use Rattle.lid_emission.specs.Ports.{input_names, output_names};
+ghost use Rattle.lid_emit_meaning.specs.Ports.{input_names, output_names};
 
 use lid_base::{Items, Name, copy_name, push_copies};
 use lid_check::Checked;
 use lid_design::{Cell, Design, Model};
-use lid_emission::{BLOCK_NAME, OFFER_NAME, STOP_NAME, VALID_NAME};
+use lid_emit_meaning::{BLOCK_NAME, OFFER_NAME, STOP_NAME, VALID_NAME};
 use std::alloc::{AllocError, Global};
 
 /// A model of some cells, with the name of the root, its ports, and those of its environment.

@@ -1,19 +1,19 @@
 //! The cells of what was laid out, under names.
 
 ghost use Rattle.std.specs.Prelude.{◌+◌, ◌<◌, length, IfOk};
-ghost use Rattle.lid_cells.specs.Matches.{IsSound};
+ghost use Rattle.lid_emit_cells.specs.Matches.{AreAllSmall};
 ghost use Rattle.lid_design.specs.Columns.{root_inputs, root_outputs};
-ghost use Rattle.lid_emit.specs.Steps.{AreCells, IsLaidOut};
-ghost use Rattle.lid_agree.specs.Agreement.{IsSystemOf};
+ghost use Rattle.lid_emit.specs.Steps.{AreCells, IsCircuitLaidOut};
+ghost use Rattle.lid_net_law.specs.Agreement.{IsSystemOf};
 ghost use Rattle.lid_stations.specs.Placements.{Fits};
 ghost use Rattle.lid_system.specs.Systems.{IsWellFormed};
 
-use lid_cells::{All, Naming, make_cells};
+use crate::prefix::free_prefix;
 use lid_check::Checked;
 use lid_design::Cell;
-use lid_emitsize::free_prefix;
-use lid_layout::lay_out;
-use lid_shellwires::make_shells;
+use lid_emit_cells::{All, Naming, make_cells};
+use lid_emit_layout::lay_out;
+use lid_emit_shells::make_shells;
 use lid_stations::Placement;
 use lid_system::System;
 use std::alloc::{AllocError, Global};
@@ -28,7 +28,7 @@ pub(crate) fn lay_out_all(
     requires of { IsSystemOf checked.now system.now }
     requires system { IsWellFormed system.now }
     requires fits { Fits system.now placement.now }
-    ensures { IfOk result (IsLaidOut checked.now system.now placement.now) }
+    ensures { IfOk result (IsCircuitLaidOut checked.now system.now placement.now) }
 {
     let shells = make_shells(alloc, checked, system, placement)?;
     lay_out(alloc, system, placement, shells)
@@ -42,7 +42,7 @@ pub(crate) fn name_cells(
     all: &All,
 ) -> Result<Vec<Cell>, AllocError>
     requires few { length (root_inputs checked.now) + length (root_outputs checked.now) < 32768 }
-    requires sound { IsSound all.now }
+    requires sound { AreAllSmall all.now }
     ensures { IfOk result (λ cells. AreCells checked.now all.now cells.items) }
 {
     let inputs = checked.inputs();

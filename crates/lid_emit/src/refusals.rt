@@ -1,15 +1,16 @@
 //! What is refused before a design is emitted.
 
 ghost use Rattle.std.specs.Prelude.{◌≡◌, ◌⊎◌, None, Some, OnOk, IfErr};
-ghost use Rattle.lid_emission.specs.declared.fault.EmitFault.TheVariants.{Memory};
-ghost use Rattle.lid_emission.specs.Emitted.{fault_of, emit_fault};
-ghost use Rattle.lid_emission.specs.Sizes.{size};
+ghost use Rattle.lid_emit_meaning.specs.declared.fault.EmitFault.TheVariants.{Memory};
+ghost use Rattle.lid_emit_meaning.specs.Emitted.{fault_of, emit_fault};
+ghost use Rattle.lid_emit_meaning.specs.Sizes.{size};
 ghost use Rattle.lid_stations.specs.Placements.{links_of, Fits};
 ghost use Rattle.lid_system.specs.Systems.{IsWellFormed};
 
+use crate::size::emitted_size;
+use crate::taken::find_taken;
 use lid_check::Checked;
-use lid_emission::EmitFault;
-use lid_emitsize::{emitted_size, find_taken};
+use lid_emit_meaning::EmitFault;
 use lid_stations::Placement;
 use lid_system::System;
 use std::alloc::Global;

@@ -1,21 +1,22 @@
 //! The emitted design.
 
 ghost use Rattle.std.specs.Prelude.{◌≡◌, ◌⊎◌, ◌≤◌, Some, None, IfOk, IfErr};
-ghost use Rattle.lid_emission.specs.declared.fault.EmitFault.TheVariants.{Memory};
-ghost use Rattle.lid_emission.specs.Emitted.{CanBeEmitted, emit_fault, IsEmitted};
-ghost use Rattle.lid_emission.specs.Sizes.{size};
+ghost use Rattle.lid_emit_meaning.specs.declared.fault.EmitFault.TheVariants.{Memory};
+ghost use Rattle.lid_emit_meaning.specs.Emitted.{CanBeEmitted, emit_fault, IsEmitted};
+ghost use Rattle.lid_emit_meaning.specs.Sizes.{size};
 ghost use Rattle.lid_stations.specs.Placements.{links_of};
-ghost use Rattle.lid_emission.specs.Ports.{taken_name};
+ghost use Rattle.lid_emit_meaning.specs.Ports.{taken_name};
 
 use crate::model::{design_of, make_model};
 use crate::naming::{lay_out_all, name_cells};
 use crate::refusals::refuse;
-use lid_bounds::{wrapped_designs_are_small, wrapped_designs_have_short_texts};
 use lid_check::Checked;
 use lid_design::Design;
-use lid_emission::EmitFault;
-use lid_emitted::emitted_designs_run;
-use lid_named::named_designs_are_accepted;
+use lid_emit_laws::{
+    emitted_designs_run, wrapped_designs_are_small, wrapped_designs_have_short_texts,
+};
+use lid_emit_meaning::EmitFault;
+use lid_emit_names::named_designs_are_accepted;
 use lid_stations::Placement;
 use lid_system::System;
 use std::alloc::{AllocError, Global};

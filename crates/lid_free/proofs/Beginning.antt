@@ -5,10 +5,9 @@ use Rattle.std.specs.List.{All, AllByRecursion}
 use Rattle.std.proofs.lemmas.Bool.{cases_eq}
 use Rattle.std.proofs.lemmas.List.{length-replicate, get_or_default}
 use Rattle.std.proofs.lemmas.Option.{slice_get_within}
-use Rattle.lid_design.specs.Network.{from_each}
+use Rattle.lid_base.specs.Each.{from_each}
 use Rattle.lid_system.specs.declared.System.{System}
 use Rattle.lid_system.specs.Systems.{IsWellFormed}
-use Rattle.lid_system.proofs.Shelling.{each_length, each_at}
 use Rattle.lid_station.specs.Boards.{fill, drain}
 use Rattle.lid_station.specs.declared.pair.Pair.{Pair}
 use Rattle.lid_station.specs.Starts.{start_count as begin_count, start_places, AreStarts, Begin}
@@ -16,21 +15,22 @@ use Rattle.lid_stations.specs.declared.placement.Placement.{Placement}
 use Rattle.lid_stations.specs.Placements.{Fits}
 use Rattle.lid_stations.specs.Stations.{spot_at, start_count}
 use Rattle.lid_stations.proofs.Spots.{starts_small}
-use Rattle.lid_board.specs.Owners.{IsOf, ends_of, plan_of}
+use Rattle.lid_board.specs.Owners.{IsOf, ends_of, start_ends}
 use Rattle.lid_board.specs.Relation.{stream_of}
-use Rattle.lid_board.specs.Standing.{StandsFor}
-use Rattle.lid_board.specs.Starts.{Begins, start_fill, start_drain}
+use Rattle.lid_board.specs.Standing.{AreStreamsOf}
+use Rattle.lid_board.specs.Starts.{AreStreamsFor, start_fill, start_drain}
 use Rattle.lid_board.specs.Views.{Ends, at}
 use Rattle.lid_board.specs.declared.board.Board.{Board}
 use Rattle.lid_board.specs.declared.hand.Hand.{Hand}
-use Rattle.lid_machine.specs.Plans.{stations_of, start_of, room_of, stream}
-use Rattle.lid_machine.specs.Setups.{Setup, IsSetup, plan}
-use Rattle.lid_actors.specs.Setups.{IsSetupOf}
-use Rattle.lid_actors.specs.Firsts.{first_token, first_tokens}
-use Rattle.lid_actors.proofs.Starting.{places_many, first_at, firsts_many, counted, begins, rooms}
+use Rattle.lid_walk_machine.specs.Plans.{stations_of, start_of, room_of, stream}
+use Rattle.lid_walk_machine.specs.Setups.{Setup, IsSetup, plan}
+use Rattle.lid_walk.specs.Setups.{IsSetupOf}
+use Rattle.lid_walk.specs.Firsts.{first_token, first_tokens}
+use Rattle.lid_walk.proofs.Opening.{places_many, first_at, firsts_many, counted, begins, rooms}
 use Rattle.lid_free.specs.Courses.{streams_of, are_streams}
-use Rattle.lid_free.specs.Settings.{IsStart, IsStarted, IsPlain, AreBoards}
+use Rattle.lid_free.specs.Settings.{IsEndStart, IsStarted, IsPlain, AreBoards}
 use Rattle.lid_free.specs.declared.setting.Boards.{Boards}
+use Rattle.lid_base.proofs.Each.{each_length, each_at}
 
 -- the streams of a course are those of each setup
 pub streams_are : (m : Setup) (s : System) (p : Placement) (rows : List (List Bool)) → IsSetupOf m s p rows → (fits : Fits s p) (formed : ∥ IsWellFormed s ∥₁)
@@ -48,11 +48,11 @@ module _ (m : Setup) (rules : IsSetup m) where
       each_at (stream (plan m)) 0 (stations_of (plan m)) station d there ∙ ap (stream (plan m)) z
 
   -- they begin with the start tokens
-  pub begins_so : (firsts : List (Option ℕ)) (streams : List (List ℕ)) → firsts ≡ first_tokens (plan m) → streams ≡ from_each (stream (plan m)) 0 (stations_of (plan m)) → Begins firsts streams
+  pub begins_so : (firsts : List (Option ℕ)) (streams : List (List ℕ)) → firsts ≡ first_tokens (plan m) → streams ≡ from_each (stream (plan m)) 0 (stations_of (plan m)) → AreStreamsFor firsts streams
   begins_so firsts streams are is =
-      subst (λ (fs : List (Option ℕ)). Begins fs streams) (sym are) (subst (Begins (first_tokens (plan m))) (sym is) own)
+      subst (λ (fs : List (Option ℕ)). AreStreamsFor fs streams) (sym are) (subst (AreStreamsFor (first_tokens (plan m))) (sym is) own)
     where
-      own : Begins (first_tokens (plan m)) (from_each (stream (plan m)) 0 (stations_of (plan m)))
+      own : AreStreamsFor (first_tokens (plan m)) (from_each (stream (plan m)) 0 (stations_of (plan m)))
       own =
           let begin = begins m rules in
           let many = firsts_many m in
@@ -88,10 +88,10 @@ module _ (m : Setup) (rules : IsSetup m) where
   -- a board that was started for the streams
   pub started_so : (firsts : List (Option ℕ)) (caps : List ℕ) (streams : List (List ℕ)) (board : Board) (hand : Hand)
       → firsts ≡ first_tokens (plan m) → caps ≡ m.placement.caps → streams ≡ from_each (stream (plan m)) 0 (stations_of (plan m))
-      → length (plan_of board) ≡ 2 * length firsts → ends_of hand ≡ plan_of board
+      → length (start_ends board) ≡ 2 * length firsts → ends_of hand ≡ start_ends board
       → ((station : ℕ) → station < length firsts → at (ends_of hand) (fill station) ≡ Some (start_fill firsts caps streams station))
       → ((station : ℕ) → station < length firsts → at (ends_of hand) (drain station) ≡ Some (start_drain firsts caps streams station))
-      → StandsFor (plan_of board) (λ station. get_or streams station [])
+      → AreStreamsOf (start_ends board) (λ station. get_or streams station [])
       → IsStarted m board
   started_so firsts caps streams board hand are same is many all fills drains stands =
       let long : length firsts ≡ stations_of (plan m) = ap length are ∙ firsts_many m in

@@ -6,59 +6,59 @@ use Rattle.std.proofs.lemmas.List.{get_or_past}
 use Rattle.std.proofs.lemmas.Option.{same_Some, slice_get_within}
 use Rattle.lid_system.specs.declared.System.{System}
 use Rattle.lid_stations.specs.declared.placement.Placement.{Placement}
-use Rattle.lid_board.specs.Owners.{IsOf, IsOwned, plan_of}
+use Rattle.lid_board.specs.Owners.{IsOf, IsOwned, start_ends}
 use Rattle.lid_board.specs.Parting.{unseen}
 use Rattle.lid_board.specs.Views.{at, held_of}
 use Rattle.lid_board.specs.declared.board.Board.{Board}
-use Rattle.lid_board.specs.declared.view.Held.{Held}
-use Rattle.lid_machine.specs.Plans.{stations_of}
-use Rattle.lid_machine.specs.Setups.{Setup, plan}
-use Rattle.lid_machine.specs.Machine.{begun}
+use Rattle.lid_board.specs.declared.view.EndFacts.{EndFacts}
+use Rattle.lid_walk_machine.specs.Plans.{stations_of}
+use Rattle.lid_walk_machine.specs.Setups.{Setup, plan}
+use Rattle.lid_walk_machine.specs.Machine.{begun}
 use Rattle.lid_shell.specs.declared.actor.Actor.{Actor}
-use Rattle.lid_actors.specs.Setups.{IsSetupOf}
-use Rattle.lid_actors.specs.Actors.{AreActors}
-use Rattle.lid_walk.proofs.Elements.{there_is}
-use Rattle.lid_work.specs.declared.worker.Worker.{Worker}
-use Rattle.lid_crew.specs.Shares.{share}
-use Rattle.lid_crew.specs.Crews.{HasShare, AreUnseen, AreHired, AreDealt}
+use Rattle.lid_walk.specs.Setups.{IsSetupOf}
+use Rattle.lid_walk.specs.Actors.{AreActors}
+use Rattle.lid_free_crew.specs.declared.worker.Worker.{Worker}
+use Rattle.lid_free_crew.specs.Shares.{share}
+use Rattle.lid_free_crew.specs.Crews.{HasShare, AreUnseen, AreHired, AreDealt}
 use Rattle.lid_free.specs.Settings.{IsStarted, AreOwners, IsCrew}
+use Rattle.lid_base.proofs.Places.{item_at}
 
 module _ (m : Setup) (board : Board) (started : IsStarted m board) where
   -- what is known at each end
-  pub at_start : (end : ℕ) → end < length (plan_of board) → (h : Held) × (at (plan_of board) end ≡ Some h) × (h.mark ≡ false)
+  pub at_start : (end : ℕ) → end < length (start_ends board) → (h : EndFacts) × (at (start_ends board) end ≡ Some h) × (h.mark ≡ false)
   at_start end within =
       let many = started.many in
       elim (cases_eq (end % 2) 0) [
         | inl even ↦
             (let e : 2 * (end / 2) ≡ end = omega (arith, even) in
             let (h, at_h, start) = started.fills (end / 2) (omega (arith, within, many)) in
-            (h, ap (at (plan_of board)) (sym e) ∙ at_h, start.mark))
+            (h, ap (at (start_ends board)) (sym e) ∙ at_h, start.mark))
         | inr odd ↦
             (let e : 2 * (end / 2) + 1 ≡ end = omega (arith, odd) in
             let (h, at_h, start) = started.drains (end / 2) (omega (arith, within, many)) in
-            (h, ap (at (plan_of board)) (sym e) ∙ at_h, start.mark))
+            (h, ap (at (start_ends board)) (sym e) ∙ at_h, start.mark))
       ]
 
-  pub all_owned : (end : ℕ) → end < length (plan_of board) → IsOwned (plan_of board) end
-  all_owned end within = let (h, at_h, none) = at_start end within in at_h ∙ ap (λ (o : Option Held). Some (held_of o)) (sym at_h)
+  pub all_owned : (end : ℕ) → end < length (start_ends board) → IsOwned (start_ends board) end
+  all_owned end within = let (h, at_h, none) = at_start end within in at_h ∙ ap (λ (o : Option EndFacts). Some (held_of o)) (sym at_h)
 
-  same_unseen : (h : Held) → h.mark ≡ false → unseen h ≡ h
-  same_unseen h none = ap (λ (b : Bool). let x : Held = record h { mark = b } in x) (sym none)
+  same_unseen : (h : EndFacts) → h.mark ≡ false → unseen h ≡ h
+  same_unseen h none = ap (λ (b : Bool). let x : EndFacts = record h { mark = b } in x) (sym none)
 
-  pub none_seen : AreUnseen (plan_of board)
+  pub none_seen : AreUnseen (start_ends board)
   none_seen end h at_h =
-      elim (cases_lt end (length (plan_of board))) [
+      elim (cases_lt end (length (start_ends board))) [
         | inl within ↦
             (let (x, at_x, none) = at_start end within in
             let same : x ≡ h = same_Some x h (sym at_x ∙ at_h) in
-            same_unseen h (ap (λ (y : Held). y.mark) (sym same) ∙ none))
-        | inr high ↦ absurd (let none : Some h ≡ None = sym at_h ∙ get_or_past (plan_of board) end None high in cc)
+            same_unseen h (ap (λ (y : EndFacts). y.mark) (sym same) ∙ none))
+        | inr high ↦ absurd (let none : Some h ≡ None = sym at_h ∙ get_or_past (start_ends board) end None high in cc)
       ]
 
 -- a crew that was hired and dealt to
 pub crew_so : (m : Setup) (s : System) (p : Placement) (rows : List (List Bool)) (board : Board) (workers : ℕ) (owners : List ℕ) (actors : List Actor) (hired crew : List Worker)
     → IsSetupOf m s p rows → 0 < workers → AreOwners s p (2 * length p.caps) owners → AreActors m begun actors → IsStarted m board
-    → AreHired board workers owners (plan_of board) workers hired → AreDealt actors hired crew
+    → AreHired board workers owners (start_ends board) workers hired → AreDealt actors hired crew
     → IsCrew m board workers owners actors crew
 crew_so m s p rows board workers owners actors hired crew of some own are started hire dealt = record {
   rules = of.rules;
@@ -73,13 +73,13 @@ crew_so m s p rows board workers owners actors hired crew of some own are starte
   started = started;
   each = λ i w at_w.
       let within = slice_get_within crew i w at_w in
-      let (h, at_h) = there_is hired i (omega (arith, within, dealt.many)) in
+      let (h, at_h) = item_at hired i (omega (arith, within, dealt.many)) in
       let was = hire.each i h at_h in
       let (same, mine) = dealt.each i h w at_h at_w in
       record {
         number = same.number ∙ was.number;
         of = subst (λ x. IsOf x board) (sym same.hand) was.of;
-        hand = subst (λ x. HasShare workers owners (plan_of board) i x) (sym same.hand) was.hand;
+        hand = subst (λ x. HasShare workers owners (start_ends board) i x) (sym same.hand) was.hand;
         none = same.tally ∙ was.none;
         actors_are = mine ∙ ap (λ (n : ℕ). share n i actors) hire.many_are;
       };

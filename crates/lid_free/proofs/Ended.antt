@@ -7,25 +7,24 @@ use Rattle.std.proofs.lemmas.Bool.{cases_lt}
 use Rattle.std.proofs.lemmas.Option.{same_Some, slice_get-get_or}
 use Rattle.lid_base.specs.declared.runs.Tally.{Tally}
 use Rattle.lid_station.specs.declared.pair.Pair.{Pair}
-use Rattle.lid_runs.specs.Runs.{place_in}
+use Rattle.lid_shell_laws.specs.Runs.{place_in}
 use Rattle.lid_stations.proofs.Spots.{stands_between}
-use Rattle.lid_machine.specs.Plans.{actors_of, stations_of, sink, ins_of, outs_of, drainer_of, filler_of, cap, start_of}
-use Rattle.lid_machine.specs.Setups.{Setup, IsSetup, plan, output_rows}
-use Rattle.lid_machine.specs.Machine.{Progress, State, begun, takes_from, puts_from, taken_by, in_count, out_count}
-use Rattle.lid_machine.specs.Laws.{sweeps}
-use Rattle.lid_machine.proofs.Sweeps.{many, settles}
-use Rattle.lid_machine.proofs.Sound.{sound_begun}
+use Rattle.lid_walk_machine.specs.Plans.{actors_of, stations_of, sink, ins_of, outs_of, drainer_of, filler_of, cap, start_of}
+use Rattle.lid_walk_machine.specs.Setups.{Setup, IsSetup, plan, output_rows}
+use Rattle.lid_walk_machine.specs.Machine.{Progress, State, begun, takes_from, puts_from, taken_by, in_count, out_count}
+use Rattle.lid_walk_machine.specs.Laws.{sweeps}
+use Rattle.lid_walk_machine.proofs.Sweeps.{many, settles}
+use Rattle.lid_walk_machine.proofs.Sound.{sound_begun}
 use Rattle.lid_shell.specs.declared.actor.Actor.{Actor}
-use Rattle.lid_shell.specs.Parts.{AreColumns}
-use Rattle.lid_machine.proofs.Counts.{early}
+use Rattle.lid_shell.specs.Parts.{AreColumnsAtSink}
+use Rattle.lid_walk_machine.proofs.Counts.{early}
 use Rattle.lid_walk.proofs.Turning.{as_far}
 use Rattle.lid_walk.specs.declared.walk.Walk.{Walk}
-use Rattle.lid_walk.proofs.Elements.{there_is}
 use Rattle.lid_walk.proofs.Numbers.{sink_there}
 use Rattle.lid_walk.proofs.Sweeping.{count, count_more}
-use Rattle.lid_work.specs.Posts.{no_turns}
-use Rattle.lid_work.specs.Tallies.{AddsUp, sum_below}
-use Rattle.lid_crew.specs.Shares.{numbers_of}
+use Rattle.lid_free_crew.specs.Posts.{no_turns}
+use Rattle.lid_free_crew.specs.Tallies.{AddsUp, sum_below}
+use Rattle.lid_free_crew.specs.Shares.{numbers_of}
 use Rattle.lid_free.specs.FreeRuns.{IsShareTally, FitStations, AreWithinRounds, FirstTurnsFire, AreSweeps, Finishes, IsNothing, IsFreeEnd, rounds_made, state_at}
 use Rattle.lid_free.specs.Gathering.{fired_of, AreGathered}
 use Rattle.lid_free.specs.Endings.{IsEnding}
@@ -35,6 +34,8 @@ use Rattle.lid_free.specs.declared.run.FreeEnd.{FreeEnd}
 use Rattle.lid_free.proofs.Resting.{counted_at}
 use Rattle.lid_free.proofs.Settling.{count_add, list_count}
 use Rattle.lid_free.proofs.Shares.{whole_sum}
+use Rattle.std.proofs.lemmas.List.{length-map}
+use Rattle.lid_base.proofs.Places.{item_at}
 
 count_below : (f : ℕ → ℕ) (n : ℕ) → count f 0 n ≡ sum_below f n
 count_below f zero = refl
@@ -44,10 +45,6 @@ taken_read : (pairs : List Pair) (s : ℕ) (p : Pair) → slice_get pairs s ≡ 
 taken_read [] s p h = absurd (cc)
 taken_read (x ∷ pairs) zero p h = ap (λ (y : Pair). y.taken) (same_Some x p h)
 taken_read (x ∷ pairs) (suc s) p h = taken_read pairs s p h
-
-map_length : {A B : Type 0} (f : A → B) (xs : List A) → length (map f xs) ≡ length xs
-map_length f [] = refl
-map_length f (x ∷ xs) = let e = map_length f xs in omega (arith, e)
 
 module _ (m : Setup) (workers made : ℕ) (pairs : List Pair) (actors : List Actor) (tallies : List Tally) (g : AreGathered m workers made pairs actors tallies) where
   abbrev fired : List ℕ
@@ -76,7 +73,7 @@ module _ (m : Setup) (workers made : ℕ) (pairs : List Pair) (actors : List Act
   passed_is : (station : ℕ) → station < stations_of (plan m) → get_or passed station 0 ≡ out_count (plan m) st station
   passed_is station h =
       let many_ = g.board.many in
-      let (p, at_p) = there_is pairs station (omega (arith, h, many_)) in
+      let (p, at_p) = item_at pairs station (omega (arith, h, many_)) in
       taken_read pairs station p at_p ∙ (counted_at m g.rules st pairs g.board station p h at_p).taken
 
   pub fit : FitStations (plan m) fired passed
@@ -139,14 +136,14 @@ module _ (m : Setup) (workers made : ℕ) (pairs : List Pair) (actors : List Act
         settled.settled (sink (plan m)) (sink_there m g.rules)
         ∙ ap (λ (b : Bool). cond b (length m.input - 1) (length m.input)) (le-ltb ((length m.system.nodes - 1) + 1) (length m.system.nodes) (omega (arith, e)))
 
-    pub ending : (e : FreeEnd) → (AreColumns m (sink (plan m)) e.rows.columns × (e.rows.bits ≡ output_rows m (last (sink (plan m))).fired))
+    pub ending : (e : FreeEnd) → (AreColumnsAtSink m (sink (plan m)) e.rows.columns × (e.rows.bits ≡ output_rows m (last (sink (plan m))).fired))
         → e.tallies ≡ tallies → e.fired ≡ fired → e.passed ≡ passed → e.finish ≡ s.count → e.finish_fired ≡ s.fired → IsEnding m workers made e
     ending e rows_are t_is f_is p_is c_is n_is = record {
       columns = rows_are.0;
       rows = rows_are.1 ∙ ap (output_rows m) sink_all;
       tallies_many = ap length t_is ∙ g.tallies_many;
-      fired_many = ap length f_is ∙ map_length (λ (a : Actor). a.desk.fired) actors ∙ g.actors_are.many;
-      passed_many = ap length p_is ∙ map_length (λ (p : Pair). p.taken) pairs ∙ g.board.many;
+      fired_many = ap length f_is ∙ length-map actors (λ (a : Actor). a.desk.fired) ∙ g.actors_are.many;
+      passed_many = ap length p_is ∙ length-map pairs (λ (p : Pair). p.taken) ∙ g.board.many;
       tallies_are = λ i t at_t. subst (λ (l : List ℕ). IsShareTally (plan m) workers made l i t) (sym f_is) (g.tallies_are i t (ap (λ (l : List Tally). slice_get l i) (sym t_is) ∙ at_t));
       fit = subst (λ (l : List ℕ). FitStations (plan m) l e.passed) (sym f_is) (subst (FitStations (plan m) fired) (sym p_is) fit);
       few = subst (AreWithinRounds (plan m) made) (sym f_is) g.few;

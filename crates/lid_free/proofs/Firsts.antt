@@ -6,43 +6,43 @@ use Rattle.std.proofs.lemmas.Option.{same_Some}
 use Rattle.lid_station.specs.Boards.{Facts, fill, drain}
 use Rattle.lid_stations.specs.Stations.{start_count, spot_at}
 use Rattle.lid_stations.proofs.Spots.{starts_small, cap_range}
-use Rattle.lid_board.specs.Owners.{ends_of, plan_of}
-use Rattle.lid_board.specs.Standing.{StandsFor}
+use Rattle.lid_board.specs.Owners.{ends_of, start_ends}
+use Rattle.lid_board.specs.Standing.{AreStreamsOf}
 use Rattle.lid_board.specs.Views.{at, facts, sure}
 use Rattle.lid_board.specs.declared.board.Board.{Board}
 use Rattle.lid_board.specs.declared.hand.Hand.{Hand}
-use Rattle.lid_board.specs.declared.view.Held.{Held}
-use Rattle.lid_machine.specs.Plans.{actors_of, ins_of, outs_of, cap, start_of, room_of}
-use Rattle.lid_machine.specs.Setups.{Setup, plan}
-use Rattle.lid_machine.specs.Machine.{takes_from, puts_from}
+use Rattle.lid_board.specs.declared.view.EndFacts.{EndFacts}
+use Rattle.lid_walk_machine.specs.Plans.{actors_of, ins_of, outs_of, cap, start_of, room_of}
+use Rattle.lid_walk_machine.specs.Setups.{Setup, plan}
+use Rattle.lid_walk_machine.specs.Machine.{takes_from, puts_from}
 use Rattle.lid_shell.specs.declared.actor.Actor.{Actor}
 use Rattle.lid_shell.specs.Steps.{Works}
-use Rattle.lid_machine.proofs.Counts.{early}
-use Rattle.lid_walk.proofs.Elements.{there_is}
+use Rattle.lid_walk_machine.proofs.Counts.{early}
 use Rattle.lid_walk.proofs.Serving.{drains_by, fills_by}
-use Rattle.lid_work.specs.declared.worker.Worker.{Worker}
-use Rattle.lid_work.specs.Posts.{known}
-use Rattle.lid_work.specs.Tallies.{misses_in, misses_at}
-use Rattle.lid_work.proofs.Sums.{sum_none}
-use Rattle.lid_work.proofs.Misses.{held_there}
-use Rattle.lid_crew.specs.Shares.{share}
-use Rattle.lid_crew.specs.Crews.{HaveWorked}
+use Rattle.lid_free_crew.specs.declared.worker.Worker.{Worker}
+use Rattle.lid_free_crew.specs.Posts.{known}
+use Rattle.lid_free_crew.specs.Tallies.{misses_in, misses_at}
+use Rattle.lid_free_crew.proofs.Sums.{sum_none}
+use Rattle.lid_free_crew.proofs.Misses.{held_there}
+use Rattle.lid_free_crew.specs.Shares.{share}
+use Rattle.lid_free_crew.specs.Crews.{HaveWorked}
 use Rattle.lid_free.specs.Settings.{IsCrew}
 use Rattle.lid_free.specs.FreeRuns.{FirstTurnsFire, state_at}
 use Rattle.lid_free.specs.Gathering.{fired_of}
 use Rattle.lid_free.proofs.Parallel.{fired_read, HasPair, pair_of, mod_low, run_of, works_after, kept}
 use Rattle.lid_free.proofs.Ready.{drain_holder}
+use Rattle.lid_base.proofs.Places.{item_at}
 
 module _ (m : Setup) (board : Board) (workers : ℕ) (owners : List ℕ) (before : List Actor) (olds news : List Worker) (made : ℕ) (actors : List Actor)
     (c : IsCrew m board workers owners before olds) (worked : HaveWorked board made olds news)
     (long : length actors ≡ actors_of (plan m))
     (shares : (i : ℕ) (w : Worker) → slice_get news i ≡ Some w → share workers i actors ≡ w.actors.items) where
   -- an early look does not miss
-  early_none : (hand : Hand) (end : ℕ) (x : Held) → at (ends_of hand) end ≡ Some x → x.passed < sure end x → misses_at (known hand) end ≡ 0
+  early_none : (hand : Hand) (end : ℕ) (x : EndFacts) → at (ends_of hand) end ≡ Some x → x.passed < sure end x → misses_at (known hand) end ≡ 0
   early_none hand end x at_x low = ap misses_in (ap (option_map facts) at_x) ∙ hand.early end x at_x low
 
   module _ (v : ℕ) (b : Actor) (at_b : slice_get actors v ≡ Some b) (none : b.desk.fired ≡ 0) (p : HasPair m board workers owners before olds news made actors c worked long shares (v % workers)) where
-    w : Works m v (state_at (fired_of actors) v) b (known p.new.hand) (StandsFor (plan_of board))
+    w : Works m v (state_at (fired_of actors) v) b (known p.new.hand) (AreStreamsOf (start_ends board))
     w = works_after m board workers owners before olds news made actors c worked long shares v b at_b p
 
     far : get_or (fired_of actors) v 0 ≡ 0
@@ -59,7 +59,7 @@ module _ (m : Setup) (board : Board) (workers : ℕ) (owners : List ℕ) (before
         let (y, at_y, start) = c.started.drains station there in
         let same : k.last ≡ x = same_Some k.last x (sym k.at_last ∙ at_x) in
         let first : k.first ≡ y = same_Some k.first y (sym k.at_first ∙ at_y) in
-        let started : x.start ≡ 1 = ap (λ (g : Held). g.start) (sym same) ∙ k.start ∙ ap (λ (g : Held). g.start) first ∙ start.start ∙ home i station h in
+        let started : x.start ≡ 1 = ap (λ (g : EndFacts). g.start) (sym same) ∙ k.start ∙ ap (λ (g : EndFacts). g.start) first ∙ start.start ∙ home i station h in
         let passed : x.passed ≡ get_or (fired_of actors) v 0 = ap (λ (g : Facts). g.passed) is_x ∙ is.passed ∙ early (takes_from (length (ins_of (plan m) v)) (length (outs_of (plan m) v)) + i) (get_or (fired_of actors) v 0) 0 (omega arith) in
         let odd : (2 * station + 1) % 2 ≡ 1 = omega arith in
         let bound : sure (drain station) x ≡ x.start = ap (λ (t : Bool). cond t x.cap x.start) (ne_eqb (drain station % 2) 0 (λ e. omega (arith, e, odd))) in
@@ -82,7 +82,7 @@ module _ (m : Setup) (board : Board) (workers : ℕ) (owners : List ℕ) (before
 
   pub first_turns : 0 < made → FirstTurnsFire (plan m) (fired_of actors)
   first_turns some v h below home =
-      let (b, at_b) = there_is actors v (omega (arith, h, long)) in
+      let (b, at_b) = item_at actors v (omega (arith, h, long)) in
       let p = pair_of m board workers owners before olds news made actors c worked long shares (v % workers) (mod_low m board workers owners before olds news made actors c worked long shares v) in
       let read = fired_read actors v b at_b in
       subst (λ (n : ℕ). 0 < n) (sym read) (fires v b at_b p (b.desk.fired) refl below (λ i station at. let small = home i station at in start_one station small below))

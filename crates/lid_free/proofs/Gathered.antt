@@ -3,26 +3,24 @@ use Rattle.std.proofs.Common.{◌≡◌, ℕ, zero, suc, ◌+◌, ◌*◌, ◌%�
 use Rattle.std.specs.Prelude.{Option, Some, None, option_map, slice_get}
 use Rattle.std.proofs.lemmas.Option.{same_Some, slice_get_within, slice_get-map}
 use Rattle.lid_base.specs.declared.runs.Tally.{Tally}
-use Rattle.lid_design.specs.Network.{from_each}
-use Rattle.lid_system.proofs.Shelling.{each_length}
+use Rattle.lid_base.specs.Each.{from_each}
 use Rattle.lid_station.specs.Plain.{plain_ends, PlainStands}
 use Rattle.lid_station.specs.declared.pair.Pair.{Pair}
 use Rattle.lid_board.specs.Closing.{closed_facts}
-use Rattle.lid_board.specs.Owners.{IsOf, IsOwned, ends_of, plan_of}
+use Rattle.lid_board.specs.Owners.{IsOf, IsOwned, ends_of, start_ends}
 use Rattle.lid_board.specs.Parting.{unseen}
-use Rattle.lid_board.specs.Standing.{StandsFor}
+use Rattle.lid_board.specs.Standing.{AreStreamsOf}
 use Rattle.lid_board.specs.Views.{at, held}
 use Rattle.lid_board.specs.declared.hand.Hand.{Hand}
-use Rattle.lid_board.specs.declared.view.Held.{Held}
-use Rattle.lid_machine.specs.Plans.{actors_of, stations_of, cap, stream}
-use Rattle.lid_machine.specs.Setups.{Setup, IsSetup, plan}
+use Rattle.lid_board.specs.declared.view.EndFacts.{EndFacts}
+use Rattle.lid_walk_machine.specs.Plans.{actors_of, stations_of, cap, stream}
+use Rattle.lid_walk_machine.specs.Setups.{Setup, IsSetup, plan}
 use Rattle.lid_shell.specs.declared.actor.Actor.{Actor}
-use Rattle.lid_actors.specs.Actors.{AreActors}
+use Rattle.lid_walk.specs.Actors.{AreActors}
 use Rattle.lid_walk.specs.Walks.{IsBoard}
-use Rattle.lid_walk.proofs.Elements.{there_is}
-use Rattle.lid_work.specs.declared.worker.Worker.{Worker}
-use Rattle.lid_crew.specs.Shares.{is_own, share, numbers_of, holder}
-use Rattle.lid_crew.specs.Crews.{IsSameBut, AreBack, AreShared, HasJoined, HaveWorked}
+use Rattle.lid_free_crew.specs.declared.worker.Worker.{Worker}
+use Rattle.lid_free_crew.specs.Shares.{is_own, share, numbers_of, holder}
+use Rattle.lid_free_crew.specs.Crews.{IsSameBut, AreBack, AreShared, HasJoined, HaveWorked}
 use Rattle.lid_free.specs.Settings.{IsCrew}
 use Rattle.lid_free.specs.FreeRuns.{IsShareTally, state_at}
 use Rattle.lid_free.specs.Gathering.{fired_of, HasWorkedOut, AreGathered}
@@ -35,6 +33,8 @@ use Rattle.lid_free.proofs.Resting.{sound_at_rest}
 use Rattle.lid_free.proofs.Rounds.{few_fired}
 use Rattle.lid_free.proofs.Firsts.{first_turns}
 use Rattle.lid_free.proofs.Solo.{machines}
+use Rattle.lid_base.proofs.Each.{each_length}
+use Rattle.lid_base.proofs.Places.{item_at}
 
 module _ (m : Setup) (workers made : ℕ) (b : Boards) (crew : Crew) (h : HasWorkedOut m workers made b crew) where
   abbrev c : IsCrew m b.board workers h.set.owners h.set.dealt h.old.workers.items
@@ -50,7 +50,7 @@ module _ (m : Setup) (workers made : ℕ) (b : Boards) (crew : Crew) (h : HasWor
   pub dealt_to : (i : ℕ) (w : Worker) → slice_get news i ≡ Some w → length w.actors.items ≡ length (numbers_of (length news) i crew.actors)
   dealt_to i w at_w =
       let within = slice_get_within news i w at_w in
-      let (o, at_o) = there_is h.old.workers.items i (omega (arith, within, h.worked.many)) in
+      let (o, at_o) = item_at h.old.workers.items i (omega (arith, within, h.worked.many)) in
       let own = ap length (c.each i o at_o).actors_are in
       let same = (h.worked.each i o w at_o at_w).gone.many in
       let all : length h.set.dealt ≡ length (from_each (λ v. v) 0 crew.actors) = c.actors_are.many ∙ sym h.actors_many ∙ sym (each_length (λ v. v) 0 crew.actors) in
@@ -64,7 +64,7 @@ module _ (m : Setup) (workers made : ℕ) (b : Boards) (crew : Crew) (h : HasWor
     shares_are : (i : ℕ) (w : Worker) → slice_get news i ≡ Some w → share workers i actors ≡ w.actors.items
     shares_are i w at_w =
         let within = slice_get_within news i w at_w in
-        let (x, at_x) = there_is lefts i (omega (arith, within, back.crew_many)) in
+        let (x, at_x) = item_at lefts i (omega (arith, within, back.crew_many)) in
         ap (λ (n : ℕ). share n i actors) (sym news_many) ∙ (back.each i w x at_w at_x).1
 
     pub lefts_many : length lefts ≡ workers
@@ -73,14 +73,14 @@ module _ (m : Setup) (workers made : ℕ) (b : Boards) (crew : Crew) (h : HasWor
     same_left : (i : ℕ) (x : Worker) → slice_get lefts i ≡ Some x → (w : Worker) × (slice_get news i ≡ Some w) × IsSameBut w x
     same_left i x at_x =
         let within = slice_get_within lefts i x at_x in
-        let (w, at_w) = there_is news i (omega (arith, within, back.crew_many)) in
+        let (w, at_w) = item_at news i (omega (arith, within, back.crew_many)) in
         (w, at_w, (back.each i w x at_w at_x).0)
 
     pub hands_of : (i : ℕ) (x : Worker) → slice_get lefts i ≡ Some x → IsOf x.hand b.board
     hands_of i x at_x =
         let (w, at_w, same) = same_left i x at_x in
         let within = slice_get_within news i w at_w in
-        let (o, at_o) = there_is h.old.workers.items i (omega (arith, within, h.worked.many)) in
+        let (o, at_o) = item_at h.old.workers.items i (omega (arith, within, h.worked.many)) in
         subst (λ (y : Hand). IsOf y b.board) (sym same.hand) (h.worked.each i o w at_o at_w).stays.of
 
     pub lefts_shared : AreShared (length lefts) h.set.owners lefts
@@ -94,17 +94,17 @@ module _ (m : Setup) (workers made : ℕ) (b : Boards) (crew : Crew) (h : HasWor
       joined : HasJoined workers h.set.owners news keeper
       joined end w at_w =
           let within = slice_get_within news (holder workers h.set.owners end) w at_w in
-          let (x, at_x) = there_is lefts (holder workers h.set.owners end) (omega (arith, within, back.crew_many)) in
+          let (x, at_x) = item_at lefts (holder workers h.set.owners end) (omega (arith, within, back.crew_many)) in
           let same = (back.each (holder workers h.set.owners end) w x at_w at_x).0 in
           joins end x (ap (λ (n : ℕ). slice_get lefts (holder n h.set.owners end)) lefts_many ∙ at_x)
           ∙ ap (λ (y : Hand). option_map unseen (at (ends_of y) end)) same.hand
 
-      pub keeps_all : (end : ℕ) → end < length (plan_of b.board) → IsOwned (ends_of keeper) end
+      pub keeps_all : (end : ℕ) → end < length (start_ends b.board) → IsOwned (ends_of keeper) end
       keeps_all = all_kept m b.board workers h.set.owners h.set.dealt h.old.workers.items news made actors c h.worked long shares_are keeper joined
 
       module _ (pairs : List Pair) (tallies : List Tally) (many : length pairs ≡ length b.plain.pairs.items)
-          (closed : (end : ℕ) → end < length (plan_of b.board) → plain_ends pairs end ≡ Some (closed_facts (held (ends_of keeper) end)))
-          (stands : (streams : ℕ → List ℕ) → StandsFor (plan_of b.board) streams → PlainStands pairs streams)
+          (closed : (end : ℕ) → end < length (start_ends b.board) → plain_ends pairs end ≡ Some (closed_facts (held (ends_of keeper) end)))
+          (stands : (streams : ℕ → List ℕ) → AreStreamsOf (start_ends b.board) streams → PlainStands pairs streams)
           (noted : tallies ≡ map (λ (w : Worker). w.tally) lefts) where
         noted_news : tallies ≡ map (λ (w : Worker). w.tally) news
         noted_news = noted ∙ same_maps lefts news back.crew_many (λ i x w at_x at_w. (back.each i w x at_w at_x).0.tally)
@@ -127,7 +127,7 @@ module _ (m : Setup) (workers made : ℕ) (b : Boards) (crew : Crew) (h : HasWor
         are = actors_after m b.board workers h.set.owners h.set.dealt h.old.workers.items news made actors c h.worked long shares_are
 
         capped : (v : ℕ) → v < actors_of (plan m) → get_or (fired_of actors) v 0 ≤ cap (plan m) v
-        capped v there = let (a, at_a) = there_is actors v (omega (arith, there, long)) in (are.each v a at_a).far.capped
+        capped v there = let (a, at_a) = item_at actors v (omega (arith, there, long)) in (are.each v a at_a).far.capped
 
         tallies_is : (i : ℕ) (t : Tally) → slice_get tallies i ≡ Some t → IsShareTally (plan m) workers made (fired_of actors) i t
         tallies_is i t at_t =

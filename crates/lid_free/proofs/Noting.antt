@@ -3,10 +3,10 @@ use Rattle.std.proofs.Common.{◌≡◌, ℕ, List, refl, sym, ◌∙◌, subst}
 use Rattle.std.specs.Prelude.{Some, slice_get}
 use Rattle.std.proofs.lemmas.Option.{same_Some}
 use Rattle.lid_board.specs.declared.board.Board.{Board}
-use Rattle.lid_work.specs.declared.worker.Worker.{Worker}
-use Rattle.lid_work.specs.Posts.{IsReady}
-use Rattle.lid_work.proofs.Working.{not_yet, stays, gone, tallied, alone}
-use Rattle.lid_crew.specs.Crews.{HasWorked, HaveWorked}
+use Rattle.lid_free_crew.specs.declared.worker.Worker.{Worker}
+use Rattle.lid_free_crew.specs.Posts.{IsReady}
+use Rattle.lid_free_crew.proofs.Worked.{not_yet, stays, gone, tallied, alone}
+use Rattle.lid_free_crew.specs.Crews.{HasWorked, HaveWorked}
 
 pub none_worked : (board : Board) (crew : List Worker) → ((i : ℕ) (w : Worker) → slice_get crew i ≡ Some w → IsReady board w) → HaveWorked board 0 crew crew
 none_worked board crew ready = record {

@@ -4,35 +4,35 @@ use Rattle.std.specs.Prelude.{Some, option_map, slice_get}
 use Rattle.std.specs.List.{sum_by}
 use Rattle.std.proofs.Math.Nat.{mod-lt}
 use Rattle.std.proofs.lemmas.Option.{same_Some, slice_get_within}
-use Rattle.lid_design.specs.Network.{from_each}
+use Rattle.lid_base.specs.Each.{from_each}
 use Rattle.lid_station.specs.Boards.{Facts}
-use Rattle.lid_board.specs.Owners.{ends_of, plan_of}
-use Rattle.lid_board.specs.Standing.{StandsFor}
+use Rattle.lid_board.specs.Owners.{ends_of, start_ends}
+use Rattle.lid_board.specs.Standing.{AreStreamsOf}
 use Rattle.lid_board.specs.Views.{at, facts}
 use Rattle.lid_board.specs.declared.board.Board.{Board}
-use Rattle.lid_board.specs.declared.view.Held.{Held}
-use Rattle.lid_machine.specs.Plans.{actors_of, cap}
-use Rattle.lid_machine.specs.Setups.{Setup, plan}
-use Rattle.lid_machine.specs.Machine.{Progress}
+use Rattle.lid_board.specs.declared.view.EndFacts.{EndFacts}
+use Rattle.lid_walk_machine.specs.Plans.{actors_of, cap}
+use Rattle.lid_walk_machine.specs.Setups.{Setup, plan}
+use Rattle.lid_walk_machine.specs.Machine.{Progress}
 use Rattle.lid_shell.specs.declared.actor.Actor.{Actor}
 use Rattle.lid_shell.specs.Steps.{Works}
-use Rattle.lid_actors.specs.Actors.{AreActors}
-use Rattle.lid_walk.proofs.Elements.{there_is}
-use Rattle.lid_work.specs.declared.worker.Worker.{Worker}
-use Rattle.lid_work.specs.Posts.{known, resting, AgreesAt}
-use Rattle.lid_work.specs.Tallies.{fired_by, done_among}
-use Rattle.lid_work.specs.Turns.{HasGone}
-use Rattle.lid_work.proofs.Misses.{held_there}
-use Rattle.lid_work.proofs.Sums.{sum_none}
-use Rattle.lid_system.proofs.Shelling.{each_length}
-use Rattle.lid_crew.specs.Shares.{is_own, share, numbers_of, holder}
-use Rattle.lid_crew.specs.Crews.{HasWorked, HaveWorked}
+use Rattle.lid_walk.specs.Actors.{AreActors}
+use Rattle.lid_free_crew.specs.declared.worker.Worker.{Worker}
+use Rattle.lid_free_crew.specs.Posts.{known, resting, AgreesAt}
+use Rattle.lid_free_crew.specs.Tallies.{fired_by, done_among}
+use Rattle.lid_free_crew.specs.Turns.{HasMadeTurns}
+use Rattle.lid_free_crew.proofs.Misses.{held_there}
+use Rattle.lid_free_crew.proofs.Sums.{sum_none}
+use Rattle.lid_free_crew.specs.Shares.{is_own, share, numbers_of, holder}
+use Rattle.lid_free_crew.specs.Crews.{HasWorked, HaveWorked}
 use Rattle.lid_free.specs.Settings.{IsCrew}
 use Rattle.lid_free.specs.FreeRuns.{IsShareTally, state_at}
 use Rattle.lid_free.specs.Gathering.{fired_of}
 use Rattle.lid_free.proofs.Shares.{rank, picked_at, picked_length, picks_sum}
 use Rattle.lid_free.proofs.Ready.{works_at_start, held_here}
 use Rattle.lid_free.proofs.Crewing.{at_start}
+use Rattle.lid_base.proofs.Each.{each_length}
+use Rattle.lid_base.proofs.Places.{item_at}
 
 pub fired_read : (actors : List Actor) (v : ℕ) (a : Actor) → slice_get actors v ≡ Some a → get_or (fired_of actors) v 0 ≡ a.desk.fired
 fired_read [] v a h = absurd (cc)
@@ -53,8 +53,8 @@ module _ (m : Setup) (board : Board) (workers : ℕ) (owners : List ℕ) (before
 
   pub pair_of : (i : ℕ) → i < workers → HasPair i
   pair_of i within =
-      let (w, at_w) = there_is olds i (omega (arith, within, c.many)) in
-      let (x, at_x) = there_is news i (omega (arith, within, c.many, worked.many)) in
+      let (w, at_w) = item_at olds i (omega (arith, within, c.many)) in
+      let (x, at_x) = item_at news i (omega (arith, within, c.many, worked.many)) in
       record { old = w; new = x; at_old = at_w; at_new = at_x; did = worked.each i w x at_w at_x }
 
   pub holder_low : (end : ℕ) → holder workers owners end < workers
@@ -64,13 +64,13 @@ module _ (m : Setup) (board : Board) (workers : ℕ) (owners : List ℕ) (before
   pub record HasRun (v : ℕ) (b : Actor) (p : HasPair (v % workers)) : Type 0 where
     pub was : Actor
     pub at_was : slice_get before v ≡ Some was
-    pub gone : HasGone board made (known p.old.hand) was (known p.new.hand) b
+    pub gone : HasMadeTurns board made (known p.old.hand) was (known p.new.hand) b
 
   pub run_of : (v : ℕ) (b : Actor) → slice_get actors v ≡ Some b → (p : HasPair (v % workers)) → HasRun v b p
   run_of v b at_b p =
       let within = slice_get_within actors v b at_b in
       let many = c.actors_are.many in
-      let (a, at_a) = there_is before v (omega (arith, within, many, long)) in
+      let (a, at_a) = item_at before v (omega (arith, within, many, long)) in
       let z : 0 + v ≡ v = omega arith in
       let own : is_own workers (v % workers) (0 + v) ≡ true = ap (λ (n : ℕ). n % workers == v % workers) z ∙ eq-eqb (v % workers) (v % workers) refl in
       let j = rank (is_own workers (v % workers)) 0 v in
@@ -93,27 +93,27 @@ module _ (m : Setup) (board : Board) (workers : ℕ) (owners : List ℕ) (before
       let r = run_of v b at_b p in
       let start = works_at_start m board workers owners before olds c (v % workers) p.old p.at_old v r.was refl r.at_was in
       let none = none_fired v r.was r.at_was in
-      r.gone.agrees m v (subst (λ (n : ℕ). Works m v (record { fired = n; position = 0 }) r.was (known p.old.hand) (StandsFor (plan_of board))) (sym none) start)
+      r.gone.agrees m v (subst (λ (n : ℕ). Works m v (record { fired = n; position = 0 }) r.was (known p.old.hand) (AreStreamsOf (start_ends board))) (sym none) start)
 
   state_is : (v : ℕ) (b : Actor) → slice_get actors v ≡ Some b → resting b ≡ state_at (fired_of actors) v
   state_is v b at_b = ap (λ (n : ℕ). let q : Progress = record { fired = n; position = 0 } in q) (sym (fired_read actors v b at_b))
 
-  pub works_after : (v : ℕ) (b : Actor) → slice_get actors v ≡ Some b → (p : HasPair (v % workers)) → Works m v (state_at (fired_of actors) v) b (known p.new.hand) (StandsFor (plan_of board))
-  works_after v b at_b p = subst (λ (q : Progress). Works m v q b (known p.new.hand) (StandsFor (plan_of board))) (state_is v b at_b) (agrees_after v b at_b p)
+  pub works_after : (v : ℕ) (b : Actor) → slice_get actors v ≡ Some b → (p : HasPair (v % workers)) → Works m v (state_at (fired_of actors) v) b (known p.new.hand) (AreStreamsOf (start_ends board))
+  works_after v b at_b p = subst (λ (q : Progress). Works m v q b (known p.new.hand) (AreStreamsOf (start_ends board))) (state_is v b at_b) (agrees_after v b at_b p)
 
   pub actors_after : AreActors m (state_at (fired_of actors)) actors
   actors_after = record { many = long; each = λ v b at_b. (works_after v b at_b (pair_of (v % workers) (mod_low v))).actor }
 
   -- each end is known to the hand to which it fell, with the start count and the capacity that it had
   pub record IsKept (end i : ℕ) (p : HasPair i) : Type 0 where
-    pub first : Held
-    pub at_first : at (plan_of board) end ≡ Some first
-    pub last : Held
+    pub first : EndFacts
+    pub at_first : at (start_ends board) end ≡ Some first
+    pub last : EndFacts
     pub at_last : at (ends_of p.new.hand) end ≡ Some last
     pub cap : last.cap ≡ first.cap
     pub start : last.start ≡ first.start
 
-  pub kept : (end i : ℕ) → end < length (plan_of board) → (p : HasPair i) → holder workers owners end ≡ i → IsKept end i p
+  pub kept : (end i : ℕ) → end < length (start_ends board) → (p : HasPair i) → holder workers owners end ≡ i → IsKept end i p
   kept end i within p mine =
       let (h, at_h, none) = at_start m board c.started end within in
       let here = held_here m board workers owners before olds c i p.old p.at_old end h mine at_h in

@@ -6,27 +6,27 @@ use Rattle.std.proofs.lemmas.Option.{slice_get_within}
 use Rattle.lid_base.specs.declared.runs.Tally.{Tally}
 use Rattle.lid_station.specs.Boards.{Facts, fill, drain}
 use Rattle.lid_stations.specs.Stations.{filler, drainer}
-use Rattle.lid_board.specs.Owners.{ends_of, plan_of}
-use Rattle.lid_board.specs.Standing.{StandsFor}
+use Rattle.lid_board.specs.Owners.{ends_of, start_ends}
+use Rattle.lid_board.specs.Standing.{AreStreamsOf}
 use Rattle.lid_board.specs.Views.{Ends, at, facts}
 use Rattle.lid_board.specs.declared.board.Board.{Board}
 use Rattle.lid_board.specs.declared.hand.Hand.{Hand}
-use Rattle.lid_board.specs.declared.view.Held.{Held}
-use Rattle.lid_machine.specs.Plans.{actors_of, stations_of, ins_of, outs_of, drainer_of, filler_of, start_of, stream}
-use Rattle.lid_machine.specs.Setups.{Setup, IsSetup, plan}
-use Rattle.lid_machine.specs.Machine.{Progress, begun, takes_from, puts_from}
+use Rattle.lid_board.specs.declared.view.EndFacts.{EndFacts}
+use Rattle.lid_walk_machine.specs.Plans.{actors_of, stations_of, ins_of, outs_of, drainer_of, filler_of, start_of, stream}
+use Rattle.lid_walk_machine.specs.Setups.{Setup, IsSetup, plan}
+use Rattle.lid_walk_machine.specs.Machine.{Progress, begun, takes_from, puts_from}
 use Rattle.lid_shell.specs.declared.actor.Actor.{Actor}
 use Rattle.lid_shell.specs.Actors.{IsActor}
 use Rattle.lid_shell.specs.Boards.{Agrees}
 use Rattle.lid_shell.specs.Steps.{Works, IsOwn}
-use Rattle.lid_machine.proofs.Counts.{early}
+use Rattle.lid_walk_machine.proofs.Counts.{early}
 use Rattle.lid_walk.proofs.Serving.{drains_by, fills_by}
 use Rattle.lid_walk.proofs.Numbers.{few_actors}
-use Rattle.lid_work.specs.declared.worker.Worker.{Worker}
-use Rattle.lid_work.specs.Posts.{known, IsEndOf, AreApart, IsReady}
-use Rattle.lid_crew.specs.Shares.{is_own, picked, share, holder}
-use Rattle.lid_crew.specs.Crews.{HasShare}
-use Rattle.lid_free.specs.Settings.{IsStart, IsStarted, AreOwners, owner, IsSetOutAs, IsCrew}
+use Rattle.lid_free_crew.specs.declared.worker.Worker.{Worker}
+use Rattle.lid_free_crew.specs.Posts.{known, IsEndOf, AreApart, IsReady}
+use Rattle.lid_free_crew.specs.Shares.{is_own, picked, share, holder}
+use Rattle.lid_free_crew.specs.Crews.{HasShare}
+use Rattle.lid_free.specs.Settings.{IsEndStart, IsStarted, AreOwners, owner, IsSetOutAs, IsCrew}
 use Rattle.lid_free.proofs.Shares.{rank, IsFrom, picked_from, picked_short}
 
 module _ (m : Setup) (board : Board) (workers : ℕ) (owners : List ℕ) (actors : List Actor) (crew : List Worker) (c : IsCrew m board workers owners actors crew) where
@@ -58,8 +58,8 @@ module _ (m : Setup) (board : Board) (workers : ℕ) (owners : List ℕ) (actors
     out = c.each i w at_w
 
     -- what its hand has at an end that falls to it
-    pub held_here : (end : ℕ) (h : Held) → holder workers owners end ≡ i → at (plan_of board) end ≡ Some h → at (ends_of w.hand) end ≡ Some h
-    held_here end h mine there = out.hand end ∙ ap (λ (b : Bool). cond b (at (plan_of board) end) None) (eq-eqb (holder workers owners end) i mine) ∙ there
+    pub held_here : (end : ℕ) (h : EndFacts) → holder workers owners end ≡ i → at (start_ends board) end ≡ Some h → at (ends_of w.hand) end ≡ Some h
+    held_here end h mine there = out.hand end ∙ ap (λ (b : Bool). cond b (at (start_ends board) end) None) (eq-eqb (holder workers owners end) i mine) ∙ there
 
     -- it agrees with each of its actors
     pub agrees_at_start : (v : ℕ) → v % workers ≡ i → Agrees m v (begun v) (known w.hand)
@@ -92,7 +92,7 @@ module _ (m : Setup) (board : Board) (workers : ℕ) (owners : List ℕ) (actors
           );
     }
 
-    pub works_at_start : (v : ℕ) (a : Actor) → v % workers ≡ i → slice_get actors v ≡ Some a → Works m v (begun v) a (known w.hand) (StandsFor (plan_of board))
+    pub works_at_start : (v : ℕ) (a : Actor) → v % workers ≡ i → slice_get actors v ≡ Some a → Works m v (begun v) a (known w.hand) (AreStreamsOf (start_ends board))
     works_at_start v a mine at_a = record { actor = c.actors_are.each v a at_a; agrees = agrees_at_start v mine; streams = c.started.streams }
 
     -- where an actor of its share comes from

@@ -2,20 +2,20 @@
 use Rattle.std.proofs.Common.{◌≡◌, ℕ, ◌+◌, ◌*◌, ◌/◌, ◌%◌, ◌<◌, ◌≤◌, ◌==◌, true, false, List, length, refl, sym, ◌∙◌, ap, subst, arith}
 use Rattle.std.specs.Prelude.{Some, option_map, slice_get}
 use Rattle.std.proofs.lemmas.Option.{same_Some}
-use Rattle.lid_system.proofs.Shelling.{each_length}
 use Rattle.lid_station.specs.Boards.{Facts, fill, drain}
 use Rattle.lid_station.specs.Plain.{end_facts, plain_ends}
 use Rattle.lid_station.specs.PlainLaws.{ends_even, ends_odd}
 use Rattle.lid_station.specs.declared.pair.Pair.{Pair}
 use Rattle.lid_stations.proofs.Spots.{stands_between}
-use Rattle.lid_runs.proofs.Ends.{filled_there}
-use Rattle.lid_machine.specs.Plans.{actors_of, stations_of, room_of, filler_of, cap}
-use Rattle.lid_machine.specs.Setups.{Setup, IsSetup, plan}
-use Rattle.lid_machine.specs.Machine.{State, in_count, out_count}
-use Rattle.lid_machine.specs.Laws.{KeepsPrefixes, IsSound}
+use Rattle.lid_shell_laws.proofs.Ends.{filled_there}
+use Rattle.lid_walk_machine.specs.Plans.{actors_of, stations_of, room_of, filler_of, cap}
+use Rattle.lid_walk_machine.specs.Setups.{Setup, IsSetup, plan}
+use Rattle.lid_walk_machine.specs.Machine.{State, in_count, out_count}
+use Rattle.lid_walk_machine.specs.Laws.{KeepsPrefixes, IsSound}
 use Rattle.lid_walk.specs.Walks.{IsBoard}
-use Rattle.lid_walk.proofs.Elements.{there_is}
 use Rattle.lid_walk.proofs.Serving.{filled_end, drained_end}
+use Rattle.lid_base.proofs.Each.{each_length}
+use Rattle.lid_base.proofs.Places.{item_at}
 
 module _ (m : Setup) (rules : IsSetup m) (st : State) (pairs : List Pair) (board : IsBoard m st pairs) where
   -- what a station holds
@@ -45,7 +45,7 @@ module _ (m : Setup) (rules : IsSetup m) (st : State) (pairs : List Pair) (board
   pub keeps_prefixes : (station : ℕ) → station < stations_of (plan m) → KeepsPrefixes (plan m) st station
   keeps_prefixes station h =
       let many = board.many in
-      let (p, at_p) = there_is pairs station (omega (arith, h, many)) in
+      let (p, at_p) = item_at pairs station (omega (arith, h, many)) in
       let c = counted_at station p h at_p in
       let ordered = p.ordered in
       let within = p.within in

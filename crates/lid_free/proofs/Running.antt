@@ -6,12 +6,12 @@ use Rattle.std.specs.Vec.{with_items}
 use Rattle.std.proofs.lemmas.List.{with_items_is}
 use Rattle.lid_base.specs.declared.runs.Tally.{Tally}
 use Rattle.lid_station.specs.declared.pair.Pair.{Pair}
-use Rattle.lid_machine.specs.Plans.{actors_of, stations_of}
-use Rattle.lid_machine.specs.Setups.{Setup, plan}
+use Rattle.lid_walk_machine.specs.Plans.{actors_of, stations_of}
+use Rattle.lid_walk_machine.specs.Setups.{Setup, plan}
 use Rattle.lid_shell.specs.declared.actor.Actor.{Actor}
-use Rattle.lid_work.specs.Posts.{IsReady}
-use Rattle.lid_work.specs.declared.worker.Worker.{Worker}
-use Rattle.lid_crew.specs.Crews.{HaveWorked}
+use Rattle.lid_free_crew.specs.Posts.{IsReady}
+use Rattle.lid_free_crew.specs.declared.worker.Worker.{Worker}
+use Rattle.lid_free_crew.specs.Crews.{HaveWorked}
 use Rattle.lid_free.specs.Settings.{IsSetOut}
 use Rattle.lid_free.specs.Gathering.{HasWorkedOut, AreGathered}
 use Rattle.lid_free.specs.declared.setting.Boards.{Boards}

@@ -5,18 +5,18 @@ use Rattle.std.specs.List.{sum_by}
 use Rattle.std.proofs.lemmas.List.Sums.{sum_by-cons}
 use Rattle.std.proofs.lemmas.Bool.{cases_lt}
 use Rattle.std.proofs.Math.Nat.{add-mul, one-mul, mul-le-mul_right}
-use Rattle.lid_design.specs.Network.{from_each}
-use Rattle.lid_machine.specs.Plans.{actors_of, cap}
-use Rattle.lid_machine.specs.Setups.{Setup, IsSetup, plan}
-use Rattle.lid_machine.specs.Machine.{State, sweep}
-use Rattle.lid_machine.specs.Laws.{AllRest, IsSettled, HasSwept as MachineSwept, sweeps}
-use Rattle.lid_machine.proofs.Sweeps.{has_swept, many}
+use Rattle.lid_base.specs.Each.{from_each}
+use Rattle.lid_walk_machine.specs.Plans.{actors_of, cap}
+use Rattle.lid_walk_machine.specs.Setups.{Setup, IsSetup, plan}
+use Rattle.lid_walk_machine.specs.Machine.{State, sweep}
+use Rattle.lid_walk_machine.specs.Laws.{AllRest, IsSettled, HasSwept as MachineSwept, sweeps}
+use Rattle.lid_walk_machine.proofs.Sweeps.{has_swept, many}
 use Rattle.lid_walk.proofs.Numbers.{few_actors}
 use Rattle.lid_walk.proofs.Sweeping.{count}
 use Rattle.lid_shell.specs.declared.actor.Actor.{Actor}
 use Rattle.lid_walk.specs.declared.walk.Walk.{Walk}
 use Rattle.lid_walk.specs.Walks.{Walks, firings_between}
-use Rattle.lid_free.specs.Sweeps.{HasSwept, HasSettled}
+use Rattle.lid_free.specs.Sweeps.{HasMadeSweeps, HasSettled}
 use Rattle.lid_free.specs.declared.ending.Sweeps.{Sweeps}
 
 pub count_add : (f g h : ℕ → ℕ) (k n : ℕ) → ((v : ℕ) → k ≤ v → v < k + n → h v ≡ f v + g v) → count h k n ≡ count f k n + count g k n
@@ -36,7 +36,7 @@ count_most f most k (suc n) few =
     suc_mul n most = let e : suc n ≡ 1 + n = omega arith in ap (λ (k : ℕ). k * most) e ∙ add-mul 1 n most ∙ (let o = one-mul most in omega (arith, o))
 
 -- no sweep was made yet
-pub none_swept : (m : Setup) (st : State) (w : Walk) → Walks m st w → AllRest (plan m) st → HasSwept m st (record { count = 0; fired = 0 }) w
+pub none_swept : (m : Setup) (st : State) (w : Walk) → Walks m st w → AllRest (plan m) st → HasMadeSweeps m st (record { count = 0; fired = 0 }) w
 none_swept m st w walks rest = record {
   walks = walks;
   rest = rest;
@@ -53,7 +53,7 @@ none_swept m st w walks rest = record {
 
 -- one sweep more
 module _ (m : Setup) (st : State) (s : Sweeps) (w then_ : Walk) (fired : ℕ)
-    (so : HasSwept m st s w) (first : IsSetup m)
+    (so : HasMadeSweeps m st s w) (first : IsSetup m)
     (grown : (v : ℕ) → v < actors_of (plan m) → (st v).fired ≤ (sweeps (plan m) st s.count v).fired)
     (not_settled : IsSettled (plan m) (sweeps (plan m) st s.count) → ⊥)
     (walks : Walks m (sweep (plan m) (sweeps (plan m) st s.count)) then_)
@@ -75,7 +75,7 @@ module _ (m : Setup) (st : State) (s : Sweeps) (w then_ : Walk) (fired : ℕ)
       by_zero zero e = absurd (not_settled (idle e))
       by_zero (suc n) e = omega arith
 
-  pub swept_more : HasSwept m st (record { count = s.count + 1; fired = s.fired + fired }) then_
+  pub swept_more : HasMadeSweeps m st (record { count = s.count + 1; fired = s.fired + fired }) then_
   swept_more =
       let next : s.count + 1 ≡ suc s.count = omega arith in
       let same = sym (more (s.count + 1) next) in
@@ -139,7 +139,7 @@ module _ (m : Setup) (st : State) (rules : IsSetup m) (w : Walk) (walks : Walks 
       omega (arith, most, less)
 
   -- a sweep with a firing leaves fewer
-  pub fewer_left : (s : Sweeps) (now then_ : Walk) (fired : ℕ) → HasSwept m st s now → Walks m (sweep (plan m) (sweeps (plan m) st s.count)) then_
+  pub fewer_left : (s : Sweeps) (now then_ : Walk) (fired : ℕ) → HasMadeSweeps m st s now → Walks m (sweep (plan m) (sweeps (plan m) st s.count)) then_
       → fired ≡ firings_between (plan m) (sweeps (plan m) st s.count) (sweep (plan m) (sweeps (plan m) st s.count)) → 0 < fired
       → sum_by (λ (a : Actor). a.desk.cap - a.desk.fired) then_.actors.items < sum_by (λ (a : Actor). a.desk.cap - a.desk.fired) now.actors.items
   fewer_left s now then_ fired so after is some =

@@ -5,11 +5,11 @@ use Rattle.std.specs.List.{sum_by}
 use Rattle.std.proofs.Math.Nat.{mod-lt}
 use Rattle.std.proofs.lemmas.Bool.{eqb-true}
 use Rattle.std.proofs.lemmas.List.Sums.{sum_by-cons, sum_by-append}
-use Rattle.lid_design.specs.Network.{from_each}
-use Rattle.lid_work.specs.Tallies.{sum_below}
-use Rattle.lid_work.proofs.Sums.{belows_add, below_one, below_none}
-use Rattle.lid_crew.specs.Shares.{is_own, picked, share, numbers_of}
-use Rattle.lid_crew.proofs.Picking.{numbers_mine, numbers_other}
+use Rattle.lid_base.specs.Each.{from_each}
+use Rattle.lid_free_crew.specs.Tallies.{sum_below}
+use Rattle.lid_free_crew.proofs.Sums.{belows_add, below_one, below_none}
+use Rattle.lid_free_crew.specs.Shares.{is_own, picked, share, numbers_of}
+use Rattle.lid_free_crew.proofs.Picking.{numbers_mine, numbers_other}
 
 -- how many places before pass
 abbrev pub rank : (ℕ → Bool) → ℕ → ℕ → ℕ

@@ -3,33 +3,33 @@ use Rattle.std.proofs.Common.{◌≡◌, ℕ, zero, suc, ◌+◌, ◌*◌, ◌/�
 use Rattle.std.specs.Prelude.{Option, Some, None, option_map, slice_get, if◌then◌else◌}
 use Rattle.std.proofs.lemmas.Option.{same_Some, slice_get_within}
 use Rattle.lid_base.specs.declared.runs.Tally.{Tally}
-use Rattle.lid_design.specs.Network.{from_each}
-use Rattle.lid_system.proofs.Shelling.{each_get, each_length}
+use Rattle.lid_base.specs.Each.{from_each}
 use Rattle.lid_station.specs.Boards.{Facts, fill, drain}
-use Rattle.lid_board.specs.Owners.{ends_of, plan_of}
-use Rattle.lid_board.specs.Standing.{StandsFor}
+use Rattle.lid_board.specs.Owners.{ends_of, start_ends}
+use Rattle.lid_board.specs.Standing.{AreStreamsOf}
 use Rattle.lid_board.specs.Views.{at, facts}
 use Rattle.lid_board.specs.declared.board.Board.{Board}
-use Rattle.lid_runs.specs.Runs.{place_in}
-use Rattle.lid_machine.specs.Plans.{Plan, actors_of, stations_of, ins_of, outs_of, drainer_of, filler_of, start_of}
-use Rattle.lid_machine.specs.Setups.{Setup, IsSetup, plan}
-use Rattle.lid_machine.specs.Machine.{Progress, State, begun, takes_from, puts_from, in_count, out_count}
-use Rattle.lid_machine.specs.Laws.{sweeps}
+use Rattle.lid_shell_laws.specs.Runs.{place_in}
+use Rattle.lid_walk_machine.specs.Plans.{Plan, actors_of, stations_of, ins_of, outs_of, drainer_of, filler_of, start_of}
+use Rattle.lid_walk_machine.specs.Setups.{Setup, IsSetup, plan}
+use Rattle.lid_walk_machine.specs.Machine.{Progress, State, begun, takes_from, puts_from, in_count, out_count}
+use Rattle.lid_walk_machine.specs.Laws.{sweeps}
 use Rattle.lid_shell.specs.declared.actor.Actor.{Actor}
 use Rattle.lid_shell.specs.Boards.{ServesBoth, ServesAll}
-use Rattle.lid_machine.proofs.Counts.{early}
-use Rattle.lid_walk.proofs.Elements.{there_is}
+use Rattle.lid_walk_machine.proofs.Counts.{early}
 use Rattle.lid_walk.proofs.Serving.{drains_by, fills_by}
-use Rattle.lid_work.specs.declared.worker.Worker.{Worker}
-use Rattle.lid_work.specs.Posts.{known}
-use Rattle.lid_work.specs.Alone.{run_from, rounds_of, AreAlone}
-use Rattle.lid_work.proofs.Sweeping.{rounds_sweep}
-use Rattle.lid_crew.specs.Shares.{is_own, picked, share, holder}
-use Rattle.lid_crew.specs.Crews.{HaveWorked}
+use Rattle.lid_free_crew.specs.declared.worker.Worker.{Worker}
+use Rattle.lid_free_crew.specs.Posts.{known}
+use Rattle.lid_free_crew.specs.Alone.{run_from, rounds_of, AreAlone}
+use Rattle.lid_free_crew.proofs.Sweeping.{rounds_sweep}
+use Rattle.lid_free_crew.specs.Shares.{is_own, picked, share, holder}
+use Rattle.lid_free_crew.specs.Crews.{HaveWorked}
 use Rattle.lid_free.specs.Settings.{IsCrew}
 use Rattle.lid_free.specs.Gathering.{fired_of, AreMachines}
 use Rattle.lid_free.proofs.Parallel.{fired_read, HasPair, pair_of}
 use Rattle.lid_free.proofs.Ready.{held_here, works_at_start}
+use Rattle.lid_base.proofs.Each.{each_length, each_get}
+use Rattle.lid_base.proofs.Places.{item_at}
 
 mod_one : (v n : ℕ) → n ≡ 1 → v % n ≡ 0
 mod_one v n one = ap (λ (k : ℕ). v % k) one ∙ (let e : v % 1 ≡ 0 = omega arith in e)
@@ -118,7 +118,7 @@ module _ (m : Setup) (board : Board) (workers : ℕ) (owners : List ℕ) (before
       record {
         tally = tallies_are tallies is ∙ ap (λ (t : Tally). t ∷ []) did.1;
         fired_are = λ v h.
-            let (b, at_b) = there_is actors v (omega (arith, h, long)) in
+            let (b, at_b) = item_at actors v (omega (arith, h, long)) in
             let here : slice_get p.new.actors.items v ≡ Some b = ap (λ (l : List Actor). slice_get l v) (sym all_new) ∙ at_b in
             let z : 0 + v ≡ v = omega arith in
             let at_v : slice_get numbers v ≡ Some v = each_get (λ k. k) 0 (actors_of (plan m)) v h ∙ ap (λ (k : ℕ). Some k) z in

@@ -5,7 +5,8 @@ use Rattle.std.proofs.Math.Logic.{∥∥₁_elim}
 use Rattle.std.proofs.lemmas.Option.{get_or_from_slice_get}
 use mathlib.Core.HLevel.{Π_prop, Σ_prop_path}
 use base.Stored.{Coded-set, coded_ℕ, coded_list}
-use Rattle.lid_design.specs.Network.{Table, from_each}
+use Rattle.lid_design.specs.Network.{Table}
+use Rattle.lid_base.specs.Each.{from_each}
 use Rattle.lid_design.proofs.Tables.{has_table}
 use Rattle.lid_system.specs.declared.System.{System}
 use Rattle.lid_system.specs.declared.Channel.{Channel}
@@ -13,14 +14,15 @@ use Rattle.lid_system.specs.Systems.{Point, IsWellFormed}
 use Rattle.lid_system.specs.Tables.{IsTable, system_drivers}
 use Rattle.lid_system.specs.Streams.{token_at, IsStream}
 use Rattle.lid_system.proofs.Points.{points_once}
-use Rattle.lid_system.proofs.Streaming.{each_same, some_stream}
+use Rattle.lid_system.proofs.Streaming.{some_stream}
 use Rattle.lid_system.proofs.Walking.{limit, points_end}
 use Rattle.lid_stations.specs.declared.placement.Placement.{Placement}
 use Rattle.lid_stations.specs.Placements.{links_of, station_count, Fits}
 use Rattle.lid_stations.specs.Stations.{spot_at, channel_at, no_channel}
 use Rattle.lid_stations.proofs.Spots.{spot_of_station}
-use Rattle.lid_machine.specs.Plans.{stations_of, stream}
-use Rattle.lid_machine.specs.Setups.{plan}
+use Rattle.lid_walk_machine.specs.Plans.{stations_of, stream}
+use Rattle.lid_walk_machine.specs.Setups.{plan}
+use Rattle.lid_base.proofs.Each.{each_same}
 
 -- the streams of all stations in a table, in order
 abbrev pub streams_by : System → Placement → List (List Bool) → Table Point → List (List ℕ)

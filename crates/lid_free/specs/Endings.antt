@@ -1,14 +1,14 @@
 -- Serves the bodies: how a run ends whose workers made so many rounds.
 use Rattle.std.specs.Prelude.{◌≡◌, ℕ, ◌<◌, ◌≤◌, length, Some, slice_get}
 use Rattle.lid_base.specs.declared.runs.Tally.{Tally}
-use Rattle.lid_machine.specs.Plans.{actors_of, stations_of, sink}
-use Rattle.lid_machine.specs.Setups.{Setup, plan, output_rows}
-use Rattle.lid_shell.specs.Parts.{AreColumns}
+use Rattle.lid_walk_machine.specs.Plans.{actors_of, stations_of, sink}
+use Rattle.lid_walk_machine.specs.Setups.{Setup, plan, output_rows}
+use Rattle.lid_shell.specs.Parts.{AreColumnsAtSink}
 use Rattle.lid_free.specs.FreeRuns.{IsShareTally, FitStations, AreWithinRounds, FirstTurnsFire, AreSweeps, Finishes}
 use Rattle.lid_free.specs.declared.run.FreeEnd.{FreeEnd}
 
 pub record IsEnding (m : Setup) (workers made : ℕ) (e : FreeEnd) : Type 0 where
-  pub columns : AreColumns m (sink (plan m)) e.rows.columns
+  pub columns : AreColumnsAtSink m (sink (plan m)) e.rows.columns
   pub rows : e.rows.bits ≡ output_rows m (length m.input)
   pub tallies_many : length e.tallies ≡ workers
   pub fired_many : length e.fired ≡ actors_of (plan m)

@@ -1,20 +1,20 @@
 -- How a free run ends.
 use Rattle.std.specs.Prelude.{◌≡◌, ℕ, ◌+◌, ◌*◌, ◌<◌, ◌≤◌, ◌==◌, cond, List, [], ◌∷◌, length, get_or, Some, slice_get}
 use Rattle.std.specs.List.{All, sum_by}
-use Rattle.lid_design.specs.Network.{from_each}
+use Rattle.lid_base.specs.Each.{from_each}
 use Rattle.lid_base.specs.declared.runs.Tally.{Tally}
 use Rattle.lid_graph.specs.Firings.{no_hold}
 use Rattle.lid_stations.specs.Stations.{start_count}
-use Rattle.lid_runs.specs.Runs.{fired_in}
-use Rattle.lid_machine.specs.Plans.{Plan, actors_of, stations_of, sink, ins_of, drainer_of, filler_of, cap, start_of, room_of}
-use Rattle.lid_machine.specs.Setups.{Setup, plan, output_rows}
-use Rattle.lid_machine.specs.Machine.{State, begun, out_count}
-use Rattle.lid_machine.specs.Laws.{IsSettled, sweeps}
-use Rattle.lid_shell.specs.Parts.{AreColumns}
-use Rattle.lid_work.specs.Posts.{no_turns}
-use Rattle.lid_work.specs.Tallies.{AddsUp, sum_below}
-use Rattle.lid_work.specs.Alone.{run_from, rounds_of}
-use Rattle.lid_crew.specs.Shares.{numbers_of}
+use Rattle.lid_shell_laws.specs.Runs.{fired_in}
+use Rattle.lid_walk_machine.specs.Plans.{Plan, actors_of, stations_of, sink, ins_of, drainer_of, filler_of, cap, start_of, room_of}
+use Rattle.lid_walk_machine.specs.Setups.{Setup, plan, output_rows}
+use Rattle.lid_walk_machine.specs.Machine.{State, begun, out_count}
+use Rattle.lid_walk_machine.specs.Laws.{IsSettled, sweeps}
+use Rattle.lid_shell.specs.Parts.{AreColumnsAtSink}
+use Rattle.lid_free_crew.specs.Posts.{no_turns}
+use Rattle.lid_free_crew.specs.Tallies.{AddsUp, sum_below}
+use Rattle.lid_free_crew.specs.Alone.{run_from, rounds_of}
+use Rattle.lid_free_crew.specs.Shares.{numbers_of}
 use Rattle.lid_free.specs.declared.run.FreeEnd.{FreeEnd}
 
 -- the rounds that are made: without rows none is
@@ -91,6 +91,6 @@ pub record IsLawful (m : Plan) (workers rounds : ℕ) (e : FreeEnd) : Type 0 whe
 
 -- the strict output rows, and what workers and sweeps did
 pub record IsFreeEnd (m : Setup) (workers rounds : ℕ) (e : FreeEnd) : Type 0 where
-  pub columns : AreColumns m (sink (plan m)) e.rows.columns
+  pub columns : AreColumnsAtSink m (sink (plan m)) e.rows.columns
   pub rows : e.rows.bits ≡ output_rows m (length m.input)
   pub lawful : IsLawful (plan m) workers rounds e

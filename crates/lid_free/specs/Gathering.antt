@@ -1,18 +1,18 @@
 -- Serves the bodies: what is left of the parallel phase.
 use Rattle.std.specs.Prelude.{◌≡◌, ℕ, ◌+◌, ◌<◌, ◌≤◌, List, [], ◌∷◌, length, map, get_or, Some, slice_get, vec_capacity}
-use Rattle.lid_design.specs.Network.{from_each}
+use Rattle.lid_base.specs.Each.{from_each}
 use Rattle.lid_base.specs.declared.runs.Tally.{Tally}
 use Rattle.lid_station.specs.declared.pair.Pair.{Pair}
-use Rattle.lid_machine.specs.Plans.{actors_of, stations_of}
-use Rattle.lid_machine.specs.Setups.{Setup, IsSetup, plan}
-use Rattle.lid_machine.specs.Machine.{begun}
-use Rattle.lid_machine.specs.Laws.{IsSound, sweeps}
+use Rattle.lid_walk_machine.specs.Plans.{actors_of, stations_of}
+use Rattle.lid_walk_machine.specs.Setups.{Setup, IsSetup, plan}
+use Rattle.lid_walk_machine.specs.Machine.{begun}
+use Rattle.lid_walk_machine.specs.Laws.{IsSound, sweeps}
 use Rattle.lid_shell.specs.declared.actor.Actor.{Actor}
-use Rattle.lid_actors.specs.Actors.{AreActors}
+use Rattle.lid_walk.specs.Actors.{AreActors}
 use Rattle.lid_walk.specs.Walks.{IsBoard}
-use Rattle.lid_work.specs.Alone.{run_from, rounds_of}
-use Rattle.lid_crew.specs.Crews.{HaveWorked}
-use Rattle.lid_free.specs.Settings.{AreGiven, IsCrewOf}
+use Rattle.lid_free_crew.specs.Alone.{run_from, rounds_of}
+use Rattle.lid_free_crew.specs.Crews.{HaveWorked}
+use Rattle.lid_free.specs.Settings.{AreEndsGiven, IsCrewOf}
 use Rattle.lid_free.specs.FreeRuns.{IsShareTally, AreWithinRounds, FirstTurnsFire, state_at}
 use Rattle.lid_free.specs.declared.setting.Boards.{Boards}
 use Rattle.lid_free.specs.declared.setting.Crew.{Crew}
@@ -23,7 +23,7 @@ fired_of actors = map (λ a. a.desk.fired) actors
 
 -- the workers have made so many rounds
 pub record HasWorkedOut (m : Setup) (workers made : ℕ) (b : Boards) (c : Crew) : Type 0 where
-  pub given : AreGiven m b
+  pub given : AreEndsGiven m b
   pub old : Crew
   pub set : IsCrewOf m b.board workers old
   pub worked : HaveWorked b.board made old.workers.items c.workers.items

@@ -6,6 +6,6 @@ use Rattle.lid_system.specs.Systems.{IsWellFormed}
 use Rattle.lid_system.specs.Tables.{system_drivers}
 use Rattle.lid_stations.specs.Laws.{StationsHaveTwoEdges}
 
-pub record RunsGoByRules : Type 0 where
+pub record FreeRunsGoByRules : Type 0 where
   pub some : (s : System) → IsWellFormed s → HasTable (system_drivers s)
   pub edges : StationsHaveTwoEdges

@@ -7,28 +7,28 @@ use Rattle.lid_station.specs.declared.pair.Pair.{Pair}
 use Rattle.lid_stations.specs.declared.placement.Placement.{Placement}
 use Rattle.lid_stations.specs.Placements.{Links, links_of}
 use Rattle.lid_stations.specs.Stations.{filler, drainer}
-use Rattle.lid_board.specs.Owners.{IsOf, ends_of, plan_of}
+use Rattle.lid_board.specs.Owners.{IsOf, ends_of, start_ends}
 use Rattle.lid_board.specs.Relation.{cap_of}
-use Rattle.lid_board.specs.Standing.{StandsFor}
+use Rattle.lid_board.specs.Standing.{AreStreamsOf}
 use Rattle.lid_board.specs.Views.{at}
 use Rattle.lid_board.specs.declared.board.Board.{Board}
-use Rattle.lid_board.specs.declared.view.Held.{Held}
-use Rattle.lid_machine.specs.Plans.{Plan, actors_of, stations_of, start_of, room_of, stream}
-use Rattle.lid_machine.specs.Setups.{Setup, IsSetup, plan}
-use Rattle.lid_machine.specs.Machine.{begun}
+use Rattle.lid_board.specs.declared.view.EndFacts.{EndFacts}
+use Rattle.lid_walk_machine.specs.Plans.{Plan, actors_of, stations_of, start_of, room_of, stream}
+use Rattle.lid_walk_machine.specs.Setups.{Setup, IsSetup, plan}
+use Rattle.lid_walk_machine.specs.Machine.{begun}
 use Rattle.lid_shell.specs.declared.actor.Actor.{Actor}
-use Rattle.lid_actors.specs.Actors.{AreActors}
-use Rattle.lid_work.specs.declared.worker.Worker.{Worker}
-use Rattle.lid_work.specs.Posts.{no_turns}
-use Rattle.lid_crew.specs.Shares.{share}
-use Rattle.lid_crew.specs.Crews.{HasShare, HasNone}
+use Rattle.lid_walk.specs.Actors.{AreActors}
+use Rattle.lid_free_crew.specs.declared.worker.Worker.{Worker}
+use Rattle.lid_free_crew.specs.Posts.{no_turns}
+use Rattle.lid_free_crew.specs.Shares.{share}
+use Rattle.lid_free_crew.specs.Crews.{HasShare, HasNone}
 use Rattle.lid_free.specs.declared.setting.Boards.{Boards}
 use Rattle.lid_free.specs.declared.setting.Room.{Room}
 use Rattle.lid_free.specs.declared.setting.Crew.{Crew}
 use Rattle.lid_free.specs.declared.setting.Setting.{Setting}
 
 -- what is known at an end of a station that so many tokens have passed, at the start
-pub record IsStart (m : Setup) (station passed : ℕ) (h : Held) : Type 0 where
+pub record IsEndStart (m : Setup) (station passed : ℕ) (h : EndFacts) : Type 0 where
   pub cap : h.cap ≡ room_of (plan m) station
   pub start : h.start ≡ start_of (plan m) station
   pub passed_is : h.passed ≡ passed
@@ -37,10 +37,10 @@ pub record IsStart (m : Setup) (station passed : ℕ) (h : Held) : Type 0 where
 
 -- the board of a setup at its start: its stations with their streams, and nothing seen
 pub record IsStarted (m : Setup) (board : Board) : Type 0 where
-  pub many : length (plan_of board) ≡ 2 * stations_of (plan m)
-  pub streams : StandsFor (plan_of board) (stream (plan m))
-  pub fills : (station : ℕ) → station < stations_of (plan m) → (h : Held) × (at (plan_of board) (fill station) ≡ Some h) × IsStart m station (start_of (plan m) station) h
-  pub drains : (station : ℕ) → station < stations_of (plan m) → (h : Held) × (at (plan_of board) (drain station) ≡ Some h) × IsStart m station 0 h
+  pub many : length (start_ends board) ≡ 2 * stations_of (plan m)
+  pub streams : AreStreamsOf (start_ends board) (stream (plan m))
+  pub fills : (station : ℕ) → station < stations_of (plan m) → (h : EndFacts) × (at (start_ends board) (fill station) ≡ Some h) × IsEndStart m station (start_of (plan m) station) h
+  pub drains : (station : ℕ) → station < stations_of (plan m) → (h : EndFacts) × (at (start_ends board) (drain station) ≡ Some h) × IsEndStart m station 0 h
 
 -- plain stations of its capacities
 pub record IsPlain (m : Setup) (pairs : List Pair) : Type 0 where
@@ -51,7 +51,7 @@ pub record IsPlain (m : Setup) (pairs : List Pair) : Type 0 where
 pub record AreBoards (m : Setup) (b : Boards) : Type 0 where
   pub board : IsStarted m b.board
   pub of : IsOf b.keeper b.board
-  pub all : ends_of b.keeper ≡ plan_of b.board
+  pub all : ends_of b.keeper ≡ start_ends b.board
   pub plain : IsPlain m b.plain.pairs.items
 
 -- the actor that owns an end
@@ -66,7 +66,7 @@ pub record AreOwners (s : System) (p : Placement) (many : ℕ) (owners : List �
 pub record IsSetOutAs (m : Setup) (board : Board) (workers : ℕ) (owners : List ℕ) (actors : List Actor) (i : ℕ) (w : Worker) : Type 0 where
   pub number : w.number ≡ i
   pub of : IsOf w.hand board
-  pub hand : HasShare workers owners (plan_of board) i w.hand
+  pub hand : HasShare workers owners (start_ends board) i w.hand
   pub none : w.tally ≡ no_turns
   pub actors_are : w.actors.items ≡ share workers i actors
 
@@ -81,13 +81,13 @@ pub record IsCrew (m : Setup) (board : Board) (workers : ℕ) (owners : List ℕ
   pub each : (i : ℕ) (w : Worker) → slice_get crew i ≡ Some w → IsSetOutAs m board workers owners actors i w
 
 -- room for so many workers, actors and stations
-pub record IsRoom (workers actors stations : ℕ) (r : Room) : Type 0 where
+pub record IsRoomFor (workers actors stations : ℕ) (r : Room) : Type 0 where
   pub tallies : length r.tallies.items ≡ workers
   pub fired : length r.fired.items ≡ actors
   pub passed : length r.passed.items ≡ stations
 
 -- the boards once the ends were given
-pub record AreGiven (m : Setup) (b : Boards) : Type 0 where
+pub record AreEndsGiven (m : Setup) (b : Boards) : Type 0 where
   pub of : IsOf b.keeper b.board
   pub none : HasNone b.keeper
   pub plain : IsPlain m b.plain.pairs.items
@@ -103,6 +103,6 @@ pub record IsCrewOf (m : Setup) (board : Board) (workers : ℕ) (c : Crew) : Typ
 
 -- all that a run needs
 pub record IsSetOut (m : Setup) (workers : ℕ) (s : Setting) : Type 0 where
-  pub given : AreGiven m s.boards
+  pub given : AreEndsGiven m s.boards
   pub crew : IsCrewOf m s.boards.board workers s.crew
-  pub room : IsRoom workers (actors_of (plan m)) (stations_of (plan m)) s.room
+  pub room : IsRoomFor workers (actors_of (plan m)) (stations_of (plan m)) s.room

@@ -1,9 +1,9 @@
 //! The sweeps after the parallel phase.
 
 ghost use Rattle.std.specs.Prelude.{◌≡◌, ℕ};
-ghost use Rattle.lid_machine.specs.Setups.{Setup, plan};
-ghost use Rattle.lid_machine.specs.Machine.{State};
-ghost use Rattle.lid_machine.specs.Laws.{AllRest};
+ghost use Rattle.lid_walk_machine.specs.Setups.{Setup, plan};
+ghost use Rattle.lid_walk_machine.specs.Machine.{State};
+ghost use Rattle.lid_walk_machine.specs.Laws.{AllRest};
 ghost use Rattle.lid_walk.specs.Walks.{Walks, IsAtRest};
 ghost use Rattle.lid_free.specs.Sweeps.{HasSettled};
 

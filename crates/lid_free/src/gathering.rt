@@ -1,19 +1,18 @@
 //! The parallel phase, and what is gathered after it.
 
 ghost use Rattle.std.specs.Prelude.{◌≡◌, ◌==◌, ◌≤◌, ℕ, cond, length, map, Some, slice_get};
-ghost use Rattle.lid_machine.specs.Setups.{Setup};
-ghost use Rattle.lid_work.specs.Posts.{IsReady};
-ghost use Rattle.lid_crew.specs.Crews.{HaveWorked};
+ghost use Rattle.lid_walk_machine.specs.Setups.{Setup};
+ghost use Rattle.lid_free_crew.specs.Posts.{IsReady};
+ghost use Rattle.lid_free_crew.specs.Crews.{HaveWorked};
 ghost use Rattle.lid_free.specs.Gathering.{fired_of, HasWorkedOut, AreGathered};
-ghost use Rattle.lid_work.specs.declared.worker.Worker.{Worker};
+ghost use Rattle.lid_free_crew.specs.declared.worker.Worker.{Worker};
 
 use crate::setting::{Boards, Crew};
 use lid_base::{Gate, Tally};
 use lid_board::Board;
-use lid_crew::{join_all, take_back, work_all};
+use lid_free_crew::{Worker, join_all, take_back, work_all};
 use lid_shell::Actor;
 use lid_station::{Pair, PlainBoard};
-use lid_work::Worker;
 use std::thread::Threads;
 
 /// Lets the workers of a run over so many rows make their rounds. Without rows none is started.

@@ -9,5 +9,5 @@ mod run;
 mod setting;
 
 pub use course::StrictCourse;
-pub use lid_work::{Worker, work};
+pub use lid_free_crew::{Worker, work};
 pub use run::{FreeEnd, free_run};

@@ -5,23 +5,22 @@ ghost use Rattle.std.specs.List.{AllByRecursion};
 ghost use Rattle.lid_graph.specs.Walks.{no_edge};
 ghost use Rattle.lid_system.specs.Systems.{IsWellFormed};
 ghost use Rattle.lid_stations.specs.Placements.{Fits};
-ghost use Rattle.lid_machine.specs.Setups.{Setup, IsInputRow};
-ghost use Rattle.lid_actors.specs.Setups.{IsSetupOf};
-ghost use Rattle.lid_free.specs.Settings.{AreBoards, AreOwners, AreGiven, IsCrewOf, IsRoom, IsSetOut};
+ghost use Rattle.lid_walk_machine.specs.Setups.{Setup, IsInputRow};
+ghost use Rattle.lid_walk.specs.Setups.{IsSetupOf};
+ghost use Rattle.lid_free.specs.Settings.{AreBoards, AreOwners, AreEndsGiven, IsCrewOf, IsRoomFor, IsSetOut};
 
 use crate::course::StrictCourse;
 use crate::rules::runs_go_by_rules;
-use lid_actors::{all_actors, first_tokens};
 use lid_base::Tally;
 use lid_board::{Board, Hand};
-use lid_crew::{deal, hire};
+use lid_free_crew::{Worker, deal, hire};
 use lid_graph::Edge;
 use lid_shell::Actor;
 use lid_station::PlainBoard;
 use lid_stations::{Placement, marking};
 use lid_system::System;
 use lid_texts::Rows;
-use lid_work::Worker;
+use lid_walk::{all_actors, first_tokens};
 use std::alloc::{AllocError, Global};
 
 /// The shared board with the hand that keeps its ends, and the plain board that it ends as.
@@ -105,7 +104,7 @@ pub(crate) struct Room {
 impl Room {
     /// Room for so many workers, actors and stations.
     fn make(alloc: Global, workers: u32, actors: usize, stations: usize) -> Result<Room, AllocError>
-        ensures { IfOk result (IsRoom workers actors stations) }
+        ensures { IfOk result (IsRoomFor workers actors stations) }
     {
         let none = Tally {
             turns: 0,
@@ -136,7 +135,7 @@ pub(crate) struct Crew<'r> {
 impl Crew<'_> {
     /// Room for what so many workers leave of its actors and of so many stations.
     fn room(&self, alloc: Global, workers: u32, stations: usize) -> Result<Room, AllocError>
-        ensures { IfOk result (IsRoom workers self.now.actors stations) }
+        ensures { IfOk result (IsRoomFor workers self.now.actors stations) }
     {
         Room::make(alloc, workers, self.actors, stations)
     }
@@ -157,7 +156,7 @@ fn start_crew<'r>(
     requires wide { AllByRecursion (IsInputRow system.now) rows.now.bits }
     requires some { 0 < workers }
     requires boards { (m : Setup) → IsSetupOf m system.now placement.now rows.now.bits → AreBoards m boards.old }
-    ensures given { OnOk result ((m : Setup) → IsSetupOf m system.now placement.now rows.now.bits → AreGiven m boards.new) }
+    ensures given { OnOk result ((m : Setup) → IsSetupOf m system.now placement.now rows.now.bits → AreEndsGiven m boards.new) }
     ensures crew { IfOk result (λ crew. (m : Setup) → IsSetupOf m system.now placement.now rows.now.bits → IsCrewOf m boards.new.board workers crew) }
 {
     runs_go_by_rules();

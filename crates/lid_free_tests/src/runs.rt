@@ -1,10 +1,10 @@
 //! Free runs: what workers count, and what a run gives, whatever the order of threads.
 
-ghost use Rattle.lid_settings.specs.Runs.{IsRun};
+ghost use Rattle.lid_tests_fixtures.specs.Runs.{IsFittingRun};
 
 use lid_base::{Gate, Items, MeetGate, OpenGate, Tally};
 use lid_free::{FreeEnd, free_run};
-use lid_settings::{RING, Run, run_of};
+use lid_tests_fixtures::{RING, SampleRun, run_of};
 use std::alloc::Global;
 use std::sync::atomic::{AtomicU64, Ordering};
 use std::thread::Threads;
@@ -50,12 +50,12 @@ impl Gate for CountGate {
 fn end_of<R: Threads + Sync, G: Gate>(
     rt: &R,
     alloc: Global,
-    run: &Run,
+    run: &SampleRun,
     workers: u32,
     rounds: u64,
     gate: &G,
 ) -> Option<FreeEnd>
-    requires { IsRun run.now.system run.now.placement run.now.rows.bits }
+    requires { IsFittingRun run.now.system run.now.placement run.now.rows.bits }
 {
     if workers == 0 || workers > 64 || rounds > 1000000 {
         return None;

@@ -12,7 +12,7 @@ use Rattle.lid_design.specs.declared.LatchKind.TheVariants.{Plain}
 use Rattle.lid_design.specs.declared.Init.TheVariants.{Zero, One}
 use Rattle.lid_design.specs.declared.Inst.{Inst}
 use Rattle.lid_design.specs.declared.Bind.{Bind}
-use Rattle.lid_design.specs.Network.{from_each}
+use Rattle.lid_base.specs.Each.{from_each}
 use Rattle.lid_gen.specs.declared.fault.GenFault.{GenFault}
 use Rattle.lid_gen.specs.declared.fault.GenFault.TheVariants.{Size}
 use Rattle.lid_gen.specs.Draws.{first_state, after, drawn}

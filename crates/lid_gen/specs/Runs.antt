@@ -1,6 +1,6 @@
 -- The rows of the generated run, and how many relay stations stand on each channel in it.
 use Rattle.std.specs.Prelude.{ℕ, ◌+◌, ◌*◌, ◌==◌, Bool, List}
-use Rattle.lid_design.specs.Network.{from_each}
+use Rattle.lid_base.specs.Each.{from_each}
 use Rattle.lid_texts.specs.declared.rows.Rows.{Rows}
 use Rattle.lid_gen.specs.Draws.{first_state, after, drawn}
 use Rattle.lid_gen.specs.Designs.{input_name}

@@ -1,7 +1,7 @@
 //! The making of a design.
 
 ghost use Rattle.std.specs.Prelude.{◌≡◌, ◌⊎◌, ◌≤◌, ◌<◌, ◌+◌, ◌*◌, ◌++◌, ◌∷◌, [], codes, None, Some, IfOk, IfErr, OnOk};
-ghost use Rattle.lid_design.specs.Network.{from_each};
+ghost use Rattle.lid_base.specs.Each.{from_each};
 ghost use Rattle.lid_gen.specs.declared.fault.GenFault.TheVariants.{Memory};
 ghost use Rattle.lid_gen.specs.Draws.{first_state, after};
 ghost use Rattle.lid_gen.specs.Designs.{input_name, output_name, kind_name, kind_model, shell_at, buffer_at, root_model, generated, size_fault};

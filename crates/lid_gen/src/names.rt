@@ -1,7 +1,7 @@
 //! The names of nets and models.
 
 ghost use Rattle.std.specs.Prelude.{◌≡◌, ◌<◌, ◌≤◌, ◌∷◌, [], IfOk};
-ghost use Rattle.lid_design.specs.Network.{from_each};
+ghost use Rattle.lid_base.specs.Each.{from_each};
 ghost use Rattle.lid_gen.specs.Designs.{numbered, shell_net, letter_of, net_at, before};
 
 use lid_base::{Items, Name, append_number};

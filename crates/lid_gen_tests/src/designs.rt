@@ -1,5 +1,5 @@
 //! Generated designs: their texts, their sizes, and that they are accepted. The first text was worked out by
-//! hand; the draws of the others were told by `tools/gen.py`.
+//! hand; the draws of the others were told by `tools/dev/gen.py`.
 
 ghost use Rattle.lid_design.specs.WellFormed.{IsWellFormed};
 
@@ -7,7 +7,7 @@ use lid_blifout::write;
 use lid_check::check;
 use lid_design::Design;
 use lid_gen::{GenFault, make};
-use lid_generated::{generated_designs_are_accepted, generated_designs_are_writable};
+use lid_gen_laws::{generated_designs_are_accepted, generated_designs_are_writable};
 use std::alloc::Global;
 
 /// Whether the text of a design begins like this.

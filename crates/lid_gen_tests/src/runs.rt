@@ -1,4 +1,4 @@
-//! Draws, and the rows and relay stations of runs. What is expected was told by `tools/gen.py`; the first run
+//! Draws, and the rows and relay stations of runs. What is expected was told by `tools/dev/gen.py`; the first run
 //! was worked out by hand.
 
 use lid_gen::{Draws, run_relays, run_rows};

@@ -8,12 +8,12 @@ use Rattle.lid_base.specs.declared.which.Which.TheVariants.{RootInsts}
 use Rattle.lid_design.specs.declared.Design.{Design}
 use Rattle.lid_design.specs.Models.{insts_of}
 use Rattle.lid_design.specs.Loops.{pearls}
-use Rattle.lid_parts.proofs.Finding.{whole_pearls, inst_count}
-use Rattle.lid_rules.specs.declared.fault.CheckFault.{CheckFault}
-use Rattle.lid_rules.specs.declared.fault.CheckFault.TheVariants.{Limit}
-use Rattle.lid_rules.specs.Conditions.{or_fault, over, limits}
-use Rattle.lid_rules.specs.Acceptance.{ModelsPass}
-use Rattle.lid_wiring.proofs.Passing.{or_none, no_limit}
+use Rattle.lid_check_parts.proofs.Finding.{whole_pearls, inst_count}
+use Rattle.lid_check_rules.specs.declared.fault.CheckFault.{CheckFault}
+use Rattle.lid_check_rules.specs.declared.fault.CheckFault.TheVariants.{Limit}
+use Rattle.lid_check_rules.specs.Conditions.{or_fault, over, limits}
+use Rattle.lid_check_rules.specs.Acceptance.{ModelsPass}
+use Rattle.lid_check_drivers.proofs.Passing.{or_none, no_limit}
 
 not_over : (greatest count : ℕ) (which : Which) → over greatest which count ≡ None → count ≤ greatest
 not_over greatest count which none = by (nat_lt greatest count) refl none

@@ -1,11 +1,11 @@
 -- What acceptance says of ports, inputs and drivers.
-use Rattle.std.proofs.Common.{◌≡◌, ◌<◌, ◌≤◌, ◌⊎◌, ◌+◌, ℕ, zero, suc, Bool, true, false, cond, List, [], ◌∷◌, ◌++◌, length, map, get_or, take, drop, Option, Some, None, option_map, slice_get, inl, inr, refl, sym, ◌∙◌, ap, subst, arith, append-nil, not, length-append}
+use Rattle.std.proofs.Common.{◌≡◌, ◌<◌, ◌≤◌, ◌⊎◌, ◌+◌, ℕ, zero, suc, Bool, true, false, cond, List, [], ◌∷◌, ◌++◌, length, map, get_or, Option, Some, None, option_map, slice_get, inl, inr, refl, sym, ◌∙◌, ap, subst, arith, not, length-append}
 use Rattle.std.specs.Option.{option_map_or}
 use Rattle.std.proofs.lemmas.Option.{slice_get_within, get_or_from_slice_get, slice_get-map}
 use Rattle.std.specs.List.{AllByRecursion}
-use Rattle.std.proofs.lemmas.List.{length-map, take_all}
-use Rattle.lid_base.specs.Lists.{Among}
-use Rattle.lid_base.proofs.Lists.{all_among, get_among, among_get, map_among, then_some}
+use Rattle.std.proofs.lemmas.List.{length-map}
+use Rattle.lid_base.specs.Lists.{Among, AreOnce}
+use Rattle.lid_base.proofs.Lists.{all_among, get_among, among_get, map_among, then_some, among_one}
 use Rattle.lid_cover.specs.Cover.{IsCover}
 use Rattle.lid_design.specs.declared.Design.{Design}
 use Rattle.lid_design.specs.declared.Model.{Model}
@@ -13,46 +13,47 @@ use Rattle.lid_design.specs.Network.{Driver, from_input, from_latch, from_cover,
 use Rattle.lid_design.specs.Columns.{Column, column, model_at, is_clock, data_inputs, drivers_in, drivers, root_inputs}
 use Rattle.lid_design.specs.Elaboration.{columns, model_nets}
 use Rattle.lid_design.specs.Models.{insts_of, IsReached, number_from}
-use Rattle.lid_wiring.specs.Judged.{IsJudged}
-use Rattle.lid_wiring.proofs.Clocking.{model_at_number}
+use Rattle.lid_check_drivers.specs.Judged.{IsJudged}
+use Rattle.lid_check_drivers.proofs.Clocking.{model_at_number}
 use Rattle.lid_check.proofs.Sound.{judged_of}
-use Rattle.lid_parts.specs.PearlParts.{ArePortsApart}
-use Rattle.lid_parts.proofs.Beginning.{AreApart, apart_filter, inputs_apart, outputs_apart, nets_begin, columns_begin}
-use Rattle.lid_wiring.proofs.Limits.{few_columns}
-use Rattle.lid_elab.specs.Numbers.{columns_in, start_of}
-use Rattle.lid_elab.proofs.Numbering.{numbering}
+use Rattle.lid_check_parts.specs.PearlParts.{ArePortsApart}
+use Rattle.lid_check_parts.proofs.Beginning.{inputs_apart, outputs_apart, nets_begin, columns_begin}
+use Rattle.lid_base.proofs.Once.{once_at, once_filter}
+use Rattle.lid_check_drivers.proofs.Limits.{few_columns}
+use Rattle.lid_check_elab.specs.Numbers.{columns_in, start_of}
+use Rattle.lid_check_elab.proofs.Numbering.{numbering}
 use Rattle.lid_check.proofs.Widths.{nets_few}
-use Rattle.lid_parts.proofs.Finding.{whole_pearls, inst_count, inst_pearl}
+use Rattle.lid_check_parts.proofs.Finding.{whole_pearls, inst_count, inst_pearl}
 use Rattle.std.proofs.lemmas.Bool.{cases_lt}
 use Rattle.lid_design.specs.Loops.{pearls}
 use Rattle.lid_design.specs.Walks.{IsDriven}
 use Rattle.lid_design.specs.WellFormed.{IsWellFormed}
-use Rattle.lid_elab.specs.declared.driver.ColumnDriver.{ColumnDriver}
-use Rattle.lid_elab.specs.declared.driver.ColumnDriver.TheVariants.{Input, Latch, Cover as OfCover, Connection}
-use Rattle.lid_elab.specs.Covers.{cover_in}
-use Rattle.lid_elab.specs.Elaborations.{shown_driver, map_driver, column_at}
-use Rattle.lid_flatten.specs.Parts.{driver_at, HasCover}
-use Rattle.lid_flaws.proofs.Numbered.{same_number}
+use Rattle.lid_check_elab.specs.declared.driver.ColumnDriver.{ColumnDriver}
+use Rattle.lid_check_elab.specs.declared.driver.ColumnDriver.TheVariants.{Input, Latch, Cover as OfCover, Connection}
+use Rattle.lid_check_elab.specs.Covers.{cover_in}
+use Rattle.lid_check_elab.specs.Elaborations.{shown_driver, map_driver, column_at}
+use Rattle.lid_check_parts.specs.Parts.{driver_at, HasCover}
+use Rattle.lid_check_loops.proofs.Numbered.{same_number}
 use Rattle.lid_check.specs.Acceptance.{IsAccepted}
 use Rattle.lid_check.specs.Networks.{IsNetwork}
 use Rattle.lid_check.specs.declared.network.Network.{Network}
 use Rattle.lid_check.proofs.Flats.{ports_apart, covers}
-use Rattle.lid_leads.specs.declared.origin.Origin.{Origin}
+use Rattle.lid_net.specs.declared.origin.Origin.{Origin}
 use Rattle.lid_system.specs.declared.Channel.{Channel}
 use Rattle.lid_system.specs.declared.InBit.{InBit}
-use Rattle.lid_channels.specs.declared.reads.Read.{Read}
-use Rattle.lid_channels.specs.Bits.{CarryAll}
-use Rattle.lid_net.specs.declared.part.Part.{Part}
+use Rattle.lid_net_channels.specs.declared.reads.Read.{Read}
+use Rattle.lid_net_channels.specs.Bits.{CarryAll}
+use Rattle.lid_net.specs.declared.part.ShellPart.{ShellPart}
 use Rattle.lid_net.specs.Marks.{part_outs}
-use Rattle.lid_parts.proofs.Reading.{IsNear, driver_near}
-use Rattle.lid_agree.proofs.Inputs.{root_input_drives}
-use Rattle.lid_agree.specs.Ports.{outputs_at, ports_of, IsPort}
+use Rattle.lid_check_parts.proofs.Reading.{IsNear, driver_near}
+use Rattle.lid_net_law.proofs.Inputs.{root_input_drives}
+use Rattle.lid_net_law.specs.Ports.{outputs_at, ports_of, IsPort}
 use Rattle.lid_net.specs.Graphs.{inputs_of, LeadsTo}
-use Rattle.lid_net.specs.PearlParts.{IsPartOf, ArePartsOf}
+use Rattle.lid_net.specs.PearlParts.{IsShellPartOf, ArePartsOf}
 use Rattle.lid_net.specs.Systems.{AreOutputs}
-use Rattle.lid_net.proofs.Rising.{all_by}
-use Rattle.lid_net.proofs.Joining.{got_all, got_map}
-use Rattle.lid_net.proofs.Leading.{ArePortsOnce, AreInputsPorts, only, one_of}
+use Rattle.lid_net.proofs.Tracing.{ArePortsOnce, AreInputsPorts, only}
+use Rattle.lid_base.proofs.Places.{map_get}
+use Rattle.lid_base.proofs.Alls.{all_from_among}
 
 pub root_model : (d : Design) (m : Model) → model_at d [] ≡ Some m → slice_get d.models d.root ≡ Some m
 unfolding model_at
@@ -60,13 +61,6 @@ root_model d m h = h
 
 pub judged : (d : Design) → IsWellFormed d → IsAccepted d → IsJudged d
 judged d formed accepted = judged_of d formed accepted.models
-
-apart_places : (names : List (List ℕ)) (i j : ℕ) (net : List ℕ) → AreApart names → slice_get names i ≡ Some net → slice_get names j ≡ Some net → i ≡ j
-apart_places [] i j net h a b = absurd (let e : None ≡ Some net = a in cc)
-apart_places (x ∷ xs) zero zero net h a b = refl
-apart_places (x ∷ xs) zero (suc j) net h a b = absurd (h.0 (subst (λ (y : List ℕ). Among y xs) (let e : Some x ≡ Some net = a in let f : net ≡ x = cc in f) (get_among xs j net b)))
-apart_places (x ∷ xs) (suc i) zero net h a b = absurd (h.0 (subst (λ (y : List ℕ). Among y xs) (let e : Some x ≡ Some net = b in let f : net ≡ x = cc in f) (get_among xs i net a)))
-apart_places (x ∷ xs) (suc i) (suc j) net h a b = ap suc (apart_places xs i j net h.1 a b)
 
 -- the pearls are in different places
 pearls_apart : (d : Design) (p q : ℕ) (path : List ℕ) → slice_get (pearls d) p ≡ Some path → slice_get (pearls d) q ≡ Some path → p ≡ q
@@ -94,24 +88,24 @@ pearls_apart d p q path a b = by (cases_lt 0 (length (insts_of d d.root)))
         omega arith
 
 -- the names of the ports of a pearl's model are apart
-model_apart : (d : Design) → IsWellFormed d → IsAccepted d → (path : List ℕ) (m : Model) (p : ℕ) → slice_get (pearls d) p ≡ Some path → model_at d path ≡ Some m → AreApart m.inputs × AreApart m.outputs
+model_apart : (d : Design) → IsWellFormed d → IsAccepted d → (path : List ℕ) (m : Model) (p : ℕ) → slice_get (pearls d) p ≡ Some path → model_at d path ≡ Some m → AreOnce m.inputs × AreOnce m.outputs
 model_apart d formed accepted path m p here body =
     let at = then_some (number_from d d.root path) (slice_get d.models) m (sym (model_at_number d path) ∙ body) in
     (inputs_apart d (judged d formed accepted) at.0 (path, at.1) m at.2, outputs_apart d (judged d formed accepted) at.0 (path, at.1) m at.2)
 
-root_apart : (d : Design) → IsWellFormed d → IsAccepted d → AreApart (root_inputs d)
+root_apart : (d : Design) → IsWellFormed d → IsAccepted d → AreOnce (root_inputs d)
 unfolding data_inputs number_from
 root_apart d formed accepted = by (slice_get d.models d.root) refl
   where
-    by : (o : Option Model) → slice_get d.models d.root ≡ o → AreApart (option_map_or (data_inputs d) o [])
+    by : (o : Option Model) → slice_get d.models d.root ≡ o → AreOnce (option_map_or (data_inputs d) o [])
     by None e = tt
-    by (Some m) e = apart_filter (λ net. not (is_clock d m net)) m.inputs (inputs_apart d (judged d formed accepted) d.root ([], refl) m e)
+    by (Some m) e = once_filter (λ net. not (is_clock d m net)) m.inputs (inputs_apart d (judged d formed accepted) d.root ([], refl) m e)
 
 -- the name of a port of the source
 pub source_name : (d : Design) (c : Column) (place : ℕ) → IsPort d c 0 place → (slice_get (root_inputs d) place ≡ Some c.net) × (c.path ≡ [])
 unfolding ports_of
 source_name d c place h =
-    let at = got_map (column []) (root_inputs d) place c h in
+    let at = map_get (column []) (root_inputs d) place c h in
     (at.1 ∙ ap (λ (x : Column). Some x.net) (sym at.2), ap (λ (x : Column). x.path) at.2)
 
 pub record IsNamed (d : Design) (c : Column) (p place : ℕ) : Type 0 where
@@ -134,7 +128,7 @@ shell_name d c p place h = by (slice_get (pearls d) p) refl h
         in_model : (o : Option Model) → model_at d path ≡ o → slice_get (option_map_or (λ m. map (column path) m.outputs) o []) place ≡ Some c → IsNamed d c p place
         in_model None f k = absurd (let x : None ≡ Some c = k in cc)
         in_model (Some m) f k =
-            let at = got_map (column path) m.outputs place c k in
+            let at = map_get (column path) m.outputs place c k in
             record { path = path; here = e; model = m; body = f; name = at.1 ∙ ap (λ (x : Column). Some x.net) (sym at.2); at = ap (λ (x : Column). x.path) at.2 }
 
 -- no port of the source is one of a shell
@@ -150,7 +144,7 @@ mixed d formed accepted c p i j a b =
 
 -- no column is a port twice
 pub ports_once : (d : Design) → IsWellFormed d → IsAccepted d → ArePortsOnce d
-ports_once d formed accepted c zero zero i j a b = (refl, apart_places (root_inputs d) i j c.net (root_apart d formed accepted) (source_name d c i a).0 (source_name d c j b).0)
+ports_once d formed accepted c zero zero i j a b = (refl, once_at (root_inputs d) (root_apart d formed accepted) i j c.net (source_name d c i a).0 (source_name d c j b).0)
 ports_once d formed accepted c zero (suc q) i j a b = absurd (mixed d formed accepted c q i j a b)
 ports_once d formed accepted c (suc p) zero i j a b = absurd (mixed d formed accepted c p j i b a)
 ports_once d formed accepted c (suc p) (suc q) i j a b =
@@ -159,7 +153,7 @@ ports_once d formed accepted c (suc p) (suc q) i j a b =
     let path : x.path ≡ y.path = sym x.at ∙ y.at in
     let same : p ≡ q = pearls_apart d p q y.path (x.here ∙ ap Some path) y.here in
     let model : x.model ≡ y.model = (let e : Some x.model ≡ Some y.model = sym x.body ∙ ap (model_at d) path ∙ y.body in cc) in
-    (ap suc same, apart_places y.model.outputs i j c.net (model_apart d formed accepted y.path y.model q y.here y.body).1 (ap (λ (m : Model). slice_get m.outputs i) (sym model) ∙ x.name) y.name)
+    (ap suc same, once_at y.model.outputs (model_apart d formed accepted y.path y.model q y.here y.body).1 i j c.net (ap (λ (m : Model). slice_get m.outputs i) (sym model) ∙ x.name) y.name)
 
 none_driven : (d : Design) (c : Column) (r : Driver Column) → model_at d c.path ≡ None → Among r (drivers d c) → ⊥
 unfolding drivers
@@ -186,7 +180,7 @@ inputs_ports d formed accepted c j only_driver = by (model_at d c.path) refl
         let name : get_or (root_inputs d) at.0 [] ≡ c.net = get_or_from_slice_get (root_inputs d) at.0 c.net [] there in
         let col : column [] (get_or (root_inputs d) at.0 []) ≡ c = ap (column []) name ∙ ap (λ (p : List ℕ). column p c.net) (sym path) in
         let driven : Among {A = Driver Column} (from_input at.0) (drivers d c) = subst (λ (x : Column). Among {A = Driver Column} (from_input at.0) (drivers d x)) col (root_input_drives d at.0 less) in
-        let same : from_input at.0 ≡ from_input j = one_of (from_input at.0) (from_input j) (subst (λ (rs : List (Driver Column)). Among {A = Driver Column} (from_input at.0) rs) only_driver driven) in
+        let same : from_input at.0 ≡ from_input j = among_one (from_input at.0) (from_input j) (subst (λ (rs : List (Driver Column)). Among {A = Driver Column} (from_input at.0) rs) only_driver driven) in
         let place : at.0 ≡ j = cc in
         subst (λ (x : ℕ). IsPort d c 0 x) place (source_port d c at.0 (ap (option_map (column [])) there ∙ ap (λ (p : List ℕ). Some (column p c.net)) (sym path)))
 
@@ -200,7 +194,7 @@ inputs_ports d formed accepted c j only_driver = by (model_at d c.path) refl
         near (inl (given, inr path)) = at_root m here path given
 
 -- a pearl has no more outputs than there are columns
-pub outputs_few : (d : Design) → IsWellFormed d → IsAccepted d → (count i : ℕ) (part : Part) → IsPartOf d count i part → length part.outs ≤ 1048576
+pub outputs_few : (d : Design) → IsWellFormed d → IsAccepted d → (count i : ℕ) (part : ShellPart) → IsShellPartOf d count i part → length part.outs ≤ 1048576
 outputs_few d formed accepted count i part is =
     let at = then_some (number_from d d.root is.path) (slice_get d.models) is.model (sym (model_at_number d is.path) ∙ is.body) in
     let reached : IsReached d at.0 = (is.path, at.1) in
@@ -216,13 +210,13 @@ outputs_few d formed accepted count i part is =
 pub all_cover : (d : Design) (n : Network) → IsWellFormed d → IsNetwork d n → AllByRecursion (HasCover d) n.columns.drivers
 all_cover d n formed is = covers d n.columns.drivers n.columns.starts is.elaborated formed
 
-pub parts_below : (d : Design) (parts : List Part) (n : ℕ) → ArePartsOf d (length (columns d)) parts → n ≡ length (columns d) → AllByRecursion (λ part. AllByRecursion (λ k. k < n) (part_outs part)) parts
-parts_below d parts n are size = all_by (λ part. AllByRecursion (λ k. k < n) (part_outs part)) parts (λ part among.
+pub parts_below : (d : Design) (parts : List ShellPart) (n : ℕ) → ArePartsOf d (length (columns d)) parts → n ≡ length (columns d) → AllByRecursion (λ part. AllByRecursion (λ k. k < n) (part_outs part)) parts
+parts_below d parts n are size = all_from_among (λ part. AllByRecursion (λ k. k < n) (part_outs part)) parts (λ part among.
     let at = among_get parts part among in
     subst (λ (m : ℕ). AllByRecursion (λ k. k < m) part.outs) (sym size) (are.each at.0 part at.1).outs_below)
 
-pub parts_narrow : (d : Design) (parts : List Part) → IsWellFormed d → IsAccepted d → ArePartsOf d (length (columns d)) parts → AllByRecursion (λ part. length (part_outs part) ≤ 1048576) parts
-parts_narrow d parts formed accepted are = all_by (λ part. length (part_outs part) ≤ 1048576) parts (λ part among.
+pub parts_narrow : (d : Design) (parts : List ShellPart) → IsWellFormed d → IsAccepted d → ArePartsOf d (length (columns d)) parts → AllByRecursion (λ part. length (part_outs part) ≤ 1048576) parts
+parts_narrow d parts formed accepted are = all_from_among (λ part. length (part_outs part) ≤ 1048576) parts (λ part among.
     let at = among_get parts part among in
     outputs_few d formed accepted (length (columns d)) at.0 part (are.each at.0 part at.1))
 
@@ -235,16 +229,6 @@ count_is d n is = sym (length-map n.columns.drivers (shown_driver d)) ∙ is.ela
 
 pub outputs_are : (d : Design) (n : Network) → IsNetwork d n → AreOutputs d n.outputs
 outputs_are d n is = record { below = subst (λ (m : ℕ). AllByRecursion (λ k. k < m) n.outputs) (count_is d n is) is.outputs.below; columns_are = is.outputs.outputs }
-
--- what is left of bits that a callee wrote
-pub refilled : {A : Type 0} (len : ℕ) (new old : List A) → len ≡ length new → length new ≡ length old → take len (new ++ drop (length new) old) ≡ new
-refilled {A} len new old long size = ap (λ (xs : List A). take len (new ++ xs)) (gone (length new) old (omega arith)) ∙ ap (take len) (append-nil new) ∙ take_all len new (omega arith)
-  where
-    gone : (n : ℕ) (xs : List A) → length xs ≤ n → drop n xs ≡ []
-    gone zero [] h = refl
-    gone zero (x ∷ xs) h = absurd (omega arith)
-    gone (suc n) [] h = refl
-    gone (suc n) (x ∷ xs) h = gone n xs (omega arith)
 
 -- there is a bit for each read
 pub carry_long : (channels : List Channel) (rs : List Read) (bs : List InBit) → CarryAll channels rs bs → length bs ≡ length rs

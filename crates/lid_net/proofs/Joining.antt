@@ -6,16 +6,17 @@ use Rattle.std.proofs.lemmas.List.{length-map}
 use Rattle.std.proofs.lemmas.Option.{slice_get_within, get_or_from_slice_get}
 use Rattle.std.proofs.lemmas.Bool.{cases_lt}
 use Rattle.lid_base.specs.Lists.{Among}
-use Rattle.lid_base.proofs.Lists.{among_flat, among_map, get_among, among_get}
+use Rattle.lid_base.proofs.Lists.{among_flat, among_map, get_among, among_get, all_at, map_same}
 use Rattle.lid_design.specs.declared.Design.{Design}
 use Rattle.lid_design.specs.declared.Model.{Model}
-use Rattle.lid_design.specs.Network.{Driver, from_input, from_latch, from_cover, from_connection, from_each}
-use Rattle.lid_flatten.specs.Standing.{IsInput, StandsFor}
+use Rattle.lid_design.specs.Network.{Driver, from_input, from_latch, from_cover, from_connection}
+use Rattle.lid_base.specs.Each.{from_each}
+use Rattle.lid_check_parts.specs.Standing.{IsInput, StandsFor}
 use Rattle.lid_design.specs.Columns.{Column, column, model_at, data_inputs, drivers, root_inputs, root_outputs}
 use Rattle.lid_design.specs.Elaboration.{columns}
 use Rattle.lid_design.specs.Flat.{IsFlat, latch_init}
 use Rattle.lid_design.specs.Loops.{pearls}
-use Rattle.lid_elab.specs.Elaborations.{column_at}
+use Rattle.lid_check_elab.specs.Elaborations.{column_at}
 use Rattle.lid_pearl.specs.Pearls.{View}
 use Rattle.lid_system.specs.declared.System.{System}
 use Rattle.lid_system.specs.declared.Channel.{Channel}
@@ -25,23 +26,26 @@ use Rattle.lid_system.specs.declared.Node.{Node}
 use Rattle.lid_system.specs.declared.Node.TheVariants.{Source, Shell, Sink}
 use Rattle.lid_system.specs.Systems.{Point, source_port, shell_net, ports_of as system_ports, ports_at, IsRead, IsShell, IsSink, IsNode, IsChannel, Precedes, IsWellFormed}
 use Rattle.lid_system.specs.Tables.{carried_at}
-use Rattle.lid_agree.specs.Agreement.{column_of, IsPassedOn, LeadsBack, IsLed, AreLed, IsShellOf, IsSystemOf}
-use Rattle.lid_agree.proofs.Leading.{carried_column}
-use Rattle.lid_channels.specs.declared.reads.Read.{Read}
-use Rattle.lid_channels.specs.Reads.{IsBefore, AreAscending}
-use Rattle.lid_channels.specs.Pieces.{read_by, reads_in, AreCut, AreChannelsOf}
-use Rattle.lid_channels.specs.Bits.{IsBitOf, Carries}
-use Rattle.lid_leads.specs.declared.origin.Origin.{Origin}
-use Rattle.lid_leads.specs.declared.origin.Origin.TheVariants.{Const, Port}
-use Rattle.lid_leads.specs.Steps.{origin_at}
-use Rattle.lid_net.proofs.Rising.{channels_rise, channel_ports, first_port, all_by}
-use Rattle.lid_net.specs.declared.part.Part.{Part}
+use Rattle.lid_net_law.specs.Agreement.{column_of, IsPassedOn, LeadsBack, IsLed, AreLed, IsPearlShell, IsSystemOf}
+use Rattle.lid_net_law.proofs.Leading.{carried_column}
+use Rattle.lid_net_channels.specs.declared.reads.Read.{Read}
+use Rattle.lid_net_channels.specs.Reads.{IsBefore, AreAscending}
+use Rattle.lid_net_channels.specs.Pieces.{read_by, reads_in, AreCut, AreChannelsOf}
+use Rattle.lid_net_channels.specs.Bits.{IsBitOf, Carries}
+use Rattle.lid_net.specs.declared.origin.Origin.{Origin}
+use Rattle.lid_net.specs.declared.origin.Origin.TheVariants.{Const, Port}
+use Rattle.lid_net.specs.Steps.{origin_at}
+use Rattle.lid_net.proofs.Rising.{channels_rise, channel_ports, first_port}
+use Rattle.lid_net.specs.declared.part.ShellPart.{ShellPart}
 use Rattle.lid_net.specs.Reads.{read_of}
-use Rattle.lid_net.specs.Nodes.{IsBitFor, IsBitOfOrigin, AreBits, IsShellFor, AreShells, AreNodes}
-use Rattle.lid_agree.specs.Ports.{outputs_at, ports_of, IsPort}
+use Rattle.lid_net.specs.Nodes.{IsBitFor, IsBitOfOrigin, AreInBits, IsShellFor, AreShellNodes, AreNodes}
+use Rattle.lid_net_law.specs.Ports.{outputs_at, ports_of, IsPort}
 use Rattle.lid_net.specs.Graphs.{inputs_at, inputs_of, LeadsIn, LeadsTo, IsReadBy, IsGraphOf}
-use Rattle.lid_net.specs.PearlParts.{IsPartOf, ArePartsOf}
+use Rattle.lid_net.specs.PearlParts.{IsShellPartOf, ArePartsOf}
 use Rattle.lid_net.specs.Systems.{AreColumnsLed, AreLeads, AreOutputs, AreNodesOf}
+use Rattle.lid_base.proofs.Places.{item_at, map_get}
+use Rattle.lid_base.proofs.Alls.{all_from_among}
+use Rattle.lid_base.proofs.Each.{each_map}
 
 -- the channels of the reads of a design are its channels
 pub graph_of : (d : Design) (origins : List (Option Origin)) (reads : List Read) (channels : List Channel) → AreLeads d origins reads → AreChannelsOf reads channels → IsGraphOf d channels
@@ -57,13 +61,13 @@ lead_end d zero c node place h = (c, h)
 lead_end d (suc n) c node place h = lead_end d n h.1 node place h.3
 
 -- bits and inputs, place by place
-bits_long : (channels : List Channel) (origins : List (Option Origin)) (to : ℕ) (ks : List ℕ) (xs : List InBit) → AreBits channels origins to ks xs → length ks ≡ length xs
+bits_long : (channels : List Channel) (origins : List (Option Origin)) (to : ℕ) (ks : List ℕ) (xs : List InBit) → AreInBits channels origins to ks xs → length ks ≡ length xs
 bits_long channels origins to [] [] h = refl
 bits_long channels origins to [] (x ∷ xs) h = absurd h
 bits_long channels origins to (k ∷ ks) [] h = absurd h
 bits_long channels origins to (k ∷ ks) (x ∷ xs) h = ap suc (bits_long channels origins to ks xs h.1)
 
-bits_at : (channels : List Channel) (origins : List (Option Origin)) (to : ℕ) (ks : List ℕ) (xs : List InBit) (j k : ℕ) (x : InBit) → AreBits channels origins to ks xs → slice_get ks j ≡ Some k → slice_get xs j ≡ Some x → IsBitFor channels origins to k x
+bits_at : (channels : List Channel) (origins : List (Option Origin)) (to : ℕ) (ks : List ℕ) (xs : List InBit) (j k : ℕ) (x : InBit) → AreInBits channels origins to ks xs → slice_get ks j ≡ Some k → slice_get xs j ≡ Some x → IsBitFor channels origins to k x
 bits_at channels origins to [] xs j k x h here there = absurd (let e : None ≡ Some k = here in cc)
 bits_at channels origins to (i ∷ ks) [] j k x h here there = absurd h
 bits_at channels origins to (i ∷ ks) (y ∷ xs) zero k x h here there =
@@ -79,25 +83,25 @@ bit_reads s to (Some (Const bit)) x h = subst (IsRead s to) (sym h) tt
 bit_reads s to (Some (Port node place)) (bits.Const bit) h = absurd h
 bit_reads s to (Some (Port node place)) (bits.Port chan bit) h = (h.c, h.here, h.to, slice_get_within h.c.ports bit place h.port)
 
-bits_read : (s : System) (origins : List (Option Origin)) (to : ℕ) (ks : List ℕ) (xs : List InBit) → AreBits s.channels origins to ks xs → AllByRecursion (IsRead s to) xs
+bits_read : (s : System) (origins : List (Option Origin)) (to : ℕ) (ks : List ℕ) (xs : List InBit) → AreInBits s.channels origins to ks xs → AllByRecursion (IsRead s to) xs
 bits_read s origins to [] [] h = tt
 bits_read s origins to [] (x ∷ xs) h = absurd h
 bits_read s origins to (k ∷ ks) [] h = absurd h
 bits_read s origins to (k ∷ ks) (x ∷ xs) h = (bit_reads s to (origin_at origins k) x h.0, bits_read s origins to ks xs h.1)
 
 -- shells and parts, place by place
-pub record ShellAt (channels : List Channel) (origins : List (Option Origin)) (node j : ℕ) (parts : List Part) (shell : Node) : Type 0 where
-  pub part : Part
+pub record ShellAt (channels : List Channel) (origins : List (Option Origin)) (node j : ℕ) (parts : List ShellPart) (shell : Node) : Type 0 where
+  pub part : ShellPart
   pub here : slice_get parts j ≡ Some part
   pub is : IsShellFor channels origins (node + j) part shell
 
-shells_long : (channels : List Channel) (origins : List (Option Origin)) (node : ℕ) (parts : List Part) (shells : List Node) → AreShells channels origins node parts shells → length shells ≡ length parts
+shells_long : (channels : List Channel) (origins : List (Option Origin)) (node : ℕ) (parts : List ShellPart) (shells : List Node) → AreShellNodes channels origins node parts shells → length shells ≡ length parts
 shells_long channels origins node [] [] h = refl
 shells_long channels origins node [] (x ∷ xs) h = absurd h
 shells_long channels origins node (p ∷ ps) [] h = absurd h
 shells_long channels origins node (p ∷ ps) (x ∷ xs) h = ap suc (shells_long channels origins (node + 1) ps xs h.1)
 
-shell_at : (channels : List Channel) (origins : List (Option Origin)) (node : ℕ) (parts : List Part) (shells : List Node) (j : ℕ) (shell : Node) → AreShells channels origins node parts shells → slice_get shells j ≡ Some shell → ShellAt channels origins node j parts shell
+shell_at : (channels : List Channel) (origins : List (Option Origin)) (node : ℕ) (parts : List ShellPart) (shells : List Node) (j : ℕ) (shell : Node) → AreShellNodes channels origins node parts shells → slice_get shells j ≡ Some shell → ShellAt channels origins node j parts shell
 shell_at channels origins node parts [] j shell h here = absurd (let e : None ≡ Some shell = here in cc)
 shell_at channels origins node [] (x ∷ xs) j shell h here = absurd h
 shell_at channels origins node (p ∷ ps) (x ∷ xs) zero shell h here =
@@ -129,13 +133,13 @@ standing inputs outputs shells ins (suc i) node here = by shells i here
     by xs j h = elim (split xs j h) [ inl e ↦ inner j (omega arith) e | inr e ↦ final (let l = e.0 in omega arith) e.1 ]
 
 -- the shell of a part
-part_shell : (channels : List Channel) (origins : List (Option Origin)) (node : ℕ) (parts : List Part) (shells : List Node) (j : ℕ) (part : Part) → AreShells channels origins node parts shells → slice_get parts j ≡ Some part → (shell : Node) × (slice_get shells j ≡ Some shell) × IsShellFor channels origins (node + j) part shell
+part_shell : (channels : List Channel) (origins : List (Option Origin)) (node : ℕ) (parts : List ShellPart) (shells : List Node) (j : ℕ) (part : ShellPart) → AreShellNodes channels origins node parts shells → slice_get parts j ≡ Some part → (shell : Node) × (slice_get shells j ≡ Some shell) × IsShellFor channels origins (node + j) part shell
 part_shell channels origins node [] xs j part h here = absurd (let e : None ≡ Some part = here in cc)
 part_shell channels origins node (p ∷ ps) [] j part h here = absurd h
 part_shell channels origins node (p ∷ ps) (x ∷ xs) zero part h here =
     let e : p ≡ part = (let f : Some p ≡ Some part = here in cc) in
     let n : node ≡ node + 0 = omega arith in
-    (x, refl, subst (λ (m : ℕ). IsShellFor channels origins m part x) n (subst (λ (q : Part). IsShellFor channels origins node q x) e h.0))
+    (x, refl, subst (λ (m : ℕ). IsShellFor channels origins m part x) n (subst (λ (q : ShellPart). IsShellFor channels origins node q x) e h.0))
 part_shell channels origins node (p ∷ ps) (x ∷ xs) (suc j) part h here =
     let at = part_shell channels origins (node + 1) ps xs j part h.1 here in
     let n : (node + 1) + j ≡ node + suc j = omega arith in
@@ -145,21 +149,6 @@ get_left : (xs ys : List Node) (j : ℕ) (x : Node) → slice_get xs j ≡ Some 
 get_left [] ys j x h = absurd (let e : None ≡ Some x = h in cc)
 get_left (y ∷ xs) ys zero x h = h
 get_left (y ∷ xs) ys (suc j) x h = get_left xs ys j x h
-
-pub got_here : {A : Type 0} (xs : List A) (j : ℕ) → j < length xs → (x : A) × (slice_get xs j ≡ Some x)
-got_here [] j h = absurd (omega arith)
-got_here (x ∷ xs) zero h = (x, refl)
-got_here (x ∷ xs) (suc j) h = got_here xs j (omega arith)
-
-pub got_map : {A B : Type 0} (f : A → B) (xs : List A) (j : ℕ) (y : B) → slice_get (map f xs) j ≡ Some y → (x : A) × (slice_get xs j ≡ Some x) × (y ≡ f x)
-got_map f [] j y h = absurd (let e : None ≡ Some y = h in cc)
-got_map f (x ∷ xs) zero y h = (x, refl, (let e : Some (f x) ≡ Some y = h in cc))
-got_map f (x ∷ xs) (suc j) y h = got_map f xs j y h
-
-pub got_all : {A : Type 0} (P : A → Type 0) (xs : List A) (j : ℕ) (x : A) → AllByRecursion P xs → slice_get xs j ≡ Some x → P x
-got_all P [] j x h here = absurd (let e : None ≡ Some x = here in cc)
-got_all {A} P (y ∷ xs) zero x h here = subst P (let e : Some y ≡ Some x = here in cc) h.0
-got_all P (y ∷ xs) (suc j) x h here = got_all P xs j x h.1 here
 
 map_twice : {A B C : Type 0} (f : A → B) (g : B → C) (xs : List A) → map g (map f xs) ≡ map (λ x. g (f x)) xs
 map_twice f g [] = refl
@@ -174,14 +163,6 @@ source_columns d cols whole (name ∷ names) k at =
     let tail = source_columns d cols whole names (k + 1) (λ j other here. (let f : (k + 1) + j ≡ k + suc j = omega arith in ap (λ (n : ℕ). get_or whole n []) f) ∙ at (suc j) other here) in
     ap (λ (c : Column). c ∷ map (λ p. column [] (get_or whole p [])) (from_each (λ j. j) (k + 1) (length names))) head ∙ ap (λ (cs : List Column). column [] name ∷ cs) tail
 
-each_map : {A : Type 0} (f : ℕ → A) (k n : ℕ) → from_each f k n ≡ map f (from_each (λ j. j) k n)
-each_map f k zero = refl
-each_map {A} f k (suc n) = ap (λ (xs : List A). f k ∷ xs) (each_map f (k + 1) n)
-
-map_same : {A B : Type 0} (f g : A → B) (xs : List A) → ((x : A) → f x ≡ g x) → map f xs ≡ map g xs
-map_same f g [] e = refl
-map_same f g (x ∷ xs) e = let head = e x in let tail = map_same f g xs e in cc
-
 -- a driver stands for the same where nets stand for the same columns
 stands_same : (of : Column → List (Driver Column)) (f g : ℕ → Column) → ((k : ℕ) → f k ≡ g k) → (k : ℕ) (r : Driver ℕ) → IsInput r ⊎ ((x : Driver Column) × Among x (of (g k)) × StandsFor g r x) → IsInput r ⊎ ((x : Driver Column) × Among x (of (f k)) × StandsFor f r x)
 stands_same of f g e k r (inl h) = inl h
@@ -190,7 +171,7 @@ stands_same of f g e k r (inr (x, among, h)) = inr (x, subst (λ (c : Column). A
     by : (t : Driver ℕ) → StandsFor g t x → StandsFor f t x
     by (from_input j) h = absurd h
     by (from_latch bit a) h = h ∙ ap (from_latch bit) (sym (e a))
-    by (from_cover cover ks) (inl h) = inl (h ∙ ap (from_cover cover) (sym (map_same f g ks e)))
+    by (from_cover cover ks) (inl h) = inl (h ∙ ap (from_cover cover) (sym (map_same f g ks (λ x among. e x))))
     by (from_cover cover ks) (inr (a, one, passes, h)) = inr (a, one, passes, h ∙ ap from_connection (sym (e a)))
     by (from_connection a) h = absurd h
 
@@ -216,13 +197,13 @@ reader_node d (suc i) c h = by (eqb i (length (pearls d))) refl h
         at None g h = absurd h
         at (Some path) g h = let less = slice_get_within (pearls d) i path g in (omega arith, omega arith)
 
-module _ (d : Design) (parts : List Part) (origins : List (Option Origin)) (channels : List Channel) (nodes : List Node) (reads : List Read)
+module _ (d : Design) (parts : List ShellPart) (origins : List (Option Origin)) (channels : List Channel) (nodes : List Node) (reads : List Read)
     (are : ArePartsOf d (length (columns d)) parts) (leads : AreLeads d origins reads) (cut : AreChannelsOf reads channels) (made : AreNodesOf d parts origins channels nodes)
     (few_channels : length channels ≤ 16384) (few : length (pearls d) ≤ 4096) where
   abbrev pub s : System
   s = record { nodes = nodes; channels = channels }
 
-  pub at_part : (j : ℕ) (o : Option Part) → slice_get parts j ≡ o → ℕ → Column
+  pub at_part : (j : ℕ) (o : Option ShellPart) → slice_get parts j ≡ o → ℕ → Column
   at_part j None e k = column [] []
   at_part j (Some p) e k = (are.each j p e).col k
 
@@ -230,19 +211,19 @@ module _ (d : Design) (parts : List Part) (origins : List (Option Origin)) (chan
   cols zero k = column [] []
   cols (suc j) k = at_part j (slice_get parts j) refl k
 
-  record Picked (j : ℕ) (part : Part) : Type 0 where
-    pub is : IsPartOf d (length (columns d)) j part
+  record Picked (j : ℕ) (part : ShellPart) : Type 0 where
+    pub is : IsShellPartOf d (length (columns d)) j part
     pub col : (k : ℕ) → cols (suc j) k ≡ is.col k
 
-  picked : (j : ℕ) (part : Part) → slice_get parts j ≡ Some part → Picked j part
+  picked : (j : ℕ) (part : ShellPart) → slice_get parts j ≡ Some part → Picked j part
   unfolding at_part
   picked j part here = let got = by (slice_get parts j) refl here in record { is = got.0; col = got.1 }
     where
-      by : (o : Option Part) (e : slice_get parts j ≡ o) → o ≡ Some part → (q : IsPartOf d (length (columns d)) j part) × ((k : ℕ) → at_part j o e k ≡ q.col k)
+      by : (o : Option ShellPart) (e : slice_get parts j ≡ o) → o ≡ Some part → (q : IsShellPartOf d (length (columns d)) j part) × ((k : ℕ) → at_part j o e k ≡ q.col k)
       by None e h = absurd (let f : None ≡ Some part = h in cc)
       by (Some p) e h =
           let same : p ≡ part = (let f : Some p ≡ Some part = h in cc) in
-          subst (λ (r : Part). (q : IsPartOf d (length (columns d)) j r) × ((k : ℕ) → at_part j (Some p) e k ≡ q.col k)) same (are.each j p e, λ k. refl)
+          subst (λ (r : ShellPart). (q : IsShellPartOf d (length (columns d)) j r) × ((k : ℕ) → at_part j (Some p) e k ≡ q.col k)) same (are.each j p e, λ k. refl)
 
   nodes_are : (i : ℕ) (node : Node) → slice_get nodes i ≡ Some node → Standing (root_inputs d) (root_outputs d) made.are.shells made.are.ins i node
   nodes_are i node here = standing (root_inputs d) (root_outputs d) made.are.shells made.are.ins i node (ap (λ (ns : List Node). slice_get ns i) (sym made.are.is) ∙ here)
@@ -261,7 +242,7 @@ module _ (d : Design) (parts : List Part) (origins : List (Option Origin)) (chan
   first_node : slice_get nodes 0 ≡ Some (Source (root_inputs d))
   first_node = ap (λ (ns : List Node). slice_get ns 0) made.are.is
 
-  shell_node : (j : ℕ) (part : Part) → slice_get parts j ≡ Some part → (ins : List InBit) × (slice_get nodes (suc j) ≡ Some (Shell part.pearl ins))
+  shell_node : (j : ℕ) (part : ShellPart) → slice_get parts j ≡ Some part → (ins : List InBit) × (slice_get nodes (suc j) ≡ Some (Shell part.pearl ins))
   shell_node j part here =
       let at = part_shell channels origins 1 parts made.are.shells j part made.are.each here in (
         at.2.ins,
@@ -275,16 +256,16 @@ module _ (d : Design) (parts : List Part) (origins : List (Option Origin)) (chan
   unfolding ports_of
   port_columns zero h =
       ap (λ (o : Option Node). map (column_of d cols) (option_map_or (system_ports 0) o [])) first_node
-      ∙ ap (map (column_of d cols)) (each_map source_port 0 (length (root_inputs d)))
+      ∙ ap (map (column_of d cols)) (each_map source_port (λ j. j) 0 (length (root_inputs d)))
       ∙ map_twice source_port (column_of d cols) (from_each (λ j. j) 0 (length (root_inputs d)))
       ∙ source_columns d cols (root_inputs d) (root_inputs d) 0 (λ j name here. (let e : 0 + j ≡ j = zero-add j in ap (λ (n : ℕ). get_or (root_inputs d) n []) e) ∙ get_or_from_slice_get (root_inputs d) j name [] here)
   port_columns (suc j) h =
-      let part = got_here parts j (let l = are.long in omega arith) in
+      let part = item_at parts j (let l = are.long in omega arith) in
       let shell = shell_node j part.0 part.1 in
       let pick = picked j part.0 part.1 in
       ap (λ (o : Option Node). map (column_of d cols) (option_map_or (system_ports (suc j)) o [])) shell.1
       ∙ map_twice (shell_net (suc j)) (column_of d cols) part.0.pearl.flat.outs
-      ∙ map_same (cols (suc j)) pick.is.col part.0.pearl.flat.outs pick.col
+      ∙ map_same (cols (suc j)) pick.is.col part.0.pearl.flat.outs (λ x among. pick.col x)
       ∙ pick.is.outputs
       ∙ sym (ap (λ (o : Option (List ℕ)). option_map_or (outputs_at d) o []) pick.is.here ∙ ap (λ (o : Option Model). option_map_or (λ m. map (column pick.is.path) m.outputs) o []) pick.is.body)
 
@@ -304,20 +285,20 @@ module _ (d : Design) (parts : List Part) (origins : List (Option Origin)) (chan
       by None e h = absurd h
       by (Some o) e h = let way = (leads.led k o less).0 e in (way.0, back to way.0 (column_at d k) o x way.1 h)
 
-  all_led : (to : ℕ) (ks : List ℕ) (xs : List InBit) → AllByRecursion (λ k. k < length (columns d)) ks → AreBits channels origins to ks xs → AreLed d s cols (map (column_at d) ks) xs
+  all_led : (to : ℕ) (ks : List ℕ) (xs : List InBit) → AllByRecursion (λ k. k < length (columns d)) ks → AreInBits channels origins to ks xs → AreLed d s cols (map (column_at d) ks) xs
   all_led to ks xs below is j c x here there =
-      let at = got_map (column_at d) ks j c here in
+      let at = map_get (column_at d) ks j c here in
       subst (λ (a : Column). IsLed d s cols a x) (sym at.2)
-      (led to at.0 x (got_all (λ k. k < length (columns d)) ks j at.0 below at.1) (bits_at channels origins to ks xs j at.0 x is at.1 there))
+      (led to at.0 x (all_at (λ k. k < length (columns d)) ks j at.0 below at.1) (bits_at channels origins to ks xs j at.0 x is at.1 there))
 
   -- the shell of a node
   record Shelled (i : ℕ) (pearl : View) (ins : List InBit) : Type 0 where
     pub j : ℕ
     pub place : i ≡ suc j
-    pub part : Part
+    pub part : ShellPart
     pub here : slice_get parts j ≡ Some part
     pub pearl_is : pearl ≡ part.pearl
-    pub bits : AreBits channels origins i part.ins ins
+    pub bits : AreInBits channels origins i part.ins ins
 
   shelled : (i : ℕ) (pearl : View) (ins : List InBit) → slice_get nodes i ≡ Some (Shell pearl ins) → Shelled i pearl ins
   shelled i pearl ins here = by (nodes_are i (Shell pearl ins) here)
@@ -337,26 +318,26 @@ module _ (d : Design) (parts : List Part) (origins : List (Option Origin)) (chan
             part = shell.part;
             here = shell.here;
             pearl_is = p;
-            bits = subst (λ (m : ℕ). AreBits channels origins m shell.part.ins ins) n (subst (λ (xs : List InBit). AreBits channels origins (1 + j) shell.part.ins xs) x shell.is.bits);
+            bits = subst (λ (m : ℕ). AreInBits channels origins m shell.part.ins ins) n (subst (λ (xs : List InBit). AreInBits channels origins (1 + j) shell.part.ins xs) x shell.is.bits);
           }
 
-  shell_of : (i : ℕ) (pearl : View) (ins : List InBit) → slice_get nodes i ≡ Some (Shell pearl ins) → IsShellOf d s cols i pearl ins
+  shell_of : (i : ℕ) (pearl : View) (ins : List InBit) → slice_get nodes i ≡ Some (Shell pearl ins) → IsPearlShell d s cols i pearl ins
   shell_of i pearl ins here =
       let at = shelled i pearl ins here in
       let pick = picked at.j at.part at.here in
       let q = pick.is in
-      subst (λ (p : View). IsShellOf d s cols i p ins) (sym at.pearl_is)
-      (subst (λ (m : ℕ). IsShellOf d s cols m at.part.pearl ins) (sym at.place) (record {
+      subst (λ (p : View). IsPearlShell d s cols i p ins) (sym at.pearl_is)
+      (subst (λ (m : ℕ). IsPearlShell d s cols m at.part.pearl ins) (sym at.place) (record {
         number = at.j;
         place = omega arith;
         path = q.path;
         here = q.here;
         model = q.model;
         body = q.body;
-        inputs = map_same (cols (suc at.j)) q.col at.part.pearl.flat.ins pick.col ∙ q.inputs;
-        outputs = map_same (cols (suc at.j)) q.col at.part.pearl.flat.outs pick.col ∙ q.outputs;
+        inputs = map_same (cols (suc at.j)) q.col at.part.pearl.flat.ins (λ x among. pick.col x) ∙ q.inputs;
+        outputs = map_same (cols (suc at.j)) q.col at.part.pearl.flat.outs (λ x among. pick.col x) ∙ q.outputs;
         each = λ k r among. stands_same (drivers d) (cols (suc at.j)) q.col pick.col k r (q.each k r among);
-        led = subst (λ (cs : List Column). AreLed d s cols cs ins) (q.ins ∙ sym q.inputs ∙ sym (map_same (cols (suc at.j)) q.col at.part.pearl.flat.ins pick.col)) (all_led i at.part.ins ins q.ins_below at.bits);
+        led = subst (λ (cs : List Column). AreLed d s cols cs ins) (q.ins ∙ sym q.inputs ∙ sym (map_same (cols (suc at.j)) q.col at.part.pearl.flat.ins (λ x among. pick.col x))) (all_led i at.part.ins ins q.ins_below at.bits);
       }))
 
   system_is : IsSystemOf d s
@@ -404,7 +385,7 @@ module _ (d : Design) (parts : List Part) (origins : List (Option Origin)) (chan
         ends = (let most = to.1 in omega arith);
         some = sizes.0;
         few = sizes.1;
-        below = all_by (λ port. port < length (ports_at s c.from)) c.ports (λ port among.
+        below = all_from_among (λ port. port < length (ports_at s c.from)) c.ports (λ port among.
             let other = read_in c port here among in
             let end = lead_end d other.2.0 other.0 c.from port other.2.1 in
             let inside = slice_get_within (ports_of d c.from) port end.0 end.1 in
@@ -415,7 +396,7 @@ module _ (d : Design) (parts : List Part) (origins : List (Option Origin)) (chan
   node_is : (i : ℕ) (node : Node) → slice_get nodes i ≡ Some node → IsNode s i node
   node_is i node here = by (nodes_are i node here)
     where
-      shell_ok : (j : ℕ) → i ≡ suc j → (part : Part) → slice_get parts j ≡ Some part → (ins : List InBit) → AreBits channels origins i part.ins ins → IsShell s i part.pearl ins
+      shell_ok : (j : ℕ) → i ≡ suc j → (part : ShellPart) → slice_get parts j ≡ Some part → (ins : List InBit) → AreInBits channels origins i part.ins ins → IsShell s i part.pearl ins
       shell_ok j e part at ins bits =
           let is = are.each j part at in
           let inside = slice_get_within parts j part at in
@@ -437,13 +418,13 @@ module _ (d : Design) (parts : List Part) (origins : List (Option Origin)) (chan
       by (inner j e at) =
           let shell = shell_at channels origins 1 parts made.are.shells j node made.are.each at in
           let n : 1 + j ≡ i = omega arith in
-          subst (IsNode s i) (sym shell.is.is) (shell_ok j (omega arith) shell.part shell.here shell.is.ins (subst (λ (m : ℕ). AreBits channels origins m shell.part.ins shell.is.ins) n shell.is.bits))
+          subst (IsNode s i) (sym shell.is.is) (shell_ok j (omega arith) shell.part shell.here shell.is.ins (subst (λ (m : ℕ). AreInBits channels origins m shell.part.ins shell.is.ins) n shell.is.bits))
       by (final e is) =
           let long = nodes_long in
           let count = are.long in
           let same = shells_are in
           let n : length parts + 1 ≡ i = omega arith in
-          let bits = subst (λ (m : ℕ). AreBits channels origins m made.numbers made.are.ins) n made.are.bits in
+          let bits = subst (λ (m : ℕ). AreInBits channels origins m made.numbers made.are.ins) n made.are.bits in
           let a = bits_long channels origins i made.numbers made.are.ins bits in
           let b = sym (length-map made.numbers (column_at d)) ∙ ap length made.outputs.columns_are ∙ length-map (root_outputs d) (column []) in
           subst (IsNode s i) (sym is) (record {
@@ -460,12 +441,12 @@ module _ (d : Design) (parts : List Part) (origins : List (Option Origin)) (chan
         most = omega arith;
         each_node = node_is;
         few = few_channels;
-        each_channel = all_by (IsChannel s) channels channel_is;
+        each_channel = all_from_among (IsChannel s) channels channel_is;
         ascending = channels_rise channels (subst AreAscending (sym cut.carry) leads.ascending) cut.cut;
       }
 
 -- what is joined from the channels of some reads is the system of the design, and well formed
-pub joined : (d : Design) (parts : List Part) (origins : List (Option Origin)) (channels seen : List Channel) (nodes : List Node) (reads read : List Read) → ArePartsOf d (length (columns d)) parts → AreLeads d origins reads → read ≡ reads → AreChannelsOf read channels → seen ≡ channels → AreNodesOf d parts origins seen nodes → length channels ≤ 16384 → IsSystemOf d (record { nodes = nodes; channels = channels }) × IsWellFormed (record { nodes = nodes; channels = channels })
+pub joined : (d : Design) (parts : List ShellPart) (origins : List (Option Origin)) (channels seen : List Channel) (nodes : List Node) (reads read : List Read) → ArePartsOf d (length (columns d)) parts → AreLeads d origins reads → read ≡ reads → AreChannelsOf read channels → seen ≡ channels → AreNodesOf d parts origins seen nodes → length channels ≤ 16384 → IsSystemOf d (record { nodes = nodes; channels = channels }) × IsWellFormed (record { nodes = nodes; channels = channels })
 joined d parts origins channels seen nodes reads read are leads same cut shown made few =
     let cuts = subst (λ (rs : List Read). AreChannelsOf rs channels) same cut in
     let makes = subst (λ (cs : List Channel). AreNodesOf d parts origins cs nodes) shown made in

@@ -7,7 +7,7 @@ use Rattle.std.proofs.lemmas.Bool.{cases_lt}
 use Rattle.std.proofs.lemmas.List.{length-map}
 use Rattle.std.proofs.lemmas.Option.{slice_get_within}
 use Rattle.lid_base.specs.Lists.{Among}
-use Rattle.lid_base.proofs.Lists.{all_among, among_left, among_flat, filter_among, map_among, get_among, among_get, then_some, bytes_same}
+use Rattle.lid_base.proofs.Lists.{all_among, among_left, among_flat, filter_among, map_among, get_among, among_get, then_some, bytes_same, among_one}
 use Rattle.lid_cover.specs.declared.Cover.{Cover}
 use Rattle.lid_cover.specs.Cover.{cover_value}
 use Rattle.lid_design.specs.declared.Design.{Design}
@@ -21,27 +21,27 @@ use Rattle.lid_design.specs.Elaboration.{columns}
 use Rattle.lid_design.specs.Loops.{pearls}
 use Rattle.lid_design.specs.Walks.{Feeds, HasNoWalk, WalksEnd}
 use Rattle.lid_design.specs.WellFormed.{IsWellFormed, IsWellFormedCell}
-use Rattle.lid_elab.specs.Elaborations.{shown_driver, map_driver, column_at}
-use Rattle.lid_flatten.specs.Parts.{driver_at}
-use Rattle.lid_rules.specs.Buffers.{passes_on}
+use Rattle.lid_check_elab.specs.Elaborations.{shown_driver, map_driver, column_at}
+use Rattle.lid_check_parts.specs.Parts.{driver_at}
+use Rattle.lid_check_rules.specs.Buffers.{passes_on}
 use Rattle.lid_check.specs.Acceptance.{IsAccepted}
 use Rattle.lid_check.specs.Networks.{IsNetwork}
 use Rattle.lid_check.specs.declared.network.Network.{Network}
-use Rattle.lid_flaws.proofs.Numbered.{walk_up}
-use Rattle.lid_elab.proofs.Every.{driven_column}
+use Rattle.lid_check_loops.proofs.Numbered.{walk_up}
+use Rattle.lid_check_elab.proofs.Every.{driven_column}
 use Rattle.lid_check.proofs.Descent.{walks_end}
-use Rattle.lid_wiring.proofs.Names.{to_among, from_among}
-use Rattle.lid_wiring.proofs.Passing.{no_root_logic, sound_model}
-use Rattle.lid_parts.proofs.Finding.{whole_pearls, inst_count, inst_pearl}
-use Rattle.lid_leads.specs.declared.origin.Origin.{Origin}
-use Rattle.lid_leads.specs.declared.origin.Origin.TheVariants.{Const, Port}
-use Rattle.lid_agree.specs.Ports.{outputs_at, ports_of, IsPort, IsNoPort}
+use Rattle.lid_check_drivers.proofs.Names.{to_among, from_among}
+use Rattle.lid_check_drivers.proofs.Passing.{no_root_logic, sound_model}
+use Rattle.lid_check_parts.proofs.Finding.{whole_pearls, inst_count, inst_pearl}
+use Rattle.lid_net.specs.declared.origin.Origin.{Origin}
+use Rattle.lid_net.specs.declared.origin.Origin.TheVariants.{Const, Port}
+use Rattle.lid_net_law.specs.Ports.{outputs_at, ports_of, IsPort, IsNoPort}
 use Rattle.lid_net.specs.Graphs.{inputs_at, inputs_of, LeadsIn, LeadsTo}
-use Rattle.lid_net.proofs.Joining.{got_here}
-use Rattle.lid_net.proofs.Leading.{only, one_of, source_driven}
+use Rattle.lid_net.proofs.Tracing.{only, source_driven}
 use Rattle.lid_net.proofs.Rooted.{RootShape, given, constant, buffer, output, root_shape, root_plain}
 use Rattle.lid_check.proofs.Flats.{ports_apart}
 use Rattle.lid_net.proofs.Facts.{judged, inputs_ports, source_name, shell_name}
+use Rattle.lid_base.proofs.Places.{item_at}
 
 at_root : (d : Design) (m : Model) → slice_get d.models d.root ≡ Some m → model_at d [] ≡ Some m
 unfolding model_at
@@ -58,7 +58,7 @@ module _ (d : Design) (n : Network) (formed : IsWellFormed d) (accepted : IsAcce
   driver_in k less = subst (λ (rs : List (Driver Column)). Among (driver_of k) rs) (sym (only d n is k less)) (inl refl)
 
   driver_only : (k : ℕ) (r : Driver Column) → k < count → Among r (drivers d (column_at d k)) → r ≡ driver_of k
-  driver_only k r less among = one_of r (driver_of k) (subst (λ (rs : List (Driver Column)). Among r rs) (only d n is k less) among)
+  driver_only k r less among = among_one r (driver_of k) (subst (λ (rs : List (Driver Column)). Among r rs) (only d n is k less) among)
 
   -- what is read has a number
   read_at : (k : ℕ) (a : Column) → k < count → Feeds (drivers d) a (column_at d k) → (j : ℕ) × (j < count) × (column_at d j ≡ a)
@@ -69,7 +69,7 @@ module _ (d : Design) (n : Network) (formed : IsWellFormed d) (accepted : IsAcce
 
   module _ (some : 0 < length (insts_of d d.root)) where
     root : (m : Model) × (slice_get d.models d.root ≡ Some m)
-    root = got_here d.models d.root formed.rooted
+    root = item_at d.models d.root formed.rooted
 
     root_insts : length (insts_of d d.root) ≡ length root.0.insts
     root_insts = ap (λ (o : Option Model). length (option_map_or (λ m. m.insts) o [])) root.1

@@ -1,8 +1,9 @@
+pub mod Stepping
 pub mod Wired
 pub mod Numbering
 pub mod Rising
 pub mod Accepted
-pub mod Leading
+pub mod Tracing
 pub mod Marking
 pub mod Rooted
 pub mod Reading

@@ -9,16 +9,17 @@ use Rattle.lid_design.specs.declared.Model.{Model}
 use Rattle.lid_design.specs.Columns.{Column, column}
 use Rattle.lid_design.specs.Elaboration.{columns}
 use Rattle.lid_design.specs.Loops.{pearls}
-use Rattle.lid_elab.specs.Elaborations.{column_at}
-use Rattle.lid_leads.specs.declared.origin.Origin.{Origin}
-use Rattle.lid_leads.specs.declared.origin.Origin.TheVariants.{Const, Port}
-use Rattle.lid_leads.specs.Steps.{origin_at}
-use Rattle.lid_net.specs.declared.part.Part.{Part}
+use Rattle.lid_check_elab.specs.Elaborations.{column_at}
+use Rattle.lid_net.specs.declared.origin.Origin.{Origin}
+use Rattle.lid_net.specs.declared.origin.Origin.TheVariants.{Const, Port}
+use Rattle.lid_net.specs.Steps.{origin_at}
+use Rattle.lid_net.specs.declared.part.ShellPart.{ShellPart}
 use Rattle.lid_net.specs.Marks.{part_outs, marked_from, marked_all}
-use Rattle.lid_agree.specs.Ports.{outputs_at, ports_of, IsPort}
-use Rattle.lid_net.specs.PearlParts.{IsPartOf, ArePartsOf}
-use Rattle.lid_net.proofs.Joining.{got_here, got_map, got_all}
-use Rattle.lid_net.proofs.Leading.{AreShellMarks}
+use Rattle.lid_net_law.specs.Ports.{outputs_at, ports_of, IsPort}
+use Rattle.lid_net.specs.PearlParts.{IsShellPartOf, ArePartsOf}
+use Rattle.lid_net.proofs.Tracing.{AreShellMarks}
+use Rattle.lid_base.proofs.Lists.{all_at}
+use Rattle.lid_base.proofs.Places.{item_at, map_get, get_map}
 
 abbrev Marks : Type 0
 Marks = List (Option Origin)
@@ -114,13 +115,8 @@ all_all node (xs ∷ all) marks zero j k outs less there here =
 all_all node (xs ∷ all) marks (suc i) j k outs less there here =
     all_all (node + 1) all (marked_from node 0 xs marks) i j k outs (let l = from_long node 0 xs marks in omega arith) there here
 
-map_got : {A B : Type 0} (f : A → B) (xs : List A) (j : ℕ) (x : A) → slice_get xs j ≡ Some x → slice_get (map f xs) j ≡ Some (f x)
-map_got f [] j x h = absurd (let e : None ≡ Some x = h in cc)
-map_got f (y ∷ xs) zero x h = ap Some (let e : Some y ≡ Some x = h in let g : y ≡ x = cc in ap f g)
-map_got f (y ∷ xs) (suc j) x h = map_got f xs j x h
-
 -- the ports of a shell, by the numbers of a part
-pub ports_are : (d : Design) (count i : ℕ) (part : Part) → IsPartOf d count i part → ports_of d (suc i) ≡ map (column_at d) part.outs
+pub ports_are : (d : Design) (count i : ℕ) (part : ShellPart) → IsShellPartOf d count i part → ports_of d (suc i) ≡ map (column_at d) part.outs
 unfolding ports_of
 ports_are d count i part is =
     ap (λ (o : Option (List ℕ)). option_map_or (outputs_at d) o []) is.here ∙ ap (λ (o : Option Model). option_map_or (λ m. map (column is.path) m.outputs) o []) is.body ∙ sym is.outs
@@ -134,7 +130,7 @@ shell_pearl d c i place h = by (slice_get (pearls d) i) refl h
     by (Some path) e g = slice_get_within (pearls d) i path e
 
 pub shell_marks :
-    (d : Design) (parts : List Part) (old new : Marks) (count : ℕ) → ArePartsOf d (length (columns d)) parts → count ≡ length (columns d) → ((j k : ℕ) → j < count → k < count → column_at d j ≡ column_at d k → j ≡ k)
+    (d : Design) (parts : List ShellPart) (old new : Marks) (count : ℕ) → ArePartsOf d (length (columns d)) parts → count ≡ length (columns d) → ((j k : ℕ) → j < count → k < count → column_at d j ≡ column_at d k → j ≡ k)
     → length old ≡ count → ((k : ℕ) → origin_at old k ≡ None) → new ≡ marked_all 1 (map part_outs parts) old → AreShellMarks d count new
 shell_marks d parts old new count are whole apart size none is = record { only = only; all = all }
   where
@@ -144,21 +140,21 @@ shell_marks d parts old new count are whole apart size none is = record { only =
         by : (origin_at old k ≡ Some o) ⊎ IsOneOf 1 (map part_outs parts) k o → (i : ℕ) × (place : ℕ) × (o ≡ Port (suc i) place) × IsPort d (column_at d k) (suc i) place
         by (inl h) = absurd (let f : None ≡ Some o = sym (none k) ∙ h in cc)
         by (inr h) =
-            let part = got_map part_outs parts h.i h.outs h.there in
+            let part = map_get part_outs parts h.i h.outs h.there in
             let of = are.each h.i part.0 part.1 in
             let n : 1 + h.i ≡ suc h.i = omega arith in (
               h.i,
               h.j,
               h.is ∙ ap (λ (x : ℕ). Port x h.j) n,
-              ap (λ (cs : List Column). slice_get cs h.j) (ports_are d (length (columns d)) h.i part.0 of) ∙ map_got (column_at d) part.0.outs h.j k (ap (λ (xs : List ℕ). slice_get xs h.j) (sym part.2) ∙ h.here),
+              ap (λ (cs : List Column). slice_get cs h.j) (ports_are d (length (columns d)) h.i part.0 of) ∙ get_map (column_at d) part.0.outs h.j k (ap (λ (xs : List ℕ). slice_get xs h.j) (sym part.2) ∙ h.here),
             )
 
     all : (k i place : ℕ) → k < count → IsPort d (column_at d k) (suc i) place → origin_at new k ≡ None → ⊥
     all k i place less port e =
-        let part = got_here parts i (let h = shell_pearl d (column_at d k) i place port in let l = are.long in omega arith) in
+        let part = item_at parts i (let h = shell_pearl d (column_at d k) i place port in let l = are.long in omega arith) in
         let of = are.each i part.0 part.1 in
-        let at = got_map (column_at d) part.0.outs place (column_at d k) (ap (λ (cs : List Column). slice_get cs place) (sym (ports_are d (length (columns d)) i part.0 of)) ∙ port) in
-        let inside = got_all (λ k. k < length (columns d)) part.0.outs place at.0 of.outs_below at.1 in
+        let at = map_get (column_at d) part.0.outs place (column_at d k) (ap (λ (cs : List Column). slice_get cs place) (sym (ports_are d (length (columns d)) i part.0 of)) ∙ port) in
+        let inside = all_at (λ k. k < length (columns d)) part.0.outs place at.0 of.outs_below at.1 in
         let same = apart k at.0 less (omega arith) at.2 in
-        let mark = all_all 1 (map part_outs parts) old i place k part.0.outs (omega arith) (map_got part_outs parts i part.0 part.1) (at.1 ∙ ap Some (sym same)) in
+        let mark = all_all 1 (map part_outs parts) old i place k part.0.outs (omega arith) (get_map part_outs parts i part.0 part.1) (at.1 ∙ ap Some (sym same)) in
         absurd (let f : None ≡ Some mark.0 = sym e ∙ ap (λ (ms : Marks). origin_at ms k) is ∙ mark.1 in cc)

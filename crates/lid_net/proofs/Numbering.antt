@@ -1,5 +1,5 @@
 -- The numbers of the columns of a pearl's nets.
-use Rattle.std.proofs.Common.{◌≡◌, ◌<◌, ◌≤◌, ◌+◌, ◌⊎◌, ℕ, zero, suc, List, [], ◌∷◌, ◌++◌, length, map, Option, Some, None, slice_get, inl, inr, refl, sym, ◌∙◌, ap, subst, arith}
+use Rattle.std.proofs.Common.{◌≡◌, ◌<◌, ◌≤◌, ◌+◌, ◌⊎◌, ℕ, zero, suc, List, [], ◌∷◌, ◌++◌, length, map, None, slice_get, inl, inr, refl, sym, ◌∙◌, ap, subst, arith}
 use Rattle.std.specs.List.{AllByRecursion, range_with_len}
 use Rattle.std.proofs.lemmas.List.{length-map}
 use Rattle.lid_design.specs.declared.Design.{Design}
@@ -8,34 +8,32 @@ use Rattle.lid_design.specs.declared.Flat.{Flat}
 use Rattle.lid_design.specs.Columns.{column, model_at, data_inputs, drivers}
 use Rattle.lid_design.specs.Elaboration.{columns}
 use Rattle.lid_design.specs.Flat.{latch_init}
-use Rattle.lid_elab.specs.Elaborations.{column_at, shown_driver}
-use Rattle.lid_flatten.specs.declared.part.Part.{Part as Numbers}
-use Rattle.lid_flatten.specs.Standing.{StandsForAll}
-use Rattle.lid_flatten.proofs.Lists.{all_range}
-use Rattle.lid_parts.specs.PearlParts.{IsPearlPart}
-use Rattle.lid_parts.proofs.Columns.{inputs_are, outputs_are, ports_within, part_within}
+use Rattle.lid_check_elab.specs.Elaborations.{column_at, shown_driver}
+use Rattle.lid_check_parts.specs.declared.part.PearlPart.{PearlPart as Numbers}
+use Rattle.lid_check_parts.specs.Standing.{StandsForAll}
+use Rattle.lid_check_parts.proofs.Lists.{all_range}
+use Rattle.lid_check_parts.specs.PearlParts.{IsPearlPart}
+use Rattle.lid_check_parts.proofs.Columns.{inputs_are, outputs_are, ports_within, part_within}
 use Rattle.lid_check.specs.Networks.{IsNetwork}
 use Rattle.lid_check.specs.declared.network.Network.{Network}
 use Rattle.lid_check.specs.Flats.{IsFlatOf}
-use Rattle.lid_net.specs.declared.part.Part.{Part}
-use Rattle.lid_net.specs.PearlParts.{IsPartOf, IsNumbered}
-
-one : {A : Type 0} (o : Option A) (x y : A) → o ≡ Some x → o ≡ Some y → x ≡ y
-one o x y a b = let e = sym a ∙ b in cc
+use Rattle.lid_net.specs.declared.part.ShellPart.{ShellPart}
+use Rattle.lid_net.specs.PearlParts.{IsShellPartOf, IsNumberedShell}
+use Rattle.lid_base.proofs.Options.{same_some}
 
 -- the part of a pearl from its flat part, whose columns have the numbers of the pearl's part
 module _ (d : Design) (pearl : ℕ) (numbers : Numbers) (f : Flat) (is : IsPearlPart d pearl numbers) (flat : IsFlatOf d pearl f) where
   path : is.of.path ≡ flat.of.path
-  path = one _ is.of.path flat.of.path is.of.here flat.of.here
+  path = same_some _ is.of.path flat.of.path is.of.here flat.of.here
 
   model : is.of.model ≡ flat.of.model
-  model = one _ is.of.model flat.of.model is.of.body (ap (model_at d) path ∙ flat.of.body)
+  model = same_some _ is.of.model flat.of.model is.of.body (ap (model_at d) path ∙ flat.of.body)
 
   -- numbers of the part are numbers of columns
   below : (a n : ℕ) → numbers.start + numbers.nets ≤ length (columns d) → a + n ≤ numbers.nets → AllByRecursion (λ k. k < length (columns d)) (range_with_len (numbers.start + a) n)
   below a n within fits = all_range (λ k. k < length (columns d)) (numbers.start + a) n (λ k low high. omega arith)
 
-  pub part_is : (part : Part) → IsNumbered numbers f part → StandsForAll (drivers d) flat.col part.pearl.flat → IsPartOf d (length (columns d)) pearl part
+  pub part_is : (part : ShellPart) → IsNumberedShell numbers f part → StandsForAll (drivers d) flat.col part.pearl.flat → IsShellPartOf d (length (columns d)) pearl part
   part_is part numbered each =
       let within = part_within d pearl numbers is in
       let ports = ports_within d pearl numbers is in

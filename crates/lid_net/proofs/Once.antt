@@ -3,8 +3,8 @@ use Rattle.std.proofs.Common.{◌≡◌, List}
 use Rattle.std.specs.List.{flat_map}
 use Rattle.lid_design.specs.declared.Design.{Design}
 use Rattle.lid_system.specs.declared.Channel.{Channel}
-use Rattle.lid_channels.specs.Pieces.{reads_in}
-use Rattle.lid_channels.proofs.Once.{same_reads, same_channels}
+use Rattle.lid_net_channels.specs.Pieces.{reads_in}
+use Rattle.lid_net_channels.proofs.Once.{same_reads, same_channels}
 use Rattle.lid_net.specs.Graphs.{IsGraphOf}
 
 pub graph_one : (d : Design) (a b : List Channel) → IsGraphOf d a → IsGraphOf d b → a ≡ b

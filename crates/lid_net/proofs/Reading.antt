@@ -12,22 +12,23 @@ use Rattle.lid_design.specs.declared.Model.{Model}
 use Rattle.lid_design.specs.Columns.{Column, column, data_inputs, root_outputs}
 use Rattle.lid_design.specs.Elaboration.{columns}
 use Rattle.lid_design.specs.Loops.{pearls}
-use Rattle.lid_elab.specs.Elaborations.{column_at}
-use Rattle.lid_channels.specs.declared.reads.Read.{Read}
-use Rattle.lid_channels.specs.Reads.{AreAscending}
-use Rattle.lid_leads.specs.declared.origin.Origin.{Origin}
-use Rattle.lid_leads.specs.declared.origin.Origin.TheVariants.{Const, Port}
-use Rattle.lid_leads.specs.Steps.{origin_at}
-use Rattle.lid_net.specs.declared.part.Part.{Part}
+use Rattle.lid_check_elab.specs.Elaborations.{column_at}
+use Rattle.lid_net_channels.specs.declared.reads.Read.{Read}
+use Rattle.lid_net_channels.specs.Reads.{AreAscending}
+use Rattle.lid_net.specs.declared.origin.Origin.{Origin}
+use Rattle.lid_net.specs.declared.origin.Origin.TheVariants.{Const, Port}
+use Rattle.lid_net.specs.Steps.{origin_at}
+use Rattle.lid_net.specs.declared.part.ShellPart.{ShellPart}
 use Rattle.lid_net.specs.declared.nodes.Wiring.{Wiring}
 use Rattle.lid_net.specs.Marks.{part_ins}
 use Rattle.lid_net.specs.Reads.{read_of, origin_read, read_at, all_reads}
 use Rattle.lid_net.specs.Nodes.{IsReadable, CanRead, CanReadAll}
 use Rattle.lid_net.specs.Graphs.{inputs_at, inputs_of, LeadsTo, IsReadBy}
-use Rattle.lid_net.specs.PearlParts.{IsPartOf, ArePartsOf}
+use Rattle.lid_net.specs.PearlParts.{IsShellPartOf, ArePartsOf}
 use Rattle.lid_net.specs.Systems.{AreColumnsLed, AreLeads, AreOutputs}
-use Rattle.lid_net.proofs.Joining.{got_here, got_map, got_all, reader_node}
-use Rattle.lid_net.proofs.Rising.{all_by}
+use Rattle.lid_net.proofs.Joining.{reader_node}
+use Rattle.lid_base.proofs.Places.{item_at, map_get, get_last, get_map, get_push, get_left}
+use Rattle.lid_base.proofs.Alls.{all_from_among}
 
 one_read : (to : ℕ) (o : Option Origin) (r : Read) → Among r (origin_read to o) → (r.to ≡ to) × (o ≡ Some (Port r.from r.port))
 one_read to None r h = absurd h
@@ -72,27 +73,7 @@ reads_all origins to (xs ∷ all) (suc i) k a b ins there among e =
     among_right (read_of a (to + suc i) b) (flat_map (read_at origins to) xs) (all_reads origins (to + 1) all)
     (subst (λ (m : ℕ). Among (read_of a m b) (all_reads origins (to + 1) all)) n (reads_all origins (to + 1) all i k a b ins there among e))
 
-last_or : {A : Type 0} (xs : List A) (y x : A) (i : ℕ) → slice_get (xs ++ y ∷ []) i ≡ Some x → (slice_get xs i ≡ Some x) ⊎ ((i ≡ length xs) × (x ≡ y))
-last_or [] y x zero h = inr (refl, (let e : Some y ≡ Some x = h in cc))
-last_or [] y x (suc i) h = absurd (let e : None ≡ Some x = h in cc)
-last_or (z ∷ xs) y x zero h = inl h
-last_or (z ∷ xs) y x (suc i) h = elim (last_or xs y x i h) [ inl e ↦ inl e | inr e ↦ inr (ap suc e.0, e.1) ]
-
-left_of : {A : Type 0} (xs : List A) (y x : A) (i : ℕ) → slice_get xs i ≡ Some x → slice_get (xs ++ y ∷ []) i ≡ Some x
-left_of [] y x i h = absurd (let e : None ≡ Some x = h in cc)
-left_of (z ∷ xs) y x zero h = h
-left_of (z ∷ xs) y x (suc i) h = left_of xs y x i h
-
-last_of : {A : Type 0} (xs : List A) (y : A) → slice_get (xs ++ y ∷ []) (length xs) ≡ Some y
-last_of [] y = refl
-last_of (x ∷ xs) y = last_of xs y
-
-got_of : {A B : Type 0} (f : A → B) (xs : List A) (j : ℕ) (x : A) → slice_get xs j ≡ Some x → slice_get (map f xs) j ≡ Some (f x)
-got_of f [] j x h = absurd (let e : None ≡ Some x = h in cc)
-got_of f (y ∷ xs) zero x h = ap Some (let e : Some y ≡ Some x = h in let g : y ≡ x = cc in ap f g)
-got_of f (y ∷ xs) (suc j) x h = got_of f xs j x h
-
-module _ (d : Design) (parts : List Part) (numbers : List ℕ) (are : ArePartsOf d (length (columns d)) parts) (outs : AreOutputs d numbers) where
+module _ (d : Design) (parts : List ShellPart) (numbers : List ℕ) (are : ArePartsOf d (length (columns d)) parts) (outs : AreOutputs d numbers) where
   abbrev all : List (List ℕ)
   all = map part_ins parts ++ numbers ∷ []
 
@@ -100,7 +81,7 @@ module _ (d : Design) (parts : List Part) (numbers : List ℕ) (are : ArePartsOf
     pub columns_are : inputs_of d (suc i) ≡ map (column_at d) ins
     pub below : AllByRecursion (λ k. k < length (columns d)) ins
 
-  shell_inputs : (i : ℕ) (part : Part) → slice_get parts i ≡ Some part → Consumes i part.ins
+  shell_inputs : (i : ℕ) (part : ShellPart) → slice_get parts i ≡ Some part → Consumes i part.ins
   unfolding inputs_of
   shell_inputs i part here =
       let of = are.each i part here in
@@ -126,10 +107,10 @@ module _ (d : Design) (parts : List Part) (numbers : List ℕ) (are : ArePartsOf
       }
 
   consumes : (i : ℕ) (ins : List ℕ) → slice_get all i ≡ Some ins → Consumes i ins
-  consumes i ins here = by (last_or (map part_ins parts) numbers ins i here)
+  consumes i ins here = by (get_push (map part_ins parts) numbers i ins here)
     where
       by : (slice_get (map part_ins parts) i ≡ Some ins) ⊎ ((i ≡ length (map part_ins parts)) × (ins ≡ numbers)) → Consumes i ins
-      by (inl h) = let part = got_map part_ins parts i ins h in subst (Consumes i) (sym part.2) (shell_inputs i part.0 part.1)
+      by (inl h) = let part = map_get part_ins parts i ins h in subst (Consumes i) (sym part.2) (shell_inputs i part.0 part.1)
       by (inr h) =
           let mapped = length-map parts part_ins in
           let long = are.long in
@@ -141,13 +122,13 @@ module _ (d : Design) (parts : List Part) (numbers : List ℕ) (are : ArePartsOf
     where
       by : (i < length (pearls d)) ⊎ (length (pearls d) ≤ i) → (ins : List ℕ) × (slice_get all i ≡ Some ins)
       by (inl less) =
-          let part = got_here parts i (let l = are.long in omega arith) in
-          (part.0.ins, left_of (map part_ins parts) numbers part.0.ins i (got_of part_ins parts i part.0 part.1))
+          let part = item_at parts i (let l = are.long in omega arith) in
+          (part.0.ins, get_left (map part_ins parts) (numbers ∷ []) i part.0.ins (get_map part_ins parts i part.0 part.1))
       by (inr past) =
           let mapped = length-map parts part_ins in
           let long = are.long in
           let n : length (map part_ins parts) ≡ i = omega arith in
-          (numbers, subst (λ (m : ℕ). slice_get all m ≡ Some numbers) n (last_of (map part_ins parts) numbers))
+          (numbers, subst (λ (m : ℕ). slice_get all m ≡ Some numbers) n (get_last (map part_ins parts) numbers))
 
   pub leads_are : (origins : List (Option Origin)) (found reads : List Read) → AreColumnsLed d origins → found ≡ all_reads origins 1 all → AreAscending reads → ((r : Read) → Among r reads ↔ Among r found) → AreLeads d origins reads
   leads_are origins found reads led is ascending same = record { led = led; ascending = ascending; exact = λ r. (there r, back r) }
@@ -184,7 +165,7 @@ module _ (d : Design) (parts : List Part) (numbers : List ℕ) (are : ArePartsOf
   inputs_read w leads some = from 1 all (λ i ins here. can_read i ins (consumes i ins here))
     where
       can_read : (i : ℕ) (ins : List ℕ) → Consumes i ins → AllByRecursion (CanRead w (1 + i)) ins
-      can_read i ins of = all_by (CanRead w (1 + i)) ins (λ k among. by k among (origin_at w.origins.items k) refl)
+      can_read i ins of = all_from_among (CanRead w (1 + i)) ins (λ k among. by k among (origin_at w.origins.items k) refl)
         where
           by : (k : ℕ) → Among k ins → (o : Option Origin) → origin_at w.origins.items k ≡ o → IsReadable w.reads.items (1 + i) o
           by k among None e =

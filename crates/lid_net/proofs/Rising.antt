@@ -7,20 +7,18 @@ use Rattle.lid_base.specs.Lists.{Among}
 use Rattle.lid_base.proofs.Lists.{all_among, among_left, among_right, among_flat, among_map, among_get, get_among}
 use Rattle.lid_system.specs.declared.Channel.{Channel}
 use Rattle.lid_system.specs.Systems.{Precedes}
-use Rattle.lid_channels.specs.declared.reads.Read.{Read}
-use Rattle.lid_channels.specs.Reads.{IsBefore, AreAscending}
-use Rattle.lid_channels.specs.Pieces.{read_by, reads_in, is_beside, IsPieceAfter, IsNextPiece, AreCut}
-
-all_of : {A : Type 0} (P : A → Type 0) (xs : List A) → ((x : A) → Among x xs → P x) → AllByRecursion P xs
-all_of P [] h = tt
-all_of P (x ∷ xs) h = (h x (inl refl), all_of P xs (λ y i. h y (inr i)))
+use Rattle.lid_net_channels.specs.declared.reads.Read.{Read}
+use Rattle.lid_net_channels.specs.Reads.{IsBefore, AreAscending}
+use Rattle.lid_net_channels.specs.Pieces.{read_by, reads_in, is_beside, IsPieceAfter, IsNextPiece, AreCut}
+use Rattle.std.proofs.lemmas.Bool.{eq-eqb}
+use Rattle.lid_base.proofs.Alls.{all_from_among}
 
 -- what ascends in two parts
 parts_ascend : (xs ys : List Read) → AreAscending (xs ++ ys) → AreAscending xs × ((x y : Read) → Among x xs → Among y ys → IsBefore x y)
 parts_ascend [] ys h = (tt, λ x y i j. absurd i)
 parts_ascend (r ∷ xs) ys h =
     let later = parts_ascend xs ys h.1 in
-    ((all_of (IsBefore r) xs (λ x i. all_among (IsBefore r) (xs ++ ys) x h.0 (among_left x xs ys i)), later.0), both later.1)
+    ((all_from_among (IsBefore r) xs (λ x i. all_among (IsBefore r) (xs ++ ys) x h.0 (among_left x xs ys i)), later.0), both later.1)
   where
     both : ((x y : Read) → Among x xs → Among y ys → IsBefore x y) → (x y : Read) → Among x (r ∷ xs) → Among y ys → IsBefore x y
     both later x y (inl e) j = subst (λ (z : Read). IsBefore z y) (sym e) (all_among (IsBefore r) (xs ++ ys) y h.0 (among_right y xs ys j))
@@ -50,7 +48,7 @@ descend (e ∷ before) h =
     let whole : flat_map reads_in (reverse (e ∷ before)) ≡ flat_map reads_in (reverse before) ++ reads_in e =
     ap (flat_map reads_in) (reverse-append (e ∷ []) before) ∙ flat_map-append reads_in (reverse before) (e ∷ []) ∙ ap (λ (rs : List Read). flat_map reads_in (reverse before) ++ rs) (append-nil (reads_in e)) in
     let parts = parts_ascend (flat_map reads_in (reverse before)) (reads_in e) (subst AreAscending whole h) in (
-      all_of (λ c. Comes c e) before (λ c i p q j k. parts.1 (read_by c p) (read_by e q)
+      all_from_among (λ c. Comes c e) before (λ c i p q j k. parts.1 (read_by c p) (read_by e q)
           (among_flat reads_in c (read_by c p) (reverse before) (turned c before i) (among_map (read_by c) p c.ports j))
           (among_map (read_by e) q e.ports k)),
       descend before parts.0,
@@ -69,11 +67,8 @@ head_of : (ports : List ℕ) → 0 < length ports → (p : ℕ) × Among p ports
 head_of [] h = absurd (omega arith)
 head_of (p ∷ ports) h = (p, inl refl)
 
-equal_true : (a b : ℕ) → a ≡ b → eqb a b ≡ true
-equal_true a b e = grind (arith, e)
-
 beside : (a b : Channel) → a.from ≡ b.from → a.to ≡ b.to → is_beside a b ≡ true
-beside a b e f = let x = equal_true a.from b.from e in let y = equal_true a.to b.to f in ap (λ (v : Bool). v && eqb a.to b.to) x ∙ y
+beside a b e f = let x = eq-eqb a.from b.from e in let y = eq-eqb a.to b.to f in ap (λ (v : Bool). v && eqb a.to b.to) x ∙ y
 
 -- of two channels that stand side by side
 neighbours : (c e : Channel) → 0 < length c.ports → 0 < length e.ports → Comes c e → IsPieceAfter (is_beside c e) c e → Precedes c e
@@ -95,14 +90,14 @@ fall (e ∷ []) cut h = (tt, tt)
 fall (e ∷ c ∷ before) cut h =
     let earlier = fall (c ∷ before) cut.3 h.1 in
     let near = neighbours c e cut.3.0 cut.0 h.0.0 cut.2 in
-    ((near, all_of (λ b. Precedes b e) before (λ b i. precedes_after b c e (all_among (λ b. Precedes b c) before b earlier.0 i) near)), earlier)
+    ((near, all_from_among (λ b. Precedes b e) before (λ b i. precedes_after b c e (all_among (λ b. Precedes b c) before b earlier.0 i) near)), earlier)
 
 -- the last of falling channels comes before all others
 fall_last : (ys : List Channel) (x : Channel) → Fall (ys ++ x ∷ []) → Fall ys × ((y : Channel) → Among y ys → Precedes x y)
 fall_last [] x h = (tt, λ y i. absurd i)
 fall_last (z ∷ ys) x h =
     let later = fall_last ys x h.1 in
-    ((all_of (λ c. Precedes c z) ys (λ c i. all_among (λ c. Precedes c z) (ys ++ x ∷ []) c h.0 (among_left c ys (x ∷ []) i)), later.0), by later.1)
+    ((all_from_among (λ c. Precedes c z) ys (λ c i. all_among (λ c. Precedes c z) (ys ++ x ∷ []) c h.0 (among_left c ys (x ∷ []) i)), later.0), by later.1)
   where
     by : ((y : Channel) → Among y ys → Precedes x y) → (y : Channel) → Among y (z ∷ ys) → Precedes x y
     by later y (inl e) = subst (Precedes x) (sym e) (all_among (λ c. Precedes c z) (ys ++ x ∷ []) x h.0 (among_right x ys (x ∷ []) (inl refl)))
@@ -132,6 +127,3 @@ channel_ports channels c cut h = cut_ports (reverse channels) c cut (turned c ch
 
 pub first_port : (c : Channel) → 0 < length c.ports → (p : ℕ) × Among p c.ports
 first_port c h = head_of c.ports h
-
-pub all_by : {A : Type 0} (P : A → Type 0) (xs : List A) → ((x : A) → Among x xs → P x) → AllByRecursion P xs
-all_by P xs h = all_of P xs h

@@ -5,7 +5,7 @@ use Rattle.std.specs.List.{AllByRecursion, flat_map, enumerate_from}
 use Rattle.std.specs.Str.{bytes_eq}
 use Rattle.std.proofs.lemmas.Option.{slice_get_within}
 use Rattle.lid_base.specs.Lists.{Among}
-use Rattle.lid_base.proofs.Lists.{all_among, among_append, flat_among, among_get, get_among, enumerate_among, same_bytes}
+use Rattle.lid_base.proofs.Lists.{all_among, among_append, flat_among, among_get, get_among, enumerate_among, same_bytes, if_among}
 use Rattle.lid_cover.specs.declared.Cover.{Cover}
 use Rattle.lid_cover.specs.Cover.{cover_value}
 use Rattle.lid_design.specs.declared.Design.{Design}
@@ -19,15 +19,15 @@ use Rattle.lid_design.specs.Columns.{Column, column, is_among, model_named, inst
 use Rattle.lid_design.specs.Models.{insts_of, is_buffer, is_constant, cell_out}
 use Rattle.lid_design.specs.Loops.{pearls}
 use Rattle.lid_design.specs.WellFormed.{IsWellFormed, IsWellFormedCell}
-use Rattle.lid_rules.specs.Buffers.{passes_on}
-use Rattle.lid_rules.proofs.Buffers.{buffer_passes}
-use Rattle.lid_rules.specs.declared.fault.CheckFault.{CheckFault}
-use Rattle.lid_rules.specs.declared.fault.CheckFault.TheVariants.{RootLogic}
-use Rattle.lid_rules.specs.Conditions.{root_logic, logic_in}
-use Rattle.lid_wiring.proofs.Names.{to_among, none_found}
-use Rattle.lid_wiring.proofs.Passing.{map_none}
-use Rattle.lid_parts.proofs.Finding.{inst_pearl}
-use Rattle.lid_agree.specs.Ports.{outputs_at, ports_of, IsPort}
+use Rattle.lid_check_rules.specs.Buffers.{passes_on}
+use Rattle.lid_check_rules.proofs.Buffers.{buffer_passes}
+use Rattle.lid_check_rules.specs.declared.fault.CheckFault.{CheckFault}
+use Rattle.lid_check_rules.specs.declared.fault.CheckFault.TheVariants.{RootLogic}
+use Rattle.lid_check_rules.specs.Conditions.{root_logic, logic_in}
+use Rattle.lid_check_drivers.proofs.Names.{to_among, none_found}
+use Rattle.lid_check_drivers.proofs.Passing.{map_none}
+use Rattle.lid_check_parts.proofs.Finding.{inst_pearl}
+use Rattle.lid_net_law.specs.Ports.{outputs_at, ports_of, IsPort}
 
 -- what may drive a column of the root
 pub data RootShape (d : Design) (s : Driver Column) : Type 0 where
@@ -36,16 +36,11 @@ pub data RootShape (d : Design) (s : Driver Column) : Type 0 where
   buffer : (cover : Cover) (a : List ℕ) → s ≡ from_cover cover (column [] a ∷ []) → passes_on cover ≡ true → RootShape d s
   output : (i place : ℕ) (formal : List ℕ) → s ≡ from_connection (column (i ∷ []) formal) → IsPort d (column (i ∷ []) formal) (suc i) place → RootShape d s
 
-chosen : {A : Type 0} (b : Bool) (x y : A) → Among x (cond b (y ∷ []) []) → (b ≡ true) × (x ≡ y)
-chosen true x y (inl e) = (refl, e)
-chosen true x y (inr none) = absurd none
-chosen false x y none = absurd none
-
 module _ (d : Design) (m : Model) (root : model_at d [] ≡ Some m) (here : slice_get d.models d.root ≡ Some m) (some : 0 < length m.insts) (formed : AllByRecursion IsWellFormedCell m.cells) (plain : (cell : Cell) → Among cell m.cells → (is_buffer cell || is_constant cell) ≡ true) (net : List ℕ) (s : Driver Column) where
   by_place : (k : ℕ) (names : List (List ℕ)) → Among s (places_of net k names) → RootShape d s
   by_place k [] none = absurd none
   by_place k (name ∷ names) among = elim (among_append s (cond (bytes_eq name net) (from_input k ∷ []) []) (places_of net (k + 1) names) among) [
-    | inl h ↦ given k (chosen (bytes_eq name net) s (from_input k) h).1
+    | inl h ↦ given k (if_among (bytes_eq name net) s (from_input k) h).1
     | inr later ↦ by_place (k + 1) names later
   ]
 
@@ -72,7 +67,7 @@ module _ (d : Design) (m : Model) (root : model_at d [] ≡ Some m) (here : slic
 
   by_cell : (cell : Cell) → Among cell m.cells → Among s (cell_at [] net cell) → RootShape d s
   by_cell (Names inputs out cover) at among =
-      by_cover inputs out cover (all_among IsWellFormedCell m.cells (Names inputs out cover) formed at).1 (plain (Names inputs out cover) at) (chosen (bytes_eq out net) s (from_cover cover (map (column []) inputs)) among).1
+      by_cover inputs out cover (all_among IsWellFormedCell m.cells (Names inputs out cover) formed at).1 (plain (Names inputs out cover) at) (if_among (bytes_eq out net) s (from_cover cover (map (column []) inputs)) among).1
   by_cell (Latch input out kind control init) at among = absurd (let f : false ≡ true = plain (Latch input out kind control init) at in cc)
 
   output_port : (i : ℕ) (inst : Inst) (sub : Model) (formal : List ℕ) → slice_get m.insts i ≡ Some inst → model_named d inst.model ≡ Some sub → Among formal sub.outputs → (place : ℕ) × IsPort d (column (i ∷ []) formal) (suc i) place
@@ -98,7 +93,7 @@ module _ (d : Design) (m : Model) (root : model_at d [] ≡ Some m) (here : slic
   by_bind i inst at None named none = absurd none
   by_bind i inst at (Some sub) named among =
       let found = flat_among (λ (b : Bind). cond (bytes_eq b.actual net && is_among b.formal sub.outputs) (from_connection (column (i ∷ []) b.formal) ∷ []) []) s inst.binds among in
-      let h = chosen (bytes_eq found.0.actual net && is_among found.0.formal sub.outputs) s (from_connection (column (i ∷ []) found.0.formal)) found.2 in
+      let h = if_among (bytes_eq found.0.actual net && is_among found.0.formal sub.outputs) s (from_connection (column (i ∷ []) found.0.formal)) found.2 in
       let formal = to_among found.0.formal sub.outputs (second (bytes_eq found.0.actual net) (is_among found.0.formal sub.outputs) h.0) in
       let port = output_port i inst sub found.0.formal at named formal in
       output i port.0 found.0.formal h.1 port.1

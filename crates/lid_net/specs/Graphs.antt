@@ -10,13 +10,13 @@ use Rattle.lid_design.specs.Network.{Driver, from_cover}
 use Rattle.lid_design.specs.Columns.{Column, column, model_at, data_inputs, drivers, root_outputs}
 use Rattle.lid_design.specs.Loops.{pearls}
 use Rattle.lid_system.specs.declared.Channel.{Channel}
-use Rattle.lid_agree.specs.Ports.{IsPort, IsNoPort}
-use Rattle.lid_agree.specs.Agreement.{IsPassedOn}
-use Rattle.lid_channels.specs.declared.reads.Read.{Read}
-use Rattle.lid_channels.specs.Reads.{AreAscending}
-use Rattle.lid_channels.specs.Pieces.{reads_in, AreCut}
-use Rattle.lid_leads.specs.declared.origin.Origin.{Origin}
-use Rattle.lid_leads.specs.declared.origin.Origin.TheVariants.{Const, Port}
+use Rattle.lid_net_law.specs.Ports.{IsPort, IsNoPort}
+use Rattle.lid_net_law.specs.Agreement.{IsPassedOn}
+use Rattle.lid_net_channels.specs.declared.reads.Read.{Read}
+use Rattle.lid_net_channels.specs.Reads.{AreAscending}
+use Rattle.lid_net_channels.specs.Pieces.{reads_in, AreCut}
+use Rattle.lid_net.specs.declared.origin.Origin.{Origin}
+use Rattle.lid_net.specs.declared.origin.Origin.TheVariants.{Const, Port}
 
 -- the columns of the data inputs of the model at a path
 abbrev pub inputs_at : Design → List ℕ → List Column

@@ -1,3 +1,4 @@
+pub mod Steps
 pub mod Marks
 pub mod Reads
 pub mod Nodes

@@ -7,14 +7,14 @@ use Rattle.lid_system.specs.declared.InBit.{InBit}
 use Rattle.lid_system.specs.declared.InBit.TheVariants as bits
 use Rattle.lid_system.specs.declared.Node.{Node}
 use Rattle.lid_system.specs.declared.Node.TheVariants.{Source, Shell, Sink}
-use Rattle.lid_channels.specs.declared.reads.Read.{Read}
-use Rattle.lid_channels.specs.Reads.{AreAscending}
-use Rattle.lid_channels.specs.Bits.{Carries, CarryAll}
-use Rattle.lid_leads.specs.declared.origin.Origin.{Origin}
-use Rattle.lid_leads.specs.declared.origin.Origin.TheVariants.{Const, Port}
-use Rattle.lid_leads.specs.Steps.{origin_at}
+use Rattle.lid_net_channels.specs.declared.reads.Read.{Read}
+use Rattle.lid_net_channels.specs.Reads.{AreAscending}
+use Rattle.lid_net_channels.specs.Bits.{Carries, CarryAll}
+use Rattle.lid_net.specs.declared.origin.Origin.{Origin}
+use Rattle.lid_net.specs.declared.origin.Origin.TheVariants.{Const, Port}
+use Rattle.lid_net.specs.Steps.{origin_at}
 use Rattle.lid_net.specs.Reads.{read_of}
-use Rattle.lid_net.specs.declared.part.Part.{Part}
+use Rattle.lid_net.specs.declared.part.ShellPart.{ShellPart}
 use Rattle.lid_net.specs.declared.nodes.Wiring.{Wiring}
 
 -- reads in order, with a bit for each
@@ -46,35 +46,35 @@ IsBitOfOrigin channels to (Some (Port node place)) x = Carries channels (read_of
 abbrev pub IsBitFor : List Channel → List (Option Origin) → ℕ → ℕ → InBit → Type 0
 IsBitFor channels origins to k x = IsBitOfOrigin channels to (origin_at origins k) x
 
-abbrev pub AreBits : List Channel → List (Option Origin) → ℕ → List ℕ → List InBit → Type 0
-AreBits channels origins to [] [] = ⊤
-AreBits channels origins to (k ∷ ks) (x ∷ xs) = IsBitFor channels origins to k x × AreBits channels origins to ks xs
-AreBits channels origins to _ _ = ⊥
+abbrev pub AreInBits : List Channel → List (Option Origin) → ℕ → List ℕ → List InBit → Type 0
+AreInBits channels origins to [] [] = ⊤
+AreInBits channels origins to (k ∷ ks) (x ∷ xs) = IsBitFor channels origins to k x × AreInBits channels origins to ks xs
+AreInBits channels origins to _ _ = ⊥
 
 -- the node is the shell of a part
-pub record IsShellFor (channels : List Channel) (origins : List (Option Origin)) (node : ℕ) (part : Part) (shell : Node) : Type 0 where
+pub record IsShellFor (channels : List Channel) (origins : List (Option Origin)) (node : ℕ) (part : ShellPart) (shell : Node) : Type 0 where
   pub ins : List InBit
   pub is : shell ≡ Shell part.pearl ins
-  pub bits : AreBits channels origins node part.ins ins
+  pub bits : AreInBits channels origins node part.ins ins
 
 -- a shell for each part, the first of which is a node of this number
-abbrev pub AreShells : List Channel → List (Option Origin) → ℕ → List Part → List Node → Type 0
-AreShells channels origins node [] [] = ⊤
-AreShells channels origins node (part ∷ parts) (shell ∷ shells) = IsShellFor channels origins node part shell × AreShells channels origins (node + 1) parts shells
-AreShells channels origins node _ _ = ⊥
+abbrev pub AreShellNodes : List Channel → List (Option Origin) → ℕ → List ShellPart → List Node → Type 0
+AreShellNodes channels origins node [] [] = ⊤
+AreShellNodes channels origins node (part ∷ parts) (shell ∷ shells) = IsShellFor channels origins node part shell × AreShellNodes channels origins (node + 1) parts shells
+AreShellNodes channels origins node _ _ = ⊥
 
 -- the source of these columns, a shell for each part, and the sink
-pub record AreNodes (channels : List Channel) (origins : List (Option Origin)) (parts : List Part) (inputs outputs : List (List ℕ)) (numbers : List ℕ) (nodes : List Node) : Type 0 where
+pub record AreNodes (channels : List Channel) (origins : List (Option Origin)) (parts : List ShellPart) (inputs outputs : List (List ℕ)) (numbers : List ℕ) (nodes : List Node) : Type 0 where
   pub shells : List Node
   pub ins : List InBit
   pub is : nodes ≡ Source inputs ∷ (shells ++ Sink outputs ins ∷ [])
-  pub each : AreShells channels origins 1 parts shells
-  pub bits : AreBits channels origins (length parts + 1) numbers ins
+  pub each : AreShellNodes channels origins 1 parts shells
+  pub bits : AreInBits channels origins (length parts + 1) numbers ins
 
 -- the shells of the last parts stand there, the last first, when the others are left
-pub record AreShellsSoFar (w : Wiring) (parts left : List Part) (old new : List Node) : Type 0 where
+pub record AreShellsSoFar (w : Wiring) (parts left : List ShellPart) (old new : List Node) : Type 0 where
   pub shells : List Node
   pub is : new ≡ old ++ reverse shells
   pub few : length left ≤ length parts
   pub first : left ≡ take (length left) parts
-  pub each : (channels : List Channel) → CarryAll channels w.reads.items w.bits.items → AreShells channels w.origins.items (length left + 1) (drop (length left) parts) shells
+  pub each : (channels : List Channel) → CarryAll channels w.reads.items w.bits.items → AreShellNodes channels w.origins.items (length left + 1) (drop (length left) parts) shells

@@ -6,15 +6,15 @@ use Rattle.lid_design.specs.declared.Model.{Model}
 use Rattle.lid_design.specs.Columns.{Column, column, model_at, data_inputs, drivers}
 use Rattle.lid_design.specs.Flat.{IsFlat, latch_init}
 use Rattle.lid_design.specs.Loops.{pearls}
-use Rattle.lid_elab.specs.Elaborations.{column_at}
-use Rattle.lid_flatten.specs.declared.part.Part.{Part as Numbers}
-use Rattle.lid_flatten.specs.Standing.{StandsForAll}
+use Rattle.lid_check_elab.specs.Elaborations.{column_at}
+use Rattle.lid_check_parts.specs.declared.part.PearlPart.{PearlPart as Numbers}
+use Rattle.lid_check_parts.specs.Standing.{StandsForAll}
 use Rattle.lid_design.specs.declared.Flat.{Flat}
 use Rattle.lid_pearl.specs.Pearls.{IsReordered}
-use Rattle.lid_net.specs.declared.part.Part.{Part}
+use Rattle.lid_net.specs.declared.part.ShellPart.{ShellPart}
 
 -- the part of a pearl, by its number: its pearl begins, and its nets stand for columns
-pub record IsPartOf (d : Design) (count i : ℕ) (part : Part) : Type 0 where
+pub record IsShellPartOf (d : Design) (count i : ℕ) (part : ShellPart) : Type 0 where
   pub path : List ℕ
   pub here : slice_get (pearls d) i ≡ Some path
   pub model : Model
@@ -31,13 +31,13 @@ pub record IsPartOf (d : Design) (count i : ℕ) (part : Part) : Type 0 where
   pub each : StandsForAll (drivers d) col part.pearl.flat
 
 -- a part for each pearl, in order, of which there are no more than the limit
-pub record ArePartsOf (d : Design) (count : ℕ) (parts : List Part) : Type 0 where
+pub record ArePartsOf (d : Design) (count : ℕ) (parts : List ShellPart) : Type 0 where
   pub long : length parts ≡ length (pearls d)
   pub few : length (pearls d) ≤ 4096
-  pub each : (i : ℕ) (part : Part) → slice_get parts i ≡ Some part → IsPartOf d count i part
+  pub each : (i : ℕ) (part : ShellPart) → slice_get parts i ≡ Some part → IsShellPartOf d count i part
 
 -- the part of a flat part whose columns have these numbers
-pub record IsNumbered (numbers : Numbers) (f : Flat) (part : Part) : Type 0 where
+pub record IsNumberedShell (numbers : Numbers) (f : Flat) (part : ShellPart) : Type 0 where
   pub ins : part.ins ≡ range_with_len numbers.start numbers.inputs
   pub outs : part.outs ≡ range_with_len (numbers.start + numbers.inputs) numbers.outputs
   pub pearl : IsReordered f part.pearl.flat

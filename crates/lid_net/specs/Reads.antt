@@ -1,9 +1,9 @@
 -- What nodes read, by numbers.
 use Rattle.std.specs.Prelude.{◌≡◌, ◌+◌, ℕ, List, [], ◌∷◌, ◌++◌, flat_map, Option, Some, None}
-use Rattle.lid_channels.specs.declared.reads.Read.{Read}
-use Rattle.lid_leads.specs.declared.origin.Origin.{Origin}
-use Rattle.lid_leads.specs.declared.origin.Origin.TheVariants.{Const, Port}
-use Rattle.lid_leads.specs.Steps.{origin_at}
+use Rattle.lid_net_channels.specs.declared.reads.Read.{Read}
+use Rattle.lid_net.specs.declared.origin.Origin.{Origin}
+use Rattle.lid_net.specs.declared.origin.Origin.TheVariants.{Const, Port}
+use Rattle.lid_net.specs.Steps.{origin_at}
 
 abbrev pub read_of : ℕ → ℕ → ℕ → Read
 read_of from to port = record { from = from; to = to; port = port }

@@ -5,14 +5,14 @@ use Rattle.lid_base.specs.Lists.{Among}
 use Rattle.lid_design.specs.declared.Design.{Design}
 use Rattle.lid_design.specs.Columns.{column, root_inputs, root_outputs}
 use Rattle.lid_design.specs.Elaboration.{columns}
-use Rattle.lid_elab.specs.Elaborations.{column_at}
+use Rattle.lid_check_elab.specs.Elaborations.{column_at}
 use Rattle.lid_system.specs.declared.Channel.{Channel}
 use Rattle.lid_system.specs.declared.Node.{Node}
-use Rattle.lid_channels.specs.declared.reads.Read.{Read}
-use Rattle.lid_channels.specs.Reads.{AreAscending}
-use Rattle.lid_leads.specs.declared.origin.Origin.{Origin}
-use Rattle.lid_leads.specs.Steps.{origin_at}
-use Rattle.lid_net.specs.declared.part.Part.{Part}
+use Rattle.lid_net_channels.specs.declared.reads.Read.{Read}
+use Rattle.lid_net_channels.specs.Reads.{AreAscending}
+use Rattle.lid_net.specs.declared.origin.Origin.{Origin}
+use Rattle.lid_net.specs.Steps.{origin_at}
+use Rattle.lid_net.specs.declared.part.ShellPart.{ShellPart}
 use Rattle.lid_net.specs.Graphs.{LeadsTo, IsReadBy}
 use Rattle.lid_net.specs.Nodes.{AreNodes}
 
@@ -32,7 +32,7 @@ pub record AreOutputs (d : Design) (numbers : List ℕ) : Type 0 where
   pub columns_are : map (column_at d) numbers ≡ map (column []) (root_outputs d)
 
 -- the nodes of a design with these parts
-pub record AreNodesOf (d : Design) (parts : List Part) (origins : List (Option Origin)) (channels : List Channel) (nodes : List Node) : Type 0 where
+pub record AreNodesOf (d : Design) (parts : List ShellPart) (origins : List (Option Origin)) (channels : List Channel) (nodes : List Node) : Type 0 where
   pub numbers : List ℕ
   pub outputs : AreOutputs d numbers
   pub are : AreNodes channels origins parts (root_inputs d) (root_outputs d) numbers nodes

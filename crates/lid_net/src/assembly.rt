@@ -4,23 +4,24 @@ ghost use Rattle.std.specs.Prelude.{◌≡◌, ◌<◌, ◌≤◌, ◌⊎◌, �
 ghost use Rattle.lid_design.specs.Elaboration.{columns};
 ghost use Rattle.lid_system.specs.declared.Channel.{Channel};
 ghost use Rattle.lid_system.specs.Systems.{IsWellFormed};
-ghost use Rattle.lid_agree.specs.Agreement.{IsSystemOf};
-ghost use Rattle.lid_channels.specs.declared.fault.NetFault.TheVariants.{TooManyChannels, Memory};
-ghost use Rattle.lid_channels.specs.Pieces.{AreChannelsOf};
-ghost use Rattle.lid_leads.specs.Steps.{origin_at};
+ghost use Rattle.lid_net_law.specs.Agreement.{IsSystemOf};
+ghost use Rattle.lid_net_channels.specs.declared.fault.NetFault.TheVariants.{TooManyChannels, Memory};
+ghost use Rattle.lid_net_channels.specs.Pieces.{AreChannelsOf};
+ghost use Rattle.lid_net.specs.Steps.{origin_at};
 ghost use Rattle.lid_net.specs.Graphs.{IsGraphOf};
 ghost use Rattle.lid_net.specs.PearlParts.{ArePartsOf};
 ghost use Rattle.lid_net.specs.Systems.{AreColumnsLed, AreLeads, AreNodesOf};
 
 use crate::collect::collect_reads;
+use crate::leading::lead_back;
 use crate::marks::mark_ports;
 use crate::nodes::{Ends, Wiring, make_nodes};
-use crate::part::Part;
+use crate::origin::Origin;
+use crate::part::ShellPart;
 use crate::pearls::collect_parts;
 use lid_base::Items;
-use lid_channels::{NetFault, Read, cut_channels, name_bits, put_in_order};
 use lid_check::Checked;
-use lid_leads::{Origin, lead_back};
+use lid_net_channels::{NetFault, Read, cut_channels, name_bits, put_in_order};
 use lid_system::{Channel, Node, System};
 use std::alloc::{AllocError, Global};
 
@@ -44,7 +45,7 @@ pub fn build(alloc: Global, checked: &Checked) -> Result<System, NetFault>
 }
 
 /// Joins the parts of a design.
-fn join(alloc: Global, checked: &Checked, parts: Vec<Part>) -> Result<System, NetFault>
+fn join(alloc: Global, checked: &Checked, parts: Vec<ShellPart>) -> Result<System, NetFault>
     requires { ArePartsOf checked.now (length (columns checked.now)) parts.items }
     ensures formed { IfOk result IsWellFormed }
     ensures system { IfOk result (IsSystemOf checked.now) }
@@ -73,7 +74,7 @@ struct Leads {
 }
 
 /// Leads the inputs of nodes back.
-fn find_leads(alloc: Global, checked: &Checked, parts: &[Part]) -> Result<Leads, AllocError>
+fn find_leads(alloc: Global, checked: &Checked, parts: &[ShellPart]) -> Result<Leads, AllocError>
     requires { ArePartsOf checked.now (length (columns checked.now)) parts.now }
     ensures { IfOk result (λ leads. AreLeads checked.now leads.origins.items leads.reads.items) }
 {
@@ -88,7 +89,7 @@ fn find_leads(alloc: Global, checked: &Checked, parts: &[Part]) -> Result<Leads,
 fn find_origins(
     alloc: Global,
     checked: &Checked,
-    parts: &[Part],
+    parts: &[ShellPart],
 ) -> Result<Vec<Option<Origin>>, AllocError>
     requires { ArePartsOf checked.now (length (columns checked.now)) parts.now }
     ensures { IfOk result (λ origins. AreColumnsLed checked.now origins.items) }
@@ -99,7 +100,7 @@ fn find_origins(
 }
 
 /// Leads each column back, where none has an origin yet.
-fn lead_columns(checked: &Checked, parts: &[Part], origins: &mut [Option<Origin>])
+fn lead_columns(checked: &Checked, parts: &[ShellPart], origins: &mut [Option<Origin>])
     requires parts { ArePartsOf checked.now (length (columns checked.now)) parts.now }
     requires size { length origins.old ≡ length (columns checked.now) }
     requires none { (k : ℕ) → origin_at origins.old k ≡ None }
@@ -121,7 +122,7 @@ fn lead_columns(checked: &Checked, parts: &[Part], origins: &mut [Option<Origin>
 fn nodes_of(
     alloc: Global,
     checked: &Checked,
-    parts: Vec<Part>,
+    parts: Vec<ShellPart>,
     leads: Leads,
     channels: &[Channel],
 ) -> Result<Items<Node>, AllocError>

@@ -4,16 +4,17 @@ ghost use Rattle.std.specs.Prelude.{◌≡◌, ◌≤◌, ◌++◌, ◌∷◌, [
 ghost use Rattle.lid_net.specs.Marks.{part_ins};
 ghost use Rattle.lid_net.specs.Reads.{read_at, all_reads};
 
-use crate::part::Part;
-use lid_channels::Read;
-use lid_leads::{Origin, origin_of};
+use crate::leading::origin_of;
+use crate::origin::Origin;
+use crate::part::ShellPart;
+use lid_net_channels::Read;
 use std::alloc::{AllocError, Global};
 
 /// What the nodes read: the shells, from node 1 on, and then the sink.
 pub(crate) fn collect_reads(
     alloc: Global,
     origins: &[Option<Origin>],
-    parts: &[Part],
+    parts: &[ShellPart],
     outputs: &[u32],
 ) -> Result<Vec<Read>, AllocError>
     requires few { length parts.now ≤ 4096 }

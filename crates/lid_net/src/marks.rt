@@ -2,15 +2,15 @@
 
 ghost use Rattle.std.specs.Prelude.{◌≡◌, ◌<◌, ◌≤◌, ◌+◌, length, map, Option, None};
 ghost use Rattle.std.specs.List.{AllByRecursion};
-ghost use Rattle.lid_leads.specs.declared.origin.Origin.{Origin};
-ghost use Rattle.lid_net.specs.Marks.{part_outs, Marks, MarksAll};
+ghost use Rattle.lid_net.specs.declared.origin.Origin.{Origin};
+ghost use Rattle.lid_net.specs.Marks.{part_outs, MarksPorts, MarksAll};
 
-use crate::part::Part;
-use lid_leads::Origin;
+use crate::origin::Origin;
+use crate::part::ShellPart;
 
 /// Marks the ports of each shell, the first of which is node 1. Where a column is more than one port,
 /// the last counts.
-pub(crate) fn mark_ports(parts: &[Part], origins: &mut [Option<Origin>])
+pub(crate) fn mark_ports(parts: &[ShellPart], origins: &mut [Option<Origin>])
     requires few { length parts.now ≤ 4096 }
     requires below { AllByRecursion (λ part. AllByRecursion (λ k. k < length origins.old) (part_outs part)) parts.now }
     requires narrow { AllByRecursion (λ part. length (part_outs part) ≤ 1048576) parts.now }
@@ -27,7 +27,7 @@ fn mark_outs(node: u32, outs: &[u32], origins: &mut [Option<Origin>])
     requires below { AllByRecursion (λ k. k < length origins.old) outs.now }
     requires narrow { length outs.now ≤ 1048576 }
     ensures size { length origins.new ≡ length origins.old }
-    ensures marks { Marks node outs.now origins.old origins.new }
+    ensures marks { MarksPorts node outs.now origins.old origins.new }
 {
     for place in 0..outs.len() {
         origins[outs[place] as usize] = Some(Origin::Port {

@@ -6,14 +6,15 @@ ghost use Rattle.lid_system.specs.declared.Channel.{Channel};
 ghost use Rattle.lid_system.specs.declared.InBit.{InBit};
 ghost use Rattle.lid_system.specs.declared.Node.{Node};
 ghost use Rattle.lid_system.specs.declared.Node.TheVariants.{Shell, Sink};
-ghost use Rattle.lid_channels.specs.Bits.{CarryAll};
+ghost use Rattle.lid_net_channels.specs.Bits.{CarryAll};
 ghost use Rattle.lid_net.specs.Marks.{part_ins};
-ghost use Rattle.lid_net.specs.Nodes.{IsWired, IsBitFor, AreBits, CanRead, CanReadAll, AreShells, AreNodes};
+ghost use Rattle.lid_net.specs.Nodes.{IsWired, IsBitFor, AreInBits, CanRead, CanReadAll, AreShellNodes, AreNodes};
 
-use crate::part::Part;
+use crate::leading::origin_of;
+use crate::origin::Origin;
+use crate::part::ShellPart;
 use lid_base::{Items, Name, copy_names};
-use lid_channels::{Read, find_bit};
-use lid_leads::{Origin, origin_of};
+use lid_net_channels::{Read, find_bit};
 use lid_system::{InBit, Node};
 use std::alloc::{AllocError, Global};
 
@@ -58,7 +59,7 @@ fn bit_of(wiring: &Wiring, to: u32, number: u32) -> InBit
 fn bits_of(alloc: Global, wiring: &Wiring, to: u32, ins: &[u32]) -> Result<Items<InBit>, AllocError>
     requires wired { IsWired wiring.now }
     requires led { AllByRecursion (CanRead wiring.now to) ins.now }
-    ensures { IfOk result (λ bits. (channels : List Channel) → CarryAll channels wiring.now.reads.items wiring.now.bits.items → AreBits channels wiring.now.origins.items to ins.now bits) }
+    ensures { IfOk result (λ bits. (channels : List Channel) → CarryAll channels wiring.now.reads.items wiring.now.bits.items → AreInBits channels wiring.now.origins.items to ins.now bits) }
 {
     let mut bits = Vec::with_capacity(alloc, ins.len())?;
     for number in ins {
@@ -71,7 +72,7 @@ fn bits_of(alloc: Global, wiring: &Wiring, to: u32, ins: &[u32]) -> Result<Items
 pub(crate) fn make_nodes(
     alloc: Global,
     wiring: &Wiring,
-    parts: Vec<Part>,
+    parts: Vec<ShellPart>,
     ends: &Ends<'_>,
 ) -> Result<Items<Node>, AllocError>
     requires few { length parts.items ≤ 4096 }
@@ -99,7 +100,7 @@ fn push_sink(
 ) -> Result<(), AllocError>
     requires wired { IsWired wiring.now }
     requires led { AllByRecursion (CanRead wiring.now node) ends.now.numbers.now }
-    ensures { OnOk result ((ins : List InBit) × (nodes.new.items ≡ nodes.old.items ++ Sink ends.now.outputs.now ins ∷ []) × ((channels : List Channel) → CarryAll channels wiring.now.reads.items wiring.now.bits.items → AreBits channels wiring.now.origins.items node ends.now.numbers.now ins)) }
+    ensures { OnOk result ((ins : List InBit) × (nodes.new.items ≡ nodes.old.items ++ Sink ends.now.outputs.now ins ∷ []) × ((channels : List Channel) → CarryAll channels wiring.now.reads.items wiring.now.bits.items → AreInBits channels wiring.now.origins.items node ends.now.numbers.now ins)) }
 {
     let ins = bits_of(alloc, wiring, node, ends.numbers)?;
     let columns = copy_names(alloc, ends.outputs)?;
@@ -111,13 +112,13 @@ fn push_sink(
 fn push_shells(
     alloc: Global,
     wiring: &Wiring,
-    parts: Vec<Part>,
+    parts: Vec<ShellPart>,
     nodes: &mut Vec<Node>,
 ) -> Result<(), AllocError>
     requires few { length parts.items ≤ 4096 }
     requires wired { IsWired wiring.now }
     requires led { CanReadAll wiring.now 1 (map part_ins parts.items) }
-    ensures { OnOk result ((shells : List Node) × (nodes.new.items ≡ nodes.old.items ++ reverse shells) × ((channels : List Channel) → CarryAll channels wiring.now.reads.items wiring.now.bits.items → AreShells channels wiring.now.origins.items 1 parts.items shells)) }
+    ensures { OnOk result ((shells : List Node) × (nodes.new.items ≡ nodes.old.items ++ reverse shells) × ((channels : List Channel) → CarryAll channels wiring.now.reads.items wiring.now.bits.items → AreShellNodes channels wiring.now.origins.items 1 parts.items shells)) }
 {
     let mut left = parts;
     while let Some(part) = left.pop() {
@@ -129,12 +130,12 @@ fn push_shells(
 }
 
 /// The shell of a part.
-fn shell_of(alloc: Global, wiring: &Wiring, node: u32, part: Part) -> Result<Node, AllocError>
+fn shell_of(alloc: Global, wiring: &Wiring, node: u32, part: ShellPart) -> Result<Node, AllocError>
     requires wired { IsWired wiring.now }
     requires led { AllByRecursion (CanRead wiring.now node) part.ins }
-    ensures { IfOk result (λ shell. (ins : List InBit) × (shell ≡ Shell part.pearl ins) × ((channels : List Channel) → CarryAll channels wiring.now.reads.items wiring.now.bits.items → AreBits channels wiring.now.origins.items node part.ins ins)) }
+    ensures { IfOk result (λ shell. (ins : List InBit) × (shell ≡ Shell part.pearl ins) × ((channels : List Channel) → CarryAll channels wiring.now.reads.items wiring.now.bits.items → AreInBits channels wiring.now.origins.items node part.ins ins)) }
 {
     let ins = bits_of(alloc, wiring, node, part.ins.as_slice())?;
-    let Part { pearl, .. } = part;
+    let ShellPart { pearl, .. } = part;
     Ok(Node::Shell { pearl, ins })
 }

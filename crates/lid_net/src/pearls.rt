@@ -4,18 +4,18 @@ ghost use Rattle.std.specs.Prelude.{◌≡◌, ◌+◌, ◌<◌, ◌≤◌, leng
 ghost use Rattle.lid_design.specs.Flat.{IsFlat};
 ghost use Rattle.lid_design.specs.Loops.{pearls};
 ghost use Rattle.lid_design.specs.Elaboration.{columns};
-ghost use Rattle.lid_net.specs.PearlParts.{IsPartOf, ArePartsOf, IsNumbered};
+ghost use Rattle.lid_net.specs.PearlParts.{IsShellPartOf, ArePartsOf, IsNumberedShell};
 
-use crate::part::Part;
-use lid_agree::pearls_stand_for_columns;
+use crate::part::ShellPart;
 use lid_check::Checked;
+use lid_check_parts::numbers_from;
 use lid_design::Flat;
-use lid_flatten::numbers_from;
+use lid_net_law::pearls_stand_for_columns;
 use lid_pearl::Pearl;
 use std::alloc::{AllocError, Global};
 
 /// The parts of all pearls, in order.
-pub(crate) fn collect_parts(alloc: Global, checked: &Checked) -> Result<Vec<Part>, AllocError>
+pub(crate) fn collect_parts(alloc: Global, checked: &Checked) -> Result<Vec<ShellPart>, AllocError>
     ensures { IfOk result (λ parts. ArePartsOf checked.now (length (columns checked.now)) parts.items) }
 {
     let _ = checked.design();
@@ -27,9 +27,9 @@ pub(crate) fn collect_parts(alloc: Global, checked: &Checked) -> Result<Vec<Part
 }
 
 /// The part of a pearl.
-fn part_of(alloc: Global, checked: &Checked, pearl: u32) -> Result<Part, AllocError>
+fn part_of(alloc: Global, checked: &Checked, pearl: u32) -> Result<ShellPart, AllocError>
     requires { pearl < length (pearls checked.now) }
-    ensures { IfOk result (IsPartOf checked.now (length (columns checked.now)) pearl) }
+    ensures { IfOk result (IsShellPartOf checked.now (length (columns checked.now)) pearl) }
 {
     pearls_stand_for_columns();
     let _ = checked.network();
@@ -39,15 +39,19 @@ fn part_of(alloc: Global, checked: &Checked, pearl: u32) -> Result<Part, AllocEr
 }
 
 /// The part of a flat part whose columns have these numbers.
-fn number_flat(alloc: Global, flat: &Flat, numbers: lid_check::Part) -> Result<Part, AllocError>
+fn number_flat(
+    alloc: Global,
+    flat: &Flat,
+    numbers: lid_check::PearlPart,
+) -> Result<ShellPart, AllocError>
     requires rules { IsFlat flat.now }
     requires ports { numbers.inputs + numbers.outputs ≤ numbers.nets }
     requires few { numbers.start + numbers.nets ≤ 1048576 }
-    ensures { IfOk result (IsNumbered numbers flat.now) }
+    ensures { IfOk result (IsNumberedShell numbers flat.now) }
 {
     let outputs = numbers.start + numbers.inputs;
     let ins = numbers_from(alloc, numbers.start, numbers.inputs)?;
     let outs = numbers_from(alloc, outputs, numbers.outputs)?;
     let pearl = Pearl::make(alloc, flat)?;
-    Ok(Part { pearl, ins, outs })
+    Ok(ShellPart { pearl, ins, outs })
 }

@@ -2,11 +2,11 @@
 
 ghost use Rattle.std.specs.Prelude.{◌≡◌, ◌↔◌, ℕ, suc, ◌<◌, true, false};
 ghost use Rattle.lid_clock.specs.Lives.{Life, IsBelow};
-ghost use Rattle.lid_clocked.specs.Clocks.{Clocks, IsRun, IsOver};
+ghost use Rattle.lid_clock.specs.Clocks.{Clocks, IsClockedRun, IsOver};
 
 use crate::cycle::cycle_on;
 use lid_base::Gate;
-use lid_clocked::Clocked;
+use lid_clock::Clocked;
 use std::thread::Threads;
 
 /// Makes a cycle on several workers where the sink has not yet fired for each row. Answers whether it made
@@ -17,7 +17,7 @@ fn go_on<R: Threads + Sync, G: Gate>(
     workers: u32,
     gate: &G,
 ) -> bool
-    requires run { IsRun clocked.old }
+    requires run { IsClockedRun clocked.old }
     requires some { 0 < workers }
     ensures made { (l : Life) (k : ℕ) → Clocks l k clocked.old → result ≡ true → Clocks l (suc k) clocked.new }
     ensures still { (l : Life) (k : ℕ) → Clocks l k clocked.old → result ≡ false → Clocks l k clocked.new }
@@ -45,7 +45,7 @@ pub fn run_on<R: Threads + Sync, G: Gate>(
     workers: u32,
     gate: &G,
 ) -> u64
-    requires run { IsRun clocked.old }
+    requires run { IsClockedRun clocked.old }
     requires some { 0 < workers }
     ensures ran { (l : Life) (k : ℕ) → Clocks l k clocked.old → Clocks l result clocked.new }
     ensures over { (l : Life) (k : ℕ) → Clocks l k clocked.old → IsOver l result }

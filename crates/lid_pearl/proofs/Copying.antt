@@ -5,13 +5,13 @@ use Rattle.lid_base.specs.Lists.{Among}
 use Rattle.lid_design.specs.declared.FlatLatch.{FlatLatch}
 use Rattle.lid_design.specs.declared.FlatCover.{FlatCover}
 use Rattle.lid_design.specs.Flat.{latch_input, IsRow, ReadEarlier}
-use Rattle.lid_settle.specs.declared.program.Program.{Program}
-use Rattle.lid_settle.specs.Programs.{shown, IsReady}
-use Rattle.lid_settle.specs.Rows.{AgreesAt, after}
-use Rattle.lid_pearl.specs.Inside.{held, IsKept}
+use Rattle.lid_strict_engine.specs.declared.program.Program.{Program}
+use Rattle.lid_strict_engine.specs.Programs.{program_covers, IsReadyProgram}
+use Rattle.lid_strict_engine.specs.Rows.{AreRightAt, after}
+use Rattle.lid_pearl.specs.Inside.{held, ArePearlFields}
 
-module _ (nets : ℕ) (ins outs : List ℕ) (latches : List FlatLatch) (early late early' late' : Program) (state bits : List Bool) (ready : IsReady early') (ready' : IsReady late') (same : early'.nets ≡ early.nets) (same' : late'.nets ≡ late.nets) (is : shown early' ≡ shown early) (is' : shown late' ≡ shown late) where
-  pub kept_by_copies : IsKept nets ins outs latches early late state bits → IsKept nets ins outs latches early' late' state bits
+module _ (nets : ℕ) (ins outs : List ℕ) (latches : List FlatLatch) (early late early' late' : Program) (state bits : List Bool) (ready : IsReadyProgram early') (ready' : IsReadyProgram late') (same : early'.nets ≡ early.nets) (same' : late'.nets ≡ late.nets) (is : program_covers early' ≡ program_covers early) (is' : program_covers late' ≡ program_covers late) where
+  pub kept_by_copies : ArePearlFields nets ins outs latches early late state bits → ArePearlFields nets ins outs latches early' late' state bits
   kept_by_copies kept = record {
     ordered = record {
       early_ready = ready;
@@ -24,27 +24,27 @@ module _ (nets : ℕ) (ins outs : List ℕ) (latches : List FlatLatch) (early la
       taken_below = kept.ordered.taken_below;
       early_reads = subst (ReadEarlier (held latches)) (sym is) kept.ordered.early_reads;
       late_reads =
-          subst (λ (cs : List FlatCover). ReadEarlier (ins ++ after (held latches) cs) (shown late')) (sym is)
-          (subst (ReadEarlier (ins ++ after (held latches) (shown early))) (sym is') kept.ordered.late_reads);
+          subst (λ (cs : List FlatCover). ReadEarlier (ins ++ after (held latches) cs) (program_covers late')) (sym is)
+          (subst (ReadEarlier (ins ++ after (held latches) (program_covers early))) (sym is') kept.ordered.late_reads);
       outs_early = subst (λ (cs : List FlatCover). AllByRecursion (λ k. Among k (after (held latches) cs)) outs) (sym is) kept.ordered.outs_early;
       taken_known =
-          subst (λ (cs : List FlatCover). AllByRecursion (λ k. Among k (after (ins ++ after (held latches) cs) (shown late'))) (map latch_input latches)) (sym is)
-          (subst (λ (cs : List FlatCover). AllByRecursion (λ k. Among k (after (ins ++ after (held latches) (shown early)) cs)) (map latch_input latches)) (sym is') kept.ordered.taken_known);
+          subst (λ (cs : List FlatCover). AllByRecursion (λ k. Among k (after (ins ++ after (held latches) cs) (program_covers late'))) (map latch_input latches)) (sym is)
+          (subst (λ (cs : List FlatCover). AllByRecursion (λ k. Among k (after (ins ++ after (held latches) (program_covers early)) cs)) (map latch_input latches)) (sym is') kept.ordered.taken_known);
     };
     state_size = kept.state_size;
     size = kept.size;
-    settled = subst (λ (cs : List FlatCover). (f : ℕ → Bool) → IsRow cs f → map f (held latches) ≡ state → AgreesAt f (after (held latches) cs) bits) (sym is) kept.settled;
+    settled = subst (λ (cs : List FlatCover). (f : ℕ → Bool) → IsRow cs f → map f (held latches) ≡ state → AreRightAt f (after (held latches) cs) bits) (sym is) kept.settled;
   }
 
   module _ (nets' : ℕ) (ins' outs' : List ℕ) (latches' : List FlatLatch) (state' bits' : List Bool) (n : nets' ≡ nets) (i : ins' ≡ ins) (o : outs' ≡ outs) (l : latches' ≡ latches) (s : state' ≡ state) (b : bits' ≡ bits) where
-    pub kept_by_equals : IsKept nets ins outs latches early late state bits → IsKept nets' ins' outs' latches' early' late' state' bits'
+    pub kept_by_equals : ArePearlFields nets ins outs latches early late state bits → ArePearlFields nets' ins' outs' latches' early' late' state' bits'
     kept_by_equals kept =
-        subst (λ (x : ℕ). IsKept x ins' outs' latches' early' late' state' bits') (sym n)
-        (subst (λ (x : List ℕ). IsKept nets x outs' latches' early' late' state' bits') (sym i)
-        (subst (λ (x : List ℕ). IsKept nets ins x latches' early' late' state' bits') (sym o)
-        (subst (λ (x : List FlatLatch). IsKept nets ins outs x early' late' state' bits') (sym l)
-        (subst (λ (x : List Bool). IsKept nets ins outs latches early' late' x bits') (sym s)
-        (subst (λ (x : List Bool). IsKept nets ins outs latches early' late' state x) (sym b) (kept_by_copies kept))))))
+        subst (λ (x : ℕ). ArePearlFields x ins' outs' latches' early' late' state' bits') (sym n)
+        (subst (λ (x : List ℕ). ArePearlFields nets x outs' latches' early' late' state' bits') (sym i)
+        (subst (λ (x : List ℕ). ArePearlFields nets ins x latches' early' late' state' bits') (sym o)
+        (subst (λ (x : List FlatLatch). ArePearlFields nets ins outs x early' late' state' bits') (sym l)
+        (subst (λ (x : List Bool). ArePearlFields nets ins outs latches early' late' x bits') (sym s)
+        (subst (λ (x : List Bool). ArePearlFields nets ins outs latches early' late' state x) (sym b) (kept_by_copies kept))))))
 
 pub of_ok : {A E : Type 0} (P : A → Type 0) (r : Result A E) (x : A) → r ≡ Ok x → IfOk r P → P x
 of_ok {A} {E} P r x is holds = subst (λ (r : Result A E). IfOk r P) is holds

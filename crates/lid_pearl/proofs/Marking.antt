@@ -1,10 +1,10 @@
 -- Marks of what is known in a state, and the covers that they pick.
-use Rattle.std.proofs.Common.{◌≡◌, ◌≢◌, ◌⊎◌, ℕ, zero, suc, ◌+◌, ◌<◌, ◌≤◌, eqb, Bool, true, false, not, cond, ◌&&◌, List, [], ◌∷◌, ◌++◌, length, filter, take, set, Some, None, slice_get, slice_index_or, inl, inr, refl, sym, ◌∙◌, ap, subst, arith}
+use Rattle.std.proofs.Common.{◌≡◌, ◌≢◌, ◌⊎◌, ℕ, zero, suc, ◌+◌, ◌<◌, ◌≤◌, eqb, Bool, true, false, not, cond, ◌&&◌, List, [], ◌∷◌, ◌++◌, length, filter, take, set, Some, slice_get, slice_index_or, inl, inr, refl, sym, ◌∙◌, ap, subst, arith}
 use Rattle.std.specs.List.{AllByRecursion, list_all}
 use Rattle.std.proofs.lemmas.List.{get_or-set_same, get_or-set_other}
 use Rattle.std.proofs.lemmas.Bool.Decides.{eqb_tells}
 use Rattle.lid_base.specs.Lists.{Among}
-use Rattle.lid_base.proofs.Lists.{among_append, among_left, among_right, all_among, all_at, last_case, among_get, map_among}
+use Rattle.lid_base.proofs.Lists.{among_append, among_left, among_right, all_among, all_at, last_case, among_get, map_among, get_among, among_take}
 use Rattle.lid_design.specs.declared.Flat.{Flat}
 use Rattle.lid_design.specs.declared.FlatLatch.{FlatLatch}
 use Rattle.lid_design.specs.declared.FlatCover.{FlatCover}
@@ -12,9 +12,10 @@ use Rattle.lid_design.specs.Network.{Driver, from_input, from_latch, from_cover}
 use Rattle.lid_design.specs.Walks.{read_now}
 use Rattle.lid_design.specs.Flat.{flat_drivers, latch_out, ReadEarlier, IsFlat}
 use Rattle.lid_design.proofs.Parts.{input_drives, latch_drives, cover_drives}
-use Rattle.lid_settle.specs.Rows.{bit_at, after}
-use Rattle.lid_settle.proofs.Settling.{take_at, after_keeps, after_has, earlier_at, no_latch, latch_at}
-use Rattle.lid_pearl.specs.Inside.{held, is_picked, IsFed, AreMarked}
+use Rattle.lid_strict_engine.specs.Rows.{bit_at, after}
+use Rattle.lid_strict_engine.proofs.Settling.{take_at, after_keeps, after_has, earlier_at, no_latch, latch_at}
+use Rattle.lid_pearl.specs.Inside.{held, is_picked, IsFromInput, AreKnownMarks}
+use Rattle.lid_base.proofs.Alls.{all_weaker, all_true}
 
 -- what is known was so before, or is the output of a cover
 pub after_cases : (known : List ℕ) (cs : List FlatCover) (k : ℕ) → Among k (after known cs) → Among k known ⊎ ((c : FlatCover) × Among c cs × (k ≡ c.out))
@@ -26,10 +27,6 @@ after_cases known (d ∷ cs) k among = by (after_cases (d.out ∷ known) cs k am
     by (inl (inr earlier)) = inl earlier
     by (inr found) = inr (found.0, inr found.1, found.2)
 
-all_weaker : {A : Type 0} (P Q : A → Type 0) (xs : List A) → ((x : A) → P x → Q x) → AllByRecursion P xs → AllByRecursion Q xs
-all_weaker P Q [] h all = tt
-all_weaker P Q (x ∷ xs) h all = (h x all.0, all_weaker P Q xs h all.1)
-
 -- each of some first covers reads what is known once they are run
 reads_known : (known : List ℕ) (cs : List FlatCover) (i : ℕ) → ReadEarlier known cs → (c : FlatCover) → Among c (take i cs) → AllByRecursion (λ k. Among k (after known (take i cs))) c.ins
 reads_known known cs zero earlier c among = absurd among
@@ -38,17 +35,6 @@ reads_known known (d ∷ cs) (suc i) earlier c (inl same) =
     subst (λ (c : FlatCover). AllByRecursion (λ k. Among k (after (d.out ∷ known) (take i cs))) c.ins) (sym same)
     (all_weaker (λ k. Among k known) (λ k. Among k (after (d.out ∷ known) (take i cs))) d.ins (λ k a. after_keeps (d.out ∷ known) (take i cs) k (inr a)) earlier.0)
 reads_known known (d ∷ cs) (suc i) earlier c (inr among) = reads_known (d.out ∷ known) cs i earlier.1 c among
-
-among_take : {A : Type 0} (xs : List A) (i : ℕ) (x : A) → Among x (take i xs) → Among x xs
-among_take xs zero x among = absurd among
-among_take [] (suc i) x among = absurd among
-among_take (y ∷ xs) (suc i) x (inl same) = inl same
-among_take (y ∷ xs) (suc i) x (inr among) = inr (among_take xs i x among)
-
-pub got_among : {A : Type 0} (xs : List A) (i : ℕ) (x : A) → slice_get xs i ≡ Some x → Among x xs
-got_among [] i x here = absurd (let e : None ≡ Some x = here in cc)
-got_among (y ∷ xs) zero x here = inl (let e : Some y ≡ Some x = here in cc)
-got_among (y ∷ xs) (suc i) x here = inr (got_among xs i x here)
 
 list_all_same : (m n : ℕ → Bool) (ks : List ℕ) → AllByRecursion (λ k. m k ≡ n k) ks → list_all m ks ≡ list_all n ks
 list_all_same m n [] same = refl
@@ -133,7 +119,7 @@ module _ (f : Flat) (flat : IsFlat f) where
       ap reads_of (same_driver (flat_drivers f d.out) (from_cover c.cover c.ins) (from_cover d.cover d.ins) (flat.once d.out) one two)
 
   -- one more cover is marked
-  module _ (marks : List Bool) (i : ℕ) (d : FlatCover) (at : slice_get f.covers i ≡ Some d) (room : d.out < length marks) (so_far : AreMarked f (take i f.covers) (bit_at marks)) where
+  module _ (marks : List Bool) (i : ℕ) (d : FlatCover) (at : slice_get f.covers i ≡ Some d) (room : d.out < length marks) (so_far : AreKnownMarks f (take i f.covers) (bit_at marks)) where
     abbrev v : Bool
     v = list_all (bit_at marks) d.ins
 
@@ -141,7 +127,7 @@ module _ (f : Flat) (flat : IsFlat f) where
     new = set marks d.out v
 
     d_among : Among d f.covers
-    d_among = got_among f.covers i d at
+    d_among = get_among f.covers i d at
 
     right : (k : ℕ) → Among k (after base (take i f.covers)) → k ≡ d.out → bit_at marks k ≡ v
     right k among same = by (after_cases base (take i f.covers) k among)
@@ -168,7 +154,7 @@ module _ (f : Flat) (flat : IsFlat f) where
     all_unchanged : (ks : List ℕ) → AllByRecursion (λ k. Among k (after base (take i f.covers))) ks → list_all (bit_at new) ks ≡ list_all (bit_at marks) ks
     all_unchanged ks all = list_all_same (bit_at new) (bit_at marks) ks (all_weaker (λ k. Among k (after base (take i f.covers))) (λ k. bit_at new k ≡ bit_at marks k) ks unchanged all)
 
-    pub marked_next : AreMarked f (take (i + 1) f.covers) (bit_at new)
+    pub marked_next : AreKnownMarks f (take (i + 1) f.covers) (bit_at new)
     marked_next = record {
       inputs = λ k among. unchanged k (after_keeps base (take i f.covers) k (among_left k f.ins (held f.latches) among)) ∙ so_far.inputs k among;
       latches = λ k among. unchanged k (after_keeps base (take i f.covers) k (among_right k f.ins (held f.latches) among)) ∙ so_far.latches k among;
@@ -194,14 +180,6 @@ late_of m cs = filter (is_picked m false) cs
 
 abbrev pub Exact : (ℕ → Bool) → List FlatCover → Type 0
 Exact m cs = (c : FlatCover) → Among c cs → m c.out ≡ list_all m c.ins
-
-all_true : (m : ℕ → Bool) (ks : List ℕ) → list_all m ks ≡ true → AllByRecursion (λ k. m k ≡ true) ks
-all_true m [] e = tt
-all_true m (k ∷ ks) e = by (m k) refl e (all_true m ks)
-  where
-    by : (b : Bool) → m k ≡ b → (b && list_all m ks) ≡ true → (list_all m ks ≡ true → AllByRecursion (λ k. m k ≡ true) ks) → (m k ≡ true) × AllByRecursion (λ k. m k ≡ true) ks
-    by true here e next = (here, next e)
-    by false here e next = absurd (let f : false ≡ true = e in cc)
 
 one_false : (m : ℕ → Bool) (ks : List ℕ) → list_all m ks ≡ false → (k : ℕ) × Among k ks × (m k ≡ false)
 one_false m [] e = absurd (let f : true ≡ false = e in cc)
@@ -281,18 +259,18 @@ late_known m (c ∷ cs) known known' wider early k among = by (m c.out) refl (la
     by true e next = next (c.out ∷ known) known' (λ k among. elim among [ inl same ↦ subst (λ (x : ℕ). Among x known') (sym same) (early c (inl refl) e) | inr among ↦ wider k among ]) (λ d among is. early d (inr among) is) k among
 
 -- an input leads to what is known and not marked
-pub fed_unless_marked : (f : Flat) (m : ℕ → Bool) (cs : List FlatCover) (known : List ℕ) → ReadEarlier known cs → Exact m cs → ((c : FlatCover) → Among c cs → Among c f.covers) → ((k : ℕ) → Among k known → m k ≡ false → IsFed f k) → (k : ℕ) → Among k (after known cs) → m k ≡ false → IsFed f k
+pub fed_unless_marked : (f : Flat) (m : ℕ → Bool) (cs : List FlatCover) (known : List ℕ) → ReadEarlier known cs → Exact m cs → ((c : FlatCover) → Among c cs → Among c f.covers) → ((k : ℕ) → Among k known → m k ≡ false → IsFromInput f k) → (k : ℕ) → Among k (after known cs) → m k ≡ false → IsFromInput f k
 fed_unless_marked f m [] known earlier exact within fed k among is = fed k among is
 fed_unless_marked f m (c ∷ cs) known earlier exact within fed k among is = fed_unless_marked f m cs (c.out ∷ known) earlier.1 (λ d among. exact d (inr among)) (λ d among. within d (inr among)) more k among is
   where
-    reach : ((a : ℕ) × Among a c.ins × (m a ≡ false)) → IsFed f c.out
+    reach : ((a : ℕ) × Among a c.ins × (m a ≡ false)) → IsFromInput f c.out
     reach found =
         let a = found.0 in
         let before = fed a (all_among (λ k. Among k known) c.ins a earlier.0 found.1) found.2 in
         (suc before.0, before.1, before.2, (a, before.3, (from_cover c.cover c.ins, cover_drives f c (within c (inl refl)), found.1)))
 
-    more : (k : ℕ) → Among k (c.out ∷ known) → m k ≡ false → IsFed f k
-    more k (inl same) is = subst (IsFed f) (sym same) (reach (one_false m c.ins (sym (exact c (inl refl)) ∙ sym (ap m same) ∙ is)))
+    more : (k : ℕ) → Among k (c.out ∷ known) → m k ≡ false → IsFromInput f k
+    more k (inl same) is = subst (IsFromInput f) (sym same) (reach (one_false m c.ins (sym (exact c (inl refl)) ∙ sym (ap m same) ∙ is)))
     more k (inr among) is = fed k among is
 
 -- one more net is marked
@@ -308,5 +286,5 @@ module _ (nets : List ℕ) (marks : List Bool) where
   held_alone old i k here alone x is none = by (eqb_tells x k)
     where
       by : ((eqb x k ≡ true) × (x ≡ k)) ⊎ ((eqb x k ≡ false) × (x ≢ k)) → Among x nets
-      by (inl e) = subst (λ (n : ℕ). Among n nets) (sym e.1) (got_among nets i k here)
+      by (inl e) = subst (λ (n : ℕ). Among n nets) (sym e.1) (get_among nets i k here)
       by (inr e) = alone x (sym (get_or-set_other marks k x true false e.1) ∙ is) none

@@ -1,5 +1,5 @@
 -- The programs of a pearl run its covers in an order in which each reads what is known.
-use Rattle.std.proofs.Common.{◌≡◌, ℕ, ◌+◌, ◌<◌, Bool, true, false, List, [], ◌∷◌, ◌++◌, length, map, take, drop, refl, sym, ◌∙◌, ap, subst, arith}
+use Rattle.std.proofs.Common.{◌≡◌, ℕ, ◌+◌, ◌<◌, Bool, true, false, List, [], ◌++◌, map, refl, sym, subst, arith}
 use Rattle.std.specs.List.{AllByRecursion}
 use Rattle.lid_base.specs.Lists.{Among}
 use Rattle.lid_base.proofs.Lists.{all_among, map_among}
@@ -7,17 +7,18 @@ use Rattle.lid_design.specs.declared.Flat.{Flat}
 use Rattle.lid_design.specs.declared.FlatLatch.{FlatLatch}
 use Rattle.lid_design.specs.declared.FlatCover.{FlatCover}
 use Rattle.lid_design.specs.Flat.{latch_out, latch_input, ReadEarlier, IsFlat}
-use Rattle.lid_settle.specs.declared.program.Program.{Program}
-use Rattle.lid_settle.specs.Programs.{shown, IsReady}
-use Rattle.lid_settle.specs.Rows.{after}
+use Rattle.lid_strict_engine.specs.declared.program.Program.{Program}
+use Rattle.lid_strict_engine.specs.Programs.{program_covers, IsReadyProgram}
+use Rattle.lid_strict_engine.specs.Rows.{after}
 use Rattle.lid_pearl.specs.Pearls.{IsSplit}
-use Rattle.lid_pearl.specs.Inside.{held, IsOrdered, AreMarked}
+use Rattle.lid_pearl.specs.Inside.{held, IsOrdered, AreKnownMarks}
 use Rattle.lid_pearl.proofs.Marking.{input_not_held, early_of, late_of}
-use Rattle.lid_pearl.proofs.Reordering.{all_from_each, split_of, early_earlier, late_earlier, out_early, net_late, all_earlier}
+use Rattle.lid_pearl.proofs.Reordering.{split_of, early_earlier, late_earlier, out_early, net_late, all_earlier}
+use Rattle.lid_base.proofs.Alls.{all_from_among}
 
 module _ (f : Flat) (flat : IsFlat f) where
   below_more : (ks : List ℕ) → AllByRecursion (λ k. k < f.nets) ks → AllByRecursion (λ k. k < f.nets + 1) ks
-  below_more ks all = all_from_each (λ k. k < f.nets + 1) ks (λ k among. (let h : k < f.nets = all_among (λ k. k < f.nets) ks k all among in omega arith))
+  below_more ks all = all_from_among (λ k. k < f.nets + 1) ks (λ k among. (let h : k < f.nets = all_among (λ k. k < f.nets) ks k all among in omega arith))
 
   latch_below : (latch : FlatLatch) → Among latch f.latches → (latch.input < f.nets) × (latch.out < f.nets)
   latch_below latch among = all_among (λ (latch : FlatLatch). (latch.input < f.nets) × (latch.out < f.nets)) f.latches latch flat.below.latches among
@@ -29,21 +30,21 @@ module _ (f : Flat) (flat : IsFlat f) where
   taken_small k among = let found = map_among {A = FlatLatch} {B = ℕ} latch_input k f.latches among in subst (λ (k : ℕ). k < f.nets) (sym found.2) (latch_below found.0 found.1).0
 
   pub held_below : AllByRecursion (λ k. k < f.nets + 1) (held f.latches)
-  held_below = all_from_each (λ k. k < f.nets + 1) (held f.latches) (λ k among. (let h : k < f.nets = held_small k among in omega arith))
+  held_below = all_from_among (λ k. k < f.nets + 1) (held f.latches) (λ k among. (let h : k < f.nets = held_small k among in omega arith))
 
   taken_below : AllByRecursion (λ k. k < f.nets + 1) (map latch_input f.latches)
-  taken_below = all_from_each (λ k. k < f.nets + 1) (map latch_input f.latches) (λ k among. (let h : k < f.nets = taken_small k among in omega arith))
+  taken_below = all_from_among (λ k. k < f.nets + 1) (map latch_input f.latches) (λ k among. (let h : k < f.nets = taken_small k among in omega arith))
 
   -- where only latches are marked, no cover is
-  pub latches_marked : (mark : ℕ → Bool) → ((k : ℕ) → Among k (held f.latches) → mark k ≡ true) → ((k : ℕ) → mark k ≡ true → Among k (held f.latches)) → AreMarked f [] mark
+  pub latches_marked : (mark : ℕ → Bool) → ((k : ℕ) → Among k (held f.latches) → mark k ≡ true) → ((k : ℕ) → mark k ≡ true → Among k (held f.latches)) → AreKnownMarks f [] mark
   latches_marked mark held_are alone = record { inputs = λ k among. by k among (mark k) refl; latches = held_are; covers_marked = λ c none. absurd none }
     where
       by : (k : ℕ) → Among k f.ins → (b : Bool) → mark k ≡ b → b ≡ false
       by k among true e = absurd (input_not_held f flat k among (alone k e))
       by k among false e = refl
 
-  module _ (m : ℕ → Bool) (marks : AreMarked f f.covers m) (early late : Program) (early_is : shown early ≡ early_of m f.covers) (late_is : shown late ≡ late_of m f.covers) where
-    pub is_ordered : IsReady early → IsReady late → early.nets ≡ f.nets → late.nets ≡ f.nets → IsOrdered f.nets f.ins f.outs f.latches early late
+  module _ (m : ℕ → Bool) (marks : AreKnownMarks f f.covers m) (early late : Program) (early_is : program_covers early ≡ early_of m f.covers) (late_is : program_covers late ≡ late_of m f.covers) where
+    pub is_ordered : IsReadyProgram early → IsReadyProgram late → early.nets ≡ f.nets → late.nets ≡ f.nets → IsOrdered f.nets f.ins f.outs f.latches early late
     is_ordered ready ready' nets nets' = record {
       early_ready = ready;
       late_ready = ready';
@@ -55,31 +56,23 @@ module _ (f : Flat) (flat : IsFlat f) where
       taken_below = taken_below;
       early_reads = subst (ReadEarlier (held f.latches)) (sym early_is) (early_earlier f flat m marks);
       late_reads =
-          subst (λ (es : List FlatCover). ReadEarlier (f.ins ++ after (held f.latches) es) (shown late)) (sym early_is)
+          subst (λ (es : List FlatCover). ReadEarlier (f.ins ++ after (held f.latches) es) (program_covers late)) (sym early_is)
           (subst (ReadEarlier (f.ins ++ after (held f.latches) (early_of m f.covers))) (sym late_is) (late_earlier f flat m marks));
       outs_early =
           subst (λ (es : List FlatCover). AllByRecursion (λ k. Among k (after (held f.latches) es)) f.outs) (sym early_is)
-          (all_from_each (λ k. Among k (after (held f.latches) (early_of m f.covers))) f.outs (out_early f flat m marks));
+          (all_from_among (λ k. Among k (after (held f.latches) (early_of m f.covers))) f.outs (out_early f flat m marks));
       taken_known =
-          subst (λ (es : List FlatCover). AllByRecursion (λ k. Among k (after (f.ins ++ after (held f.latches) es) (shown late))) (map latch_input f.latches)) (sym early_is)
+          subst (λ (es : List FlatCover). AllByRecursion (λ k. Among k (after (f.ins ++ after (held f.latches) es) (program_covers late))) (map latch_input f.latches)) (sym early_is)
           (subst (λ (ls : List FlatCover). AllByRecursion (λ k. Among k (after (f.ins ++ after (held f.latches) (early_of m f.covers)) ls)) (map latch_input f.latches)) (sym late_is)
-          (all_from_each (λ k. Among k (after (f.ins ++ after (held f.latches) (early_of m f.covers)) (late_of m f.covers))) (map latch_input f.latches) (λ k among. net_late f flat m marks k (taken_small k among))));
+          (all_from_among (λ k. Among k (after (f.ins ++ after (held f.latches) (early_of m f.covers)) (late_of m f.covers))) (map latch_input f.latches) (λ k among. net_late f flat m marks k (taken_small k among))));
     }
 
-    pub plan_split : IsSplit f.covers (shown early) (shown late)
+    pub plan_split : IsSplit f.covers (program_covers early) (program_covers late)
     plan_split =
-        subst (λ (es : List FlatCover). IsSplit f.covers es (shown late)) (sym early_is)
+        subst (λ (es : List FlatCover). IsSplit f.covers es (program_covers late)) (sym early_is)
         (subst (IsSplit f.covers (early_of m f.covers)) (sym late_is) (split_of m f.covers))
 
-    pub plan_earlier : ReadEarlier (f.ins ++ held f.latches) (shown early ++ shown late)
+    pub plan_earlier : ReadEarlier (f.ins ++ held f.latches) (program_covers early ++ program_covers late)
     plan_earlier =
-        subst (λ (es : List FlatCover). ReadEarlier (f.ins ++ held f.latches) (es ++ shown late)) (sym early_is)
+        subst (λ (es : List FlatCover). ReadEarlier (f.ins ++ held f.latches) (es ++ program_covers late)) (sym early_is)
         (subst (λ (ls : List FlatCover). ReadEarlier (f.ins ++ held f.latches) (early_of m f.covers ++ ls)) (sym late_is) (all_earlier f flat m marks))
-
--- a vector whose items were all written anew
-pub refilled : (n : ℕ) (new old : List Bool) → length new ≡ n → take n (new ++ drop (length new) old) ≡ new
-refilled n new old long = ap (λ (m : ℕ). take m (new ++ drop (length new) old)) (sym long) ∙ whole new (drop (length new) old)
-  where
-    whole : (xs ys : List Bool) → take (length xs) (xs ++ ys) ≡ xs
-    whole [] ys = refl
-    whole (x ∷ xs) ys = ap (λ (zs : List Bool). x ∷ zs) (whole xs ys)

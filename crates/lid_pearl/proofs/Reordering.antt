@@ -4,26 +4,19 @@ use Rattle.std.specs.List.{AllByRecursion, flat_map}
 use Rattle.std.proofs.lemmas.Bool.{eqb-true}
 use Rattle.std.proofs.lemmas.List.{length-append}
 use Rattle.lid_base.specs.Lists.{Among}
-use Rattle.lid_base.proofs.Lists.{among_append, among_left, among_right, all_among, among_flat, flat_among, among_filter}
+use Rattle.lid_base.proofs.Lists.{among_append, among_left, among_right, all_among, among_flat, flat_among, among_filter, some_item, if_among}
 use Rattle.lid_design.specs.declared.Flat.{Flat}
 use Rattle.lid_design.specs.declared.FlatLatch.{FlatLatch}
 use Rattle.lid_design.specs.declared.FlatCover.{FlatCover}
 use Rattle.lid_design.specs.Network.{Driver, from_input, from_latch, from_cover, Table, bit_of, IsStrict}
-use Rattle.lid_design.specs.Walks.{Walk}
+use Rattle.lid_design.specs.Walks.{EdgesLead}
 use Rattle.lid_design.specs.Flat.{inputs_at, latch_at, cover_at, flat_drivers, latch_out, IsFlatCover, ReadEarlier, IsFlat}
-use Rattle.lid_settle.specs.Rows.{after}
+use Rattle.lid_strict_engine.specs.Rows.{after}
 use Rattle.lid_pearl.specs.Pearls.{IsSplit, IsReordered}
-use Rattle.lid_pearl.specs.Inside.{held, is_picked, IsFed, AreMarked}
-use Rattle.lid_settle.proofs.Settling.{after_keeps, after_has}
+use Rattle.lid_pearl.specs.Inside.{held, is_picked, IsFromInput, AreKnownMarks}
+use Rattle.lid_strict_engine.proofs.Settling.{after_keeps, after_has}
 use Rattle.lid_pearl.proofs.Marking.{early_of, late_of, early_reads, late_reads, early_known, late_known, fed_unless_marked}
-
-pub all_from_each : {A : Type 0} (P : A → Type 0) (xs : List A) → ((x : A) → Among x xs → P x) → AllByRecursion P xs
-all_from_each P [] each = tt
-all_from_each P (x ∷ xs) each = (each x (inl refl), all_from_each P xs (λ y i. each y (inr i)))
-
-pub all_parts : {A : Type 0} (P : A → Type 0) (xs ys : List A) → AllByRecursion P (xs ++ ys) → AllByRecursion P xs × AllByRecursion P ys
-all_parts P [] ys all = (tt, all)
-all_parts P (x ∷ xs) ys all = let rest = all_parts P xs ys all.1 in ((all.0, rest.0), rest.1)
+use Rattle.lid_base.proofs.Alls.{all_from_among}
 
 -- covers that marks pick are a split
 pub split_of : (m : ℕ → Bool) (cs : List FlatCover) → IsSplit cs (early_of m cs) (late_of m cs)
@@ -145,25 +138,25 @@ module _ (f : Flat) (first second : List FlatCover) (split : IsSplit f.covers fi
       let same = split_length (cover_at k) f.covers first second split in
       omega arith
 
-  walk_back : (n a c : ℕ) → Walk (flat_drivers g) n a c → Walk (flat_drivers f) n a c
+  walk_back : (n a c : ℕ) → EdgesLead (flat_drivers g) n a c → EdgesLead (flat_drivers f) n a c
   walk_back zero a c w = w
   walk_back (suc n) a c w = (w.0, walk_back n a w.0 w.1, (w.2.0, driver_back c w.2.0 w.2.1, w.2.2))
 
   pub reordered_flat : IsFlat f → ReadEarlier (f.ins ++ held f.latches) (first ++ second) → IsFlat g
   reordered_flat flat earlier = record {
-    below = record { ins = flat.below.ins; outs = flat.below.outs; latches = flat.below.latches; covers = all_from_each (λ (c : FlatCover). AllByRecursion (λ k. k < f.nets) c.ins × (c.out < f.nets)) (first ++ second) (λ c among. all_among (λ (c : FlatCover). AllByRecursion (λ k. k < f.nets) c.ins × (c.out < f.nets)) f.covers c flat.below.covers (among_split f.covers first second split c among)) };
+    below = record { ins = flat.below.ins; outs = flat.below.outs; latches = flat.below.latches; covers = all_from_among (λ (c : FlatCover). AllByRecursion (λ k. k < f.nets) c.ins × (c.out < f.nets)) (first ++ second) (λ c among. all_among (λ (c : FlatCover). AllByRecursion (λ k. k < f.nets) c.ins × (c.out < f.nets)) f.covers c flat.below.covers (among_split f.covers first second split c among)) };
     once = λ k. (let same = as_many k in let few = flat.once k in omega arith);
     driven = λ k h. (let same = as_many k in let some = flat.driven k h in omega arith);
     earlier = earlier;
     apart = λ n input output i o w. flat.apart n input output i o (walk_back n input output w);
-    covers = all_from_each IsFlatCover (first ++ second) (λ c among. all_among IsFlatCover f.covers c flat.covers (among_split f.covers first second split c among));
+    covers = all_from_among IsFlatCover (first ++ second) (λ c among. all_among IsFlatCover f.covers c flat.covers (among_split f.covers first second split c among));
   }
 
   pub strict_there : (rows : List (List Bool)) (b : Table ℕ) → IsStrict (flat_drivers f) rows b → IsStrict (flat_drivers g) rows b
-  strict_there rows b strict t k h = all_from_each (λ s. b t k ≡ bit_of rows b t s) (flat_drivers g k) (λ s among. all_among (λ s. b t k ≡ bit_of rows b t s) (flat_drivers f k) s (strict t k h) (driver_back k s among))
+  strict_there rows b strict t k h = all_from_among (λ s. b t k ≡ bit_of rows b t s) (flat_drivers g k) (λ s among. all_among (λ s. b t k ≡ bit_of rows b t s) (flat_drivers f k) s (strict t k h) (driver_back k s among))
 
   pub strict_back : (rows : List (List Bool)) (b : Table ℕ) → IsStrict (flat_drivers g) rows b → IsStrict (flat_drivers f) rows b
-  strict_back rows b strict t k h = all_from_each (λ s. b t k ≡ bit_of rows b t s) (flat_drivers f k) (λ s among. all_among (λ s. b t k ≡ bit_of rows b t s) (flat_drivers g k) s (strict t k h) (driver_there k s among))
+  strict_back rows b strict t k h = all_from_among (λ s. b t k ≡ bit_of rows b t s) (flat_drivers f k) (λ s among. all_among (λ s. b t k ≡ bit_of rows b t s) (flat_drivers g k) s (strict t k h) (driver_there k s among))
 
 -- each net is known once all covers are run
 inputs_among : (k j : ℕ) (nets : List ℕ) (s : Driver ℕ) → Among s (inputs_at k j nets) → Among k nets
@@ -174,14 +167,6 @@ inputs_among k j (net ∷ nets) s among = by (net == k) refl among (inputs_among
     by true e among next = inl (sym (eqb-true net k e))
     by false e among next = inr (next among)
 
-of_if : {A : Type 0} (b : Bool) (x y : A) → Among y (cond b (x ∷ []) []) → b ≡ true
-of_if true x y among = refl
-of_if false x y none = absurd none
-
-some_of : {A : Type 0} (xs : List A) → 0 < length xs → (x : A) × Among x xs
-some_of [] h = absurd (omega arith)
-some_of (x ∷ xs) h = (x, inl refl)
-
 among_held : (latches : List FlatLatch) (latch : FlatLatch) → Among latch latches → Among latch.out (held latches)
 among_held [] latch among = absurd among
 among_held (l ∷ latches) latch (inl same) = inl (ap latch_out same)
@@ -191,7 +176,7 @@ append_earlier : (known : List ℕ) (xs ys : List FlatCover) → ReadEarlier kno
 append_earlier known [] ys first second = second
 append_earlier known (x ∷ xs) ys first second = (first.0, append_earlier (x.out ∷ known) xs ys first.1 second)
 
-module _ (f : Flat) (flat : IsFlat f) (m : ℕ → Bool) (marks : AreMarked f f.covers m) where
+module _ (f : Flat) (flat : IsFlat f) (m : ℕ → Bool) (marks : AreKnownMarks f f.covers m) where
   abbrev known : List ℕ
   known = f.ins ++ held f.latches
 
@@ -203,16 +188,16 @@ module _ (f : Flat) (flat : IsFlat f) (m : ℕ → Bool) (marks : AreMarked f f.
 
   net_known : (k : ℕ) → k < f.nets → Among k (after known f.covers)
   unfolding flat_drivers
-  net_known k h = by (some_of (flat_drivers f k) (flat.driven k h))
+  net_known k h = by (some_item (flat_drivers f k) (flat.driven k h))
     where
       of_cell : (s : Driver ℕ) → Among s (flat_map (latch_at k) f.latches) ⊎ Among s (flat_map (cover_at k) f.covers) → Among k (after known f.covers)
       of_cell s (inl here) =
           let found = flat_among {A = FlatLatch} {B = Driver ℕ} (latch_at k) s f.latches here in
-          let same = eqb-true found.0.out k (of_if (found.0.out == k) (from_latch found.0.init found.0.input) s found.2) in
+          let same = eqb-true found.0.out k ((if_among (found.0.out == k) s (from_latch found.0.init found.0.input) found.2).0) in
           subst (λ (k : ℕ). Among k (after known f.covers)) same (after_keeps known f.covers found.0.out (among_right found.0.out f.ins (held f.latches) (among_held f.latches found.0 found.1)))
       of_cell s (inr here) =
           let found = flat_among {A = FlatCover} {B = Driver ℕ} (cover_at k) s f.covers here in
-          let same = eqb-true found.0.out k (of_if (found.0.out == k) (from_cover found.0.cover found.0.ins) s found.2) in
+          let same = eqb-true found.0.out k ((if_among (found.0.out == k) s (from_cover found.0.cover found.0.ins) found.2).0) in
           subst (λ (k : ℕ). Among k (after known f.covers)) same (after_has known f.covers found.0 found.1)
 
       of : (s : Driver ℕ) → Among s (inputs_at k 0 f.ins) ⊎ Among s (flat_map (latch_at k) f.latches ++ flat_map (cover_at k) f.covers) → Among k (after known f.covers)
@@ -244,10 +229,10 @@ module _ (f : Flat) (flat : IsFlat f) (m : ℕ → Bool) (marks : AreMarked f f.
   pub late_earlier : ReadEarlier (f.ins ++ after (held f.latches) early) late
   late_earlier = late_reads m f.covers known (f.ins ++ after (held f.latches) early) flat.earlier wider early_has
 
-  fed : (k : ℕ) → Among k known → m k ≡ false → IsFed f k
+  fed : (k : ℕ) → Among k known → m k ≡ false → IsFromInput f k
   fed k among is = by (among_append k f.ins (held f.latches) among)
     where
-      by : Among k f.ins ⊎ Among k (held f.latches) → IsFed f k
+      by : Among k f.ins ⊎ Among k (held f.latches) → IsFromInput f k
       by (inl input) = (0, k, input, refl)
       by (inr latch) = absurd (let e : true ≡ false = sym (marks.latches k latch) ∙ is in cc)
 

@@ -7,11 +7,11 @@ use Rattle.lid_cover.specs.Cover.{same_bit}
 use Rattle.lid_design.specs.declared.Flat.{Flat}
 use Rattle.lid_design.specs.declared.FlatLatch.{FlatLatch}
 use Rattle.lid_design.specs.declared.FlatCover.{FlatCover}
-use Rattle.lid_design.specs.Walks.{Walk}
+use Rattle.lid_design.specs.Walks.{EdgesLead}
 use Rattle.lid_design.specs.Flat.{flat_drivers, latch_out, latch_input, ReadEarlier, IsRow}
-use Rattle.lid_settle.specs.declared.program.Program.{Program}
-use Rattle.lid_settle.specs.Programs.{shown, IsReady}
-use Rattle.lid_settle.specs.Rows.{AgreesAt, after}
+use Rattle.lid_strict_engine.specs.declared.program.Program.{Program}
+use Rattle.lid_strict_engine.specs.Programs.{program_covers, IsReadyProgram}
+use Rattle.lid_strict_engine.specs.Rows.{AreRightAt, after}
 
 -- the nets that the latches give
 abbrev pub held : List FlatLatch → List ℕ
@@ -19,41 +19,41 @@ held latches = map latch_out latches
 
 -- what is known in a state, and what is known once the inputs are
 abbrev pub early_nets : List FlatLatch → Program → List ℕ
-early_nets latches early = after (held latches) (shown early)
+early_nets latches early = after (held latches) (program_covers early)
 
 abbrev pub late_nets : List ℕ → List FlatLatch → Program → Program → List ℕ
-late_nets ins latches early late = after (ins ++ early_nets latches early) (shown late)
+late_nets ins latches early late = after (ins ++ early_nets latches early) (program_covers late)
 
 -- the nets of a pearl have bits, and each cover reads what is known when it is run
 pub record IsOrdered (nets : ℕ) (ins outs : List ℕ) (latches : List FlatLatch) (early late : Program) : Type 0 where
-  pub early_ready : IsReady early
-  pub late_ready : IsReady late
+  pub early_ready : IsReadyProgram early
+  pub late_ready : IsReadyProgram late
   pub early_nets : early.nets ≡ nets
   pub late_nets : late.nets ≡ nets
   pub ins_below : AllByRecursion (λ k. k < nets + 1) ins
   pub outs_below : AllByRecursion (λ k. k < nets + 1) outs
   pub held_below : AllByRecursion (λ k. k < nets + 1) (held latches)
   pub taken_below : AllByRecursion (λ k. k < nets + 1) (map latch_input latches)
-  pub early_reads : ReadEarlier (held latches) (shown early)
-  pub late_reads : ReadEarlier (ins ++ after (held latches) (shown early)) (shown late)
-  pub outs_early : AllByRecursion (λ k. Among k (after (held latches) (shown early))) outs
-  pub taken_known : AllByRecursion (λ k. Among k (after (ins ++ after (held latches) (shown early)) (shown late))) (map latch_input latches)
+  pub early_reads : ReadEarlier (held latches) (program_covers early)
+  pub late_reads : ReadEarlier (ins ++ after (held latches) (program_covers early)) (program_covers late)
+  pub outs_early : AllByRecursion (λ k. Among k (after (held latches) (program_covers early))) outs
+  pub taken_known : AllByRecursion (λ k. Among k (after (ins ++ after (held latches) (program_covers early)) (program_covers late))) (map latch_input latches)
 
 -- bits that are right at early nets in each row that has the latches' bits
 abbrev pub AreSettled : List FlatLatch → Program → List Bool → List Bool → Type 0
 AreSettled latches early state bits =
-    (f : ℕ → Bool) → IsRow (shown early) f → map f (held latches) ≡ state → AgreesAt f (early_nets latches early) bits
+    (f : ℕ → Bool) → IsRow (program_covers early) f → map f (held latches) ≡ state → AreRightAt f (early_nets latches early) bits
 
 -- what is known of the fields of a pearl
-pub record IsKept (nets : ℕ) (ins outs : List ℕ) (latches : List FlatLatch) (early late : Program) (state bits : List Bool) : Type 0 where
+pub record ArePearlFields (nets : ℕ) (ins outs : List ℕ) (latches : List FlatLatch) (early late : Program) (state bits : List Bool) : Type 0 where
   pub ordered : IsOrdered nets ins outs latches early late
   pub state_size : length state ≡ length latches
   pub size : length bits ≡ nets + 1
   pub settled : AreSettled latches early state bits
 
 -- an input leads to the net
-abbrev pub IsFed : Flat → ℕ → Type 0
-IsFed f k = (n input : ℕ) × Among input f.ins × Walk (flat_drivers f) n input k
+abbrev pub IsFromInput : Flat → ℕ → Type 0
+IsFromInput f k = (n input : ℕ) × Among input f.ins × EdgesLead (flat_drivers f) n input k
 
 -- a cover whose output is marked, or whose output is not
 abbrev pub is_picked : (ℕ → Bool) → Bool → FlatCover → Bool
@@ -61,7 +61,7 @@ is_picked mark wanted c = same_bit wanted (mark c.out)
 
 -- the marks of what is known in a state: no input has one, each latch has, and a cover's output has one
 -- exactly where all that it reads has
-pub record AreMarked (f : Flat) (covers : List FlatCover) (mark : ℕ → Bool) : Type 0 where
+pub record AreKnownMarks (f : Flat) (covers : List FlatCover) (mark : ℕ → Bool) : Type 0 where
   pub inputs : (k : ℕ) → Among k f.ins → mark k ≡ false
   pub latches : (k : ℕ) → Among k (held f.latches) → mark k ≡ true
   pub covers_marked : (c : FlatCover) → Among c covers → mark c.out ≡ list_all mark c.ins

@@ -3,13 +3,13 @@
 ghost use Rattle.std.specs.Prelude.{◌≡◌, ◌<◌, ◌+◌, ◌++◌, ℕ, Bool, List, length, map, IfOk};
 ghost use Rattle.std.specs.List.{AllByRecursion};
 ghost use Rattle.lid_design.specs.Flat.{latch_init, latch_input, IsFlat, IsRow, ReadEarlier};
-ghost use Rattle.lid_settle.specs.Programs.{shown, IsReady};
+ghost use Rattle.lid_strict_engine.specs.Programs.{program_covers, IsReadyProgram};
 ghost use Rattle.lid_pearl.specs.Pearls.{IsSplit};
-ghost use Rattle.lid_pearl.specs.Inside.{held, AreSettled, IsOrdered, IsKept};
+ghost use Rattle.lid_pearl.specs.Inside.{held, AreSettled, IsOrdered, ArePearlFields};
 
 use crate::split::{find_marks, lay_out};
 use lid_design::{Flat, FlatLatch};
-use lid_settle::{
+use lid_strict_engine::{
     Program, copy_of, first_state, put_bits, put_state, settle, take_bits, take_state,
 };
 use std::alloc::{AllocError, Global};
@@ -48,15 +48,15 @@ pub struct Pearl {
 
 impl Model for Pearl {
     ghost use Rattle.std.specs.Prelude.{◌++◌};
-    ghost use Rattle.lid_settle.specs.Programs.{shown};
+    ghost use Rattle.lid_strict_engine.specs.Programs.{program_covers};
     ghost use Rattle.lid_pearl.specs.Pearls.{View};
-    ghost use Rattle.lid_pearl.specs.Inside.{IsKept};
+    ghost use Rattle.lid_pearl.specs.Inside.{ArePearlFields};
 
     ghost Value = { View };
 
-    ghost view = { λ p. record { flat = record { nets = p.shape.nets; ins = p.shape.ins.items; outs = p.shape.outs.items; latches = p.shape.latches.items; covers = shown p.plan.early ++ shown p.plan.late }; state = p.row.state.items } };
+    ghost view = { λ p. record { flat = record { nets = p.shape.nets; ins = p.shape.ins.items; outs = p.shape.outs.items; latches = p.shape.latches.items; covers = program_covers p.plan.early ++ program_covers p.plan.late }; state = p.row.state.items } };
 
-    ghost invariant = { λ p. IsKept p.shape.nets p.shape.ins.items p.shape.outs.items p.shape.latches.items p.plan.early p.plan.late p.row.state.items p.row.bits.items };
+    ghost invariant = { λ p. ArePearlFields p.shape.nets p.shape.ins.items p.shape.outs.items p.shape.latches.items p.plan.early p.plan.late p.row.state.items p.row.bits.items };
 }
 
 impl Pearl {
@@ -132,9 +132,9 @@ impl Pearl {
 
 /// Gives early nets the bits of a state.
 fn settle_state(latches: &[FlatLatch], early: &Program, state: &[bool], bits: &mut [bool])
-    requires ready { IsReady early.now }
+    requires ready { IsReadyProgram early.now }
     requires below { AllByRecursion (λ k. k < early.now.nets + 1) (held latches.now) }
-    requires reads { ReadEarlier (held latches.now) (shown early.now) }
+    requires reads { ReadEarlier (held latches.now) (program_covers early.now) }
     requires long { length state.now ≡ length latches.now }
     requires size { length bits.old ≡ early.now.nets + 1 }
     ensures size { length bits.new ≡ length bits.old }
@@ -153,12 +153,12 @@ fn run(
     inputs: &[bool],
     into: &mut [bool],
 )
-    requires kept { IsKept shape.now.nets shape.now.ins.items shape.now.outs.items shape.now.latches.items plan.now.early plan.now.late state.old bits.old }
+    requires kept { ArePearlFields shape.now.nets shape.now.ins.items shape.now.outs.items shape.now.latches.items plan.now.early plan.now.late state.old bits.old }
     requires inputs { length inputs.now ≡ length shape.now.ins.items }
     requires outs { length into.old ≡ length shape.now.outs.items }
-    ensures kept { IsKept shape.now.nets shape.now.ins.items shape.now.outs.items shape.now.latches.items plan.now.early plan.now.late state.new bits.new }
-    ensures state { (f : ℕ → Bool) → IsRow (shown plan.now.early) f → IsRow (shown plan.now.late) f → map f (held shape.now.latches.items) ≡ state.old → map f shape.now.ins.items ≡ inputs.now → state.new ≡ map f (map latch_input shape.now.latches.items) }
-    ensures outs { (f : ℕ → Bool) → IsRow (shown plan.now.early) f → map f (held shape.now.latches.items) ≡ state.new → into.new ≡ map f shape.now.outs.items }
+    ensures kept { ArePearlFields shape.now.nets shape.now.ins.items shape.now.outs.items shape.now.latches.items plan.now.early plan.now.late state.new bits.new }
+    ensures state { (f : ℕ → Bool) → IsRow (program_covers plan.now.early) f → IsRow (program_covers plan.now.late) f → map f (held shape.now.latches.items) ≡ state.old → map f shape.now.ins.items ≡ inputs.now → state.new ≡ map f (map latch_input shape.now.latches.items) }
+    ensures outs { (f : ℕ → Bool) → IsRow (program_covers plan.now.early) f → map f (held shape.now.latches.items) ≡ state.new → into.new ≡ map f shape.now.outs.items }
 {
     let latches = shape.latches.as_slice();
     put_bits(bits, shape.ins.as_slice(), inputs);
@@ -196,8 +196,8 @@ fn shape_of(
 fn plan_of(alloc: Global, flat: &Flat) -> Result<Plan, AllocError>
     requires { IsFlat flat.now }
     ensures ordered { IfOk result (λ plan. IsOrdered flat.now.nets flat.now.ins flat.now.outs flat.now.latches plan.early plan.late) }
-    ensures split { IfOk result (λ plan. IsSplit flat.now.covers (shown plan.early) (shown plan.late)) }
-    ensures rules { IfOk result (λ plan. ReadEarlier (flat.now.ins ++ held flat.now.latches) (shown plan.early ++ shown plan.late)) }
+    ensures split { IfOk result (λ plan. IsSplit flat.now.covers (program_covers plan.early) (program_covers plan.late)) }
+    ensures rules { IfOk result (λ plan. ReadEarlier (flat.now.ins ++ held flat.now.latches) (program_covers plan.early ++ program_covers plan.late)) }
 {
     let marks = find_marks(alloc, flat)?;
     let early = lay_out(alloc, flat, marks.as_slice(), true)?;
@@ -208,9 +208,9 @@ fn plan_of(alloc: Global, flat: &Flat) -> Result<Plan, AllocError>
 /// The bits of a flat part as it begins.
 fn first_row(alloc: Global, flat: &Flat, early: &Program) -> Result<Row, AllocError>
     requires nets { early.now.nets ≡ flat.now.nets }
-    requires ready { IsReady early.now }
+    requires ready { IsReadyProgram early.now }
     requires rules { IsFlat flat.now }
-    requires reads { ReadEarlier (held flat.now.latches) (shown early.now) }
+    requires reads { ReadEarlier (held flat.now.latches) (program_covers early.now) }
     ensures state { IfOk result (λ row. row.state.items ≡ map latch_init flat.now.latches) }
     ensures size { IfOk result (λ row. length row.bits.items ≡ flat.now.nets + 1) }
     ensures settled { IfOk result (λ row. AreSettled flat.now.latches early.now row.state.items row.bits.items) }
@@ -224,9 +224,9 @@ fn first_row(alloc: Global, flat: &Flat, early: &Program) -> Result<Row, AllocEr
 
 /// Equal covers.
 fn copy_plan(plan: &Plan) -> Result<Plan, AllocError>
-    ensures ready { IsReady plan.now.early → IsReady plan.now.late → IfOk result (λ copy. IsReady copy.early × IsReady copy.late) }
+    ensures ready { IsReadyProgram plan.now.early → IsReadyProgram plan.now.late → IfOk result (λ copy. IsReadyProgram copy.early × IsReadyProgram copy.late) }
     ensures nets { IfOk result (λ copy. (copy.early.nets ≡ plan.now.early.nets) × (copy.late.nets ≡ plan.now.late.nets)) }
-    ensures shown { IfOk result (λ copy. (shown copy.early ≡ shown plan.now.early) × (shown copy.late ≡ shown plan.now.late)) }
+    ensures shown { IfOk result (λ copy. (program_covers copy.early ≡ program_covers plan.now.early) × (program_covers copy.late ≡ program_covers plan.now.late)) }
 {
     let early = plan.early.copy()?;
     let late = plan.late.copy()?;

@@ -4,12 +4,12 @@ ghost use Rattle.std.specs.Prelude.{◌≡◌, ◌<◌, ◌+◌, ℕ, true, fals
 ghost use Rattle.std.specs.List.{AllByRecursion, list_all};
 ghost use Rattle.lid_base.specs.Lists.{Among};
 ghost use Rattle.lid_design.specs.Flat.{IsFlat, IsFlatCover};
-ghost use Rattle.lid_settle.specs.Programs.{shown, IsProgram, IsReady};
-ghost use Rattle.lid_settle.specs.Rows.{bit_at};
-ghost use Rattle.lid_pearl.specs.Inside.{held, is_picked, AreMarked};
+ghost use Rattle.lid_strict_engine.specs.Programs.{program_covers, IsProgram, IsReadyProgram};
+ghost use Rattle.lid_strict_engine.specs.Rows.{bit_at};
+ghost use Rattle.lid_pearl.specs.Inside.{held, is_picked, AreKnownMarks};
 
 use lid_design::{Flat, FlatCover, FlatLatch};
-use lid_settle::Program;
+use lid_strict_engine::Program;
 use std::alloc::{AllocError, Global};
 
 /// Whether all of some nets are marked.
@@ -51,9 +51,9 @@ fn mark_cover(marks: &mut [bool], cover: &FlatCover)
 fn mark_covers(marks: &mut [bool], flat: &Flat)
     requires size { length marks.old ≡ flat.now.nets + 1 }
     requires rules { IsFlat flat.now }
-    requires held { AreMarked flat.now [] (bit_at marks.old) }
+    requires held { AreKnownMarks flat.now [] (bit_at marks.old) }
     ensures size { length marks.new ≡ length marks.old }
-    ensures marked { AreMarked flat.now flat.now.covers (bit_at marks.new) }
+    ensures marked { AreKnownMarks flat.now flat.now.covers (bit_at marks.new) }
 {
     let covers = flat.covers.as_slice();
     for i in 0..covers.len() {
@@ -67,7 +67,7 @@ fn mark(marks: &mut [bool], flat: &Flat)
     requires none { (k : ℕ) → bit_at marks.old k ≡ false }
     requires rules { IsFlat flat.now }
     ensures size { length marks.new ≡ length marks.old }
-    ensures marked { AreMarked flat.now flat.now.covers (bit_at marks.new) }
+    ensures marked { AreKnownMarks flat.now flat.now.covers (bit_at marks.new) }
 {
     mark_held(marks, flat.latches.as_slice());
     mark_covers(marks, flat);
@@ -77,7 +77,7 @@ fn mark(marks: &mut [bool], flat: &Flat)
 pub fn find_marks(alloc: Global, flat: &Flat) -> Result<Vec<bool>, AllocError>
     requires { IsFlat flat.now }
     ensures size { IfOk result (λ marks. length marks.items ≡ flat.now.nets + 1) }
-    ensures marked { IfOk result (λ marks. AreMarked flat.now flat.now.covers (bit_at marks.items)) }
+    ensures marked { IfOk result (λ marks. AreKnownMarks flat.now flat.now.covers (bit_at marks.items)) }
 {
     let mut marks = Vec::from_elem(alloc, false, flat.nets as usize + 1)?;
     mark(marks.as_mut_slice(), flat);
@@ -105,9 +105,9 @@ pub fn lay_out(
 ) -> Result<Program, AllocError>
     requires size { length marks.now ≡ flat.now.nets + 1 }
     requires rules { IsFlat flat.now }
-    ensures ready { IfOk result IsReady }
+    ensures ready { IfOk result IsReadyProgram }
     ensures nets { IfOk result (λ program. program.nets ≡ flat.now.nets) }
-    ensures shown { IfOk result (λ program. shown program ≡ filter (is_picked (bit_at marks.now) wanted) flat.now.covers) }
+    ensures shown { IfOk result (λ program. program_covers program ≡ filter (is_picked (bit_at marks.now) wanted) flat.now.covers) }
 {
     let mut program = Program::new(alloc, flat.nets);
     let covers = flat.covers.as_slice();
@@ -131,7 +131,7 @@ fn push_if(
     requires size { length marks.now ≡ program.old.nets + 1 }
     ensures laid { OnOk result (IsProgram 0 program.new) }
     ensures nets { program.new.nets ≡ program.old.nets }
-    ensures shown { OnOk result (shown program.new ≡ shown program.old ++ filter (is_picked (bit_at marks.now) wanted) (cover.now ∷ [])) }
+    ensures shown { OnOk result (program_covers program.new ≡ program_covers program.old ++ filter (is_picked (bit_at marks.now) wanted) (cover.now ∷ [])) }
 {
     if !is_wanted(marks, cover, wanted) {
         return Ok(());

@@ -13,11 +13,11 @@ use Rattle.lid_cert.specs.declared.cert.Part.{Part}
 use Rattle.lid_cert.specs.Certificates.{place_in, has_node, lag_of, lead_of, depth_of, via_of, AreLists, IsEdgeMet, IsStartMet, IsVia, IsNodeMet, IsPart, ascends}
 use Rattle.lid_cert.proofs.Ascending.{rises_pair, place_found}
 use Rattle.lid_cert.proofs.Parts.{lag_along, stays_back}
-use Rattle.lid_ratio.specs.WalksBack.{MeetsOnce}
-use Rattle.lid_ratio.specs.Components.{IsSmallGraph, IsLoop, AreAllJoined, IsBranch}
+use Rattle.lid_rate_ratio.specs.WalksBack.{MeetsOnce}
+use Rattle.lid_rate_ratio.specs.Components.{IsSmallGraph, IsLoop, AreAllJoined, IsBranch}
 use Rattle.lid_graph.specs.Rateable.{IsRateable}
 use Rattle.lid_rate.specs.Rates.{numbers_where, AreLabels, is_labelled, edges_of, IsPartOf, IsLoopAt}
-use Rattle.lid_rate.specs.Pieces.{IsInside, IsPiece, IsFound, IsLifted}
+use Rattle.lid_rate.specs.Pieces.{IsInnerEdge, IsPiece, IsFoundOfPiece, IsLifted}
 use Rattle.lid_rate.proofs.NumbersWhere.{Stands, those_only, those_all, those_ascends, those_has, those_has_not, those_few}
 
 module _ (g : Graph) (ok : IsRateable g) (least : List ℕ) (labels : AreLabels g least) where
@@ -78,7 +78,7 @@ module _ (g : Graph) (ok : IsRateable g) (least : List ℕ) (labels : AreLabels 
     pub few_edges : length (edges_of g least r) < 2 ^ 19
     few_edges = let e = ok.edges in let few = those_few (λ k. is_labelled least r (edge_at g k).from) (length g.edges) in omega arith
 
-    pub edges_inside : (i : ℕ) → i < length (edges_of g least r) → IsInside g (numbers_where (is_labelled least r) (length least)) (get_or (edges_of g least r) i 0)
+    pub edges_inside : (i : ℕ) → i < length (edges_of g least r) → IsInnerEdge g (numbers_where (is_labelled least r) (length least)) (get_or (edges_of g least r) i 0)
     edges_inside i h =
         let at = edge_is i h in
         let k = get_or (edges_of g least r) i 0 in
@@ -186,7 +186,7 @@ module _ (g : Graph) (ok : IsRateable g) (least : List ℕ) (labels : AreLabels 
           let ends : (edge_at g (number (get_or ks i 0))).to ≡ (edge_at g (number (get_or ks j 0))).to = ap (λ (n : ℕ). (edge_at g n).to) (sym at_i) ∙ (same ∙ ap (λ (n : ℕ). (edge_at g n).to) at_j) in
           once i j (omega arith) (omega arith) (one_place (edge_at piece (get_or ks i 0)).to (edge_at piece (get_or ks j 0)).to image_i.to_within image_j.to_within (image_i.to ∙ (ends ∙ sym image_j.to)))
 
-      module _ (p q : ℕ) (walk lags : List ℕ) (via : List (Option ℕ)) (lead depth : List ℕ) (is_found : IsFound piece p q walk lags via lead depth) (part : Part) (lift : IsLifted (numbers_where (is_labelled least r) (length least)) (edges_of g least r) p q walk lags via lead depth part) where
+      module _ (p q : ℕ) (walk lags : List ℕ) (via : List (Option ℕ)) (lead depth : List ℕ) (is_found : IsFoundOfPiece piece p q walk lags via lead depth) (part : Part) (lift : IsLifted (numbers_where (is_labelled least r) (length least)) (edges_of g least r) p q walk lags via lead depth part) where
         abbrev start : ℕ
         start = walk_start piece walk
 

@@ -12,7 +12,7 @@ use Rattle.lid_cert.specs.Certificates.{has_node, least_node, parts_with, ascend
 use Rattle.lid_cert.proofs.Ascending.{rises_pair}
 use Rattle.lid_cert.proofs.Consequences.{ratio_is_shown}
 use Rattle.lid_graph.specs.Rateable.{IsRateable}
-use Rattle.lid_rate.specs.Rates.{numbers_where, AreLabels, is_labelled, IsPartOf, IsExact, IsShort, is_own, AreParts}
+use Rattle.lid_rate.specs.Rates.{numbers_where, AreLabels, is_labelled, IsPartOf, IsExactPart, IsShort, is_own, AreParts}
 use Rattle.lid_rate.proofs.NumbersWhere.{Stands, those_only, those_all, those_ascends, those_has}
 use Rattle.lid_rate.proofs.Components.{same_label}
 
@@ -187,7 +187,7 @@ module _ (g : Graph) (ok : IsRateable g) (least : List ℕ) (labels : AreLabels 
       ascending = ap ascends so.heads ∙ those_ascends (is_own least) g.nodes;
     }
 
-    pub exact : All (IsExact g) cert.parts
+    pub exact : All (IsExactPart g) cert.parts
     exact k d h = record {
       ratio = λ v e. ratio_is_shown g cert (get_or cert.parts k d) v (record { paired = ok.paired; certifies = certifies; stands = (k, h, get_or_default cert.parts k (get_or cert.parts k d) d h); inside = e });
       lag = (so.each k d h).lags;

@@ -8,7 +8,7 @@ use Rattle.lid_graph.specs.Ratios.{IsLag}
 use Rattle.lid_graph.proofs.Counting.{Allowing, least_into_cases}
 use Rattle.lid_graph.proofs.Journeys.{walk_append, joined_step, joined_back}
 use Rattle.lid_rate.specs.Laws.{MeetLagRule, LagsMeetRule, RuleBoundsFirings}
-use Rattle.lid_ratio.proofs.Backward.{tokens_append}
+use Rattle.lid_rate_ratio.proofs.Backward.{tokens_append}
 
 pub lags_meet_rule : LagsMeetRule
 lags_meet_rule g v p q lag near k h joined =

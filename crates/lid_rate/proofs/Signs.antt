@@ -3,10 +3,10 @@ use Rattle.std.proofs.Common.{◌≡◌, ℕ, ◌^◌, ◌<◌, ◌≤◌, List,
 use Rattle.lid_graph.specs.declared.graph.Graph.{Graph}
 use Rattle.lid_graph.specs.Walks.{WalksHaveTokens}
 use Rattle.lid_rate.specs.Rates.{IsLoopAt}
-use Rattle.lid_rate.specs.Shown.{IsEdgeShown, IsShown}
-use Rattle.lid_firings.proofs.Alive.{numbers_show_tokens}
+use Rattle.lid_rate.specs.Shown.{IsEdgeShown, ShowsRateable}
+use Rattle.lid_graph_laws.proofs.Alive.{numbers_show_tokens}
 
-pub shown_of : (g : Graph) (backs loops numbers : List ℕ) → 1 ≤ g.nodes → g.nodes ≤ 2 ^ 18 → length g.edges < 2 ^ 19 → length backs ≡ length g.edges → length loops ≡ g.nodes → length numbers ≡ g.nodes → ((v : ℕ) → v < g.nodes → IsLoopAt g v (get_or loops v 0)) → ((k : ℕ) → k < length g.edges → IsEdgeShown g k (get_or backs k 0) numbers) → IsShown g backs loops numbers
+pub shown_of : (g : Graph) (backs loops numbers : List ℕ) → 1 ≤ g.nodes → g.nodes ≤ 2 ^ 18 → length g.edges < 2 ^ 19 → length backs ≡ length g.edges → length loops ≡ g.nodes → length numbers ≡ g.nodes → ((v : ℕ) → v < g.nodes → IsLoopAt g v (get_or loops v 0)) → ((k : ℕ) → k < length g.edges → IsEdgeShown g k (get_or backs k 0) numbers) → ShowsRateable g backs loops numbers
 shown_of g backs loops numbers some nodes edges back_count loop_count number_count at each = record {
   rateable = record {
     paired = record {
@@ -32,7 +32,7 @@ shown_of g backs loops numbers some nodes edges back_count loop_count number_cou
   };
 }
 
-pub edges_of_shown : (g : Graph) (backs loops numbers : List ℕ) → IsShown g backs loops numbers → (k : ℕ) → k < length g.edges → IsEdgeShown g k (get_or backs k 0) numbers
+pub edges_of_shown : (g : Graph) (backs loops numbers : List ℕ) → ShowsRateable g backs loops numbers → (k : ℕ) → k < length g.edges → IsEdgeShown g k (get_or backs k 0) numbers
 edges_of_shown g backs loops numbers shown k h = record {
   from = (shown.rateable.paired.ends k h).from;
   to = (shown.rateable.paired.ends k h).to;
@@ -41,5 +41,5 @@ edges_of_shown g backs loops numbers shown k h = record {
   rises = shown.signs.each_rises k h;
 }
 
-pub tokens_of_shown : (g : Graph) (backs loops numbers : List ℕ) → IsShown g backs loops numbers → WalksHaveTokens g
+pub tokens_of_shown : (g : Graph) (backs loops numbers : List ℕ) → ShowsRateable g backs loops numbers → WalksHaveTokens g
 tokens_of_shown g backs loops numbers shown = numbers_show_tokens g (λ v. get_or numbers v 0) shown.signs.each_rises

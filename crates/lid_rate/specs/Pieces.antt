@@ -5,10 +5,10 @@ use Rattle.lid_graph.specs.declared.graph.Edge.{Edge}
 use Rattle.lid_graph.specs.declared.graph.Graph.{Graph}
 use Rattle.lid_graph.specs.Walks.{edge_at, walk_start}
 use Rattle.lid_cert.specs.declared.cert.Part.{Part}
-use Rattle.lid_ratio.specs.Components.{HasRate, SpansFrom}
+use Rattle.lid_rate_ratio.specs.Components.{HasRate, SpansFrom}
 
 -- an edge of the graph whose ends stand in a list
-pub record IsInside (g : Graph) (nodes : List ℕ) (k : ℕ) : Type 0 where
+pub record IsInnerEdge (g : Graph) (nodes : List ℕ) (k : ℕ) : Type 0 where
   pub within : k < length g.edges
   pub from : Contains nodes (edge_at g k).from
   pub to : Contains nodes (edge_at g k).to
@@ -29,7 +29,7 @@ pub record IsPiece (g : Graph) (nodes edges : List ℕ) (piece : Graph) : Type 0
 
 -- what is found of a piece: its rate, and a tree from where the closed walk starts, with a lead there of
 -- at least (q - p)*(L - 1) for a walk of L edges
-pub record IsFound (piece : Graph) (p q : ℕ) (walk lags : List ℕ) (via : List (Option ℕ)) (lead depth : List ℕ) : Type 0 where
+pub record IsFoundOfPiece (piece : Graph) (p q : ℕ) (walk lags : List ℕ) (via : List (Option ℕ)) (lead depth : List ℕ) : Type 0 where
   pub rate : HasRate piece p q walk lags
   pub first : ℕ
   pub enough : q * (length walk - 1) ≤ first + p * (length walk - 1)

@@ -8,7 +8,7 @@ use Rattle.lid_graph.specs.Ratios.{IsRatio, IsLag}
 use Rattle.lid_cert.specs.declared.cert.Part.{Part}
 use Rattle.lid_cert.specs.declared.cert.Cert.{Cert}
 use Rattle.lid_cert.specs.Certificates.{has_node, lag_of, least_node, IsPart, IsPartInRange}
-use Rattle.lid_ratio.specs.WalksBack.{MeetsOnce}
+use Rattle.lid_rate_ratio.specs.WalksBack.{MeetsOnce}
 
 -- a filter of the numbers below n: those that pass a test, in order
 abbrev pub numbers_where : (ℕ → Bool) → ℕ → List ℕ
@@ -49,7 +49,7 @@ is_loop_edge e v = (e.from == v) && ((e.to == v) && (e.tokens == 1))
 
 -- p/q is the ratio of the component, each lag is the number that it bounds, the walk meets no
 -- transition twice, and all numbers are in the ranges of a certificate's text
-pub record IsExact (g : Graph) (part : Part) : Type 0 where
+pub record IsExactPart (g : Graph) (part : Part) : Type 0 where
   pub ratio : (v : ℕ) → has_node part v ≡ true → IsRatio g v part.p part.q
   pub lag : (v : ℕ) → has_node part v ≡ true → IsLag g part.p part.q v (lag_of part v)
   pub once : MeetsOnce g part.cycle

@@ -6,7 +6,7 @@ ghost use Rattle.lid_cert.specs.Certificates.{Certifies, IsInRange};
 ghost use Rattle.lid_rate.specs.Grouping.{AreSorted};
 ghost use Rattle.lid_graph.specs.Rateable.{IsRateable};
 ghost use Rattle.lid_graph.specs.Walks.{WalksHaveTokens};
-ghost use Rattle.lid_rate.specs.Rates.{IsExact, IsShort, AreLabels, AreParts};
+ghost use Rattle.lid_rate.specs.Rates.{IsExactPart, IsShort, AreLabels, AreParts};
 
 use crate::grouping::{Sorted, places_of, sort};
 use crate::parts::part_of;
@@ -51,7 +51,7 @@ fn all_parts(
 pub fn find(alloc: Global, graph: &Graph) -> Result<Cert, AllocError>
     requires { IsRateable graph.now }
     ensures certifies { IfOk result (Certifies graph.now) }
-    ensures exact { IfOk result (λ cert. All (IsExact graph.now) cert.parts) }
+    ensures exact { IfOk result (λ cert. All (IsExactPart graph.now) cert.parts) }
     ensures in_range { IfOk result IsInRange }
     ensures short { IfOk result (IsShort graph.now) }
     ensures positive { IfOk result (λ cert. WalksHaveTokens graph.now → All (λ part. 1 ≤ part.p) cert.parts) }

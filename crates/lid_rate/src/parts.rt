@@ -2,17 +2,17 @@
 
 ghost use Rattle.std.specs.Prelude.{◌≡◌, ℕ, ◌+◌, ◌-◌, ◌*◌, ◌<◌, ◌≤◌, ◌^◌, length, map, slice_index, option_map, IfOk};
 ghost use Rattle.lid_graph.specs.Walks.{walk_start, IsClosedWalk};
-ghost use Rattle.lid_ratio.specs.Components.{IsSmallGraph, IsLoop, AreAllJoined};
+ghost use Rattle.lid_rate_ratio.specs.Components.{IsSmallGraph, IsLoop, AreAllJoined};
 ghost use Rattle.lid_graph.specs.Rateable.{IsRateable};
 ghost use Rattle.lid_rate.specs.Rates.{AreLabels, IsPartOf, IsLoopAt, numbers_where, is_labelled, edges_of};
-ghost use Rattle.lid_rate.specs.Pieces.{IsFound, IsLifted};
+ghost use Rattle.lid_rate.specs.Pieces.{IsFoundOfPiece, IsLifted};
 
 use crate::pieces::{piece_of, place};
 use lid_base::Items;
 use lid_cert::Part;
 use lid_graph::Graph;
-use lid_guess::Branches;
-use lid_ratio::{Rate, Ratio, Root, edge, rate_of, tree_of};
+use lid_rate_guess::Branches;
+use lid_rate_ratio::{Rate, Ratio, Root, edge, rate_of, tree_of};
 use std::alloc::{AllocError, Global};
 
 /// What is found of a piece.
@@ -104,7 +104,7 @@ fn search_piece(alloc: Global, piece: &Graph, first: u32) -> Result<Findings, Al
     requires piece { IsSmallGraph piece.now }
     requires first { IsLoop piece.now first }
     requires joined { (u : ℕ) → u < piece.now.nodes → AreAllJoined piece.now u }
-    ensures { IfOk result (λ all. IsFound piece.now all.rate.ratio.p all.rate.ratio.q all.rate.walk all.rate.lags all.tree.via all.tree.lead all.tree.depth) }
+    ensures { IfOk result (λ all. IsFoundOfPiece piece.now all.rate.ratio.p all.rate.ratio.q all.rate.walk all.rate.lags all.tree.via all.tree.lead all.tree.depth) }
 {
     let rate = rate_of(alloc, piece, first)?;
     let start = start_of(piece, rate.walk.as_slice());

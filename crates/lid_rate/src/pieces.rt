@@ -3,12 +3,12 @@
 ghost use Rattle.std.specs.Prelude.{◌≡◌, ℕ, ◌<◌, ◌^◌, true, length, slice_index, IfOk};
 ghost use Rattle.std.specs.List.{Contains};
 ghost use Rattle.lid_cert.specs.Certificates.{ascends};
-ghost use Rattle.lid_rate.specs.Pieces.{IsImage, IsInside, IsPiece};
+ghost use Rattle.lid_rate.specs.Pieces.{IsImage, IsInnerEdge, IsPiece};
 
 use lid_base::Items;
 use lid_cert::place_of;
 use lid_graph::{Edge, Graph};
-use lid_ratio::edge;
+use lid_rate_ratio::edge;
 use std::alloc::{AllocError, Global};
 
 /// Where a number stands in an ascending list that has it.
@@ -29,7 +29,7 @@ pub(crate) fn place(numbers: &[u32], wanted: u32) -> u32
 fn image(graph: &Graph, nodes: &[u32], k: u32) -> Edge
     requires ascending { ascends nodes.now ≡ true }
     requires few { length nodes.now < 2 ^ 32 }
-    requires inside { IsInside graph.now nodes.now k }
+    requires inside { IsInnerEdge graph.now nodes.now k }
     ensures { IsImage graph.now nodes.now k result }
 {
     let along = edge(graph, k);
@@ -52,7 +52,7 @@ pub(crate) fn piece_of(
 ) -> Result<Graph, AllocError>
     requires ascending { ascends nodes.now ≡ true }
     requires few { length nodes.now < 2 ^ 32 }
-    requires inside { (i : ℕ) → i < length edges.now → IsInside graph.now nodes.now (slice_index edges.now i) }
+    requires inside { (i : ℕ) → i < length edges.now → IsInnerEdge graph.now nodes.now (slice_index edges.now i) }
     ensures { IfOk result (IsPiece graph.now nodes.now edges.now) }
 {
     let mut all = Vec::with_capacity(alloc, edges.len())?;

@@ -5,15 +5,15 @@ ghost use Rattle.lid_graph.specs.declared.graph.Edge.{Edge};
 ghost use Rattle.lid_graph.specs.Walks.{edge_at};
 ghost use Rattle.lid_graph.specs.Walks.{WalksHaveTokens};
 ghost use Rattle.lid_rate.specs.Rates.{IsLoopAt, is_loop_edge};
-ghost use Rattle.lid_rate.specs.Shown.{IsBack, LeadsUp, IsEdgeShown, IsShown};
+ghost use Rattle.lid_rate.specs.Shown.{IsBackEdge, LeadsUp, IsEdgeShown, ShowsRateable};
 
 use lid_graph::Graph;
-use lid_ratio::edge;
+use lid_rate_ratio::edge;
 
 /// Whether `back` is an edge from the end of another edge to its beginning.
 fn is_back(graph: &Graph, k: u32, back: u32) -> bool
     requires { k < length graph.now.edges }
-    ensures { IsTrue result ↔ IsBack graph.now k back }
+    ensures { IsTrue result ↔ IsBackEdge graph.now k back }
 {
     if back as usize >= graph.edges.len() {
         return false;
@@ -91,7 +91,7 @@ fn are_loops_shown(graph: &Graph, loops: &[u32]) -> bool
 /// edge to itself with one token, and for each transition a number that rises along every edge
 /// without tokens. It takes no memory, and its time is linear.
 pub fn is_rateable(graph: &Graph, backs: &[u32], loops: &[u32], numbers: &[u32]) -> bool
-    ensures shown { IsTrue result ↔ IsShown graph.now backs.now loops.now numbers.now }
+    ensures shown { IsTrue result ↔ ShowsRateable graph.now backs.now loops.now numbers.now }
     ensures tokens { IsTrue result → WalksHaveTokens graph.now }
 {
     let count = graph.edges.len();

@@ -4,15 +4,15 @@ use Rattle.std.specs.Prelude.{Some, slice_get}
 use Rattle.std.proofs.lemmas.Bool.{cases_eq, cases_lt}
 use Rattle.std.proofs.lemmas.Option.{same_Some, slice_get_within}
 use Rattle.lid_stations.specs.Placements.{links_of}
-use Rattle.lid_runs.specs.Runs.{place_in}
-use Rattle.lid_runs.proofs.Ends.{drained_place, filled_place}
+use Rattle.lid_shell_laws.specs.Runs.{place_in}
+use Rattle.lid_shell_laws.proofs.Ends.{drained_place, filled_place}
 use Rattle.lid_station.specs.Boards.{Facts, Ends, Changes, fill, drain, missed, marked, advanced}
-use Rattle.lid_machine.specs.Plans.{ins_of, outs_of, start_of}
-use Rattle.lid_machine.specs.Setups.{Setup, plan}
-use Rattle.lid_machine.specs.Machine.{Progress, takes_from, puts_from, ends_at}
-use Rattle.lid_shell.specs.Boards.{HasEnd, IsDrainedBy, IsFilledBy, Agrees}
+use Rattle.lid_walk_machine.specs.Plans.{ins_of, outs_of, start_of}
+use Rattle.lid_walk_machine.specs.Setups.{Setup, plan}
+use Rattle.lid_walk_machine.specs.Machine.{Progress, takes_from, puts_from, ends_at}
+use Rattle.lid_shell.specs.Boards.{IsEndWith, IsDrainedBy, IsFilledBy, Agrees}
 use Rattle.lid_shell.specs.Inside.{further, set_back, closed}
-use Rattle.lid_machine.proofs.Counts.{early, late, alike}
+use Rattle.lid_walk_machine.proofs.Counts.{early, late, alike}
 use Rattle.lid_shell.proofs.Changed.{here, elsewhere}
 
 -- what is known of the drained stations stays, where no place of a firing is passed at which it would change
@@ -28,17 +28,17 @@ once xs place i k station at there = sym (place i station at) ∙ place k statio
 
 -- what is known of the end that changed, among the ends of one side of the actor
 changed_at : (xs : List ℕ) (end : ℕ → ℕ) (Was Is : ℕ → ℕ → Facts → Type 0) (old ends : Ends) (k station : ℕ) (step : Facts → Facts)
-    → HasEnd old (end station) (Was k station) → slice_get xs k ≡ Some station → Changes old (end station) step ends
+    → IsEndWith old (end station) (Was k station) → slice_get xs k ≡ Some station → Changes old (end station) step ends
     → ((f : Facts) → Was k station f → Is k station (step f))
-    → (i other : ℕ) → i ≡ k → slice_get xs i ≡ Some other → HasEnd ends (end other) (Is i other)
+    → (i other : ℕ) → i ≡ k → slice_get xs i ≡ Some other → IsEndWith ends (end other) (Is i other)
 changed_at xs end Was Is old ends k station step had at changes own i other same there =
-    let now : HasEnd ends (end station) (Is k station) = (step had.0, here old ends (end station) step had.0 changes had.1, own had.0 had.2) in
+    let now : IsEndWith ends (end station) (Is k station) = (step had.0, here old ends (end station) step had.0 changes had.1, own had.0 had.2) in
     let is : station ≡ other = same_Some station other (sym at ∙ subst (λ (n : ℕ). slice_get xs n ≡ Some other) same there) in
-    subst (λ (n : ℕ). HasEnd ends (end other) (Is n other)) (sym same)
-    (subst (λ (s : ℕ). HasEnd ends (end s) (Is k s)) is now)
+    subst (λ (n : ℕ). IsEndWith ends (end other) (Is n other)) (sym same)
+    (subst (λ (s : ℕ). IsEndWith ends (end s) (Is k s)) is now)
 
 -- and of one that did not
-unchanged_at : (old ends : Ends) (end : ℕ) (step : Facts → Facts) (k : ℕ) (Was Is : Facts → Type 0) → Changes old end step ends → (k ≡ end → ⊥) → HasEnd old k Was → ((f : Facts) → Was f → Is f) → HasEnd ends k Is
+unchanged_at : (old ends : Ends) (end : ℕ) (step : Facts → Facts) (k : ℕ) (Was Is : Facts → Type 0) → Changes old end step ends → (k ≡ end → ⊥) → IsEndWith old k Was → ((f : Facts) → Was f → Is f) → IsEndWith ends k Is
 unchanged_at old ends end step k Was Is changes apart had stays = (had.0, elsewhere old ends end step k changes apart ∙ had.1, stays had.0 had.2)
 
 -- a change at a station that the actor drains

@@ -4,15 +4,15 @@ use Rattle.std.specs.Prelude.{Option, Some, None}
 use Rattle.std.proofs.lemmas.Bool.{ne_eqb, cases_lt}
 use Rattle.lid_base.specs.declared.runs.Answer.{Answer}
 use Rattle.lid_station.specs.Boards.{Ends, fill, drain}
-use Rattle.lid_machine.specs.Plans.{ins_of, outs_of, start_of, cap}
-use Rattle.lid_machine.specs.Setups.{Setup, plan}
-use Rattle.lid_machine.specs.Machine.{Progress, State, ends_at, after_as, finds, next, answer_of, until_rest, last_answer, turn, turn_answer}
+use Rattle.lid_walk_machine.specs.Plans.{ins_of, outs_of, start_of, cap}
+use Rattle.lid_walk_machine.specs.Setups.{Setup, plan}
+use Rattle.lid_walk_machine.specs.Machine.{Progress, State, ends_at, after_as, finds, next, answer_of, until_rest, last_answer, turn, turn_answer}
 use Rattle.lid_shell.specs.declared.actor.Actor.{Actor}
 use Rattle.lid_shell.specs.declared.turn.TurnEnd.{TurnEnd}
 use Rattle.lid_shell.specs.declared.turn.TurnEnd.TheVariants as end
 use Rattle.lid_shell.specs.Boards.{ServesAll}
 use Rattle.lid_shell.specs.Actors.{IsActor}
-use Rattle.lid_shell.specs.Steps.{Works, Steps, IsExact, Moves, MissesLate, missed_end, misses_after}
+use Rattle.lid_shell.specs.Steps.{Works, MakesStep, IsExact, Moves, MissesLate, missed_end, misses_after}
 use Rattle.lid_shell.specs.Turns.{answer_at, end_at, EndsSo, Turned}
 use Rattle.lid_shell.specs.Inside.{ending}
 use Rattle.lid_shell.proofs.Told.{passed_in, passed_out}
@@ -118,7 +118,7 @@ on_way_tells m v fuel st goes = ap (λ (b : Bool). cond b (answer_of (plan m) st
 
 -- what a step does
 pub record Makes (a new : Actor) (told : Answer) (ends ends_new : Ends) (stands stands_new : (ℕ → List ℕ) → Type 0) : Type 0 where
-  pub steps : (m : Setup) (v : ℕ) (q : Progress) → Works m v q a ends stands → Steps m v q told new ends_new stands_new
+  pub steps : (m : Setup) (v : ℕ) (q : Progress) → Works m v q a ends stands → MakesStep m v q told new ends_new stands_new
   pub exact : (m : Setup) (v : ℕ) (st : State) → Works m v (st v) a ends stands → ServesAll m st v ends → IsExact m st v told
   pub moves : Moves a.desk.ins.items a.desk.outs.items (missed_end told) ends ends_new
   pub late : MissesLate ends told

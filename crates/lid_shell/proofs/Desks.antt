@@ -6,17 +6,17 @@ use Rattle.std.proofs.lemmas.Option.{slice_get_within, slice_get-get_or, slice_g
 use Rattle.std.proofs.lemmas.List.{get_or-map, get_or-set_same, length-map}
 use Rattle.std.proofs.lemmas.Grind.{same_number_lists}
 use Rattle.smallvec.specs.SmallVec.{SmallVec}
-use Rattle.lid_runs.proofs.Elements.{set_there}
 use Rattle.lid_station.specs.Boards.{Ends, fill, drain}
-use Rattle.lid_machine.specs.Plans.{ins_of, outs_of, start_of, stream}
-use Rattle.lid_machine.specs.Setups.{Setup, plan}
-use Rattle.lid_machine.specs.Machine.{Progress, takes_from, puts_from, ends_at, in_at}
+use Rattle.lid_walk_machine.specs.Plans.{ins_of, outs_of, start_of, stream}
+use Rattle.lid_walk_machine.specs.Setups.{Setup, plan}
+use Rattle.lid_walk_machine.specs.Machine.{Progress, takes_from, puts_from, ends_at, in_at}
 use Rattle.lid_shell.specs.declared.desk.Desk.{Desk}
 use Rattle.lid_shell.specs.Actors.{IsDesk}
 use Rattle.lid_shell.specs.Boards.{Agrees}
 use Rattle.lid_shell.specs.Steps.{IsOwn}
-use Rattle.lid_shell.specs.Inside.{further, set_back, tokens_taken, AreMade, IsBusy, IsAtWork}
+use Rattle.lid_shell.specs.Inside.{further, set_back, tokens_taken, AreMade, IsBusy, IsBusyAtBoard}
 use Rattle.lid_shell.proofs.Places.{few_ins, few_outs}
+use Rattle.lid_base.proofs.Places.{set_there}
 
 -- the element of a list at a place
 at_place : (ys xs : List ℕ) (i : ℕ) → xs ≡ ys → i < length ys → slice_get ys i ≡ Some (get_or xs i 0)
@@ -68,7 +68,7 @@ desk_early m v q new d fired position is same_fired same_position early =
 
 -- after a look that finds what it looks for, and after one that does not
 pub look_found : (m : Setup) (v : ℕ) (q : Progress) (d : Desk) (ends : Ends) (stands : (ℕ → List ℕ) → Type 0) → IsBusy m v q d → q.position < takes_from (length (ins_of (plan m) v)) (length (outs_of (plan m) v))
-    → Agrees m v (further q) ends → stands (stream (plan m)) → IsAtWork m v (further q) (record d { position = d.position + 1 }) ends stands
+    → Agrees m v (further q) ends → stands (stream (plan m)) → IsBusyAtBoard m v (further q) (record d { position = d.position + 1 }) ends stands
 look_found m v q d ends stands busy early agrees streams =
     record {
       busy = busy_at m v q d (record d { position = d.position + 1 }) (q.position + 1) busy (omega arith) (desk_early m v q (further q) d d.fired (d.position + 1) busy.at busy.at.fired_is (ap (λ (n : ℕ). n + 1) busy.at.position_is) (omega arith));
@@ -76,7 +76,7 @@ look_found m v q d ends stands busy early agrees streams =
       streams = streams;
     }
 
-pub look_missed : (m : Setup) (v : ℕ) (q : Progress) (d : Desk) (ends : Ends) (stands : (ℕ → List ℕ) → Type 0) → IsBusy m v q d → Agrees m v (set_back q) ends → stands (stream (plan m)) → IsAtWork m v (set_back q) (record d { position = 0 }) ends stands
+pub look_missed : (m : Setup) (v : ℕ) (q : Progress) (d : Desk) (ends : Ends) (stands : (ℕ → List ℕ) → Type 0) → IsBusy m v q d → Agrees m v (set_back q) ends → stands (stream (plan m)) → IsBusyAtBoard m v (set_back q) (record d { position = 0 }) ends stands
 look_missed m v q d ends stands busy agrees streams =
     record {
       busy = busy_at m v q d (record d { position = 0 }) 0 busy (omega arith) (desk_early m v q (set_back q) d d.fired 0 busy.at busy.at.fired_is refl (omega arith));

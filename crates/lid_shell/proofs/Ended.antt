@@ -6,16 +6,16 @@ use Rattle.std.proofs.lemmas.Option.{slice_get-get_or}
 use Rattle.lid_base.specs.declared.runs.Answer.{Answer}
 use Rattle.lid_base.specs.declared.runs.Answer.TheVariants as answer
 use Rattle.lid_station.specs.Boards.{Ends}
-use Rattle.lid_machine.specs.Plans.{ins_of, outs_of, cap}
-use Rattle.lid_machine.specs.Setups.{Setup, plan}
-use Rattle.lid_machine.specs.Machine.{Progress, takes_from, ends_at, is_last, tells, moves}
+use Rattle.lid_walk_machine.specs.Plans.{ins_of, outs_of, cap}
+use Rattle.lid_walk_machine.specs.Setups.{Setup, plan}
+use Rattle.lid_walk_machine.specs.Machine.{Progress, takes_from, ends_at, is_last, tells, moves}
 use Rattle.lid_shell.specs.declared.actor.Actor.{Actor}
 use Rattle.lid_shell.specs.declared.desk.Next.{Next}
 use Rattle.lid_shell.specs.declared.desk.Next.TheVariants.{LookIn, LookOut, Take, Put, Fire}
 use Rattle.lid_shell.specs.declared.turn.TurnEnd.{TurnEnd}
 use Rattle.lid_shell.specs.declared.turn.TurnEnd.TheVariants as end
 use Rattle.lid_shell.specs.Actors.{IsBegun}
-use Rattle.lid_shell.specs.Steps.{Works, Steps, found_in, missed_end, MissesLate}
+use Rattle.lid_shell.specs.Steps.{Works, MakesStep, found_in, missed_end, MissesLate}
 use Rattle.lid_shell.specs.Turns.{answer_at, end_at, fired_at, EndsSo}
 use Rattle.lid_shell.specs.Inside.{act_in, IsAbout, further, ending}
 use Rattle.lid_shell.proofs.Stepped.{act_is, next_of, answer_below, after_below, answer_at_cap, after_at_cap}
@@ -101,7 +101,7 @@ record IsNextStep (m : Setup) (v : ℕ) (q : Progress) (answer : Answer) (a : Ac
   told : answer ≡ tells (plan m) v q.fired (act_in next) (found_in answer) (is_last (plan m) v q.position)
   works : Works m v (moves (act_in next) (found_in answer) (is_last (plan m) v q.position) q) a ends stands
 
-next_step : (m : Setup) (v : ℕ) (q : Progress) (answer : Answer) (a : Actor) (ends : Ends) (stands : (ℕ → List ℕ) → Type 0) → IsBegun m v q → Steps m v q answer a ends stands → (q.fired ≡ cap (plan m) v → ⊥) → IsNextStep m v q answer a ends stands
+next_step : (m : Setup) (v : ℕ) (q : Progress) (answer : Answer) (a : Actor) (ends : Ends) (stands : (ℕ → List ℕ) → Type 0) → IsBegun m v q → MakesStep m v q answer a ends stands → (q.fired ≡ cap (plan m) v → ⊥) → IsNextStep m v q answer a ends stands
 next_step m v q answer a ends stands far steps other =
     let capped : q.fired ≤ cap (plan m) v = far.capped in
     let below : q.fired < cap (plan m) v = omega (arith, other) in
@@ -115,7 +115,7 @@ next_step m v q answer a ends stands far steps other =
       works = subst (λ (p : Progress). Works m v p a ends stands) (sym (after_below m v q (found_in answer) (act_in next.0) (is_last (plan m) v q.position) below act refl)) steps.works;
     }
 
-pub ended : (m : Setup) (v : ℕ) (q : Progress) (answer : Answer) (how : TurnEnd) (a : Actor) (ends : Ends) (stands : (ℕ → List ℕ) → Type 0) → IsBegun m v q → Steps m v q answer a ends stands → ending answer ≡ Some how → HasEnded m v q how a ends stands
+pub ended : (m : Setup) (v : ℕ) (q : Progress) (answer : Answer) (how : TurnEnd) (a : Actor) (ends : Ends) (stands : (ℕ → List ℕ) → Type 0) → IsBegun m v q → MakesStep m v q answer a ends stands → ending answer ≡ Some how → HasEnded m v q how a ends stands
 ended m v q answer how a ends stands far steps h =
     elim (cases_eq q.fired (cap (plan m) v)) [
       | inl same ↦
@@ -144,7 +144,7 @@ pub record GoesOn (m : Setup) (v : ℕ) (q : Progress) (a : Actor) (ends : Ends)
   pub below : q.fired < cap (plan m) v
   pub works : Works m v (further q) a ends stands
 
-pub going_on : (m : Setup) (v : ℕ) (q : Progress) (answer : Answer) (a : Actor) (ends : Ends) (stands : (ℕ → List ℕ) → Type 0) → IsBegun m v q → Steps m v q answer a ends stands → ending answer ≡ None → GoesOn m v q a ends stands
+pub going_on : (m : Setup) (v : ℕ) (q : Progress) (answer : Answer) (a : Actor) (ends : Ends) (stands : (ℕ → List ℕ) → Type 0) → IsBegun m v q → MakesStep m v q answer a ends stands → ending answer ≡ None → GoesOn m v q a ends stands
 going_on m v q answer a ends stands far steps h =
     elim (cases_eq q.fired (cap (plan m) v)) [
       | inl same ↦ (let not : Some end.Done ≡ None = sym (ap ending (steps.answers ∙ answer_at_cap m v q (found_in answer) same)) ∙ h in absurd (cc))

@@ -5,25 +5,25 @@ use Rattle.std.proofs.lemmas.Bool.{eqb-true}
 use Rattle.std.proofs.lemmas.Option.{slice_get-get_or}
 use Rattle.smallvec.specs.SmallVec.{SmallVec}
 use Rattle.lid_station.specs.Boards.{Ends}
-use Rattle.lid_machine.specs.Plans.{ins_of, outs_of, cap, stream}
-use Rattle.lid_machine.specs.Setups.{Setup, IsSetup, plan}
-use Rattle.lid_machine.specs.Machine.{Progress, takes_from, puts_from, ends_at, is_last, goes_on}
+use Rattle.lid_walk_machine.specs.Plans.{ins_of, outs_of, cap, stream}
+use Rattle.lid_walk_machine.specs.Setups.{Setup, IsSetup, plan}
+use Rattle.lid_walk_machine.specs.Machine.{Progress, takes_from, puts_from, ends_at, is_last, goes_on}
 use Rattle.lid_shell.specs.declared.actor.Actor.{Actor}
 use Rattle.lid_shell.specs.declared.desk.Desk.{Desk}
-use Rattle.lid_shell.specs.declared.part.Part.{Part}
-use Rattle.lid_shell.specs.declared.part.Part.TheVariants.{Source, Shell, Mover, Sink}
-use Rattle.lid_shell.specs.Parts.{IsPart}
+use Rattle.lid_shell.specs.declared.part.Role.{Role}
+use Rattle.lid_shell.specs.declared.part.Role.TheVariants.{Source, Shell, Mover, Sink}
+use Rattle.lid_shell.specs.Parts.{IsRole}
 use Rattle.lid_shell.specs.Actors.{row_of}
 use Rattle.lid_shell.specs.Boards.{Agrees}
 use Rattle.lid_shell.specs.Steps.{Works}
-use Rattle.lid_shell.specs.Inside.{ActorsGoByRules, IsPassing, HasPassed, tokens_taken, AreMade, IsBusy, IsGoing, IsToMake, HasMade, IsReady, IsAtEnd, HasClosed, HasFinished, further, closed}
-use Rattle.lid_machine.proofs.Counts.{early, late, alike}
+use Rattle.lid_shell.specs.Inside.{ActorsGoByRules, IsPassing, HasPassed, tokens_taken, AreMade, IsBusy, IsGoing, IsToMake, HasMade, HasTokensReady, IsAtEnd, HasClosed, HasFinished, further, closed}
+use Rattle.lid_walk_machine.proofs.Counts.{early, late, alike}
 use Rattle.lid_shell.proofs.Streams.{sink_fills_none, cap_within}
 use Rattle.lid_shell.proofs.Desks.{all_taken, are_made, desk_made, desk_closed}
 use Rattle.lid_shell.proofs.Agreed.{agrees_closed}
 
 -- the part of an actor that fills a station does not tell how often it has fired
-pub part_free : (r : ActorsGoByRules) (m : Setup) (v fired other t j station : ℕ) (part : Part) → IsSetup m → slice_get (outs_of (plan m) v) j ≡ Some station → IsPart m v fired t part → IsPart m v other t part
+pub part_free : (r : ActorsGoByRules) (m : Setup) (v fired other t j station : ℕ) (part : Role) → IsSetup m → slice_get (outs_of (plan m) v) j ≡ Some station → IsRole m v fired t part → IsRole m v other t part
 part_free r m v fired other t j station (Source node rows) setup at is = is
 part_free r m v fired other t j station (Shell node) setup at is = is
 part_free r m v fired other t j station Mover setup at is = is
@@ -43,11 +43,11 @@ to_pass m v q a taken into h same tokens =
       below = subst (λ (n : ℕ). n < cap (plan m) v) (sym e) h.busy.below;
       takes = same ∙ all_taken m v q a.desk h.busy.at h.taken ∙ ap (tokens_taken m v) (sym e);
       puts = ap length tokens ∙ h.busy.at.tokens_many;
-      is = subst (λ (n : ℕ). IsPart m v n n a.part) (sym e) h.is;
+      is = subst (λ (n : ℕ). IsRole m v n n a.part) (sym e) h.is;
     }
 
 -- and has taken it
-pub has_made : (m : Setup) (v : ℕ) (q : Progress) (a : Actor) (into : List ℕ) (tokens : SmallVec ℕ) (part : Part) → IsToMake m v q a → HasPassed m v a.desk.fired into part → tokens.items ≡ into → length into ≡ length a.desk.tokens.items
+pub has_made : (m : Setup) (v : ℕ) (q : Progress) (a : Actor) (into : List ℕ) (tokens : SmallVec ℕ) (part : Role) → IsToMake m v q a → HasPassed m v a.desk.fired into part → tokens.items ≡ into → length into ≡ length a.desk.tokens.items
     → HasMade m v q (record { desk = record a.desk { tokens = tokens }; part = part })
 has_made m v q a into tokens part h passed same many =
     let e : a.desk.fired ≡ q.fired = h.busy.at.fired_is in
@@ -61,7 +61,7 @@ has_made m v q a into tokens part h passed same many =
         at = desk_made m v q a.desk tokens h.busy.at (ap length same ∙ many) made;
       };
       tokens = made;
-      is = subst (λ (n : ℕ). IsPart m v (n + 1) (n + 1) part) e passed.is;
+      is = subst (λ (n : ℕ). IsRole m v (n + 1) (n + 1) part) e passed.is;
     }
 
 -- an actor that is to put its first token is to make its tokens
@@ -70,11 +70,11 @@ before_first m v q a h here =
     record {
       busy = h.busy;
       taken = omega arith;
-      is = subst (λ (n : ℕ). IsPart m v q.fired n a.part) (early (puts_from (length (ins_of (plan m) v)) (length (outs_of (plan m) v))) q.fired q.position (omega arith)) h.is;
+      is = subst (λ (n : ℕ). IsRole m v q.fired n a.part) (early (puts_from (length (ins_of (plan m) v)) (length (outs_of (plan m) v))) q.fired q.position (omega arith)) h.is;
     }
 
 -- it is then ready
-pub ready_first : (r : ActorsGoByRules) (m : Setup) (v : ℕ) (q : Progress) (a : Actor) → 0 < length (outs_of (plan m) v) → HasMade m v q a → IsReady m v q a
+pub ready_first : (r : ActorsGoByRules) (m : Setup) (v : ℕ) (q : Progress) (a : Actor) → 0 < length (outs_of (plan m) v) → HasMade m v q a → HasTokensReady m v q a
 ready_first r m v q a some made =
     let at = first_out m v some in
     record { busy = made.busy; tokens = made.tokens; is = part_free r m v (q.fired + 1) q.fired (q.fired + 1) 0 at.0 a.part made.busy.rules at.1 made.is }
@@ -84,7 +84,7 @@ pub closed_late : (r : ActorsGoByRules) (m : Setup) (v : ℕ) (q : Progress) (a 
 closed_late r m v q a some h ends =
     let at = first_out m v some in
     let row = late (puts_from (length (ins_of (plan m) v)) (length (outs_of (plan m) v))) q.fired q.position (omega arith) in
-    record { busy = h.busy; is = part_free r m v q.fired (q.fired + 1) (q.fired + 1) 0 at.0 a.part h.busy.rules at.1 (subst (λ (n : ℕ). IsPart m v q.fired n a.part) row h.is) }
+    record { busy = h.busy; is = part_free r m v q.fired (q.fired + 1) (q.fired + 1) 0 at.0 a.part h.busy.rules at.1 (subst (λ (n : ℕ). IsRole m v q.fired n a.part) row h.is) }
 
 -- an actor is at the end of a firing
 pub at_end : (m : Setup) (v : ℕ) (q : Progress) (d : Desk) (e : ℕ) → IsBusy m v q d → e ≡ ends_at (length d.ins.items) (length d.outs.items) → e ≤ d.position → IsAtEnd m v q
@@ -110,7 +110,7 @@ finished m v q a fired h ends next =
           inside = λ h. absurd (omega arith);
         };
         at = desk_closed m v q a.desk fired h.busy.at (next ∙ ap (λ (n : ℕ). n + 1) h.busy.at.fired_is);
-        is = subst (λ (n : ℕ). IsPart m v (q.fired + 1) n a.part) (sym (early (puts_from (length (ins_of (plan m) v)) (length (outs_of (plan m) v))) (q.fired + 1) 0 (omega arith))) h.is;
+        is = subst (λ (n : ℕ). IsRole m v (q.fired + 1) n a.part) (sym (early (puts_from (length (ins_of (plan m) v)) (length (outs_of (plan m) v))) (q.fired + 1) 0 (omega arith))) h.is;
       };
     }
 
@@ -139,12 +139,12 @@ gone m v q b a ends stands f agrees streams =
     (record { actor = f.actor; agrees = agrees_finished m v (further q) ends b f.tells agrees; streams = streams })
 
 -- the part of an actor after a take, and after a put
-pub taking : (m : Setup) (v : ℕ) (q : Progress) (d : Desk) (part : Part) (i : ℕ) → IsBusy m v (further q) d → IsPart m v q.fired (row_of m v q) part → q.position ≡ takes_from (length (ins_of (plan m) v)) (length (outs_of (plan m) v)) + i → i < length (ins_of (plan m) v)
+pub taking : (m : Setup) (v : ℕ) (q : Progress) (d : Desk) (part : Role) (i : ℕ) → IsBusy m v (further q) d → IsRole m v q.fired (row_of m v q) part → q.position ≡ takes_from (length (ins_of (plan m) v)) (length (outs_of (plan m) v)) + i → i < length (ins_of (plan m) v)
     → IsGoing m v (further q) (record { desk = d; part = part })
 taking m v q d part i busy is here within =
-    record { busy = busy; is = subst (λ (n : ℕ). IsPart m v q.fired n part) (alike (puts_from (length (ins_of (plan m) v)) (length (outs_of (plan m) v))) q.fired q.position (q.position + 1) (λ h. omega arith) (λ h. omega arith)) is }
+    record { busy = busy; is = subst (λ (n : ℕ). IsRole m v q.fired n part) (alike (puts_from (length (ins_of (plan m) v)) (length (outs_of (plan m) v))) q.fired q.position (q.position + 1) (λ h. omega arith) (λ h. omega arith)) is }
 
-pub putting : (m : Setup) (v : ℕ) (q : Progress) (d : Desk) (part : Part) (j : ℕ) → IsBusy m v (further q) d → IsPart m v q.fired (q.fired + 1) part → q.position ≡ puts_from (length (ins_of (plan m) v)) (length (outs_of (plan m) v)) + j
+pub putting : (m : Setup) (v : ℕ) (q : Progress) (d : Desk) (part : Role) (j : ℕ) → IsBusy m v (further q) d → IsRole m v q.fired (q.fired + 1) part → q.position ≡ puts_from (length (ins_of (plan m) v)) (length (outs_of (plan m) v)) + j
     → IsGoing m v (further q) (record { desk = d; part = part })
 putting m v q d part j busy is here =
-    record { busy = busy; is = subst (λ (n : ℕ). IsPart m v q.fired n part) (sym (late (puts_from (length (ins_of (plan m) v)) (length (outs_of (plan m) v))) q.fired (q.position + 1) (omega arith))) is }
+    record { busy = busy; is = subst (λ (n : ℕ). IsRole m v q.fired n part) (sym (late (puts_from (length (ins_of (plan m) v)) (length (outs_of (plan m) v))) q.fired (q.position + 1) (omega arith))) is }

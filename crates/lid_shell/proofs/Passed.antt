@@ -3,22 +3,21 @@ use Rattle.std.proofs.Common.{◌≡◌, ℕ, zero, suc, ◌+◌, ◌-◌, ◌<�
 use Rattle.std.specs.Prelude.{Some, slice_get, vec_capacity}
 use Rattle.std.specs.List.{All}
 use Rattle.std.specs.Global.{Vec}
-use Rattle.std.proofs.lemmas.List.{length-map, length_push}
+use Rattle.std.proofs.lemmas.List.{length-map, length_push, nil_from_length}
 use Rattle.lid_base.proofs.Lists.{all_at}
 use Rattle.lid_system.specs.declared.Node.TheVariants as kind
 use Rattle.lid_system.specs.Streams.{token_at, output_row}
-use Rattle.lid_system.proofs.Shelling.{each_length}
-use Rattle.lid_nodes.specs.Nodes.{channels_to, channels_from, tokens_to, tokens_from}
-use Rattle.lid_nodes.specs.Wiring.{SourceView, ShellView, SinkView, IsSourceOf, IsShellOf}
-use Rattle.lid_stations.proofs.Parts.{each_more}
-use Rattle.lid_machine.specs.Plans.{ins_of, outs_of, cap, start_of}
-use Rattle.lid_machine.specs.Setups.{Setup, IsSetup, IsInputRow, output_rows, plan}
+use Rattle.lid_shell_nodes.specs.Nodes.{channels_to, channels_from, tokens_to, tokens_from}
+use Rattle.lid_shell_nodes.specs.Wiring.{SourceView, ShellView, SinkView, IsSourceOf, IsShellOf}
+use Rattle.lid_walk_machine.specs.Plans.{ins_of, outs_of, cap, start_of}
+use Rattle.lid_walk_machine.specs.Setups.{Setup, IsSetup, IsInputRow, output_rows, plan}
 use Rattle.lid_shell.specs.declared.part.Given.{Given}
-use Rattle.lid_shell.specs.declared.part.Part.{Part}
-use Rattle.lid_shell.specs.declared.part.Part.TheVariants.{Shell, Mover, Sink}
-use Rattle.lid_shell.specs.Parts.{HasGiven}
+use Rattle.lid_shell.specs.declared.part.Role.{Role}
+use Rattle.lid_shell.specs.declared.part.Role.TheVariants.{Shell, Mover, Sink}
+use Rattle.lid_shell.specs.Parts.{HasGivenRows}
 use Rattle.lid_shell.specs.Inside.{ActorsGoByRules, IsPassing, HasPassed, CanReceive, Receives, tokens_made}
 use Rattle.lid_shell.proofs.Streams.{cap_early, cap_late, cap_within, sink_fills_none, node_takes, node_makes, mover_makes}
+use Rattle.lid_base.proofs.Each.{each_append, each_length}
 
 -- a node drains a station for each channel that leads to it, and fills one for each that comes from it
 pub ins_many : (r : ActorsGoByRules) (m : Setup) (v : ℕ) → IsSetup m → v < length m.system.nodes → length (ins_of (plan m) v) ≡ length (channels_to m.system.channels v)
@@ -34,7 +33,7 @@ outs_many r m v setup node =
     ∙ length-map (channels_from m.system.channels v) (λ c. token_at m.system m.table c 0)
 
 -- as many tokens are taken as stations are drained
-taken_many : (m : Setup) (v fired : ℕ) (taken : List ℕ) (outs : ℕ) (part : Part) → IsPassing m v fired taken outs part → length taken ≡ length (ins_of (plan m) v)
+taken_many : (m : Setup) (v fired : ℕ) (taken : List ℕ) (outs : ℕ) (part : Role) → IsPassing m v fired taken outs part → length taken ≡ length (ins_of (plan m) v)
 taken_many m v fired taken outs part p = ap length p.takes ∙ length-map (ins_of (plan m) v) (λ (s : ℕ). (plan m).token s fired)
 
 -- the source
@@ -126,7 +125,7 @@ sink_can r m v fired taken outs node rows p done =
       room = omega arith;
     }
 
-pub done_many : (m : Setup) (v fired : ℕ) (node : SinkView) (rows : Given) → HasGiven m v fired node rows → length rows.done.items ≡ fired
+pub done_many : (m : Setup) (v fired : ℕ) (node : SinkView) (rows : Given) → HasGivenRows m v fired node rows → length rows.done.items ≡ fired
 done_many m v fired node rows given = ap length given.done_are ∙ each_length (output_row m.system m.table) 0 fired
 
 -- what stands in a list to which one was pushed
@@ -145,10 +144,6 @@ pub none_of : (xs : List ℕ) → ((x : ℕ) → slice_get xs 0 ≡ Some x → �
 none_of [] none = refl
 none_of (x ∷ xs) none = absurd (none x refl)
 
-empty_of : (xs : List ℕ) → length xs ≡ 0 → xs ≡ []
-empty_of [] none = refl
-empty_of (x ∷ xs) none = absurd (omega arith)
-
 pub sink_passed : (r : ActorsGoByRules) (m : Setup) (v fired : ℕ) (taken into : List ℕ) (outs : ℕ) (node : SinkView) (rows new : Given) → IsPassing m v fired taken outs (Sink node rows) → Receives rows node taken new
     → length into ≡ outs → HasPassed m v fired into (Sink node new)
 sink_passed r m v fired taken into outs node rows new p received long =
@@ -162,14 +157,14 @@ sink_passed r m v fired taken into outs node rows new p received long =
     let row : received.done.0 ≡ output_row m.system m.table fired =
     received.done.2 m.system m.input m.table v fired p.rules.system p.rules.table (omega arith) p.is.0 (p.takes ∙ node_takes r m v fired p.rules (omega arith)) in
     let zero_from : 0 + fired ≡ fired = omega arith in
-    let given : HasGiven m v (fired + 1) node new =
+    let given : HasGivenRows m v (fired + 1) node new =
     record {
       columns_are = (p.is.1.columns_are.0, subst (λ (c : List (List ℕ)). slice_get m.system.nodes v ≡ Some (kind.Sink c p.is.1.columns_are.0)) (sym received.columns) p.is.1.columns_are.1);
       done_are =
           received.done.1
           ∙ ap (λ (xs : List (List Bool)). xs ++ received.done.0 ∷ []) p.is.1.done_are
           ∙ ap (λ (x : List Bool). output_rows m fired ++ x ∷ []) (row ∙ ap (output_row m.system m.table) (sym zero_from))
-          ∙ sym (each_more (output_row m.system m.table) 0 fired 1);
+          ∙ sym (each_append (output_row m.system m.table) 0 fired 1);
       spare_are = all_before (λ x. length x.items ≡ length node.reads) new.spare.items received.spare.0 (subst (All (λ x. length x.items ≡ length node.reads)) received.spare.1 p.is.1.spare_are);
       many = omega arith;
       room = subst (λ (n : ℕ). length m.input ≤ n) (sym received.room) room;
@@ -177,6 +172,6 @@ sink_passed r m v fired taken into outs node rows new p received long =
     let none : outs_of (plan m) v ≡ [] = none_of (outs_of (plan m) v) (λ s at. sink_fills_none r m v 0 s p.rules last at) in
     let nothing : length (outs_of (plan m) v) ≡ 0 = ap length none in
     record {
-      makes = empty_of into (omega arith) ∙ sym (ap (map (λ (s : ℕ). (plan m).token s (start_of (plan m) s + fired))) none);
+      makes = nil_from_length into (omega arith) ∙ sym (ap (map (λ (s : ℕ). (plan m).token s (start_of (plan m) s + fired))) none);
       is = (p.is.0, given);
     }

@@ -1,12 +1,12 @@
 -- An actor has few stations.
 use Rattle.std.proofs.Common.{◌≡◌, ℕ, ◌≤◌, ◌==◌, Bool, List, length, filter, arith}
 use Rattle.std.proofs.lemmas.List.Sums.{length-filter, count_by-le-length}
-use Rattle.lid_design.specs.Network.{from_each}
-use Rattle.lid_system.proofs.Shelling.{each_length}
+use Rattle.lid_base.specs.Each.{from_each}
 use Rattle.lid_stations.specs.Placements.{links_of, station_count}
 use Rattle.lid_stations.specs.Stations.{filler, drainer}
-use Rattle.lid_machine.specs.Plans.{ins_of, outs_of}
-use Rattle.lid_machine.specs.Setups.{Setup, IsSetup, plan}
+use Rattle.lid_walk_machine.specs.Plans.{ins_of, outs_of}
+use Rattle.lid_walk_machine.specs.Setups.{Setup, IsSetup, plan}
+use Rattle.lid_base.proofs.Each.{each_length}
 
 few_of : (m : Setup) (f : ℕ → Bool) → IsSetup m → length (filter f (from_each (λ s. s) 0 (station_count m.placement.relays))) ≤ 65536
 few_of m f setup =

@@ -3,14 +3,14 @@ use Rattle.std.proofs.Common.{◌≡◌, ℕ, ◌+◌, ◌*◌, ◌<◌, inl, in
 use Rattle.std.specs.Prelude.{Option, Some, slice_get}
 use Rattle.std.proofs.lemmas.Bool.{cases_eq}
 use Rattle.lid_stations.specs.Placements.{links_of}
-use Rattle.lid_runs.proofs.Ends.{drained_is, filled_is, drained_there, filled_there, drained_place, filled_place}
+use Rattle.lid_shell_laws.proofs.Ends.{drained_is, filled_is, drained_there, filled_there, drained_place, filled_place}
 use Rattle.lid_station.specs.Boards.{Ends, fill, drain}
-use Rattle.lid_machine.specs.Plans.{ins_of, outs_of, start_of, stations_of}
-use Rattle.lid_machine.specs.Setups.{Setup, plan}
-use Rattle.lid_machine.specs.Machine.{Progress, State, taken_by, put_by, in_count, out_count}
-use Rattle.lid_machine.specs.Plans.{drainer_of, filler_of}
-use Rattle.lid_runs.specs.Runs.{place_in}
-use Rattle.lid_shell.specs.Boards.{HasEnd, Agrees, ServesBoth, ServesAll}
+use Rattle.lid_walk_machine.specs.Plans.{ins_of, outs_of, start_of, stations_of}
+use Rattle.lid_walk_machine.specs.Setups.{Setup, plan}
+use Rattle.lid_walk_machine.specs.Machine.{Progress, State, taken_by, put_by, in_count, out_count}
+use Rattle.lid_walk_machine.specs.Plans.{drainer_of, filler_of}
+use Rattle.lid_shell_laws.specs.Runs.{place_in}
+use Rattle.lid_shell.specs.Boards.{IsEndWith, Agrees, ServesBoth, ServesAll}
 use Rattle.lid_shell.specs.Steps.{IsOwn, Moves}
 
 -- an end of a station that the actor does not fill, and of one that it does not drain, is none of its own
@@ -36,8 +36,8 @@ drain_apart m v station apart own =
 
 -- an end of an actor, which alone may have moved there
 end_on : (m : Setup) (v who : ℕ) (old now : State) (missed : Option ℕ) (ends new : Ends) (end : ℕ) (count : Progress → ℕ) → ((w : ℕ) → (w ≡ v → ⊥) → now w ≡ old w) → Moves (ins_of (plan m) v) (outs_of (plan m) v) missed ends new
-    → (who ≡ v → HasEnd new end (λ f. f.passed ≡ count (now who))) → ((who ≡ v → ⊥) → IsOwn (ins_of (plan m) v) (outs_of (plan m) v) end → ⊥)
-    → HasEnd ends end (λ f. f.passed ≡ count (old who)) → HasEnd new end (λ f. f.passed ≡ count (now who))
+    → (who ≡ v → IsEndWith new end (λ f. f.passed ≡ count (now who))) → ((who ≡ v → ⊥) → IsOwn (ins_of (plan m) v) (outs_of (plan m) v) end → ⊥)
+    → IsEndWith ends end (λ f. f.passed ≡ count (old who)) → IsEndWith new end (λ f. f.passed ≡ count (now who))
 end_on m v who old now missed ends new end count others moves own apart served =
     elim (cases_eq who v) [
       | inl same ↦ own same
@@ -46,7 +46,7 @@ end_on m v who old now missed ends new end count others moves own apart served =
 
 -- the two ends of a station
 filled_on : (m : Setup) (v station : ℕ) (old now : State) (missed : Option ℕ) (ends new : Ends) → ((w : ℕ) → (w ≡ v → ⊥) → now w ≡ old w) → Agrees m v (now v) new → Moves (ins_of (plan m) v) (outs_of (plan m) v) missed ends new → station < stations_of (plan m)
-    → ServesBoth m old ends station → HasEnd new (fill station) (λ f. f.passed ≡ in_count (plan m) now station)
+    → ServesBoth m old ends station → IsEndWith new (fill station) (λ f. f.passed ≡ in_count (plan m) now station)
 filled_on m v station old now missed ends new others agrees moves there serves =
     let who : ℕ = filler_of (plan m) station in
     end_on m v who old now missed ends new (fill station) (λ p. start_of (plan m) station + put_by (plan m) who p (place_in (outs_of (plan m) who) station)) others moves
@@ -63,7 +63,7 @@ filled_on m v station old now missed ends new others agrees moves there serves =
     (fill_apart m v station) serves.filled
 
 drained_on : (m : Setup) (v station : ℕ) (old now : State) (missed : Option ℕ) (ends new : Ends) → ((w : ℕ) → (w ≡ v → ⊥) → now w ≡ old w) → Agrees m v (now v) new → Moves (ins_of (plan m) v) (outs_of (plan m) v) missed ends new → station < stations_of (plan m)
-    → ServesBoth m old ends station → HasEnd new (drain station) (λ f. f.passed ≡ out_count (plan m) now station)
+    → ServesBoth m old ends station → IsEndWith new (drain station) (λ f. f.passed ≡ out_count (plan m) now station)
 drained_on m v station old now missed ends new others agrees moves there serves =
     let who : ℕ = drainer_of (plan m) station in
     end_on m v who old now missed ends new (drain station) (λ p. taken_by (plan m) who p (place_in (ins_of (plan m) who) station)) others moves

@@ -5,19 +5,19 @@ use Rattle.std.proofs.lemmas.Bool.{ne_eqb, cases_lt, cases_eq}
 use Rattle.lid_base.specs.declared.runs.Answer.{Answer}
 use Rattle.lid_base.specs.declared.runs.Answer.TheVariants as answer
 use Rattle.lid_station.specs.Boards.{Ends}
-use Rattle.lid_machine.specs.Plans.{ins_of, outs_of, cap}
-use Rattle.lid_machine.specs.Setups.{Setup, plan}
-use Rattle.lid_machine.specs.Machine.{Progress, State, Act, looks_in, looks_out, takes, puts, fires, takes_from, puts_from, ends_at, act_at, act_of, is_last, tells, moves, answer_as, after_as, finds_at, finds, answer_of, next}
+use Rattle.lid_walk_machine.specs.Plans.{ins_of, outs_of, cap}
+use Rattle.lid_walk_machine.specs.Setups.{Setup, plan}
+use Rattle.lid_walk_machine.specs.Machine.{Progress, State, Act, looks_in, looks_out, takes, puts, fires, takes_from, puts_from, ends_at, act_at, act_of, is_last, tells, moves, answer_as, after_as, finds_at, finds, answer_of, next}
 use Rattle.lid_shell.specs.declared.actor.Actor.{Actor}
 use Rattle.lid_shell.specs.declared.desk.Desk.{Desk}
 use Rattle.lid_shell.specs.declared.desk.Next.{Next}
 use Rattle.lid_shell.specs.declared.desk.Next.TheVariants.{LookIn, LookOut, Take, Put, Fire}
-use Rattle.lid_shell.specs.declared.part.Part.{Part}
-use Rattle.lid_shell.specs.Parts.{IsPart}
+use Rattle.lid_shell.specs.declared.part.Role.{Role}
+use Rattle.lid_shell.specs.Parts.{IsRole}
 use Rattle.lid_shell.specs.Actors.{IsDesk, IsActor, IsBegun, row_of}
-use Rattle.lid_shell.specs.Steps.{Works, Steps, IsExact, found_in}
-use Rattle.lid_shell.specs.Inside.{act_in, IsNext, IsAbout, IsAtWork, HasLooked, HasGone, looked, closed}
-use Rattle.lid_machine.proofs.Counts.{alike}
+use Rattle.lid_shell.specs.Steps.{Works, MakesStep, IsExact, found_in}
+use Rattle.lid_shell.specs.Inside.{act_in, IsNext, IsAbout, IsBusyAtBoard, HasLooked, HasMadeNext, looked, closed}
+use Rattle.lid_walk_machine.proofs.Counts.{alike}
 use Rattle.lid_shell.proofs.Agreed.{agrees_closed}
 
 -- the act of a position is the one that is next there
@@ -66,7 +66,7 @@ below_cap m v q d is far other =
     let capped : q.fired ≤ cap (plan m) v = far.capped in
     omega (arith, other)
 
-at_work : (m : Setup) (v : ℕ) (q : Progress) (a : Actor) (ends : Ends) (stands : (ℕ → List ℕ) → Type 0) → Works m v q a ends stands → (a.desk.fired ≡ a.desk.cap → ⊥) → IsAtWork m v q a.desk ends stands
+at_work : (m : Setup) (v : ℕ) (q : Progress) (a : Actor) (ends : Ends) (stands : (ℕ → List ℕ) → Type 0) → Works m v q a ends stands → (a.desk.fired ≡ a.desk.cap → ⊥) → IsBusyAtBoard m v q a.desk ends stands
 at_work m v q a ends stands w other =
     record {
       busy = record {
@@ -86,7 +86,7 @@ at_work m v q a ends stands w other =
 
 -- and can do what is next
 pub ready : (m : Setup) (v : ℕ) (q : Progress) (a : Actor) (next : Next) (ends : Ends) (stands : (ℕ → List ℕ) → Type 0) → Works m v q a ends stands → (a.desk.fired ≡ a.desk.cap → ⊥) → IsNext (length a.desk.ins.items) (length a.desk.outs.items) a.desk.position next
-    → IsAtWork m v q a.desk ends stands × IsAbout m v q next
+    → IsBusyAtBoard m v q a.desk ends stands × IsAbout m v q next
 ready m v q a next ends stands w other h = (at_work m v q a ends stands w other, about_of m v q a.desk next w.actor.at h)
 
 -- what an actor below its cap answers, and how far it is then
@@ -103,7 +103,7 @@ after_below m v q found act last below is_act last_is =
     ∙ ap (λ (b : Bool). cond b q (moves (act_of (plan m) v q.position) found (is_last (plan m) v q.position) q)) (sym (ne_eqb q.fired (cap (plan m) v) (λ same. omega arith)))
 
 stepped : (m : Setup) (v : ℕ) (q : Progress) (answer : Answer) (act : Act) (last : Bool) (a : Actor) (ends : Ends) (stands : (ℕ → List ℕ) → Type 0) → q.fired < cap (plan m) v → act_of (plan m) v q.position ≡ act → is_last (plan m) v q.position ≡ last
-    → answer ≡ tells (plan m) v q.fired act (found_in answer) last → Works m v (moves act (found_in answer) last q) a ends stands → Steps m v q answer a ends stands
+    → answer ≡ tells (plan m) v q.fired act (found_in answer) last → Works m v (moves act (found_in answer) last q) a ends stands → MakesStep m v q answer a ends stands
 stepped m v q answer act last a ends stands below is_act last_is told works =
     record {
       answers = told ∙ answer_below m v q (found_in answer) act last below is_act last_is;
@@ -111,7 +111,7 @@ stepped m v q answer act last a ends stands below is_act last_is told works =
     }
 
 -- an actor that has looked
-settled : (m : Setup) (v : ℕ) (q : Progress) (d : Desk) (part : Part) (ends : Ends) (stands : (ℕ → List ℕ) → Type 0) (found : Bool) → IsAtWork m v (looked found q) d ends stands → IsPart m v q.fired (row_of m v q) part
+settled : (m : Setup) (v : ℕ) (q : Progress) (d : Desk) (part : Role) (ends : Ends) (stands : (ℕ → List ℕ) → Type 0) (found : Bool) → IsBusyAtBoard m v (looked found q) d ends stands → IsRole m v q.fired (row_of m v q) part
     → q.position < takes_from (length (ins_of (plan m) v)) (length (outs_of (plan m) v)) → Works m v (looked found q) (record { desk = d; part = part }) ends stands
 settled m v q d part ends stands true w is early =
     record {
@@ -120,7 +120,7 @@ settled m v q d part ends stands true w is early =
         there = w.busy.there;
         far = record { capped = (let below : q.fired < cap (plan m) v = w.busy.below in omega arith); below = λ _. w.busy.below; inside = λ _. omega arith };
         at = w.busy.at;
-        is = subst (λ (n : ℕ). IsPart m v q.fired n part) (alike (puts_from (length (ins_of (plan m) v)) (length (outs_of (plan m) v))) q.fired q.position (q.position + 1) (λ h. omega arith) (λ h. omega arith)) is;
+        is = subst (λ (n : ℕ). IsRole m v q.fired n part) (alike (puts_from (length (ins_of (plan m) v)) (length (outs_of (plan m) v))) q.fired q.position (q.position + 1) (λ h. omega arith) (λ h. omega arith)) is;
       };
       agrees = w.agrees;
       streams = w.streams;
@@ -132,7 +132,7 @@ settled m v q d part ends stands false w is early =
         there = w.busy.there;
         far = record { capped = (let below : q.fired < cap (plan m) v = w.busy.below in omega arith); below = λ _. w.busy.below; inside = λ h. absurd (omega arith) };
         at = w.busy.at;
-        is = subst (λ (n : ℕ). IsPart m v q.fired n part) (alike (puts_from (length (ins_of (plan m) v)) (length (outs_of (plan m) v))) q.fired q.position 0 (λ h. omega arith) (λ h. omega arith)) is;
+        is = subst (λ (n : ℕ). IsRole m v q.fired n part) (alike (puts_from (length (ins_of (plan m) v)) (length (outs_of (plan m) v))) q.fired q.position 0 (λ h. omega arith) (λ h. omega arith)) is;
       };
       agrees = w.agrees;
       streams = w.streams;
@@ -146,30 +146,30 @@ looked_out : (j : ℕ) (found : Bool) (q : Progress) → looked found q ≡ move
 looked_out j true q = refl
 looked_out j false q = refl
 
-stepped_look : (m : Setup) (v : ℕ) (q : Progress) (next : Next) (answer : Answer) (d : Desk) (part : Part) (ends : Ends) (stands : (ℕ → List ℕ) → Type 0) → looked (found_in answer) q ≡ moves (act_in next) (found_in answer) false q
-    → q.position < takes_from (length (ins_of (plan m) v)) (length (outs_of (plan m) v)) → q.fired < cap (plan m) v → IsAbout m v q next → IsPart m v q.fired (row_of m v q) part
-    → HasLooked m v q next answer d ends stands → Steps m v q answer (record { desk = d; part = part }) ends stands
+stepped_look : (m : Setup) (v : ℕ) (q : Progress) (next : Next) (answer : Answer) (d : Desk) (part : Role) (ends : Ends) (stands : (ℕ → List ℕ) → Type 0) → looked (found_in answer) q ≡ moves (act_in next) (found_in answer) false q
+    → q.position < takes_from (length (ins_of (plan m) v)) (length (outs_of (plan m) v)) → q.fired < cap (plan m) v → IsAbout m v q next → IsRole m v q.fired (row_of m v q) part
+    → HasLooked m v q next answer d ends stands → MakesStep m v q answer (record { desk = d; part = part }) ends stands
 stepped_look m v q next answer d part ends stands goes early below about is done =
     stepped m v q answer (act_in next) false (record { desk = d; part = part }) ends stands below (act_is (length (ins_of (plan m) v)) (length (outs_of (plan m) v)) q.position next about) (ne_eqb _ _ (λ same. omega arith)) done.answers
     (subst (λ (p : Progress). Works m v p (record { desk = d; part = part }) ends stands) goes (settled m v q d part ends stands (found_in answer) done.work is early))
 
-pub stepped_in : (m : Setup) (v : ℕ) (q : Progress) (i : ℕ) (answer : Answer) (d : Desk) (part : Part) (ends : Ends) (stands : (ℕ → List ℕ) → Type 0) → q.fired < cap (plan m) v → IsAbout m v q (LookIn i) → IsPart m v q.fired (row_of m v q) part
-    → HasLooked m v q (LookIn i) answer d ends stands → Steps m v q answer (record { desk = d; part = part }) ends stands
+pub stepped_in : (m : Setup) (v : ℕ) (q : Progress) (i : ℕ) (answer : Answer) (d : Desk) (part : Role) (ends : Ends) (stands : (ℕ → List ℕ) → Type 0) → q.fired < cap (plan m) v → IsAbout m v q (LookIn i) → IsRole m v q.fired (row_of m v q) part
+    → HasLooked m v q (LookIn i) answer d ends stands → MakesStep m v q answer (record { desk = d; part = part }) ends stands
 stepped_in m v q i answer d part ends stands below about is done =
     let here : q.position ≡ i = about.0 in
     let within : i < length (ins_of (plan m) v) = about.1 in
     stepped_look m v q (LookIn i) answer d part ends stands (looked_in i (found_in answer) q) (omega arith) below about is done
 
-pub stepped_out : (m : Setup) (v : ℕ) (q : Progress) (j : ℕ) (answer : Answer) (d : Desk) (part : Part) (ends : Ends) (stands : (ℕ → List ℕ) → Type 0) → q.fired < cap (plan m) v → IsAbout m v q (LookOut j) → IsPart m v q.fired (row_of m v q) part
-    → HasLooked m v q (LookOut j) answer d ends stands → Steps m v q answer (record { desk = d; part = part }) ends stands
+pub stepped_out : (m : Setup) (v : ℕ) (q : Progress) (j : ℕ) (answer : Answer) (d : Desk) (part : Role) (ends : Ends) (stands : (ℕ → List ℕ) → Type 0) → q.fired < cap (plan m) v → IsAbout m v q (LookOut j) → IsRole m v q.fired (row_of m v q) part
+    → HasLooked m v q (LookOut j) answer d ends stands → MakesStep m v q answer (record { desk = d; part = part }) ends stands
 stepped_out m v q j answer d part ends stands below about is done =
     let here : q.position ≡ length (ins_of (plan m) v) + j = about.0 in
     let within : j < length (outs_of (plan m) v) = about.1 in
     stepped_look m v q (LookOut j) answer d part ends stands (looked_out j (found_in answer) q) (omega arith) below about is done
 
 -- an actor that has made another step
-pub stepped_on : (m : Setup) (v : ℕ) (q : Progress) (next : Next) (answer : Answer) (a : Actor) (ends : Ends) (stands : (ℕ → List ℕ) → Type 0) → q.fired < cap (plan m) v → IsAbout m v q next → HasGone m v q next answer a ends stands
-    → found_in answer ≡ true → Steps m v q answer a ends stands
+pub stepped_on : (m : Setup) (v : ℕ) (q : Progress) (next : Next) (answer : Answer) (a : Actor) (ends : Ends) (stands : (ℕ → List ℕ) → Type 0) → q.fired < cap (plan m) v → IsAbout m v q next → HasMadeNext m v q next answer a ends stands
+    → found_in answer ≡ true → MakesStep m v q answer a ends stands
 stepped_on m v q next answer a ends stands below about done found =
     stepped m v q answer (act_in next) (is_last (plan m) v q.position) a ends stands below (act_is (length (ins_of (plan m) v)) (length (outs_of (plan m) v)) q.position next about) refl
     (done.answers ∙ ap (λ (b : Bool). tells (plan m) v q.fired (act_in next) b (is_last (plan m) v q.position)) (sym found))
@@ -177,7 +177,7 @@ stepped_on m v q next answer a ends stands below about done found =
 
 -- one without stations, which fires
 pub fires_so : (m : Setup) (v : ℕ) (q : Progress) (old a : Actor) (ends : Ends) (stands : (ℕ → List ℕ) → Type 0) → Works m v q old ends stands → q.position ≤ ends_at (length (ins_of (plan m) v)) (length (outs_of (plan m) v)) → IsAbout m v q Fire
-    → IsActor m v (closed true q) a → HasGone m v q Fire answer.Fired a ends stands
+    → IsActor m v (closed true q) a → HasMadeNext m v q Fire answer.Fired a ends stands
 fires_so m v q old a ends stands w within about actor =
     record {
       answers = refl;
@@ -216,7 +216,7 @@ pub after_at_cap : (m : Setup) (v : ℕ) (q : Progress) (found : Bool) → q.fir
 after_at_cap m v q found same = ap (λ (b : Bool). cond b q (moves (act_of (plan m) v q.position) found (is_last (plan m) v q.position) q)) (eq-eqb q.fired (cap (plan m) v) same)
 
 -- so an exact step answers what the machine answers, and is as far
-pub exactly : (m : Setup) (v : ℕ) (st : State) (answer : Answer) (a : Actor) (ends : Ends) (stands : (ℕ → List ℕ) → Type 0) → Steps m v (st v) answer a ends stands → IsExact m st v answer → (st v).fired ≤ cap (plan m) v
+pub exactly : (m : Setup) (v : ℕ) (st : State) (answer : Answer) (a : Actor) (ends : Ends) (stands : (ℕ → List ℕ) → Type 0) → MakesStep m v (st v) answer a ends stands → IsExact m st v answer → (st v).fired ≤ cap (plan m) v
     → (answer ≡ answer_of (plan m) st v) × Works m v (next (plan m) st v v) a ends stands
 exactly m v st answer a ends stands steps exact capped =
     let own : next (plan m) st v v ≡ after_as (plan m) v (st v) (finds (plan m) st v) = ap (λ (b : Bool). cond b (after_as (plan m) v (st v) (finds (plan m) st v)) (st v)) (eq-eqb v v refl) in

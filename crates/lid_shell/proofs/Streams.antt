@@ -7,17 +7,16 @@ use Rattle.std.proofs.lemmas.Option.{same_Some, slice_get_within}
 use Rattle.lid_system.specs.declared.System.{System}
 use Rattle.lid_system.specs.declared.Channel.{Channel}
 use Rattle.lid_system.specs.Systems.{IsChannel}
-use Rattle.lid_system.proofs.Shelling.{each_length, each_get}
 use Rattle.lid_system.proofs.Streaming.{small_token}
-use Rattle.lid_runs.proofs.Ends.{filled_is}
-use Rattle.lid_nodes.specs.Nodes.{tokens_to, tokens_from}
+use Rattle.lid_shell_laws.proofs.Ends.{filled_is}
+use Rattle.lid_shell_nodes.specs.Nodes.{tokens_to, tokens_from}
 use Rattle.lid_stations.specs.Placements.{links_of}
 use Rattle.lid_stations.specs.Stations.{no_channel, channel_at, spot_at, start_count}
 use Rattle.lid_stations.proofs.Spots.{cap_range}
-use Rattle.lid_machine.specs.Plans.{actors_of, stations_of, outs_of, cap, start_of, room_of, stream}
-use Rattle.lid_machine.specs.Setups.{Setup, IsSetup, plan}
-use Rattle.lid_machine.specs.Plans.{filler_of}
+use Rattle.lid_walk_machine.specs.Plans.{actors_of, stations_of, outs_of, cap, start_of, room_of, stream, filler_of}
+use Rattle.lid_walk_machine.specs.Setups.{Setup, IsSetup, plan}
 use Rattle.lid_shell.specs.Inside.{ActorsGoByRules, tokens_taken, tokens_made}
+use Rattle.lid_base.proofs.Each.{each_length, each_get}
 
 -- a token of a stream
 pub stream_token : (m : Setup) (station i x : ℕ) → slice_get (stream (plan m) station) i ≡ Some x → x ≡ (plan m).token station i

@@ -4,15 +4,15 @@ use Rattle.std.specs.Prelude.{Some, slice_get}
 use Rattle.std.proofs.lemmas.Bool.{ne_eqb}
 use Rattle.std.proofs.lemmas.Option.{get_or_from_slice_get}
 use Rattle.lid_stations.specs.Placements.{links_of}
-use Rattle.lid_runs.proofs.Ends.{filled_is}
+use Rattle.lid_shell_laws.proofs.Ends.{filled_is}
 use Rattle.lid_station.specs.Boards.{Facts, Ends, fill, drain}
 use Rattle.lid_station.specs.Words.{word, word_number}
-use Rattle.lid_machine.specs.Plans.{ins_of, outs_of, cap, start_of, room_of, stream}
-use Rattle.lid_machine.specs.Setups.{Setup, IsSetup, plan}
-use Rattle.lid_machine.specs.Machine.{Progress, State, takes_from, puts_from, in_at, out_at, in_count, out_count, void_word, stop_word}
+use Rattle.lid_walk_machine.specs.Plans.{ins_of, outs_of, cap, start_of, room_of, stream}
+use Rattle.lid_walk_machine.specs.Setups.{Setup, IsSetup, plan}
+use Rattle.lid_walk_machine.specs.Machine.{Progress, State, takes_from, puts_from, in_at, out_at, in_count, out_count, void_word, stop_word}
 use Rattle.lid_shell.specs.Boards.{Agrees, ServesBoth}
 use Rattle.lid_shell.specs.Inside.{ActorsGoByRules}
-use Rattle.lid_machine.proofs.Counts.{early}
+use Rattle.lid_walk_machine.proofs.Counts.{early}
 use Rattle.lid_shell.proofs.Streams.{stream_token, stream_at, put_within, room_some}
 
 -- a station that is drained is the one at its place

@@ -1,11 +1,11 @@
 -- Actors of the interleaving machine: what an actor holds at each place of its firings.
 use Rattle.std.specs.Prelude.{◌≡◌, ℕ, ◌+◌, ◌<◌, ◌≤◌, nat_lt, if◌then◌else◌, length, Some, slice_get}
-use Rattle.lid_machine.specs.Plans.{actors_of, ins_of, outs_of, cap, start_of}
-use Rattle.lid_machine.specs.Setups.{Setup, IsSetup, plan}
-use Rattle.lid_machine.specs.Machine.{Progress, takes_from, puts_from, ends_at}
+use Rattle.lid_walk_machine.specs.Plans.{actors_of, ins_of, outs_of, cap, start_of}
+use Rattle.lid_walk_machine.specs.Setups.{Setup, IsSetup, plan}
+use Rattle.lid_walk_machine.specs.Machine.{Progress, takes_from, puts_from, ends_at}
 use Rattle.lid_shell.specs.declared.actor.Actor.{Actor}
 use Rattle.lid_shell.specs.declared.desk.Desk.{Desk}
-use Rattle.lid_shell.specs.Parts.{IsPart}
+use Rattle.lid_shell.specs.Parts.{IsRole}
 
 -- the row whose bits the latches of a shell have: that of the firing to come, and from the first put of a firing
 -- on the next one
@@ -40,4 +40,4 @@ pub record IsActor (m : Setup) (v : ℕ) (q : Progress) (a : Actor) : Type 0 whe
   pub there : v < actors_of (plan m)
   pub far : IsBegun m v q
   pub at : IsDesk m v q a.desk
-  pub is : IsPart m v q.fired (row_of m v q) a.part
+  pub is : IsRole m v q.fired (row_of m v q) a.part

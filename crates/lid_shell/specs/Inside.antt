@@ -9,14 +9,14 @@ use Rattle.lid_system.specs.declared.System.{System}
 use Rattle.lid_system.specs.Systems.{Point, IsWellFormed}
 use Rattle.lid_system.specs.Tables.{IsTable}
 use Rattle.lid_system.specs.Streams.{output_row}
-use Rattle.lid_nodes.specs.Nodes.{tokens_to}
-use Rattle.lid_nodes.specs.Wiring.{SinkView, IsSinkOf}
+use Rattle.lid_shell_nodes.specs.Nodes.{tokens_to}
+use Rattle.lid_shell_nodes.specs.Wiring.{SinkView, IsSinkOf}
 use Rattle.lid_stations.specs.Laws.{StationsStandBetweenActors}
-use Rattle.lid_runs.specs.Laws.{NodesDrainTheirChannels, NodesFillTheirChannels, StationsOfNodesStartWithAToken, MoversMoveTokensOn}
+use Rattle.lid_shell_laws.specs.Laws.{NodesDrainTheirChannels, NodesFillTheirChannels, StationsOfNodesStartWithAToken, MoversMoveTokensOn}
 use Rattle.lid_station.specs.Boards.{Ends}
-use Rattle.lid_machine.specs.Plans.{actors_of, ins_of, outs_of, cap, start_of, stream}
-use Rattle.lid_machine.specs.Setups.{Setup, IsSetup, plan}
-use Rattle.lid_machine.specs.Machine.{Progress, State, Act, looks_in, looks_out, takes, puts, fires, takes_from, puts_from, ends_at, in_at, out_at, is_last, tells, moves, finds_at}
+use Rattle.lid_walk_machine.specs.Plans.{actors_of, ins_of, outs_of, cap, start_of, stream}
+use Rattle.lid_walk_machine.specs.Setups.{Setup, IsSetup, plan}
+use Rattle.lid_walk_machine.specs.Machine.{Progress, State, Act, looks_in, looks_out, takes, puts, fires, takes_from, puts_from, ends_at, in_at, out_at, is_last, tells, moves, finds_at}
 use Rattle.lid_shell.specs.declared.actor.Actor.{Actor}
 use Rattle.lid_shell.specs.declared.desk.Desk.{Desk}
 use Rattle.lid_shell.specs.declared.desk.Next.{Next}
@@ -24,8 +24,8 @@ use Rattle.lid_shell.specs.declared.desk.Next.TheVariants.{LookIn, LookOut, Take
 use Rattle.lid_shell.specs.declared.turn.TurnEnd.{TurnEnd}
 use Rattle.lid_shell.specs.declared.turn.TurnEnd.TheVariants as end
 use Rattle.lid_shell.specs.declared.part.Given.{Given}
-use Rattle.lid_shell.specs.declared.part.Part.{Part}
-use Rattle.lid_shell.specs.Parts.{IsPart}
+use Rattle.lid_shell.specs.declared.part.Role.{Role}
+use Rattle.lid_shell.specs.Parts.{IsRole}
 use Rattle.lid_shell.specs.Actors.{IsDesk, IsActor, row_of}
 use Rattle.lid_shell.specs.Boards.{Agrees, ServesAll}
 use Rattle.lid_shell.specs.Steps.{Works, found_in}
@@ -76,15 +76,15 @@ MakesRow node taken row =
     → IsWellFormed s → IsTable s rows b → t < length rows → IsSinkOf s v node → taken ≡ tokens_to s b v t → row ≡ output_row s b t
 
 -- the part of an actor that takes the tokens of a firing, where so many are put
-pub record IsPassing (m : Setup) (v fired : ℕ) (taken : List ℕ) (outs : ℕ) (part : Part) : Type 0 where
+pub record IsPassing (m : Setup) (v fired : ℕ) (taken : List ℕ) (outs : ℕ) (part : Role) : Type 0 where
   pub rules : IsSetup m
   pub there : v < actors_of (plan m)
   pub below : fired < cap (plan m) v
   pub takes : taken ≡ tokens_taken m v fired
   pub puts : outs ≡ length (outs_of (plan m) v)
-  pub is : IsPart m v fired fired part
+  pub is : IsRole m v fired fired part
 
-pub record CanPass (fired : ℕ) (taken : List ℕ) (outs : ℕ) (part : Part) : Type 0 where
+pub record CanPass (fired : ℕ) (taken : List ℕ) (outs : ℕ) (part : Role) : Type 0 where
   pub setup : Setup
   pub number : ℕ
   pub passing : IsPassing setup number fired taken outs part
@@ -104,9 +104,9 @@ pub record Receives (old : Given) (node : SinkView) (taken : List ℕ) (new : Gi
   pub room : vec_capacity new.done ≡ vec_capacity old.done
 
 -- the part has taken them and made those that are put
-pub record HasPassed (m : Setup) (v fired : ℕ) (into : List ℕ) (part : Part) : Type 0 where
+pub record HasPassed (m : Setup) (v fired : ℕ) (into : List ℕ) (part : Role) : Type 0 where
   pub makes : into ≡ tokens_made m v fired
-  pub is : IsPart m v (fired + 1) (fired + 1) part
+  pub is : IsRole m v (fired + 1) (fired + 1) part
 
 -- an actor below its cap, before a firing, within it, or at its end
 pub record IsBusy (m : Setup) (v : ℕ) (q : Progress) (d : Desk) : Type 0 where
@@ -117,7 +117,7 @@ pub record IsBusy (m : Setup) (v : ℕ) (q : Progress) (d : Desk) : Type 0 where
   pub at : IsDesk m v q d
 
 -- and a board that agrees with it and stands for the streams
-pub record IsAtWork (m : Setup) (v : ℕ) (q : Progress) (d : Desk) (ends : Ends) (stands : (ℕ → List ℕ) → Type 0) : Type 0 where
+pub record IsBusyAtBoard (m : Setup) (v : ℕ) (q : Progress) (d : Desk) (ends : Ends) (stands : (ℕ → List ℕ) → Type 0) : Type 0 where
   pub busy : IsBusy m v q d
   pub agrees : Agrees m v q ends
   pub streams : stands (stream (plan m))
@@ -140,7 +140,7 @@ pub record CanDo (next : Next) (d : Desk) (ends : Ends) (stands : (ℕ → List 
   pub setup : Setup
   pub number : ℕ
   pub far : Progress
-  pub work : IsAtWork setup number far d ends stands
+  pub work : IsBusyAtBoard setup number far d ends stands
   pub about : IsAbout setup number far next
 
 -- how far it is after a look
@@ -151,47 +151,47 @@ looked false q = set_back q
 -- it has looked
 pub record HasLooked (m : Setup) (v : ℕ) (q : Progress) (next : Next) (answer : Answer) (d : Desk) (ends : Ends) (stands : (ℕ → List ℕ) → Type 0) : Type 0 where
   pub answers : answer ≡ tells (plan m) v q.fired (act_in next) (found_in answer) false
-  pub work : IsAtWork m v (looked (found_in answer) q) d ends stands
+  pub work : IsBusyAtBoard m v (looked (found_in answer) q) d ends stands
 
 abbrev pub Looks : Next → Desk → Ends → ((ℕ → List ℕ) → Type 0) → Answer → Desk → Ends → ((ℕ → List ℕ) → Type 0) → Type 0
 Looks next old ends stands answer new ends_new stands_new =
     (m : Setup) (v : ℕ) (q : Progress)
-    → IsAtWork m v q old ends stands → IsAbout m v q next → HasLooked m v q next answer new ends_new stands_new
+    → IsBusyAtBoard m v q old ends stands → IsAbout m v q next → HasLooked m v q next answer new ends_new stands_new
 
 abbrev pub LooksExactly : Next → Desk → Ends → ((ℕ → List ℕ) → Type 0) → Answer → Type 0
 LooksExactly next old ends stands answer =
     (m : Setup) (v : ℕ) (st : State)
-    → IsAtWork m v (st v) old ends stands → IsAbout m v (st v) next → ServesAll m st v ends → found_in answer ≡ finds_at (plan m) st v (act_in next)
+    → IsBusyAtBoard m v (st v) old ends stands → IsAbout m v (st v) next → ServesAll m st v ends → found_in answer ≡ finds_at (plan m) st v (act_in next)
 
 -- it has taken a token
 pub record HasTaken (m : Setup) (v : ℕ) (q : Progress) (i taken : ℕ) (d : Desk) (ends : Ends) (stands : (ℕ → List ℕ) → Type 0) : Type 0 where
   pub token_is : taken ≡ (plan m).token (in_at (plan m) v i) q.fired
-  pub work : IsAtWork m v (further q) d ends stands
+  pub work : IsBusyAtBoard m v (further q) d ends stands
 
 -- it has put one
 pub record HasPut (m : Setup) (v : ℕ) (q : Progress) (j put : ℕ) (d : Desk) (ends : Ends) (stands : (ℕ → List ℕ) → Type 0) : Type 0 where
   pub token_is : put ≡ (plan m).token (out_at (plan m) v j) (start_of (plan m) (out_at (plan m) v j) + q.fired)
-  pub work : IsAtWork m v (further q) d ends stands
+  pub work : IsBusyAtBoard m v (further q) d ends stands
 
 -- a desk can put one
 pub record CanPut (j : ℕ) (d : Desk) (ends : Ends) (stands : (ℕ → List ℕ) → Type 0) : Type 0 where
   pub setup : Setup
   pub number : ℕ
   pub far : Progress
-  pub work : IsAtWork setup number far d ends stands
+  pub work : IsBusyAtBoard setup number far d ends stands
   pub about : IsAbout setup number far (Put j)
   pub ready : AreMade setup number far.fired d.tokens.items
 
 -- an actor with its part
 pub record IsGoing (m : Setup) (v : ℕ) (q : Progress) (a : Actor) : Type 0 where
   pub busy : IsBusy m v q a.desk
-  pub is : IsPart m v q.fired (row_of m v q) a.part
+  pub is : IsRole m v q.fired (row_of m v q) a.part
 
 -- all tokens of a firing are taken, and none is made
 pub record IsToMake (m : Setup) (v : ℕ) (q : Progress) (a : Actor) : Type 0 where
   pub busy : IsBusy m v q a.desk
   pub taken : puts_from (length (ins_of (plan m) v)) (length (outs_of (plan m) v)) ≤ q.position
-  pub is : IsPart m v q.fired q.fired a.part
+  pub is : IsRole m v q.fired q.fired a.part
 
 pub record CanMake (a : Actor) : Type 0 where
   pub setup : Setup
@@ -203,7 +203,7 @@ pub record CanMake (a : Actor) : Type 0 where
 pub record HasMade (m : Setup) (v : ℕ) (q : Progress) (a : Actor) : Type 0 where
   pub busy : IsBusy m v q a.desk
   pub tokens : AreMade m v q.fired a.desk.tokens.items
-  pub is : IsPart m v (q.fired + 1) (q.fired + 1) a.part
+  pub is : IsRole m v (q.fired + 1) (q.fired + 1) a.part
 
 -- an actor can be made ready for a put
 pub record CanReady (j : ℕ) (a : Actor) : Type 0 where
@@ -214,10 +214,10 @@ pub record CanReady (j : ℕ) (a : Actor) : Type 0 where
   pub about : IsAbout setup number far (Put j)
 
 -- the tokens of its firing are made, and its part is as after the put
-pub record IsReady (m : Setup) (v : ℕ) (q : Progress) (a : Actor) : Type 0 where
+pub record HasTokensReady (m : Setup) (v : ℕ) (q : Progress) (a : Actor) : Type 0 where
   pub busy : IsBusy m v q a.desk
   pub tokens : AreMade m v q.fired a.desk.tokens.items
-  pub is : IsPart m v q.fired (q.fired + 1) a.part
+  pub is : IsRole m v q.fired (q.fired + 1) a.part
 
 -- an actor without stations can fire
 pub record CanFire (a : Actor) : Type 0 where
@@ -250,7 +250,7 @@ pub record CanFinish (a : Actor) : Type 0 where
 -- an actor at the end of a firing has made all tokens of it
 pub record HasClosed (m : Setup) (v : ℕ) (q : Progress) (a : Actor) : Type 0 where
   pub busy : IsBusy m v q a.desk
-  pub is : IsPart m v (q.fired + 1) (q.fired + 1) a.part
+  pub is : IsRole m v (q.fired + 1) (q.fired + 1) a.part
 
 -- whether a firing ended, and where the actor is then
 pub record HasFinished (m : Setup) (v : ℕ) (q : Progress) (ended : Bool) (a : Actor) : Type 0 where
@@ -262,20 +262,20 @@ pub record CanGoAt (next : Next) (a : Actor) (ends : Ends) (stands : (ℕ → Li
   pub setup : Setup
   pub number : ℕ
   pub far : Progress
-  pub work : IsAtWork setup number far a.desk ends stands
-  pub is : IsPart setup number far.fired (row_of setup number far) a.part
+  pub work : IsBusyAtBoard setup number far a.desk ends stands
+  pub is : IsRole setup number far.fired (row_of setup number far) a.part
   pub about : IsAbout setup number far next
 
 -- it has made the step
-pub record HasGone (m : Setup) (v : ℕ) (q : Progress) (next : Next) (answer : Answer) (a : Actor) (ends : Ends) (stands : (ℕ → List ℕ) → Type 0) : Type 0 where
+pub record HasMadeNext (m : Setup) (v : ℕ) (q : Progress) (next : Next) (answer : Answer) (a : Actor) (ends : Ends) (stands : (ℕ → List ℕ) → Type 0) : Type 0 where
   pub answers : answer ≡ tells (plan m) v q.fired (act_in next) true (is_last (plan m) v q.position)
   pub works : Works m v (moves (act_in next) true (is_last (plan m) v q.position) q) a ends stands
 
-abbrev pub Goes : Next → Actor → Ends → ((ℕ → List ℕ) → Type 0) → Answer → Actor → Ends → ((ℕ → List ℕ) → Type 0) → Type 0
-Goes next old ends stands answer new ends_new stands_new =
+abbrev pub MakesNext : Next → Actor → Ends → ((ℕ → List ℕ) → Type 0) → Answer → Actor → Ends → ((ℕ → List ℕ) → Type 0) → Type 0
+MakesNext next old ends stands answer new ends_new stands_new =
     (m : Setup) (v : ℕ) (q : Progress)
-    → IsAtWork m v q old.desk ends stands → IsPart m v q.fired (row_of m v q) old.part → IsAbout m v q next
-    → HasGone m v q next answer new ends_new stands_new
+    → IsBusyAtBoard m v q old.desk ends stands → IsRole m v q.fired (row_of m v q) old.part → IsAbout m v q next
+    → HasMadeNext m v q next answer new ends_new stands_new
 
 -- how a turn ends in which this is answered; it goes on where the actor is within a firing
 abbrev pub ending : Answer → Option TurnEnd

@@ -4,32 +4,32 @@ use Rattle.std.specs.Prelude.{◌≡◌, ℕ, ◌+◌, ◌<◌, ◌≤◌, List,
 use Rattle.std.specs.List.{All}
 use Rattle.lid_system.specs.declared.Node.TheVariants as node
 use Rattle.lid_system.specs.declared.InBit.{InBit}
-use Rattle.lid_nodes.specs.Wiring.{SinkView, IsSourceOf, IsShellOf, IsSinkOf}
-use Rattle.lid_machine.specs.Setups.{Setup, output_rows}
+use Rattle.lid_shell_nodes.specs.Wiring.{SinkView, IsSourceOf, IsShellOf, IsSinkOf}
+use Rattle.lid_walk_machine.specs.Setups.{Setup, output_rows}
 use Rattle.lid_shell.specs.declared.part.Given.{Given}
-use Rattle.lid_shell.specs.declared.part.Part.{Part}
-use Rattle.lid_shell.specs.declared.part.Part.TheVariants.{Source, Shell, Mover, Sink}
+use Rattle.lid_shell.specs.declared.part.Role.{Role}
+use Rattle.lid_shell.specs.declared.part.Role.TheVariants.{Source, Shell, Mover, Sink}
 
 -- these are the columns of the sink, which is node v
-abbrev pub AreColumns : Setup → ℕ → List (List ℕ) → Type 0
-AreColumns m v columns = (ins : List InBit) × (slice_get m.system.nodes v ≡ Some (node.Sink columns ins))
+abbrev pub AreColumnsAtSink : Setup → ℕ → List (List ℕ) → Type 0
+AreColumnsAtSink m v columns = (ins : List InBit) × (slice_get m.system.nodes v ≡ Some (node.Sink columns ins))
 
 -- the rows of a sink that has fired so often: as many strict output rows, and room for one of each firing to come
-pub record HasGiven (m : Setup) (v fired : ℕ) (node : SinkView) (rows : Given) : Type 0 where
-  pub columns_are : AreColumns m v rows.columns
+pub record HasGivenRows (m : Setup) (v fired : ℕ) (node : SinkView) (rows : Given) : Type 0 where
+  pub columns_are : AreColumnsAtSink m v rows.columns
   pub done_are : rows.done.items ≡ output_rows m fired
   pub spare_are : All (λ row. length row.items ≡ length node.reads) rows.spare.items
   pub many : length rows.spare.items + fired ≡ length m.input
   pub room : length m.input ≤ vec_capacity rows.done
 
 -- the part of actor v that has fired so often, and whose pearl, where it is a shell, is in the state of row t
-abbrev pub IsPart : Setup → ℕ → ℕ → ℕ → Part → Type 0
-IsPart m v fired t (Source node rows) = (v ≡ 0) × IsSourceOf m.system node × (rows.now.bits ≡ m.input)
-IsPart m v fired t (Shell node) = (0 < v) × (v + 1 < length m.system.nodes) × IsShellOf m.system m.table v t node
-IsPart m v fired t Mover = length m.system.nodes ≤ v
-IsPart m v fired t (Sink node rows) = IsSinkOf m.system v node × HasGiven m v fired node rows
+abbrev pub IsRole : Setup → ℕ → ℕ → ℕ → Role → Type 0
+IsRole m v fired t (Source node rows) = (v ≡ 0) × IsSourceOf m.system node × (rows.now.bits ≡ m.input)
+IsRole m v fired t (Shell node) = (0 < v) × (v + 1 < length m.system.nodes) × IsShellOf m.system m.table v t node
+IsRole m v fired t Mover = length m.system.nodes ≤ v
+IsRole m v fired t (Sink node rows) = IsSinkOf m.system v node × HasGivenRows m v fired node rows
 
 -- a part is that of a sink
-abbrev pub IsSinkPart : Part → Type 0
-IsSinkPart (Sink node rows) = Unit {0}
-IsSinkPart _ = ⊥
+abbrev pub IsSinkRole : Role → Type 0
+IsSinkRole (Sink node rows) = Unit {0}
+IsSinkRole _ = ⊥

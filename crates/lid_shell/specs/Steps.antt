@@ -3,9 +3,9 @@ use Rattle.std.specs.Prelude.{◌≡◌, ℕ, ◌+◌, ◌<◌, ◌≤◌, ◌�
 use Rattle.lid_base.specs.declared.runs.Answer.{Answer}
 use Rattle.lid_base.specs.declared.runs.Answer.TheVariants.{Void, Stop}
 use Rattle.lid_station.specs.Boards.{Facts, Ends, fill, drain}
-use Rattle.lid_machine.specs.Plans.{cap, stream}
-use Rattle.lid_machine.specs.Setups.{Setup, plan}
-use Rattle.lid_machine.specs.Machine.{Progress, State, answer_as, after_as, finds}
+use Rattle.lid_walk_machine.specs.Plans.{cap, stream}
+use Rattle.lid_walk_machine.specs.Setups.{Setup, plan}
+use Rattle.lid_walk_machine.specs.Machine.{Progress, State, answer_as, after_as, finds}
 use Rattle.lid_shell.specs.declared.actor.Actor.{Actor}
 use Rattle.lid_shell.specs.Boards.{Agrees}
 use Rattle.lid_shell.specs.Actors.{IsActor}
@@ -31,7 +31,7 @@ found_in (Stop station told) = false
 found_in _ = true
 
 -- an actor has made the step of the machine: it answers what the machine answers, and is as far
-pub record Steps (m : Setup) (v : ℕ) (q : Progress) (answer : Answer) (a : Actor) (ends : Ends) (stands : (ℕ → List ℕ) → Type 0) : Type 0 where
+pub record MakesStep (m : Setup) (v : ℕ) (q : Progress) (answer : Answer) (a : Actor) (ends : Ends) (stands : (ℕ → List ℕ) → Type 0) : Type 0 where
   pub answers : answer ≡ answer_as (plan m) v q (found_in answer)
   pub works : Works m v (after_as (plan m) v q (found_in answer)) a ends stands
 

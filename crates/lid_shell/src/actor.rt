@@ -5,23 +5,23 @@ ghost use Rattle.std.specs.List.{AllByRecursion};
 ghost use Rattle.lid_base.specs.declared.runs.Answer.TheVariants as answer;
 ghost use Rattle.lid_system.specs.Systems.{IsWellFormed};
 ghost use Rattle.lid_stations.specs.Placements.{links_of};
-ghost use Rattle.lid_machine.specs.Plans.{actors_of, sink, ins_of, outs_of};
-ghost use Rattle.lid_machine.specs.Setups.{Setup, IsSetup, IsInputRow, output_rows, plan};
-ghost use Rattle.lid_machine.specs.Machine.{Progress, State, turn, turn_answer};
+ghost use Rattle.lid_walk_machine.specs.Plans.{actors_of, sink, ins_of, outs_of};
+ghost use Rattle.lid_walk_machine.specs.Setups.{Setup, IsSetup, IsInputRow, output_rows, plan};
+ghost use Rattle.lid_walk_machine.specs.Machine.{Progress, State, turn, turn_answer};
 ghost use Rattle.lid_shell.specs.Boards.{ServesAll};
-ghost use Rattle.lid_shell.specs.Parts.{IsSinkPart, AreColumns};
+ghost use Rattle.lid_shell.specs.Parts.{IsSinkRole, AreColumnsAtSink};
 ghost use Rattle.lid_shell.specs.Actors.{IsActor};
-ghost use Rattle.lid_shell.specs.Steps.{Works, CanStep, CanTurn, Steps, IsExact, missed_end, Moves, MissesLate};
+ghost use Rattle.lid_shell.specs.Steps.{Works, CanStep, CanTurn, MakesStep, IsExact, missed_end, Moves, MissesLate};
 ghost use Rattle.lid_shell.specs.Turns.{answer_at, end_at, Turned};
 ghost use Rattle.lid_shell.specs.declared.turn.TurnEnd.TheVariants as end;
 
 use crate::building::{mover_desk, new_desk, new_given};
 use crate::desk::{Desk, Next};
-use crate::part::Part;
+use crate::part::Role;
 use crate::rules::actors_go_by_rules;
 use crate::turn::{TurnEnd, end_of};
 use lid_base::{Answer, Items};
-use lid_nodes::{ShellNode, SinkNode, SourceNode};
+use lid_shell_nodes::{ShellNode, SinkNode, SourceNode};
 use lid_station::Stations;
 use lid_system::System;
 use lid_texts::Rows;
@@ -33,7 +33,7 @@ use std::alloc::{AllocError, Global};
 #[derive(Drop)]
 pub struct Actor<'r> {
     pub(crate) desk: Desk,
-    pub(crate) part: Part<'r>,
+    pub(crate) part: Role<'r>,
 }
 
 impl<'r> Actor<'r> {
@@ -57,7 +57,7 @@ impl<'r> Actor<'r> {
         let desk = new_desk(alloc, &[], outs, cap)?;
         Ok(Actor {
             desk,
-            part: Part::Source(node, rows),
+            part: Role::Source(node, rows),
         })
     }
 
@@ -82,7 +82,7 @@ impl<'r> Actor<'r> {
         let desk = new_desk(alloc, ins, outs, rows.saturating_sub(1))?;
         Ok(Actor {
             desk,
-            part: Part::Shell(part),
+            part: Role::Shell(part),
         })
     }
 
@@ -92,7 +92,7 @@ impl<'r> Actor<'r> {
     {
         Actor {
             desk: mover_desk(alloc, from, to, rows),
-            part: Part::Mover,
+            part: Role::Mover,
         }
     }
 
@@ -116,7 +116,7 @@ impl<'r> Actor<'r> {
         let desk = new_desk(alloc, ins, &[], rows)?;
         Ok(Actor {
             desk,
-            part: Part::Sink(node, given),
+            part: Role::Sink(node, given),
         })
     }
 
@@ -126,7 +126,7 @@ impl<'r> Actor<'r> {
     /// that the actor has fired; an actor without stations fires in one step.
     pub fn step<B: Stations>(&mut self, board: &mut B) -> Answer
         requires can { CanStep self.old (B.ends board.old) (B.stands board.old) }
-        ensures steps { (m : Setup) (v : ℕ) (q : Progress) → Works m v q self.old (B.ends board.old) (B.stands board.old) → Steps m v q result self.new (B.ends board.new) (B.stands board.new) }
+        ensures steps { (m : Setup) (v : ℕ) (q : Progress) → Works m v q self.old (B.ends board.old) (B.stands board.old) → MakesStep m v q result self.new (B.ends board.new) (B.stands board.new) }
         ensures exact { (m : Setup) (v : ℕ) (st : State) → Works m v (st v) self.old (B.ends board.old) (B.stands board.old) → ServesAll m st v (B.ends board.old) → IsExact m st v result }
         ensures moves { Moves self.old.desk.ins.items self.old.desk.outs.items (missed_end result) (B.ends board.old) (B.ends board.new) }
         ensures late { MissesLate (B.ends board.old) result }
@@ -193,26 +193,26 @@ impl<'r> Actor<'r> {
 
     /// The rows that the sink has given, in order: a row for each of its firings. None for an actor that is no sink.
     pub fn given(&self) -> Option<&[Items<bool>]>
-        ensures sink { IsSome result ↔ IsSinkPart self.now.part }
+        ensures sink { IsSome result ↔ IsSinkRole self.now.part }
         ensures which { (m : Setup) (v : ℕ) (q : Progress) → IsActor m v q self.now → (IsSome result ↔ v ≡ sink (plan m)) }
         ensures rows { (m : Setup) (v : ℕ) (q : Progress) → IsActor m v q self.now → IfSome result (λ rows. rows.now ≡ output_rows m q.fired) }
     {
         match &self.part {
-            Part::Sink(_, given) => Some(given.done.as_slice()),
-            Part::Source(_, _) | Part::Shell(_) | Part::Mover => None,
+            Role::Sink(_, given) => Some(given.done.as_slice()),
+            Role::Source(_, _) | Role::Shell(_) | Role::Mover => None,
         }
     }
 
     /// Hands out the rows that the sink has given. None for an actor that is no sink.
     pub fn into_given(self) -> Option<Rows>
-        ensures sink { IsSome result ↔ IsSinkPart self.entry.part }
+        ensures sink { IsSome result ↔ IsSinkRole self.entry.part }
         ensures which { (m : Setup) (v : ℕ) (q : Progress) → IsActor m v q self.entry → (IsSome result ↔ v ≡ sink (plan m)) }
-        ensures rows { (m : Setup) (v : ℕ) (q : Progress) → IsActor m v q self.entry → IfSome result (λ rows. AreColumns m v rows.columns × (rows.bits ≡ output_rows m q.fired)) }
+        ensures rows { (m : Setup) (v : ℕ) (q : Progress) → IsActor m v q self.entry → IfSome result (λ rows. AreColumnsAtSink m v rows.columns × (rows.bits ≡ output_rows m q.fired)) }
     {
         let Actor { part, .. } = self;
         match part {
-            Part::Sink(_, given) => Some(given.into_rows()),
-            Part::Source(_, _) | Part::Shell(_) | Part::Mover => None,
+            Role::Sink(_, given) => Some(given.into_rows()),
+            Role::Source(_, _) | Role::Shell(_) | Role::Mover => None,
         }
     }
 }

@@ -1,7 +1,7 @@
 //! The stations of an actor, and its place in a firing.
 
 ghost use Rattle.std.specs.Prelude.{◌≡◌, ◌+◌, ◌≤◌, length};
-ghost use Rattle.lid_machine.specs.Machine.{ends_at};
+ghost use Rattle.lid_walk_machine.specs.Machine.{ends_at};
 ghost use Rattle.lid_shell.specs.Inside.{IsNext};
 
 use smallvec::SmallVec;

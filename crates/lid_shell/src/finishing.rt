@@ -1,11 +1,11 @@
 //! Steps that take, put and fire, and the end of a firing.
 
 ghost use Rattle.std.specs.Prelude.{◌≡◌, ◌+◌, ◌==◌, ℕ, None};
-ghost use Rattle.lid_machine.specs.Setups.{Setup, plan};
-ghost use Rattle.lid_machine.specs.Machine.{Progress};
+ghost use Rattle.lid_walk_machine.specs.Setups.{Setup, plan};
+ghost use Rattle.lid_walk_machine.specs.Machine.{Progress};
 ghost use Rattle.lid_shell.specs.declared.desk.Next.TheVariants.{Take, Put, Fire};
 ghost use Rattle.lid_shell.specs.Steps.{Moves};
-ghost use Rattle.lid_shell.specs.Inside.{IsToMake, CanMake, HasMade, IsGoing, IsAbout, IsAtEnd, CanClose, HasClosed, CanFinish, HasFinished, CanReady, IsReady, CanGoAt, Goes, CanFire, Fires};
+ghost use Rattle.lid_shell.specs.Inside.{IsToMake, CanMake, HasMade, IsGoing, IsAbout, IsAtEnd, CanClose, HasClosed, CanFinish, HasFinished, CanReady, HasTokensReady, CanGoAt, MakesNext, CanFire, Fires};
 
 use crate::actor::Actor;
 use crate::rules::actors_go_by_rules;
@@ -28,7 +28,7 @@ impl Actor<'_> {
     /// Where this is the first put of a firing, makes its tokens.
     fn make_ready(&mut self, j: usize)
         requires { CanReady j self.old }
-        ensures ready { (m : Setup) (v : ℕ) (q : Progress) → IsGoing m v q self.old → IsAbout m v q (Put j) → IsReady m v q self.new }
+        ensures ready { (m : Setup) (v : ℕ) (q : Progress) → IsGoing m v q self.old → IsAbout m v q (Put j) → HasTokensReady m v q self.new }
         ensures rest { self.new.desk ≡ record self.old.desk { tokens = self.new.desk.tokens } }
     {
         actors_go_by_rules();
@@ -65,7 +65,7 @@ impl Actor<'_> {
     /// The step that takes from the station at place i of those that are drained.
     pub(crate) fn take<B: Stations>(&mut self, board: &mut B, i: usize) -> Answer
         requires { CanGoAt (Take i) self.old (B.ends board.old) (B.stands board.old) }
-        ensures goes { Goes (Take i) self.old (B.ends board.old) (B.stands board.old) result self.new (B.ends board.new) (B.stands board.new) }
+        ensures goes { MakesNext (Take i) self.old (B.ends board.old) (B.stands board.old) result self.new (B.ends board.new) (B.stands board.new) }
         ensures moves { Moves self.old.desk.ins.items self.old.desk.outs.items None (B.ends board.old) (B.ends board.new) }
         ensures same { B.identity board.new ≡ B.identity board.old }
     {
@@ -82,7 +82,7 @@ impl Actor<'_> {
     /// The step that puts in the station at place j of those that are filled.
     pub(crate) fn put<B: Stations>(&mut self, board: &mut B, j: usize) -> Answer
         requires { CanGoAt (Put j) self.old (B.ends board.old) (B.stands board.old) }
-        ensures goes { Goes (Put j) self.old (B.ends board.old) (B.stands board.old) result self.new (B.ends board.new) (B.stands board.new) }
+        ensures goes { MakesNext (Put j) self.old (B.ends board.old) (B.stands board.old) result self.new (B.ends board.new) (B.stands board.new) }
         ensures moves { Moves self.old.desk.ins.items self.old.desk.outs.items None (B.ends board.old) (B.ends board.new) }
         ensures same { B.identity board.new ≡ B.identity board.old }
     {

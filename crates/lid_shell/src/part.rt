@@ -3,7 +3,7 @@
 ghost use Rattle.std.specs.Prelude.{◌≡◌};
 
 use lid_base::{Items, Name};
-use lid_nodes::{ShellNode, SinkNode, SourceNode};
+use lid_shell_nodes::{ShellNode, SinkNode, SourceNode};
 use lid_texts::Rows;
 
 /// The rows that a sink has given, and room for those to come.
@@ -18,7 +18,7 @@ pub(crate) struct Given {
 
 /// What an actor is: a node, or a mover.
 #[derive(Drop)]
-pub(crate) enum Part<'r> {
+pub(crate) enum Role<'r> {
     /// The source, with all input rows.
     Source(SourceNode, &'r Rows),
     /// A shell.

@@ -1,13 +1,13 @@
 //! What parts make of tokens.
 
 ghost use Rattle.std.specs.Prelude.{◌≡◌, ℕ, length};
-ghost use Rattle.lid_machine.specs.Setups.{Setup, plan};
+ghost use Rattle.lid_walk_machine.specs.Setups.{Setup, plan};
 ghost use Rattle.lid_shell.specs.Inside.{CanPass, IsPassing, HasPassed, CanReceive, Receives};
 
-use crate::part::{Given, Part};
+use crate::part::{Given, Role};
 use crate::rules::actors_go_by_rules;
 use lid_base::Items;
-use lid_nodes::SinkNode;
+use lid_shell_nodes::SinkNode;
 
 impl Given {
     /// Writes the row of the tokens that are taken into a spare row, and gives it.
@@ -22,7 +22,7 @@ impl Given {
     }
 }
 
-impl Part<'_> {
+impl Role<'_> {
     /// Takes the tokens of a firing, of which there were so many before, and makes those that are put.
     pub(crate) fn pass(&mut self, fired: u64, taken: &[u32], into: &mut [u32])
         requires { CanPass fired taken.now (length into.old) self.old }
@@ -31,12 +31,12 @@ impl Part<'_> {
     {
         actors_go_by_rules();
         match self {
-            Part::Source(node, rows) => {
+            Role::Source(node, rows) => {
                 node.put(rows.bits.as_slice()[fired as usize + 1].as_slice(), into)
             }
-            Part::Shell(node) => node.fire(taken, into),
-            Part::Mover => into[0] = taken[0],
-            Part::Sink(node, given) => given.receive(node, taken),
+            Role::Shell(node) => node.fire(taken, into),
+            Role::Mover => into[0] = taken[0],
+            Role::Sink(node, given) => given.receive(node, taken),
         }
     }
 }

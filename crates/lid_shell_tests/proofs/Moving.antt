@@ -6,24 +6,23 @@ use Rattle.lid_design.specs.Walks.{HasTable}
 use Rattle.lid_system.specs.declared.System.{System}
 use Rattle.lid_system.specs.Systems.{IsWellFormed}
 use Rattle.lid_system.specs.Tables.{system_drivers}
-use Rattle.lid_system.proofs.Shelling.{each_length, each_at}
-use Rattle.lid_runs.proofs.Ends.{drained_there}
+use Rattle.lid_shell_laws.proofs.Ends.{drained_there}
 use Rattle.lid_station.specs.declared.pair.Pair.{Pair}
 use Rattle.lid_station.specs.Plain.{plain_ends, PlainStands}
 use Rattle.lid_station.specs.Starts.{start_count, AreStarts, Begin}
 use Rattle.lid_stations.specs.declared.placement.Placement.{Placement}
 use Rattle.lid_stations.specs.Placements.{Links, links_of, Fits}
 use Rattle.lid_stations.specs.Stations.{drainer}
-use Rattle.lid_runs.specs.Laws.{MoversMoveTokensOn}
-use Rattle.lid_machine.specs.Plans.{actors_of, stations_of, ins_of, outs_of, start_of, room_of, stream}
-use Rattle.lid_machine.specs.Setups.{Setup, IsSetup, IsInputRow, plan}
-use Rattle.lid_machine.specs.Plans.{drainer_of}
+use Rattle.lid_shell_laws.specs.Laws.{MoversMoveTokensOn}
+use Rattle.lid_walk_machine.specs.Plans.{actors_of, stations_of, ins_of, outs_of, start_of, room_of, stream, drainer_of}
+use Rattle.lid_walk_machine.specs.Setups.{Setup, IsSetup, IsInputRow, plan}
 use Rattle.lid_shell.specs.declared.actor.Actor.{Actor}
 use Rattle.lid_shell.specs.Actors.{IsActor}
 use Rattle.lid_shell.specs.Steps.{CanTurn}
 use Rattle.lid_shell.proofs.Begun.{rest}
 use Rattle.lid_shell.proofs.Streams.{token_small}
-use Rattle.lid_actors.proofs.Starting.{starts_agree}
+use Rattle.lid_walk.proofs.Opening.{starts_agree}
+use Rattle.lid_base.proofs.Each.{each_length, each_at}
 
 abbrev pub laid : Placement
 laid = record { relays = 0 ∷ 2 ∷ []; caps = 2 ∷ 2 ∷ 2 ∷ 2 ∷ [] }

@@ -6,18 +6,18 @@ use Rattle.lid_system.specs.Tables.{system_drivers}
 use Rattle.lid_stations.specs.declared.placement.Placement.{Placement}
 use Rattle.lid_stations.specs.Placements.{links_of}
 use Rattle.lid_stations.specs.Stations.{actor_count}
-use Rattle.lid_machine.specs.Plans.{actors_of}
-use Rattle.lid_machine.specs.Setups.{Setup, plan}
-use Rattle.lid_machine.specs.Machine.{begun}
-use Rattle.lid_actors.specs.Setups.{IsSetupOf}
-use Rattle.lid_actors.proofs.Setting.{actors_are}
-use Rattle.lid_actors.proofs.Starting.{setup_of}
+use Rattle.lid_walk_machine.specs.Plans.{actors_of}
+use Rattle.lid_walk_machine.specs.Setups.{Setup, plan}
+use Rattle.lid_walk_machine.specs.Machine.{begun}
+use Rattle.lid_walk.specs.Setups.{IsSetupOf}
+use Rattle.lid_walk.proofs.Setting.{actors_are}
+use Rattle.lid_walk.proofs.Opening.{setup_of}
 use Rattle.lid_walk.specs.declared.walk.Walk.{Walk}
 use Rattle.lid_walk.specs.Walks.{Walks, IsAtRest}
-use Rattle.lid_settings.specs.Runs.{IsRun}
+use Rattle.lid_tests_fixtures.specs.Runs.{IsFittingRun}
 use Rattle.lid_shell_tests.specs.Runs.{HasActors}
 
-module _ (s : System) (p : Placement) (rows : List (List Bool)) (run : IsRun s p rows) (tables : HasTable (system_drivers s)) (w : Walk) (walks : (m : Setup) → IsSetupOf m s p rows → Walks m begun w) where
+module _ (s : System) (p : Placement) (rows : List (List Bool)) (run : IsFittingRun s p rows) (tables : HasTable (system_drivers s)) (w : Walk) (walks : (m : Setup) → IsSetupOf m s p rows → Walks m begun w) where
   abbrev own : (m : Setup) × IsSetupOf m s p rows
   own = setup_of s p rows run.system run.fits run.few run.wide tables
 

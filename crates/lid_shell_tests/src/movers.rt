@@ -4,16 +4,16 @@ ghost use Rattle.std.specs.Prelude.{◌≡◌, ◌≤◌, ◌+◌, [], ◌∷◌
 ghost use Rattle.std.specs.List.{AllByRecursion};
 ghost use Rattle.lid_system.specs.Systems.{IsWellFormed};
 ghost use Rattle.lid_stations.specs.Placements.{Fits};
-ghost use Rattle.lid_machine.specs.Setups.{IsInputRow, plan};
+ghost use Rattle.lid_walk_machine.specs.Setups.{IsInputRow, plan};
 ghost use Rattle.lid_shell.specs.Steps.{CanTurn};
 
 use lid_base::{Answer, Items};
-use lid_runs::movers_move_tokens_on;
-use lid_settings::{ONE, are_rows, placement_of, rows_of, system_of};
 use lid_shell::{Actor, TurnEnd};
+use lid_shell_laws::movers_move_tokens_on;
 use lid_station::{PlainBoard, Stations};
 use lid_stations::Placement;
 use lid_system::{System, systems_have_one_table};
+use lid_tests_fixtures::{ONE, are_rows, placement_of, rows_of, system_of};
 use std::alloc::Global;
 
 /// Whether an actor ends a turn so, and answers so to the next step.

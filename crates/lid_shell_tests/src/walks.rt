@@ -4,14 +4,14 @@ ghost use Rattle.std.specs.Prelude.{◌≡◌, ℕ};
 ghost use Rattle.lid_system.specs.Systems.{IsWellFormed};
 ghost use Rattle.lid_stations.specs.Placements.{links_of, Fits};
 ghost use Rattle.lid_stations.specs.Stations.{actor_count};
-ghost use Rattle.lid_walk.specs.Walks.{IsWalk, IsAtRest};
-ghost use Rattle.lid_settings.specs.Runs.{IsRun};
+ghost use Rattle.lid_walk.specs.Walks.{IsSetupWalk, IsAtRest};
+ghost use Rattle.lid_tests_fixtures.specs.Runs.{IsFittingRun};
 ghost use Rattle.lid_shell_tests.specs.Runs.{HasActors};
 
 use lid_base::{Answer, Items};
-use lid_settings::{ONE, RING, Run, run_of};
 use lid_stations::Placement;
 use lid_system::{System, systems_have_one_table};
+use lid_tests_fixtures::{ONE, RING, SampleRun, run_of};
 use lid_walk::Walk;
 use std::alloc::Global;
 
@@ -208,8 +208,8 @@ fn steps_so(walk: &mut Walk, many: u32, steps: &[Step]) -> bool
 }
 
 /// Whether the actors of a run answer so to steps from its start.
-fn starts_so(alloc: Global, run: &Run, steps: &[Step]) -> bool
-    requires { IsRun run.now.system run.now.placement run.now.rows.bits }
+fn starts_so(alloc: Global, run: &SampleRun, steps: &[Step]) -> bool
+    requires { IsFittingRun run.now.system run.now.placement run.now.rows.bits }
 {
     systems_have_one_table();
     let many = count_of(&run.system, &run.placement);
@@ -237,7 +237,7 @@ fn actors_answer_to_steps(rt: HostRuntime) {
 /// Whether a hundred sweeps settle a walk.
 fn settles(walk: &mut Walk) -> bool
     requires { IsAtRest walk.old }
-    ensures { IsWalk walk.new }
+    ensures { IsSetupWalk walk.new }
 {
     for _sweep in 0..100u32 {
         if walk.settled() {
@@ -262,8 +262,8 @@ fn are_bits(rows: &[Items<bool>], bits: &[u8]) -> bool {
 }
 
 /// Whether a walk of a run settles with these rows.
-fn ends_with(alloc: Global, run: &Run, bits: &[u8]) -> bool
-    requires { IsRun run.now.system run.now.placement run.now.rows.bits }
+fn ends_with(alloc: Global, run: &SampleRun, bits: &[u8]) -> bool
+    requires { IsFittingRun run.now.system run.now.placement run.now.rows.bits }
 {
     systems_have_one_table();
     match Walk::start(alloc, &run.system, &run.placement, &run.rows) {

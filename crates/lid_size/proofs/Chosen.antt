@@ -1,13 +1,13 @@
 -- Capacities that are chosen one after the other are the first that reach.
-use Rattle.std.proofs.Common.{◌≡◌, ℕ, zero, suc, ◌+◌, ◌-◌, ◌<◌, ◌≤◌, ◌≢◌, ◌⊎◌, inl, inr, List, [], ◌∷◌, ◌++◌, length, take, get_or, replicate, sym, ◌∙◌, ap, subst, append_assoc, append-nil, arith}
+use Rattle.std.proofs.Common.{◌≡◌, ℕ, zero, suc, ◌+◌, ◌-◌, ◌<◌, ◌≤◌, ◌≢◌, ◌⊎◌, inl, inr, List, [], ◌∷◌, ◌++◌, length, take, get_or, replicate, sym, ◌∙◌, ap, subst, append-nil, arith}
 use Rattle.std.specs.List.{All}
 use Rattle.std.proofs.lemmas.Bool.{cases_lt, cases_eq}
-use Rattle.std.proofs.lemmas.List.{length-append, length-replicate, length-take-le, get_or_append_left, get_or-append-add, get_or-replicate, get_or-take, get_or_past, get_or_default, take-append-le, take_all}
-use Rattle.std.proofs.lemmas.List.Elements.{All-nil, All-cons, All-append, All-replicate, All-get_or}
+use Rattle.std.proofs.lemmas.List.{length-append, length-replicate, length-take-le, get_or_append_left, get_or-append-add, get_or-replicate, get_or-take, get_or_past, get_or_default}
+use Rattle.std.proofs.lemmas.List.Elements.{All-cons, All-append, All-replicate, All-get_or}
 use Rattle.std.proofs.Math.Seq.{get_or-append_seam}
 use Rattle.lid_stations.specs.Placements.{IsCapacity}
 use Rattle.lid_size.specs.Sizing.{AreCapacities, IsBefore, IsFirst}
-use Rattle.lid_size.specs.Choices.{followed, AreChosen, IsNext}
+use Rattle.lid_size.specs.Choices.{followed, AreChosen}
 
 -- the first place where a list comes before another
 pub record Differs (xs ys : List ℕ) : Type 0 where
@@ -79,44 +79,11 @@ module _ (P : List ℕ → Type 0) (n : ℕ) where
   abbrev pub IsUpward : Type 0
   IsUpward = (xs ys : List ℕ) → ((i : ℕ) → get_or xs i 2 ≤ get_or ys i 2) → P xs → P ys
 
-  pub chosen_start : P (replicate n 16) → AreChosen P n []
-  chosen_start holds = record {
-    few = omega arith;
-    range = All-nil IsCapacity;
-    holds = subst (λ (m : ℕ). P (replicate m 16)) (let e : n ≡ n - 0 = omega arith in e) holds;
-    tight = λ s h more p. omega arith;
-  }
-
   -- 16 for all that are left is 16 for the next and for all after it
   pub chosen_greatest : (done : List ℕ) → length done < n → AreChosen P n done → P (followed n done 16)
   chosen_greatest done few so =
       let e : n - length done ≡ suc (n - (length done + 1)) = omega arith in
       subst (λ (m : ℕ). P (done ++ replicate m 16)) e so.holds
-
-  pub chosen_push : (done : List ℕ) (c : ℕ) → length done < n → AreChosen P n done → IsNext P n done c → AreChosen P n (done ++ c ∷ [])
-  chosen_push done c few so next = record {
-    few = (let l = long in omega arith);
-    range = All-append IsCapacity done (c ∷ []) so.range (All-cons IsCapacity c [] next.range (All-nil IsCapacity));
-    holds = subst P shape next.holds;
-    tight = λ s h more p. by_place s h more p (cases_lt s (length done));
-  }
-    where
-      long : length (done ++ c ∷ []) ≡ length done + 1
-      long = length-append done (c ∷ [])
-
-      shape : followed n done c ≡ (done ++ c ∷ []) ++ replicate (n - length (done ++ c ∷ [])) 16
-      shape = ap (λ (m : ℕ). done ++ c ∷ replicate (n - m) 16) (sym long) ∙ sym (append_assoc done (c ∷ []) (replicate (n - length (done ++ c ∷ [])) 16))
-
-      by_place : (s : ℕ) → s < length (done ++ c ∷ []) → 2 < get_or (done ++ c ∷ []) s 0 → P (followed n (take s (done ++ c ∷ [])) (get_or (done ++ c ∷ []) s 0 - 1)) → (s < length done) ⊎ (length done ≤ s) → ⊥
-      by_place s h more p (inl early) =
-          let at : get_or (done ++ c ∷ []) s 0 ≡ get_or done s 0 = get_or_append_left done (c ∷ []) 0 s early in
-          let first : take s (done ++ c ∷ []) ≡ take s done = take-append-le s done (c ∷ []) (omega arith) in
-          so.tight s early (omega arith) (subst (λ (xs : List ℕ). P (followed n xs (get_or done s 0 - 1))) first (subst (λ (m : ℕ). P (followed n (take s (done ++ c ∷ [])) (m - 1))) at p))
-      by_place s h more p (inr late) =
-          let is : s ≡ length done = (let l = long in omega arith) in
-          let at : get_or (done ++ c ∷ []) s 0 ≡ c = ap (λ (m : ℕ). get_or (done ++ c ∷ []) m 0) is ∙ get_or-append_seam done c [] 0 in
-          let first : take s (done ++ c ∷ []) ≡ done = ap (λ (m : ℕ). take m (done ++ c ∷ [])) is ∙ (take-append-le (length done) done (c ∷ []) (omega arith) ∙ take_all (length done) done (omega arith)) in
-          next.tight (omega arith) (subst (λ (xs : List ℕ). P (followed n xs (c - 1))) first (subst (λ (m : ℕ). P (followed n (take s (done ++ c ∷ [])) (m - 1))) at p))
 
   module _ (up : (xs ys : List ℕ) → ((i : ℕ) → get_or xs i 2 ≤ get_or ys i 2) → P xs → P ys) where
     pub chosen_first : (caps : List ℕ) → length caps ≡ n → AreChosen P n caps → IsFirst P n caps

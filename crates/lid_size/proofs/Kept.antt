@@ -8,12 +8,12 @@ use Rattle.lid_cert.specs.declared.cert.Part.{Part}
 use Rattle.lid_cert.specs.declared.cert.Cert.{Cert}
 use Rattle.lid_cert.specs.Certificates.{has_node, least_node, IsPart}
 use Rattle.lid_cert.specs.Owners.{no_part, part_at}
-use Rattle.lid_cert.specs.Laws.{Shows}
+use Rattle.lid_cert.specs.Laws.{ShowsTransition}
 use Rattle.lid_cert.proofs.Consequences.{ratio_is_shown, each_is_shown}
-use Rattle.lid_capacities.specs.Capacities.{IsForwardRatio, HasForwardRatio}
-use Rattle.lid_capacities.proofs.Forward.{ratios_spread, are_compared}
-use Rattle.lid_ratio.specs.declared.lowest_terms.Ratio.{Ratio}
-use Rattle.lid_size.specs.Comparing.{IsKept, AreAllKept, IsFirstLow, AreCompared, want_of}
+use Rattle.lid_size_laws.specs.Capacities.{IsForwardRatio, HasForwardRatio}
+use Rattle.lid_size_laws.proofs.Forward.{ratios_spread, are_compared}
+use Rattle.lid_rate_ratio.specs.declared.lowest_terms.Ratio.{Ratio}
+use Rattle.lid_size.specs.Comparing.{IsRatioKept, AreAllKept, IsFirstLow, AreCompared, want_of}
 use Rattle.lid_size.proofs.Joins.{joined_inside, least_inside, least_within}
 
 -- there are no more parts than transitions in them
@@ -36,10 +36,7 @@ module _ (g : Graph) (n : ℕ) (cert : Cert) (wants : List Ratio) (compared : Ar
       let most = compared.rateable.nodes in
       omega arith
 
-  pub want_within : (i : ℕ) → i < length cert.parts → least_node (part_at cert.parts i) < length wants
-  want_within i h = let l = least_within g (part_at cert.parts i) (part_met i h) in let c = compared.ratios.count in omega arith
-
-  shows : (i v : ℕ) → i < length cert.parts → has_node (part_at cert.parts i) v ≡ true → Shows g cert (part_at cert.parts i) v
+  shows : (i v : ℕ) → i < length cert.parts → has_node (part_at cert.parts i) v ≡ true → ShowsTransition g cert (part_at cert.parts i) v
   shows i v h inside = record {
     paired = compared.rateable.paired;
     certifies = compared.certifies;
@@ -54,7 +51,7 @@ module _ (g : Graph) (n : ℕ) (cert : Cert) (wants : List Ratio) (compared : Ar
   want_is i h = least_ratio i h
 
   -- a part that is kept has its forward ratio at each of its transitions
-  kept_at : (i v : ℕ) → i < length cert.parts → has_node (part_at cert.parts i) v ≡ true → IsKept (want_of wants (part_at cert.parts i)) (part_at cert.parts i) → HasForwardRatio g n v
+  kept_at : (i v : ℕ) → i < length cert.parts → has_node (part_at cert.parts i) v ≡ true → IsRatioKept (want_of wants (part_at cert.parts i)) (part_at cert.parts i) → HasForwardRatio g n v
   kept_at i v h inside kept =
       let part = part_at cert.parts i in
       let least = least_inside g (part_at cert.parts i) (part_met i h) in
@@ -64,10 +61,10 @@ module _ (g : Graph) (n : ℕ) (cert : Cert) (wants : List Ratio) (compared : Ar
       let ratio = ratio_is_shown g cert (part_at cert.parts i) v (shows i v h inside) in
       (are_compared g n v part.p part.q want.p want.q ratio spread).1 kept
 
-  pub kept_has : (i : ℕ) → i < length cert.parts → IsKept (want_of wants (part_at cert.parts i)) (part_at cert.parts i) → HasForwardRatio g n (least_node (part_at cert.parts i))
+  pub kept_has : (i : ℕ) → i < length cert.parts → IsRatioKept (want_of wants (part_at cert.parts i)) (part_at cert.parts i) → HasForwardRatio g n (least_node (part_at cert.parts i))
   kept_has i h kept = kept_at i (least_node (part_at cert.parts i)) h (least_inside g (part_at cert.parts i) (part_met i h)) kept
 
-  pub has_kept : (i : ℕ) → i < length cert.parts → HasForwardRatio g n (least_node (part_at cert.parts i)) → IsKept (want_of wants (part_at cert.parts i)) (part_at cert.parts i)
+  pub has_kept : (i : ℕ) → i < length cert.parts → HasForwardRatio g n (least_node (part_at cert.parts i)) → IsRatioKept (want_of wants (part_at cert.parts i)) (part_at cert.parts i)
   has_kept i h has =
       let part = part_at cert.parts i in
       let want = want_of wants (part_at cert.parts i) in

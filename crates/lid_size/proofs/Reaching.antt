@@ -14,10 +14,10 @@ use Rattle.lid_rate.specs.Rates.{IsShort}
 use Rattle.lid_system.specs.declared.System.{System}
 use Rattle.lid_system.specs.Systems.{IsWellFormed}
 use Rattle.lid_stations.specs.Placements.{links_of, station_count, IsCapacity, Fits}
-use Rattle.lid_capacities.proofs.Scaling.{compared}
-use Rattle.lid_ratio.specs.declared.lowest_terms.Ratio.{Ratio}
+use Rattle.lid_size_laws.proofs.Scaling.{compared}
+use Rattle.lid_rate_ratio.specs.declared.lowest_terms.Ratio.{Ratio}
 use Rattle.lid_size.specs.Comparing.{AreAllKept, IsFirstLow, AreCompared, want_of}
-use Rattle.lid_forward.specs.ForwardParts.{HasStations, AreForwardRatios}
+use Rattle.lid_size_forward.specs.ForwardParts.{HasStations, AreForwardRatios}
 use Rattle.lid_size.specs.Sizing.{with_capacities, sized, greatest, AreCapacities, Reaches}
 use Rattle.lid_size.specs.Sizes.{FallsShort}
 use Rattle.lid_size.proofs.Joins.{least_within}

@@ -9,13 +9,13 @@ use Rattle.lid_graph.specs.Ratios.{IsClosedWalkNear}
 use Rattle.lid_system.specs.declared.System.{System}
 use Rattle.lid_stations.specs.declared.placement.Placement.{Placement}
 use Rattle.lid_stations.specs.Placements.{links_of, station_count, IsCapacity}
-use Rattle.lid_capacities.specs.Capacities.{IsForward}
-use Rattle.lid_capacities.proofs.Alike.{closed_alike}
-use Rattle.lid_capacities.proofs.Forward.{has_kept}
-use Rattle.lid_forward.proofs.Closed.{closed_start}
-use Rattle.lid_ratio.specs.declared.lowest_terms.Ratio.{Ratio}
-use Rattle.lid_forward.specs.ForwardParts.{AreForwardRatios, no_ratio}
-use Rattle.lid_size.specs.Sizes.{IsReached}
+use Rattle.lid_size_laws.specs.Capacities.{IsForward}
+use Rattle.lid_size_laws.proofs.Alike.{closed_alike}
+use Rattle.lid_size_laws.proofs.Forward.{has_kept}
+use Rattle.lid_size_forward.proofs.Closed.{closed_start}
+use Rattle.lid_rate_ratio.specs.declared.lowest_terms.Ratio.{Ratio}
+use Rattle.lid_size_forward.specs.ForwardParts.{AreForwardRatios, no_ratio}
+use Rattle.lid_size.specs.Sizes.{IsReachedPlacement}
 use Rattle.lid_size.specs.Sizing.{sized, greatest, AreCapacities, Reaches, IsFirst}
 use Rattle.lid_size.specs.Testing.{lessened, IsWidest, IsRefuted, AreTight}
 use Rattle.lid_size.proofs.Chosen.{followed_capacities, chosen_first}
@@ -82,7 +82,7 @@ tight_first s relays caps g wants widest ratios are reach =
     }))
 
 -- a placement whose capacities a guess gave
-pub tested_is : (s : System) (relays caps widest_caps : List ℕ) (g : Graph) (wants : List Ratio) (p : Placement) → p.relays ≡ relays → p.caps ≡ caps → length caps ≡ station_count relays → g ≡ sized (links_of s) relays widest_caps → widest_caps ≡ greatest relays → AreForwardRatios (sized (links_of s) relays widest_caps) (station_count relays) wants → AreTight g wants caps (length caps) → Reaches (links_of s) p.relays p.caps → IsReached (links_of s) relays p
+pub tested_is : (s : System) (relays caps widest_caps : List ℕ) (g : Graph) (wants : List Ratio) (p : Placement) → p.relays ≡ relays → p.caps ≡ caps → length caps ≡ station_count relays → g ≡ sized (links_of s) relays widest_caps → widest_caps ≡ greatest relays → AreForwardRatios (sized (links_of s) relays widest_caps) (station_count relays) wants → AreTight g wants caps (length caps) → Reaches (links_of s) p.relays p.caps → IsReachedPlacement (links_of s) relays p
 tested_is s relays caps widest_caps g wants p relays_are caps_are count is widest ratios tight reach =
     let wide : g ≡ sized (links_of s) relays (greatest relays) = is ∙ ap (sized (links_of s) relays) widest in
     let here : AreForwardRatios g (length caps) wants = subst (λ (n : ℕ). AreForwardRatios g n wants) (sym count) (subst (λ (x : Graph). AreForwardRatios x (station_count relays) wants) (sym is) ratios) in

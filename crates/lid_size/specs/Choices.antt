@@ -15,7 +15,7 @@ pub record AreChosen (P : List ℕ → Type 0) (n : ℕ) (done : List ℕ) : Typ
   pub tight : (s : ℕ) → s < length done → 2 < slice_index done s → P (followed n (take s done) (slice_index done s - 1)) → ⊥
 
 -- the least capacity of the next station, with 16 for all later ones
-pub record IsNext (P : List ℕ → Type 0) (n : ℕ) (done : List ℕ) (c : ℕ) : Type 0 where
+pub record IsNextCapacity (P : List ℕ → Type 0) (n : ℕ) (done : List ℕ) (c : ℕ) : Type 0 where
   pub range : IsCapacity c
   pub holds : P (followed n done c)
   pub tight : 2 < c → P (followed n done (c - 1)) → ⊥

@@ -6,13 +6,13 @@ use Rattle.lid_cert.specs.declared.cert.Part.{Part}
 use Rattle.lid_cert.specs.declared.cert.Cert.{Cert}
 use Rattle.lid_cert.specs.Certificates.{least_node, Certifies, IsInRange}
 use Rattle.lid_cert.specs.Owners.{part_at}
-use Rattle.lid_ratio.specs.declared.lowest_terms.Ratio.{Ratio}
+use Rattle.lid_rate_ratio.specs.declared.lowest_terms.Ratio.{Ratio}
 use Rattle.lid_rate.specs.Rates.{IsShort}
-use Rattle.lid_forward.specs.ForwardParts.{AreForwardRatios, no_ratio}
+use Rattle.lid_size_forward.specs.ForwardParts.{AreForwardRatios, no_ratio}
 
 -- the ratio of the part is not below this one
-abbrev pub IsKept : Ratio → Part → Type 0
-IsKept want part = want.p * part.q ≤ part.p * want.q
+abbrev pub IsRatioKept : Ratio → Part → Type 0
+IsRatioKept want part = want.p * part.q ≤ part.p * want.q
 
 -- the forward ratio of the least transition of a part
 abbrev pub want_of : List Ratio → Part → Ratio
@@ -20,13 +20,13 @@ want_of wants part = slice_index_or wants (least_node part) no_ratio
 
 -- the first parts have ratios that are not below their forward ratios
 abbrev pub AreAllKept : List Ratio → List Part → ℕ → Type 0
-AreAllKept wants parts count = (i : ℕ) → i < count → IsKept (want_of wants (part_at parts i)) (part_at parts i)
+AreAllKept wants parts count = (i : ℕ) → i < count → IsRatioKept (want_of wants (part_at parts i)) (part_at parts i)
 
 -- the first part whose ratio is below its forward ratio
 pub record IsFirstLow (wants : List Ratio) (parts : List Part) (i : ℕ) : Type 0 where
   pub within : i < length parts
   pub earlier : AreAllKept wants parts i
-  pub low : IsKept (want_of wants (part_at parts i)) (part_at parts i) → ⊥
+  pub low : IsRatioKept (want_of wants (part_at parts i)) (part_at parts i) → ⊥
 
 -- a certificate of a graph and its forward ratios
 pub record AreCompared (g : Graph) (n : ℕ) (cert : Cert) (wants : List Ratio) : Type 0 where

@@ -8,15 +8,15 @@ use Rattle.lid_cert.specs.Owners.{part_at}
 use Rattle.lid_system.specs.declared.System.{System}
 use Rattle.lid_stations.specs.declared.placement.Placement.{Placement}
 use Rattle.lid_stations.specs.Placements.{Links, station_count, Fits}
-use Rattle.lid_capacities.specs.Capacities.{IsForwardRatio, HasForwardRatio}
+use Rattle.lid_size_laws.specs.Capacities.{IsForwardRatio, HasForwardRatio}
 use Rattle.lid_size.specs.declared.sizing.SizeEnd.{SizeEnd}
 use Rattle.lid_size.specs.declared.sizing.SizeEnd.TheVariants.{Reached, Short}
-use Rattle.lid_ratio.specs.declared.lowest_terms.Ratio.{Ratio}
+use Rattle.lid_rate_ratio.specs.declared.lowest_terms.Ratio.{Ratio}
 use Rattle.lid_size.specs.Comparing.{want_of}
 use Rattle.lid_size.specs.Sizing.{sized, greatest, AreCapacities, Reaches, IsFirst}
 
 -- the same relay stations, with the first capacities that reach
-pub record IsReached (l : Links) (relays : List ℕ) (p : Placement) : Type 0 where
+pub record IsReachedPlacement (l : Links) (relays : List ℕ) (p : Placement) : Type 0 where
   pub relays_are : p.relays ≡ relays
   pub caps : IsFirst (Reaches l relays) (station_count relays) p.caps
 
@@ -39,7 +39,7 @@ pub record FallsShort (l : Links) (relays : List ℕ) (part have_p have_q want_p
 
 -- what is answered for a system with so many relay stations on each channel
 abbrev pub Sizes : Links → List ℕ → SizeEnd → Type 0
-Sizes l relays (Reached p) = IsReached l relays p
+Sizes l relays (Reached p) = IsReachedPlacement l relays p
 Sizes l relays (Short part have_p have_q want_p want_q cert) = FallsShort l relays part have_p have_q want_p want_q cert
 
 -- the answer with this part of the certificate

@@ -6,7 +6,7 @@ use Rattle.lid_graph.specs.declared.graph.Graph.{Graph}
 use Rattle.lid_stations.specs.declared.placement.Placement.{Placement}
 use Rattle.lid_stations.specs.Placements.{Links, station_count, IsCapacity}
 use Rattle.lid_stations.specs.Markings.{marking}
-use Rattle.lid_capacities.specs.Capacities.{HasForwardRatio}
+use Rattle.lid_size_laws.specs.Capacities.{HasForwardRatio}
 
 -- so many relay stations on each channel, and these capacities
 abbrev pub with_capacities : List ℕ → List ℕ → Placement

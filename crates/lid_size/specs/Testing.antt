@@ -1,11 +1,11 @@
 -- For the test of a guess: capacities that are one less at a station.
 use Rattle.std.specs.Prelude.{◌≡◌, ℕ, ◌-◌, ◌<◌, List, length, take, slice_index}
 use Rattle.lid_graph.specs.declared.graph.Graph.{Graph}
-use Rattle.lid_ratio.specs.declared.lowest_terms.Ratio.{Ratio}
+use Rattle.lid_rate_ratio.specs.declared.lowest_terms.Ratio.{Ratio}
 use Rattle.lid_system.specs.declared.System.{System}
 use Rattle.lid_stations.specs.Placements.{links_of, station_count, IsCapacity}
 use Rattle.lid_size.specs.Choices.{followed}
-use Rattle.lid_forward.specs.ForwardParts.{AreForwardRatios}
+use Rattle.lid_size_forward.specs.ForwardParts.{AreForwardRatios}
 use Rattle.lid_size.specs.Sizing.{sized, greatest, Reaches}
 
 -- the capacities before a station, one less than its own there, and 16 for all later ones

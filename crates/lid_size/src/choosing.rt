@@ -5,17 +5,17 @@ ghost use Rattle.std.specs.Prelude.{◌≡◌, ℕ, ◌<◌, ◌≤◌, ◌↔�
 ghost use Rattle.std.specs.List.{All};
 ghost use Rattle.lid_stations.specs.Placements.{links_of, Fits, station_count, IsCapacity};
 ghost use Rattle.lid_system.specs.Systems.{IsWellFormed};
-ghost use Rattle.lid_size.specs.Choices.{followed, AreChosen, IsNext};
-ghost use Rattle.lid_forward.specs.ForwardParts.{AreForwardRatios};
-ghost use Rattle.lid_size.specs.Sizes.{IsReached};
+ghost use Rattle.lid_size.specs.Choices.{followed, AreChosen, IsNextCapacity};
+ghost use Rattle.lid_size_forward.specs.ForwardParts.{AreForwardRatios};
+ghost use Rattle.lid_size.specs.Sizes.{IsReachedPlacement};
 ghost use Rattle.lid_size.specs.Sizing.{sized, greatest, Reaches, IsFirst};
 
 use crate::comparing::reaches;
 use crate::testing::are_tight;
 use lid_base::Items;
 use lid_graph::Graph;
-use lid_ratio::Ratio;
-use lid_sizeguess::Sizes;
+use lid_rate_ratio::Ratio;
+use lid_size_guess::GuessedSizes;
 use lid_stations::Placement;
 use lid_system::System;
 use std::alloc::{AllocError, Global};
@@ -91,7 +91,7 @@ fn next_capacity(
     requires few { length done.now < station_count placement.now.relays }
     requires range { All IsCapacity done.now }
     requires greatest { Reaches (links_of system.now) placement.now.relays (followed (station_count placement.now.relays) done.now 16) }
-    ensures { IfOk result (IsNext (Reaches (links_of system.now) placement.now.relays) (station_count placement.now.relays) done.now) }
+    ensures { IfOk result (IsNextCapacity (Reaches (links_of system.now) placement.now.relays) (station_count placement.now.relays) done.now) }
 {
     for next in 2..16u32 {
         if reaches_with(alloc, system, placement, wants, done, next)? {
@@ -112,19 +112,19 @@ pub(crate) fn tested(
     widest: &Placement,
     graph: &Graph,
     wants: &[Ratio],
-    sizes: Sizes,
+    sizes: GuessedSizes,
 ) -> Result<Option<Placement>, AllocError>
     requires system { IsWellFormed system.now }
     requires fits { Fits system.now widest.now }
     requires widest { widest.now.caps ≡ greatest widest.now.relays }
     requires graph { graph.now ≡ sized (links_of system.now) widest.now.relays widest.now.caps }
     requires wants { AreForwardRatios (sized (links_of system.now) widest.now.relays widest.now.caps) (station_count widest.now.relays) wants.now }
-    ensures { IfOk result (λ found. IfSome found (IsReached (links_of system.now) widest.now.relays)) }
+    ensures { IfOk result (λ found. IfSome found (IsReachedPlacement (links_of system.now) widest.now.relays)) }
 {
     if sizes.caps.len() != widest.caps.len() || !are_tight(graph, wants, &sizes) {
         return Ok(None);
     }
-    let Sizes { caps, .. } = sizes;
+    let GuessedSizes { caps, .. } = sizes;
     let trial = placement_of(alloc, widest.relays.as_slice(), caps.into_vec())?;
     if reaches(alloc, system, &trial, wants)? {
         Ok(Some(trial))

@@ -7,13 +7,13 @@ ghost use Rattle.lid_cert.specs.Certificates.{least_node, Certifies, IsInRange};
 ghost use Rattle.lid_rate.specs.Rates.{IsShort};
 ghost use Rattle.lid_system.specs.Systems.{IsWellFormed};
 ghost use Rattle.lid_stations.specs.Placements.{links_of, Fits, station_count};
-ghost use Rattle.lid_forward.specs.ForwardParts.{AreForwardRatios, no_ratio};
+ghost use Rattle.lid_size_forward.specs.ForwardParts.{AreForwardRatios, no_ratio};
 ghost use Rattle.lid_size.specs.Sizing.{sized, Reaches};
-ghost use Rattle.lid_size.specs.Comparing.{IsKept, AreAllKept, IsFirstLow, AreCompared};
+ghost use Rattle.lid_size.specs.Comparing.{IsRatioKept, AreAllKept, IsFirstLow, AreCompared};
 
 use lid_cert::{Cert, Part};
 use lid_rate::find;
-use lid_ratio::Ratio;
+use lid_rate_ratio::Ratio;
 use lid_stations::{Placement, marking};
 use lid_system::System;
 use std::alloc::{AllocError, Global};
@@ -33,7 +33,7 @@ fn is_kept(part: &Part, want: Ratio) -> bool
     requires q { part.now.q < 2 ^ 31 }
     requires want_p { want.p ≤ 2 ^ 22 }
     requires want_q { want.q ≤ 2 ^ 18 }
-    ensures { IsTrue result ↔ IsKept want part.now }
+    ensures { IsTrue result ↔ IsRatioKept want part.now }
 {
     want.p * part.q <= part.p * want.q
 }

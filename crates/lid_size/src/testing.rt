@@ -7,14 +7,14 @@ ghost use Rattle.lid_graph.specs.Rateable.{IsRateable};
 ghost use Rattle.lid_graph.specs.Walks.{edge_at, walk_tokens};
 ghost use Rattle.lid_system.specs.declared.System.{System};
 ghost use Rattle.lid_stations.specs.Placements.{links_of, IsCapacity};
-ghost use Rattle.lid_forward.specs.ForwardParts.{AreForwardRatios};
+ghost use Rattle.lid_size_forward.specs.ForwardParts.{AreForwardRatios};
 ghost use Rattle.lid_size.specs.Sizing.{sized};
 ghost use Rattle.lid_size.specs.Testing.{lessened, IsWidest, IsRefuted, AreTight};
 
-use lid_forward::{is_closed, walk_at, walk_start};
 use lid_graph::Graph;
-use lid_ratio::{Ratio, edge};
-use lid_sizeguess::Sizes;
+use lid_rate_ratio::{Ratio, edge};
+use lid_size_forward::{is_closed, walk_at, walk_start};
+use lid_size_guess::GuessedSizes;
 
 /// The capacity at a place where a station has one place less, and all later ones 16.
 fn capacity_at(caps: &[u32], station: u32, at: u32) -> u32
@@ -90,7 +90,7 @@ fn refutes(graph: &Graph, wants: &[Ratio], caps: &[u32], station: u32, walk: &[u
 
 /// Whether the capacities of a guess are in their range, and its walks show that one less at any station
 /// does not reach.
-pub(crate) fn are_tight(graph: &Graph, wants: &[Ratio], sizes: &Sizes) -> bool
+pub(crate) fn are_tight(graph: &Graph, wants: &[Ratio], sizes: &GuessedSizes) -> bool
     requires graph { IsRateable graph.now }
     requires few { length sizes.now.caps < 2 ^ 32 }
     requires wants { AreForwardRatios graph.now (length sizes.now.caps) wants.now }

@@ -6,11 +6,11 @@ ghost use Rattle.lid_graph.specs.Rateable.{IsRateable};
 
 use lid_graph::Graph;
 use lid_rate::find;
-use lid_ratio::Ratio;
-use lid_settings::{DIAMOND, MADE, RING, placed_of};
+use lid_rate_ratio::Ratio;
 use lid_size::{SizeEnd, size};
-use lid_sizeguess::{Sizes, propose_forwards, propose_sizes};
+use lid_size_guess::{GuessedSizes, propose_forwards, propose_sizes};
 use lid_stations::{Placement, marking};
+use lid_tests_fixtures::{DIAMOND, MADE, RING, placed_of};
 use std::alloc::{AllocError, Global};
 
 /// The two ways of `DIAMOND`, from a register that keeps its bit. The source has no channel, so it is a component
@@ -59,7 +59,7 @@ static REACHED: [Reached; 5] = [
 type Wide = (&'static [u8], &'static [u8], u64, u64, &'static [u32]);
 
 /// The ring, the diamond, and the generated system, whose loop of three stations has two tokens. Its capacities are
-/// those that come first by the ratios of all its closed walks (`tools/margins.py`).
+/// those that come first by the ratios of all its closed walks (`tools/dev/margins.py`).
 static WIDE: [Wide; 3] = [
     (
         RING,
@@ -173,7 +173,13 @@ fn graph_of(alloc: Global, netlist: &[u8], stations: &[u8]) -> Option<Graph>
 }
 
 /// The guess for so many stations of a graph, where each component is to have the ratio p/q.
-fn guess(alloc: Global, graph: &Graph, stations: u32, p: u64, q: u64) -> Result<Sizes, AllocError>
+fn guess(
+    alloc: Global,
+    graph: &Graph,
+    stations: u32,
+    p: u64,
+    q: u64,
+) -> Result<GuessedSizes, AllocError>
     requires { IsRateable graph.now }
 {
     let cert = find(alloc, graph)?;
@@ -182,7 +188,7 @@ fn guess(alloc: Global, graph: &Graph, stations: u32, p: u64, q: u64) -> Result<
 }
 
 /// The guess for a netlist with stations as a text.
-fn guessed(alloc: Global, case: Wide) -> Option<Sizes> {
+fn guessed(alloc: Global, case: Wide) -> Option<GuessedSizes> {
     let (netlist, stations, p, q, caps) = case;
     let Some(graph) = graph_of(alloc, netlist, stations) else {
         return None;

@@ -9,7 +9,7 @@ use Rattle.lid_graph.specs.Walks.{IsPaired, walk_tokens}
 use Rattle.lid_graph.specs.Ratios.{IsRatio}
 use Rattle.lid_system.specs.declared.System.{System}
 use Rattle.lid_system.specs.Systems.{IsWellFormed}
-use Rattle.lid_ratio.specs.declared.lowest_terms.Ratio.{Ratio}
+use Rattle.lid_rate_ratio.specs.declared.lowest_terms.Ratio.{Ratio}
 use Rattle.lid_stations.specs.declared.placement.Placement.{Placement}
 use Rattle.lid_stations.specs.Placements.{Links, links_of, Fits}
 use Rattle.lid_stations.specs.Markings.{marking}
@@ -18,24 +18,24 @@ use Rattle.lid_stations.proofs.Edges.{node_count}
 use Rattle.lid_stations.proofs.Alive.{rateable}
 use Rattle.lid_cert.specs.declared.cert.Part.{Part}
 use Rattle.lid_cert.specs.declared.cert.Cert.{Cert}
-use Rattle.lid_cert.specs.Laws.{Shows}
+use Rattle.lid_cert.specs.Laws.{ShowsTransition}
 use Rattle.lid_cert.proofs.Consequences.{cycle_near, each_is_shown, ratio_is_shown}
-use Rattle.lid_rate.specs.Rates.{IsExact}
+use Rattle.lid_rate.specs.Rates.{IsExactPart}
 use Rattle.lid_cert.specs.Certificates.{Certifies, has_node, IsPart}
 use Rattle.lid_cert.specs.Owners.{no_part, part_at}
-use Rattle.lid_longer.specs.Longer.{longer, longer_marking, producer, room, KeepsAt, KeepsRatio}
-use Rattle.lid_longer.proofs.Kept.{longer_fits, none_keep, fewer_keep}
+use Rattle.lid_slack_longer.specs.Longer.{longer, longer_marking, producer, room, KeepsAt, KeepsRatio}
+use Rattle.lid_slack_longer.proofs.Kept.{longer_fits, none_keep, fewer_keep}
 use Rattle.lid_slack.specs.declared.answer.Slack.{Slack}
 use Rattle.lid_slack.specs.declared.certified.Certified.{Certified}
 use Rattle.lid_slack.specs.Slack.{IsCertified, IsSlack, IsAgainst, IsTold}
-use Rattle.lid_slack.specs.Trials.{CanTry, IsTrial, IsPresent, IsMost, IsBetween, IsFound}
+use Rattle.lid_slack.specs.Trials.{CanTry, IsTrial, IsPresent, IsMost, IsBetween, IsFoundSlack}
 use Rattle.lid_slack.proofs.Ratios.{keeps_lower, exact_below, below_higher, ratio_keeps, keeps_ratio, one_ratio}
 
 -- some part has each transition
 pub some_part : (g : Graph) (cert : Cert) (v : ℕ) → IsPaired g → Certifies g cert → v < g.nodes → ((k : ℕ) → k < length cert.parts → has_node (part_at cert.parts k) v ≡ false) → ⊥
 some_part g cert v paired certifies within none = from_part (each_is_shown g cert v paired certifies within)
   where
-    from_part : (part : Part) × Shows g cert part v → ⊥
+    from_part : (part : Part) × ShowsTransition g cert part v → ⊥
     from_part h =
         let stands = h.1.stands in
         let same : part_at cert.parts stands.0 ≡ h.0 = get_or_default cert.parts stands.0 no_part h.0 stands.1 ∙ stands.2 in
@@ -50,12 +50,12 @@ producer_within s p c x can =
     omega (arith, node_count s (longer p c x))
 
 -- what is found with further relay stations
-pub trial_is : (s : System) (p : Placement) (c x : ℕ) (g : Graph) (cert : Cert) (part : ℕ) → g ≡ longer_marking (links_of s) p c x → Certifies g cert → All (IsExact g) cert.parts → part < length cert.parts → has_node (part_at cert.parts part) (producer (links_of s) c) ≡ true → IsTrial s p c x cert part
+pub trial_is : (s : System) (p : Placement) (c x : ℕ) (g : Graph) (cert : Cert) (part : ℕ) → g ≡ longer_marking (links_of s) p c x → Certifies g cert → All (IsExactPart g) cert.parts → part < length cert.parts → has_node (part_at cert.parts part) (producer (links_of s) c) ≡ true → IsTrial s p c x cert part
 trial_is s p c x g cert part is certifies exact within stands = record {
   certifies = subst (λ (h : Graph). Certifies h cert) is certifies;
   within = within;
   stands = stands;
-  exact = subst (λ (h : Graph). IsExact h (part_at cert.parts part)) is (exact part no_part within);
+  exact = subst (λ (h : Graph). IsExactPart h (part_at cert.parts part)) is (exact part no_part within);
 }
 
 -- the ratio of a trial's part
@@ -79,7 +79,7 @@ module _ (s : System) (p : Placement) (c : ℕ) (present : Certified) (can : Can
   present_is a b part within stands a_is b_is =
       subst (λ (n : ℕ). IsPresent s p c n b) (sym a_is) (subst (λ (n : ℕ). IsPresent s p c (part_at present.cert.parts part).p n) (sym b_is) here)
     where
-      shows : Shows present.graph present.cert (part_at present.cert.parts part) (producer (links_of s) c)
+      shows : ShowsTransition present.graph present.cert (part_at present.cert.parts part) (producer (links_of s) c)
       shows = record { paired = certified_rateable.paired; certifies = made.certifies; stands = (part, within, get_or_default present.cert.parts part (part_at present.cert.parts part) no_part within); inside = stands }
 
       here : IsPresent s p c (part_at present.cert.parts part).p (part_at present.cert.parts part).q
@@ -192,7 +192,7 @@ module _ (s : System) (p : Placement) (c a b : ℕ) (present : IsPresent s p c a
                 absurd (most.next (omega arith) (fewer_keep s p c (x + 1) y a b can.system can.fits can.there enough (omega arith) present.ratio (keeps a b present.ratio)))
 
 -- what is found is the slack
-pub told_is : (s : System) (p : Placement) (c a b : ℕ) → IsPresent s p c a b → IsWellFormed s → Fits s p → c < length s.channels → (slack : Slack) (next : Option Ratio) → IsFound s p c a b slack next → IsTold (links_of s) p c slack
+pub told_is : (s : System) (p : Placement) (c a b : ℕ) → IsPresent s p c a b → IsWellFormed s → Fits s p → c < length s.channels → (slack : Slack) (next : Option Ratio) → IsFoundSlack s p c a b slack next → IsTold (links_of s) p c slack
 told_is s p c a b present well fits there slack next found =
     let can : CanTry s p c slack.added = record { system = well; fits = fits; there = there; enough = found.most.within } in
     record {
@@ -212,12 +212,12 @@ pub lower_found : (s : System) (p : Placement) (c a b x : ℕ) (cert : Cert) (wa
     → (KeepsAt (links_of s) p c (x + 1) a b → ⊥)
     → IsAgainst (links_of s) p c (x + 1) walk
     → IsRatio (longer_marking (links_of s) p c (x + 1)) (producer (links_of s) c) ratio.p ratio.q
-    → IsFound s p c a b slack next
+    → IsFoundSlack s p c a b slack next
 lower_found s p c a b x cert walk ratio slack next slack_is next_is less certifies keeps lower against is_ratio =
-    let all : IsFound s p c a b (record { added = x; cert = cert; against = Some walk }) (Some ratio) = record {
+    let all : IsFoundSlack s p c a b (record { added = x; cert = cert; against = Some walk }) (Some ratio) = record {
       most = record { within = omega arith; keeps = keeps; next = λ room. lower };
       certifies = certifies;
       ends = (less, against);
       next_is = is_ratio;
     } in
-    subst (λ (k : Slack). IsFound s p c a b k next) (sym slack_is) (subst (λ (o : Option Ratio). IsFound s p c a b (record { added = x; cert = cert; against = Some walk }) o) (sym next_is) all)
+    subst (λ (k : Slack). IsFoundSlack s p c a b k next) (sym slack_is) (subst (λ (o : Option Ratio). IsFoundSlack s p c a b (record { added = x; cert = cert; against = Some walk }) o) (sym next_is) all)

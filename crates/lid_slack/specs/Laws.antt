@@ -4,7 +4,7 @@ use Rattle.lid_graph.specs.Ratios.{IsRatio}
 use Rattle.lid_stations.specs.declared.placement.Placement.{Placement}
 use Rattle.lid_stations.specs.Placements.{Links}
 use Rattle.lid_stations.specs.Markings.{marking}
-use Rattle.lid_longer.specs.Longer.{longer_marking, producer, KeepsRatio}
+use Rattle.lid_slack_longer.specs.Longer.{longer_marking, producer, KeepsRatio}
 
 -- where a/b is the present ratio, and d/e the ratio with x further relay stations, the ratio is kept exactly
 -- where d/e is not below a/b

@@ -6,11 +6,11 @@ use Rattle.lid_graph.specs.Ratios.{IsClosedWalkNear, IsRatio}
 use Rattle.lid_stations.specs.declared.placement.Placement.{Placement}
 use Rattle.lid_stations.specs.Placements.{Links}
 use Rattle.lid_stations.specs.Markings.{marking}
-use Rattle.lid_ratio.specs.declared.lowest_terms.Ratio.{Ratio}
+use Rattle.lid_rate_ratio.specs.declared.lowest_terms.Ratio.{Ratio}
 use Rattle.lid_cert.specs.Certificates.{Certifies, IsInRange}
 use Rattle.lid_slack.specs.declared.answer.Slack.{Slack}
 use Rattle.lid_slack.specs.declared.certified.Certified.{Certified}
-use Rattle.lid_longer.specs.Longer.{longer_marking, producer, room, KeepsRatio}
+use Rattle.lid_slack_longer.specs.Longer.{longer_marking, producer, room, KeepsRatio}
 
 -- the marked graph of a placement, and a certificate of it with all numbers in range
 pub record IsCertified (l : Links) (p : Placement) (present : Certified) : Type 0 where

@@ -9,9 +9,9 @@ use Rattle.lid_system.specs.Systems.{IsWellFormed}
 use Rattle.lid_cert.specs.declared.cert.Cert.{Cert}
 use Rattle.lid_cert.specs.Certificates.{Certifies, has_node}
 use Rattle.lid_cert.specs.Owners.{part_at}
-use Rattle.lid_ratio.specs.declared.lowest_terms.Ratio.{Ratio}
-use Rattle.lid_rate.specs.Rates.{IsExact}
-use Rattle.lid_longer.specs.Longer.{longer_marking, producer, room, KeepsAt}
+use Rattle.lid_rate_ratio.specs.declared.lowest_terms.Ratio.{Ratio}
+use Rattle.lid_rate.specs.Rates.{IsExactPart}
+use Rattle.lid_slack_longer.specs.Longer.{longer_marking, producer, room, KeepsAt}
 use Rattle.lid_graph.specs.declared.graph.Graph.{Graph}
 use Rattle.lid_slack.specs.declared.answer.Slack.{Slack}
 use Rattle.lid_slack.specs.declared.trial.Probe.{Probe}
@@ -29,7 +29,7 @@ pub record IsTrial (s : System) (p : Placement) (c x : ℕ) (cert : Cert) (part 
   pub certifies : Certifies (longer_marking (links_of s) p c x) cert
   pub within : part < length cert.parts
   pub stands : has_node (part_at cert.parts part) (producer (links_of s) c) ≡ true
-  pub exact : IsExact (longer_marking (links_of s) p c x) (part_at cert.parts part)
+  pub exact : IsExactPart (longer_marking (links_of s) p c x) (part_at cert.parts part)
 
 -- a/b is the present ratio of the channel's component
 pub record IsPresent (s : System) (p : Placement) (c a b : ℕ) : Type 0 where
@@ -44,7 +44,7 @@ pub record IsMost (s : System) (p : Placement) (c a b x : ℕ) : Type 0 where
   pub next : x < room p c → KeepsAt (links_of s) p c (x + 1) a b → ⊥
 
 -- the slack that is told, by the present ratio a/b, and the ratio with one more
-pub record IsFound (s : System) (p : Placement) (c a b : ℕ) (slack : Slack) (next : Option Ratio) : Type 0 where
+pub record IsFoundSlack (s : System) (p : Placement) (c a b : ℕ) (slack : Slack) (next : Option Ratio) : Type 0 where
   pub most : IsMost s p c a b slack.added
   pub certifies : Certifies (longer_marking (links_of s) p c slack.added) slack.cert
   pub ends : IsEnd (links_of s) p c slack.added slack.against
@@ -70,8 +70,8 @@ marking_with t x = longer_marking (links_of t.system.now) t.placement.now t.chan
 abbrev pub IsTrialOf : Probe → ℕ → Cert → ℕ → Type 0
 IsTrialOf t x cert part = IsTrial t.system.now t.placement.now t.channel x cert part
 
-abbrev pub Keeps : Probe → ℕ → Type 0
-Keeps t x = KeepsAt (links_of t.system.now) t.placement.now t.channel x t.present.p t.present.q
+abbrev pub ProbeKeeps : Probe → ℕ → Type 0
+ProbeKeeps t x = KeepsAt (links_of t.system.now) t.placement.now t.channel x t.present.p t.present.q
 
 abbrev pub IsAgainstMore : Probe → ℕ → List ℕ → Type 0
 IsAgainstMore t x walk = IsAgainst (links_of t.system.now) t.placement.now t.channel x walk
@@ -80,4 +80,4 @@ abbrev pub IsMostOf : Probe → ℕ → Type 0
 IsMostOf t x = IsMost t.system.now t.placement.now t.channel t.present.p t.present.q x
 
 abbrev pub IsFoundBy : Probe → Slack → Option Ratio → Type 0
-IsFoundBy t slack next = IsFound t.system.now t.placement.now t.channel t.present.p t.present.q slack next
+IsFoundBy t slack next = IsFoundSlack t.system.now t.placement.now t.channel t.present.p t.present.q slack next

@@ -2,7 +2,7 @@
 
 use lid_base::Items;
 use lid_cert::Cert;
-use lid_ratio::Ratio;
+use lid_rate_ratio::Ratio;
 
 /// How many further relay stations a channel takes.
 #[derive(Drop)]

@@ -2,7 +2,7 @@
 //! kept with fewer.
 
 ghost use Rattle.std.specs.Prelude.{◌≡◌, IfOk};
-ghost use Rattle.lid_longer.specs.Longer.{room};
+ghost use Rattle.lid_slack_longer.specs.Longer.{room};
 ghost use Rattle.lid_slack.specs.Trials.{CanProbe, ShowsPresent, IsMostOf};
 
 use crate::trial::{Probe, keeps};

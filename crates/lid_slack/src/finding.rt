@@ -5,19 +5,19 @@ ghost use Rattle.lid_cert.specs.Certificates.{Certifies};
 ghost use Rattle.lid_graph.specs.Ratios.{IsRatio};
 ghost use Rattle.lid_system.specs.Systems.{IsWellFormed};
 ghost use Rattle.lid_stations.specs.Placements.{links_of, Fits};
-ghost use Rattle.lid_longer.specs.Longer.{longer_marking, producer, room, KeepsRatio};
+ghost use Rattle.lid_slack_longer.specs.Longer.{longer_marking, producer, room, KeepsRatio};
 ghost use Rattle.lid_slack.specs.Slack.{IsCertified, IsSlack, IsEnd, IsTold, IsNextRatio};
-ghost use Rattle.lid_slack.specs.Trials.{CanTry, IsPresent, CanProbe, ShowsPresent, marking_with, Keeps, IsAgainstMore, IsMostOf, IsFoundBy};
+ghost use Rattle.lid_slack.specs.Trials.{CanTry, IsPresent, CanProbe, ShowsPresent, marking_with, ProbeKeeps, IsAgainstMore, IsMostOf, IsFoundBy};
 
 use crate::answer::{Slack, SlackAndNext};
 use crate::bisection::bisect;
 use crate::certified::{Certified, certify};
+use crate::proposal::propose_slack;
 use crate::trial::{Probe, outcome_of, part_of, producer, ratio_of};
 use lid_base::Items;
 use lid_cert::Cert;
-use lid_longer::{room, stations_through};
-use lid_ratio::Ratio;
-use lid_slackguess::propose_slack;
+use lid_rate_ratio::Ratio;
+use lid_slack_longer::{room, stations_through};
 use lid_stations::Placement;
 use lid_system::System;
 use std::alloc::{AllocError, Global};
@@ -59,8 +59,8 @@ fn kept_cert(alloc: Global, probe: &Probe<'_>, more: u32) -> Result<Option<Cert>
     requires can { CanProbe probe.now more }
     requires present { ShowsPresent probe.now }
     ensures some { IfOk result (λ found. IfSome found (λ cert. Certifies (marking_with probe.now more) cert)) }
-    ensures kept { IfOk result (λ found. IfSome found (λ cert. Keeps probe.now more)) }
-    ensures none { IfOk result (λ found. IsNone found → Keeps probe.now more → ⊥) }
+    ensures kept { IfOk result (λ found. IfSome found (λ cert. ProbeKeeps probe.now more)) }
+    ensures none { IfOk result (λ found. IsNone found → ProbeKeeps probe.now more → ⊥) }
 {
     let outcome = outcome_of(alloc, probe, more)?;
     if outcome.lowers {
@@ -82,8 +82,8 @@ fn lower_walk(alloc: Global, probe: &Probe<'_>, more: u32) -> Result<Option<Lowe
     requires present { ShowsPresent probe.now }
     ensures some { IfOk result (λ found. IfSome found (λ lower. IsAgainstMore probe.now more lower.walk)) }
     ensures ratio { IfOk result (λ found. IfSome found (λ lower. IsRatio (marking_with probe.now more) (producer (links_of probe.now.system.now) probe.now.channel) lower.ratio.p lower.ratio.q)) }
-    ensures lowers { IfOk result (λ found. IfSome found (λ lower. Keeps probe.now more → ⊥)) }
-    ensures none { IfOk result (λ found. IsNone found → Keeps probe.now more) }
+    ensures lowers { IfOk result (λ found. IfSome found (λ lower. ProbeKeeps probe.now more → ⊥)) }
+    ensures none { IfOk result (λ found. IsNone found → ProbeKeeps probe.now more) }
 {
     let outcome = outcome_of(alloc, probe, more)?;
     if !outcome.lowers {

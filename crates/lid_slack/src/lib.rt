@@ -1,5 +1,4 @@
-//! The slack of a channel: how many further relay stations it takes before the throughput of its component
-//! falls.
+//! The slack of a channel: how many further relay stations it takes before the throughput of its component falls.
 #![tactic(auto)]
 
 mod answer;
@@ -7,9 +6,11 @@ mod bisection;
 mod certified;
 mod finding;
 mod laws;
+mod proposal;
 mod trial;
 
 pub use answer::{Slack, SlackAndNext};
 pub use certified::{Certified, certify};
 pub use finding::{slack, slack_and_next, slack_from};
 pub use laws::keeping_is_not_lowering;
+pub use proposal::propose_slack;

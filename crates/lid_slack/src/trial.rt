@@ -5,14 +5,14 @@ ghost use Rattle.lid_cert.specs.Certificates.{Certifies, has_node};
 ghost use Rattle.lid_cert.specs.Owners.{part_at};
 ghost use Rattle.lid_graph.specs.Rateable.{IsRateable};
 ghost use Rattle.lid_stations.specs.Placements.{links_of};
-ghost use Rattle.lid_longer.specs.Longer.{producer};
-ghost use Rattle.lid_slack.specs.Trials.{CanProbe, ShowsPresent, marking_with, IsTrialOf, Keeps, IsAgainstMore};
+ghost use Rattle.lid_slack_longer.specs.Longer.{producer};
+ghost use Rattle.lid_slack.specs.Trials.{CanProbe, ShowsPresent, marking_with, IsTrialOf, ProbeKeeps, IsAgainstMore};
 
 use lid_cert::{Cert, part_with};
 use lid_graph::Graph;
-use lid_longer::longer;
 use lid_rate::find;
-use lid_ratio::Ratio;
+use lid_rate_ratio::Ratio;
+use lid_slack_longer::longer;
 use lid_stations::{Placement, marking};
 use lid_system::System;
 use std::alloc::{AllocError, Global};
@@ -115,8 +115,8 @@ pub(crate) fn outcome_of(alloc: Global, probe: &Probe<'_>, more: u32) -> Result<
     requires can { CanProbe probe.now more }
     requires present { ShowsPresent probe.now }
     ensures trial { IfOk result (λ outcome. IsTrialOf probe.now more outcome.trial.cert outcome.trial.part) }
-    ensures kept { IfOk result (λ outcome. outcome.lowers ≡ false → Keeps probe.now more) }
-    ensures lower { IfOk result (λ outcome. IsTrue outcome.lowers → Keeps probe.now more → ⊥) }
+    ensures kept { IfOk result (λ outcome. outcome.lowers ≡ false → ProbeKeeps probe.now more) }
+    ensures lower { IfOk result (λ outcome. IsTrue outcome.lowers → ProbeKeeps probe.now more → ⊥) }
     ensures walk { IfOk result (λ outcome. IsTrue outcome.lowers → IsAgainstMore probe.now more (part_at outcome.trial.cert.parts outcome.trial.part).cycle) }
 {
     let trial = attempt(alloc, probe, more)?;
@@ -128,7 +128,7 @@ pub(crate) fn outcome_of(alloc: Global, probe: &Probe<'_>, more: u32) -> Result<
 pub(crate) fn keeps(alloc: Global, probe: &Probe<'_>, more: u32) -> Result<bool, AllocError>
     requires can { CanProbe probe.now more }
     requires present { ShowsPresent probe.now }
-    ensures { IfOk result (λ kept. IsTrue kept ↔ Keeps probe.now more) }
+    ensures { IfOk result (λ kept. IsTrue kept ↔ ProbeKeeps probe.now more) }
 {
     let outcome = outcome_of(alloc, probe, more)?;
     Ok(!outcome.lowers)

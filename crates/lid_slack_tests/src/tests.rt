@@ -4,12 +4,11 @@ ghost use Rattle.std.specs.Prelude.{◌<◌, length};
 ghost use Rattle.lid_system.specs.Systems.{IsWellFormed};
 ghost use Rattle.lid_stations.specs.Placements.{Fits};
 
-use lid_ratio::Ratio;
-use lid_settings::{DIAMOND, MADE, RING, placed_of};
-use lid_slack::{Certified, certify, slack, slack_and_next};
-use lid_slackguess::propose_slack;
+use lid_rate_ratio::Ratio;
+use lid_slack::{Certified, certify, propose_slack, slack, slack_and_next};
 use lid_stations::Placement;
 use lid_system::System;
+use lid_tests_fixtures::{DIAMOND, MADE, RING, placed_of};
 use std::alloc::Global;
 
 /// The slack of a channel, and the ratio with one more, or 0/0.
@@ -29,7 +28,7 @@ static TWO_WAYS_CASES: [Case; 5] = [
 /// an edge to the ring of 66 edges and 2 tokens.
 static FULL_CASES: [Case; 3] = [(0, 0, 0, 0), (1, 0, 2, 67), (2, 0, 0, 0)];
 
-/// The ratios by all closed walks, with each number of further relay stations (`tools/margins.py`).
+/// The ratios by all closed walks, with each number of further relay stations (`tools/dev/margins.py`).
 static MADE_CASES: [Case; 6] = [
     (0, 2, 3, 7),
     (1, 0, 3, 7),

@@ -2,34 +2,26 @@
 -- cycle for each that holds somebody.
 use Rattle.std.proofs.Common.{◌≡◌, ◌⊎◌, inl, inr, ℕ, zero, suc, ◌+◌, ◌-◌, ◌*◌, ◌<◌, ◌≤◌, ◌==◌, ◌||◌, Bool, true, false, cond, List, length, slice_get, refl, sym, ◌∙◌, ap, subst, arith}
 use Rattle.std.proofs.lemmas.Nat.{mul-le}
-use Rattle.std.proofs.lemmas.Bool.{cases_lt, eq-eqb, eqb-true}
+use Rattle.std.proofs.lemmas.Bool.{cases_lt, eq-eqb, eqb-true, or_left, or_right}
 use Rattle.lid_graph.specs.declared.graph.Graph.{Graph}
 use Rattle.lid_graph.specs.Firings.{Counts, no_hold, firings, IsFirstAtCap}
 use Rattle.lid_graph.proofs.Counting.{firings_cap}
-use Rattle.lid_firings.specs.Free.{NamesHeld, held_below}
-use Rattle.lid_firings.proofs.Held.{holds_delay, holds_delay_by_their_cycles}
-use Rattle.lid_firings.proofs.Rising.{rises_on, first_at_cap}
+use Rattle.lid_graph_laws.specs.Free.{NamesHeld, held_below}
+use Rattle.lid_graph_laws.proofs.Held.{holds_delay, holds_delay_by_their_cycles}
+use Rattle.lid_graph_laws.proofs.Rising.{rises_on, first_at_cap}
 use Rattle.lid_stations.specs.Placements.{links_of}
 use Rattle.lid_stations.specs.Stations.{actor_count}
 use Rattle.lid_stations.specs.Markings.{marking}
 use Rattle.lid_stations.proofs.Spots.{few_actors}
-use Rattle.lid_runs.specs.Runs.{cap_of}
-use Rattle.lid_runs.proofs.Caps.{cap_of_sink}
-use Rattle.lid_runs.proofs.Ending.{ends, ends_within_lag}
+use Rattle.lid_shell_laws.specs.Runs.{cap_of}
+use Rattle.lid_shell_laws.proofs.Caps.{cap_of_sink}
+use Rattle.lid_shell_laws.proofs.Ending.{ends, ends_within_lag}
 use Rattle.lid_clock.specs.Lives.{Life, IsLife, IsBelow, fired_after, sink}
-use Rattle.lid_stalltext.specs.declared.stalls.Stall.{Stall}
-use Rattle.lid_stalltext.specs.Holds.{holds_source, holds_sink, stalled_by, Ascend}
+use Rattle.lid_stall_text.specs.declared.stalls.Stall.{Stall}
+use Rattle.lid_stall_text.specs.Holds.{holds_source, holds_sink, stalled_by, Ascend}
 use Rattle.lid_stall.specs.Places.{due_of, place_after, Divides}
 use Rattle.lid_stall.specs.Runs.{IsHeldBy, holds_one, stalled_after, IsOverBy}
 use Rattle.lid_stall.proofs.Walking.{source_due, sink_due, divides_on, counted_moves}
-
-or_left : (a b : Bool) → a ≡ true → (a || b) ≡ true
-or_left true b is = refl
-or_left false b is = absurd cc
-
-or_right : (a b : Bool) → b ≡ true → (a || b) ≡ true
-or_right true b is = refl
-or_right false b is = is
 
 abbrev graph_of : Life → Graph
 graph_of l = marking (links_of l.system) l.placement

@@ -4,8 +4,8 @@ use Rattle.std.proofs.lemmas.Bool.{cases_lt}
 use Rattle.lid_clock.specs.declared.stream.ClockStream.{ClockStream}
 use Rattle.lid_clock.specs.Lives.{Life, IsBelow, Holds, sink}
 use Rattle.lid_clock.specs.Ran.{Ran}
-use Rattle.lid_stalltext.specs.declared.stalls.Stall.{Stall}
-use Rattle.lid_stalltext.specs.Holds.{holds_sink, Ascend}
+use Rattle.lid_stall_text.specs.declared.stalls.Stall.{Stall}
+use Rattle.lid_stall_text.specs.Holds.{holds_sink, Ascend}
 use Rattle.lid_stall.specs.declared.held.Held.{Held}
 use Rattle.lid_stall.specs.Places.{due_of, place_after, Divides}
 use Rattle.lid_stall.specs.Runs.{IsHeldBy, RanHeld}

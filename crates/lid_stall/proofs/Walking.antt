@@ -4,8 +4,8 @@ use Rattle.std.specs.List.{list_any}
 use Rattle.std.proofs.lemmas.Bool.{cases_eq, cases_lt, eq-eqb, eqb-true}
 use Rattle.std.proofs.lemmas.List.Folds.{list_any_at, list_any_none}
 use Rattle.std.proofs.lemmas.Option.{slice_get_cases, slice_get-get_or, slice_get_within}
-use Rattle.lid_stalltext.specs.declared.stalls.Stall.{Stall}
-use Rattle.lid_stalltext.specs.Holds.{holds_source, holds_sink, Ascend}
+use Rattle.lid_stall_text.specs.declared.stalls.Stall.{Stall}
+use Rattle.lid_stall_text.specs.Holds.{holds_source, holds_sink, Ascend}
 use Rattle.lid_stall.specs.Places.{nobody, due_of, place_after, Divides}
 
 -- a stall of another cycle does not count

@@ -1,6 +1,6 @@
 -- Places in a list of stalls, as a run goes through it. These serve the calls that do.
 use Rattle.std.specs.Prelude.{◌≡◌, ℕ, ◌+◌, ◌<◌, ◌≤◌, ◌==◌, false, if◌then◌else◌, List, Option, Some, None, length, slice_get}
-use Rattle.lid_stalltext.specs.declared.stalls.Stall.{Stall}
+use Rattle.lid_stall_text.specs.declared.stalls.Stall.{Stall}
 
 -- a stall of a cycle that holds nobody
 abbrev pub nobody : ℕ → Stall

@@ -1,15 +1,15 @@
 -- Clocked runs that stalls hold.
 use Rattle.std.specs.Prelude.{◌≡◌, ℕ, ◌+◌, ◌<◌, ◌≤◌, Bool, ◌||◌, List, length}
 use Rattle.lid_graph.specs.Firings.{no_hold, IsFirstAtCap}
-use Rattle.lid_firings.specs.Free.{held_below}
+use Rattle.lid_graph_laws.specs.Free.{held_below}
 use Rattle.lid_stations.specs.Placements.{links_of}
 use Rattle.lid_stations.specs.Markings.{marking}
-use Rattle.lid_runs.specs.Runs.{cap_of, IsWithinLag}
+use Rattle.lid_shell_laws.specs.Runs.{cap_of, IsWithinLag}
 use Rattle.lid_clock.specs.Lives.{Life, IsBelow, fired_after, sink}
 use Rattle.lid_clock.specs.Ran.{Ran}
-use Rattle.lid_stalltext.specs.declared.stalls.Stall.{Stall}
+use Rattle.lid_stall_text.specs.declared.stalls.Stall.{Stall}
 use Rattle.lid_stall.specs.declared.held.Held.{Held}
-use Rattle.lid_stalltext.specs.Holds.{stall_hold, Ascend}
+use Rattle.lid_stall_text.specs.Holds.{stall_hold, Ascend}
 use Rattle.lid_stall.specs.Places.{Divides}
 
 -- a life in which the source and the sink are held as stalls say

@@ -3,15 +3,15 @@
 ghost use Rattle.std.specs.Prelude.{◌≡◌, ◌↔◌, ℕ, suc, ◌+◌, ◌^◌, ◌<◌, true, false, ◌||◌, if◌then◌else◌, Some, slice_get};
 ghost use Rattle.lid_stations.specs.Placements.{links_of, station_count};
 ghost use Rattle.lid_stations.specs.Stations.{actor_count};
-ghost use Rattle.lid_clock.specs.Lives.{Life, IsWide, NeedsRow, IsBelow, IsLast, fired_after, shown_after};
+ghost use Rattle.lid_clock.specs.Lives.{Life, IsSourceWide, NeedsRow, IsBelow, IsLast, fired_after, shown_after};
 ghost use Rattle.lid_clock.specs.Ran.{Ran, lent};
-ghost use Rattle.lid_stalltext.specs.Holds.{Ascend};
+ghost use Rattle.lid_stall_text.specs.Holds.{Ascend};
 ghost use Rattle.lid_stall.specs.Places.{due_of, place_after};
 ghost use Rattle.lid_stall.specs.Runs.{IsHeldBy, IsOverBy, RanHeld, stalled_after};
 
 use lid_base::{Items, Shown};
 use lid_clock::ClockStream;
-use lid_stalltext::Stall;
+use lid_stall_text::Stall;
 
 /// A clocked run in which stalls hold the source and the sink.
 #[derive(Drop)]
@@ -127,7 +127,7 @@ impl Held {
 
     /// Takes the next row, where one is wanting. The row has the width of the source.
     pub fn give(&mut self, row: &[bool])
-        requires { (l : Life) × (k : ℕ) × (g : ℕ) × RanHeld l k g self.old × NeedsRow l k g × IsWide l.system row.now }
+        requires { (l : Life) × (k : ℕ) × (g : ℕ) × RanHeld l k g self.old × NeedsRow l k g × IsSourceWide l.system row.now }
         ensures { (l : Life) (k g : ℕ) → RanHeld l k g self.old → slice_get l.input g ≡ Some row.now → RanHeld l k (g + 1) self.new }
     {
         self.stream.give(row);

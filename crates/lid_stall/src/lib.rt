@@ -4,4 +4,4 @@
 mod held;
 
 pub use held::Held;
-pub use lid_stalltext::{Stall, StallFault, read_stalls};
+pub use lid_stall_text::{Stall, StallFault, read_stalls};

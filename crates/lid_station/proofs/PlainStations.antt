@@ -6,7 +6,7 @@ use Rattle.std.proofs.lemmas.List.Elements.{All-get_or}
 use Rattle.std.proofs.lemmas.List.{length-take-le, get_or-take, get_or-set_same, get_or-set_other}
 use Rattle.lid_station.specs.declared.pair.Pair.{Pair}
 use Rattle.lid_station.specs.Boards.{Changes, Facts, IsServed, drain, fill, looked_out, HasFullBits}
-use Rattle.lid_station.specs.Plain.{end_facts, plain_ends, Holds, PlainStands, PlainAdmits}
+use Rattle.lid_station.specs.Plain.{end_facts, plain_ends, HoldsTokensOf, PlainStands, PlainAdmits}
 use Rattle.lid_station.specs.PlainLaws.{at_drain, at_fill, ends_even, ends_odd, mapped}
 use Rattle.lid_station.specs.Words.{half, half_of, word}
 use Rattle.lid_station.specs.declared.looks.OutLook.{OutLook}
@@ -71,18 +71,18 @@ changes_drain pairs station p q step at here there k =
     (λ apart. ap (option_map (end_facts (k % 2 == 0))) (set_there pairs station (k / 2) q apart))))
 
 -- one station changed and still stands for its stream
-pub stands_set : (pairs : List Pair) (station : ℕ) (q : Pair) (streams : ℕ → List ℕ) → PlainStands pairs streams → Holds q (streams station) → PlainStands (set pairs station q) streams
+pub stands_set : (pairs : List Pair) (station : ℕ) (q : Pair) (streams : ℕ → List ℕ) → PlainStands pairs streams → HoldsTokensOf q (streams station) → PlainStands (set pairs station q) streams
 stands_set pairs station q streams stands holds i p at =
     dite (ℕ_discrete i station)
     (λ same.
     let here : slice_get (set pairs station q) station ≡ Some p = ap (λ (k : ℕ). slice_get (set pairs station q) k) (sym same) ∙ at in
     let is : q ≡ p = set_here pairs station q p here in
-    let here_holds : Holds p (streams station) = subst (λ (r : Pair). Holds r (streams station)) is holds in
-    subst (λ (k : ℕ). Holds p (streams k)) (sym same) here_holds)
+    let here_holds : HoldsTokensOf p (streams station) = subst (λ (r : Pair). HoldsTokensOf r (streams station)) is holds in
+    subst (λ (k : ℕ). HoldsTokensOf p (streams k)) (sym same) here_holds)
     (λ other. stands i p (sym (set_there pairs station i q other) ∙ at))
 
 -- the token in the place of the number taken is the stream's next
-pub next_token : (p : Pair) (stream : List ℕ) (place token : ℕ) → Holds p stream → p.taken < p.put → place ≡ p.taken % length p.places.items → token ≡ get_or p.places.items place token → slice_get stream p.taken ≡ Some token
+pub next_token : (p : Pair) (stream : List ℕ) (place token : ℕ) → HoldsTokensOf p stream → p.taken < p.put → place ≡ p.taken % length p.places.items → token ≡ get_or p.places.items place token → slice_get stream p.taken ≡ Some token
 next_token p stream place token holds some is read =
     let filled : p.put ≤ length stream = holds.filled in
     let two : 2 ≤ length p.places.items = p.two in
@@ -112,8 +112,8 @@ held_more_at places stream taken put token ordered room some next held i from to
     ∙ held i from (omega arith))
 
 -- a station whose places hold what another's stream has
-holds_from : (p q : Pair) (stream places : List ℕ) → Holds p stream → q.places.items ≡ places → q.put ≤ length stream
-    → ((i : ℕ) → q.taken ≤ i → i < q.put → get_or places (i % length places) 0 ≡ get_or stream i 0) → Holds q stream
+holds_from : (p q : Pair) (stream places : List ℕ) → HoldsTokensOf p stream → q.places.items ≡ places → q.put ≤ length stream
+    → ((i : ℕ) → q.taken ≤ i → i < q.put → get_or places (i % length places) 0 ≡ get_or stream i 0) → HoldsTokensOf q stream
 holds_from p q stream places holds is filled held =
     record {
       short = holds.short;
@@ -123,14 +123,14 @@ holds_from p q stream places holds is filled held =
     }
 
 -- a station from which a token was taken
-pub holds_less : (p q : Pair) (stream : List ℕ) → Holds p stream → q.places.items ≡ p.places.items → q.put ≡ p.put → q.taken ≡ p.taken + 1 → Holds q stream
+pub holds_less : (p q : Pair) (stream : List ℕ) → HoldsTokensOf p stream → q.places.items ≡ p.places.items → q.put ≡ p.put → q.taken ≡ p.taken + 1 → HoldsTokensOf q stream
 holds_less p q stream holds places put taken =
     let filled : p.put ≤ length stream = holds.filled in
     holds_from p q stream p.places.items holds places (omega arith) (λ i from to. holds.held i (omega arith) (omega arith))
 
 -- a station in whose next place the stream's next token was put
-pub holds_more : (p q : Pair) (stream : List ℕ) (place token : ℕ) → Holds p stream → p.put < p.taken + length p.places.items → place ≡ p.put % length p.places.items
-    → slice_get stream p.put ≡ Some token → q.places.items ≡ set p.places.items place token → q.put ≡ p.put + 1 → q.taken ≡ p.taken → Holds q stream
+pub holds_more : (p q : Pair) (stream : List ℕ) (place token : ℕ) → HoldsTokensOf p stream → p.put < p.taken + length p.places.items → place ≡ p.put % length p.places.items
+    → slice_get stream p.put ≡ Some token → q.places.items ≡ set p.places.items place token → q.put ≡ p.put + 1 → q.taken ≡ p.taken → HoldsTokensOf q stream
 holds_more p q stream place token holds room is next places put taken =
     let two : 2 ≤ length p.places.items = p.two in
     let written : q.places.items ≡ set p.places.items (p.put % length p.places.items) token = places ∙ ap (λ (k : ℕ). set p.places.items k token) is in
@@ -139,7 +139,7 @@ holds_more p q stream place token holds room is next places put taken =
     (λ i from to. held_more_at p.places.items stream p.taken p.put token p.ordered room (omega arith) next holds.held i (omega arith) (omega arith))
 
 -- what a full station shows of a place is what the place shows in its word
-pub shown_half : (p : Pair) (stream : List ℕ) (place : ℕ) → Holds p stream → p.put ≡ p.taken + length p.places.items
+pub shown_half : (p : Pair) (stream : List ℕ) (place : ℕ) → HoldsTokensOf p stream → p.put ≡ p.taken + length p.places.items
     → cond (nat_lt place (length p.places.items)) (2147483648 + get_or p.places.items place 0) 0
     ≡ half_of (length p.places.items) (take p.put stream) (take (p.put - length p.places.items) stream) place
 shown_half p stream place holds full =
@@ -166,7 +166,7 @@ shown_half p stream place holds full =
     (ap (λ (t : ℕ). 2147483648 + t) token ∙ sym (plain ∙ half_token cap (take p.put stream) p.taken cap place i (omega arith) at.1 at.2 at.3)))
 
 -- the word that a full station tells
-pub told_word : (p : Pair) (stream : List ℕ) (number even odd low high : ℕ) → Holds p stream → p.put ≡ p.taken + length p.places.items
+pub told_word : (p : Pair) (stream : List ℕ) (number even odd low high : ℕ) → HoldsTokensOf p stream → p.put ≡ p.taken + length p.places.items
     → even ≡ 2 * number → odd ≡ 2 * number + 1
     → low ≡ cond (nat_lt even (length p.places.items)) (2147483648 + get_or p.places.items even 0) 0
     → high ≡ cond (nat_lt odd (length p.places.items)) (2147483648 + get_or p.places.items odd 0) 0

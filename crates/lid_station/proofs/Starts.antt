@@ -5,7 +5,7 @@ use Rattle.std.specs.List.{All}
 use Rattle.std.proofs.lemmas.Option.{slice_get_within, same_Some, get_or_from_slice_get, slice_get-get_or}
 use Rattle.std.proofs.lemmas.List.{get_or-set_same, length-replicate}
 use Rattle.lid_station.specs.declared.pair.Pair.{Pair}
-use Rattle.lid_station.specs.Plain.{Holds, PlainStands}
+use Rattle.lid_station.specs.Plain.{HoldsTokensOf, PlainStands}
 use Rattle.lid_station.specs.Starts.{IsStart, AreStarts, Begin}
 
 -- an element of a list with one element more
@@ -32,7 +32,7 @@ each_more firsts caps pairs x n many each next i p at =
 
 -- a station that starts stands for each stream that begins with its start token
 holds_start : (first : Option ℕ) (cap : ℕ) (p : Pair) (stream : List ℕ) → IsStart first cap p → length stream < 2 ^ 64 → All (λ token. token < 2 ^ 31) stream
-    → ((token : ℕ) → first ≡ Some token → slice_get stream 0 ≡ Some token) → Holds p stream
+    → ((token : ℕ) → first ≡ Some token → slice_get stream 0 ≡ Some token) → HoldsTokensOf p stream
 holds_start None cap p stream start short small begins =
     let put : p.put ≡ 0 = start.put in
     record {

@@ -18,7 +18,7 @@ plain_ends pairs end = option_map (end_facts (end % 2 == 0)) (slice_get pairs (e
 
 -- whether a station stands for a stream: the tokens that it holds are those of the stream from the
 -- number taken up to the number put
-pub record Holds (p : Pair) (stream : List ℕ) : Type 0 where
+pub record HoldsTokensOf (p : Pair) (stream : List ℕ) : Type 0 where
   pub short : length stream < 2 ^ 64
   pub small : All (λ token. token < 2 ^ 31) stream
   pub filled : p.put ≤ length stream
@@ -28,7 +28,7 @@ pub record Holds (p : Pair) (stream : List ℕ) : Type 0 where
 
 -- whether each station stands for its stream
 abbrev pub PlainStands : List Pair → (ℕ → List ℕ) → Type 0
-PlainStands pairs streams = (i : ℕ) → (p : Pair) → slice_get pairs i ≡ Some p → Holds p (streams i)
+PlainStands pairs streams = (i : ℕ) → (p : Pair) → slice_get pairs i ≡ Some p → HoldsTokensOf p (streams i)
 
 -- whether a token may be put in a station: it has 31 bits, and the number put can be counted
 pub record PlainAdmits (pairs : List Pair) (station token : ℕ) : Type 0 where

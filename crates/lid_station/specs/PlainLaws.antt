@@ -5,7 +5,7 @@ use Rattle.std.proofs.lemmas.Option.{slice_get_within, same_Some, get_or_from_sl
 use Rattle.std.proofs.lemmas.List.Elements.{All-get_or}
 use Rattle.lid_station.specs.declared.pair.Pair.{Pair}
 use Rattle.lid_station.specs.Boards.{Facts, fill, drain}
-use Rattle.lid_station.specs.Plain.{end_facts, plain_ends, Holds, PlainStands, PlainAdmits}
+use Rattle.lid_station.specs.Plain.{end_facts, plain_ends, HoldsTokensOf, PlainStands, PlainAdmits}
 
 -- an end of the filled side is that of a station with half its number
 pub ends_even : (pairs : List Pair) (end station : ℕ) → end ≡ 2 * station → plain_ends pairs end ≡ option_map (end_facts true) (slice_get pairs station)
@@ -40,7 +40,7 @@ at_drain pairs station f e = mapped (end_facts false) (slice_get pairs station) 
 pub plain_next : (pairs : List Pair) (streams : ℕ → List ℕ) (station token : ℕ) (f : Facts) → PlainStands pairs streams → plain_ends pairs (fill station) ≡ Some f → slice_get (streams station) f.passed ≡ Some token → PlainAdmits pairs station token
 plain_next pairs streams station token f stands at next =
     let there = at_fill pairs station f at in
-    let holds : Holds there.0 (streams station) = stands station there.0 there.1 in
+    let holds : HoldsTokensOf there.0 (streams station) = stands station there.0 there.1 in
     let within : f.passed < length (streams station) = slice_get_within (streams station) f.passed token next in
     let read = get_or_from_slice_get (streams station) f.passed token 0 next in
     record {

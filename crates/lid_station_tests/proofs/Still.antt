@@ -11,24 +11,24 @@ use Rattle.lid_station.specs.Boards.{Facts, Changes}
 use Rattle.lid_station.proofs.Boards.{changed_here, changed_else}
 use Rattle.lid_board.specs.Lending.{IsBack}
 use Rattle.lid_board.specs.Owners.{IsOf, IsOwned, ends_of, identity_of}
-use Rattle.lid_board.specs.Standing.{StandsFor}
-use Rattle.lid_board.specs.Starts.{Begins}
+use Rattle.lid_board.specs.Standing.{AreStreamsOf}
+use Rattle.lid_board.specs.Starts.{AreStreamsFor}
 use Rattle.lid_board.specs.Views.{Ends, at, facts, facts_at, held, held_of}
 use Rattle.lid_board.proofs.Lent.{come_back}
 use Rattle.lid_board.specs.declared.board.Board.{Board}
 use Rattle.lid_board.specs.declared.hand.Hand.{Hand}
-use Rattle.lid_board.specs.declared.view.Held.{Held}
+use Rattle.lid_board.specs.declared.view.EndFacts.{EndFacts}
 
-facts_there : (o : Option Held) (n : ℕ) → option_map (λ (h : Held). h.passed) o ≡ Some n → (f : Facts) × (option_map facts o ≡ Some f) × (f.passed ≡ n)
+facts_there : (o : Option EndFacts) (n : ℕ) → option_map (λ (h : EndFacts). h.passed) o ≡ Some n → (f : Facts) × (option_map facts o ≡ Some f) × (f.passed ≡ n)
 facts_there None n e = absurd (cc)
 facts_there (Some h) n e = (facts h, refl, same_Some h.passed n e)
 
 -- an end of which a number is told is served
-pub served_here : (ends : Ends) (end n : ℕ) (o : Option ℕ) → o ≡ option_map (λ (h : Held). h.passed) (at ends end) → o ≡ Some n → (f : Facts) × (facts_at ends end ≡ Some f) × (f.passed ≡ n)
+pub served_here : (ends : Ends) (end n : ℕ) (o : Option ℕ) → o ≡ option_map (λ (h : EndFacts). h.passed) (at ends end) → o ≡ Some n → (f : Facts) × (facts_at ends end ≡ Some f) × (f.passed ≡ n)
 served_here ends end n o told some_n = facts_there (at ends end) n (sym told ∙ some_n)
 
 -- one stream for each station
-pub begins_same : (n token : ℕ) (stream : List ℕ) → slice_get stream 0 ≡ Some token → length stream < 2 ^ 64 → All (λ t. t < 2 ^ 31) stream → Begins (replicate n (Some token)) (replicate n stream)
+pub begins_same : (n token : ℕ) (stream : List ℕ) → slice_get stream 0 ≡ Some token → length stream < 2 ^ 64 → All (λ t. t < 2 ^ 31) stream → AreStreamsFor (replicate n (Some token)) (replicate n stream)
 begins_same n token stream next short small = record {
   many = length-replicate n stream ∙ sym (length-replicate n (Some token));
   short = All-replicate (λ (s : List ℕ). length s < 2 ^ 64) n stream short;
@@ -41,7 +41,7 @@ begins_same n token stream next short small = record {
       ap (λ (s : List ℕ). slice_get s 0) (get_or-replicate n station stream [] there) ∙ next ∙ ap (λ (k : ℕ). Some k) t_is;
 }
 
-pub stands_same : (plan : Ends) (n : ℕ) (stream : List ℕ) → length plan ≡ 2 * n → StandsFor plan (λ station. get_or (replicate n stream) station []) → StandsFor plan (λ _. stream)
+pub stands_same : (plan : Ends) (n : ℕ) (stream : List ℕ) → length plan ≡ 2 * n → AreStreamsOf plan (λ station. get_or (replicate n stream) station []) → AreStreamsOf plan (λ _. stream)
 stands_same plan n stream many stands station inside = stands station inside ∙ get_or-replicate n station stream [] (omega arith)
 
 -- the hand that was lent is the one that comes back
@@ -51,7 +51,7 @@ still_back old new back before after a b e is of_old of_new =
     subst (λ (h : Hand). IsOf h before) (sym (is (sym made.same))) made.of
 
 -- an end of which something is known is owned
-owned_there : (o : Option Held) (f : Facts) → option_map facts o ≡ Some f → o ≡ Some (held_of o)
+owned_there : (o : Option EndFacts) (f : Facts) → option_map facts o ≡ Some f → o ≡ Some (held_of o)
 owned_there None f e = absurd (cc)
 owned_there (Some h) f e = refl
 

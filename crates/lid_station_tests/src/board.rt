@@ -4,10 +4,10 @@ ghost use Rattle.std.specs.Prelude.{◌≡◌, ℕ, ◌^◌, ◌<◌, ◌≤◌,
 ghost use Rattle.std.specs.List.{All};
 ghost use Rattle.std.specs.Thread.{IsSync};
 ghost use Rattle.lid_station.specs.Boards.{fill, IsServed};
-ghost use Rattle.lid_board.specs.Owners.{IsOf, IsOwned, ends_of, plan_of};
+ghost use Rattle.lid_board.specs.Owners.{IsOf, IsOwned, ends_of, start_ends};
 ghost use Rattle.lid_board.specs.Parting.{side_number};
 ghost use Rattle.lid_board.specs.Relation.{stream_of};
-ghost use Rattle.lid_board.specs.Standing.{StandsFor};
+ghost use Rattle.lid_board.specs.Standing.{AreStreamsOf};
 ghost use Rattle.lid_board.specs.Views.{at};
 
 use lid_board::{Attended, Board, Course, Hand};
@@ -40,7 +40,7 @@ fn start_same(alloc: Global, cap: u32, course: &Same) -> Option<(Board, Hand)>
     requires two { 2 ≤ cap }
     requires few { cap ≤ 16 }
     ensures of { IfSome result (λ r. IsOf r.1 r.0) }
-    ensures stands { IfSome result (λ r. StandsFor (plan_of r.0) (λ _. course.now.stream.now)) }
+    ensures stands { IfSome result (λ r. AreStreamsOf (start_ends r.0) (λ _. course.now.stream.now)) }
 {
     if !is_stream(course.stream) {
         return None;
@@ -83,7 +83,7 @@ fn count_at(hand: &Hand, station: u32, side: Side) -> Option<u64>
 /// Looks for room at a station, and puts the stream's next token where there are both.
 fn offer(board: &Board, hand: &mut Hand, station: u32, stream: &[u32]) -> Option<OutLook>
     requires of { IsOf hand.old board.now }
-    requires stream { fill station < length (plan_of board.now) → stream_of (plan_of board.now) station ≡ stream.now }
+    requires stream { fill station < length (start_ends board.now) → stream_of (start_ends board.now) station ≡ stream.now }
     ensures of { IsOf hand.new board.now }
     ensures owned { (end : ℕ) → IsOwned (ends_of hand.old) end → IsOwned (ends_of hand.new) end }
 {
@@ -149,7 +149,7 @@ fn received(look: InLook) -> (InLook, Option<u32>) {
 
 fn is_as_told(board: &Board, hand: &mut Hand, station: u32, stream: &[u32], step: Step) -> bool
     requires of { IsOf hand.old board.now }
-    requires stream { fill station < length (plan_of board.now) → stream_of (plan_of board.now) station ≡ stream.now }
+    requires stream { fill station < length (start_ends board.now) → stream_of (start_ends board.now) station ≡ stream.now }
     ensures of { IsOf hand.new board.now }
     ensures owned { (end : ℕ) → IsOwned (ends_of hand.old) end → IsOwned (ends_of hand.new) end }
 {
@@ -169,7 +169,7 @@ fn first_other(
     steps: &[Step],
 ) -> usize
     requires of { IsOf hand.old board.now }
-    requires stream { fill station < length (plan_of board.now) → stream_of (plan_of board.now) station ≡ stream.now }
+    requires stream { fill station < length (start_ends board.now) → stream_of (start_ends board.now) station ≡ stream.now }
     ensures of { IsOf hand.new board.now }
     ensures owned { (end : ℕ) → IsOwned (ends_of hand.old) end → IsOwned (ends_of hand.new) end }
 {
@@ -369,7 +369,7 @@ static BEFORE: [Step; 2] = [
 /// while.
 fn told_by_two_hands(board: &Board, hand: &mut Hand) -> Option<usize>
     requires of { IsOf hand.old board.now }
-    requires stream { stream_of (plan_of board.now) 1 ≡ 0 ∷ 1 ∷ [] }
+    requires stream { stream_of (start_ends board.now) 1 ≡ 0 ∷ 1 ∷ [] }
     ensures of { IsOf hand.new board.now }
 {
     let before = first_other(board, hand, 1, &[0, 1], &BEFORE);
@@ -418,7 +418,7 @@ fn an_end_goes_to_another_hand_and_back(rt: HostRuntime) {
 /// Offers tokens to station 0 so many times.
 fn fill_some(board: &Board, mut hand: Hand, tries: u32, stream: &[u32]) -> Hand
     requires of { IsOf hand board.now }
-    requires stands { StandsFor (plan_of board.now) (λ _. stream.now) }
+    requires stands { AreStreamsOf (start_ends board.now) (λ _. stream.now) }
     ensures { IsOf result board.now }
 {
     for _try in 0..tries {
@@ -477,7 +477,7 @@ enum Carried {
 /// Carries a token from a station to another of the same stream, where it can.
 fn carry(board: &Board, hand: &mut Hand, from: u32, to: u32, stream: &[u32]) -> Option<Carried>
     requires of { IsOf hand.old board.now }
-    requires stands { StandsFor (plan_of board.now) (λ _. stream.now) }
+    requires stands { AreStreamsOf (start_ends board.now) (λ _. stream.now) }
     ensures { IsOf hand.new board.now }
 {
     let Some(room) = look_for_room(board, hand, to, stream) else {
@@ -512,7 +512,7 @@ fn is_told_of_sevens(carried: Carried) -> bool {
 /// were told something else than stations of two places tell.
 fn carry_some(board: &Board, mut hand: Hand, from: u32, to: u32, stream: &[u32]) -> (Hand, u32)
     requires of { IsOf hand board.now }
-    requires stands { StandsFor (plan_of board.now) (λ _. stream.now) }
+    requires stands { AreStreamsOf (start_ends board.now) (λ _. stream.now) }
     ensures { IsOf result.0 board.now }
 {
     let mut wrong = 0u32;
@@ -548,7 +548,7 @@ struct Task {
 /// stream's, or how many tries to carry were told something else.
 fn do_work(board: &Board, task: Task, stream: &[u32]) -> (Hand, u32)
     requires of { IsOf task.hand board.now }
-    requires stands { StandsFor (plan_of board.now) (λ _. stream.now) }
+    requires stands { AreStreamsOf (start_ends board.now) (λ _. stream.now) }
     ensures { IsOf result.0 board.now }
 {
     let Task { hand, work } = task;
@@ -569,18 +569,18 @@ fn do_both<R: Threads + Sync>(
 ) -> (Hand, Hand, u32)
     requires one { IsOf one.hand board.now }
     requires two { IsOf two.hand board.now }
-    requires stands { StandsFor (plan_of board.now) (λ _. stream.now) }
+    requires stands { AreStreamsOf (start_ends board.now) (λ _. stream.now) }
     ensures one { IsOf result.0 board.now }
     ensures two { IsOf result.1 board.now }
 {
     let ((one, wrong), (two, more)) = join(
         rt,
         move || -> (Hand, u32)
-            requires { IsOf one.hand board.now × StandsFor (plan_of board.now) (λ _. stream.now) }
+            requires { IsOf one.hand board.now × AreStreamsOf (start_ends board.now) (λ _. stream.now) }
             ensures { IsOf result.0 board.entry.now }
         { do_work(board, one, stream) },
         move || -> (Hand, u32)
-            requires { IsOf two.hand board.now × StandsFor (plan_of board.now) (λ _. stream.now) }
+            requires { IsOf two.hand board.now × AreStreamsOf (start_ends board.now) (λ _. stream.now) }
             ensures { IsOf result.0 board.entry.now }
         { do_work(board, two, stream) },
     );
@@ -595,7 +595,7 @@ fn relayed<R: Threads + Sync>(
     stream: &[u32],
 ) -> Option<(Hand, u32)>
     requires of { IsOf hand board.now }
-    requires stands { StandsFor (plan_of board.now) (λ _. stream.now) }
+    requires stands { AreStreamsOf (start_ends board.now) (λ _. stream.now) }
     ensures { IfSome result (λ r. IsOf r.0 board.now) }
 {
     let end = End {
@@ -626,7 +626,7 @@ fn found_after(
     stream: &[u32],
 ) -> Option<(InLook, Option<u32>)>
     requires of { IsOf hand board.now }
-    requires stands { StandsFor (plan_of board.now) (λ _. stream.now) }
+    requires stands { AreStreamsOf (start_ends board.now) (λ _. stream.now) }
 {
     for _round in 0..rounds {
         let _look = offer(board, &mut hand, 0, stream);
@@ -681,7 +681,7 @@ fn do_all<R: Threads + Sync>(
     requires two { IsOf two.hand board.now }
     requires three { IsOf three.hand board.now }
     requires four { IsOf four.hand board.now }
-    requires stands { StandsFor (plan_of board.now) (λ _. stream.now) }
+    requires stands { AreStreamsOf (start_ends board.now) (λ _. stream.now) }
     ensures one { IsOf result.0.0 board.now }
     ensures two { IsOf result.0.1 board.now }
     ensures three { IsOf result.1.0 board.now }
@@ -690,11 +690,11 @@ fn do_all<R: Threads + Sync>(
     join(
         rt,
         move || -> (Hand, Hand, u32)
-            requires { IsSync R.row × IsOf one.hand board.now × IsOf two.hand board.now × StandsFor (plan_of board.now) (λ _. stream.now) }
+            requires { IsSync R.row × IsOf one.hand board.now × IsOf two.hand board.now × AreStreamsOf (start_ends board.now) (λ _. stream.now) }
             ensures { IsOf result.0 board.entry.now × IsOf result.1 board.entry.now }
         { do_both(rt, board, one, two, stream) },
         move || -> (Hand, Hand, u32)
-            requires { IsSync R.row × IsOf three.hand board.now × IsOf four.hand board.now × StandsFor (plan_of board.now) (λ _. stream.now) }
+            requires { IsSync R.row × IsOf three.hand board.now × IsOf four.hand board.now × AreStreamsOf (start_ends board.now) (λ _. stream.now) }
             ensures { IsOf result.0 board.entry.now × IsOf result.1 board.entry.now }
         { do_both(rt, board, three, four, stream) },
     )
@@ -765,7 +765,7 @@ fn carried_round<R: Threads + Sync>(
     stream: &[u32],
 ) -> Option<(Hand, u32)>
     requires of { IsOf hand board.now }
-    requires stands { StandsFor (plan_of board.now) (λ _. stream.now) }
+    requires stands { AreStreamsOf (start_ends board.now) (λ _. stream.now) }
 {
     let Some((one, two)) = two_workers(board, &mut hand, 0, 1, 2) else {
         return None;

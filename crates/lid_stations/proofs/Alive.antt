@@ -5,8 +5,8 @@ use Rattle.lid_graph.specs.declared.graph.Edge.{Edge}
 use Rattle.lid_graph.specs.declared.graph.Graph.{Graph}
 use Rattle.lid_graph.specs.Walks.{edge_at, AreEndsPaired, HasSelfEdge, WalksHaveTokens}
 use Rattle.lid_graph.specs.Rateable.{IsRateable}
-use Rattle.lid_firings.specs.Laws.{RiseWithoutTokens}
-use Rattle.lid_firings.proofs.Alive.{numbers_show_tokens}
+use Rattle.lid_graph_laws.specs.Laws.{RiseWithoutTokens}
+use Rattle.lid_graph_laws.proofs.Alive.{numbers_show_tokens}
 use Rattle.lid_system.specs.declared.System.{System}
 use Rattle.lid_system.specs.Systems.{IsWellFormed}
 use Rattle.lid_stations.specs.declared.placement.Placement.{Placement}

@@ -2,12 +2,11 @@
 use Rattle.std.proofs.Common.{◌≡◌, ℕ, suc, ◌+◌, ◌-◌, ◌*◌, ◌<◌, ◌≤◌, ◌⊎◌, inl, inr, List, [], ◌∷◌, ◌++◌, length, take, get_or, flat_map, refl, sym, ◌∙◌, ap, subst, arith}
 use Rattle.std.proofs.lemmas.Bool.{cases_lt}
 use Rattle.std.proofs.lemmas.List.{length-append, get_or_default, get_or_append_left, get_or-append-add}
-use Rattle.lid_design.specs.Network.{from_each}
+use Rattle.lid_base.specs.Each.{from_each}
 use Rattle.lid_graph.specs.declared.graph.Edge.{Edge}
 use Rattle.lid_graph.specs.declared.graph.Graph.{Graph}
 use Rattle.lid_graph.specs.Walks.{no_edge, edge_at}
 use Rattle.lid_system.specs.declared.System.{System}
-use Rattle.lid_system.proofs.Shelling.{each_length, each_at}
 use Rattle.lid_stations.specs.declared.placement.Placement.{Placement}
 use Rattle.lid_stations.specs.Placements.{links_of, station_count}
 use Rattle.lid_stations.specs.Stations.{Spot, actor_count, fills, drains, starts, filler, drainer, start_count, capacity}
@@ -15,6 +14,7 @@ use Rattle.lid_stations.specs.Markings.{forth, back, station_edges, self_edge, m
 use Rattle.lid_stations.specs.Laws.{HasTwoEdges}
 use Rattle.lid_stations.proofs.Parts.{two_each, two_each_next, two_each_length, half_of}
 use Rattle.lid_stations.proofs.Spots.{spot_is}
+use Rattle.lid_base.proofs.Each.{each_length, each_at}
 
 abbrev pub two_edges : ℕ → ℕ → ℕ → ℕ → List Edge
 two_edges from to tokens capacity = record { from = from; to = to; tokens = tokens } ∷ record { from = to; to = from; tokens = capacity - tokens } ∷ []

@@ -1,11 +1,12 @@
 -- Numbers that count on over the parts of a list, and lists that are made from numbers.
-use Rattle.std.proofs.Common.{◌≡◌, ℕ, zero, suc, ◌+◌, ◌-◌, ◌<◌, ◌≤◌, ◌⊎◌, inl, inr, List, [], ◌∷◌, ◌++◌, length, take, get_or, flat_map, refl, sym, ◌∙◌, ap, append_assoc, append-nil, zero-add, arith}
+use Rattle.std.proofs.Common.{◌≡◌, ℕ, zero, suc, ◌+◌, ◌-◌, ◌<◌, ◌≤◌, ◌⊎◌, inl, inr, List, [], ◌∷◌, ◌++◌, length, take, get_or, flat_map, refl, sym, ◌∙◌, ap, append_assoc, append-nil, arith}
 use Rattle.std.specs.List.{sum_by}
 use Rattle.std.proofs.lemmas.Bool.{cases_lt}
 use Rattle.std.proofs.lemmas.Grind.{flat_map-append}
-use Rattle.std.proofs.lemmas.List.Sums.{sum_by-cons, sum_by_more_le}
-use Rattle.std.proofs.lemmas.List.{take-take, get_or-take, length-take-le}
-use Rattle.lid_design.specs.Network.{from_each}
+use Rattle.std.proofs.lemmas.List.Sums.{sum_by-cons}
+use Rattle.lid_base.specs.Each.{from_each}
+use Rattle.lid_base.proofs.Sums.{sum_part}
+use Rattle.lid_base.proofs.Each.{each_append}
 
 -- where parts hold f of each item, number n is the i-th of part c
 pub record IsInPart (f : ℕ → ℕ) (xs : List ℕ) (n c i : ℕ) : Type 0 where
@@ -38,14 +39,6 @@ part_of f (x ∷ xs) n h = by_first (cases_lt n (f x)) (λ less. part_of f xs (n
     by_first (inl less) rest = record { part = 0; place = n; is = record { below = omega arith; within = less; number = omega arith } }
     by_first (inr more) rest = later more (rest (let s = sum_by-cons f x xs in omega arith))
 
--- parts before a part end before it
-before_part : (f : ℕ → ℕ) (xs : List ℕ) (c d : ℕ) → c < d → d ≤ length xs → sum_by f (take c xs) + f (get_or xs c 0) ≤ sum_by f (take d xs)
-before_part f xs c d less most =
-    let whole : sum_by f (take c (take d xs)) + f (get_or (take d xs) c 0) ≤ sum_by f (take d xs) = sum_by_more_le f (take d xs) c 0 (let l = length-take-le d xs most in omega arith) in
-    let first : sum_by f (take c (take d xs)) ≡ sum_by f (take c xs) = ap (sum_by f) (take-take c d xs (omega arith)) in
-    let next : f (get_or (take d xs) c 0) ≡ f (get_or xs c 0) = ap f (get_or-take d xs c 0 less) in
-    omega arith
-
 -- and in one alone
 pub one_part : (f : ℕ → ℕ) (xs : List ℕ) (n c i d j : ℕ) → IsInPart f xs n c i → IsInPart f xs n d j → (c ≡ d) × (i ≡ j)
 one_part f xs n c i d j p q = by_order (cases_lt c d) (cases_lt d c)
@@ -54,16 +47,9 @@ one_part f xs n c i d j p q = by_order (cases_lt c d) (cases_lt d c)
     level e = (e, (let same : sum_by f (take c xs) ≡ sum_by f (take d xs) = ap (λ (k : ℕ). sum_by f (take k xs)) e in let a = p.number in let b = q.number in omega arith))
 
     by_order : (c < d) ⊎ (d ≤ c) → (d < c) ⊎ (c ≤ d) → (c ≡ d) × (i ≡ j)
-    by_order (inl less) other = absurd (omega (arith, before_part f xs c d less (let b = q.below in omega arith), p.number, p.within, q.number))
-    by_order (inr more) (inl less) = absurd (omega (arith, before_part f xs d c less (let b = p.below in omega arith), q.number, q.within, p.number))
+    by_order (inl less) other = absurd (omega (arith, sum_part f xs c d less (let b = q.below in omega arith), p.number, p.within, q.number))
+    by_order (inr more) (inl less) = absurd (omega (arith, sum_part f xs d c less (let b = p.below in omega arith), q.number, q.within, p.number))
     by_order (inr more) (inr less) = level (omega arith)
-
--- a list of f at numbers, in two parts
-pub each_more : {A : Type 0} (f : ℕ → A) (k m n : ℕ) → from_each f k (m + n) ≡ from_each f k m ++ from_each f (k + m) n
-each_more {A} f k zero n = ap (from_each f k) (zero-add n) ∙ (let e : k ≡ k + 0 = omega arith in ap (λ (j : ℕ). from_each f j n) e)
-each_more {A} f k (suc m) n =
-    (let e : suc m + n ≡ suc (m + n) = omega arith in ap (from_each f k) e)
-    ∙ ap (λ (xs : List A). f k ∷ xs) (each_more f (k + 1) m n ∙ (let e : (k + 1) + m ≡ k + suc m = omega arith in ap (λ (j : ℕ). from_each f (k + 1) m ++ from_each f j n) e))
 
 -- what is appended for further numbers
 pub grown : {A : Type 0} (f : ℕ → List A) (old es news : List A) (k m n : ℕ) → es ≡ old ++ flat_map f (from_each (λ j. j) k m) → news ≡ es ++ flat_map f (from_each (λ j. j) (k + m) n) → news ≡ old ++ flat_map f (from_each (λ j. j) k (m + n))
@@ -71,7 +57,7 @@ grown {A} f old es news k m n was is =
     is
     ∙ ap (λ (xs : List A). xs ++ flat_map f (from_each (λ j. j) (k + m) n)) was
     ∙ append_assoc old (flat_map f (from_each (λ j. j) k m)) (flat_map f (from_each (λ j. j) (k + m) n))
-    ∙ ap (λ (xs : List A). old ++ xs) (sym (flat_map-append f (from_each (λ j. j) k m) (from_each (λ j. j) (k + m) n)) ∙ ap (flat_map f) (sym (each_more (λ j. j) k m n)))
+    ∙ ap (λ (xs : List A). old ++ xs) (sym (flat_map-append f (from_each (λ j. j) k m) (from_each (λ j. j) (k + m) n)) ∙ ap (flat_map f) (sym (each_append (λ j. j) k m n)))
 
 pub grown_one : {A : Type 0} (f : ℕ → List A) (old es news : List A) (k m : ℕ) → es ≡ old ++ flat_map f (from_each (λ j. j) k m) → news ≡ es ++ f (k + m) → news ≡ old ++ flat_map f (from_each (λ j. j) k (m + 1))
 grown_one {A} f old es news k m was is = grown f old es news k m 1 was (is ∙ ap (λ (xs : List A). es ++ xs) (sym (append-nil (f (k + m)))))

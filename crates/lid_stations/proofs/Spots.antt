@@ -7,12 +7,12 @@ use Rattle.std.proofs.lemmas.List.Sums.{sum_by-cons, sum_by_more_le}
 use Rattle.lid_base.proofs.Lists.{all_among, among_at}
 use Rattle.lid_system.specs.declared.System.{System}
 use Rattle.lid_system.specs.Systems.{IsWellFormed, IsChannel}
-use Rattle.lid_system.proofs.Shelling.{each_length, each_at}
 use Rattle.lid_stations.specs.declared.placement.Placement.{Placement}
 use Rattle.lid_stations.specs.Placements.{links_of, station_count, IsCapacity, Fits}
 use Rattle.lid_stations.specs.Stations.{Spot, spots_on, spots_from, spot_at, relay_count, actor_count, mover, no_channel, channel_at, fills, drains, starts, filler, drainer, capacity}
 use Rattle.lid_stations.specs.Laws.{StandsAt, StandsBetween}
 use Rattle.lid_stations.proofs.Parts.{HasPart, part_of}
+use Rattle.lid_base.proofs.Each.{each_length, each_at}
 
 -- there is a relay station less on each channel than there are stations
 pub fewer_relays : (relays : List ℕ) → station_count relays ≡ relay_count relays + length relays
@@ -84,9 +84,6 @@ mover_below s p c i below within = omega (arith, sum_by_more_le (λ (k : ℕ). k
 module _ (s : System) (p : Placement) (well : IsWellFormed s) (fits : Fits s p) where
   pub few_actors : actor_count (links_of s) p ≤ 69634
   few_actors = omega (arith, well.most, fits.rules.most, fewer_relays p.relays)
-
-  pub few_relays : (c : ℕ) → c < length p.relays → get_or p.relays c 0 ≤ 64
-  few_relays c below = All-get_or (λ k. k ≤ 64) p.relays c 0 below fits.rules.few
 
   pub few_movers : (c i : ℕ) → c < length p.relays → i ≤ get_or p.relays c 0 → mover (links_of s) p c i ≤ 69634
   few_movers c i below within = omega (arith, few_actors, sum_by_more_le (λ (k : ℕ). k) p.relays c 0 below)

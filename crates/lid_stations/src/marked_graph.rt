@@ -2,7 +2,7 @@
 
 ghost use Rattle.std.specs.Prelude.{◌≡◌, ◌<◌, ◌≤◌, ◌+◌, ◌-◌, ◌++◌, [], ◌∷◌, length, take, slice_index_or, IfOk, OnOk};
 ghost use Rattle.std.specs.List.{flat_map};
-ghost use Rattle.lid_design.specs.Network.{from_each};
+ghost use Rattle.lid_base.specs.Each.{from_each};
 ghost use Rattle.lid_graph.specs.declared.graph.Edge.{Edge};
 ghost use Rattle.lid_graph.specs.Rateable.{IsRateable};
 ghost use Rattle.lid_graph.specs.Walks.{WalksHaveTokens};

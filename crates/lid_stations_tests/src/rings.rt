@@ -5,9 +5,9 @@ ghost use Rattle.lid_system.specs.Systems.{IsWellFormed};
 ghost use Rattle.lid_stations.specs.Placements.{IsCapacity, Fits};
 
 use lid_graph::{Edge, Graph};
-use lid_settings::{RING, placement_of, system_of};
 use lid_stations::{Placement, marking, none};
 use lid_system::System;
+use lid_tests_fixtures::{RING, placement_of, system_of};
 use std::alloc::Global;
 
 /// From where an edge leads, and to where.

@@ -1,43 +1,34 @@
 -- An accepted design drives each of its columns once, reads only columns, and has no walk without end.
-use Rattle.std.proofs.Common.{◌≡◌, ℕ, zero, suc, ◌+◌, ◌<◌, List, [], ◌∷◌, ◌++◌, length, map, Option, Some, None, slice_get, inl, inr, refl, sym, ◌∙◌, ap, subst, arith, zero-add}
+use Rattle.std.proofs.Common.{◌≡◌, ℕ, suc, ◌<◌, List, [], ◌∷◌, ◌++◌, length, map, Option, Some, None, slice_get, inl, inr, refl, sym, ◌∙◌, ap, subst, arith, zero-add}
 use Rattle.std.specs.Option.{option_map_or}
 use Rattle.std.proofs.lemmas.Option.{slice_get-get_or}
 use Rattle.lid_base.specs.Lists.{Among}
 use Rattle.lid_base.proofs.Lists.{map_among, get_among, among_get, all_among, then_some}
 use Rattle.lid_design.specs.declared.Design.{Design}
 use Rattle.lid_design.specs.declared.Model.{Model}
-use Rattle.lid_design.specs.Network.{Driver, from_input, from_latch, from_cover, from_connection, from_each}
+use Rattle.lid_design.specs.Network.{Driver, from_input, from_latch, from_cover, from_connection}
+use Rattle.lid_base.specs.Each.{from_each}
 use Rattle.lid_design.specs.Columns.{Column, column, drivers}
 use Rattle.lid_design.specs.Walks.{read_now, read_before, IsDriven, IsDrivenOnce, AreReadsDriven, WalksEnd, HasTable, HasOneTable}
 use Rattle.lid_design.specs.Models.{nets, insts_of, number_named, instance_number, number_from, data_inputs_of}
 use Rattle.lid_design.specs.Elaboration.{columns, model_nets}
 use Rattle.lid_design.specs.Loops.{HasNoLoop}
 use Rattle.lid_design.proofs.Tables.{has_table, has_one_table}
-use Rattle.lid_elab.specs.Elaborations.{map_driver, column_at}
-use Rattle.lid_elab.specs.Numbers.{offset_of, start_of}
-use Rattle.lid_wiring.specs.Locals.{actual_for}
-use Rattle.lid_elab.specs.Templates.{place_in, numbered, placed}
-use Rattle.lid_wiring.specs.Judged.{IsJudged}
-use Rattle.lid_elab.specs.Scopes.{IsOnlyDriver, IsOuter}
-use Rattle.lid_elab.proofs.Located.{Located, located}
-use Rattle.lid_elab.proofs.Outer.{fits}
-use Rattle.lid_wiring.proofs.Single.{exactly_one}
-use Rattle.lid_elab.proofs.Placed.{net_right}
-use Rattle.lid_elab.proofs.Every.{driven_column}
+use Rattle.lid_check_elab.specs.Elaborations.{map_driver, column_at}
+use Rattle.lid_check_elab.specs.Numbers.{offset_of, start_of}
+use Rattle.lid_check_drivers.specs.Locals.{actual_for}
+use Rattle.lid_check_elab.specs.Templates.{place_in, net_by_place, placed_driver}
+use Rattle.lid_check_drivers.specs.Judged.{IsJudged}
+use Rattle.lid_check_elab.specs.Scopes.{IsOnlyDriver, IsOuter}
+use Rattle.lid_check_elab.proofs.Located.{Located, located}
+use Rattle.lid_check_elab.proofs.Outer.{fits}
+use Rattle.lid_check_drivers.proofs.Single.{exactly_one}
+use Rattle.lid_check_elab.proofs.Placed.{net_right}
+use Rattle.lid_check_elab.proofs.Every.{driven_column}
 use Rattle.lid_check.proofs.Descent.{walks_end}
-use Rattle.lid_wiring.proofs.Told.{told_by_model}
-use Rattle.lid_strict.proofs.Outputs.{from_each_long}
+use Rattle.lid_check_drivers.proofs.Told.{told_by_model}
 use Rattle.lid_strict.proofs.Tables.{once_by}
-
-from_each_at : (f : ℕ → ℕ) (k n i o : ℕ) → slice_get (from_each f k n) i ≡ Some o → o ≡ f (k + i)
-from_each_at f k zero i o here = absurd (let e : None ≡ Some o = here in cc)
-from_each_at f k (suc n) zero o here =
-    let first : f k ≡ o = (let e : Some (f k) ≡ Some o = here in cc) in
-    let alike : k ≡ k + 0 = omega arith in
-    sym first ∙ ap f alike
-from_each_at f k (suc n) (suc i) o here =
-    let next : (k + 1) + i ≡ k + suc i = omega arith in
-    from_each_at f (k + 1) n i o here ∙ ap f next
+use Rattle.lid_base.proofs.Each.{each_length, get_each}
 
 reads_mapped : {A B : Type 0} (f : A → B) (s : Driver A) → read_now (map_driver f s) ++ read_before (map_driver f s) ≡ map f (read_now s ++ read_before s)
 reads_mapped f (from_input j) = refl
@@ -71,10 +62,10 @@ module _ (d : Design) (judged : IsJudged d) where
           let one = exactly_one d judged at.model (c.path, at.leads) m e c.net among in
           let around = around_at c.path at.model at.leads in
           let count = length m.insts in (
-            placed (start_of d c.path) (from_each (offset_of d at.model) 0 count) around.0 (numbered d at.model one.0),
+            placed_driver (start_of d c.path) (from_each (offset_of d at.model) 0 count) around.0 (net_by_place d at.model one.0),
             net_right d judged c.path at.model m at.leads e (from_each (offset_of d at.model) 0 count)
-                (λ i o is. from_each_at (offset_of d at.model) 0 count i o is ∙ ap (offset_of d at.model) (zero-add i))
-                (from_each_long (offset_of d at.model) 0 count)
+                (λ i o is. get_each (offset_of d at.model) 0 count i o is ∙ ap (offset_of d at.model) (zero-add i))
+                (each_length (offset_of d at.model) 0 count)
                 around.0 (fits d c.path at.model around.0 judged around.1) c.net among one.0 one.1,
           )
 

@@ -12,22 +12,19 @@ use Rattle.lid_design.specs.declared.FlatCover.{FlatCover}
 use Rattle.lid_design.specs.Network.{Driver, from_input, from_latch, from_cover, from_connection, Table, IsStrict, bit_of, latch_bit}
 use Rattle.lid_design.specs.Walks.{read_now, read_before}
 use Rattle.lid_design.specs.Flat.{latch_out, latch_input, latch_init, ReadEarlier, IsRow}
-use Rattle.lid_digraph.specs.Graphs.{reads_at, IsOrder}
-use Rattle.lid_elab.specs.declared.driver.ColumnDriver.{ColumnDriver}
-use Rattle.lid_elab.specs.Elaborations.{shown_driver}
-use Rattle.lid_flatten.specs.Inner.{buffer, latches_of, cells_of}
-use Rattle.lid_flatten.proofs.Lists.{all_of_each, all_flat, pushed_more}
-use Rattle.lid_flatten.proofs.Earlier.{Gives, read_earlier}
-use Rattle.lid_flatten.proofs.Looping.{buffered}
-use Rattle.lid_settle.specs.Rows.{bit_at, after}
-use Rattle.lid_settle.proofs.Settling.{after_keeps, after_has}
-use Rattle.lid_strict.specs.Networks.{driver_of, reads_of, AreHeldBelow}
-use Rattle.lid_strict.specs.Layouts.{driver_at, input_nets, input_places, nets_in, places_in, latches_in, cells_in, IsLaidOut, known_first, IsRunnable, held_bits, FitsTable}
+use Rattle.lid_check_digraph.specs.Graphs.{reads_at, IsOrder}
+use Rattle.lid_check_elab.specs.declared.driver.ColumnDriver.{ColumnDriver}
+use Rattle.lid_check_elab.specs.Elaborations.{shown_driver}
+use Rattle.lid_check_parts.specs.Inner.{buffer, latches_of, driver_covers}
+use Rattle.lid_check_parts.proofs.Lists.{pushed_more}
+use Rattle.lid_check_parts.proofs.Earlier.{Gives, read_earlier}
+use Rattle.lid_check_parts.proofs.Looping.{buffered}
+use Rattle.lid_strict_engine.specs.Rows.{bit_at, after}
+use Rattle.lid_strict_engine.proofs.Settling.{after_keeps, after_has}
+use Rattle.lid_strict.specs.Networks.{driver_list, reads_of, AreHeldBelow}
+use Rattle.lid_strict.specs.Layouts.{driver_at, input_nets, input_places, nets_in, places_in, latches_in, network_covers, IsLaidOut, known_first, IsRunnable, held_bits, FitsTable}
 use Rattle.lid_strict.specs.declared.layout.Layout.{Layout}
-
-all_map : {A B : Type 0} (P : B → Type 0) (f : A → B) (xs : List A) → AllByRecursion (λ x. P (f x)) xs → AllByRecursion P (map f xs)
-all_map P f [] all = tt
-all_map P f (x ∷ xs) all = (all.0, all_map P f xs all.1)
+use Rattle.lid_base.proofs.Alls.{all_from_among, all_flat, all_map}
 
 -- what is laid out so far, with what of one number more
 pub laid_next : {B : Type 0} (g : ℕ → Driver ℕ → List B) (network : List (Driver ℕ)) (order : List ℕ) (i : ℕ) → i < length order → (s : Driver ℕ) → s ≡ driver_at network (slice_index_or order i 0) → (old new : List B) → old ≡ flat_map (λ k. g k (driver_at network k)) (take i order) → new ≡ old ++ g (slice_index_or order i 0) s → new ≡ flat_map (λ k. g k (driver_at network k)) (take (i + 1) order)
@@ -50,7 +47,7 @@ module _ (rows : List (List Bool)) (b : Table ℕ) (t : ℕ) where
   abbrev Has : ℕ → Driver ℕ → Type 0
   Has k s = b t k ≡ bit_of rows b t s
 
-  has_cells : (k : ℕ) (s : Driver ℕ) → Has k s → IsRow (cells_of k s) (b t)
+  has_cells : (k : ℕ) (s : Driver ℕ) → Has k s → IsRow (driver_covers k s) (b t)
   has_cells k (from_input j) e = tt
   has_cells k (from_latch first input) e = tt
   has_cells k (from_cover cover inputs) e = (e, tt)
@@ -131,13 +128,13 @@ module _ (network : List (Driver ℕ)) (order : List ℕ) (ordered : IsOrder (re
   reads_below : (i : ℕ) → i < length order → AllByRecursion (λ a. a < length network) (read_now (driver_at network (slice_index_or order i 0)))
   reads_below i h =
       let k = slice_index_or order i 0 in
-      all_of_each (λ a. a < length network) (read_now (driver_at network k)) (λ a among. order_below a (subst (Among a) (take-append-drop i order) (among_left a (take i order) (drop i order) (ordered.earlier i a h (subst (Among a) (sym (reads_here network k)) among)))))
+      all_from_among (λ a. a < length network) (read_now (driver_at network k)) (λ a among. order_below a (subst (Among a) (take-append-drop i order) (among_left a (take i order) (drop i order) (ordered.earlier i a h (subst (Among a) (sym (reads_here network k)) among)))))
 
   abbrev base : List ℕ
   base = nets_in network order ++ (map latch_out (latches_in network order) ++ [])
 
   -- what gives a number its bit: it is known before any cover is run, or a cover gives it by what stands earlier
-  gives : (k : ℕ) → Among k order → (s : Driver ℕ) → driver_at network k ≡ s → Gives (reads_of network) base k (cells_of k s)
+  gives : (k : ℕ) → Among k order → (s : Driver ℕ) → driver_at network k ≡ s → Gives (reads_of network) base k (driver_covers k s)
   gives k among (from_input j) is =
       among_left k (nets_in network order) (map latch_out (latches_in network order) ++ [])
       (among_flat (λ k. input_nets k (driver_at network k)) k k order among (subst (λ (s : Driver ℕ). Among k (input_nets k s)) (sym is) (inl refl)))
@@ -150,19 +147,19 @@ module _ (network : List (Driver ℕ)) (order : List ℕ) (ordered : IsOrder (re
   gives k among (from_cover cover inputs) is = (refl, λ a read. subst (Among a) (sym (reads_here network k ∙ ap read_now is)) read)
   gives k among (from_connection other) is = (refl, λ a read. subst (Among a) (sym (reads_here network k ∙ ap read_now is)) read)
 
-  pub earlier : ReadEarlier base (cells_in network order)
-  earlier = read_earlier (reads_of network) order ordered (λ k. cells_of k (driver_at network k)) base (λ k among. gives k among (driver_at network k) refl)
+  pub earlier : ReadEarlier base (network_covers network order)
+  earlier = read_earlier (reads_of network) order ordered (λ k. driver_covers k (driver_at network k)) base (λ k among. gives k among (driver_at network k) refl)
 
-  cell_known : (k : ℕ) → Among k order → (s : Driver ℕ) → driver_at network k ≡ s → (c : FlatCover) → Among c (cells_of k s) → Among c.out (after base (cells_in network order))
-  cell_known k among s is c cell = after_has base (cells_in network order) c (among_flat (λ k. cells_of k (driver_at network k)) k c order among (subst (λ (s : Driver ℕ). Among c (cells_of k s)) (sym is) cell))
+  cell_known : (k : ℕ) → Among k order → (s : Driver ℕ) → driver_at network k ≡ s → (c : FlatCover) → Among c (driver_covers k s) → Among c.out (after base (network_covers network order))
+  cell_known k among s is c cell = after_has base (network_covers network order) c (among_flat (λ k. driver_covers k (driver_at network k)) k c order among (subst (λ (s : Driver ℕ). Among c (driver_covers k s)) (sym is) cell))
 
-  known_by : (k : ℕ) → Among k order → (s : Driver ℕ) → driver_at network k ≡ s → Among k (after base (cells_in network order))
-  known_by k among (from_input j) is = after_keeps base (cells_in network order) k (gives k among (from_input j) is)
-  known_by k among (from_latch first input) is = after_keeps base (cells_in network order) k (gives k among (from_latch first input) is)
+  known_by : (k : ℕ) → Among k order → (s : Driver ℕ) → driver_at network k ≡ s → Among k (after base (network_covers network order))
+  known_by k among (from_input j) is = after_keeps base (network_covers network order) k (gives k among (from_input j) is)
+  known_by k among (from_latch first input) is = after_keeps base (network_covers network order) k (gives k among (from_latch first input) is)
   known_by k among (from_cover cover inputs) is = cell_known k among (from_cover cover inputs) is (record { ins = inputs; out = k; cover = cover }) (inl refl)
   known_by k among (from_connection other) is = cell_known k among (from_connection other) is (record { ins = other ∷ []; out = k; cover = buffer }) (inl refl)
 
-  pub all_known : (k : ℕ) → k < length network → Among k (after base (cells_in network order))
+  pub all_known : (k : ℕ) → k < length network → Among k (after base (network_covers network order))
   all_known k h = known_by k (ordered.all k (let long = length-map network read_now in omega arith)) (driver_at network k) refl
 
   module _ (p : Layout) (laid : IsLaidOut network order p) where
@@ -186,16 +183,16 @@ module _ (network : List (Driver ℕ)) (order : List ℕ) (ordered : IsOrder (re
           (all_flat (λ l. l.input < length network) (λ k. latches_of k (driver_at network k)) order (λ k among. taken_below (length network) k (driver_at network k)
           (all_at (λ (s : Driver ℕ). AllByRecursion (λ a. a < length network) (read_before s)) network k (driver_at network k) below (slice_get-get_or network k (from_input 0) (order_below k among))))));
       pairs = ap length laid.places ∙ same_places network order ∙ sym (ap length laid.ins);
-      earlier = subst (ReadEarlier (known_first p)) (sym laid.covers) (subst (λ (ks : List ℕ). ReadEarlier ks (cells_in network order)) base_is earlier);
+      earlier = subst (ReadEarlier (known_first p)) (sym laid.covers) (subst (λ (ks : List ℕ). ReadEarlier ks (network_covers network order)) base_is earlier);
       all = λ k h. subst (λ (cs : List FlatCover). Among k (after (known_first p) cs)) (sym laid.covers)
-          (subst (λ (ks : List ℕ). Among k (after ks (cells_in network order))) base_is (all_known k (subst (λ (n : ℕ). k < n) laid.nets h)));
+          (subst (λ (ks : List ℕ). Among k (after ks (network_covers network order))) base_is (all_known k (subst (λ (n : ℕ). k < n) laid.nets h)));
     }
 
     -- a strict table is one of its runs
-    pub strict_fits : (rows : List (List Bool)) (b : Table ℕ) → IsStrict (driver_of network) rows b → FitsTable p rows b
+    pub strict_fits : (rows : List (List Bool)) (b : Table ℕ) → IsStrict (driver_list network) rows b → FitsTable p rows b
     strict_fits rows b strict t h = record {
       covers = subst (λ (cs : List FlatCover). IsRow cs (b t)) (sym laid.covers)
-          (all_flat (λ c. b t c.out ≡ cover_value c.cover (map (b t) c.ins)) (λ k. cells_of k (driver_at network k)) order (λ k among. has_cells rows b t k (driver_at network k) (value k among)));
+          (all_flat (λ c. b t c.out ≡ cover_value c.cover (map (b t) c.ins)) (λ k. driver_covers k (driver_at network k)) order (λ k among. has_cells rows b t k (driver_at network k) (value k among)));
       latches = subst (λ (ls : List FlatLatch). map (b t) (map latch_out ls) ≡ held_bits ls b t) (sym laid.latches)
           (held_all b t (latches_in network order) (all_flat (λ l. b t l.out ≡ latch_bit b l.init l.input t) (λ k. latches_of k (driver_at network k)) order (λ k among. has_latches rows b t k (driver_at network k) (value k among))));
       inputs = ap (map (b t)) laid.ins ∙ all_inputs rows b t network order value ∙ ap (map (bit_at (slice_index_or rows t []))) (sym laid.places);

@@ -1,40 +1,23 @@
 -- The outputs of a run are those of every strict table of the design.
-use Rattle.std.proofs.Common.{◌≡◌, ℕ, zero, suc, ◌+◌, ◌<◌, Bool, List, [], ◌∷◌, ◌++◌, length, map, Some, slice_get, refl, sym, ◌∙◌, ap, subst, arith}
+use Rattle.std.proofs.Common.{◌≡◌, ℕ, ◌<◌, Bool, List, [], ◌∷◌, length, map, Some, slice_get, refl, sym, ◌∙◌, ap, subst}
 use Rattle.std.specs.List.{AllByRecursion}
 use Rattle.std.proofs.lemmas.List.{length-map}
 use Rattle.std.proofs.lemmas.Option.{slice_get_within}
 use Rattle.lid_base.proofs.Lists.{among_get}
 use Rattle.lid_design.specs.declared.Design.{Design}
-use Rattle.lid_design.specs.Network.{Driver, Table, IsStrict, from_each}
+use Rattle.lid_design.specs.Network.{Driver, Table, IsStrict}
+use Rattle.lid_base.specs.Each.{from_each}
 use Rattle.lid_design.specs.Columns.{Column, column, root_outputs, output_row, IsStrictOutput}
 use Rattle.lid_design.specs.Walks.{read_now, read_before}
-use Rattle.lid_digraph.specs.Graphs.{IsOrder}
-use Rattle.lid_elab.specs.declared.driver.ColumnDriver.{ColumnDriver}
-use Rattle.lid_elab.specs.Elaborations.{shown_driver, column_at, IsElaborated}
-use Rattle.lid_flatten.proofs.Lists.{all_of_each}
-use Rattle.lid_flaws.proofs.Numbered.{column_here}
+use Rattle.lid_check_digraph.specs.Graphs.{IsOrder}
+use Rattle.lid_check_elab.specs.declared.driver.ColumnDriver.{ColumnDriver}
+use Rattle.lid_check_elab.specs.Elaborations.{shown_driver, column_at, IsElaborated}
+use Rattle.lid_check_loops.proofs.Numbered.{column_here}
 use Rattle.lid_check.specs.Networks.{AreNumbersOf}
-use Rattle.lid_strict.specs.Networks.{driver_of, reads_of, AreHeldBelow, rows_at}
+use Rattle.lid_strict.specs.Networks.{driver_list, reads_of, AreHeldBelow, rows_at}
 use Rattle.lid_strict.proofs.Tables.{map_map, numbered, table}
-
-all_right : {A : Type 0} (P : A → Type 0) (xs ys : List A) → AllByRecursion P (xs ++ ys) → AllByRecursion P ys
-all_right P [] ys all = all
-all_right P (x ∷ xs) ys all = all_right P xs ys all.1
-
-from_each_same : {A : Type 0} (f g : ℕ → A) (k n : ℕ) → ((t : ℕ) → f t ≡ g t) → from_each f k n ≡ from_each g k n
-from_each_same f g k zero equal = refl
-from_each_same f g k (suc n) equal =
-    let head = equal k in
-    let tail = from_each_same f g (k + 1) n equal in
-    cc
-
-pub from_each_long : {A : Type 0} (f : ℕ → A) (k n : ℕ) → length (from_each f k n) ≡ n
-from_each_long f k zero = refl
-from_each_long f k (suc n) = let h = from_each_long f (k + 1) n in omega arith
-
-from_each_all : {A : Type 0} (P : A → Type 0) (f : ℕ → A) (k n : ℕ) → ((t : ℕ) → P (f t)) → AllByRecursion P (from_each f k n)
-from_each_all P f k zero each = tt
-from_each_all P f k (suc n) each = (each k, from_each_all P f (k + 1) n each)
+use Rattle.lid_base.proofs.Alls.{all_from_among, all_parts}
+use Rattle.lid_base.proofs.Each.{each_length, all_each, each_same}
 
 map_names : (f : Column → Bool) (names : List (List ℕ)) → map f (map (column []) names) ≡ map (λ net. f (column [] net)) names
 map_names f [] = refl
@@ -42,22 +25,21 @@ map_names f (n ∷ names) = ap (λ (bs : List Bool). f (column [] n) ∷ bs) (ma
 
 module _ (d : Design) (list : List ColumnDriver) (starts : List ℕ) (is : IsElaborated d (map (shown_driver d) list) starts) where
   pub held_below : AreHeldBelow (map (shown_driver d) list)
-  held_below = all_of_each (λ (s : Driver ℕ). AllByRecursion (λ a. a < length (map (shown_driver d) list)) (read_before s)) (map (shown_driver d) list) (λ s among. let at = among_get (map (shown_driver d) list) s among in each at.0 s at.1)
+  held_below = all_from_among (λ (s : Driver ℕ). AllByRecursion (λ a. a < length (map (shown_driver d) list)) (read_before s)) (map (shown_driver d) list) (λ s among. let at = among_get (map (shown_driver d) list) s among in each at.0 s at.1)
     where
       each : (k : ℕ) (s : Driver ℕ) → slice_get (map (shown_driver d) list) k ≡ Some s → AllByRecursion (λ a. a < length (map (shown_driver d) list)) (read_before s)
       each k s here =
           let driven = is.each k (column_at d k) (column_here d (map (shown_driver d) list) starts is k (slice_get_within (map (shown_driver d) list) k s here)) in
           let e : Some s ≡ Some driven.driver = sym here ∙ driven.here in
           let same_driver : driven.driver ≡ s = cc in
-          subst (λ (r : Driver ℕ). AllByRecursion (λ a. a < length (map (shown_driver d) list)) (read_before r)) same_driver (all_right (λ (a : ℕ). a < length (map (shown_driver d) list)) (read_now driven.driver) (read_before driven.driver) driven.below)
+          subst (λ (r : Driver ℕ). AllByRecursion (λ a. a < length (map (shown_driver d) list)) (read_before r)) same_driver ((all_parts (λ (a : ℕ). a < length (map (shown_driver d) list)) (read_now driven.driver) (read_before driven.driver) driven.below).1)
 
-  pub strict_output : (order outs : List ℕ) → IsOrder (reads_of (map (shown_driver d) list)) order → AreNumbersOf d (length list) outs → (rows out : List (List Bool)) → ((b : Table ℕ) → IsStrict (driver_of (map (shown_driver d) list)) rows b → out ≡ rows_at outs b (length rows)) → IsStrictOutput d rows out
+  pub strict_output : (order outs : List ℕ) → IsOrder (reads_of (map (shown_driver d) list)) order → AreNumbersOf d (length list) outs → (rows out : List (List Bool)) → ((b : Table ℕ) → IsStrict (driver_list (map (shown_driver d) list)) rows b → out ≡ rows_at outs b (length rows)) → IsStrictOutput d rows out
   strict_output order outs ordered numbers rows out every = record {
     some = table d (map (shown_driver d) list) starts is order ordered rows;
     each = λ b strict.
         every (λ t k. b t (column_at d k)) (numbered d (map (shown_driver d) list) starts is rows b strict)
-        ∙ from_each_same (λ t. map (λ k. b t (column_at d k)) outs) (output_row d b) 0 (length rows)
-        (λ t. sym (map_map (b t) (column_at d) outs) ∙ ap (map (b t)) numbers.outputs ∙ map_names (b t) (root_outputs d));
+        ∙ each_same (λ t. map (λ k. b t (column_at d k)) outs) (output_row d b) 0 (length rows) (λ t less. sym (map_map (b t) (column_at d) outs) ∙ ap (map (b t)) numbers.outputs ∙ map_names (b t) (root_outputs d));
   }
 
 -- there are as many rows of outputs as of inputs, each as wide as the outputs
@@ -67,8 +49,8 @@ pub record HasShape (d : Design) (rows out : List (List Bool)) : Type 0 where
 
 pub output_shape : (d seen : Design) (rows given out : List (List Bool)) → seen ≡ d → given ≡ rows → IsStrictOutput seen given out → HasShape d rows out
 output_shape d seen rows given out same_design same_rows told = record {
-  height = ap length shown ∙ from_each_long (output_row d is.some.0) 0 (length rows);
-  width = subst (AllByRecursion (λ (row : List Bool). length row ≡ length (root_outputs d))) (sym shown) (from_each_all (λ (row : List Bool). length row ≡ length (root_outputs d)) (output_row d is.some.0) 0 (length rows) (λ t. length-map (root_outputs d) _));
+  height = ap length shown ∙ each_length (output_row d is.some.0) 0 (length rows);
+  width = subst (AllByRecursion (λ (row : List Bool). length row ≡ length (root_outputs d))) (sym shown) (all_each (λ (row : List Bool). length row ≡ length (root_outputs d)) (output_row d is.some.0) 0 (length rows) (λ t. length-map (root_outputs d) _));
 }
   where
     is : IsStrictOutput d rows out

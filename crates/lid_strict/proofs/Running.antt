@@ -1,24 +1,19 @@
 -- A run goes on by a row.
-use Rattle.std.proofs.Common.{◌≡◌, ◌<◌, ◌+◌, ℕ, zero, suc, Bool, List, [], ◌∷◌, ◌++◌, length, map, slice_index_or, Result, Ok, Err, IfOk, refl, sym, ◌∙◌, ap, subst, arith, add-zero, zero-add}
+use Rattle.std.proofs.Common.{◌≡◌, ◌<◌, ◌+◌, ℕ, zero, suc, Bool, List, [], ◌∷◌, ◌++◌, length, map, slice_index_or, Result, Ok, Err, IfOk, refl, sym, ◌∙◌, ap, subst, arith, add-zero}
 use Rattle.std.specs.List.{AllByRecursion}
-use Rattle.lid_design.specs.Network.{from_each}
+use Rattle.lid_base.specs.Each.{from_each}
 use Rattle.lid_design.specs.Flat.{latch_input}
-use Rattle.lid_settle.specs.Rows.{bit_at}
+use Rattle.lid_strict_engine.specs.Rows.{bit_at}
 use Rattle.lid_strict.specs.Networks.{rows_at}
-use Rattle.lid_strict.specs.Layouts.{held_bits, FitsRow, IsRun}
+use Rattle.lid_strict.specs.Layouts.{held_bits, FitsRow, IsStrictRun}
 use Rattle.lid_strict.specs.declared.layout.Layout.{Layout}
+use Rattle.lid_base.proofs.Each.{each_one_more}
 
 from_each_suc : {A : Type 0} (f : ℕ → A) (k n : ℕ) → from_each f k (suc n) ≡ from_each f k n ++ f (k + n) ∷ []
 from_each_suc f k zero = ap (λ (m : ℕ). f m ∷ []) (sym (add-zero k))
 from_each_suc f k (suc n) =
     let next : (k + 1) + n ≡ k + suc n = omega arith in
     ap (λ xs. f k ∷ xs) (from_each_suc f (k + 1) n ∙ ap (λ (m : ℕ). from_each f (k + 1) n ++ f m ∷ []) next)
-
--- one row more
-from_each_more : {A : Type 0} (f : ℕ → A) (n : ℕ) → from_each f 0 (n + 1) ≡ from_each f 0 n ++ f n ∷ []
-from_each_more f n =
-    let next : n + 1 ≡ suc n = omega arith in
-    ap (from_each f 0) next ∙ from_each_suc f 0 n ∙ ap (λ (m : ℕ). from_each f 0 n ++ f m ∷ []) (zero-add n)
 
 map_agree : (f g : ℕ → Bool) (n : ℕ) (xs : List ℕ) → AllByRecursion (λ a. a < n) xs → ((a : ℕ) → a < n → f a ≡ g a) → map f xs ≡ map g xs
 map_agree f g n [] below agree = refl
@@ -27,12 +22,12 @@ map_agree f g n (x ∷ xs) below agree =
     let tail = map_agree f g n xs below.1 agree in
     cc
 
-pub runs_next : (p : Layout) (outs : List ℕ) (rows : List (List Bool)) (t : ℕ) (state state' bits row out : List Bool) (results : List (List Bool)) → AllByRecursion (λ k. k < p.program.nets) (map latch_input p.latches.items) → AllByRecursion (λ k. k < p.program.nets) outs → t < length rows → row ≡ slice_index_or rows t [] → IsRun p outs rows t state results → state' ≡ map (bit_at bits) (map latch_input p.latches.items) → ((f : ℕ → Bool) → FitsRow p row state f → (k : ℕ) → k < p.program.nets → bit_at bits k ≡ f k) → out ≡ map (bit_at bits) outs → IsRun p outs rows (t + 1) state' (results ++ out ∷ [])
+pub runs_next : (p : Layout) (outs : List ℕ) (rows : List (List Bool)) (t : ℕ) (state state' bits row out : List Bool) (results : List (List Bool)) → AllByRecursion (λ k. k < p.program.nets) (map latch_input p.latches.items) → AllByRecursion (λ k. k < p.program.nets) outs → t < length rows → row ≡ slice_index_or rows t [] → IsStrictRun p outs rows t state results → state' ≡ map (bit_at bits) (map latch_input p.latches.items) → ((f : ℕ → Bool) → FitsRow p row state f → (k : ℕ) → k < p.program.nets → bit_at bits k ≡ f k) → out ≡ map (bit_at bits) outs → IsStrictRun p outs rows (t + 1) state' (results ++ out ∷ [])
 runs_next p outs rows t state state' bits row out results taken below h same_row run goes right given b fits = (
   goes ∙ map_agree (bit_at bits) (b t) p.program.nets (map latch_input p.latches.items) taken (right (b t) fit) ∙ ap (held_bits p.latches.items b) next,
   ap (λ (rs : List (List Bool)). rs ++ out ∷ []) (run b fits).1
       ∙ ap (λ (r : List Bool). rows_at outs b t ++ r ∷ []) (given ∙ map_agree (bit_at bits) (b t) p.program.nets outs below (right (b t) fit))
-      ∙ sym (from_each_more (λ u. map (b u) outs) t),
+      ∙ sym (each_one_more (λ u. map (b u) outs) t),
 )
   where
     next : suc t ≡ t + 1

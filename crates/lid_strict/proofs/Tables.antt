@@ -8,13 +8,13 @@ use Rattle.lid_design.specs.declared.Design.{Design}
 use Rattle.lid_design.specs.Network.{Driver, from_input, from_latch, from_cover, from_connection, Table, IsStrict, bit_of}
 use Rattle.lid_design.specs.Columns.{Column, drivers}
 use Rattle.lid_design.specs.Elaboration.{columns}
-use Rattle.lid_design.specs.Walks.{Walk, WalksEnd, IsDriven, IsDrivenOnce, HasTable}
+use Rattle.lid_design.specs.Walks.{EdgesLead, WalksEnd, IsDriven, IsDrivenOnce, HasTable}
 use Rattle.lid_design.proofs.Tables.{has_table}
-use Rattle.lid_digraph.specs.Graphs.{IsOrder}
-use Rattle.lid_digraph.proofs.Orders.{walks_end}
-use Rattle.lid_elab.specs.Elaborations.{map_driver, column_at, IsElaborated}
-use Rattle.lid_flaws.proofs.Numbered.{graph, graph_length, column_here, within, fed_number, walk_up, column_is}
-use Rattle.lid_strict.specs.Networks.{driver_of}
+use Rattle.lid_check_digraph.specs.Graphs.{IsOrder}
+use Rattle.lid_check_digraph.proofs.Orders.{walks_end}
+use Rattle.lid_check_elab.specs.Elaborations.{map_driver, column_at, IsElaborated}
+use Rattle.lid_check_loops.proofs.Numbered.{graph, graph_length, column_here, within, fed_number, walk_up, column_is}
+use Rattle.lid_strict.specs.Networks.{driver_list}
 
 pub map_map : (f : Column → Bool) (g : ℕ → Column) (xs : List ℕ) → map f (map g xs) ≡ map (λ k. f (g k)) xs
 map_map f g [] = refl
@@ -41,7 +41,7 @@ once_by {C} drivers one c = by (drivers c) refl
 
 module _ (d : Design) (network : List (Driver ℕ)) (starts : List ℕ) (is : IsElaborated d network starts) where
   -- a strict table of the design is one of the numbered columns
-  pub numbered : (rows : List (List Bool)) (b : Table Column) → IsStrict (drivers d) rows b → IsStrict (driver_of network) rows (λ t k. b t (column_at d k))
+  pub numbered : (rows : List (List Bool)) (b : Table Column) → IsStrict (drivers d) rows b → IsStrict (driver_list network) rows (λ t k. b t (column_at d k))
   numbered rows b strict t k h = by (slice_get network k) refl
     where
       one : (s : Driver ℕ) → slice_get network k ≡ Some s → b t (column_at d k) ≡ bit_of rows (λ u j. b u (column_at d j)) t s
@@ -67,7 +67,7 @@ module _ (d : Design) (network : List (Driver ℕ)) (starts : List ℕ) (is : Is
       let number = fed_number d network starts is w.0 c w.2 in
       let col : column_at d number.0 ≡ c = column_is d network starts is number.0 c number.1 in
       let below = within d network starts is number.0 c number.1 in
-      let up = walk_up d network starts is (suc (length network)) a number.0 below (subst (λ (x : Column). Walk (drivers d) (suc (length network)) a x) (sym col) w) in
+      let up = walk_up d network starts is (suc (length network)) a number.0 below (subst (λ (x : Column). EdgesLead (drivers d) (suc (length network)) a x) (sym col) w) in
       let long = graph_length d network starts is in
       let short = walks_end (graph d network starts is) order ordered (suc (length network)) up.0 number.0 (omega arith) up.3 in
       absurd (omega arith)

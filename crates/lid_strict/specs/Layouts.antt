@@ -6,9 +6,9 @@ use Rattle.lid_design.specs.declared.FlatLatch.{FlatLatch}
 use Rattle.lid_design.specs.declared.FlatCover.{FlatCover}
 use Rattle.lid_design.specs.Network.{Driver, from_input, from_latch, from_cover, from_connection, Table}
 use Rattle.lid_design.specs.Flat.{latch_out, latch_input, latch_init, ReadEarlier, IsRow}
-use Rattle.lid_flatten.specs.Inner.{latches_of, cells_of}
-use Rattle.lid_settle.specs.Programs.{shown, IsReady}
-use Rattle.lid_settle.specs.Rows.{bit_at, after}
+use Rattle.lid_check_parts.specs.Inner.{latches_of, driver_covers}
+use Rattle.lid_strict_engine.specs.Programs.{program_covers, IsReadyProgram}
+use Rattle.lid_strict_engine.specs.Rows.{bit_at, after}
 use Rattle.lid_strict.specs.Networks.{rows_at}
 use Rattle.lid_strict.specs.declared.layout.Layout.{Layout}
 
@@ -39,14 +39,14 @@ places_in network order = flat_map (λ k. input_places (driver_at network k)) or
 abbrev pub latches_in : List (Driver ℕ) → List ℕ → List FlatLatch
 latches_in network order = flat_map (λ k. latches_of k (driver_at network k)) order
 
-abbrev pub cells_in : List (Driver ℕ) → List ℕ → List FlatCover
-cells_in network order = flat_map (λ k. cells_of k (driver_at network k)) order
+abbrev pub network_covers : List (Driver ℕ) → List ℕ → List FlatCover
+network_covers network order = flat_map (λ k. driver_covers k (driver_at network k)) order
 
 -- the layout of a network in an order
 pub record IsLaidOut (network : List (Driver ℕ)) (order : List ℕ) (p : Layout) : Type 0 where
-  pub ready : IsReady p.program
+  pub ready : IsReadyProgram p.program
   pub nets : p.program.nets ≡ length network
-  pub covers : shown p.program ≡ cells_in network order
+  pub covers : program_covers p.program ≡ network_covers network order
   pub ins : p.ins.items ≡ nets_in network order
   pub places : p.places.items ≡ places_in network order
   pub latches : p.latches.items ≡ latches_in network order
@@ -57,13 +57,13 @@ known_first p = p.ins.items ++ (map latch_out p.latches.items ++ [])
 
 -- each cover reads what is known when it is run, and all numbers are known in the end
 pub record IsRunnable (p : Layout) : Type 0 where
-  pub ready : IsReady p.program
+  pub ready : IsReadyProgram p.program
   pub ins : AllByRecursion (λ k. k < p.program.nets) p.ins.items
   pub held : AllByRecursion (λ k. k < p.program.nets) (map latch_out p.latches.items)
   pub taken : AllByRecursion (λ k. k < p.program.nets) (map latch_input p.latches.items)
   pub pairs : length p.places.items ≡ length p.ins.items
-  pub earlier : ReadEarlier (known_first p) (shown p.program)
-  pub all : (k : ℕ) → k < p.program.nets → Among k (after (known_first p) (shown p.program))
+  pub earlier : ReadEarlier (known_first p) (program_covers p.program)
+  pub all : (k : ℕ) → k < p.program.nets → Among k (after (known_first p) (program_covers p.program))
 
 -- the bits that latches hold in a row: first those that they begin with, later those of their inputs in
 -- the row before
@@ -73,7 +73,7 @@ held_bits latches b (suc t) = map (b t) (map latch_input latches)
 
 -- the bits of a row, from the input row and the bits that latches hold in it
 pub record FitsRow (p : Layout) (row state : List Bool) (bit : ℕ → Bool) : Type 0 where
-  pub covers : IsRow (shown p.program) bit
+  pub covers : IsRow (program_covers p.program) bit
   pub latches : map bit (map latch_out p.latches.items) ≡ state
   pub inputs : map bit p.ins.items ≡ map (bit_at row) p.places.items
 
@@ -82,5 +82,5 @@ abbrev pub FitsTable : Layout → List (List Bool) → Table ℕ → Type 0
 FitsTable p rows b = (t : ℕ) → t < length rows → FitsRow p (slice_index_or rows t []) (held_bits p.latches.items b t) (b t)
 
 -- what latches hold and the rows so far are those of each table that fits
-abbrev pub IsRun : Layout → List ℕ → List (List Bool) → ℕ → List Bool → List (List Bool) → Type 0
-IsRun p outs rows t state out = (b : Table ℕ) → FitsTable p rows b → (state ≡ held_bits p.latches.items b t) × (out ≡ rows_at outs b t)
+abbrev pub IsStrictRun : Layout → List ℕ → List (List Bool) → ℕ → List Bool → List (List Bool) → Type 0
+IsStrictRun p outs rows t state out = (b : Table ℕ) → FitsTable p rows b → (state ≡ held_bits p.latches.items b t) × (out ≡ rows_at outs b t)

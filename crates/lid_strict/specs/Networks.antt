@@ -1,12 +1,13 @@
 -- Networks whose columns are numbers, and their rows.
 use Rattle.std.specs.Prelude.{◌<◌, ℕ, Bool, List, length, map, slice_get, option_to_list}
 use Rattle.std.specs.List.{AllByRecursion}
-use Rattle.lid_design.specs.Network.{Driver, Table, from_each}
+use Rattle.lid_design.specs.Network.{Driver, Table}
+use Rattle.lid_base.specs.Each.{from_each}
 use Rattle.lid_design.specs.Walks.{read_now, read_before}
 
 -- what drives a number: the driver at its place
-abbrev pub driver_of : List (Driver ℕ) → ℕ → List (Driver ℕ)
-driver_of network k = option_to_list (slice_get network k)
+abbrev pub driver_list : List (Driver ℕ) → ℕ → List (Driver ℕ)
+driver_list network k = option_to_list (slice_get network k)
 
 -- the numbers that each number reads in the same row
 abbrev pub reads_of : List (Driver ℕ) → List (List ℕ)

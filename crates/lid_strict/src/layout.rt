@@ -4,21 +4,21 @@
 ghost use Rattle.std.specs.Prelude.{◌≡◌, ◌<◌, ◌++◌, [], length, map, IfOk, OnOk};
 ghost use Rattle.std.specs.List.{AllByRecursion};
 ghost use Rattle.lid_design.specs.Walks.{read_now};
-ghost use Rattle.lid_digraph.specs.Graphs.{IsOrder};
-ghost use Rattle.lid_elab.specs.Covers.{no_cover};
-ghost use Rattle.lid_elab.specs.Elaborations.{shown_driver};
-ghost use Rattle.lid_settle.specs.Programs.{shown, IsProgram};
+ghost use Rattle.lid_check_digraph.specs.Graphs.{IsOrder};
+ghost use Rattle.lid_check_elab.specs.Covers.{no_cover};
+ghost use Rattle.lid_check_elab.specs.Elaborations.{shown_driver};
+ghost use Rattle.lid_strict_engine.specs.Programs.{program_covers, IsProgram};
 ghost use Rattle.lid_strict.specs.Networks.{reads_of};
-ghost use Rattle.lid_flatten.specs.Parts.{HasCover};
-ghost use Rattle.lid_flatten.specs.Inner.{buffer, latches_of, cells_of};
+ghost use Rattle.lid_check_parts.specs.Parts.{HasCover};
+ghost use Rattle.lid_check_parts.specs.Inner.{buffer, latches_of, driver_covers};
 ghost use Rattle.lid_strict.specs.Layouts.{input_nets, input_places, IsLaidOut};
 
 use lid_base::Items;
+use lid_check_elab::{ColumnDriver, cover_at};
+use lid_check_parts::buffer;
 use lid_cover::Cover;
 use lid_design::{Design, FlatLatch};
-use lid_elab::{ColumnDriver, cover_at};
-use lid_flatten::buffer;
-use lid_settle::Program;
+use lid_strict_engine::Program;
 use std::alloc::{AllocError, Global};
 
 /// What gives each number of a network its bit.
@@ -67,7 +67,7 @@ pub fn lay_out(
 fn no_layout(alloc: Global, size: usize) -> Result<Layout, AllocError>
     ensures program { IfOk result (λ layout. IsProgram 0 layout.program) }
     ensures nets { IfOk result (λ layout. layout.program.nets ≡ size) }
-    ensures covers { IfOk result (λ layout. shown layout.program ≡ []) }
+    ensures covers { IfOk result (λ layout. program_covers layout.program ≡ []) }
     ensures ins { IfOk result (λ layout. layout.ins.items ≡ []) }
     ensures places { IfOk result (λ layout. layout.places.items ≡ []) }
     ensures latches { IfOk result (λ layout. layout.latches.items ≡ []) }
@@ -115,7 +115,7 @@ fn push_driver(
     requires cover { HasCover design.now driver.now }
     ensures program { OnOk result (IsProgram 0 layout.new.program) }
     ensures nets { OnOk result (layout.new.program.nets ≡ layout.old.program.nets) }
-    ensures covers { OnOk result (shown layout.new.program ≡ shown layout.old.program ++ cells_of number (shown_driver design.now driver.now)) }
+    ensures covers { OnOk result (program_covers layout.new.program ≡ program_covers layout.old.program ++ driver_covers number (shown_driver design.now driver.now)) }
     ensures ins { OnOk result (layout.new.ins.items ≡ layout.old.ins.items ++ input_nets number (shown_driver design.now driver.now)) }
     ensures places { OnOk result (layout.new.places.items ≡ layout.old.places.items ++ input_places (shown_driver design.now driver.now)) }
     ensures latches { OnOk result (layout.new.latches.items ≡ layout.old.latches.items ++ latches_of number (shown_driver design.now driver.now)) }

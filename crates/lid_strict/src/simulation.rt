@@ -4,18 +4,18 @@ ghost use Rattle.std.specs.Prelude.{◌≡◌, ◌+◌, ◌<◌, ℕ, Bool, [], 
 ghost use Rattle.std.specs.List.{AllByRecursion};
 ghost use Rattle.lid_design.specs.Network.{Table, IsStrict};
 ghost use Rattle.lid_design.specs.Flat.{latch_init, latch_input};
-ghost use Rattle.lid_digraph.specs.Graphs.{IsOrder};
-ghost use Rattle.lid_elab.specs.Elaborations.{shown_driver};
-ghost use Rattle.lid_settle.specs.Rows.{bit_at};
-ghost use Rattle.lid_flatten.specs.Parts.{HasCover};
-ghost use Rattle.lid_strict.specs.Networks.{driver_of, reads_of, AreHeldBelow, rows_at};
+ghost use Rattle.lid_check_digraph.specs.Graphs.{IsOrder};
+ghost use Rattle.lid_check_elab.specs.Elaborations.{shown_driver};
+ghost use Rattle.lid_strict_engine.specs.Rows.{bit_at};
+ghost use Rattle.lid_check_parts.specs.Parts.{HasCover};
+ghost use Rattle.lid_strict.specs.Networks.{driver_list, reads_of, AreHeldBelow, rows_at};
 ghost use Rattle.lid_strict.specs.Layouts.{IsRunnable, FitsRow, FitsTable};
 
 use crate::layout::{Layout, lay_out};
 use lid_base::Items;
+use lid_check_elab::ColumnDriver;
 use lid_design::Design;
-use lid_elab::ColumnDriver;
-use lid_settle::{first_state, put_bits, put_state, settle, take_state};
+use lid_strict_engine::{first_state, put_bits, put_state, settle, take_state};
 use std::alloc::{AllocError, Global};
 
 /// The bit of a number, and 0 where there is none.
@@ -88,7 +88,7 @@ pub fn simulate(
     requires covers { AllByRecursion (HasCover design.now) drivers.now }
     requires held { AreHeldBelow (map (shown_driver design.now) drivers.now) }
     requires outs { AllByRecursion (λ k. k < length drivers.now) outs.now }
-    ensures { IfOk result (λ out. (b : Table ℕ) → IsStrict (driver_of (map (shown_driver design.now) drivers.now)) rows.now b → out ≡ rows_at outs.now b (length rows.now)) }
+    ensures { IfOk result (λ out. (b : Table ℕ) → IsStrict (driver_list (map (shown_driver design.now) drivers.now)) rows.now b → out ≡ rows_at outs.now b (length rows.now)) }
 {
     let layout = lay_out(alloc, design, drivers, order)?;
     let mut results = Vec::with_capacity(alloc, rows.len())?;

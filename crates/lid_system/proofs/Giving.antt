@@ -4,8 +4,8 @@ use Rattle.std.specs.Option.{option_map_or}
 use Rattle.std.proofs.lemmas.List.{length-append}
 use Rattle.std.proofs.lemmas.Option.{get_or_from_slice_get, slice_get_within}
 use Rattle.lid_base.proofs.Lists.{all_among}
-use Rattle.lid_design.specs.Network.{Driver, from_input, from_latch, from_cover, from_connection, Table, bit_of, IsStrict, from_each}
-use Rattle.lid_pearl.proofs.Reordering.{all_from_each}
+use Rattle.lid_design.specs.Network.{Driver, from_input, from_latch, from_cover, from_connection, Table, bit_of, IsStrict}
+use Rattle.lid_base.specs.Each.{from_each}
 use Rattle.lid_system.specs.declared.System.{System}
 use Rattle.lid_system.specs.declared.Node.TheVariants.{Source}
 use Rattle.lid_system.specs.declared.Channel.{Channel}
@@ -13,7 +13,10 @@ use Rattle.lid_system.specs.Systems.{Point, source_port, ports_of, IsWellFormed}
 use Rattle.lid_system.specs.Tables.{port_bits, system_drivers, IsTable}
 use Rattle.lid_system.specs.Streams.{token_at, tokens_of, output_row, IsStream, IsOutput}
 use Rattle.lid_system.proofs.Points.{port_drives}
-use Rattle.lid_system.proofs.Streaming.{some_stream, some_output, same_some}
+use Rattle.lid_system.proofs.Streaming.{some_stream, some_output}
+use Rattle.lid_base.proofs.Alls.{all_from_among}
+use Rattle.lid_base.proofs.Each.{take_each}
+use Rattle.lid_base.proofs.Options.{same_some}
 
 map_row : (f : Point → Bool) (k : ℕ) (row : List Bool) → ((j : ℕ) → j < length row → f (source_port (k + j)) ≡ get_or row j false) → map f (from_each source_port k (length row)) ≡ row
 map_row f k [] each = refl
@@ -51,18 +54,12 @@ first_bit rows more b t (from_connection c) below = refl
 pub table_of_first : {C : Type 0} (drivers : C → List (Driver C)) (rows more : List (List Bool)) (b : Table C) → IsStrict drivers (rows ++ more) b → IsStrict drivers rows b
 table_of_first {C} drivers rows more b strict t c below =
     let long : length (rows ++ more) ≡ length rows + length more = length-append rows more in
-    all_from_each (λ (r : Driver C). b t c ≡ bit_of rows b t r) (drivers c)
+    all_from_among (λ (r : Driver C). b t c ≡ bit_of rows b t r) (drivers c)
     (λ r among. all_among (λ (r : Driver C). b t c ≡ bit_of (rows ++ more) b t r) (drivers c) r (strict t c (omega arith)) among ∙ first_bit rows more b t r below)
-
-take_each : {A : Type 0} (f : ℕ → A) (k m n : ℕ) → take m (from_each f k (m + n)) ≡ from_each f k m
-take_each f k zero n = refl
-take_each f k (suc m) n =
-    let more : suc m + n ≡ suc (m + n) = omega arith in
-    ap (λ (i : ℕ). take (suc m) (from_each f k i)) more ∙ ap (λ (xs : List _). f k ∷ xs) (take_each f (k + 1) m n)
 
 module _ (s : System) (well : IsWellFormed s) (rows more : List (List Bool)) where
   cut : {A : Type 0} (f : ℕ → A) → take (length rows) (from_each f 0 (length (rows ++ more))) ≡ from_each f 0 (length rows)
-  cut f = ap (λ (n : ℕ). take (length rows) (from_each f 0 n)) (length-append rows more) ∙ take_each f 0 (length rows) (length more)
+  cut f = ap (λ (n : ℕ). take (length rows) (from_each f 0 n)) (length-append rows more) ∙ take_each f 0 (length rows + length more) (length rows) (omega arith)
 
   pub stream_of_first : (c : ℕ) (tokens : List ℕ) → c < length s.channels → IsStream s (rows ++ more) c tokens → IsStream s rows c (take (length rows) tokens)
   stream_of_first c tokens below is = subst (IsStream s rows c) (sym same) first.1

@@ -3,9 +3,9 @@ use Rattle.std.proofs.Common.{◌≡◌, ℕ, ◌^◌, ◌<◌, Bool, false, Lis
 use Rattle.std.proofs.lemmas.List.{length-map, get_or-map}
 use Rattle.std.proofs.lemmas.Option.{slice_get_within, get_or_from_slice_get}
 use Rattle.lid_cover.specs.Masks.{packed}
-use Rattle.lid_settle.specs.Rows.{bit_at}
-use Rattle.lid_settle.specs.Truth.{is_set}
-use Rattle.lid_settle.proofs.Tabling.{packed_bound, packed_bit}
+use Rattle.lid_strict_engine.specs.Rows.{bit_at}
+use Rattle.lid_strict_engine.specs.Truth.{is_set}
+use Rattle.lid_strict_engine.proofs.Tabling.{packed_bound, packed_bit}
 
 pub bit_of_port : (bits : List Bool) (ports : List ℕ) (j port : ℕ) → slice_get ports j ≡ Some port → is_set (packed (map (bit_at bits) ports)) j ≡ bit_at bits port
 bit_of_port bits ports j port here =

@@ -7,11 +7,11 @@ use Rattle.std.proofs.lemmas.List.{length-map, get_or-map}
 use Rattle.std.proofs.lemmas.Option.{slice_get-get_or}
 use Rattle.std.proofs.lemmas.Bool.{eqb-true}
 use Rattle.lid_base.specs.Lists.{Among}
-use Rattle.lid_base.proofs.Lists.{among_append, flat_among, among_map, map_among, among_at, all_among, all_at}
+use Rattle.lid_base.proofs.Lists.{among_append, flat_among, among_map, map_among, among_at, all_among, all_at, if_among}
 use Rattle.lid_design.specs.declared.Flat.{Flat}
 use Rattle.lid_design.specs.declared.FlatLatch.{FlatLatch}
 use Rattle.lid_design.specs.declared.FlatCover.{FlatCover}
-use Rattle.lid_design.specs.Network.{Driver, from_input, from_latch, from_cover, from_connection, from_each}
+use Rattle.lid_design.specs.Network.{Driver, from_input, from_latch, from_cover, from_connection}
 use Rattle.lid_design.specs.Walks.{read_now, read_before, IsDriven, IsDrivenOnce}
 use Rattle.lid_design.specs.Flat.{inputs_at, latch_at, cover_at, flat_drivers}
 use Rattle.lid_pearl.specs.Pearls.{View}
@@ -23,6 +23,7 @@ use Rattle.lid_system.specs.declared.InBit.TheVariants.{Const, Port}
 use Rattle.lid_system.specs.declared.Channel.{Channel}
 use Rattle.lid_system.specs.Systems.{Point, source_port, shell_net, ports_of, ports_at, IsRead, IsShell, IsNode, IsChannel, IsWellFormed}
 use Rattle.lid_system.specs.Tables.{carried, carried_at, driver_of, in_shell, source_width, net_drivers, system_drivers}
+use Rattle.lid_base.proofs.Each.{among_each}
 
 -- a driver that is no input of the rows
 abbrev IsNoInput : {C : Type 0} → Driver C → Type 0
@@ -30,12 +31,6 @@ IsNoInput (from_input j) = ⊥
 IsNoInput (from_latch first input) = ⊤
 IsNoInput (from_cover cover inputs) = ⊤
 IsNoInput (from_connection c) = ⊤
-
--- each of so many numbers
-pub among_each : {A : Type 0} (f : ℕ → A) (k n : ℕ) (a : A) → Among a (from_each f k n) → (j : ℕ) × (k ≤ j) × (j < k + n) × (a ≡ f j)
-among_each f k zero a among = absurd among
-among_each f k (suc n) a (inl same) = (k, omega arith, omega arith, same)
-among_each f k (suc n) a (inr later) = let found = among_each f (k + 1) n a later in (found.0, (let le = found.1 in omega arith), (let lt = found.2 in omega arith), found.3)
 
 -- the places of the inputs of a flat part
 at_place : (k j : ℕ) (nets : List ℕ) (s : Driver ℕ) → Among s (inputs_at k j nets) → Among k nets
@@ -46,11 +41,6 @@ at_place k j (net ∷ nets) s among = by (net == k) refl (among_append s (cond (
     by true e (inl here) next = inl (sym (eqb-true net k e))
     by false e (inl none) next = absurd none
     by b e (inr later) next = inr (next later)
-
-if_is : {A : Type 0} (b : Bool) (x y : A) → Among y (cond b (x ∷ []) []) → y ≡ x
-if_is true x y (inl e) = e
-if_is true x y (inr none) = absurd none
-if_is false x y none = absurd none
 
 -- an input of a flat part drives inputs alone
 pub input_among : (f : Flat) (k j : ℕ) → Among {A = Driver ℕ} (from_input j) (flat_drivers f k) → Among k f.ins
@@ -63,13 +53,13 @@ input_among f k j among = by (among_append s (inputs_at k 0 f.ins) (flat_map (la
     of_latch : Among s (flat_map (latch_at k) f.latches) → Among k f.ins
     of_latch here =
         let found = flat_among {A = FlatLatch} {B = Driver ℕ} (latch_at k) s f.latches here in
-        let e : from_input j ≡ from_latch found.0.init found.0.input = if_is (found.0.out == k) (from_latch found.0.init found.0.input) s found.2 in
+        let e : from_input j ≡ from_latch found.0.init found.0.input = (if_among (found.0.out == k) s (from_latch found.0.init found.0.input) found.2).1 in
         absurd (subst IsNoInput (sym e) tt)
 
     of_cover : Among s (flat_map (cover_at k) f.covers) → Among k f.ins
     of_cover here =
         let found = flat_among {A = FlatCover} {B = Driver ℕ} (cover_at k) s f.covers here in
-        let e : from_input j ≡ from_cover found.0.cover found.0.ins = if_is (found.0.out == k) (from_cover found.0.cover found.0.ins) s found.2 in
+        let e : from_input j ≡ from_cover found.0.cover found.0.ins = (if_among (found.0.out == k) s (from_cover found.0.cover found.0.ins) found.2).1 in
         absurd (subst IsNoInput (sym e) tt)
 
     by_cell : Among s (flat_map (latch_at k) f.latches) ⊎ Among s (flat_map (cover_at k) f.covers) → Among k f.ins
@@ -118,7 +108,7 @@ module _ (s : System) where
   -- an input row alone drives a port of the source
   pub port_driver : (j : ℕ) (r : Driver Point) → Among r (system_drivers s (source_port j)) → r ≡ from_input j
   unfolding system_drivers
-  port_driver j r among = if_is (nat_lt j (option_map_or source_width (slice_get s.nodes 0) 0)) (from_input j) r among
+  port_driver j r among = (if_among (nat_lt j (option_map_or source_width (slice_get s.nodes 0) 0)) r (from_input j) among).1
 
   pub port_drives : (j : ℕ) (columns : List (List ℕ)) → slice_get s.nodes 0 ≡ Some (Source columns) → j < length columns → Among {A = Driver Point} (from_input j) (system_drivers s (source_port j))
   unfolding system_drivers

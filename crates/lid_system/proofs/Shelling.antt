@@ -7,33 +7,20 @@ use Rattle.std.proofs.Math.ListN.{get_or-map}
 use Rattle.lid_base.proofs.Lists.{all_among}
 use Rattle.lid_cover.specs.Cover.{cover_value}
 use Rattle.lid_design.specs.declared.Flat.{Flat}
-use Rattle.lid_design.specs.Network.{Driver, from_input, from_latch, from_cover, from_connection, Table, bit_of, IsStrict, from_each}
+use Rattle.lid_design.specs.Network.{Driver, from_input, from_latch, from_cover, from_connection, Table, bit_of, IsStrict}
+use Rattle.lid_base.specs.Each.{from_each}
 use Rattle.lid_design.specs.Flat.{flat_drivers, state_at}
 use Rattle.lid_pearl.specs.Pearls.{View, Shows, Steps}
 use Rattle.lid_pearl.proofs.Following.{shown_outs, next_state, next_outs}
-use Rattle.lid_pearl.proofs.Reordering.{all_from_each}
 use Rattle.lid_system.specs.declared.System.{System}
 use Rattle.lid_system.specs.declared.Node.TheVariants.{Shell}
 use Rattle.lid_system.specs.declared.InBit.{InBit}
 use Rattle.lid_system.specs.declared.InBit.TheVariants.{Const, Port}
 use Rattle.lid_system.specs.Systems.{Point, shell_net, ports_of, IsWellFormed}
-use Rattle.lid_system.specs.Tables.{constant, driver_of, in_shell, in_bit, ins_of, input_bits, port_bits, nets_of, system_drivers, IsTable}
+use Rattle.lid_system.specs.Tables.{constant, driver_of, in_shell, in_bit, input_reads, input_bits, port_bits, nets_of, system_drivers, IsTable}
 use Rattle.lid_system.proofs.Points.{shell_drives, shell_is}
-
--- f at each of so many numbers, by places
-pub each_length : {A : Type 0} (f : ℕ → A) (k n : ℕ) → length (from_each f k n) ≡ n
-each_length f k zero = refl
-each_length f k (suc n) = ap suc (each_length f (k + 1) n)
-
-pub each_get : {A : Type 0} (f : ℕ → A) (k n i : ℕ) → i < n → slice_get (from_each f k n) i ≡ Some (f (k + i))
-each_get f k zero i h = absurd (omega arith)
-each_get f k (suc n) zero h = let place : k ≡ k + 0 = omega arith in ap (λ (m : ℕ). Some (f m)) place
-each_get f k (suc n) (suc i) h = let place : (k + 1) + i ≡ k + suc i = omega arith in each_get f (k + 1) n i (omega arith) ∙ ap (λ (m : ℕ). Some (f m)) place
-
-pub each_at : {A : Type 0} (f : ℕ → A) (k n i : ℕ) (d : A) → i < n → get_or (from_each f k n) i d ≡ f (k + i)
-each_at f k zero i d h = absurd (omega arith)
-each_at f k (suc n) zero d h = let place : k ≡ k + 0 = omega arith in ap f place
-each_at f k (suc n) (suc i) d h = let place : (k + 1) + i ≡ k + suc i = omega arith in each_at f (k + 1) n i d (omega arith) ∙ ap f place
+use Rattle.lid_base.proofs.Alls.{all_from_among}
+use Rattle.lid_base.proofs.Each.{each_length, each_get, each_at}
 
 constant_value : (bit : Bool) → cover_value (constant bit) [] ≡ bit
 unfolding cover_value
@@ -49,7 +36,7 @@ module _ (s : System) (rows : List (List Bool)) (b : Table Point) (i : ℕ) (pea
   nets = nets_of b i
 
   inputs_are : (t : ℕ) → input_bits s b i t ≡ map (in_bit s b t) ins
-  inputs_are t = ap (λ o. map (in_bit s b t) (option_map_or ins_of o [])) here
+  inputs_are t = ap (λ o. map (in_bit s b t) (option_map_or input_reads o [])) here
 
   pub ports_are : (t : ℕ) → port_bits s b i t ≡ map (nets t) pearl.flat.outs
   ports_are t = ap (λ o. map (b t) (option_map_or (ports_of i) o [])) here ∙ map-map (b t) (shell_net i) pearl.flat.outs
@@ -76,7 +63,7 @@ module _ (s : System) (rows : List (List Bool)) (b : Table Point) (i : ℕ) (pea
     pub shell_table : IsStrict (flat_drivers pearl.flat) given nets
     shell_table t k below =
         let within : t < length rows = subst (λ (n : ℕ). t < n) (each_length (input_bits s b i) 0 (length rows)) below in
-        all_from_each (λ d. nets t k ≡ bit_of given nets t d) (flat_drivers pearl.flat k)
+        all_from_among (λ d. nets t k ≡ bit_of given nets t d) (flat_drivers pearl.flat k)
         (λ d among. all_among (λ r. b t (shell_net i k) ≡ bit_of rows b t r) (system_drivers s (shell_net i k)) (in_shell s i ins d) (table t (shell_net i k) within) (shell_drives s i k pearl ins here d among)
         ∙ same_bit_of t d within)
 

@@ -1,18 +1,19 @@
 -- Tokens and output rows are those of each table, since two tables agree where ports are.
-use Rattle.std.proofs.Common.{◌≡◌, ℕ, zero, suc, ◌+◌, ◌-◌, ◌^◌, ◌<◌, ◌≤◌, Bool, false, List, [], ◌∷◌, length, get_or, map, Option, Some, None, slice_get, refl, sym, ◌∙◌, ap, subst, arith}
+use Rattle.std.proofs.Common.{◌≡◌, ℕ, ◌+◌, ◌-◌, ◌^◌, ◌<◌, ◌≤◌, Bool, false, List, [], length, get_or, map, Option, Some, None, slice_get, refl, sym, ◌∙◌, ap, subst, arith}
 use Rattle.std.specs.List.{AllByRecursion}
 use Rattle.std.specs.Option.{option_map_or}
 use Rattle.std.proofs.lemmas.List.{length-map, get_or-map}
 use Rattle.std.proofs.lemmas.Simd.{map-map}
 use Rattle.std.proofs.Math.Nat.{pow-le-pow_right}
 use Rattle.lid_base.specs.Lists.{Among}
-use Rattle.lid_base.proofs.Lists.{all_among, all_at, map_among, among_at}
+use Rattle.lid_base.proofs.Lists.{all_among, all_at, map_among, among_at, map_same}
 use Rattle.lid_cover.specs.Masks.{packed}
-use Rattle.lid_design.specs.Network.{Table, from_each}
-use Rattle.lid_design.proofs.Tables.{map_agree, has_table, has_one_table}
-use Rattle.lid_settle.specs.Rows.{bit_at}
-use Rattle.lid_settle.specs.Truth.{is_set}
-use Rattle.lid_settle.proofs.Tabling.{packed_bound, packed_bit}
+use Rattle.lid_design.specs.Network.{Table}
+use Rattle.lid_base.specs.Each.{from_each}
+use Rattle.lid_design.proofs.Tables.{has_table, has_one_table}
+use Rattle.lid_strict_engine.specs.Rows.{bit_at}
+use Rattle.lid_strict_engine.specs.Truth.{is_set}
+use Rattle.lid_strict_engine.proofs.Tabling.{packed_bound, packed_bit}
 use Rattle.lid_system.specs.declared.System.{System}
 use Rattle.lid_system.specs.declared.Node.{Node}
 use Rattle.lid_system.specs.declared.Node.TheVariants.{Source, Shell, Sink}
@@ -20,31 +21,13 @@ use Rattle.lid_system.specs.declared.InBit.{InBit}
 use Rattle.lid_system.specs.declared.InBit.TheVariants.{Const, Port}
 use Rattle.lid_system.specs.declared.Channel.{Channel}
 use Rattle.lid_system.specs.Systems.{Point, source_port, ports_at, IsRead, IsNode, IsChannel, IsWellFormed}
-use Rattle.lid_system.specs.Tables.{carried, carried_at, in_bit, ins_of, input_bits, port_bits, system_drivers, IsTable}
+use Rattle.lid_system.specs.Tables.{carried, carried_at, in_bit, input_reads, input_bits, port_bits, system_drivers, IsTable}
 use Rattle.lid_system.specs.Streams.{token_at, tokens_of, output_row, IsStream, IsOutput}
 use Rattle.lid_system.proofs.Points.{carried_is, carried_port, ports_driven, points_once}
 use Rattle.lid_system.proofs.Walking.{limit, points_end, points_reads_driven}
-use Rattle.lid_system.proofs.Shelling.{each_length, each_get}
-
--- lists of so many numbers' values that agree
-pub each_same : {A : Type 0} (f g : ℕ → A) (k n : ℕ) → ((t : ℕ) → t < k + n → f t ≡ g t) → from_each f k n ≡ from_each g k n
-each_same f g k zero same = refl
-each_same f g k (suc n) same =
-    let head : f k ≡ g k = same k (omega arith) in
-    let tail : from_each f (k + 1) n ≡ from_each g (k + 1) n = each_same f g (k + 1) n (λ t h. same t (omega arith)) in
-    cc
-
-each_all : {A : Type 0} (P : A → Type 0) (f : ℕ → A) (k n : ℕ) → ((t : ℕ) → P (f t)) → AllByRecursion P (from_each f k n)
-each_all P f k zero holds = tt
-each_all P f k (suc n) holds = (holds k, each_all P f (k + 1) n holds)
-
-item_at : {A : Type 0} (xs : List A) (i : ℕ) → i < length xs → (x : A) × (slice_get xs i ≡ Some x)
-item_at [] i h = absurd (omega arith)
-item_at (x ∷ xs) zero h = (x, refl)
-item_at (x ∷ xs) (suc i) h = item_at xs i (omega arith)
-
-pub same_some : {A : Type 0} (o : Option A) (x y : A) → o ≡ Some x → o ≡ Some y → x ≡ y
-same_some o x y e e' = let f : Some x ≡ Some y = sym e ∙ e' in cc
+use Rattle.lid_base.proofs.Each.{each_length, each_get, each_same, all_each}
+use Rattle.lid_base.proofs.Places.{item_at}
+use Rattle.lid_base.proofs.Options.{same_some}
 
 module _ (s : System) where
   -- a bit of a token is a bit of what the channel carries
@@ -60,8 +43,7 @@ module _ (s : System) where
   packed_token b t channel is =
       let ports = ports_at s channel.from in
       ap packed
-      (map_agree (bit_at (port_bits s b channel.from t)) (λ (port : ℕ). b t (get_or ports port (source_port 0))) channel.ports
-      (λ port among. get_or-map (b t) ports port (source_port 0) false (all_among (λ (p : ℕ). p < length ports) channel.ports port is.below among))
+      (map_same (bit_at (port_bits s b channel.from t)) (λ (port : ℕ). b t (get_or ports port (source_port 0))) channel.ports (λ port among. get_or-map (b t) ports port (source_port 0) false (all_among (λ (p : ℕ). p < length ports) channel.ports port is.below among))
       ∙ sym (map-map (b t) (λ (port : ℕ). get_or ports port (source_port 0)) channel.ports))
 
   -- tokens have 31 bits
@@ -135,16 +117,16 @@ module _ (s : System) where
         each : (b' : Table Point) → IsTable s rows b' → tokens_of s b channel (length rows) ≡ tokens_of s b' channel (length rows)
         each b' table' =
             each_same (token_at s b channel) (token_at s b' channel) 0 (length rows)
-            (λ t h. ap packed (map_agree (b t) (b' t) (carried s channel) (carried_agree b b' some_table.1 table' t (omega arith) channel (channel_is c channel here))))
+            (λ t h. ap packed (map_same (b t) (b' t) (carried s channel) (carried_agree b b' some_table.1 table' t (omega arith) channel (channel_is c channel here))))
 
     pub stream_small : (c : ℕ) (tokens : List ℕ) → IsStream s rows c tokens → AllByRecursion (λ token. token < 2 ^ 31) tokens
     stream_small c tokens is =
         let b = is.some.0 in
         subst (AllByRecursion (λ token. token < 2 ^ 31)) (sym (is.each b is.some.1))
-        (each_all (λ token. token < 2 ^ 31) (token_at s b is.channel) 0 (length rows) (λ t. small_token b t is.channel (channel_is c is.channel is.is_channel).few))
+        (all_each (λ token. token < 2 ^ 31) (token_at s b is.channel) 0 (length rows) (λ t. small_token b t is.channel (channel_is c is.channel is.is_channel).few))
 
     -- what the inputs of a node read
-    ins_read : (i : ℕ) (node : Node) → IsNode s i node → AllByRecursion (IsRead s i) (ins_of node)
+    ins_read : (i : ℕ) (node : Node) → IsNode s i node → AllByRecursion (IsRead s i) (input_reads node)
     ins_read i (Source columns) is = tt
     ins_read i (Shell pearl ins) is = is.reads
     ins_read i (Sink columns ins) is = is.reads
@@ -158,10 +140,10 @@ module _ (s : System) where
     pub inputs_agree : (b b' : Table Point) → IsTable s rows b → IsTable s rows b' → (i t : ℕ) → t < length rows → input_bits s b i t ≡ input_bits s b' i t
     inputs_agree b b' table table' i t below = by (slice_get s.nodes i) refl
       where
-        by : (o : Option Node) → slice_get s.nodes i ≡ o → map (in_bit s b t) (option_map_or ins_of o []) ≡ map (in_bit s b' t) (option_map_or ins_of o [])
+        by : (o : Option Node) → slice_get s.nodes i ≡ o → map (in_bit s b t) (option_map_or input_reads o []) ≡ map (in_bit s b' t) (option_map_or input_reads o [])
         by None here = refl
         by (Some node) here =
-            map_agree (in_bit s b t) (in_bit s b' t) (ins_of node) (λ x among. in_agree b b' table table' t below i x (all_among (IsRead s i) (ins_of node) x (ins_read i node (well.each_node i node here)) among))
+            map_same (in_bit s b t) (in_bit s b' t) (input_reads node) (λ x among. in_agree b b' table table' t below i x (all_among (IsRead s i) (input_reads node) x (ins_read i node (well.each_node i node here)) among))
 
     pub some_output : (outs : List (List Bool)) × IsOutput s rows outs
     some_output = (from_each (output_row s b) 0 (length rows), record { some = some_table; each = each })

@@ -5,7 +5,7 @@ use Rattle.std.specs.Option.{option_map_or}
 use Rattle.lid_base.specs.Lists.{Among}
 use Rattle.lid_base.proofs.Lists.{among_left, map_among}
 use Rattle.lid_design.specs.Network.{Driver, from_input, from_latch, from_cover, from_connection}
-use Rattle.lid_design.specs.Walks.{read_now, read_before, Feeds, Walk, WalksEnd, IsDriven, AreReadsDriven}
+use Rattle.lid_design.specs.Walks.{read_now, read_before, Feeds, EdgesLead, WalksEnd, IsDriven, AreReadsDriven}
 use Rattle.lid_design.specs.Flat.{flat_drivers}
 use Rattle.lid_design.proofs.Parts.{flat_walks_end, flat_reads_driven}
 use Rattle.lid_pearl.specs.Pearls.{View}
@@ -16,16 +16,17 @@ use Rattle.lid_system.specs.declared.InBit.{InBit}
 use Rattle.lid_system.specs.declared.InBit.TheVariants.{Const}
 use Rattle.lid_system.specs.Systems.{Point, source_port, shell_net, ports_of, ports_at, IsShell, IsWellFormed}
 use Rattle.lid_system.specs.Tables.{driver_of, in_shell, system_drivers}
-use Rattle.lid_system.proofs.Points.{among_each, input_among, drives_shell, shell_driven, other_drivers, source_drivers, sink_drivers, port_driver, read_port, each_read, ports_driven, shell_is}
+use Rattle.lid_system.proofs.Points.{input_among, drives_shell, shell_driven, other_drivers, source_drivers, sink_drivers, port_driver, read_port, each_read, ports_driven, shell_is}
+use Rattle.lid_base.proofs.Each.{among_each}
 
 -- the last edges of a walk
-last_edges : {C : Type 0} (drivers : C → List (Driver C)) (n m : ℕ) (a c : C) → n ≤ m → Walk drivers m a c → (b : C) × Walk drivers n b c
+last_edges : {C : Type 0} (drivers : C → List (Driver C)) (n m : ℕ) (a c : C) → n ≤ m → EdgesLead drivers m a c → (b : C) × EdgesLead drivers n b c
 last_edges drivers zero m a c le w = (c, refl)
 last_edges drivers (suc n) zero a c le w = absurd (omega arith)
 last_edges drivers (suc n) (suc m) a c le w = let found = last_edges drivers n m a w.0 (omega arith) w.1 in (found.0, (w.0, found.1, w.2))
 
 -- where no walk has n + 1 edges, each has at most n
-walk_most : {C : Type 0} (drivers : C → List (Driver C)) (n m : ℕ) (a c : C) → WalksEnd drivers (n + 1) → Walk drivers m a c → m ≤ n
+walk_most : {C : Type 0} (drivers : C → List (Driver C)) (n m : ℕ) (a c : C) → WalksEnd drivers (n + 1) → EdgesLead drivers m a c → m ≤ n
 walk_most {C} drivers n m a c ends w = by (eq-zero-or-pos (m - n))
   where
     by : (m - n ≡ 0) ⊎ (0 < m - n) → m ≤ n
@@ -55,14 +56,14 @@ module _ (s : System) (well : IsWellFormed s) where
   C = covers_of s.nodes
 
   -- no edge leads into a port of the source
-  none_into_source : (n j : ℕ) (a : Point) → Walk D n a (source_port j) → n ≡ 0
+  none_into_source : (n j : ℕ) (a : Point) → EdgesLead D n a (source_port j) → n ≡ 0
   none_into_source zero j a w = refl
   none_into_source (suc n) j a w =
       let is : w.2.0 ≡ from_input j = port_driver s j w.2.0 w.2.1 in
       absurd (subst (λ (r : Driver Point). Among w.0 (read_now r)) is w.2.2)
 
   -- where nothing drives a point, no edge leads into it
-  none_into : (n : ℕ) (a c : Point) → D c ≡ [] → Walk D n a c → n ≡ 0
+  none_into : (n : ℕ) (a c : Point) → D c ≡ [] → EdgesLead D n a c → n ≡ 0
   none_into zero a c none w = refl
   none_into (suc n) a c none w = absurd (subst (λ (rs : List (Driver Point)). Among w.2.0 rs) none w.2.1)
 
@@ -99,7 +100,7 @@ module _ (s : System) (well : IsWellFormed s) where
 
     -- a walk to a shell's net is inside, or has a last entry
     abbrev StaysInside : ℕ → Point → ℕ → Type 0
-    StaysInside n a k = (k' : ℕ) × (a ≡ shell_net i k') × Walk F n k' k
+    StaysInside n a k = (k' : ℕ) × (a ≡ shell_net i k') × EdgesLead F n k' k
 
     record Enters (n : ℕ) (a : Point) (k : ℕ) : Type 0 where
       before : ℕ
@@ -108,12 +109,12 @@ module _ (s : System) (well : IsWellFormed s) where
       port : Point
       node : ℕ
       is_port : Among port (ports_at s node)
-      to_port : Walk D before a port
+      to_port : EdgesLead D before a port
       input : ℕ
       is_input : Among input pearl.flat.ins
-      from_input : Walk F inside input k
+      from_input : EdgesLead F inside input k
 
-    split_walk : (n : ℕ) (a : Point) (k : ℕ) → Walk D n a (shell_net i k) → StaysInside n a k ⊎ Enters n a k
+    split_walk : (n : ℕ) (a : Point) (k : ℕ) → EdgesLead D n a (shell_net i k) → StaysInside n a k ⊎ Enters n a k
     split_walk zero a k w = inl (k, w, refl)
     split_walk (suc n) a k w = by (edge_into w.0 k w.2) (λ k' w'. split_walk n a k' w')
       where
@@ -123,18 +124,18 @@ module _ (s : System) (well : IsWellFormed s) where
             let sum = enters.sum in
             inr (record { before = enters.before; inside = suc enters.inside; sum = omega arith; port = enters.port; node = enters.node; is_port = enters.is_port; to_port = enters.to_port; input = enters.input; is_input = enters.is_input; from_input = (k', enters.from_input, edge) })
 
-        by : IsInside w.0 k ⊎ IsEntry w.0 k → ((k' : ℕ) → Walk D n a (shell_net i k') → StaysInside n a k' ⊎ Enters n a k') → StaysInside (suc n) a k ⊎ Enters (suc n) a k
-        by (inl inside) next = longer inside.0 inside.2 (next inside.0 (subst (λ (b : Point). Walk D n a b) inside.1 w.1))
+        by : IsInside w.0 k ⊎ IsEntry w.0 k → ((k' : ℕ) → EdgesLead D n a (shell_net i k') → StaysInside n a k' ⊎ Enters n a k') → StaysInside (suc n) a k ⊎ Enters (suc n) a k
+        by (inl inside) next = longer inside.0 inside.2 (next inside.0 (subst (λ (b : Point). EdgesLead D n a b) inside.1 w.1))
         by (inr entry) next = inr (record { before = n; inside = 0; sum = omega arith; port = w.0; node = entry.1; is_port = entry.2; to_port = w.1; input = k; is_input = entry.0; from_input = refl })
 
-    inside_most : (n k' k : ℕ) → Walk F n k' k → n ≤ C
+    inside_most : (n k' k : ℕ) → EdgesLead F n k' k → n ≤ C
     inside_most n k' k w =
         let most : n ≤ length pearl.flat.covers = walk_most F (length pearl.flat.covers) n k' k (flat_walks_end pearl.flat shell.rules) w in
         let all : length pearl.flat.covers ≤ C = covers_most s.nodes i (Shell pearl ins) here in
         omega arith
 
     -- a walk to an output of the shell never entered it
-    output_most : (n : ℕ) (a : Point) (k : ℕ) → Among k pearl.flat.outs → Walk D n a (shell_net i k) → n ≤ C
+    output_most : (n : ℕ) (a : Point) (k : ℕ) → Among k pearl.flat.outs → EdgesLead D n a (shell_net i k) → n ≤ C
     output_most n a k output w = by (split_walk n a k w)
       where
         by : StaysInside n a k ⊎ Enters n a k → n ≤ C
@@ -142,17 +143,17 @@ module _ (s : System) (well : IsWellFormed s) where
         by (inr enters) = absurd (shell.rules.apart enters.inside enters.input k enters.is_input output enters.from_input)
 
   -- a walk to a port is within a shell
-  port_by : (i : ℕ) (node : Node) → slice_get s.nodes i ≡ Some node → (n : ℕ) (a c : Point) → Among c (ports_of i node) → Walk D n a c → n ≤ C
+  port_by : (i : ℕ) (node : Node) → slice_get s.nodes i ≡ Some node → (n : ℕ) (a c : Point) → Among c (ports_of i node) → EdgesLead D n a c → n ≤ C
   port_by i (Source columns) here n a c port w =
       let found = among_each source_port 0 (length columns) c port in
-      let none : n ≡ 0 = none_into_source n found.0 a (subst (λ (c : Point). Walk D n a c) found.3 w) in
+      let none : n ≡ 0 = none_into_source n found.0 a (subst (λ (c : Point). EdgesLead D n a c) found.3 w) in
       omega arith
   port_by i (Shell pearl ins) here n a c port w =
       let found = map_among {A = ℕ} {B = Point} (shell_net i) c pearl.flat.outs port in
-      output_most i pearl ins here n a found.0 found.1 (subst (λ (c : Point). Walk D n a c) found.2 w)
+      output_most i pearl ins here n a found.0 found.1 (subst (λ (c : Point). EdgesLead D n a c) found.2 w)
   port_by i (Sink columns ins) here n a c port w = absurd port
 
-  port_most : (i n : ℕ) (a c : Point) → Among c (ports_at s i) → Walk D n a c → n ≤ C
+  port_most : (i n : ℕ) (a c : Point) → Among c (ports_at s i) → EdgesLead D n a c → n ≤ C
   port_most i n a c port w = by (slice_get s.nodes i) refl port
     where
       by : (o : Option Node) → slice_get s.nodes i ≡ o → Among c (option_map_or (ports_of i) o []) → n ≤ C
@@ -160,7 +161,7 @@ module _ (s : System) (well : IsWellFormed s) where
       by (Some node) here port = port_by i node here n a c port w
 
   -- a walk is within a shell after a walk to a port
-  net_most : (i : ℕ) (node : Node) → slice_get s.nodes i ≡ Some node → (n : ℕ) (a : Point) (k : ℕ) → Walk D n a (shell_net i k) → n ≤ C + 1 + C
+  net_most : (i : ℕ) (node : Node) → slice_get s.nodes i ≡ Some node → (n : ℕ) (a : Point) (k : ℕ) → EdgesLead D n a (shell_net i k) → n ≤ C + 1 + C
   net_most i (Source columns) here n a k w = let none : n ≡ 0 = none_into n a (shell_net i k) (source_drivers s i k columns here) w in omega arith
   net_most i (Shell pearl ins) here n a k w = by (split_walk i pearl ins here n a k w)
     where
@@ -173,7 +174,7 @@ module _ (s : System) (well : IsWellFormed s) where
           omega arith
   net_most i (Sink columns ins) here n a k w = let none : n ≡ 0 = none_into n a (shell_net i k) (sink_drivers s i k columns ins here) w in omega arith
 
-  point_most : (n : ℕ) (a c : Point) → Walk D n a c → n ≤ C + 1 + C
+  point_most : (n : ℕ) (a c : Point) → EdgesLead D n a c → n ≤ C + 1 + C
   point_most n a (source_port j) w = let none : n ≡ 0 = none_into_source n j a w in omega arith
   point_most n a (shell_net i k) w = by (slice_get s.nodes i) refl
     where

@@ -1,7 +1,8 @@
 -- Streams: the tokens of a channel in all rows, and the strict output rows of a system.
 use Rattle.std.specs.Prelude.{◌≡◌, ◌-◌, ℕ, Bool, List, length, map, Some, slice_get}
 use Rattle.lid_cover.specs.Masks.{packed}
-use Rattle.lid_design.specs.Network.{Table, from_each}
+use Rattle.lid_design.specs.Network.{Table}
+use Rattle.lid_base.specs.Each.{from_each}
 use Rattle.lid_system.specs.declared.System.{System}
 use Rattle.lid_system.specs.declared.Channel.{Channel}
 use Rattle.lid_system.specs.Systems.{Point}

@@ -69,14 +69,14 @@ in_bit s b t (Const bit) = bit
 in_bit s b t (Port chan bit) = b t (carried_at s chan bit)
 
 -- what the inputs of a node read
-abbrev pub ins_of : Node → List InBit
-ins_of (Source columns) = []
-ins_of (Shell pearl ins) = ins
-ins_of (Sink columns ins) = ins
+abbrev pub input_reads : Node → List InBit
+input_reads (Source columns) = []
+input_reads (Shell pearl ins) = ins
+input_reads (Sink columns ins) = ins
 
 -- the bits of the inputs of node i in row t
 abbrev pub input_bits : System → Table Point → ℕ → ℕ → List Bool
-input_bits s b i t = map (in_bit s b t) (option_map_or ins_of (slice_get s.nodes i) [])
+input_bits s b i t = map (in_bit s b t) (option_map_or input_reads (slice_get s.nodes i) [])
 
 -- the bits of the ports of node i in row t
 abbrev pub port_bits : System → Table Point → ℕ → ℕ → List Bool

@@ -2,12 +2,13 @@
 
 ghost use Rattle.std.specs.Prelude.{◌≡◌, ◌<◌, ◌+◌, ◌-◌, ◌^◌, ◌++◌, ℕ, Bool, List, Some, length, map, slice_get, take};
 ghost use Rattle.std.specs.List.{AllByRecursion};
-ghost use Rattle.lid_design.specs.Network.{Table, IsStrict, from_each};
+ghost use Rattle.lid_design.specs.Network.{Table, IsStrict};
+ghost use Rattle.lid_base.specs.Each.{from_each};
 ghost use Rattle.lid_design.specs.Walks.{IsDriven, HasTable, HasOneTable};
 ghost use Rattle.lid_design.specs.Flat.{flat_drivers, latch_init, state_at};
 ghost use Rattle.lid_cover.specs.Masks.{packed};
-ghost use Rattle.lid_settle.specs.Rows.{bit_at};
-ghost use Rattle.lid_settle.specs.Truth.{is_set};
+ghost use Rattle.lid_strict_engine.specs.Rows.{bit_at};
+ghost use Rattle.lid_strict_engine.specs.Truth.{is_set};
 ghost use Rattle.lid_pearl.specs.Pearls.{View, Shows, Steps};
 ghost use Rattle.lid_system.specs.declared.System.{System};
 ghost use Rattle.lid_system.specs.declared.Node.TheVariants.{Source, Shell, Sink};

@@ -3,8 +3,8 @@
 ghost use Rattle.std.specs.Prelude.{◌≡◌, ◌≤◌, ◌<◌, ◌^◌, ◌+◌, ◌*◌, ℕ, Bool, if◌then◌else◌, List, Some, length, map, slice_get};
 ghost use Rattle.std.specs.List.{AllByRecursion};
 ghost use Rattle.lid_cover.specs.Masks.{packed};
-ghost use Rattle.lid_settle.specs.Rows.{bit_at};
-ghost use Rattle.lid_settle.specs.Truth.{is_set};
+ghost use Rattle.lid_strict_engine.specs.Rows.{bit_at};
+ghost use Rattle.lid_strict_engine.specs.Truth.{is_set};
 
 /// A token with one bit more, before the others.
 fn with_bit(token: u32, bit: bool) -> u32

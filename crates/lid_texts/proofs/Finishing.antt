@@ -12,8 +12,8 @@ use Rattle.lid_texts.specs.declared.walk.RowWalk.{RowWalk}
 use Rattle.lid_texts.specs.declared.scan.RowScan.{RowScan}
 use Rattle.lid_texts.specs.Rows.{RowsLine, rows_line, has_words, first_some, line_faults, ok_unless, bits_reading, under_columns, rows_lines, rows_reading, row_bits}
 use Rattle.lid_texts.specs.Scans.{ended_lines, logical_of, sound_rows, ended_rows}
-use Rattle.lid_texts.specs.RowsWalk.{joined, alone, if_logical, begun_of, with_last, RowsGrow, IsFaulty, AreJudged, Goes, IsWalked, counted}
-use Rattle.lid_texts.specs.Scanned.{HasRead, Gives, Finishes}
+use Rattle.lid_texts.specs.RowsWalk.{joined_lines, alone, if_logical, begun_of, with_last, RowsGrow, IsFaulty, AreJudged, WalkGoes, IsWalked, judged_count}
+use Rattle.lid_texts.specs.Scanned.{HasRead, Gives, FinishesScan}
 use Rattle.lid_texts.proofs.Splits.{ended_are, last_part, some_parts, few_ended, whole_last}
 use Rattle.lid_texts.proofs.Faulted.{first_fine, first_more, faults_more, rows_fine}
 
@@ -63,7 +63,7 @@ module _ (columns : List (List ℕ)) (outs : ℕ) (bytes : List ℕ) where
           let long : length front ≤ length bytes = subst (λ (ls : List (List ℕ)). length ls ≤ length bytes) ended (few_ended bytes) in
           let first : first_some (line_faults columns outs (logical_of front)) ≡ Some fault = sym (known.kept.same (omega arith)) ∙ same ∙ is in
           let some : is_some (first_some (line_faults columns outs (logical_of front))) ≡ true = ap (λ (o : Option VecFault). is_some o) first in
-          let faults = faults_more columns outs (logical_of front) (if_logical (joined (begun_of front) (alone (length front + 1) last))) in
+          let faults = faults_more columns outs (logical_of front) (if_logical (joined_lines (begun_of front) (alone (length front + 1) last))) in
           refused (with_last front last) fault (ap first_some faults.1 ∙ first_more (line_faults columns outs (logical_of front)) faults.0 some ∙ first)
 
   module _ (lines : List (List ℕ)) (line : List ℕ) (few : length bytes ≤ 67108864) (split : slice_split is_newline bytes ≡ lines ++ line ∷ []) (walk : RowWalk) (old new : List (List Bool)) where
@@ -79,15 +79,15 @@ module _ (columns : List (List ℕ)) (outs : ℕ) (bytes : List ℕ) where
         ∙ grow.all
         ∙ ap (λ (ps : List (List ℕ)). sound_rows columns outs (logical_of ps) ++ grow.rows) (sym (ended_are bytes lines line split))
 
-    pub finished : AreJudged columns outs (length lines + 1) (with_last lines line) walk → RowsGrow columns outs (logical_of lines) (with_last lines line) old new → IfOk (counted walk.fault walk.judged) (Finishes columns outs bytes old new)
+    pub finished : AreJudged columns outs (length lines + 1) (with_last lines line) walk → RowsGrow columns outs (logical_of lines) (with_last lines line) old new → IfOk (judged_count walk.fault walk.judged) (FinishesScan columns outs bytes old new)
     finished (inr faulty) grow = by walk.fault faulty.some
       where
-        by : (o : Option VecFault) → is_some o ≡ true → IfOk (counted o walk.judged) (Finishes columns outs bytes old new)
+        by : (o : Option VecFault) → is_some o ≡ true → IfOk (judged_count o walk.judged) (FinishesScan columns outs bytes old new)
         by None e = absurd (let f : false ≡ true = e in cc)
         by (Some fault) e = tt
-    finished (inl sound) grow = subst (λ (o : Option VecFault). IfOk (counted o walk.judged) (Finishes columns outs bytes old new)) (sym sound.none) (subst (λ (n : ℕ). IfOk (counted None n) (Finishes columns outs bytes old new)) (sym sound.judged) (by (with_last lines line) refl sound.sound))
+    finished (inl sound) grow = subst (λ (o : Option VecFault). IfOk (judged_count o walk.judged) (FinishesScan columns outs bytes old new)) (sym sound.none) (subst (λ (n : ℕ). IfOk (judged_count None n) (FinishesScan columns outs bytes old new)) (sym sound.judged) (by (with_last lines line) refl sound.sound))
       where
-        by : (ls : List RowsLine) → with_last lines line ≡ ls → AllByRecursion (λ fault. fault ≡ None) (line_faults columns outs ls) → IfOk (counted None (length ls)) (Finishes columns outs bytes old new)
+        by : (ls : List RowsLine) → with_last lines line ≡ ls → AllByRecursion (λ fault. fault ≡ None) (line_faults columns outs ls) → IfOk (judged_count None (length ls)) (FinishesScan columns outs bytes old new)
         by [] is fine = tt
         by (l ∷ ls) is fine = record {
           bits = map (row_bits columns) ls;
@@ -98,19 +98,19 @@ module _ (columns : List (List ℕ)) (outs : ℕ) (bytes : List ℕ) where
           all = all_rows (l ∷ ls) is fine grow;
         }
 
-    pub refused_now : length lines + 1 < 2 ^ 32 → AreJudged columns outs (length lines + 1) (with_last lines line) walk → IfErr (counted walk.fault walk.judged) (λ e. (e ≡ Memory) ⊎ (rows_reading columns outs bytes ≡ Err e))
+    pub refused_now : length lines + 1 < 2 ^ 32 → AreJudged columns outs (length lines + 1) (with_last lines line) walk → IfErr (judged_count walk.fault walk.judged) (λ e. (e ≡ Memory) ⊎ (rows_reading columns outs bytes ≡ Err e))
     refused_now small (inr faulty) = by walk.fault refl
       where
-        by : (o : Option VecFault) → walk.fault ≡ o → IfErr (counted o walk.judged) (λ e. (e ≡ Memory) ⊎ (rows_reading columns outs bytes ≡ Err e))
+        by : (o : Option VecFault) → walk.fault ≡ o → IfErr (judged_count o walk.judged) (λ e. (e ≡ Memory) ⊎ (rows_reading columns outs bytes ≡ Err e))
         by None e = absurd (let f : false ≡ true = sym (ap (λ (o : Option VecFault). is_some o) e) ∙ faulty.some in cc)
         by (Some fault) e = inr (whole ∙ refused (with_last lines line) fault (sym (faulty.kept.same small) ∙ e))
-    refused_now small (inl sound) = subst (λ (o : Option VecFault). IfErr (counted o walk.judged) (λ e. (e ≡ Memory) ⊎ (rows_reading columns outs bytes ≡ Err e))) (sym sound.none) (subst (λ (n : ℕ). IfErr (counted None n) (λ e. (e ≡ Memory) ⊎ (rows_reading columns outs bytes ≡ Err e))) (sym sound.judged) (by (with_last lines line) refl))
+    refused_now small (inl sound) = subst (λ (o : Option VecFault). IfErr (judged_count o walk.judged) (λ e. (e ≡ Memory) ⊎ (rows_reading columns outs bytes ≡ Err e))) (sym sound.none) (subst (λ (n : ℕ). IfErr (judged_count None n) (λ e. (e ≡ Memory) ⊎ (rows_reading columns outs bytes ≡ Err e))) (sym sound.judged) (by (with_last lines line) refl))
       where
-        by : (ls : List RowsLine) → with_last lines line ≡ ls → IfErr (counted None (length ls)) (λ e. (e ≡ Memory) ⊎ (rows_reading columns outs bytes ≡ Err e))
+        by : (ls : List RowsLine) → with_last lines line ≡ ls → IfErr (judged_count None (length ls)) (λ e. (e ≡ Memory) ⊎ (rows_reading columns outs bytes ≡ Err e))
         by [] is = inr (whole ∙ ap (λ (xs : List RowsLine). under_columns columns (bits_reading columns outs xs)) is ∙ read_nothing)
         by (l ∷ ls) is = tt
 
-pub not_counted : (fault : Option VecFault) (judged : ℕ) → OnErr (counted fault judged) ((is_some fault ≡ true) ⊎ (judged ≡ 0))
+pub not_counted : (fault : Option VecFault) (judged : ℕ) → OnErr (judged_count fault judged) ((is_some fault ≡ true) ⊎ (judged ≡ 0))
 not_counted (Some fault) judged = inl refl
 not_counted None zero = inr refl
 not_counted None (suc n) = tt
@@ -123,7 +123,7 @@ pub record AtEnd (scan : RowScan) (bytes : List ℕ) : Type 0 where
   pub short : length bytes ≤ 67108864
   pub few : length (ended_lines bytes) + 1 < 2 ^ 64
   pub small : length (ended_lines bytes) + 1 < 2 ^ 32
-  pub goes : Goes scan.columns scan.outs (ended_lines bytes) scan.walk
+  pub goes : WalkGoes scan.columns scan.outs (ended_lines bytes) scan.walk
   pub split : slice_split is_newline bytes ≡ ended_lines bytes ++ scan.partial.items ∷ []
 
 pub at_end : (scan : RowScan) (bytes : List ℕ) → HasRead scan bytes → scan.total ≤ 67108864 → scan.walk.fault ≡ None → AtEnd scan bytes
@@ -143,9 +143,9 @@ at_end scan bytes read most none =
 
 -- what is given of any lines that go on so, for names and a last line that are those of the scan
 pub at_last : (P : List (List ℕ) → List ℕ → List (List ℕ) → Type 0) (scan : RowScan) (bytes : List ℕ) (names : List (List ℕ)) (last : List ℕ) → AtEnd scan bytes → names ≡ scan.columns → last ≡ scan.partial.items
-    → ((lines : List (List ℕ)) → length lines + 1 < 2 ^ 64 → Goes names scan.outs lines scan.walk → P names last lines) → P scan.columns scan.partial.items (ended_lines bytes)
+    → ((lines : List (List ℕ)) → length lines + 1 < 2 ^ 64 → WalkGoes names scan.outs lines scan.walk → P names last lines) → P scan.columns scan.partial.items (ended_lines bytes)
 at_last P scan bytes names last end columns line given =
-    let goes = subst (λ (ns : List (List ℕ)). Goes ns scan.outs (ended_lines bytes) scan.walk) (sym columns) end.goes in
+    let goes = subst (λ (ns : List (List ℕ)). WalkGoes ns scan.outs (ended_lines bytes) scan.walk) (sym columns) end.goes in
     along_both (λ ns l. P ns l (ended_lines bytes)) (sym columns) (sym line) (given (ended_lines bytes) end.few goes)
 
 nothing_ended : (columns : List (List ℕ)) (outs : ℕ) → ended_rows columns outs [] ≡ []
@@ -154,9 +154,9 @@ nothing_ended columns outs = ap (λ (ls : List (List ℕ)). sound_rows columns o
 
 -- a text that was read in one piece
 pub whole_read : (columns others : List (List ℕ)) (outs more : ℕ) (bytes : List ℕ) (none middle all : List (List Bool)) (n : ℕ) → others ≡ columns → more ≡ outs → none ≡ [] →
-    Gives columns outs [] bytes none middle → Finishes others more bytes middle all n → rows_reading columns outs bytes ≡ Ok (record { columns = columns; bits = all })
+    Gives columns outs [] bytes none middle → FinishesScan others more bytes middle all n → rows_reading columns outs bytes ≡ Ok (record { columns = columns; bits = all })
 whole_read columns others outs more bytes none middle all n same_columns same_outs is given end =
-    let own = subst (λ (k : ℕ). Finishes columns k bytes middle all n) same_outs (subst (λ (ns : List (List ℕ)). Finishes ns more bytes middle all n) same_columns end) in
+    let own = subst (λ (k : ℕ). FinishesScan columns k bytes middle all n) same_outs (subst (λ (ns : List (List ℕ)). FinishesScan ns more bytes middle all n) same_columns end) in
     let rows : middle ≡ ended_rows columns outs bytes = given.appended ∙ ap (λ (xs : List (List Bool)). xs ++ given.rows) (is ∙ sym (nothing_ended columns outs)) ∙ sym given.all in
     let whole : own.bits ≡ all = own.all ∙ ap (λ (xs : List (List Bool)). xs ++ own.rows) (sym rows) ∙ sym own.appended in
     own.reads ∙ ap (λ (bits : List (List Bool)). Ok (record { columns = columns; bits = bits })) whole

@@ -1,35 +1,16 @@
 -- A logical line is judged after those before it.
-use Rattle.std.proofs.Common.{◌≡◌, ℕ, zero, suc, ◌+◌, ◌<◌, ◌≤◌, Bool, true, false, cond, List, [], ◌∷◌, ◌++◌, length, Option, Some, None, inl, inr, refl, sym, ap, ◌∙◌, length-append, subst, arith}
+use Rattle.std.proofs.Common.{◌≡◌, ℕ, zero, suc, ◌+◌, ◌<◌, ◌≤◌, Bool, true, false, cond, List, [], ◌∷◌, ◌++◌, length, Option, None, inl, inr, sym, ap, ◌∙◌, length-append, subst, arith}
 use Rattle.std.specs.Prelude.{is_some, min}
 use Rattle.std.proofs.lemmas.List.{append-nil}
 use Rattle.lid_texts.specs.declared.rows.VecFault.{VecFault}
 use Rattle.lid_texts.specs.declared.walk.RowWalk.{RowWalk}
 use Rattle.lid_texts.specs.Rows.{RowsLine, has_words, row_bits, first_some, line_faults}
 use Rattle.lid_texts.specs.Scans.{sound_rows}
-use Rattle.lid_texts.specs.RowsWalk.{line_fault, IsKept, if_logical, RowsGrow, AreSound, AreJudged}
+use Rattle.lid_texts.specs.RowsWalk.{line_fault, IsKeptFault, if_logical, RowsGrow, AreSound, AreJudged}
 use Rattle.lid_texts.proofs.Faulted.{first_last, row_of, faults_last, fine_last, rows_last, rows_last_faulty}
-
-pub none_is : {A : Type 0} (o : Option A) → is_some o ≡ false → o ≡ None
-none_is None h = refl
-none_is (Some a) h = absurd (let e : true ≡ false = h in cc)
+use Rattle.lid_base.proofs.Options.{none_of}
 
 module _ (columns : List (List ℕ)) (outs : ℕ) (lines : List RowsLine) (line : RowsLine) where
-  alone_of : (b : Bool) → List RowsLine
-  alone_of b = cond b (line ∷ []) []
-
-  -- a join without words is no logical line
-  pub judged_nothing : (walk : RowWalk) → has_words line ≡ false → AreSound columns outs lines walk → AreJudged columns outs line.number (lines ++ if_logical line) walk
-  judged_nothing walk none sound =
-      subst (λ (ls : List RowsLine). AreJudged columns outs line.number ls walk) (sym (ap (λ (b : Bool). lines ++ cond b (line ∷ []) []) none ∙ append-nil lines)) (inl sound)
-
-  pub grown_nothing : (rows : List (List Bool)) → has_words line ≡ false → RowsGrow columns outs lines (lines ++ if_logical line) rows rows
-  grown_nothing rows none =
-      record {
-        rows = [];
-        appended = sym (append-nil rows);
-        all = ap (sound_rows columns outs) (ap (λ (b : Bool). lines ++ cond b (line ∷ []) []) none ∙ append-nil lines) ∙ sym (append-nil (sound_rows columns outs lines));
-      }
-
   -- the fault of the line, by how many lines were judged
   fault_is : (walk : RowWalk) → AreSound columns outs lines walk → first_some (line_faults columns outs (lines ++ line ∷ [])) ≡ line_fault columns outs walk.judged line
   fault_is walk sound =
@@ -40,19 +21,19 @@ module _ (columns : List (List ℕ)) (outs : ℕ) (lines : List RowsLine) (line 
   with_line : has_words line ≡ true → lines ++ line ∷ [] ≡ lines ++ if_logical line
   with_line some = sym (ap (λ (b : Bool). lines ++ cond b (line ∷ []) []) some)
 
-  pub judged_faulty : (walk new : RowWalk) → has_words line ≡ true → AreSound columns outs lines walk → IsKept line.number new.fault (line_fault columns outs walk.judged line) → is_some new.fault ≡ true →
+  pub judged_faulty : (walk new : RowWalk) → has_words line ≡ true → AreSound columns outs lines walk → IsKeptFault line.number new.fault (line_fault columns outs walk.judged line) → is_some new.fault ≡ true →
       AreJudged columns outs line.number (lines ++ if_logical line) new
   judged_faulty walk new some sound kept faulty =
       subst (λ (ls : List RowsLine). AreJudged columns outs line.number ls new) (with_line some)
       (inr (record {
         some = faulty;
-        kept = subst (IsKept line.number new.fault) (sym (fault_is walk sound)) kept;
+        kept = subst (IsKeptFault line.number new.fault) (sym (fault_is walk sound)) kept;
       }))
 
   fault_here : (walk : RowWalk) → AreSound columns outs lines walk → line_fault columns outs walk.judged line ≡ line_fault columns outs (length lines) line
   fault_here walk sound = ap (λ (n : ℕ). line_fault columns outs n line) sound.judged
 
-  pub grown_faulty : (walk : RowWalk) (kept : Option VecFault) (rows : List (List Bool)) → has_words line ≡ true → AreSound columns outs lines walk → IsKept line.number kept (line_fault columns outs walk.judged line) → is_some kept ≡ true →
+  pub grown_faulty : (walk : RowWalk) (kept : Option VecFault) (rows : List (List Bool)) → has_words line ≡ true → AreSound columns outs lines walk → IsKeptFault line.number kept (line_fault columns outs walk.judged line) → is_some kept ≡ true →
       RowsGrow columns outs lines (lines ++ if_logical line) rows rows
   grown_faulty walk kept rows some sound is faulty =
       let at : is_some (line_fault columns outs (length lines) line) ≡ true = sym (ap (λ (o : Option VecFault). is_some o) (fault_here walk sound)) ∙ sym is.some ∙ faulty in
@@ -62,11 +43,11 @@ module _ (columns : List (List ℕ)) (outs : ℕ) (lines : List RowsLine) (line 
         all = ap (sound_rows columns outs) (sym (with_line some)) ∙ rows_last_faulty columns outs lines line sound.sound at ∙ sym (append-nil (sound_rows columns outs lines));
       }
 
-  fine_here : (walk : RowWalk) (kept : Option VecFault) → AreSound columns outs lines walk → IsKept line.number kept (line_fault columns outs walk.judged line) → is_some kept ≡ false → line_fault columns outs (length lines) line ≡ None
+  fine_here : (walk : RowWalk) (kept : Option VecFault) → AreSound columns outs lines walk → IsKeptFault line.number kept (line_fault columns outs walk.judged line) → is_some kept ≡ false → line_fault columns outs (length lines) line ≡ None
   fine_here walk kept sound is fine =
-      none_is (line_fault columns outs (length lines) line) (sym (ap (λ (o : Option VecFault). is_some o) (fault_here walk sound)) ∙ sym is.some ∙ fine)
+      none_of (line_fault columns outs (length lines) line) (sym (ap (λ (o : Option VecFault). is_some o) (fault_here walk sound)) ∙ sym is.some ∙ fine)
 
-  pub judged_fine : (walk new : RowWalk) → has_words line ≡ true → AreSound columns outs lines walk → IsKept line.number new.fault (line_fault columns outs walk.judged line) → is_some new.fault ≡ false → walk.judged ≤ 1000000 →
+  pub judged_fine : (walk new : RowWalk) → has_words line ≡ true → AreSound columns outs lines walk → IsKeptFault line.number new.fault (line_fault columns outs walk.judged line) → is_some new.fault ≡ false → walk.judged ≤ 1000000 →
       new.judged ≡ min (walk.judged + 1) 4294967295 → AreJudged columns outs line.number (lines ++ if_logical line) new
   judged_fine walk new some sound kept fine few more =
       let judged = sound.judged in
@@ -74,13 +55,13 @@ module _ (columns : List (List ℕ)) (outs : ℕ) (lines : List RowsLine) (line 
       let most : length (lines ++ line ∷ []) ≤ 1000001 = simp length-append (omega arith) in
       subst (λ (ls : List RowsLine). AreJudged columns outs line.number ls new) (with_line some)
       (inl (record {
-        none = none_is new.fault fine;
+        none = none_of new.fault fine;
         judged = number;
         few = most;
         sound = fine_last columns outs lines line sound.sound (fine_here walk new.fault sound kept fine);
       }))
 
-  pub grown_fine : (walk : RowWalk) (kept : Option VecFault) (old new : List (List Bool)) → has_words line ≡ true → AreSound columns outs lines walk → IsKept line.number kept (line_fault columns outs walk.judged line) → is_some kept ≡ false →
+  pub grown_fine : (walk : RowWalk) (kept : Option VecFault) (old new : List (List Bool)) → has_words line ≡ true → AreSound columns outs lines walk → IsKeptFault line.number kept (line_fault columns outs walk.judged line) → is_some kept ≡ false →
       (walk.judged ≡ 0 → new ≡ old) → (0 < walk.judged → new ≡ old ++ row_bits columns line ∷ []) → RowsGrow columns outs lines (lines ++ if_logical line) old new
   grown_fine walk kept old new some sound is fine first row =
       record {

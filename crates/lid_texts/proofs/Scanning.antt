@@ -15,7 +15,7 @@ use Rattle.lid_texts.specs.declared.walk.RowWalk.{RowWalk}
 use Rattle.lid_texts.specs.declared.scan.RowScan.{RowScan}
 use Rattle.lid_texts.specs.Rows.{RowsLine, first_some, line_faults}
 use Rattle.lid_texts.specs.Scans.{ended_lines, logical_of, sound_rows, ended_fault, ended_rows}
-use Rattle.lid_texts.specs.RowsWalk.{no_line, RowsGrow, IsFaulty, Goes, IsWalked}
+use Rattle.lid_texts.specs.RowsWalk.{no_line, RowsGrow, IsFaulty, WalkGoes, IsWalked}
 use Rattle.lid_texts.specs.Scanned.{HasRead, Gives, GivesPrefix}
 use Rattle.lid_texts.proofs.Splits.{onto_part, onto_nothing, split_more, ended_are, last_part, some_parts, ended_more, logical_more}
 use Rattle.lid_texts.proofs.Faulted.{first_fine, first_more, faults_more, rows_stopped, rows_more}
@@ -27,7 +27,7 @@ is_not_some o none some = let e : is_some o ≡ false = ap (λ p. is_some p) non
 pub nothing_read : (scan : RowScan) → scan.total ≡ 0 → scan.walk ≡ record { number = 0; judged = 0; begun = no_line; fault = None } → scan.partial.items ≡ [] → HasRead scan []
 nothing_read scan total walk partial =
     let ended : ended_lines [] ≡ [] = ended_are [] [] [] refl in
-    let goes : Goes scan.columns scan.outs [] scan.walk = subst (Goes scan.columns scan.outs []) (sym walk) (record { number = refl; begun = refl; sound = record { none = refl; judged = refl; few = omega arith; sound = tt } }) in
+    let goes : WalkGoes scan.columns scan.outs [] scan.walk = subst (WalkGoes scan.columns scan.outs []) (sym walk) (record { number = refl; begun = refl; sound = record { none = refl; judged = refl; few = omega arith; sound = tt } }) in
     record {
       total = total;
       walked = subst (λ (ls : List (List ℕ)). IsWalked scan.columns scan.outs ls scan.walk) (sym ended) (inl goes);
@@ -87,7 +87,7 @@ module _ (columns : List (List ℕ)) (outs : ℕ) (bytes piece left : List ℕ) 
   abbrev pub lines : List (List ℕ)
   lines = taking.lines
 
-  pub goes_of : walk.fault ≡ None → Goes columns outs lines walk
+  pub goes_of : walk.fault ≡ None → WalkGoes columns outs lines walk
   goes_of none = elim taking.walked [ inl goes ↦ goes | inr faulty ↦ absurd (is_not_some walk.fault none faulty.some) ]
 
   -- a newline comes in what is left

@@ -12,8 +12,8 @@ use Rattle.std.proofs.Math.Seq.{take-append_seam}
 use Rattle.lid_base.specs.Lines.{is_newline, joins_of, goes_on, onto_first_join, words_of, has_bad_byte}
 use Rattle.lid_base.specs.Lists.{Extends}
 use Rattle.lid_texts.specs.Rows.{RowsLine, rows_line, has_words}
-use Rattle.lid_texts.specs.Scans.{ended_lines, Joins, before_joins, split_joins, logical_of}
-use Rattle.lid_texts.specs.RowsWalk.{joined, alone, no_line, begun_of, with_last}
+use Rattle.lid_texts.specs.Scans.{ended_lines, LineJoins, before_joins, split_joins, logical_of}
+use Rattle.lid_texts.specs.RowsWalk.{joined_lines, alone, no_line, begun_of, with_last}
 
 -- a first part that goes on with the first of others
 abbrev pub onto_part : {A : Type 0} → List A → List (List A) → List (List A)
@@ -131,10 +131,10 @@ joins_last (q ∷ ps) p = by (goes_on q.1) (joins_last ps p)
     by false e = ap (λ (js : List (List (ℕ × List ℕ))). (q ∷ []) ∷ js) e
 
 -- joins that have ended and the open one, after one more line
-abbrev grown : Bool → ℕ × List ℕ → List (List (ℕ × List ℕ)) → List (ℕ × List ℕ) → Joins
+abbrev grown : Bool → ℕ × List ℕ → List (List (ℕ × List ℕ)) → List (ℕ × List ℕ) → LineJoins
 grown b p done begun = if b then record { done = done; begun = begun ++ p ∷ [] } else record { done = done ++ (begun ++ p ∷ []) ∷ []; begun = [] }
 
-abbrev stepped : Bool → ℕ × List ℕ → Joins → Joins
+abbrev stepped : Bool → ℕ × List ℕ → LineJoins → LineJoins
 stepped b q joins = if b then before_joins q joins.done joins.begun else record { done = (q ∷ []) ∷ joins.done; begun = joins.begun }
 
 stepped_grown : (b c : Bool) (q p : ℕ × List ℕ) (done : List (List (ℕ × List ℕ))) (begun : List (ℕ × List ℕ)) →
@@ -190,7 +190,7 @@ not_zero : (n : ℕ) → 0 < n → (n == 0) ≡ false
 not_zero n h = grind (arith, common_steps)
 
 -- the logical line of a join that goes on
-line_more : (most : ℕ) (begun : List (ℕ × List ℕ)) (p : ℕ × List ℕ) → AllByRecursion (Within most) begun → rows_line (begun ++ p ∷ []) ≡ joined (rows_line begun) (alone p.0 p.1)
+line_more : (most : ℕ) (begun : List (ℕ × List ℕ)) (p : ℕ × List ℕ) → AllByRecursion (Within most) begun → rows_line (begun ++ p ∷ []) ≡ joined_lines (rows_line begun) (alone p.0 p.1)
 line_more most [] p all = same_line _ _ _ _ _ _ refl (append-nil (words_of p.1)) (or-false (has_bad_byte p.1))
 line_more most (q ∷ begun) p all =
     let number : q.0 ≡ cond (q.0 == 0) p.0 q.0 = rw (not_zero q.0 all.0.0) refl in
@@ -202,13 +202,13 @@ begun_within : (lines : List (List ℕ)) → AllByRecursion (Within (length line
 begun_within lines = open_within (length lines) (enumerate_from 1 lines) (enumerate_within 1 (length lines) lines (omega arith) (omega arith))
 
 -- the line with which physical lines end
-last_line : (lines : List (List ℕ)) (line : List ℕ) → rows_line ((split_joins (enumerate_from 1 lines)).begun ++ (length lines + 1, line) ∷ []) ≡ joined (begun_of lines) (alone (length lines + 1) line)
+last_line : (lines : List (List ℕ)) (line : List ℕ) → rows_line ((split_joins (enumerate_from 1 lines)).begun ++ (length lines + 1, line) ∷ []) ≡ joined_lines (begun_of lines) (alone (length lines + 1) line)
 last_line lines line = line_more (length lines) (split_joins (enumerate_from 1 lines)).begun (length lines + 1, line) (begun_within lines)
 
-pub last_number : (lines : List (List ℕ)) (line : List ℕ) → (joined (begun_of lines) (alone (length lines + 1) line)).number ≤ length lines + 1
+pub last_number : (lines : List (List ℕ)) (line : List ℕ) → (joined_lines (begun_of lines) (alone (length lines + 1) line)).number ≤ length lines + 1
 last_number lines line = by (split_joins (enumerate_from 1 lines)).begun (begun_within lines)
   where
-    by : (begun : List (ℕ × List ℕ)) → AllByRecursion (Within (length lines)) begun → (joined (rows_line begun) (alone (length lines + 1) line)).number ≤ length lines + 1
+    by : (begun : List (ℕ × List ℕ)) → AllByRecursion (Within (length lines)) begun → (joined_lines (rows_line begun) (alone (length lines + 1) line)).number ≤ length lines + 1
     by [] all = omega arith
     by (q ∷ begun) all =
         let number : q.0 ≡ cond (q.0 == 0) (length lines + 1) q.0 = rw (not_zero q.0 all.0.0) refl in
@@ -217,9 +217,9 @@ last_number lines line = by (split_joins (enumerate_from 1 lines)).begun (begun_
 
 -- a line after the logical lines of some joins
 ended : (lines : List (List ℕ)) (line : List ℕ) (done : List (List (ℕ × List ℕ))) (begun : List (ℕ × List ℕ)) →
-    rows_line (begun ++ (length lines + 1, line) ∷ []) ≡ joined (begun_of lines) (alone (length lines + 1) line) →
+    rows_line (begun ++ (length lines + 1, line) ∷ []) ≡ joined_lines (begun_of lines) (alone (length lines + 1) line) →
     filter has_words (map rows_line (done ++ (begun ++ (length lines + 1, line) ∷ []) ∷ []))
-    ≡ filter has_words (map rows_line done) ++ filter has_words (joined (begun_of lines) (alone (length lines + 1) line) ∷ [])
+    ≡ filter has_words (map rows_line done) ++ filter has_words (joined_lines (begun_of lines) (alone (length lines + 1) line) ∷ [])
 ended lines line done begun e =
     ap (filter has_words) (map-append rows_line done ((begun ++ (length lines + 1, line) ∷ []) ∷ []))
     ∙ filter-append has_words (map rows_line done) (rows_line (begun ++ (length lines + 1, line) ∷ []) ∷ [])
@@ -238,7 +238,7 @@ pub logical_ends : (lines : List (List ℕ)) (line : List ℕ) → goes_on line 
 logical_ends lines line last =
     let joins = split_joins (enumerate_from 1 lines) in
     ap (λ ps. filter has_words (map rows_line (split_joins ps).done)) (enumerate_last 1 lines line)
-    ∙ ap (λ (js : Joins). filter has_words (map rows_line js.done)) (split_last (enumerate_from 1 lines) (length lines + 1, line))
+    ∙ ap (λ (js : LineJoins). filter has_words (map rows_line js.done)) (split_last (enumerate_from 1 lines) (length lines + 1, line))
     ∙ ap (λ (b : Bool). filter has_words (map rows_line (grown b (length lines + 1, line) joins.done joins.begun).done)) last
     ∙ ended lines line joins.done joins.begun (last_line lines line)
 
@@ -246,21 +246,21 @@ pub logical_goes_on : (lines : List (List ℕ)) (line : List ℕ) → goes_on li
 logical_goes_on lines line more =
     let joins = split_joins (enumerate_from 1 lines) in
     ap (λ ps. filter has_words (map rows_line (split_joins ps).done)) (enumerate_last 1 lines line)
-    ∙ ap (λ (js : Joins). filter has_words (map rows_line js.done)) (split_last (enumerate_from 1 lines) (length lines + 1, line))
+    ∙ ap (λ (js : LineJoins). filter has_words (map rows_line js.done)) (split_last (enumerate_from 1 lines) (length lines + 1, line))
     ∙ ap (λ (b : Bool). filter has_words (map rows_line (grown b (length lines + 1, line) joins.done joins.begun).done)) more
 
 pub begun_ends : (lines : List (List ℕ)) (line : List ℕ) → goes_on line ≡ false → begun_of (lines ++ line ∷ []) ≡ no_line
 begun_ends lines line last =
     let joins = split_joins (enumerate_from 1 lines) in
     ap (λ ps. rows_line (split_joins ps).begun) (enumerate_last 1 lines line)
-    ∙ ap (λ (js : Joins). rows_line js.begun) (split_last (enumerate_from 1 lines) (length lines + 1, line))
+    ∙ ap (λ (js : LineJoins). rows_line js.begun) (split_last (enumerate_from 1 lines) (length lines + 1, line))
     ∙ ap (λ (b : Bool). rows_line (grown b (length lines + 1, line) joins.done joins.begun).begun) last
 
-pub begun_goes_on : (lines : List (List ℕ)) (line : List ℕ) → goes_on line ≡ true → begun_of (lines ++ line ∷ []) ≡ joined (begun_of lines) (alone (length lines + 1) line)
+pub begun_goes_on : (lines : List (List ℕ)) (line : List ℕ) → goes_on line ≡ true → begun_of (lines ++ line ∷ []) ≡ joined_lines (begun_of lines) (alone (length lines + 1) line)
 begun_goes_on lines line more =
     let joins = split_joins (enumerate_from 1 lines) in
     ap (λ ps. rows_line (split_joins ps).begun) (enumerate_last 1 lines line)
-    ∙ ap (λ (js : Joins). rows_line js.begun) (split_last (enumerate_from 1 lines) (length lines + 1, line))
+    ∙ ap (λ (js : LineJoins). rows_line js.begun) (split_last (enumerate_from 1 lines) (length lines + 1, line))
     ∙ ap (λ (b : Bool). rows_line (grown b (length lines + 1, line) joins.done joins.begun).begun) more
     ∙ last_line lines line
 
@@ -275,5 +275,5 @@ logical_more lines (line ∷ more) =
     by : (b : Bool) → goes_on line ≡ b → (later : List RowsLine) → logical_of (lines ++ line ∷ more) ≡ logical_of (lines ++ line ∷ []) ++ later → Extends (logical_of lines) (logical_of (lines ++ line ∷ more))
     by true e later whole = (later, whole ∙ ap (λ (ls : List RowsLine). ls ++ later) (logical_goes_on lines line e))
     by false e later whole =
-        let own = filter has_words (joined (begun_of lines) (alone (length lines + 1) line) ∷ []) in
+        let own = filter has_words (joined_lines (begun_of lines) (alone (length lines + 1) line) ∷ []) in
         (own ++ later, whole ∙ ap (λ (ls : List RowsLine). ls ++ later) (logical_ends lines line e) ∙ append_assoc (logical_of lines) own later)

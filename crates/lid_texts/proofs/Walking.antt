@@ -5,24 +5,24 @@ use Rattle.lid_base.specs.Lines.{goes_on}
 use Rattle.lid_texts.specs.declared.walk.RowWalk.{RowWalk}
 use Rattle.lid_texts.specs.Rows.{RowsLine}
 use Rattle.lid_texts.specs.Scans.{logical_of, sound_rows}
-use Rattle.lid_texts.specs.RowsWalk.{joined, alone, no_line, if_logical, begun_of, with_last, RowsGrow, AreSound, IsFaulty, AreJudged, Goes, IsWalked}
+use Rattle.lid_texts.specs.RowsWalk.{joined_lines, alone, no_line, if_logical, begun_of, with_last, RowsGrow, AreSound, IsFaulty, AreJudged, WalkGoes, IsWalked}
 use Rattle.lid_texts.proofs.Splits.{last_number, logical_ends, logical_goes_on, begun_ends, begun_goes_on}
 use Rattle.std.proofs.lemmas.List.{append-nil}
 
 module _ (columns : List (List ℕ)) (outs : ℕ) (lines : List (List ℕ)) (line : List ℕ) where
   -- the line that is begun then
-  added : (walk : RowWalk) (n : ℕ) (begun : RowsLine) → length lines + 1 < 2 ^ 64 → Goes columns outs lines walk → n ≡ min (walk.number + 1) 18446744073709551615 → begun ≡ joined walk.begun (alone n line) →
-      begun ≡ joined (begun_of lines) (alone (length lines + 1) line)
+  added : (walk : RowWalk) (n : ℕ) (begun : RowsLine) → length lines + 1 < 2 ^ 64 → WalkGoes columns outs lines walk → n ≡ min (walk.number + 1) 18446744073709551615 → begun ≡ joined_lines walk.begun (alone n line) →
+      begun ≡ joined_lines (begun_of lines) (alone (length lines + 1) line)
   added walk n begun few goes next is =
       let number = goes.number in
       let more : n ≡ length lines + 1 = omega arith in
-      is ∙ ap (λ (l : RowsLine). joined l (alone n line)) goes.begun ∙ ap (λ (k : ℕ). joined (begun_of lines) (alone k line)) more
+      is ∙ ap (λ (l : RowsLine). joined_lines l (alone n line)) goes.begun ∙ ap (λ (k : ℕ). joined_lines (begun_of lines) (alone k line)) more
 
   number_more : (old new : ℕ) → length lines + 1 < 2 ^ 64 → old ≡ length lines → new ≡ min (old + 1) 18446744073709551615 → new ≡ length (lines ++ line ∷ [])
   number_more old new few is more = simp length-append (omega arith)
 
-  pub goes_on_walked : (walk new : RowWalk) → length lines + 1 < 2 ^ 64 → goes_on line ≡ true → Goes columns outs lines walk →
-      new.begun ≡ joined walk.begun (alone new.number line) → new.number ≡ min (walk.number + 1) 18446744073709551615 → new.judged ≡ walk.judged → new.fault ≡ walk.fault →
+  pub goes_on_walked : (walk new : RowWalk) → length lines + 1 < 2 ^ 64 → goes_on line ≡ true → WalkGoes columns outs lines walk →
+      new.begun ≡ joined_lines walk.begun (alone new.number line) → new.number ≡ min (walk.number + 1) 18446744073709551615 → new.judged ≡ walk.judged → new.fault ≡ walk.fault →
       IsWalked columns outs (lines ++ line ∷ []) new
   goes_on_walked walk new few on goes begun number judged fault =
       inl (record {
@@ -45,14 +45,14 @@ module _ (columns : List (List ℕ)) (outs : ℕ) (lines : List (List ℕ)) (lin
       }
 
   -- the walk before its begun line ends
-  pub sound_with : (walk new : RowWalk) → Goes columns outs lines walk → new.judged ≡ walk.judged → new.fault ≡ walk.fault → AreSound columns outs (logical_of lines) new
+  pub sound_with : (walk new : RowWalk) → WalkGoes columns outs lines walk → new.judged ≡ walk.judged → new.fault ≡ walk.fault → AreSound columns outs (logical_of lines) new
   sound_with walk new goes judged fault = record { none = fault ∙ goes.sound.none; judged = judged ∙ goes.sound.judged; few = goes.sound.few; sound = goes.sound.sound }
 
-  with_begun : (begun : RowsLine) → begun ≡ joined (begun_of lines) (alone (length lines + 1) line) → logical_of lines ++ if_logical begun ≡ with_last lines line
+  with_begun : (begun : RowsLine) → begun ≡ joined_lines (begun_of lines) (alone (length lines + 1) line) → logical_of lines ++ if_logical begun ≡ with_last lines line
   with_begun begun is = ap (λ (l : RowsLine). logical_of lines ++ if_logical l) is
 
   -- the last line is judged
-  pub last_judged : (walk new : RowWalk) (n : ℕ) (begun : RowsLine) → length lines + 1 < 2 ^ 64 → Goes columns outs lines walk → n ≡ min (walk.number + 1) 18446744073709551615 → begun ≡ joined walk.begun (alone n line) →
+  pub last_judged : (walk new : RowWalk) (n : ℕ) (begun : RowsLine) → length lines + 1 < 2 ^ 64 → WalkGoes columns outs lines walk → n ≡ min (walk.number + 1) 18446744073709551615 → begun ≡ joined_lines walk.begun (alone n line) →
       AreJudged columns outs begun.number (logical_of lines ++ if_logical begun) new → AreJudged columns outs (length lines + 1) (with_last lines line) new
   last_judged walk new n begun few goes next is judged =
       let whole = added walk n begun few goes next is in
@@ -63,11 +63,11 @@ module _ (columns : List (List ℕ)) (outs : ℕ) (lines : List (List ℕ)) (lin
         | inr faulty ↦ inr (record { some = faulty.some; kept = record { some = faulty.kept.some; same = λ few. faulty.kept.same (omega arith) } })
       ]
 
-  pub last_rows : (walk : RowWalk) (n : ℕ) (begun : RowsLine) (old new : List (List Bool)) → length lines + 1 < 2 ^ 64 → Goes columns outs lines walk → n ≡ min (walk.number + 1) 18446744073709551615 → begun ≡ joined walk.begun (alone n line) →
+  pub last_rows : (walk : RowWalk) (n : ℕ) (begun : RowsLine) (old new : List (List Bool)) → length lines + 1 < 2 ^ 64 → WalkGoes columns outs lines walk → n ≡ min (walk.number + 1) 18446744073709551615 → begun ≡ joined_lines walk.begun (alone n line) →
       RowsGrow columns outs (logical_of lines) (logical_of lines ++ if_logical begun) old new → RowsGrow columns outs (logical_of lines) (with_last lines line) old new
   last_rows walk n begun old new few goes next is grow = subst (λ (ls : List RowsLine). RowsGrow columns outs (logical_of lines) ls old new) (with_begun begun (added walk n begun few goes next is)) grow
 
-  pub ends_walked : (walk new : RowWalk) → length lines + 1 < 2 ^ 64 → goes_on line ≡ false → Goes columns outs lines walk → new.begun ≡ no_line → new.number ≡ min (walk.number + 1) 18446744073709551615 →
+  pub ends_walked : (walk new : RowWalk) → length lines + 1 < 2 ^ 64 → goes_on line ≡ false → WalkGoes columns outs lines walk → new.begun ≡ no_line → new.number ≡ min (walk.number + 1) 18446744073709551615 →
       AreJudged columns outs (length lines + 1) (with_last lines line) new → IsWalked columns outs (lines ++ line ∷ []) new
   ends_walked walk new few last goes begun number judged =
       let long : length lines + 1 ≡ length (lines ++ line ∷ []) = simp length-append (omega arith) in

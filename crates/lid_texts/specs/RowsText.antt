@@ -1,7 +1,7 @@
 -- Rows of bits as a text: how they are written.
 use Rattle.std.specs.Prelude.{ℕ, Bool, if◌then◌else◌, List, [], ◌∷◌, ◌++◌, map}
 use Rattle.std.specs.List.{flat_map}
-use Rattle.lid_lines.specs.Texts.{line_text}
+use Rattle.lid_base_lines.specs.Texts.{line_text}
 use Rattle.lid_texts.specs.Rows.{is_any, header_words}
 
 abbrev pub bit_char : Bool → ℕ

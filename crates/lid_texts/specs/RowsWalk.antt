@@ -14,13 +14,13 @@ line_fault columns outs zero line = header_fault columns line
 line_fault columns outs (suc k) line = row_fault columns outs (suc k) line
 
 -- a fault as it is kept: it is the fault where a u32 has the number of its line
-pub record IsKept (line : ℕ) (kept fault : Option VecFault) : Type 0 where
+pub record IsKeptFault (line : ℕ) (kept fault : Option VecFault) : Type 0 where
   pub some : is_some kept ≡ is_some fault
   pub same : line < 2 ^ 32 → kept ≡ fault
 
 -- a line and its continuation; the number 0 stands for no line yet
-abbrev pub joined : RowsLine → RowsLine → RowsLine
-joined line more = record {
+abbrev pub joined_lines : RowsLine → RowsLine → RowsLine
+joined_lines line more = record {
   number = if line.number == 0 then more.number else line.number;
   words = line.words ++ more.words;
   bad = line.bad || more.bad;
@@ -43,7 +43,7 @@ begun_of lines = rows_line (split_joins (enumerate_from 1 lines)).begun
 
 -- the logical lines of physical lines, where this is the last
 abbrev pub with_last : List (List ℕ) → List ℕ → List RowsLine
-with_last lines line = logical_of lines ++ if_logical (joined (begun_of lines) (alone (length lines + 1) line))
+with_last lines line = logical_of lines ++ if_logical (joined_lines (begun_of lines) (alone (length lines + 1) line))
 
 -- the rows of some logical lines were appended, where those of the first of them had been
 pub record RowsGrow (columns : List (List ℕ)) (outs : ℕ) (lines more : List RowsLine) (old new : List (List Bool)) : Type 0 where
@@ -61,22 +61,22 @@ pub record AreSound (columns : List (List ℕ)) (outs : ℕ) (lines : List RowsL
 -- one of these logical lines is at fault, and stands among the first `number` physical lines
 pub record IsFaulty (columns : List (List ℕ)) (outs number : ℕ) (lines : List RowsLine) (walk : RowWalk) : Type 0 where
   pub some : is_some walk.fault ≡ true
-  pub kept : IsKept number walk.fault (first_some (line_faults columns outs lines))
+  pub kept : IsKeptFault number walk.fault (first_some (line_faults columns outs lines))
 
 abbrev pub AreJudged : List (List ℕ) → ℕ → ℕ → List RowsLine → RowWalk → Type 0
 AreJudged columns outs number lines walk = AreSound columns outs lines walk ⊎ IsFaulty columns outs number lines walk
 
 -- these physical lines were read, and no logical line that has ended is at fault
-pub record Goes (columns : List (List ℕ)) (outs : ℕ) (lines : List (List ℕ)) (walk : RowWalk) : Type 0 where
+pub record WalkGoes (columns : List (List ℕ)) (outs : ℕ) (lines : List (List ℕ)) (walk : RowWalk) : Type 0 where
   pub number : walk.number ≡ length lines
   pub begun : walk.begun ≡ begun_of lines
   pub sound : AreSound columns outs (logical_of lines) walk
 
 abbrev pub IsWalked : List (List ℕ) → ℕ → List (List ℕ) → RowWalk → Type 0
-IsWalked columns outs lines walk = Goes columns outs lines walk ⊎ IsFaulty columns outs (length lines) (logical_of lines) walk
+IsWalked columns outs lines walk = WalkGoes columns outs lines walk ⊎ IsFaulty columns outs (length lines) (logical_of lines) walk
 
 -- how many rows there are, where so many logical lines were judged and this fault was found
-abbrev pub counted : Option VecFault → ℕ → Result ℕ VecFault
-counted (Some fault) judged = Err fault
-counted None zero = Err Header
-counted None (suc rows) = Ok rows
+abbrev pub judged_count : Option VecFault → ℕ → Result ℕ VecFault
+judged_count (Some fault) judged = Err fault
+judged_count None zero = Err Header
+judged_count None (suc rows) = Ok rows

@@ -28,7 +28,7 @@ pub record GivesPrefix (columns : List (List ℕ)) (outs : ℕ) (before now : Li
   pub all : ended_rows columns outs now ≡ ended_rows columns outs before ++ (rows ++ rest)
 
 -- the text stands for rows, so many; those that had not been given came after those before
-pub record Finishes (columns : List (List ℕ)) (outs : ℕ) (bytes : List ℕ) (old new : List (List Bool)) (n : ℕ) : Type 0 where
+pub record FinishesScan (columns : List (List ℕ)) (outs : ℕ) (bytes : List ℕ) (old new : List (List Bool)) (n : ℕ) : Type 0 where
   pub bits : List (List Bool)
   pub reads : rows_reading columns outs bytes ≡ Ok (record { columns = columns; bits = bits })
   pub count : n ≡ length bits

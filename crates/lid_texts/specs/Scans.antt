@@ -10,16 +10,16 @@ unfoldable pub ended_lines : List ℕ → List (List ℕ)
 ended_lines bytes = take (length (slice_split is_newline bytes) - 1) (slice_split is_newline bytes)
 
 -- the joins of some physical lines that have ended, and the lines of one that still goes on
-pub record Joins : Type 0 where
+pub record LineJoins : Type 0 where
   pub done : List (List (ℕ × List ℕ))
   pub begun : List (ℕ × List ℕ)
 
 -- a line that goes on, before some joins
-abbrev pub before_joins : ℕ × List ℕ → List (List (ℕ × List ℕ)) → List (ℕ × List ℕ) → Joins
+abbrev pub before_joins : ℕ × List ℕ → List (List (ℕ × List ℕ)) → List (ℕ × List ℕ) → LineJoins
 before_joins p [] begun = record { done = []; begun = p ∷ begun }
 before_joins p (join ∷ joins) begun = record { done = (p ∷ join) ∷ joins; begun = begun }
 
-abbrev pub split_joins : List (ℕ × List ℕ) → Joins
+abbrev pub split_joins : List (ℕ × List ℕ) → LineJoins
 split_joins [] = record { done = []; begun = [] }
 split_joins (p ∷ ps) =
     if goes_on p.1 then before_joins p (split_joins ps).done (split_joins ps).begun

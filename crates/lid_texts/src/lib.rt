@@ -9,7 +9,7 @@ mod scan;
 mod walk;
 mod writer;
 
-pub use lid_reports::{
+pub use lid_texts_runs::{
     ChannelLine, Report, SchedFault, Trace, TraceFault, print_answer, print_cycles, print_report,
     print_tallies, print_trace, read_schedule, trace_fits,
 };

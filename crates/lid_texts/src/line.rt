@@ -4,7 +4,7 @@ ghost use Rattle.std.specs.Prelude.{◌≡◌, ◌==◌, ◌<◌, ◌^◌, nat_e
 ghost use Rattle.std.specs.List.{concat, list_any};
 ghost use Rattle.std.specs.Cmp.Lexicographic.{pointwise};
 ghost use Rattle.lid_texts.specs.Rows.{has_words, is_any, is_header, has_long_word, is_row_char, is_stray_word, row_width, header_fault, row_fault, row_bits};
-ghost use Rattle.lid_texts.specs.RowsWalk.{line_fault, joined, alone, no_line, IsKept};
+ghost use Rattle.lid_texts.specs.RowsWalk.{line_fault, joined_lines, alone, no_line, IsKeptFault};
 
 use crate::rows::VecFault;
 use lid_base::{Items, Name, Which, has_bad_byte, push_words};
@@ -59,7 +59,7 @@ impl BegunLine {
 
     /// Adds a physical line.
     pub(crate) fn add(&mut self, alloc: Global, number: u64, line: &[u8]) -> Result<(), AllocError>
-        ensures { OnOk result (self.new ≡ joined self.old (alone number line.now)) }
+        ensures { OnOk result (self.new ≡ joined_lines self.old (alone number line.now)) }
     {
         push_words(alloc, line, &mut self.words)?;
         if self.number == 0 {
@@ -188,7 +188,7 @@ fn told_number(number: u64) -> u32
 /// What is at fault in the header.
 #[tactic(auto, unfolding(crate::specs::Rows::header_fault))]
 fn header_fault(columns: &[Name], line: &BegunLine) -> Option<VecFault>
-    ensures { IsKept line.now.number result (header_fault columns.now line.now) }
+    ensures { IsKeptFault line.now.number result (header_fault columns.now line.now) }
 {
     let words = line.words.as_slice();
     if line.bad {
@@ -205,7 +205,7 @@ fn header_fault(columns: &[Name], line: &BegunLine) -> Option<VecFault>
 /// What is at fault in a row, the k-th, counted from 1.
 #[tactic(auto, unfolding(crate::specs::Rows::row_fault))]
 fn row_fault(columns: &[Name], outs: u32, k: u32, line: &BegunLine) -> Option<VecFault>
-    ensures kept { IsKept line.now.number result (row_fault columns.now outs k line.now) }
+    ensures kept { IsKeptFault line.now.number result (row_fault columns.now outs k line.now) }
     ensures few { result ≡ None → k ≤ 1000000 }
 {
     let words = line.words.as_slice();
@@ -247,7 +247,7 @@ pub(crate) fn line_fault(
     judged: u32,
     line: &BegunLine,
 ) -> Option<VecFault>
-    ensures kept { IsKept line.now.number result (line_fault columns.now outs judged line.now) }
+    ensures kept { IsKeptFault line.now.number result (line_fault columns.now outs judged line.now) }
     ensures few { result ≡ None → judged ≤ 1000000 }
 {
     if judged == 0 {

@@ -3,8 +3,8 @@
 ghost use Rattle.std.specs.Prelude.{◌≡◌, ◌+◌, ◌<◌, ◌^◌, ◌++◌, ◌∷◌, ◌⊎◌, ℕ, List, true, false, Err, [], length, is_some, is_ok, IfOk, OnOk, OnErr, IfErr};
 ghost use Rattle.lid_texts.specs.Rows.{rows_reading};
 ghost use Rattle.lid_texts.specs.Scans.{logical_of, ended_fault};
-ghost use Rattle.lid_texts.specs.RowsWalk.{RowsGrow, Goes, IsWalked};
-ghost use Rattle.lid_texts.specs.Scanned.{HasRead, Gives, GivesPrefix, Finishes};
+ghost use Rattle.lid_texts.specs.RowsWalk.{RowsGrow, WalkGoes, IsWalked};
+ghost use Rattle.lid_texts.specs.Scanned.{HasRead, Gives, GivesPrefix, FinishesScan};
 
 use crate::rows::VecFault;
 use crate::walk::RowWalk;
@@ -94,9 +94,9 @@ impl RowScan {
 
     /// Takes the rest of a physical line.
     fn end_line(&mut self, rest: &[u8], into: &mut Vec<Items<bool>>) -> Result<(), AllocError>
-        ensures walked { (lines : List (List ℕ)) → length lines + 1 < 2 ^ 64 → Goes self.old.columns self.old.outs lines self.old.walk
+        ensures walked { (lines : List (List ℕ)) → length lines + 1 < 2 ^ 64 → WalkGoes self.old.columns self.old.outs lines self.old.walk
             → OnOk result (IsWalked self.old.columns self.old.outs (lines ++ (self.old.partial.items ++ rest.now) ∷ []) self.new.walk) }
-        ensures rows { (lines : List (List ℕ)) → length lines + 1 < 2 ^ 64 → Goes self.old.columns self.old.outs lines self.old.walk
+        ensures rows { (lines : List (List ℕ)) → length lines + 1 < 2 ^ 64 → WalkGoes self.old.columns self.old.outs lines self.old.walk
             → OnOk result (RowsGrow self.old.columns self.old.outs (logical_of lines) (logical_of (lines ++ (self.old.partial.items ++ rest.now) ∷ [])) into.old.items into.new.items) }
         ensures kept { OnErr result (into.new.items ≡ into.old.items) }
         ensures partial { OnOk result (self.new.partial.items ≡ []) }
@@ -133,7 +133,7 @@ impl RowScan {
     /// Those of `read_rows` for all that was fed.
     pub fn finish(&mut self, into: &mut Vec<Items<bool>>) -> Result<u64, VecFault>
         ensures ok { (bytes : List ℕ) → HasRead self.old bytes
-            → IfOk result (Finishes self.old.columns self.old.outs bytes into.old.items into.new.items) }
+            → IfOk result (FinishesScan self.old.columns self.old.outs bytes into.old.items into.new.items) }
         ensures err { (bytes : List ℕ) → HasRead self.old bytes
             → IfErr result (λ e. (e ≡ VecFault.Memory) ⊎ (rows_reading self.old.columns self.old.outs bytes ≡ Err e)) }
         ensures kept { OnErr result (into.new.items ≡ into.old.items) }

@@ -3,7 +3,7 @@
 ghost use Rattle.std.specs.Prelude.{◌≡◌, ◌+◌, ◌≤◌, ◌<◌, ◌^◌, ◌++◌, ◌∷◌, ◌⊎◌, ℕ, List, [], true, None, is_some, length, OnOk, OnErr};
 ghost use Rattle.lid_texts.specs.Rows.{RowsLine, row_bits};
 ghost use Rattle.lid_texts.specs.Scans.{logical_of};
-ghost use Rattle.lid_texts.specs.RowsWalk.{if_logical, with_last, no_line, RowsGrow, AreSound, AreJudged, Goes, IsWalked, counted};
+ghost use Rattle.lid_texts.specs.RowsWalk.{if_logical, with_last, no_line, RowsGrow, AreSound, AreJudged, WalkGoes, IsWalked, judged_count};
 
 use crate::line::{BegunLine, line_fault, row_bits};
 use crate::rows::VecFault;
@@ -113,9 +113,9 @@ impl RowWalk {
         line: &[u8],
         into: &mut Vec<Items<bool>>,
     ) -> Result<(), AllocError>
-        ensures walked { (lines : List (List ℕ)) → length lines + 1 < 2 ^ 64 → Goes columns.now outs lines self.old
+        ensures walked { (lines : List (List ℕ)) → length lines + 1 < 2 ^ 64 → WalkGoes columns.now outs lines self.old
             → OnOk result (IsWalked columns.now outs (lines ++ line.now ∷ []) self.new) }
-        ensures rows { (lines : List (List ℕ)) → length lines + 1 < 2 ^ 64 → Goes columns.now outs lines self.old
+        ensures rows { (lines : List (List ℕ)) → length lines + 1 < 2 ^ 64 → WalkGoes columns.now outs lines self.old
             → OnOk result (RowsGrow columns.now outs (logical_of lines) (logical_of (lines ++ line.now ∷ [])) into.old.items into.new.items) }
         ensures kept { OnErr result (into.new.items ≡ into.old.items) }
     {
@@ -136,9 +136,9 @@ impl RowWalk {
         line: &[u8],
         into: &mut Vec<Items<bool>>,
     ) -> Result<(), AllocError>
-        ensures judged { (lines : List (List ℕ)) → length lines + 1 < 2 ^ 64 → Goes columns.now outs lines self.old
+        ensures judged { (lines : List (List ℕ)) → length lines + 1 < 2 ^ 64 → WalkGoes columns.now outs lines self.old
             → OnOk result (AreJudged columns.now outs (length lines + 1) (with_last lines line.now) self.new) }
-        ensures rows { (lines : List (List ℕ)) → length lines + 1 < 2 ^ 64 → Goes columns.now outs lines self.old
+        ensures rows { (lines : List (List ℕ)) → length lines + 1 < 2 ^ 64 → WalkGoes columns.now outs lines self.old
             → OnOk result (RowsGrow columns.now outs (logical_of lines) (with_last lines line.now) into.old.items into.new.items) }
         ensures kept { OnErr result (into.new.items ≡ into.old.items) }
         ensures refused { (is_some self.new.fault ≡ true) ⊎ (self.new.judged ≡ 0) → into.new.items ≡ into.old.items }
@@ -150,7 +150,7 @@ impl RowWalk {
 
     /// How many rows there are at the end of the text, or the fault of the first line that has one.
     pub(crate) fn count(&self) -> Result<u64, VecFault>
-        ensures { result ≡ counted self.now.fault self.now.judged }
+        ensures { result ≡ judged_count self.now.fault self.now.judged }
     {
         if let Some(fault) = self.fault {
             return Err(fault);

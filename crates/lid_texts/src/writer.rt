@@ -3,21 +3,21 @@
 ghost use Rattle.std.specs.Prelude.{◌≡◌, ◌++◌, ◌∷◌, [], map, OnOk, OnErr};
 ghost use Rattle.std.specs.List.{flat_map};
 ghost use Rattle.lid_base.specs.Lists.{Keeps};
-ghost use Rattle.lid_lines.specs.Texts.{line_text};
+ghost use Rattle.lid_base_lines.specs.Texts.{line_text};
 ghost use Rattle.lid_texts.specs.Rows.{is_any, header_words};
 ghost use Rattle.lid_texts.specs.RowsText.{row_text, rows_text, bit_char};
 
 use crate::line::has_columns;
 use crate::rows::Rows;
 use lid_base::{Items, Name};
-use lid_lines::{append_line, cut_back};
+use lid_base_lines::{append_line, cut_back};
 use std::alloc::AllocError;
 
 /// Appends the header line: the column names, or `-` where there are no columns.
 ///
 /// # Errors
 /// Where there is no memory; what was there before is still there.
-#[tactic(auto, unfolding(lid_lines::specs::Texts::line_text))]
+#[tactic(auto, unfolding(lid_base_lines::specs::Texts::line_text))]
 pub fn append_header(columns: &[Name], into: &mut Vec<u8>) -> Result<(), AllocError>
     ensures ok { OnOk result (into.new.items ≡ into.old.items ++ line_text (header_words columns.now)) }
     ensures kept { Keeps into.old.items into.new.items }

@@ -2,6 +2,7 @@
 
 mod base;
 mod devices;
+mod fetches;
 mod numbers;
 mod pieces;
 mod reports;

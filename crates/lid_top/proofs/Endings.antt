@@ -2,22 +2,23 @@
 use Rattle.std.proofs.Common.{◌≡◌, ℕ, ◌+◌, Bool, true, false, List, length, take, Option, Some, None, is_some, true≢false, IsSome, IfSome, inl, inr, refl, sym, ◌∙◌, ap, subst, arith}
 use Rattle.std.specs.Prelude.{◌↔◌}
 use Rattle.lid_design.specs.declared.Design.{Design}
-use Rattle.lid_rules.specs.declared.fault.CheckFault.{CheckFault}
+use Rattle.lid_check_rules.specs.declared.fault.CheckFault.{CheckFault}
 use Rattle.lid_check.specs.Acceptance.{with_root, IsAccepted, IsRefused, IsRefusal}
 use Rattle.lid_system.specs.declared.Channel.{Channel}
-use Rattle.lid_channels.specs.declared.fault.NetFault.TheVariants.{TooManyChannels}
+use Rattle.lid_net_channels.specs.declared.fault.NetFault.TheVariants.{TooManyChannels}
 use Rattle.lid_net.specs.Graphs.{IsGraphOf}
-use Rattle.lid_cli.specs.declared.job.Job.{Job}
-use Rattle.lid_cli.specs.declared.job.Job.TheVariants.{Check, Clock, Emit, Free, Gen, Place, Rate, Size, Slack, Strict, Unwave, Verify, Walk, Wave}
-use Rattle.lid_refusals.specs.Faults.{check_line, net_line}
-use Rattle.lid_script.specs.Outputs.{Output, strict_output, report, placed, throughput, sized, slacks, walked, waved, unwaved, emitted}
+use Rattle.lid_top_words.specs.declared.job.Job.{Job}
+use Rattle.lid_top_words.specs.declared.job.Job.TheVariants.{Check, Clock, Emit, Free, Gen, Place, Rate, Size, Slack, Strict, Unwave, Verify, Walk, Wave}
+use Rattle.lid_top_refusals.specs.Faults.{check_line, net_line}
+use Rattle.lid_top_script.specs.Outputs.{Output, strict_output, report, placed, throughput, sized, slacks, walked, waved, unwaved, emitted}
 use Rattle.lid_cert.specs.declared.cert.Cert.{Cert}
-use Rattle.lid_stalltext.specs.declared.stalls.Stall.{Stall}
+use Rattle.lid_stall_text.specs.declared.stalls.Stall.{Stall}
 use Rattle.lid_stations.specs.declared.placement.Placement.{Placement}
 use Rattle.lid_stations.specs.Placements.{Links, no_relays}
 use Rattle.lid_stations.specs.Stations.{actor_count}
-use Rattle.lid_script.specs.Scripts.{Ending, refuses, gives, Script, fetch, again, decide, end, Reading, good, bad, step, net_reading, vec_reading, check_step, net_step, report_script, check_script, rows_script, checked_script, strict_script, links, system_step, placement_step, stalls_read, stalls_step, stations_read, wires_read, cert_read, wires_script, told_script, judged_script, judging_script, cert_script, place_script, telling_script, verify_script, trace_read, rerun_script, traced_script, vec_script, stalled_script, placed_script, built_script, clock_script, rows_step, built_step, held_step, schedule_read, schedule_script, walk_script, freeing_script, free_script, waving_script, wave_script, dump_read, unwave_script, emit_read, wrapping_script, wrapped_script, emit_script, size_read, generating, gen_script, script_of, IsFetched, IsReread, IsChecked, IsUnchecked, EndsIn}
-use Rattle.lid_script.specs.Statuses.{TellsAll}
+use Rattle.lid_top_script.specs.Scripts.{Ending, refuses, gives, Script, fetch, again, decide, end, Reading, good, bad, step, net_reading, vec_reading, check_step, net_step, report_script, check_script, rows_script, checked_script, strict_script, links, system_step, placement_step, stalls_read, stalls_step, stations_read, wires_read, cert_read, wires_script, told_script, judged_script, judging_script, cert_script, place_script, telling_script, verify_script, trace_read, rerun_script, traced_script, vec_script, stalled_script, placed_script, built_script, clock_script, rows_step, built_step, held_step, schedule_read, schedule_script, walk_script, freeing_script, free_script, waving_script, wave_script, dump_read, unwave_script, emit_read, wrapping_script, wrapped_script, emit_script, size_read, generating, gen_script, script_of, IsFetched, IsReread, IsChecked, IsUnchecked, EndsIn}
+use Rattle.lid_top_script.specs.Statuses.{TellsAll}
+use Rattle.lid_base.proofs.Options.{same_some}
 
 -- each step of the script without a fetch has one outcome
 abbrev pub IsSettled : (List ℕ → Option (List ℕ)) → Script → Type 0
@@ -60,9 +61,6 @@ abbrev or_else : {A : Type 0} → A → Option A → A
 or_else a None = a
 or_else a (Some b) = b
 
-some_same : {A : Type 0} (o : Option A) (a b : A) → o ≡ Some a → o ≡ Some b → a ≡ b
-some_same o a b e f = ap (or_else a) (sym e ∙ f)
-
 -- whether a certificate is one of a graph has one answer
 same_answer : {P : Type 0} (a b : Bool) → ((a ≡ true) ↔ P) → ((b ≡ true) ↔ P) → a ≡ b
 same_answer true true g h = refl
@@ -104,7 +102,7 @@ module _ (apart : (d : Design) (fault : CheckFault) → IsAccepted d → IsRefus
 
   checked_once : (held : List ℕ → Option (List ℕ)) (root : Option (List ℕ)) (d : Design) (next : Design → Script) → ((c : Design) → IsSettled held (next c)) → IsSettled held (decide (IsChecked root d) (IsUnchecked root d) next)
   checked_once held root d next s = (
-    (λ a b g h. some_same (with_root d root) a b g.rooted h.rooted),
+    (λ a b g h. same_some (with_root d root) a b g.rooted h.rooted),
     (λ a line g u. accepted_apart (with_root d root) a u.fault g.rooted g.accepted u.refused),
     (λ line other u v. u.told ∙ ap check_line (refused_once (with_root d root) u.fault v.fault u.refused v.refused) ∙ sym v.told),
     (λ a _. s a),

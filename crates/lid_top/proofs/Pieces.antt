@@ -4,7 +4,7 @@ use Rattle.std.proofs.lemmas.List.{take-append-drop}
 use Rattle.lid_base.specs.Outside.{Appended, AppendedPrefix}
 use Rattle.lid_base.proofs.Results.{on_ok, on_err}
 use Rattle.lid_base.proofs.Writes.{both_written, first_and_part}
-use Rattle.lid_io.specs.Transfer.{piece_bytes, whole_pieces, after_pieces}
+use Rattle.lid_base_io.specs.Transfer.{piece_bytes, whole_pieces, after_pieces}
 
 whole_and_after : (text : List ℕ) → whole_pieces text ++ after_pieces text ≡ text
 unfolding whole_pieces after_pieces

@@ -1,16 +1,16 @@
 -- What a run shows, by how it ended.
-use Rattle.std.proofs.Common.{◌≡◌, ℕ, ◌≤◌, Bool, true, false, List, Option, Some, None, Result, Ok, Err, OnOk, IfErr, is_some, true≢false, IfSome, inl, inr, refl, sym, ap, subst, arith}
+use Rattle.std.proofs.Common.{◌≡◌, ℕ, ◌≤◌, List, Option, Some, None, Result, Ok, Err, OnOk, IfErr, is_some, true≢false, inl, inr, refl, sym, ap, subst, arith}
 use Rattle.lid_base.specs.Outside.{Rose}
-use Rattle.lid_cli.specs.declared.job.Job.{Job}
-use Rattle.lid_script.specs.declared.fault.Stop.TheVariants.{Refused, Read, Memory, Denied}
-use Rattle.lid_script.specs.declared.fault.End.{End}
-use Rattle.lid_script.specs.declared.fault.End.TheVariants.{Stopped, Unwritten}
-use Rattle.lid_refusals.specs.Faults.{usage_line, write_line, memory_line, denied_line}
-use Rattle.lid_script.specs.Scripts.{Script, refuses, denies, gives, script_of}
-use Rattle.lid_refusals.specs.Refusals.{refusal_line}
-use Rattle.lid_script.specs.Causes.{IsEnd, IsStopped, IsRefusal, end_status, end_line}
-use Rattle.lid_refusals.specs.Saying.{Says}
-use Rattle.lid_script.specs.Statuses.{Writes, WritesPrefix, TellsAll, Leaves, writes_early, JobRun, Run}
+use Rattle.lid_top_words.specs.declared.job.Job.{Job}
+use Rattle.lid_top_script.specs.declared.fault.Stop.TheVariants.{Refused, Read, Memory, Denied}
+use Rattle.lid_top_script.specs.declared.fault.JobEnd.{JobEnd}
+use Rattle.lid_top_script.specs.declared.fault.JobEnd.TheVariants.{Stopped, Unwritten}
+use Rattle.lid_top_refusals.specs.Faults.{write_line, memory_line, denied_line}
+use Rattle.lid_top_script.specs.Scripts.{refuses, denies, gives, script_of}
+use Rattle.lid_top_refusals.specs.Refusals.{refusal_line}
+use Rattle.lid_top_script.specs.Causes.{IsJobEnd, IsStoppedJob, IsRefusedJob, end_status, end_line}
+use Rattle.lid_top_refusals.specs.Saying.{Says}
+use Rattle.lid_top_script.specs.Statuses.{Writes, WritesPrefix, TellsAll, Leaves, writes_early, JobRun, Run}
 
 is_some_job : {job : Job} → Some job ≡ None → ⊥
 is_some_job e = true≢false (ap is_some e)
@@ -21,7 +21,7 @@ pub record IsEndStatus (status : ℕ) : Type 0 where
   pub most : status ≤ 6
   pub job : status ≡ 2 → ⊥
 
-end_statuses : (end : End) → IsEndStatus (end_status end)
+end_statuses : (end : JobEnd) → IsEndStatus (end_status end)
 end_statuses (Stopped (Refused refusal)) = record { some = omega arith; most = omega arith; job = λ e. omega (arith, e) }
 end_statuses (Stopped (Read file)) = record { some = omega arith; most = omega arith; job = λ e. omega (arith, e) }
 end_statuses (Stopped Memory) = record { some = omega arith; most = omega arith; job = λ e. omega (arith, e) }
@@ -29,21 +29,21 @@ end_statuses (Stopped Denied) = record { some = omega arith; most = omega arith;
 end_statuses Unwritten = record { some = omega arith; most = omega arith; job = λ e. omega (arith, e) }
 
 -- the lines of the statuses that tell no file and no refusal
-write_told : (end : End) → end_status end ≡ 4 → end_line end ≡ write_line
+write_told : (end : JobEnd) → end_status end ≡ 4 → end_line end ≡ write_line
 write_told (Stopped (Refused refusal)) e = absurd (omega (arith, e))
 write_told (Stopped (Read file)) e = absurd (omega (arith, e))
 write_told (Stopped Memory) e = absurd (omega (arith, e))
 write_told (Stopped Denied) e = absurd (omega (arith, e))
 write_told Unwritten e = refl
 
-memory_told : (end : End) → end_status end ≡ 5 → end_line end ≡ memory_line
+memory_told : (end : JobEnd) → end_status end ≡ 5 → end_line end ≡ memory_line
 memory_told (Stopped (Refused refusal)) e = absurd (omega (arith, e))
 memory_told (Stopped (Read file)) e = absurd (omega (arith, e))
 memory_told (Stopped Memory) e = refl
 memory_told (Stopped Denied) e = absurd (omega (arith, e))
 memory_told Unwritten e = absurd (omega (arith, e))
 
-denied_told : (end : End) → end_status end ≡ 6 → end_line end ≡ denied_line
+denied_told : (end : JobEnd) → end_status end ≡ 6 → end_line end ≡ denied_line
 denied_told (Stopped (Refused refusal)) e = absurd (omega (arith, e))
 denied_told (Stopped (Read file)) e = absurd (omega (arith, e))
 denied_told (Stopped Memory) e = absurd (omega (arith, e))
@@ -51,55 +51,6 @@ denied_told (Stopped Denied) e = refl
 denied_told Unwritten e = absurd (omega (arith, e))
 
 module _ {S O E : Type 0} (held : S → List ℕ → Option (List ℕ)) (reads : S → List ℕ → ℕ) (written : O → Option (List ℕ)) (writes : O → ℕ) (said : E → Option (List ℕ)) (errs : E → ℕ) where
-  leaves_all : (early : Bool) (script : Script) (s : S) (o : O) → Leaves early (held s) script written o o
-  leaves_all false script s o = refl
-  leaves_all true script s o = inl refl
-
-  -- there was no memory before anything was done
-  want_of_job : (job : Job) (s : S) (o : O) (Said : List ℕ → Type 0) (status : ℕ) → status ≡ 5 → JobRun job held reads s s written writes o o Said status
-  want_of_job job s o Said status is = record {
-    done = λ e. absurd (omega (arith, is, e));
-    refused = λ e. absurd (omega (arith, is, e));
-    read = λ e. absurd (omega (arith, is, e));
-    write = λ e. absurd (omega (arith, is, e));
-    denied = λ e. absurd (omega (arith, is, e));
-    left = λ _ _. leaves_all (writes_early job) (script_of job) s o;
-    unwritten = λ e _. absurd (omega (arith, is, e));
-    complete = λ _ _. inl is;
-  }
-
-  want_of_words : (asked : Option Job) (s : S) (o : O) (e f : E) (status : ℕ) → status ≡ 5 → IfSome asked (λ job. JobRun job held reads s s written writes o o (Says said errs e f) status)
-  want_of_words None s o e f status is = tt
-  want_of_words (Some job) s o e f status is = want_of_job job s o (Says said errs e f) status is
-
-  pub run_in_want : (asked : Option Job) (s : S) (o : O) (e f : E) (status : ℕ) → status ≡ 5 → Says said errs e f memory_line → Run asked held reads s s written writes o o said errs e f status
-  run_in_want asked s o e f status is says = record {
-    most = omega (arith, is);
-    usage = λ two. absurd (omega (arith, is, two));
-    no_job = λ none. (inr is, refl, refl);
-    ran = want_of_words asked s o e f status is;
-    kept = refl;
-    quiet = λ zero. absurd (omega (arith, is, zero));
-    says_usage = λ two. absurd (omega (arith, is, two));
-    says_write = λ four. absurd (omega (arith, is, four));
-    says_memory = λ five. says;
-    says_denied = λ six. absurd (omega (arith, is, six));
-  }
-
-  pub run_of_no_job : (asked : Option Job) (s : S) (o : O) (e f : E) (status : ℕ) → asked ≡ None → status ≡ 2 → Says said errs e f usage_line → Run asked held reads s s written writes o o said errs e f status
-  run_of_no_job asked s o e f status none is says = record {
-    most = omega (arith, is);
-    usage = λ two. none;
-    no_job = λ none. (inl is, refl, refl);
-    ran = subst (λ (a : Option Job). IfSome a (λ job. JobRun job held reads s s written writes o o (Says said errs e f) status)) (sym none) tt;
-    kept = refl;
-    quiet = λ zero. absurd (omega (arith, is, zero));
-    says_usage = λ two. says;
-    says_write = λ four. absurd (omega (arith, is, four));
-    says_memory = λ five. absurd (omega (arith, is, five));
-    says_denied = λ six. absurd (omega (arith, is, six));
-  }
-
   -- the output of the job is whole
   pub run_of_whole : (job : Job) (s t : S) (o p : O) (e : E) → Writes (held s) (script_of job) (written o) (written p) → held t ≡ held s → Run (Some job) held reads s t written writes o p said errs e e 0
   run_of_whole job s t o p e w kept = record {
@@ -126,8 +77,8 @@ module _ {S O E : Type 0} (held : S → List ℕ → Option (List ℕ)) (reads :
 
   -- what a run shows whose output is not whole
   module _ (job : Job) (s t : S) (o p : O) (e f : E) where
-    job_stopped : (end : End) → IsEnd (held s) (script_of job) (reads s) (reads t) (Rose (writes o) (writes p) × WritesPrefix (held s) (script_of job) (written o) (written p)) end
-        → (IsStopped end → Leaves (writes_early job) (held s) (script_of job) written o p) → (IsRefusal end → TellsAll (held s) (script_of job) → p ≡ o)
+    job_stopped : (end : JobEnd) → IsJobEnd (held s) (script_of job) (reads s) (reads t) (Rose (writes o) (writes p) × WritesPrefix (held s) (script_of job) (written o) (written p)) end
+        → (IsStoppedJob end → Leaves (writes_early job) (held s) (script_of job) written o p) → (IsRefusedJob end → TellsAll (held s) (script_of job) → p ≡ o)
         → Says said errs e f (end_line end) → JobRun job held reads s t written writes o p (Says said errs e f) (end_status end)
     job_stopped (Stopped (Refused refusal)) cause left unwritten says = record {
       done = λ zero. absurd (omega (arith, zero));
@@ -180,8 +131,8 @@ module _ {S O E : Type 0} (held : S → List ℕ → Option (List ℕ)) (reads :
       complete = λ _ fine. absurd (fine cause.0);
     }
 
-    pub run_of_end : (end : End) → IsEnd (held s) (script_of job) (reads s) (reads t) (Rose (writes o) (writes p) × WritesPrefix (held s) (script_of job) (written o) (written p)) end
-        → (IsStopped end → Leaves (writes_early job) (held s) (script_of job) written o p) → (IsRefusal end → TellsAll (held s) (script_of job) → p ≡ o)
+    pub run_of_end : (end : JobEnd) → IsJobEnd (held s) (script_of job) (reads s) (reads t) (Rose (writes o) (writes p) × WritesPrefix (held s) (script_of job) (written o) (written p)) end
+        → (IsStoppedJob end → Leaves (writes_early job) (held s) (script_of job) written o p) → (IsRefusedJob end → TellsAll (held s) (script_of job) → p ≡ o)
         → held t ≡ held s → Says said errs e f (end_line end) → Run (Some job) held reads s t written writes o p said errs e f (end_status end)
     run_of_end end cause left unwritten kept says = record {
       most = (end_statuses end).most;
@@ -197,10 +148,10 @@ module _ {S O E : Type 0} (held : S → List ℕ → Option (List ℕ)) (reads :
     }
 
     -- what the run of a job shows by its result
-    pub run_of_result : (result : Result (Unit {0}) End) (status : ℕ) → OnOk result (Writes (held s) (script_of job) (written o) (written p))
-        → IfErr result (IsEnd (held s) (script_of job) (reads s) (reads t) (Rose (writes o) (writes p) × WritesPrefix (held s) (script_of job) (written o) (written p)))
-        → IfErr result (λ end. IsStopped end → Leaves (writes_early job) (held s) (script_of job) written o p)
-        → IfErr result (λ end. IsRefusal end → TellsAll (held s) (script_of job) → p ≡ o) → held t ≡ held s
+    pub run_of_result : (result : Result (Unit {0}) JobEnd) (status : ℕ) → OnOk result (Writes (held s) (script_of job) (written o) (written p))
+        → IfErr result (IsJobEnd (held s) (script_of job) (reads s) (reads t) (Rose (writes o) (writes p) × WritesPrefix (held s) (script_of job) (written o) (written p)))
+        → IfErr result (λ end. IsStoppedJob end → Leaves (writes_early job) (held s) (script_of job) written o p)
+        → IfErr result (λ end. IsRefusedJob end → TellsAll (held s) (script_of job) → p ≡ o) → held t ≡ held s
         → OnOk result ((status ≡ 0) × (f ≡ e)) → IfErr result (λ end. (status ≡ end_status end) × Says said errs e f (end_line end)) → Run (Some job) held reads s t written writes o p said errs e f status
     run_of_result (Ok done) status whole_text cause left unwritten kept whole stopped =
         let of_err : E → Type 0 = λ x. Run (Some job) held reads s t written writes o p said errs e x status in

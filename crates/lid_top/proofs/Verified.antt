@@ -1,20 +1,24 @@
 -- What `rate` prints is verified by `verify`.
 use Rattle.std.proofs.Common.{◌≡◌, ◌≢◌, ◌↔◌, ℕ, ◌≤◌, Bool, true, false, true≢false, List, length, take, Option, Some, None, IfSome, inl, inr, refl, sym, ◌∙◌, ap, subst, arith}
-use Rattle.std.specs.Prelude.{nat_lt, if◌then◌else◌, is_some}
+use Rattle.std.specs.Prelude.{is_some}
 use Rattle.std.proofs.lemmas.List.{take_all}
-use Rattle.std.proofs.lemmas.Bool.Decides.{nat_tests}
+use Rattle.lid_base.specs.Lines.{logical_lines}
+use Rattle.lid_base.specs.declared.line.Line.{Line}
+use Rattle.lid_base_lines.specs.declared.limited.LinesFault.{LinesFault}
+use Rattle.lid_base_lines.specs.Limited.{limited_fault}
+use Rattle.lid_base_lines.proofs.WithinLimits.{short_lines}
 use Rattle.lid_design.specs.declared.Design.{Design}
 use Rattle.lid_system.specs.declared.Channel.{Channel}
 use Rattle.lid_cert.specs.declared.cert.Cert.{Cert}
-use Rattle.lid_certtext.specs.Texts.{cert_of, cert_fault, fault_in}
-use Rattle.lid_certtext.specs.Written.{cert_text}
+use Rattle.lid_cert_text.specs.Texts.{cert_of, cert_fault, fault_in}
+use Rattle.lid_cert_text.specs.Written.{cert_text}
 use Rattle.lid_stations.specs.declared.placement.Placement.{Placement}
 use Rattle.lid_stations.specs.Placements.{Links, no_relays}
 use Rattle.lid_stations.specs.Markings.{marking}
-use Rattle.lid_throughput.specs.Throughput.{IsRateText}
-use Rattle.lid_script.specs.Outputs.{Output, throughput, verdict, IsTextOf}
-use Rattle.lid_script.specs.Scripts.{Ending, refuses, denies, gives, Script, end, Reading, good, bad, step, net_limit, net_reading, text_limit, links, check_step, net_step, system_step, stations_read, placement_step, cert_unless, cert_read, told_script, IsJudged, NoLine, judged_script, judging_script, cert_script, telling_script, verify_script, IsFetched, EndsIn}
-use Rattle.lid_script.specs.Statuses.{HasText}
+use Rattle.lid_rate_text.specs.Throughput.{IsRateText}
+use Rattle.lid_top_script.specs.Outputs.{Output, throughput, verdict, IsTextOf}
+use Rattle.lid_top_script.specs.Scripts.{Ending, refuses, denies, gives, Script, end, Reading, good, bad, step, net_limit, net_reading, text_limit, links, check_step, net_step, system_step, stations_read, placement_step, cert_unless, cert_read, told_script, IsVerdictOn, NoLine, judged_script, judging_script, cert_script, telling_script, verify_script, IsFetched, EndsIn}
+use Rattle.lid_top_script.specs.Statuses.{HasText}
 use Rattle.lid_top.specs.Verified.{RatesAreVerified}
 
 abbrev is_given : Ending → Bool
@@ -64,14 +68,14 @@ module _ (held : List ℕ → Option (List ℕ)) (P : Ending → Type 0) (output
   after_placement l None next other go e = go (no_relays l) e
   after_placement l (Some stations) next other go (bytes, fetched, e) = let r = after_step (stations_read l bytes) next other go e in (r.0, r.1, (bytes, fetched, r.2))
 
-not_cut : {A : Type 0} (b : Bool) (fault : A) (later : Option A) → (if b then Some fault else later) ≡ None → b ≡ false
-not_cut true fault later e = absurd (true≢false (ap is_some e))
-not_cut false fault later e = refl
+not_limited : (lines : List Line) (fault : Option LinesFault) → fault_in lines fault ≡ None → fault ≡ None
+not_limited lines None e = refl
+not_limited lines (Some fault) e = absurd (true≢false (ap is_some e))
 
 -- the text of a certificate that is read back is not too long
 few : (text : List ℕ) → cert_fault text ≡ None → length text ≤ 16777216
 unfolding cert_fault
-few text e = let b = not_cut (nat_lt 16777216 (length text)) _ _ e in grind (arith, nat_tests, b)
+few text e = short_lines text (not_limited (logical_lines text) (limited_fault text) e)
 
 -- `verify` of the text of a certificate of the marking ends in what that shows
 abbrev pub IsVerdict : List ℕ → Ending → Type 0

@@ -1,7 +1,7 @@
 -- Jobs whose output is told by what their runs hold.
 use Rattle.std.specs.Prelude.{Bool, true, false}
-use Rattle.lid_cli.specs.declared.job.Job.{Job}
-use Rattle.lid_cli.specs.declared.job.Job.TheVariants.{Emit, Free, Gen, Unwave, Walk, Wave}
+use Rattle.lid_top_words.specs.declared.job.Job.{Job}
+use Rattle.lid_top_words.specs.declared.job.Job.TheVariants.{Emit, Free, Gen, Unwave, Walk, Wave}
 
 abbrev pub is_held : Job → Bool
 is_held (Emit net stations root) = true

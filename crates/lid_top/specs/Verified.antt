@@ -1,11 +1,11 @@
 -- What `rate` prints, `verify` accepts.
 use Rattle.std.specs.Prelude.{◌≡◌, ℕ, List, Option, Some}
 use Rattle.lid_cert.specs.declared.cert.Cert.{Cert}
-use Rattle.lid_certtext.specs.Written.{cert_text}
+use Rattle.lid_cert_text.specs.Written.{cert_text}
 use Rattle.lid_stations.specs.Placements.{Links}
-use Rattle.lid_script.specs.Outputs.{throughput, verdict}
-use Rattle.lid_script.specs.Scripts.{gives, telling_script, verify_script, EndsIn}
-use Rattle.lid_script.specs.Statuses.{HasText}
+use Rattle.lid_top_script.specs.Outputs.{throughput, verdict}
+use Rattle.lid_top_script.specs.Scripts.{gives, telling_script, verify_script, EndsIn}
+use Rattle.lid_top_script.specs.Statuses.{HasText}
 
 -- where a file holds a text that `rate` may print, `verify` of the same netlist, root and stations with this
 -- file may end in the verdict on the certificate that the text stands for

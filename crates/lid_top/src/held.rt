@@ -1,18 +1,17 @@
 //! Jobs whose output is told by what their runs hold.
 
 ghost use Rattle.std.specs.Prelude.{◌≡◌, true};
-ghost use Rattle.lid_cli.specs.Jobs.{IsSound};
-ghost use Rattle.lid_script.specs.Scripts.{script_of};
-ghost use Rattle.lid_script.specs.Whole.{RunsWhole};
+ghost use Rattle.lid_top_words.specs.Jobs.{IsJobInRange};
+ghost use Rattle.lid_top_script.specs.Scripts.{script_of};
+ghost use Rattle.lid_top_script.specs.Whole.{RunsWhole};
 ghost use Rattle.lid_top.specs.Held.{is_held};
 
 use lid_base::{Gate, Shelf};
-use lid_cli::Job;
-use lid_emitting::emit_text;
-use lid_generating::gen_text;
-use lid_heldruns::{Asked, HeldRun, run_text};
-use lid_script::Stop;
-use lid_waving::unwave_text;
+use lid_top_emit::emit_text;
+use lid_top_gen::gen_text;
+use lid_top_held::{Asked, HeldRun, run_text, unwave_text};
+use lid_top_script::Stop;
+use lid_top_words::Job;
 use std::convert::AsStr;
 use std::thread::Threads;
 
@@ -24,7 +23,7 @@ pub fn held_text<'a, R: Threads + AllocGlobal + Sync, S: Shelf, G: Gate>(
     job: &'a Job,
 ) -> Result<Vec<u8>, Stop<'a>>
     requires held { is_held job.now ≡ true }
-    requires sound { IsSound job.now }
+    requires sound { IsJobInRange job.now }
     ensures { RunsWhole (S.held shelf.old) (S.held shelf.new) (script_of job.now) (S.faults shelf.old) (S.faults shelf.new) result }
 {
     match job {

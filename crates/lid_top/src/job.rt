@@ -2,19 +2,19 @@
 
 ghost use Rattle.std.specs.Prelude.{◌≡◌, false, [], OnOk, OnErr, IfErr};
 ghost use Rattle.lid_base.specs.Outside.{Rose, Appended, AppendedPrefix};
-ghost use Rattle.lid_cli.specs.Jobs.{IsSound};
-ghost use Rattle.lid_script.specs.Scripts.{script_of};
-ghost use Rattle.lid_script.specs.Whole.{RunsWhole};
-ghost use Rattle.lid_script.specs.Causes.{IsEnd, IsStopped, IsRefusal};
-ghost use Rattle.lid_script.specs.Statuses.{Writes, WritesPrefix, TellsAll, Leaves, writes_early};
+ghost use Rattle.lid_top_words.specs.Jobs.{IsJobInRange};
+ghost use Rattle.lid_top_script.specs.Scripts.{script_of};
+ghost use Rattle.lid_top_script.specs.Whole.{RunsWhole};
+ghost use Rattle.lid_top_script.specs.Causes.{IsJobEnd, IsStoppedJob, IsRefusedJob};
+ghost use Rattle.lid_top_script.specs.Statuses.{Writes, WritesPrefix, TellsAll, Leaves, writes_early};
 
 use crate::held::held_text;
 use lid_base::{Gate, Shelf, Sink, SinkFailed};
-use lid_cli::Job;
-use lid_clocking::{Asked, Workers, run_clock};
-use lid_commands::{Telling, check_text, place_text, strict_text, telling_text, verify_text};
-use lid_io::PieceWriter;
-use lid_script::{End, Stop};
+use lid_base_io::PieceWriter;
+use lid_top_clock::{Asked, Workers, run_clock};
+use lid_top_script::{JobEnd, Stop};
+use lid_top_whole::{Telling, check_text, place_text, strict_text, telling_text, verify_text};
+use lid_top_words::Job;
 use std::alloc::Global;
 use std::convert::AsStr;
 use std::thread::Threads;
@@ -27,7 +27,7 @@ fn text_of<'a, R: Threads + AllocGlobal + Sync, S: Shelf, G: Gate>(
     job: &'a Job,
 ) -> Result<Vec<u8>, Stop<'a>>
     requires whole { writes_early job.now ≡ false }
-    requires sound { IsSound job.now }
+    requires sound { IsJobInRange job.now }
     ensures { RunsWhole (S.held shelf.old) (S.held shelf.new) (script_of job.now) (S.faults shelf.old) (S.faults shelf.new) result }
 {
     match job {
@@ -108,17 +108,17 @@ fn text_of<'a, R: Threads + AllocGlobal + Sync, S: Shelf, G: Gate>(
 }
 
 /// Writes the output of a job. Its room is taken before the first byte is written.
-fn write_text<'a, O: Sink>(alloc: Global, out: &mut O, text: &[u8]) -> Result<(), End<'a>>
+fn write_text<'a, O: Sink>(alloc: Global, out: &mut O, text: &[u8]) -> Result<(), JobEnd<'a>>
     ensures ok { OnOk result (Appended (O.written out.old) (O.written out.new) text.now) }
-    ensures stopped { IfErr result (λ end. IsStopped end → (end ≡ End.Stopped Stop.Memory) × (out.new ≡ out.old)) }
-    ensures unwritten { IfErr result (λ end. (end ≡ End.Unwritten) → Rose (O.faults out.old) (O.faults out.new) × AppendedPrefix (O.written out.old) (O.written out.new) text.now) }
+    ensures stopped { IfErr result (λ end. IsStoppedJob end → (end ≡ JobEnd.Stopped Stop.Memory) × (out.new ≡ out.old)) }
+    ensures unwritten { IfErr result (λ end. (end ≡ JobEnd.Unwritten) → Rose (O.faults out.old) (O.faults out.new) × AppendedPrefix (O.written out.old) (O.written out.new) text.now) }
 {
     let Ok(mut writer) = PieceWriter::start(alloc) else {
-        return Err(End::Stopped(Stop::Memory));
+        return Err(JobEnd::Stopped(Stop::Memory));
     };
     match write_pieces(&mut writer, out, text) {
         Ok(()) => Ok(()),
-        Err(_) => Err(End::Unwritten),
+        Err(_) => Err(JobEnd::Unwritten),
     }
 }
 
@@ -146,18 +146,18 @@ fn run_whole<'a, R: Threads + AllocGlobal + Sync, S: Shelf, O: Sink, G: Gate>(
     job: &'a Job,
     shelf: &mut S,
     out: &mut O,
-) -> Result<(), End<'a>>
+) -> Result<(), JobEnd<'a>>
     requires whole { writes_early job.now ≡ false }
-    requires sound { IsSound job.now }
+    requires sound { IsJobInRange job.now }
     ensures done { OnOk result (Writes (S.held shelf.old) (script_of job.now) (O.written out.old) (O.written out.new)) }
-    ensures fails { IfErr result (IsEnd (S.held shelf.old) (script_of job.now) (S.faults shelf.old) (S.faults shelf.new)
+    ensures fails { IfErr result (IsJobEnd (S.held shelf.old) (script_of job.now) (S.faults shelf.old) (S.faults shelf.new)
         (Rose (O.faults out.old) (O.faults out.new) × WritesPrefix (S.held shelf.old) (script_of job.now) (O.written out.old) (O.written out.new))) }
-    ensures left { IfErr result (λ end. IsStopped end → out.new ≡ out.old) }
+    ensures left { IfErr result (λ end. IsStoppedJob end → out.new ≡ out.old) }
     ensures kept { S.held shelf.new ≡ S.held shelf.old }
 {
     match text_of(rt, gate, shelf, job) {
         Ok(text) => write_text(rt.alloc(), out, &text),
-        Err(stop) => Err(End::Stopped(stop)),
+        Err(stop) => Err(JobEnd::Stopped(stop)),
     }
 }
 
@@ -168,18 +168,18 @@ pub fn run_job<'a, R, S, O, G>(
     shelf: &mut S,
     out: &mut O,
     gate: &G,
-) -> Result<(), End<'a>>
+) -> Result<(), JobEnd<'a>>
 where
     R: Threads + AllocGlobal + Sync,
     S: Shelf,
     O: Sink,
     G: Gate,
-    requires { IsSound job.now }
+    requires { IsJobInRange job.now }
     ensures done { OnOk result (Writes (S.held shelf.old) (script_of job.now) (O.written out.old) (O.written out.new)) }
-    ensures fails { IfErr result (IsEnd (S.held shelf.old) (script_of job.now) (S.faults shelf.old) (S.faults shelf.new)
+    ensures fails { IfErr result (IsJobEnd (S.held shelf.old) (script_of job.now) (S.faults shelf.old) (S.faults shelf.new)
         (Rose (O.faults out.old) (O.faults out.new) × WritesPrefix (S.held shelf.old) (script_of job.now) (O.written out.old) (O.written out.new))) }
-    ensures left { IfErr result (λ end. IsStopped end → Leaves (writes_early job.now) (S.held shelf.old) (script_of job.now) O.written out.old out.new) }
-    ensures unwritten { IfErr result (λ end. IsRefusal end → TellsAll (S.held shelf.old) (script_of job.now) → out.new ≡ out.old) }
+    ensures left { IfErr result (λ end. IsStoppedJob end → Leaves (writes_early job.now) (S.held shelf.old) (script_of job.now) O.written out.old out.new) }
+    ensures unwritten { IfErr result (λ end. IsRefusedJob end → TellsAll (S.held shelf.old) (script_of job.now) → out.new ≡ out.old) }
     ensures kept { S.held shelf.new ≡ S.held shelf.old }
 {
     match job {

@@ -1,9 +1,9 @@
 //! What follows from the definitions of scripts. Each function here does nothing; its contract is a law.
 
 ghost use Rattle.std.specs.Prelude.{◌≡◌, ℕ, List, Option};
-ghost use Rattle.lid_cli.specs.declared.job.Job.{Job};
-ghost use Rattle.lid_script.specs.Scripts.{Ending, EndsIn, script_of};
-ghost use Rattle.lid_script.specs.Statuses.{TellsAll};
+ghost use Rattle.lid_top_words.specs.declared.job.Job.{Job};
+ghost use Rattle.lid_top_script.specs.Scripts.{Ending, EndsIn, script_of};
+ghost use Rattle.lid_top_script.specs.Statuses.{TellsAll};
 ghost use Rattle.lid_top.specs.Verified.{RatesAreVerified};
 
 /// Where the shelf tells all files that a job reaches, the job ends in one way. So which status comes,

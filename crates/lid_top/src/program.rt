@@ -2,14 +2,14 @@
 
 ghost use Rattle.std.specs.Prelude.{◌≡◌, ◌⊎◌, None, IfOk, IfErr};
 ghost use Rattle.std.specs.Process.{exit_status};
-ghost use Rattle.lid_cli.specs.Jobs.{job_of};
-ghost use Rattle.lid_refusals.specs.Faults.{usage_line, memory_line};
-ghost use Rattle.lid_refusals.specs.Saying.{Says};
-ghost use Rattle.lid_script.specs.Statuses.{Run};
+ghost use Rattle.lid_top_words.specs.Jobs.{job_of};
+ghost use Rattle.lid_top_refusals.specs.Faults.{usage_line, memory_line};
+ghost use Rattle.lid_top_refusals.specs.Saying.{Says};
+ghost use Rattle.lid_top_script.specs.Statuses.{Run};
 
 use crate::top::lid_run;
 use lid_base::{OpenGate, Shelf, Sink, Text};
-use lid_refusals::{say_memory, say_usage};
+use lid_top_refusals::{say_memory, say_usage};
 use std::io;
 use std::process::ExitCode;
 use std::thread::Threads;

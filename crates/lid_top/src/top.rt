@@ -1,17 +1,17 @@
 //! The top call: from words, files and sinks to a status.
 
 ghost use Rattle.std.specs.Prelude.{◌≡◌, OnOk, IfErr};
-ghost use Rattle.lid_cli.specs.Jobs.{job_of};
-ghost use Rattle.lid_script.specs.Causes.{end_status, end_line};
-ghost use Rattle.lid_refusals.specs.Saying.{Says};
-ghost use Rattle.lid_script.specs.Statuses.{Run};
+ghost use Rattle.lid_top_words.specs.Jobs.{job_of};
+ghost use Rattle.lid_top_script.specs.Causes.{end_status, end_line};
+ghost use Rattle.lid_top_refusals.specs.Saying.{Says};
+ghost use Rattle.lid_top_script.specs.Statuses.{Run};
 
 use crate::job::run_job;
 use crate::saying::say_end;
 use lid_base::{Gate, Shelf, Sink, Text};
-use lid_cli::read_words;
-use lid_refusals::{say_memory, say_usage};
-use lid_script::End;
+use lid_top_refusals::{say_memory, say_usage};
+use lid_top_script::JobEnd;
+use lid_top_words::read_words;
 use std::thread::Threads;
 
 /// Runs the job that the words ask for, and answers the status of the program:
@@ -57,7 +57,7 @@ where
 }
 
 /// Answers the status of a job that has ended, and says why its output is not whole.
-fn status_of<E: Sink>(err: &mut E, ended: Result<(), End<'_>>) -> u8
+fn status_of<E: Sink>(err: &mut E, ended: Result<(), JobEnd<'_>>) -> u8
     ensures whole { OnOk ended.entry ((result ≡ 0) × (err.new ≡ err.old)) }
     ensures stopped { IfErr ended.entry (λ end. (result ≡ end_status end) × Says E.written E.faults err.old err.new (end_line end)) }
 {

@@ -5,17 +5,17 @@ use Rattle.std.specs.Fmt.{decimal}
 use Rattle.std.specs.List.{AllByRecursion}
 use Rattle.std.proofs.lemmas.Bool.{and_parts, ltb-true, eqb-true, eq-eqb, cases_lt, cond-false}
 use Rattle.lid_base.specs.Numbers.{number_below}
-use Rattle.lid_lines.specs.Texts.{Words}
-use Rattle.lid_reports.specs.declared.trace.Trace.{Trace}
-use Rattle.lid_wave.specs.declared.form.Section.{Section}
-use Rattle.lid_wave.specs.declared.form.Section.TheVariants.{Timescale, Scope, Variable, Upscope, Definitions, Body}
-use Rattle.lid_wave.specs.declared.form.Next.{Next}
-use Rattle.lid_wave.specs.declared.form.Next.TheVariants.{Before, Note, Inside, Time, Set, Bits}
-use Rattle.lid_wave.specs.declared.form.Place.{Place}
-use Rattle.lid_wave.specs.Ids.{variable_of, token_of, id_of, width_of, ending_of}
-use Rattle.lid_wave.specs.Form.{place, start, step, run, is_time, is_end, is_note, is_name, only, begins_variable, begins, before_section, in_note, in_timescale, in_scope, in_variable, in_section, going_on, later, bit_set, token_read, token_set, change, in_body}
-use Rattle.lid_wave.specs.Words.{placed_words}
-use Rattle.lid_wave.specs.Shows.{Wave, trace_at, trace_of, wave_of}
+use Rattle.lid_base_lines.specs.Texts.{Words}
+use Rattle.lid_texts_runs.specs.declared.trace.Trace.{Trace}
+use Rattle.lid_vcd_form.specs.declared.form.Section.{Section}
+use Rattle.lid_vcd_form.specs.declared.form.Section.TheVariants.{Timescale, Scope, Variable, Upscope, Definitions, Body}
+use Rattle.lid_vcd_form.specs.declared.form.Next.{Next}
+use Rattle.lid_vcd_form.specs.declared.form.Next.TheVariants.{Before, Note, Inside, Time, Set, Bits}
+use Rattle.lid_vcd_form.specs.declared.form.Place.{Place}
+use Rattle.lid_vcd_form.specs.Ids.{variable_of, token_of, id_of, width_of, ending_of}
+use Rattle.lid_vcd_form.specs.Form.{place, start, step, run, is_time, is_end, is_note, is_name, only, begins_variable, begins, before_section, in_note, in_timescale, in_scope, in_variable, in_section, going_on, later, bit_set, token_read, token_set, change, in_body}
+use Rattle.lid_vcd_form.specs.Words.{placed_words}
+use Rattle.lid_vcd_form.specs.Shows.{Wave, trace_at, trace_of, wave_of}
 use Rattle.lid_vcd.specs.Laws.{place_after}
 use Rattle.lid_vcd.proofs.Going.{run_goes, goes_on}
 use Rattle.lid_vcd.proofs.WrittenWords.{IsWord, on_line, spaced, spaced_read, line_after, both_read}

@@ -7,12 +7,12 @@ use Rattle.std.proofs.Math.Seq.{set-append_seam}
 use Rattle.std.proofs.lemmas.Bool.{and_from, and_parts, cases_lt, cond-true, cond-false, le-leb}
 use Rattle.lid_base.specs.declared.runs.Shown.{Shown}
 use Rattle.lid_base.proofs.Numbers.{number_back}
-use Rattle.lid_wave.specs.declared.form.Next.{Next}
-use Rattle.lid_wave.specs.declared.form.Next.TheVariants.{Time, Set, Bits}
-use Rattle.lid_wave.specs.Ids.{id_of, id_value, variable_of, token_of, binary, binary_by, bits_on, is_bit, are_bits, is_token}
-use Rattle.lid_wave.specs.Form.{place, step, in_body, later, bit_set, token_read, token_set, change}
-use Rattle.lid_wave.specs.Shows.{time_of, cycles_of}
-use Rattle.lid_wave.specs.Text.{time_words, bit_words, token_words}
+use Rattle.lid_vcd_form.specs.declared.form.Next.{Next}
+use Rattle.lid_vcd_form.specs.declared.form.Next.TheVariants.{Time, Set, Bits}
+use Rattle.lid_vcd_form.specs.Ids.{id_of, id_value, variable_of, token_of, binary, binary_by, bits_on, is_bit, are_bits, is_token}
+use Rattle.lid_vcd_form.specs.Form.{place, step, in_body, later, bit_set, token_read, token_set, change}
+use Rattle.lid_vcd_form.specs.Shows.{time_of, cycles_of}
+use Rattle.lid_vcd_form.specs.Text.{time_words, bit_words, token_words}
 use Rattle.lid_vcd.proofs.WrittenWords.{on_line}
 use Rattle.lid_vcd.proofs.Going.{Goes, one_word, word_then}
 use Rattle.lid_vcd.proofs.HeadRead.{only_true, same_word}

@@ -3,14 +3,14 @@ use Rattle.std.proofs.Common.{◌≡◌, ℕ, ◌+◌, ◌*◌, ◌%◌, ◌^◌
 use Rattle.std.specs.List.{AllByRecursion}
 use Rattle.std.proofs.lemmas.Bool.{eqb-true}
 use Rattle.lid_base.specs.declared.runs.Shown.{Shown}
-use Rattle.lid_lines.specs.Texts.{Words}
-use Rattle.lid_wave.specs.declared.form.Next.{Next}
-use Rattle.lid_wave.specs.declared.form.Next.TheVariants.{Set}
-use Rattle.lid_wave.specs.Ids.{is_token}
-use Rattle.lid_wave.specs.Form.{place}
-use Rattle.lid_wave.specs.Shows.{cell_of, shown}
-use Rattle.lid_wave.specs.Text.{bit_words, token_words, cell_lines, bit_change, token_change, cell_changes}
-use Rattle.lid_wave.specs.Writable.{IsCell}
+use Rattle.lid_base_lines.specs.Texts.{Words}
+use Rattle.lid_vcd_form.specs.declared.form.Next.{Next}
+use Rattle.lid_vcd_form.specs.declared.form.Next.TheVariants.{Set}
+use Rattle.lid_vcd_form.specs.Ids.{is_token}
+use Rattle.lid_vcd_form.specs.Form.{place}
+use Rattle.lid_vcd_form.specs.Shows.{cell_of, shown_stations}
+use Rattle.lid_vcd_form.specs.Text.{bit_words, token_words, cell_lines, bit_change, token_change, cell_changes}
+use Rattle.lid_vcd_form.specs.Writable.{IsCell}
 use Rattle.lid_vcd.proofs.WrittenWords.{placed_lines}
 use Rattle.lid_vcd.proofs.Going.{Goes, nothing, then_goes}
 use Rattle.lid_vcd.proofs.HeadRead.{placed_append}
@@ -27,10 +27,10 @@ cell_shown true false token void = refl
 cell_shown false true token void = ap (λ (n : ℕ). cell_of 0 1 n) (void refl) ∙ ap (λ (n : ℕ). record { valid = false; stop = true; token = n }) (sym (void refl))
 cell_shown false false token void = ap (λ (n : ℕ). cell_of 0 0 n) (void refl) ∙ ap (λ (n : ℕ). record { valid = false; stop = false; token = n }) (sym (void refl))
 
-pub values_shown : (cells : List Shown) → AllByRecursion IsCell cells → shown (values_of cells) ≡ cells
+pub values_shown : (cells : List Shown) → AllByRecursion IsCell cells → shown_stations (values_of cells) ≡ cells
 values_shown [] all = refl
 values_shown (cell ∷ cells) all =
-    ap (λ (c : Shown). c ∷ shown (values_of cells)) (cell_shown cell.valid cell.stop cell.token all.0.void) ∙ ap (λ (cs : List Shown). cell ∷ cs) (values_shown cells all.1)
+    ap (λ (c : Shown). c ∷ shown_stations (values_of cells)) (cell_shown cell.valid cell.stop cell.token all.0.void) ∙ ap (λ (cs : List Shown). cell ∷ cs) (values_shown cells all.1)
 
 -- words after which the dump stands at a time of its body
 pub record GoesAt (variables at : ℕ) (next : Next) (values : List ℕ) (words : List (ℕ × List ℕ)) (after : List ℕ) : Type 0 where

@@ -5,18 +5,20 @@ use Rattle.std.proofs.lemmas.Bool.{eqb-true, or_parts}
 use Rattle.std.proofs.lemmas.List.{length-take-le, length-drop, take-append-drop}
 use Rattle.lid_base.specs.declared.runs.Shown.{Shown}
 use Rattle.lid_base.proofs.Lists.{not_false}
-use Rattle.lid_lines.specs.Texts.{Words}
-use Rattle.lid_wave.specs.declared.form.Next.{Next}
-use Rattle.lid_wave.specs.declared.form.Next.TheVariants.{Time}
-use Rattle.lid_wave.specs.Form.{place}
-use Rattle.lid_wave.specs.Shows.{shown, cycles_of}
-use Rattle.lid_wave.specs.Text.{time_words, cell_lines, all_lines, cell_changes, changes, bit_differs, differs, any_differs, later_lines}
-use Rattle.lid_wave.specs.Writable.{IsCell}
+use Rattle.lid_base_lines.specs.Texts.{Words}
+use Rattle.lid_vcd_form.specs.declared.form.Next.{Next}
+use Rattle.lid_vcd_form.specs.declared.form.Next.TheVariants.{Time}
+use Rattle.lid_vcd_form.specs.Form.{place}
+use Rattle.lid_vcd_form.specs.Shows.{shown_stations, cycles_of}
+use Rattle.lid_vcd_form.specs.Text.{time_words, cell_lines, all_lines, cell_changes, changes, bit_differs, differs, any_differs, later_lines}
+use Rattle.lid_vcd_form.specs.Writable.{IsCell}
 use Rattle.lid_vcd.proofs.WrittenWords.{on_line, placed_lines}
 use Rattle.lid_vcd.proofs.Going.{Goes, then_goes}
 use Rattle.lid_vcd.proofs.HeadRead.{placed_append}
 use Rattle.lid_vcd.proofs.BodyRead.{AtTime, at_time, bit_value, time_read}
 use Rattle.lid_vcd.proofs.CellsRead.{values_of, values_shown, GoesAt, stays, at_then, cell_goes, cell_changed}
+use native.Mathlib.Nat.{mul-suc}
+use Rattle.lid_base.proofs.Alls.{all_take, all_drop}
 
 -- the front of the values is done
 shifted : (variables at : ℕ) (next : Next) (done front xs ys : List ℕ) (words : List (ℕ × List ℕ)) → GoesAt variables at next ((done ++ front) ++ xs) words ((done ++ front) ++ ys) → GoesAt variables at next (done ++ (front ++ xs)) words (done ++ (front ++ ys))
@@ -91,19 +93,9 @@ same_cells (old ∷ olds) (new ∷ news) e h =
     let parts = or_parts (differs old new) (any_differs olds news) h in
     ap (λ (c : Shown). c ∷ news) (sym (same_cell old new parts.0)) ∙ ap (λ (cs : List Shown). old ∷ cs) (same_cells olds news (omega arith) parts.1)
 
-pub all_take : (n : ℕ) (cells : List Shown) → AllByRecursion IsCell cells → AllByRecursion IsCell (take n cells)
-all_take zero cells all = tt
-all_take (suc n) [] all = tt
-all_take (suc n) (cell ∷ cells) all = (all.0, all_take n cells all.1)
-
-pub all_drop : (n : ℕ) (cells : List Shown) → AllByRecursion IsCell cells → AllByRecursion IsCell (drop n cells)
-all_drop zero cells all = all
-all_drop (suc n) [] all = tt
-all_drop (suc n) (cell ∷ cells) all = all_drop n cells all.1
-
-cycles_more : (n : ℕ) (values : List ℕ) → cycles_of (suc n) values ≡ cycles_of n values ++ shown values
-cycles_more zero values = append-nil (shown values)
-cycles_more (suc n) values = ap (λ (cells : List Shown). shown values ++ cells) (cycles_more n values) ∙ sym (append_assoc (shown values) (cycles_of n values) (shown values))
+cycles_more : (n : ℕ) (values : List ℕ) → cycles_of (suc n) values ≡ cycles_of n values ++ shown_stations values
+cycles_more zero values = append-nil (shown_stations values)
+cycles_more (suc n) values = ap (λ (cells : List Shown). shown_stations values ++ cells) (cycles_more n values) ∙ sym (append_assoc (shown_stations values) (cycles_of n values) (shown_stations values))
 
 -- the rest of a body: it ends at a time, and these cells are shown
 pub record Ends (variables : ℕ) (next : Next) (values : List ℕ) (words : List (ℕ × List ℕ)) (last : ℕ) (cells : List Shown) : Type 0 where
@@ -117,7 +109,7 @@ after_one k row rest = cycles_of (k + 1 - k) (values_of row) ++ rest
 one_more : (k : ℕ) (row rest : List Shown) → AllByRecursion IsCell row → after_one k row rest ≡ row ++ rest
 one_more k row rest all =
     let one : k + 1 - k ≡ 1 = omega arith in
-    ap (λ (n : ℕ). cycles_of n (values_of row) ++ rest) one ∙ ap (λ (cells : List Shown). cells ++ rest) (append-nil (shown (values_of row)) ∙ values_shown row all)
+    ap (λ (n : ℕ). cycles_of n (values_of row) ++ rest) one ∙ ap (λ (cells : List Shown). cells ++ rest) (append-nil (shown_stations (values_of row)) ∙ values_shown row all)
 
 -- a cycle in which something changed
 changed : (line variables at k last : ℕ) (next : Next) (before row rest : List Shown) (lines : List Words) → AtTime variables at next → at < k → k < 4294967295 → length before ≡ length row → 3 * length row ≤ variables → variables ≤ 196608 → AllByRecursion IsCell row →
@@ -146,7 +138,7 @@ unchanged variables at k last next before row rest words after same all so =
     let v = values_of before in
     let more : k + 1 - at ≡ suc (k - at) = omega arith in
     subst (Ends variables next v words last)
-    (ap (λ (n : ℕ). cycles_of n v ++ rest) more ∙ ap (λ (cells : List Shown). cells ++ rest) (cycles_more (k - at) v) ∙ append_assoc (cycles_of (k - at) v) (shown v) rest
+    (ap (λ (n : ℕ). cycles_of n v ++ rest) more ∙ ap (λ (cells : List Shown). cells ++ rest) (cycles_more (k - at) v) ∙ append_assoc (cycles_of (k - at) v) (shown_stations v) rest
     ∙ ap (λ (cells : List Shown). cycles_of (k - at) v ++ (cells ++ rest)) (values_shown before all ∙ sym same)) so
 
 -- a cycle, and those after it
@@ -170,13 +162,10 @@ next_cycle line stations variables at k left next before row rest cells false h 
     (unchanged variables at k (k + 1 + left) next before row rest (placed_lines line lines) after equal all
     (subst (λ (b : List Shown). Ends variables next (values_of before) (placed_lines line (later_lines stations (k + 1) left b rest)) (k + 1 + left) (cycles_of (k + 1 - at) (values_of before) ++ rest)) (sym equal) same)))
 
-mul_suc : (a b : ℕ) → a * suc b ≡ a * b + a
-mul_suc a b = grind (arith)
-
 -- the first row of cells is one of all stations, and the rows after it are one fewer
 pub first_row : (stations left : ℕ) (cells : List Shown) → length cells ≡ stations * suc left → (length (take stations cells) ≡ stations) × (length (drop stations cells) ≡ stations * left)
 first_row stations left cells long =
-    let product = mul_suc stations left in
+    let product = mul-suc stations left in
     let enough : stations ≤ length cells = omega arith in
     let across : length (take stations cells) ≡ stations = length-take-le stations cells enough in
     let dropped = length-drop stations cells in
@@ -200,6 +189,6 @@ later_goes line stations variables at k (suc left) next before cells here after 
     let rest = drop stations cells in
     let (across, longer) = first_row stations left cells long in
     let room : 3 * length row ≤ variables = omega arith in
-    next_cycle line stations variables at k left next before row rest cells (any_differs before row) refl here after early (wide ∙ sym across) room few all (all_take stations cells each) (take-append-drop stations cells)
-    (λ to n h. later_goes n stations variables k (k + 1) left to row rest h (omega arith) (omega arith) across longer below few (all_take stations cells each) (all_drop stations cells each))
-    (later_goes line stations variables at (k + 1) left next before rest here (omega arith) (omega arith) wide longer below few all (all_drop stations cells each))
+    next_cycle line stations variables at k left next before row rest cells (any_differs before row) refl here after early (wide ∙ sym across) room few all (all_take IsCell stations cells each) (take-append-drop stations cells)
+    (λ to n h. later_goes n stations variables k (k + 1) left to row rest h (omega arith) (omega arith) across longer below few (all_take IsCell stations cells each) (all_drop IsCell stations cells each))
+    (later_goes line stations variables at (k + 1) left next before rest here (omega arith) (omega arith) wide longer below few all (all_drop IsCell stations cells each))

@@ -2,10 +2,10 @@
 use Rattle.std.proofs.Common.{◌≡◌, ℕ, Bool, true, List, [], ◌∷◌, ◌++◌, refl, sym, ap, ◌∙◌, subst, append_assoc, cond}
 use Rattle.std.specs.Prelude.{Option, Some, None, Result, Ok, Err, option_and_then}
 use Rattle.lid_base.specs.declared.runs.Shown.{Shown}
-use Rattle.lid_wave.specs.declared.form.Place.{Place}
-use Rattle.lid_wave.specs.Form.{step, run, is_time, going_on, ended}
+use Rattle.lid_vcd_form.specs.declared.form.Place.{Place}
+use Rattle.lid_vcd_form.specs.Form.{step, run, is_time, going_on, ended}
 use Rattle.lid_vcd.specs.Laws.{place_after}
-use Rattle.lid_wave.specs.Shows.{time_of, cycles_until, values_after, cells_with, cells_on}
+use Rattle.lid_vcd_form.specs.Shows.{time_of, cycles_until, values_after, cells_with, cells_on}
 
 abbrev pub goes : Place → List (ℕ × List ℕ) → Option Place
 goes p words = place_after p words

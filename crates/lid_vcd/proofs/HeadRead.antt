@@ -7,14 +7,14 @@ use Rattle.std.proofs.lemmas.Bool.{and_from, eq-eqb}
 use Rattle.lid_base.specs.declared.runs.Shown.{Shown}
 use Rattle.lid_base.proofs.Lists.{bytes_same}
 use Rattle.lid_base.proofs.Numbers.{number_back}
-use Rattle.lid_lines.specs.Texts.{Words}
-use Rattle.lid_wave.specs.declared.form.Section.TheVariants.{Variable, Upscope, Definitions, Body}
-use Rattle.lid_wave.specs.declared.form.Next.{Next}
-use Rattle.lid_wave.specs.declared.form.Next.TheVariants.{Before, Inside}
-use Rattle.lid_wave.specs.declared.form.Place.{Place}
-use Rattle.lid_wave.specs.Ids.{id_of, width_of, ending_of}
-use Rattle.lid_wave.specs.Form.{place, start, step, only, begins, begins_variable, in_scope, in_variable, is_name, is_stem, is_number}
-use Rattle.lid_wave.specs.Text.{declaration, declarations, timescale_words, scope_words, upscope_words, definitions_words, head_lines}
+use Rattle.lid_base_lines.specs.Texts.{Words}
+use Rattle.lid_vcd_form.specs.declared.form.Section.TheVariants.{Variable, Upscope, Definitions, Body}
+use Rattle.lid_vcd_form.specs.declared.form.Next.{Next}
+use Rattle.lid_vcd_form.specs.declared.form.Next.TheVariants.{Before, Inside}
+use Rattle.lid_vcd_form.specs.declared.form.Place.{Place}
+use Rattle.lid_vcd_form.specs.Ids.{id_of, width_of, ending_of}
+use Rattle.lid_vcd_form.specs.Form.{place, start, step, only, begins, begins_variable, in_scope, in_variable, is_name, is_stem, is_number}
+use Rattle.lid_vcd_form.specs.Text.{declaration, declarations, timescale_words, scope_words, upscope_words, definitions_words, head_lines}
 use Rattle.lid_vcd.proofs.WrittenWords.{on_line, placed_lines}
 use Rattle.lid_vcd.proofs.Going.{Goes, nothing, then_goes, one_word, word_then}
 

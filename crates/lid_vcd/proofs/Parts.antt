@@ -1,9 +1,10 @@
 -- Lines, appended one part after another.
 use Rattle.std.proofs.Common.{◌≡◌, ℕ, zero, suc, ◌+◌, ◌-◌, ◌<◌, List, [], ◌∷◌, ◌++◌, length, take, drop, sym, ap, ◌∙◌, append_assoc, append-nil, false, refl, arith}
 use Rattle.lid_base.specs.declared.runs.Shown.{Shown}
-use Rattle.lid_lines.specs.Texts.{Words, line_text, lines_text}
-use Rattle.lid_lines.proofs.Pieces.{appended, lines_text_append}
-use Rattle.lid_wave.specs.Text.{declaration, declarations, time_words, all_lines, changes, any_differs, cycle_lines, later_lines, body_lines}
+use Rattle.lid_base_lines.specs.Texts.{Words, line_text, lines_text}
+use Rattle.lid_base_lines.proofs.Pieces.{lines_text_append}
+use Rattle.lid_vcd_form.specs.Text.{declaration, declarations, time_words, all_lines, changes, any_differs, cycle_lines, later_lines, body_lines}
+use Rattle.lid_base.proofs.Lists.{appended}
 
 -- two parts
 pub two : (old mid new : List ℕ) (xs ys : List Words) → mid ≡ old ++ lines_text xs → new ≡ mid ++ lines_text ys → new ≡ old ++ lines_text (xs ++ ys)

@@ -2,8 +2,8 @@
 use Rattle.std.proofs.Common.{◌≡◌, ℕ, Bool, true, false, cond, List, length}
 use Rattle.std.specs.Prelude.{nat_lt, Result, Ok, Err}
 use Rattle.lid_base.specs.declared.which.Which.TheVariants.{FileBytes, TraceCells}
-use Rattle.lid_reports.specs.declared.trace.Trace.{Trace}
-use Rattle.lid_wave.specs.Shows.{wave_of}
+use Rattle.lid_texts_runs.specs.declared.trace.Trace.{Trace}
+use Rattle.lid_vcd_form.specs.Shows.{wave_of}
 use Rattle.lid_vcd.specs.declared.reader.VcdFault.{VcdFault}
 use Rattle.lid_vcd.specs.declared.reader.VcdFault.TheVariants.{Limit, Word}
 use Rattle.lid_vcd.specs.Reading.{cell_count, if_few, judged, wave_reading}

@@ -8,17 +8,18 @@ use Rattle.std.proofs.lemmas.List.{length-set}
 use Rattle.lid_base.specs.declared.runs.Shown.{Shown}
 use Rattle.lid_base.specs.Numbers.{number_below}
 use Rattle.lid_base.proofs.Lists.{all_append}
-use Rattle.lid_wave.specs.declared.form.Section.{Section}
-use Rattle.lid_wave.specs.declared.form.Section.TheVariants.{Timescale, Scope, Variable, Upscope, Definitions, Body}
-use Rattle.lid_wave.specs.declared.form.Next.{Next}
-use Rattle.lid_wave.specs.declared.form.Next.TheVariants.{Before, Note, Inside, Time, Set, Bits}
-use Rattle.lid_wave.specs.declared.form.Place.{Place}
-use Rattle.lid_wave.specs.Ids.{variable_of, token_of, is_bit, are_bits, bits_on}
-use Rattle.lid_wave.specs.Form.{place, start, step, run, going_on, is_time, is_end, is_note, only, begins_variable, begins, before_section, in_note, in_timescale, in_scope, in_variable, in_section, later, bit_set, token_read, token_set, change, in_body}
-use Rattle.lid_wave.specs.Shows.{cell_of, shown, cycles_of, time_of, values_after, cycles_until, cells_with, cells_on}
-use Rattle.lid_reports.specs.declared.trace.Trace.{Trace}
-use Rattle.lid_wave.specs.Writable.{IsCell, IsWritable}
-use Rattle.lid_wave.proofs.Digits.{bit_small}
+use Rattle.lid_vcd_form.specs.declared.form.Section.{Section}
+use Rattle.lid_vcd_form.specs.declared.form.Section.TheVariants.{Timescale, Scope, Variable, Upscope, Definitions, Body}
+use Rattle.lid_vcd_form.specs.declared.form.Next.{Next}
+use Rattle.lid_vcd_form.specs.declared.form.Next.TheVariants.{Before, Note, Inside, Time, Set, Bits}
+use Rattle.lid_vcd_form.specs.declared.form.Place.{Place}
+use Rattle.lid_vcd_form.specs.Ids.{variable_of, token_of, is_bit, are_bits, bits_on}
+use Rattle.lid_vcd_form.specs.Form.{place, start, step, run, going_on, is_time, is_end, is_note, only, begins_variable, begins, before_section, in_note, in_timescale, in_scope, in_variable, in_section, later, bit_set, token_read, token_set, change, in_body}
+use Rattle.lid_vcd_form.specs.Shows.{cell_of, shown_stations, cycles_of, time_of, values_after, cycles_until, cells_with, cells_on}
+use Rattle.lid_texts_runs.specs.declared.trace.Trace.{Trace}
+use Rattle.lid_vcd_form.specs.Writable.{IsCell, IsWritable}
+use Rattle.lid_vcd_form.proofs.Digits.{bit_small}
+use native.Mathlib.Nat.{mul-suc}
 
 abbrev IsSmall : Next → Type 0
 IsSmall (Set at n value) = value < 2 ^ 31
@@ -205,13 +206,13 @@ cell_is valid stop token small = by (valid == 1) (stop == 1)
     by true s = record { small = small; void = λ e. absurd (let f : true ≡ false = e in cc) }
     by false s = record { small = omega arith; void = λ e. refl }
 
-shown_cells : (values : List ℕ) → AreSmall values → AllByRecursion IsCell (shown values)
+shown_cells : (values : List ℕ) → AreSmall values → AllByRecursion IsCell (shown_stations values)
 shown_cells [] all = tt
 shown_cells (a ∷ []) all = tt
 shown_cells (a ∷ b ∷ []) all = tt
 shown_cells (a ∷ b ∷ c ∷ values) all = (cell_is a b c all.1.1.0, shown_cells values all.1.1.1)
 
-length_shown : (values : List ℕ) → length (shown values) ≡ length values / 3
+length_shown : (values : List ℕ) → length (shown_stations values) ≡ length values / 3
 length_shown [] = refl
 length_shown (a ∷ []) = refl
 length_shown (a ∷ b ∷ []) = refl
@@ -219,18 +220,15 @@ length_shown (a ∷ b ∷ c ∷ values) = let e = length_shown values in omega a
 
 cycles_cells : (n : ℕ) (values : List ℕ) → AreSmall values → AllByRecursion IsCell (cycles_of n values)
 cycles_cells zero values all = tt
-cycles_cells (suc n) values all = all_append IsCell (shown values) (cycles_of n values) (shown_cells values all) (cycles_cells n values all)
-
-mul_suc : (a b : ℕ) → a * suc b ≡ a * b + a
-mul_suc a b = grind (arith)
+cycles_cells (suc n) values all = all_append IsCell (shown_stations values) (cycles_of n values) (shown_cells values all) (cycles_cells n values all)
 
 length_cycles : (n : ℕ) (values : List ℕ) → length (cycles_of n values) ≡ length values / 3 * n
 length_cycles zero values = omega arith
 length_cycles (suc n) values =
-    let sum = length-append (shown values) (cycles_of n values) in
+    let sum = length-append (shown_stations values) (cycles_of n values) in
     let one = length_shown values in
     let rest = length_cycles n values in
-    let product = mul_suc (length values / 3) n in
+    let product = mul-suc (length values / 3) n in
     omega arith
 
 -- the cells of some words up to the place at their end

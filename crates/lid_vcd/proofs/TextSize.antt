@@ -7,13 +7,13 @@ use Rattle.std.proofs.lemmas.Bool.{cond-false}
 use Rattle.std.proofs.lemmas.Fmt.{length-decimal-le}
 use Rattle.lid_base.specs.declared.runs.Shown.{Shown}
 use Rattle.lid_base.specs.declared.which.Which.TheVariants.{FileBytes, TraceCells}
-use Rattle.lid_lines.specs.Texts.{Words, line_text, lines_text}
-use Rattle.lid_lines.proofs.Pieces.{lines_text_append}
-use Rattle.lid_reports.specs.declared.trace.Trace.{Trace}
-use Rattle.lid_wave.specs.Ids.{id_of, width_of, ending_of, is_token, binary, binary_by}
-use Rattle.lid_wave.specs.Shows.{wave_of}
-use Rattle.lid_wave.specs.Text.{declaration, declarations, timescale_words, scope_words, upscope_words, definitions_words, time_words, head_lines, bit_words, token_words, cell_lines, all_lines, bit_change, token_change, cell_changes, changes, any_differs, cycle_lines, later_lines, body_lines, wave_text}
-use Rattle.lid_wave.specs.Writable.{IsWritable}
+use Rattle.lid_base_lines.specs.Texts.{Words, line_text, lines_text}
+use Rattle.lid_base_lines.proofs.Pieces.{lines_text_append}
+use Rattle.lid_texts_runs.specs.declared.trace.Trace.{Trace}
+use Rattle.lid_vcd_form.specs.Ids.{id_of, width_of, ending_of, is_token, binary, binary_by}
+use Rattle.lid_vcd_form.specs.Shows.{wave_of}
+use Rattle.lid_vcd_form.specs.Text.{declaration, declarations, timescale_words, scope_words, upscope_words, definitions_words, time_words, head_lines, bit_words, token_words, cell_lines, all_lines, bit_change, token_change, cell_changes, changes, any_differs, cycle_lines, later_lines, body_lines, wave_text}
+use Rattle.lid_vcd_form.specs.Writable.{IsWritable}
 use Rattle.lid_vcd.specs.declared.reader.VcdFault.TheVariants.{Limit}
 use Rattle.lid_vcd.specs.Reading.{cell_count, judged, wave_reading}
 use Rattle.lid_vcd.proofs.CyclesRead.{first_row}

@@ -7,22 +7,23 @@ use Rattle.std.proofs.lemmas.Fmt.{decimal_digit}
 use Rattle.std.proofs.lemmas.List.{take-append-drop}
 use Rattle.lid_base.specs.declared.runs.Shown.{Shown}
 use Rattle.lid_base.proofs.Lists.{all_append}
-use Rattle.lid_lines.specs.Texts.{Words}
-use Rattle.lid_reports.specs.declared.trace.Trace.{Trace}
-use Rattle.lid_wave.specs.declared.form.Section.TheVariants.{Body}
-use Rattle.lid_wave.specs.declared.form.Next.TheVariants.{Before, Time}
-use Rattle.lid_wave.specs.Words.{placed_words}
-use Rattle.lid_wave.specs.Form.{place, start, step, run, begins}
-use Rattle.lid_wave.specs.Shows.{shown, cycles_of, cells_on, trace_at, trace_of, wave_of}
-use Rattle.lid_wave.specs.Text.{time_words, head_lines, all_lines, later_lines, body_lines, wave_text}
-use Rattle.lid_wave.specs.Writable.{IsCell, IsWritable}
+use Rattle.lid_base_lines.specs.Texts.{Words}
+use Rattle.lid_texts_runs.specs.declared.trace.Trace.{Trace}
+use Rattle.lid_vcd_form.specs.declared.form.Section.TheVariants.{Body}
+use Rattle.lid_vcd_form.specs.declared.form.Next.TheVariants.{Before, Time}
+use Rattle.lid_vcd_form.specs.Words.{placed_words}
+use Rattle.lid_vcd_form.specs.Form.{place, start, step, run, begins}
+use Rattle.lid_vcd_form.specs.Shows.{shown_stations, cycles_of, cells_on, trace_at, trace_of, wave_of}
+use Rattle.lid_vcd_form.specs.Text.{time_words, head_lines, all_lines, later_lines, body_lines, wave_text}
+use Rattle.lid_vcd_form.specs.Writable.{IsCell, IsWritable}
 use Rattle.lid_vcd.proofs.WrittenWords.{on_line, placed_lines, IsLine, lines_read}
 use Rattle.lid_vcd.proofs.WordsSound.{head_sound, body_sound}
 use Rattle.lid_vcd.proofs.Going.{Goes, then_goes, one_word, run_goes}
 use Rattle.lid_vcd.proofs.HeadRead.{placed_append, head_read}
 use Rattle.lid_vcd.proofs.BodyRead.{at_time}
 use Rattle.lid_vcd.proofs.CellsRead.{values_of, values_shown}
-use Rattle.lid_vcd.proofs.CyclesRead.{all_goes, all_take, all_drop, Ends, first_row, later_goes}
+use Rattle.lid_vcd.proofs.CyclesRead.{all_goes, Ends, first_row, later_goes}
+use Rattle.lid_base.proofs.Alls.{all_take, all_drop}
 
 pub first_time : (variables : ℕ) → step (place variables (Before Body)) (codes "#0") ≡ Some (place variables (Time 0))
 unfolding step begins
@@ -54,11 +55,11 @@ body_goes line stations (suc left) cells long few most all =
     let rest = drop stations cells in
     let (across, longer) = first_row stations left cells long in
     let many = length_zeros v in
-    let set = all_goes (line + 1) v 0 (Time 0) [] (replicate v 0) 0 row refl (omega arith) (at_time v 0) (omega arith) (omega arith) (omega arith) (all_take stations cells all) in
+    let set = all_goes (line + 1) v 0 (Time 0) [] (replicate v 0) 0 row refl (omega arith) (at_time v 0) (omega arith) (omega arith) (omega arith) (all_take IsCell stations cells all) in
     let n = line + 1 + length (all_lines 0 row) in
-    let over = later_goes n stations v 0 1 left set.to row rest set.here (omega arith) (omega arith) across longer (omega arith) (omega arith) (all_take stations cells all) (all_drop stations cells all) in
+    let over = later_goes n stations v 0 1 left set.to row rest set.here (omega arith) (omega arith) across longer (omega arith) (omega arith) (all_take IsCell stations cells all) (all_drop IsCell stations cells all) in
     let none : List Shown = [] in
-    let first : cycles_of (1 - 0) (values_of row) ++ rest ≡ cells = ap (λ (cs : List Shown). cs ++ rest) (append-nil (shown (values_of row)) ∙ values_shown row (all_take stations cells all)) ∙ take-append-drop stations cells in
+    let first : cycles_of (1 - 0) (values_of row) ++ rest ≡ cells = ap (λ (cs : List Shown). cs ++ rest) (append-nil (shown_stations (values_of row)) ∙ values_shown row (all_take IsCell stations cells all)) ∙ take-append-drop stations cells in
     let sum : 1 + left ≡ suc left = omega arith in
     let later : Goes (place v (Time 0)) (replicate v 0) (placed_lines (line + 1) (all_lines 0 row ++ later_lines stations 1 left row rest)) (place v (Time (1 + left))) over.after (cycles_of (1 - 0) (values_of row) ++ rest) =
     subst (λ (ws : List (ℕ × List ℕ)). Goes (place v (Time 0)) (replicate v 0) ws (place v (Time (1 + left))) over.after (cycles_of (1 - 0) (values_of row) ++ rest)) (sym (placed_append (line + 1) (all_lines 0 row) (later_lines stations 1 left row rest)))

@@ -8,9 +8,9 @@ use Rattle.std.proofs.lemmas.Fmt.{decimal_by_steps}
 use Rattle.lid_base.specs.declared.runs.Shown.{Shown}
 use Rattle.lid_base.specs.Lines.{is_newline, is_separator}
 use Rattle.lid_base.proofs.Lists.{all_append}
-use Rattle.lid_wave.specs.Words.{separates}
-use Rattle.lid_wave.specs.Ids.{id_of, width_of, ending_of, is_token, binary, binary_by}
-use Rattle.lid_wave.specs.Text.{declaration, declarations, timescale_words, scope_words, upscope_words, definitions_words, time_words, head_lines, bit_words, token_words, all_lines, bit_change, token_change, cell_changes, changes, any_differs, cycle_lines, later_lines, body_lines}
+use Rattle.lid_vcd_form.specs.Words.{separates}
+use Rattle.lid_vcd_form.specs.Ids.{id_of, width_of, ending_of, is_token, binary, binary_by}
+use Rattle.lid_vcd_form.specs.Text.{declaration, declarations, timescale_words, scope_words, upscope_words, definitions_words, time_words, head_lines, bit_words, token_words, all_lines, bit_change, token_change, cell_changes, changes, any_differs, cycle_lines, later_lines, body_lines}
 use Rattle.lid_vcd.proofs.WrittenWords.{IsWord, IsLine}
 
 -- bytes from 33 on separate no words

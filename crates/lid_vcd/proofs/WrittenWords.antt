@@ -2,9 +2,9 @@
 use Rattle.std.proofs.Common.{◌≡◌, ℕ, ◌+◌, ◌<◌, Bool, true, false, cond, List, [], ◌∷◌, ◌++◌, length, map, refl, sym, ap, ◌∙◌, append-nil, append_assoc, arith}
 use Rattle.std.specs.List.{AllByRecursion, join_with_byte}
 use Rattle.lid_base.specs.Lines.{is_newline, is_separator}
-use Rattle.lid_lines.specs.Texts.{Words, line_text, lines_text}
-use Rattle.lid_wave.specs.Words.{separates, word_before, words_on, placed_words}
-use Rattle.lid_wave.proofs.Cuts.{grows}
+use Rattle.lid_base_lines.specs.Texts.{Words, line_text, lines_text}
+use Rattle.lid_vcd_form.specs.Words.{separates, word_before, words_on, placed_words}
+use Rattle.lid_vcd_form.proofs.Cuts.{grows}
 
 -- a word has a byte, and none that separates words
 pub record IsWord (word : List ℕ) : Type 0 where

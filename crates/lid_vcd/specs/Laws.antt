@@ -1,12 +1,12 @@
 -- What is known of dumps.
 use Rattle.std.specs.Prelude.{◌≡◌, ℕ, List, [], ◌∷◌, ◌++◌, Option, Some, None, option_and_then, Ok, Err}
-use Rattle.lid_reports.specs.declared.trace.Trace.{Trace}
-use Rattle.lid_wave.specs.declared.form.Place.{Place}
-use Rattle.lid_wave.specs.Words.{placed_words}
-use Rattle.lid_wave.specs.Form.{start, step, run}
-use Rattle.lid_wave.specs.Shows.{Wave}
-use Rattle.lid_wave.specs.Text.{wave_text}
-use Rattle.lid_wave.specs.Writable.{IsWritable}
+use Rattle.lid_texts_runs.specs.declared.trace.Trace.{Trace}
+use Rattle.lid_vcd_form.specs.declared.form.Place.{Place}
+use Rattle.lid_vcd_form.specs.Words.{placed_words}
+use Rattle.lid_vcd_form.specs.Form.{start, step, run}
+use Rattle.lid_vcd_form.specs.Shows.{Wave}
+use Rattle.lid_vcd_form.specs.Text.{wave_text}
+use Rattle.lid_vcd_form.specs.Writable.{IsWritable}
 use Rattle.lid_vcd.specs.Reading.{wave_reading}
 
 -- the text that is written of a trace shows it

@@ -1,8 +1,8 @@
 -- The trace that a dump stands for, within the limits.
 use Rattle.std.specs.Prelude.{ℕ, ◌*◌, max, nat_lt, if◌then◌else◌, List, length, Result, Ok, Err}
 use Rattle.lid_base.specs.declared.which.Which.TheVariants.{FileBytes, TraceCells}
-use Rattle.lid_reports.specs.declared.trace.Trace.{Trace}
-use Rattle.lid_wave.specs.Shows.{wave_of}
+use Rattle.lid_texts_runs.specs.declared.trace.Trace.{Trace}
+use Rattle.lid_vcd_form.specs.Shows.{wave_of}
 use Rattle.lid_vcd.specs.declared.reader.VcdFault.{VcdFault}
 use Rattle.lid_vcd.specs.declared.reader.VcdFault.TheVariants.{Limit, Word}
 

@@ -1,12 +1,12 @@
 //! The cells that a dump of the form shows.
 
 ghost use Rattle.std.specs.Prelude.{◌≡◌, ◌≤◌, ◌++◌, ◌==◌, replicate, length, [], OnOk, IfOk};
-ghost use Rattle.lid_wave.specs.Words.{placed_words};
-ghost use Rattle.lid_wave.specs.Form.{start};
-ghost use Rattle.lid_wave.specs.Shows.{cell_of, shown, cycles_of, cycles_until, values_after, cells_on};
+ghost use Rattle.lid_vcd_form.specs.Words.{placed_words};
+ghost use Rattle.lid_vcd_form.specs.Form.{start};
+ghost use Rattle.lid_vcd_form.specs.Shows.{cell_of, shown_stations, cycles_of, cycles_until, values_after, cells_on};
 
 use lid_base::Shown;
-use lid_wave::{Next, Place, next_word, step};
+use lid_vcd_form::{Next, Place, next_word, step};
 use std::alloc::{AllocError, Global};
 
 /// A station as its three variables show it.
@@ -23,7 +23,7 @@ fn cell_of(valid: u32, stop: u32, token: u32) -> Shown
 
 /// Appends all stations, where the variables have these values.
 fn append_shown(values: &[u32], into: &mut Vec<Shown>) -> Result<(), AllocError>
-    ensures { OnOk result (into.new.items ≡ into.old.items ++ shown values.now) }
+    ensures { OnOk result (into.new.items ≡ into.old.items ++ shown_stations values.now) }
 {
     let mut rest = values;
     while let [valid, stop, token, after @ ..] = rest {
@@ -78,7 +78,7 @@ fn set_value(next: Next, values: &mut [u32])
 }
 
 /// Appends the cells that a text shows, where the variables have these values at first.
-#[tactic(auto, unfolding(lid_wave::specs::Words::placed_words))]
+#[tactic(auto, unfolding(lid_vcd_form::specs::Words::placed_words))]
 fn append_cells(bytes: &[u8], values: &mut [u32], into: &mut Vec<Shown>) -> Result<(), AllocError>
     requires { length bytes.now ≤ 67108864 }
     ensures { OnOk result (into.new.items ≡ into.old.items ++ cells_on start values.old (placed_words bytes.now)) }

@@ -1,16 +1,16 @@
 //! The reading of a dump: once for its form, and once more for its cells.
 
 ghost use Rattle.std.specs.Prelude.{◌≡◌, ◌⊎◌, ◌≤◌, ◌*◌, ◌/◌, Ok, Err, max, length, IfOk, IfErr};
-ghost use Rattle.lid_wave.specs.Words.{placed_words};
-ghost use Rattle.lid_wave.specs.Form.{start, run};
-ghost use Rattle.lid_wave.specs.Shows.{time_of, Wave, trace_at, wave_of};
-ghost use Rattle.lid_wave.specs.Writable.{IsWritable};
+ghost use Rattle.lid_vcd_form.specs.Words.{placed_words};
+ghost use Rattle.lid_vcd_form.specs.Form.{start, run};
+ghost use Rattle.lid_vcd_form.specs.Shows.{time_of, Wave, trace_at, wave_of};
+ghost use Rattle.lid_vcd_form.specs.Writable.{IsWritable};
 ghost use Rattle.lid_vcd.specs.Reading.{cell_count, if_few, wave_reading};
 
 use crate::cells::cells_of;
 use lid_base::{Items, Which};
-use lid_reports::Trace;
-use lid_wave::{Place, next_word, step};
+use lid_texts_runs::Trace;
+use lid_vcd_form::{Place, next_word, step};
 use std::alloc::Global;
 
 /// The most bytes of a dump.
@@ -32,7 +32,7 @@ pub enum VcdFault {
 }
 
 /// The place at the end of a text, or the line of the word at which it is not of the form.
-#[tactic(auto, unfolding(lid_wave::specs::Words::placed_words))]
+#[tactic(auto, unfolding(lid_vcd_form::specs::Words::placed_words))]
 fn find_end(bytes: &[u8]) -> Result<Place, u32>
     requires { length bytes.now ≤ 67108864 }
     ensures { result ≡ run 0 start (placed_words bytes.now) }
@@ -98,7 +98,7 @@ fn trace_at(alloc: Global, place: Place, bytes: &[u8]) -> Result<Trace, VcdFault
 /// text is not a dump of this form. `Limit` of `TraceCells` comes where it is one of more than 1,048,576
 /// cells, which are stations times cycles, and one for each cycle without stations. `Memory` may
 /// come at any text.
-#[tactic(auto, unfolding(crate::specs::Reading::wave_reading, lid_wave::specs::Shows::wave_of))]
+#[tactic(auto, unfolding(crate::specs::Reading::wave_reading, lid_vcd_form::specs::Shows::wave_of))]
 pub fn read(alloc: Global, bytes: &[u8]) -> Result<Trace, VcdFault>
     ensures ok { IfOk result (λ trace. wave_reading bytes.now ≡ Ok trace) }
     ensures err { IfErr result (λ e. (e ≡ VcdFault.Memory) ⊎ (wave_reading bytes.now ≡ Err e)) }

@@ -2,9 +2,9 @@
 
 ghost use Rattle.std.specs.Prelude.{◌≡◌, ◌+◌, ◌*◌, ◌≤◌, ◌++◌, ◌∷◌, [], length, OnOk, OnErr};
 ghost use Rattle.lid_base.specs.Lists.{Keeps};
-ghost use Rattle.lid_lines.specs.Texts.{lines_text};
-ghost use Rattle.lid_wave.specs.Writable.{IsWritable};
-ghost use Rattle.lid_wave.specs.Text.{
+ghost use Rattle.lid_base_lines.specs.Texts.{lines_text};
+ghost use Rattle.lid_vcd_form.specs.Writable.{IsWritable};
+ghost use Rattle.lid_vcd_form.specs.Text.{
   declarations,
   timescale_words,
   scope_words,
@@ -23,13 +23,13 @@ ghost use Rattle.lid_wave.specs.Text.{
 };
 
 use lid_base::Shown;
-use lid_lines::cut_back;
-use lid_reports::Trace;
-use lid_wave::{append_cell, append_cell_changes, append_declaration, append_time};
+use lid_base_lines::cut_back;
+use lid_texts_runs::Trace;
+use lid_vcd_form::{append_cell, append_cell_changes, append_declaration, append_time};
 use std::alloc::AllocError;
 
 /// Appends the sections before the declarations.
-#[tactic(auto, unfolding(lid_lines::specs::Texts::line_text))]
+#[tactic(auto, unfolding(lid_base_lines::specs::Texts::line_text))]
 fn append_opening(into: &mut Vec<u8>) -> Result<(), AllocError>
     ensures ok { OnOk result (into.new.items ≡ into.old.items ++ lines_text (timescale_words ∷ scope_words ∷ [])) }
     ensures kept { Keeps into.old.items into.new.items }
@@ -38,7 +38,7 @@ fn append_opening(into: &mut Vec<u8>) -> Result<(), AllocError>
 }
 
 /// Appends the sections after the declarations.
-#[tactic(auto, unfolding(lid_lines::specs::Texts::line_text))]
+#[tactic(auto, unfolding(lid_base_lines::specs::Texts::line_text))]
 fn append_closing(into: &mut Vec<u8>) -> Result<(), AllocError>
     ensures ok { OnOk result (into.new.items ≡ into.old.items ++ lines_text (upscope_words ∷ definitions_words ∷ [])) }
     ensures kept { Keeps into.old.items into.new.items }
@@ -62,7 +62,7 @@ fn append_declarations(variables: u32, into: &mut Vec<u8>) -> Result<(), AllocEr
 }
 
 /// Appends the lines before the body.
-#[tactic(auto, unfolding(lid_wave::specs::Text::head_lines))]
+#[tactic(auto, unfolding(lid_vcd_form::specs::Text::head_lines))]
 fn append_head(variables: u32, into: &mut Vec<u8>) -> Result<(), AllocError>
     ensures ok { OnOk result (into.new.items ≡ into.old.items ++ lines_text (head_lines variables)) }
     ensures kept { Keeps into.old.items into.new.items }
@@ -213,7 +213,7 @@ fn append_body(
 }
 
 /// Appends the dump.
-#[tactic(auto, unfolding(lid_wave::specs::Text::wave_text))]
+#[tactic(auto, unfolding(lid_vcd_form::specs::Text::wave_text))]
 fn append_wave(trace: &Trace, into: &mut Vec<u8>) -> Result<(), AllocError>
     requires { IsWritable trace.now }
     ensures ok { OnOk result (into.new.items ≡ into.old.items ++ wave_text trace.now) }

@@ -1,9 +1,9 @@
-//! The reading of dumps, and their writing. What is told of each text comes from `tools/waves.py`.
+//! The reading of dumps, and their writing. What is told of each text comes from `tools/dev/waves.py`.
 
 use lid_base::{Shown, Which};
-use lid_reports::Trace;
+use lid_texts_runs::Trace;
 use lid_vcd::{VcdFault, read, write};
-use lid_wave::append_id;
+use lid_vcd_form::append_id;
 use std::alloc::{AllocError, Global};
 
 /// The dump of two stations in two cycles.

@@ -6,11 +6,11 @@ use Rattle.lid_station.specs.Boards.{Facts, fill, drain}
 use Rattle.lid_station.specs.Plain.{end_facts, plain_ends}
 use Rattle.lid_station.specs.declared.pair.Pair.{Pair}
 use Rattle.lid_stations.proofs.Spots.{stands_between}
-use Rattle.lid_runs.proofs.Ends.{filled_there}
-use Rattle.lid_machine.specs.Plans.{stations_of, room_of, filler_of}
-use Rattle.lid_machine.specs.Setups.{Setup, IsSetup, plan}
-use Rattle.lid_machine.specs.Machine.{State, in_count, out_count}
-use Rattle.lid_shell.specs.Boards.{HasEnd, IsFilledBy}
+use Rattle.lid_shell_laws.proofs.Ends.{filled_there}
+use Rattle.lid_walk_machine.specs.Plans.{stations_of, room_of, filler_of}
+use Rattle.lid_walk_machine.specs.Setups.{Setup, IsSetup, plan}
+use Rattle.lid_walk_machine.specs.Machine.{State, in_count, out_count}
+use Rattle.lid_shell.specs.Boards.{IsEndWith, IsFilledBy}
 use Rattle.lid_walk.specs.Walks.{IsBoard}
 use Rattle.lid_walk.proofs.Serving.{filled_end, drained_end}
 
@@ -32,7 +32,7 @@ shows_drain pairs station p there =
     ∙ ap (λ (b : Bool). Some (end_facts b p)) (ne_eqb ((2 * station + 1) % 2) 0 (λ is. omega (arith, is, odd)))
 
 -- what holds of what is told of an end holds of what its station shows there
-pub told : (pairs : List Pair) (end : ℕ) (g : Facts) (P : Facts → Type 0) → plain_ends pairs end ≡ Some g → HasEnd (plain_ends pairs) end P → P g
+pub told : (pairs : List Pair) (end : ℕ) (g : Facts) (P : Facts → Type 0) → plain_ends pairs end ≡ Some g → IsEndWith (plain_ends pairs) end P → P g
 told pairs end g P shows (f, at, is) = subst P (same_Some f g (sym at ∙ shows)) is
 
 module _ (m : Setup) (st : State) (rules : IsSetup m) (pairs : List Pair) (board : IsBoard m st pairs) (station : ℕ) (p : Pair) (there : slice_get pairs station ≡ Some p) where

@@ -1,4 +1,9 @@
-pub mod Elements
+pub mod Listed
+pub mod Pushed
+pub mod Moved
+pub mod Setting
+pub mod Begun
+pub mod Opening
 pub mod Serving
 pub mod Stepping
 pub mod Turning

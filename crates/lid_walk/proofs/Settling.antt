@@ -2,14 +2,14 @@
 use Rattle.std.proofs.Common.{◌≡◌, ℕ, ◌*◌, ◌<◌, ◌≤◌, length, sym, subst, arith}
 use Rattle.std.proofs.Math.Nat.{mul-le-mul_left}
 use Rattle.lid_graph.specs.Firings.{no_hold}
-use Rattle.lid_firings.proofs.Alive.{tokens_reach_caps}
+use Rattle.lid_graph_laws.proofs.Alive.{tokens_reach_caps}
 use Rattle.lid_stations.specs.Markings.{marking}
 use Rattle.lid_stations.proofs.Edges.{node_count}
 use Rattle.lid_stations.proofs.Alive.{rateable, have_tokens}
-use Rattle.lid_runs.specs.Runs.{fired_in}
-use Rattle.lid_runs.proofs.Caps.{cap_about, caps_fit}
-use Rattle.lid_machine.specs.Plans.{actors_of, cap}
-use Rattle.lid_machine.specs.Setups.{Setup, IsSetup, plan}
+use Rattle.lid_shell_laws.specs.Runs.{fired_in}
+use Rattle.lid_shell_laws.proofs.Caps.{cap_about, caps_fit}
+use Rattle.lid_walk_machine.specs.Plans.{actors_of, cap}
+use Rattle.lid_walk_machine.specs.Setups.{Setup, IsSetup, plan}
 
 pub caps_reached : (m : Setup) (k v : ℕ) → IsSetup m → actors_of (plan m) * length m.input ≤ k → v < actors_of (plan m)
     → fired_in (plan m).links (plan m).placement (plan m).rows no_hold k v ≡ cap (plan m) v

@@ -2,21 +2,21 @@
 use Rattle.std.proofs.Common.{◌≡◌, ℕ, ◌<◌, true, false, List, length, arith}
 use Rattle.std.specs.Prelude.{Some, slice_get}
 use Rattle.std.proofs.lemmas.Option.{slice_get-get_or}
-use Rattle.lid_system.proofs.Shelling.{each_length}
 use Rattle.lid_station.specs.Boards.{fill, drain}
 use Rattle.lid_station.specs.Plain.{end_facts}
 use Rattle.lid_station.specs.declared.pair.Pair.{Pair}
-use Rattle.lid_machine.specs.Plans.{actors_of, stations_of, ins_of, outs_of, room_of}
-use Rattle.lid_machine.specs.Setups.{Setup, IsSetup, plan}
-use Rattle.lid_machine.specs.Machine.{State, in_at, out_at, in_count, out_count}
-use Rattle.lid_machine.specs.Laws.{KeepsPrefixes, IsWithin, FindsStay, IsSound}
-use Rattle.lid_machine.proofs.Places.{drains_at, fills_at}
+use Rattle.lid_walk_machine.specs.Plans.{actors_of, stations_of, ins_of, outs_of, room_of}
+use Rattle.lid_walk_machine.specs.Setups.{Setup, IsSetup, plan}
+use Rattle.lid_walk_machine.specs.Machine.{State, in_at, out_at, in_count, out_count}
+use Rattle.lid_walk_machine.specs.Laws.{KeepsPrefixes, IsWithin, FindsStay, IsSound}
+use Rattle.lid_walk_machine.proofs.Places.{drains_at, fills_at}
 use Rattle.lid_shell.specs.declared.actor.Actor.{Actor}
 use Rattle.lid_shell.specs.Boards.{IsDrainedBy, IsFilledBy}
-use Rattle.lid_actors.specs.Actors.{AreActors}
+use Rattle.lid_walk.specs.Actors.{AreActors}
 use Rattle.lid_walk.specs.Walks.{IsBoard}
-use Rattle.lid_walk.proofs.Elements.{there_is}
 use Rattle.lid_walk.proofs.Counting.{shows_fill, shows_drain, told, put_is, taken_is, size_is}
+use Rattle.lid_base.proofs.Each.{each_length}
+use Rattle.lid_base.proofs.Places.{item_at}
 
 module _ (m : Setup) (st : State) (rules : IsSetup m) (actors : List Actor) (are : AreActors m st actors) (pairs : List Pair) (board : IsBoard m st pairs) where
   -- the pair of a station, which counts as the state does
@@ -29,7 +29,7 @@ module _ (m : Setup) (st : State) (rules : IsSetup m) (actors : List Actor) (are
 
   counted : (station : ℕ) → station < stations_of (plan m) → IsCounted station
   counted station h =
-      let (p, there) = there_is pairs station (omega (arith, h, board.many)) in
+      let (p, there) = item_at pairs station (omega (arith, h, board.many)) in
       record {
         pair = p;
         there = there;
@@ -40,7 +40,7 @@ module _ (m : Setup) (st : State) (rules : IsSetup m) (actors : List Actor) (are
 
   is_within : (v : ℕ) → v < actors_of (plan m) → IsWithin (plan m) st v
   is_within v h =
-      let a = there_is actors v (omega (arith, h, are.many)) in
+      let a = item_at actors v (omega (arith, h, are.many)) in
       let far = (are.each v a.0 a.1).far in
       record { capped = far.capped; below = far.below; inside = far.inside }
 

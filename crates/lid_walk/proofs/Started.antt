@@ -3,12 +3,12 @@ use Rattle.std.proofs.Common.{◌≡◌, ℕ, List, sym, ◌∙◌, subst}
 use Rattle.lid_station.specs.declared.pair.Pair.{Pair}
 use Rattle.lid_station.specs.Starts.{AreStarts, Begin}
 use Rattle.lid_station.specs.Plain.{PlainStands}
-use Rattle.lid_machine.specs.Plans.{stream}
-use Rattle.lid_machine.specs.Setups.{Setup, IsSetup, plan}
-use Rattle.lid_machine.specs.Machine.{begun}
+use Rattle.lid_walk_machine.specs.Plans.{stream}
+use Rattle.lid_walk_machine.specs.Setups.{Setup, IsSetup, plan}
+use Rattle.lid_walk_machine.specs.Machine.{begun}
 use Rattle.std.specs.Prelude.{Option}
-use Rattle.lid_actors.specs.Firsts.{first_tokens}
-use Rattle.lid_actors.proofs.Starting.{firsts_many, begins, all_agree}
+use Rattle.lid_walk.specs.Firsts.{first_tokens}
+use Rattle.lid_walk.proofs.Opening.{firsts_many, begins, all_agree}
 use Rattle.lid_walk.specs.Walks.{IsBoard}
 
 -- a board that starts with the start tokens of a setup

@@ -9,21 +9,21 @@ use Rattle.lid_base.specs.declared.runs.Answer.{Answer}
 use Rattle.lid_station.specs.Boards.{Facts, Ends, fill, drain}
 use Rattle.lid_station.specs.Plain.{end_facts, plain_ends, PlainStands}
 use Rattle.lid_station.specs.declared.pair.Pair.{Pair}
-use Rattle.lid_machine.specs.Plans.{actors_of, ins_of, outs_of, cap}
-use Rattle.lid_machine.specs.Setups.{Setup, IsSetup, plan}
-use Rattle.lid_machine.specs.Machine.{Progress, State, answer_as, after_as, answer_of, finds, next}
-use Rattle.lid_machine.specs.Laws.{IsSound}
-use Rattle.lid_machine.proofs.Moves.{here, elsewhere}
-use Rattle.lid_machine.proofs.Sound.{sound_after}
+use Rattle.lid_walk_machine.specs.Plans.{actors_of, ins_of, outs_of, cap}
+use Rattle.lid_walk_machine.specs.Setups.{Setup, IsSetup, plan}
+use Rattle.lid_walk_machine.specs.Machine.{Progress, State, answer_as, after_as, answer_of, finds, next}
+use Rattle.lid_walk_machine.specs.Laws.{IsSound}
+use Rattle.lid_walk_machine.proofs.Moves.{here, elsewhere}
+use Rattle.lid_walk_machine.proofs.Sound.{sound_after}
 use Rattle.lid_shell.specs.declared.actor.Actor.{Actor}
 use Rattle.lid_shell.specs.Boards.{Agrees, ServesAll}
 use Rattle.lid_shell.specs.Actors.{IsActor}
-use Rattle.lid_shell.specs.Steps.{Works, Steps, IsExact, found_in, IsOwn, Moves}
+use Rattle.lid_shell.specs.Steps.{Works, MakesStep, IsExact, found_in, IsOwn, Moves}
 use Rattle.lid_walk.specs.declared.walk.Walk.{Walk}
-use Rattle.lid_actors.specs.Actors.{AreActors}
+use Rattle.lid_walk.specs.Actors.{AreActors}
 use Rattle.lid_walk.specs.Walks.{IsBoard, Walks, HasActor}
-use Rattle.lid_walk.proofs.Elements.{set_here, set_there}
 use Rattle.lid_walk.proofs.Serving.{drains_by, fills_by, drain_apart, fill_apart, serves_all}
+use Rattle.lid_base.proofs.Places.{set_here, set_there}
 
 -- an actor of a walk works at the board
 pub works : (m : Setup) (st : State) (w : Walk) (v : ℕ) (a : Actor) → Walks m st w → v < actors_of (plan m) → slice_get w.actors.items v ≡ Some a
@@ -146,9 +146,9 @@ module _ (m : Setup) (st new : State) (w : Walk) (v : ℕ) (a b : Actor) (news :
 -- actor v has made a step at the board: so all are as the machine says
 module _ (m : Setup) (st : State) (w : Walk) (v : ℕ) (a b : Actor) (news : List Pair) (answer : Answer)
     (walks : Walks m st w) (h : v < actors_of (plan m)) (there : slice_get w.actors.items v ≡ Some a)
-    (steps : (m : Setup) (u : ℕ) (q : Progress) → Works m u q a (plain_ends w.board.pairs.items) (PlainStands w.board.pairs.items) → Steps m u q answer b (plain_ends news) (PlainStands news))
+    (steps : (m : Setup) (u : ℕ) (q : Progress) → Works m u q a (plain_ends w.board.pairs.items) (PlainStands w.board.pairs.items) → MakesStep m u q answer b (plain_ends news) (PlainStands news))
     (exact : (m : Setup) (u : ℕ) (st : State) → Works m u (st u) a (plain_ends w.board.pairs.items) (PlainStands w.board.pairs.items) → ServesAll m st u (plain_ends w.board.pairs.items) → IsExact m st u answer) where
-  step_of : Steps m v (st v) answer b (plain_ends news) (PlainStands news)
+  step_of : MakesStep m v (st v) answer b (plain_ends news) (PlainStands news)
   step_of = steps m v (st v) (works m st w v a walks h there)
 
   -- what a look finds decides what follows, and at its cap an actor does not look

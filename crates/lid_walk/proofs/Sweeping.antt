@@ -4,13 +4,13 @@ use Rattle.std.specs.List.{sum_by}
 use Rattle.std.proofs.lemmas.List.Sums.{sum_by-cons}
 use mathlib.Core.Logic.{dite}
 use native.Mathlib.Decide.{ℕ_discrete}
-use Rattle.lid_design.specs.Network.{from_each}
-use Rattle.lid_machine.specs.Plans.{actors_of}
-use Rattle.lid_machine.specs.Setups.{Setup, plan}
-use Rattle.lid_machine.specs.Machine.{State, turn, turns_from, sweep}
-use Rattle.lid_machine.specs.Laws.{AllRest, IsSettled, HasTurned}
-use Rattle.lid_machine.proofs.Turns.{has_turned}
-use Rattle.lid_machine.proofs.Sweeps.{has_swept, idle_settled}
+use Rattle.lid_base.specs.Each.{from_each}
+use Rattle.lid_walk_machine.specs.Plans.{actors_of}
+use Rattle.lid_walk_machine.specs.Setups.{Setup, plan}
+use Rattle.lid_walk_machine.specs.Machine.{State, turn, turns_from, sweep}
+use Rattle.lid_walk_machine.specs.Laws.{AllRest, IsSettled, HasTurned}
+use Rattle.lid_walk_machine.proofs.Turns.{has_turned}
+use Rattle.lid_walk_machine.proofs.Sweeps.{has_swept, idle_settled}
 use Rattle.lid_walk.specs.declared.walk.Walk.{Walk}
 use Rattle.lid_walk.specs.Walks.{Walks, IsAtRest, HasActorAtRest, firings_between}
 

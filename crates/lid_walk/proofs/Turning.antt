@@ -3,11 +3,11 @@ use Rattle.std.proofs.Common.{◌≡◌, ℕ, ◌+◌, ◌<◌, List, get_or, se
 use Rattle.std.specs.Prelude.{Option, Some, slice_get}
 use Rattle.lid_station.specs.Plain.{plain_ends, PlainStands}
 use Rattle.lid_station.specs.declared.pair.Pair.{Pair}
-use Rattle.lid_machine.specs.Plans.{actors_of}
-use Rattle.lid_machine.specs.Setups.{Setup, plan}
-use Rattle.lid_machine.specs.Machine.{Progress, State, turn, turn_answer}
-use Rattle.lid_machine.specs.Laws.{HasTurned}
-use Rattle.lid_machine.proofs.Turns.{has_turned}
+use Rattle.lid_walk_machine.specs.Plans.{actors_of}
+use Rattle.lid_walk_machine.specs.Setups.{Setup, plan}
+use Rattle.lid_walk_machine.specs.Machine.{Progress, State, turn, turn_answer}
+use Rattle.lid_walk_machine.specs.Laws.{HasTurned}
+use Rattle.lid_walk_machine.proofs.Turns.{has_turned}
 use Rattle.lid_shell.specs.declared.actor.Actor.{Actor}
 use Rattle.lid_shell.specs.declared.turn.TurnEnd.{TurnEnd}
 use Rattle.lid_shell.specs.declared.turn.TurnEnd.TheVariants.{Fired}
@@ -18,8 +18,8 @@ use Rattle.lid_shell.specs.Turns.{end_at, fired_at, Turned}
 pub use Rattle.lid_shell.proofs.Along.{resting}
 use Rattle.lid_walk.specs.declared.walk.Walk.{Walk}
 use Rattle.lid_walk.specs.Walks.{Walks, HasActor, HasActorAtRest}
-use Rattle.lid_walk.proofs.Elements.{is_there}
 use Rattle.lid_walk.proofs.Stepping.{works, serves, has_place, is_actor, all_moved}
+use Rattle.lid_base.proofs.Places.{item_read}
 
 -- progress is how often was fired, and where
 pub as_far : (p q : Progress) → p.fired ≡ q.fired → p.position ≡ q.position → p ≡ q
@@ -64,7 +64,7 @@ module _ (w : Walk) (v : ℕ) (a b : Actor) (news : List Pair) (end : TurnEnd) (
   has = let (m, st, walks, h, rests) = asked in (m, st, walks, h)
 
   at : slice_get w.actors.items v ≡ Some a
-  at = is_there w.actors.items v a (has_place w v has) read
+  at = item_read w.actors.items v a (has_place w v has) read
 
   module _ (m : Setup) (st : State) (walks : Walks m st w) (rests : (st v).position ≡ 0) where
     below : v < actors_of (plan m)

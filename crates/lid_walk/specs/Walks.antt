@@ -1,15 +1,15 @@
 -- Walks: all actors of a setup over one board, in a state of the interleaving machine.
 use Rattle.std.specs.Prelude.{◌≡◌, ℕ, ◌-◌, ◌<◌, List, length}
 use Rattle.std.specs.List.{sum_by}
-use Rattle.lid_design.specs.Network.{from_each}
+use Rattle.lid_base.specs.Each.{from_each}
 use Rattle.lid_station.specs.Plain.{plain_ends, PlainStands}
 use Rattle.lid_station.specs.declared.pair.Pair.{Pair}
-use Rattle.lid_machine.specs.Plans.{Plan, actors_of, stations_of, stream}
-use Rattle.lid_machine.specs.Setups.{Setup, IsSetup, plan}
-use Rattle.lid_machine.specs.Machine.{State}
-use Rattle.lid_machine.specs.Laws.{IsSound, AllRest}
+use Rattle.lid_walk_machine.specs.Plans.{Plan, actors_of, stations_of, stream}
+use Rattle.lid_walk_machine.specs.Setups.{Setup, IsSetup, plan}
+use Rattle.lid_walk_machine.specs.Machine.{State}
+use Rattle.lid_walk_machine.specs.Laws.{IsSound, AllRest}
 use Rattle.lid_shell.specs.Boards.{Agrees}
-use Rattle.lid_actors.specs.Actors.{AreActors}
+use Rattle.lid_walk.specs.Actors.{AreActors}
 use Rattle.lid_walk.specs.declared.walk.Walk.{Walk}
 
 -- a board has all stations of a setup, agrees with each actor, and holds tokens of the streams
@@ -26,8 +26,8 @@ pub record Walks (m : Setup) (st : State) (w : Walk) : Type 0 where
   pub board : IsBoard m st w.board.pairs.items
 
 -- a walk of some setup, in some state
-abbrev pub IsWalk : Walk → Type 0
-IsWalk w = (m : Setup) × (st : State) × Walks m st w
+abbrev pub IsSetupWalk : Walk → Type 0
+IsSetupWalk w = (m : Setup) × (st : State) × Walks m st w
 
 -- and one that has an actor of this number
 abbrev pub HasActor : Walk → ℕ → Type 0

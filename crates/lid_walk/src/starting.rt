@@ -4,12 +4,12 @@ ghost use Rattle.std.specs.Prelude.{◌≤◌, length, IfOk};
 ghost use Rattle.std.specs.List.{AllByRecursion};
 ghost use Rattle.lid_system.specs.Systems.{IsWellFormed};
 ghost use Rattle.lid_stations.specs.Placements.{Fits};
-ghost use Rattle.lid_machine.specs.Setups.{Setup, IsInputRow};
-ghost use Rattle.lid_machine.specs.Machine.{begun};
-ghost use Rattle.lid_actors.specs.Setups.{IsSetupOf};
+ghost use Rattle.lid_walk_machine.specs.Setups.{Setup, IsInputRow};
+ghost use Rattle.lid_walk_machine.specs.Machine.{begun};
+ghost use Rattle.lid_walk.specs.Setups.{IsSetupOf};
 ghost use Rattle.lid_walk.specs.Walks.{IsBoard};
 
-use lid_actors::first_tokens;
+use crate::firsts::first_tokens;
 use lid_station::PlainBoard;
 use lid_stations::Placement;
 use lid_system::System;

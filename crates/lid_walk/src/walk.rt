@@ -4,17 +4,17 @@ ghost use Rattle.std.specs.Prelude.{◌≡◌, ◌↔◌, ◌≤◌, ◌+◌, �
 ghost use Rattle.std.specs.List.{All, AllByRecursion};
 ghost use Rattle.lid_system.specs.Systems.{IsWellFormed};
 ghost use Rattle.lid_stations.specs.Placements.{Fits};
-ghost use Rattle.lid_machine.specs.Plans.{actors_of, sink};
-ghost use Rattle.lid_machine.specs.Setups.{Setup, IsSetup, IsInputRow, plan, output_rows};
-ghost use Rattle.lid_machine.specs.Machine.{State, begun, answer_of, next, turn, sweep};
-ghost use Rattle.lid_machine.specs.Laws.{AllRest, IsSettled};
-ghost use Rattle.lid_shell.specs.Parts.{AreColumns};
-ghost use Rattle.lid_actors.specs.Setups.{IsSetupOf};
-ghost use Rattle.lid_actors.specs.Actors.{AreActors};
-ghost use Rattle.lid_walk.specs.Walks.{IsBoard, Walks, IsWalk, HasActor, HasActorAtRest, IsAtRest, firings_between};
+ghost use Rattle.lid_walk_machine.specs.Plans.{actors_of, sink};
+ghost use Rattle.lid_walk_machine.specs.Setups.{Setup, IsSetup, IsInputRow, plan, output_rows};
+ghost use Rattle.lid_walk_machine.specs.Machine.{State, begun, answer_of, next, turn, sweep};
+ghost use Rattle.lid_walk_machine.specs.Laws.{AllRest, IsSettled};
+ghost use Rattle.lid_shell.specs.Parts.{AreColumnsAtSink};
+ghost use Rattle.lid_walk.specs.Setups.{IsSetupOf};
+ghost use Rattle.lid_walk.specs.Actors.{AreActors};
+ghost use Rattle.lid_walk.specs.Walks.{IsBoard, Walks, IsSetupWalk, HasActor, HasActorAtRest, IsAtRest, firings_between};
 
+use crate::actors::all_actors;
 use crate::starting::board_of;
-use lid_actors::all_actors;
 use lid_base::{Answer, Items};
 use lid_shell::{Actor, TurnEnd};
 use lid_station::PlainBoard;
@@ -126,7 +126,7 @@ impl<'r> Walk<'r> {
 
     /// The rows that the sink has given, in order: the first strict output rows, as many as it has fired.
     pub fn rows(&self) -> &[Items<bool>]
-        requires { IsWalk self.now }
+        requires { IsSetupWalk self.now }
         ensures { (m : Setup) (st : State) → Walks m st self.now → result.now ≡ output_rows m (st (sink (plan m))).fired }
     {
         self.actors[self.sink()].given().unwrap()
@@ -134,8 +134,8 @@ impl<'r> Walk<'r> {
 
     /// Hands out the rows that the sink has given.
     pub fn into_rows(self) -> Rows
-        requires { IsWalk self }
-        ensures { (m : Setup) (st : State) → Walks m st self.entry → AreColumns m (sink (plan m)) result.columns × (result.bits ≡ output_rows m (st (sink (plan m))).fired) }
+        requires { IsSetupWalk self }
+        ensures { (m : Setup) (st : State) → Walks m st self.entry → AreColumnsAtSink m (sink (plan m)) result.columns × (result.bits ≡ output_rows m (st (sink (plan m))).fired) }
     {
         let sink = self.sink();
         let mut actors = self.actors;
@@ -144,7 +144,7 @@ impl<'r> Walk<'r> {
 
     /// The number of the sink.
     fn sink(&self) -> usize
-        requires { IsWalk self.now }
+        requires { IsSetupWalk self.now }
         ensures { (m : Setup) (st : State) → Walks m st self.now → result ≡ sink (plan m) }
     {
         let mut actor = 0usize;

@@ -1,8 +1,8 @@
 //! Logical lines, files and outputs in memory and of the system, and gates.
 
 use lid_base::{
-    DirShelf, File, Gate, Items, Line, MeetGate, MemShelf, MemSink, Name, OpenGate, Shelf, Sink,
-    StdSink, Text, TextFault, lines,
+    Bytes, DirShelf, Fetch, File, Gate, Items, Line, MeetGate, MemShelf, MemSink, Name, Noting,
+    OpenGate, Shelf, Sink, StdSink, Text, TextFault, lines,
 };
 use std::alloc::{AllocError, Global};
 use std::convert::AsStr;
@@ -126,7 +126,7 @@ pub fn is_fetched<S: Shelf>(
     }
 }
 
-fn file(alloc: Global, name: &[u8], bytes: &[u8]) -> Result<File, AllocError> {
+pub fn file(alloc: Global, name: &[u8], bytes: &[u8]) -> Result<File, AllocError> {
     let name = Vec::from_slice(alloc, name)?;
     let bytes = Vec::from_slice(alloc, bytes)?;
     Ok(File {
@@ -154,7 +154,7 @@ static FETCHES: [(&str, u64, Option<&[u8]>); 5] = [
 ];
 
 /// Whether those fetches give what they must.
-fn are_fetched(shelf: &mut MemShelf) -> bool {
+fn are_fetched<S: Shelf>(shelf: &mut S) -> bool {
     let mut into = [0u8; 3];
     for (name, at, bytes) in &FETCHES {
         if !is_fetched(shelf, name, *at, &mut into, *bytes) {
@@ -164,10 +164,29 @@ fn are_fetched(shelf: &mut MemShelf) -> bool {
     true
 }
 
+/// Whether those fetches were noted.
+fn are_noted(calls: Option<&[Fetch]>) -> bool {
+    let Some(calls) = calls else {
+        return false;
+    };
+    if calls.len() != FETCHES.len() {
+        return false;
+    }
+    for (call, (name, at, _)) in calls.iter().zip(FETCHES.iter()) {
+        if call.name.as_slice() != name.as_bytes() || call.at != *at || call.room != 3 {
+            return false;
+        }
+    }
+    true
+}
+
 #[test]
 fn files_are_fetched_from_memory(rt: HostRuntime) {
     match shelf(rt.alloc()) {
-        Ok(mut shelf) => assert!(rt; are_fetched(&mut shelf)),
+        Ok(shelf) => {
+            let mut shelf: Noting<MemShelf, Fetch> = Noting::new(rt.alloc(), shelf);
+            assert!(rt; are_fetched(&mut shelf) && are_noted(shelf.calls()));
+        }
         Err(_) => assert!(rt; false, "no memory"),
     }
 }
@@ -184,6 +203,9 @@ static WRITES: [(&[u8], bool); 4] = [
 /// Whether writes to an output succeed as they should.
 fn are_written<S: Sink>(sink: &mut S, writes: &[(&[u8], bool)]) -> bool {
     for (piece, is_written) in writes {
+        if piece.is_empty() || piece.len() > 65_536 {
+            return false;
+        }
         if sink.write(piece).is_ok() != *is_written {
             return false;
         }
@@ -197,12 +219,30 @@ fn sink(alloc: Global) -> Result<MemSink, AllocError> {
     MemSink::new(alloc, 6, failing)
 }
 
+/// Whether those writes were noted.
+fn are_writes_noted(pieces: Option<&[Bytes]>) -> bool {
+    let Some(pieces) = pieces else {
+        return false;
+    };
+    if pieces.len() != WRITES.len() {
+        return false;
+    }
+    for (piece, (bytes, _)) in pieces.iter().zip(WRITES.iter()) {
+        if piece.as_slice() != *bytes {
+            return false;
+        }
+    }
+    true
+}
+
 #[test]
 fn bytes_are_written_to_memory(rt: HostRuntime) {
     match sink(rt.alloc()) {
-        Ok(mut sink) => {
+        Ok(sink) => {
+            let mut sink: Noting<MemSink, Bytes> = Noting::new(rt.alloc(), sink);
             let as_told = are_written(&mut sink, &WRITES);
-            assert!(rt; as_told && sink.written() == b"abcxyz".as_slice());
+            assert!(rt; as_told && sink.inside().written() == b"abcxyz".as_slice());
+            assert!(rt; are_writes_noted(sink.calls()));
         }
         Err(_) => assert!(rt; false, "no memory"),
     }

@@ -1,7 +1,7 @@
 //! Number words, and lines of numbers.
 
 use lid_base::{number, number_below};
-use lid_lines::append_number_line;
+use lid_base_lines::append_number_line;
 use std::alloc::Global;
 
 /// Words with their numbers.

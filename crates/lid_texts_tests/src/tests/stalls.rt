@@ -1,7 +1,7 @@
 //! Texts of stalls, with what the format says of them, worked out by hand.
 
 use lid_base::Which;
-use lid_stalltext::{Stall, StallFault, read_stalls};
+use lid_stall_text::{Stall, StallFault, read_stalls};
 use std::alloc::Global;
 
 /// What is told of a text: the name of its fault, with the line or the count.

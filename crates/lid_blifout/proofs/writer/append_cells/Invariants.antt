@@ -1,6 +1,6 @@
 use Rattle.std.proofs.Common.{◌≡◌, ◌++◌, take}
 use Rattle.std.specs.List.{flat_map}
-use Rattle.lid_lines.specs.Texts.{lines_text}
+use Rattle.lid_base_lines.specs.Texts.{lines_text}
 use Rattle.lid_blifout.specs.Canonical.{cell_lines}
 use Rattle.lid_base.specs.Lists.{Keeps}
 use Rattle.lid_blifout.proofs.writer.append_cells.Given as goal

@@ -1,10 +1,10 @@
 use Rattle.std.proofs.Common.{◌≡◌, ◌∷◌, [], ◌++◌, List, ℕ, ap, sym, ◌∙◌}
-use Rattle.lid_lines.specs.Texts.{line_text}
+use Rattle.lid_base_lines.specs.Texts.{line_text}
 use Rattle.lid_blifout.specs.Canonical.{output_word, cube_line}
 use Rattle.lid_blifout.specs.Pieces.{asked_text}
 use Rattle.lid_base.proofs.Results.{on_ok}
-use Rattle.lid_lines.proofs.Pieces.{appended}
 use Rattle.lid_blifout.proofs.Lines.{cube_text}
+use Rattle.lid_base.proofs.Lists.{appended}
 use Rattle.lid_blifout.proofs.writer.append_cube.Goals as goal
 
 pub returns-clause-ok : goal.returns-clause-ok

@@ -1,5 +1,5 @@
 use Rattle.std.proofs.Common.{◌≡◌, ◌++◌, map, take}
-use Rattle.lid_lines.specs.Texts.{lines_text}
+use Rattle.lid_base_lines.specs.Texts.{lines_text}
 use Rattle.lid_blifout.specs.Canonical.{inst_line}
 use Rattle.lid_base.specs.Lists.{Keeps}
 use Rattle.lid_blifout.proofs.writer.append_insts.Given as goal

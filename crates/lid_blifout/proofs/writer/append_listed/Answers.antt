@@ -1,7 +1,7 @@
 use Rattle.std.proofs.Common.{◌≡◌, ◌∷◌, ◌++◌, List, ℕ, ap, ◌∙◌, ◌<◌, length, arith}
 use Rattle.std.proofs.lemmas.Grind.{common_steps}
 use Rattle.lid_base.proofs.Results.{on_ok}
-use Rattle.lid_lines.specs.Texts.{line_text, lines_text}
+use Rattle.lid_base_lines.specs.Texts.{line_text, lines_text}
 use Rattle.lid_blifout.specs.Canonical.{listed}
 use Rattle.lid_blifout.proofs.Lines.{listed_text}
 use Rattle.lid_blifout.proofs.writer.append_listed.Goals as goal

@@ -3,10 +3,10 @@ use Rattle.std.specs.Prelude.{codes, map}
 use Rattle.std.specs.List.{flat_map}
 use Rattle.lid_design.specs.declared.Cell.{Cell}
 use Rattle.lid_design.specs.declared.Inst.{Inst}
-use Rattle.lid_lines.specs.Texts.{lines_text}
+use Rattle.lid_base_lines.specs.Texts.{lines_text}
 use Rattle.lid_blifout.specs.Canonical.{listed, cell_lines, inst_line, model_lines}
 use Rattle.lid_base.proofs.Results.{on_ok}
-use Rattle.lid_lines.proofs.Pieces.{said_as}
+use Rattle.lid_base_lines.proofs.Pieces.{said_as}
 use Rattle.lid_blifout.proofs.Lines.{model_made, on_ok_items}
 use Rattle.lid_blifout.proofs.writer.append_model.Goals as goal
 

@@ -1,5 +1,5 @@
 use Rattle.std.proofs.Common.{◌≡◌, ◌++◌, take}
-use Rattle.lid_lines.specs.Texts.{lines_text}
+use Rattle.lid_base_lines.specs.Texts.{lines_text}
 use Rattle.lid_blifout.specs.Canonical.{models_lines}
 use Rattle.lid_base.specs.Lists.{Keeps}
 use Rattle.lid_blifout.proofs.writer.append_models.Given as goal

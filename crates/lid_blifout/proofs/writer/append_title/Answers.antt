@@ -1,6 +1,6 @@
 use Rattle.std.proofs.Common.{◌∷◌, [], ℕ, List}
 use Rattle.std.specs.Prelude.{codes}
-use Rattle.lid_lines.proofs.Pieces.{line_made, spaced_one, said_as}
+use Rattle.lid_base_lines.proofs.Pieces.{line_made, spaced_one, said_as}
 use Rattle.lid_blifout.proofs.writer.append_title.Goals as goal
 
 pub returns-clause-ok : goal.returns-clause-ok

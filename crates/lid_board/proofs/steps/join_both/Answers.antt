@@ -1,7 +1,7 @@
 use Rattle.std.proofs.Common.{sym, ap, subst}
 use Rattle.atomic_table.specs.Table.{Me}
 use Rattle.lid_board.specs.Views.{IsEarly}
-use Rattle.lid_board.specs.declared.view.View.{View}
+use Rattle.lid_board.specs.declared.view.HandView.{HandView}
 use Rattle.lid_board.proofs.Numbers.{early_merged}
 use Rattle.lid_board.proofs.Parting.{joins}
 use Rattle.lid_board.proofs.steps.join_both.Goals as goal
@@ -17,4 +17,4 @@ join_seat-requires c = (
 
 pub returns-clause-early : goal.returns-clause-early
 returns-clause-early c early early_other =
-    subst IsEarly (sym (ap (λ (m : Me (Unit {0}) View). m.0.ends) c.join_seat.ensures.2)) (early_merged c.args.seat.now.me.0.ends c.args.other.me.0.ends early early_other)
+    subst IsEarly (sym (ap (λ (m : Me (Unit {0}) HandView). m.0.ends) c.join_seat.ensures.2)) (early_merged c.args.seat.now.me.0.ends c.args.other.me.0.ends early early_other)

@@ -1,7 +1,7 @@
 use Rattle.std.proofs.Common.{sym, ap, subst}
 use Rattle.atomic_table.specs.Table.{Me}
 use Rattle.lid_board.specs.Views.{IsEarly}
-use Rattle.lid_board.specs.declared.view.View.{View}
+use Rattle.lid_board.specs.declared.view.HandView.{HandView}
 use Rattle.lid_board.proofs.Numbers.{early_left, early_right}
 use Rattle.lid_board.proofs.Parting.{splits}
 use Rattle.lid_board.proofs.steps.split_as.Goals as goal
@@ -15,6 +15,6 @@ split_seat-requires g c = (
 
 pub returns-clause-early : goal.returns-clause-early
 returns-clause-early g c early = (
-  subst IsEarly (sym (ap (λ (m : Me (Unit {0}) View). m.0.ends) c.split_seat.ensures.2)) (early_left c.args.seat.now.me.0.ends g.J.Choosing.chosen early),
-  subst IsEarly (sym (ap (λ (m : Me (Unit {0}) View). m.0.ends) c.split_seat.ensures.4)) (early_right c.args.seat.now.me.0.ends g.J.Choosing.chosen early),
+  subst IsEarly (sym (ap (λ (m : Me (Unit {0}) HandView). m.0.ends) c.split_seat.ensures.2)) (early_left c.args.seat.now.me.0.ends g.J.Choosing.chosen early),
+  subst IsEarly (sym (ap (λ (m : Me (Unit {0}) HandView). m.0.ends) c.split_seat.ensures.4)) (early_right c.args.seat.now.me.0.ends g.J.Choosing.chosen early),
 )

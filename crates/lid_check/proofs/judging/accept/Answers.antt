@@ -1,6 +1,6 @@
 use Rattle.std.proofs.Common.{◌≡◌, ◌⊎◌, IfErr, ◌∙◌, subst}
 use Rattle.lid_design.specs.declared.Design.{Design}
-use Rattle.lid_rules.specs.declared.fault.CheckFault.TheVariants.{Memory}
+use Rattle.lid_check_rules.specs.declared.fault.CheckFault.TheVariants.{Memory}
 use Rattle.lid_check.specs.Acceptance.{IsRefusal}
 use Rattle.lid_check.proofs.judging.accept.Goals as goal
 

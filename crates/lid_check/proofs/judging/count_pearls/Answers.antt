@@ -1,8 +1,8 @@
 use Rattle.std.proofs.Common.{◌≡◌, ◌<◌, length, sym, ◌∙◌, ap, arith}
 use Rattle.lid_design.specs.declared.Model.{Model}
 use Rattle.lid_design.specs.Models.{insts_of}
-use Rattle.lid_flaws.proofs.Assembly.{root_insts}
-use Rattle.lid_parts.proofs.Finding.{inst_count}
+use Rattle.lid_check_loops.proofs.Assembly.{root_insts}
+use Rattle.lid_check_parts.proofs.Finding.{inst_count}
 use Rattle.lid_check.proofs.judging.count_pearls.Goals as goal
 
 pub returns-else-insts-eq0 : goal.returns-else-insts-eq0

@@ -2,12 +2,12 @@ use Rattle.std.proofs.Common.{ℕ, ◌≤◌, List, length, map, sym, subst}
 use Rattle.lid_design.specs.declared.Design.{Design}
 use Rattle.lid_design.specs.WellFormed.{IsWellFormed}
 use Rattle.lid_design.specs.Walks.{read_now}
-use Rattle.lid_digraph.specs.Graphs.{IsOrder}
-use Rattle.lid_elab.specs.declared.driver.ColumnDriver.{ColumnDriver}
-use Rattle.lid_elab.specs.Elaborations.{shown_driver, IsElaborated}
-use Rattle.lid_parts.specs.PearlParts.{ArePearlParts}
+use Rattle.lid_check_digraph.specs.Graphs.{IsOrder}
+use Rattle.lid_check_elab.specs.declared.driver.ColumnDriver.{ColumnDriver}
+use Rattle.lid_check_elab.specs.Elaborations.{shown_driver, IsElaborated}
+use Rattle.lid_check_parts.specs.PearlParts.{ArePearlParts}
 use Rattle.lid_check.specs.Networks.{AreNumbersOf}
-use Rattle.lid_flaws.proofs.Numbered.{reads_shown}
+use Rattle.lid_check_loops.proofs.Numbered.{reads_shown}
 use Rattle.lid_check.proofs.judging.facts_of.Goals as goal
 
 pub returns : goal.returns

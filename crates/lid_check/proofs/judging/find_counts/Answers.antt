@@ -2,7 +2,7 @@ use Rattle.std.proofs.Common.{length, sym, ◌∙◌, ap, subst}
 use Rattle.lid_design.specs.declared.Design.{Design}
 use Rattle.lid_design.specs.Loops.{pearls}
 use Rattle.lid_design.specs.Elaboration.{count_latches, count_defaulted}
-use Rattle.lid_rules.specs.Acceptance.{ModelsPass}
+use Rattle.lid_check_rules.specs.Acceptance.{ModelsPass}
 use Rattle.lid_check.proofs.judging.find_counts.Goals as goal
 
 pub count_latches-requires : goal.count_latches-requires

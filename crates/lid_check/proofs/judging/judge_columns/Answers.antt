@@ -1,8 +1,8 @@
 use Rattle.std.proofs.Common.{inr, sym, subst}
 use Rattle.lid_design.specs.declared.Design.{Design}
-use Rattle.lid_rules.specs.Acceptance.{ModelsPass}
-use Rattle.lid_flaws.specs.declared.flaws.Verdict.{Verdict}
-use Rattle.lid_flaws.specs.Flaws.{IsVerdict, IsFirstFlaw, TellsFlaw}
+use Rattle.lid_check_rules.specs.Acceptance.{ModelsPass}
+use Rattle.lid_check_loops.specs.declared.flaws.Verdict.{Verdict}
+use Rattle.lid_check_loops.specs.Flaws.{IsVerdict, IsFirstFlaw, TellsFlaw}
 use Rattle.lid_check.proofs.Refusing.{told_refuses}
 use Rattle.lid_check.proofs.judging.judge_columns.Goals as goal
 

@@ -4,7 +4,7 @@ use Rattle.std.proofs.lemmas.List.{length-map, take_all}
 use Rattle.lid_base.specs.Lists.{Among}
 use Rattle.lid_design.specs.declared.Design.{Design}
 use Rattle.lid_design.specs.Columns.{column}
-use Rattle.lid_elab.specs.Elaborations.{shown_driver, column_at, IsElaborated}
+use Rattle.lid_check_elab.specs.Elaborations.{shown_driver, column_at, IsElaborated}
 use Rattle.lid_check.specs.Networks.{AreNumbersOf}
 use Rattle.lid_check.proofs.Placing.{item_among, place_below, place_column, numbers_more}
 use Rattle.lid_check.proofs.network.number_outputs.Goals as goal

@@ -2,7 +2,7 @@
 use Rattle.std.proofs.Common.{Bool, get_or, subst, arith}
 use Rattle.lid_clock.specs.declared.actor.ClockActor.{ClockActor}
 use Rattle.lid_clock.specs.States.{CanDecide, Decides}
-use Rattle.lid_clock.proofs.Pointwise.{none_yet, next_meets, one_more, all_changed}
+use Rattle.lid_base.proofs.Upto.{none_yet, next_meets, one_more, all_changed}
 use Rattle.lid_clock.proofs.Together.{each_can_decide, all_decide}
 use Rattle.lid_clock.proofs.cycle.decide_all.Goals as goal
 

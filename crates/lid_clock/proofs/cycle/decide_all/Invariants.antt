@@ -1,6 +1,6 @@
 use Rattle.lid_clock.specs.States.{Decides}
 use Rattle.lid_clock.specs.Cycles.{held_at}
-use Rattle.lid_clock.proofs.Pointwise.{Upto}
+use Rattle.lid_base.proofs.Upto.{Upto}
 use Rattle.lid_clock.proofs.cycle.decide_all.Given as goal
 
 abbrev pub invariant-loop-v : goal.invariant-loop-v

@@ -1,7 +1,7 @@
 use Rattle.std.proofs.Common.{ℕ, ◌<◌}
 use Rattle.lid_clock.specs.declared.station.ClockStation.{ClockStation}
-use Rattle.lid_clock.specs.Rings.{IsAt}
+use Rattle.lid_clock.specs.Rings.{IsStationAt}
 use Rattle.lid_clock.proofs.firing.all_hold.Given as goal
 
 abbrev pub invariant-loop-read : goal.invariant-loop-read
-invariant-loop-read l = (i : ℕ) → i < l.read-index → (x : ClockStation) → IsAt l.reads l.stations i x → x.taken < x.put
+invariant-loop-read l = (i : ℕ) → i < l.read-index → (x : ClockStation) → IsStationAt l.reads l.stations i x → x.taken < x.put

@@ -1,8 +1,7 @@
 -- One more actor is ready.
 use Rattle.std.proofs.Common.{arith}
 use Rattle.lid_clock.specs.Starts.{IsSized}
-use Rattle.lid_clock.proofs.Pointwise.{none_yet, next_meets, one_more}
-use Rattle.lid_clock.proofs.Pushing.{each_was}
+use Rattle.lid_base.proofs.Upto.{none_yet, next_meets, one_more, each_was}
 use Rattle.lid_clock.proofs.readying.make_all_ready.Goals as goal
 
 pub make_ready-requires : goal.make_ready-requires

@@ -2,7 +2,7 @@
 use Rattle.std.proofs.Common.{arith}
 use Rattle.lid_clock.specs.declared.station.ClockStation.{ClockStation}
 use Rattle.lid_clock.specs.States.{CanSettle}
-use Rattle.lid_clock.proofs.Pointwise.{none_yet, next_meets, one_more, all_changed}
+use Rattle.lid_base.proofs.Upto.{none_yet, next_meets, one_more, all_changed}
 use Rattle.lid_clock.proofs.settling.settle_each.Goals as goal
 
 pub settle-requires : goal.settle-requires

@@ -1,5 +1,5 @@
 use Rattle.lid_clock.specs.States.{Settles}
-use Rattle.lid_clock.proofs.Pointwise.{Upto}
+use Rattle.lid_base.proofs.Upto.{Upto}
 use Rattle.lid_clock.proofs.settling.settle_each.Given as goal
 
 -- the stations before this one have settled

@@ -1,8 +1,7 @@
 -- One more station has begun.
 use Rattle.std.proofs.Common.{arith}
 use Rattle.lid_clock.specs.Starts.{CanGain}
-use Rattle.lid_clock.proofs.Pointwise.{none_yet, next_meets, one_more}
-use Rattle.lid_clock.proofs.Pushing.{each_was}
+use Rattle.lid_base.proofs.Upto.{none_yet, next_meets, one_more, each_was}
 use Rattle.lid_clock.proofs.starting.begin_all.Goals as goal
 
 pub begin-requires : goal.begin-requires

@@ -1,5 +1,5 @@
 use Rattle.std.proofs.Common.{suc}
-use Rattle.lid_clocked.proofs.Steps.{one_cycled}
+use Rattle.lid_clock.proofs.Steps.{one_cycled}
 use Rattle.lid_clock_tests.proofs.at_hand.cycle_by_parts.Goals as goal
 
 pub keep-requires : goal.keep-requires

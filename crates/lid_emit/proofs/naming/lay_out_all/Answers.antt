@@ -1,5 +1,5 @@
 use Rattle.lid_base.proofs.Results.{if_both_ok}
-use Rattle.lid_shellwires.specs.Shells.{nets_of}
+use Rattle.lid_emit_shells.specs.Shells.{nets_of}
 use Rattle.lid_emit.proofs.naming.lay_out_all.Goals as goal
 
 pub returns : goal.returns

@@ -1,6 +1,6 @@
 use Rattle.std.proofs.Common.{arith, sym, ◌∙◌, ap, subst}
 use Rattle.lid_base.proofs.Results.{if_ok}
-use Rattle.lid_emission.specs.Emitted.{IsEmitted}
+use Rattle.lid_emit_meaning.specs.Emitted.{IsEmitted}
 use Rattle.lid_stations.specs.Placements.{links_of}
 use Rattle.lid_emit.specs.Steps.{design_with}
 use Rattle.lid_emit.proofs.Emitting.{few_ports, emitted_so}

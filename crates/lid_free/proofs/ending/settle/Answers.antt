@@ -1,21 +1,21 @@
 use Rattle.std.proofs.Common.{◌≡◌, ◌+◌, ◌<◌, true, false, sym, ◌∙◌, subst, arith}
-use Rattle.lid_machine.specs.Setups.{Setup, plan}
-use Rattle.lid_machine.specs.Machine.{State, sweep}
-use Rattle.lid_machine.specs.Laws.{AllRest, IsSettled, sweeps}
+use Rattle.lid_walk_machine.specs.Setups.{Setup, plan}
+use Rattle.lid_walk_machine.specs.Machine.{State, sweep}
+use Rattle.lid_walk_machine.specs.Laws.{AllRest, IsSettled, sweeps}
 use Rattle.lid_walk.specs.Walks.{Walks}
-use Rattle.lid_free.specs.Sweeps.{HasSwept}
+use Rattle.lid_free.specs.Sweeps.{HasMadeSweeps}
 use Rattle.lid_free.proofs.Settling.{none_swept, swept_more, some, grown_by, few_firings, fewer_left}
 use Rattle.lid_free.proofs.ending.settle.Goals as goal
 
 pub loop-walk-init : goal.loop-walk-init
 loop-walk-init c = λ m st walks rest. none_swept m st c.args.walk.now walks rest
 
-not_settled : (c : goal.After-struct_known-1) (m : Setup) (st : State) → HasSwept m st c.loop-walk.sweeps c.loop-walk.walk → IsSettled (plan m) (sweeps (plan m) st c.loop-walk.sweeps.count) → ⊥
+not_settled : (c : goal.After-struct_known-1) (m : Setup) (st : State) → HasMadeSweeps m st c.loop-walk.sweeps c.loop-walk.walk → IsSettled (plan m) (sweeps (plan m) st c.loop-walk.sweeps.count) → ⊥
 not_settled c m st so settled =
     let yes = (c.settled.ensures m (sweeps (plan m) st c.loop-walk.sweeps.count) so.walks).1 settled in
     let e : false ≡ true = sym c.loop-walk-test.true ∙ yes in absurd (cc)
 
-more : (c : goal.After-struct_known-1) (m : Setup) (st : State) → Walks m st c.args.walk.now → AllRest (plan m) st → HasSwept m st (record { count = c.loop-walk.sweeps.count + 1; fired = c.loop-walk.sweeps.fired + c.sweep.result }) c.sweep.new.self
+more : (c : goal.After-struct_known-1) (m : Setup) (st : State) → Walks m st c.args.walk.now → AllRest (plan m) st → HasMadeSweeps m st (record { count = c.loop-walk.sweeps.count + 1; fired = c.loop-walk.sweeps.fired + c.sweep.result }) c.sweep.new.self
 more c m st walks rest =
     let so = c.loop-walk.invariant m st walks rest in
     let mid = sweeps (plan m) st c.loop-walk.sweeps.count in

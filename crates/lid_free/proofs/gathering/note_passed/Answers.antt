@@ -1,7 +1,7 @@
 use Rattle.std.proofs.Common.{arith}
 use Rattle.std.proofs.lemmas.Option.{slice_get_within}
 use Rattle.lid_station.specs.declared.pair.Pair.{Pair}
-use Rattle.lid_crew.proofs.Lists.{mapped}
+use Rattle.lid_free_crew.proofs.Lists.{mapped}
 use Rattle.lid_free.proofs.gathering.note_passed.Goals as goal
 
 pub returns : goal.returns

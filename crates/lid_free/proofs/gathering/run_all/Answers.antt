@@ -1,5 +1,5 @@
 use Rattle.std.proofs.Common.{◌≡◌, ℕ, ◌==◌, Bool, cond, sym, ap, subst, arith, eq-eqb}
-use Rattle.lid_crew.specs.Crews.{HaveWorked}
+use Rattle.lid_free_crew.specs.Crews.{HaveWorked}
 use Rattle.lid_free.proofs.Noting.{none_worked}
 use Rattle.lid_free.proofs.gathering.run_all.Goals as goal
 

@@ -1,18 +1,14 @@
-use Rattle.std.proofs.Common.{◌≡◌, ℕ, List, [], ◌∷◌, ◌+◌, arith, length, map, refl, sym, ◌∙◌, ap}
+use Rattle.std.proofs.Common.{◌≡◌, ℕ, ◌+◌, length, map, refl, sym, ◌∙◌, ap}
 use Rattle.std.specs.Vec.{with_items}
-use Rattle.std.proofs.lemmas.List.{with_items_is}
+use Rattle.std.proofs.lemmas.List.{with_items_is, length-map}
 use Rattle.lid_station.specs.declared.pair.Pair.{Pair}
 use Rattle.lid_shell.specs.declared.actor.Actor.{Actor}
-use Rattle.lid_machine.specs.Setups.{plan}
-use Rattle.lid_machine.specs.Laws.{sweeps}
+use Rattle.lid_walk_machine.specs.Setups.{plan}
+use Rattle.lid_walk_machine.specs.Laws.{sweeps}
 use Rattle.lid_free.specs.FreeRuns.{state_at}
 use Rattle.lid_free.specs.Gathering.{fired_of}
 use Rattle.lid_free.proofs.Ended.{ending}
 use Rattle.lid_free.proofs.run.end_run.Goals as goal
-
-map_length : {A B : Type 0} (f : A → B) (xs : List A) → length (map f xs) ≡ length xs
-map_length f [] = refl
-map_length f (x ∷ xs) = let e = map_length f xs in omega (arith, e)
 
 pub returns : goal.returns
 returns c = λ m workers made g.
@@ -24,8 +20,8 @@ returns c = λ m workers made g.
     let settled = c.settle-sweeps.ensures m st walks (λ v h. refl) in
     let fired : c.note_fired.new.fired ≡ fired_of actors = c.note_fired.ensures ∙ ap fired_of c.as_slice.ensures.value in
     let passed : c.note_passed.new.passed ≡ map (λ (p : Pair). p.taken) pairs = c.note_passed.ensures ∙ ap (map (λ (p : Pair). p.taken)) c.as_slice-2.ensures.value in
-    let fired_all = c.from_vec-2.ensures ∙ with_items_is c.args.room.fired c.note_fired.new.fired (ap length fired ∙ map_length (λ (a : Actor). a.desk.fired) actors ∙ sym f0 ∙ sym c.args.room.fired.ok.0) ∙ fired in
-    let passed_all = c.from_vec-3.ensures ∙ with_items_is c.args.room.passed c.note_passed.new.passed (ap length passed ∙ map_length (λ (p : Pair). p.taken) pairs ∙ sym p0 ∙ sym c.args.room.passed.ok.0) ∙ passed in
+    let fired_all = c.from_vec-2.ensures ∙ with_items_is c.args.room.fired c.note_fired.new.fired (ap length fired ∙ length-map actors (λ (a : Actor). a.desk.fired) ∙ sym f0 ∙ sym c.args.room.fired.ok.0) ∙ fired in
+    let passed_all = c.from_vec-3.ensures ∙ with_items_is c.args.room.passed c.note_passed.new.passed (ap length passed ∙ length-map pairs (λ (p : Pair). p.taken) ∙ sym p0 ∙ sym c.args.room.passed.ok.0) ∙ passed in
     ending m workers made pairs actors c.args.room.tallies.items g c.settle-sweeps.result c.settle-sweeps.new.walk settled _
     (c.into_rows.ensures m (sweeps (plan m) st c.settle-sweeps.result.count) settled.swept.walks)
     c.from_vec.ensures fired_all passed_all refl refl

@@ -1,5 +1,5 @@
 use Rattle.std.proofs.Common.{◌≡◌, length, sym, ◌∙◌, ap}
-use Rattle.lid_actors.proofs.Starting.{setup_of}
+use Rattle.lid_walk.proofs.Opening.{setup_of}
 use Rattle.lid_free.proofs.Ended.{free_end}
 use Rattle.lid_free.proofs.run.free_run.Goals as goal
 

@@ -1,10 +1,10 @@
 use Rattle.std.proofs.Common.{◌≡◌, ℕ, List, sym, ◌∙◌, ap}
 use Rattle.std.specs.Prelude.{Option}
-use Rattle.lid_machine.specs.Setups.{Setup}
-use Rattle.lid_machine.specs.Setups.{plan}
-use Rattle.lid_actors.specs.Firsts.{first_tokens}
-use Rattle.lid_actors.specs.Setups.{IsSetupOf}
-use Rattle.lid_actors.proofs.Starting.{setup_of}
+use Rattle.lid_walk_machine.specs.Setups.{Setup}
+use Rattle.lid_walk_machine.specs.Setups.{plan}
+use Rattle.lid_walk.specs.Firsts.{first_tokens}
+use Rattle.lid_walk.specs.Setups.{IsSetupOf}
+use Rattle.lid_walk.proofs.Opening.{setup_of}
 use Rattle.lid_free.proofs.Beginning.{streams_are, begins_so, plain_so, started_so}
 use Rattle.lid_free.proofs.setting.start_boards.Goals as goal
 

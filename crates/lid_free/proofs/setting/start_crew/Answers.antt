@@ -1,12 +1,12 @@
 use Rattle.std.proofs.Common.{◌≡◌, ◌*◌, List, length, sym, ◌∙◌, ap, subst, arith}
 use Rattle.std.specs.Vec.{with_items}
 use Rattle.std.proofs.lemmas.List.{with_items_is}
-use Rattle.lid_board.specs.Owners.{plan_of}
-use Rattle.lid_machine.specs.Setups.{Setup, plan}
-use Rattle.lid_actors.specs.Setups.{IsSetupOf}
-use Rattle.lid_actors.proofs.Starting.{setup_of}
-use Rattle.lid_work.specs.declared.worker.Worker.{Worker}
-use Rattle.lid_crew.specs.Crews.{AreHired, AreDealt}
+use Rattle.lid_board.specs.Owners.{start_ends}
+use Rattle.lid_walk_machine.specs.Setups.{Setup, plan}
+use Rattle.lid_walk.specs.Setups.{IsSetupOf}
+use Rattle.lid_walk.proofs.Opening.{setup_of}
+use Rattle.lid_free_crew.specs.declared.worker.Worker.{Worker}
+use Rattle.lid_free_crew.specs.Crews.{AreHired, AreDealt}
 use Rattle.lid_free.specs.Settings.{AreBoards, AreOwners, IsCrew}
 use Rattle.lid_free.proofs.Crewing.{all_owned, none_seen, crew_so}
 use Rattle.lid_free.proofs.setting.start_crew.Goals as goal

@@ -1,5 +1,5 @@
 use Rattle.std.proofs.Common.{◌≡◌, ℕ, ◌%◌, refl, sym, ◌∙◌, ap, arith}
-use Rattle.lid_design.specs.Network.{from_each}
+use Rattle.lid_base.specs.Each.{from_each}
 use Rattle.lid_gen.specs.Draws.{moved, after}
 use Rattle.lid_gen.specs.Designs.{count_places, buffer, buffer_at}
 use Rattle.lid_gen.proofs.Drawing.{each_pushed, after_next}

@@ -1,5 +1,5 @@
 use Rattle.std.proofs.Common.{◌≡◌}
-use Rattle.lid_design.specs.Network.{from_each}
+use Rattle.lid_base.specs.Each.{from_each}
 use Rattle.lid_gen.specs.Draws.{after}
 use Rattle.lid_gen.specs.Designs.{buffer_at}
 use Rattle.lid_gen.proofs.design.root_cells.Given as goal

@@ -1,5 +1,5 @@
 use Rattle.std.proofs.Common.{◌≡◌}
-use Rattle.lid_design.specs.Network.{from_each}
+use Rattle.lid_base.specs.Each.{from_each}
 use Rattle.lid_gen.specs.Designs.{numbered}
 use Rattle.lid_gen.proofs.names.numbered_names.Given as goal
 

@@ -1,5 +1,5 @@
 use Rattle.std.proofs.Common.{◌≡◌, ◌+◌, ◌*◌}
-use Rattle.lid_design.specs.Network.{from_each}
+use Rattle.lid_base.specs.Each.{from_each}
 use Rattle.lid_gen.specs.Draws.{first_state, after, drawn}
 use Rattle.lid_gen.specs.Runs.{design_draws}
 use Rattle.lid_gen.proofs.runs.run_relays.Given as goal

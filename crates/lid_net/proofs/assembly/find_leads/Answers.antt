@@ -1,5 +1,5 @@
 use Rattle.std.proofs.Common.{◌≡◌, ℕ, List, [], ◌∷◌, ◌++◌, map, sym, subst, ◌∙◌, ap}
-use Rattle.lid_leads.specs.declared.origin.Origin.{Origin}
+use Rattle.lid_net.specs.declared.origin.Origin.{Origin}
 use Rattle.lid_net.specs.Marks.{part_ins}
 use Rattle.lid_net.specs.Reads.{all_reads}
 use Rattle.lid_net.proofs.Facts.{outputs_are}

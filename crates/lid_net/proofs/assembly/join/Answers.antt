@@ -1,6 +1,6 @@
 use Rattle.std.proofs.Common.{◌≡◌, ◌≤◌, List, length, sym, subst, inl, inr}
-use Rattle.lid_channels.specs.declared.reads.Read.{Read}
-use Rattle.lid_channels.specs.Pieces.{AreChannelsOf}
+use Rattle.lid_net_channels.specs.declared.reads.Read.{Read}
+use Rattle.lid_net_channels.specs.Pieces.{AreChannelsOf}
 use Rattle.lid_net.proofs.Joining.{graph_of, joined}
 use Rattle.lid_net.proofs.assembly.join.Goals as goal
 

@@ -2,14 +2,14 @@ use Rattle.std.proofs.Common.{◌≡◌, ℕ, List, length, map, sym, subst, ◌
 use Rattle.std.specs.List.{AllByRecursion}
 use Rattle.lid_design.specs.declared.Design.{Design}
 use Rattle.lid_design.specs.Elaboration.{columns}
-use Rattle.lid_digraph.specs.Graphs.{IsOrder}
-use Rattle.lid_elab.specs.declared.driver.ColumnDriver.{ColumnDriver}
-use Rattle.lid_elab.specs.Elaborations.{driver_reads}
-use Rattle.lid_flatten.specs.Parts.{HasCover}
-use Rattle.lid_flaws.proofs.Numbered.{reads_shown}
-use Rattle.lid_leads.specs.Steps.{AreOrigins}
+use Rattle.lid_check_digraph.specs.Graphs.{IsOrder}
+use Rattle.lid_check_elab.specs.declared.driver.ColumnDriver.{ColumnDriver}
+use Rattle.lid_check_elab.specs.Elaborations.{driver_reads}
+use Rattle.lid_check_parts.specs.Parts.{HasCover}
+use Rattle.lid_check_loops.proofs.Numbered.{reads_shown}
+use Rattle.lid_net.specs.Steps.{AreOrigins}
 use Rattle.lid_net.proofs.Facts.{ports_once, inputs_ports, all_cover, parts_below, parts_narrow, numbers_apart, count_is}
-use Rattle.lid_net.proofs.Leading.{columns_led}
+use Rattle.lid_net.proofs.Tracing.{columns_led}
 use Rattle.lid_net.proofs.Marking.{shell_marks}
 use Rattle.lid_net.proofs.assembly.lead_columns.Goals as goal
 

@@ -1,8 +1,8 @@
 use Rattle.std.proofs.Common.{◌≡◌, ◌<◌, ℕ, List, [], ◌∷◌, ◌++◌, map, length, sym, subst, ◌∙◌, ap}
 use Rattle.lid_base.proofs.Results.{if_ok}
 use Rattle.lid_design.specs.Columns.{root_outputs}
-use Rattle.lid_channels.specs.declared.reads.Read.{Read}
-use Rattle.lid_channels.specs.Bits.{CarryAll}
+use Rattle.lid_net_channels.specs.declared.reads.Read.{Read}
+use Rattle.lid_net_channels.specs.Bits.{CarryAll}
 use Rattle.lid_net.specs.declared.nodes.Wiring.{Wiring}
 use Rattle.lid_net.specs.Marks.{part_ins}
 use Rattle.lid_net.specs.Nodes.{CanReadAll, AreNodes}

@@ -1,5 +1,5 @@
 use Rattle.std.proofs.Common.{◌≡◌, ◌+◌, ℕ, length, ap, sym, ◌∙◌, subst}
-use Rattle.lid_net.specs.Nodes.{AreBits}
+use Rattle.lid_net.specs.Nodes.{AreInBits}
 use Rattle.lid_net.proofs.Wired.{popped, read_part, shells_more}
 use Rattle.lid_net.proofs.nodes.push_shells.Goals as goal
 
@@ -12,4 +12,4 @@ pub loop-part-preserved : goal.loop-part-preserved
 loop-part-preserved c =
     let made = c.in_ok-shell.ensures in
     shells_more c.args.wiring.now c.args.parts.items c.pop.new.self.items c.loop-part.left.items c.in-Some.part c.args.nodes.now.items c.loop-part.nodes.items c.push.new.self.items c.in_ok-shell.shell c.loop-part.invariant c.in-Some.ensures.items c.in_ok-push.ensures.items
-    made.0 made.1 (λ channels carry. subst (λ (n : ℕ). AreBits channels c.args.wiring.now.origins.items (n + 1) c.in-Some.part.ins made.0) (ap length c.as_slice.ensures.value) (made.2 channels carry))
+    made.0 made.1 (λ channels carry. subst (λ (n : ℕ). AreInBits channels c.args.wiring.now.origins.items (n + 1) c.in-Some.part.ins made.0) (ap length c.as_slice.ensures.value) (made.2 channels carry))

@@ -1,14 +1,14 @@
 use Rattle.std.proofs.Common.{◌≡◌, ◌+◌, ◌++◌, ◌∷◌, [], length, arith, ◌∙◌, ap, length-append, subst, sym}
 use Rattle.lid_design.specs.Elaboration.{columns}
-use Rattle.lid_parts.proofs.Finding.{each_more}
-use Rattle.lid_net.specs.PearlParts.{IsPartOf}
+use Rattle.lid_net.specs.PearlParts.{IsShellPartOf}
 use Rattle.lid_net.proofs.Accepted.{few_pearls}
+use Rattle.lid_base.proofs.Places.{pushed_each}
 use Rattle.lid_net.proofs.pearls.collect_parts.Goals as goal
 
 pub loop-pearl-preserved : goal.loop-pearl-preserved
 loop-pearl-preserved c = record {
   long = ap length c.in_ok-push.ensures.items ∙ length-append c.loop-pearl.parts.items (c.in_ok-part_of.field-0 ∷ []) ∙ ap (λ n. n + 1) c.loop-pearl.invariant.long;
-  each = each_more (IsPartOf c.args.checked.now (length (columns c.args.checked.now))) c.loop-pearl.parts.items c.push.new.self.items c.loop-pearl.pearl c.in_ok-part_of.field-0 c.loop-pearl.invariant.long c.loop-pearl.invariant.each c.in_ok-part_of.ensures c.in_ok-push.ensures.items;
+  each = pushed_each (IsShellPartOf c.args.checked.now (length (columns c.args.checked.now))) c.loop-pearl.parts.items c.push.new.self.items c.in_ok-part_of.field-0 c.loop-pearl.pearl c.in_ok-push.ensures.items (sym c.loop-pearl.invariant.long) c.loop-pearl.invariant.each c.in_ok-part_of.ensures;
 }
 
 pub returns : goal.returns

@@ -1,6 +1,6 @@
 use Rattle.std.proofs.Common.{◌≤◌, ◌+◌, length, arith}
 use Rattle.lid_base.proofs.Results.{if_ok}
-use Rattle.lid_parts.proofs.Columns.{ports_within, part_within}
+use Rattle.lid_check_parts.proofs.Columns.{ports_within, part_within}
 use Rattle.lid_net.proofs.Numbering.{columns_few, part_is}
 use Rattle.lid_net.proofs.pearls.part_of.Goals as goal
 

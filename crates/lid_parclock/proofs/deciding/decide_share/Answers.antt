@@ -2,7 +2,7 @@
 use Rattle.std.proofs.Common.{arith}
 use Rattle.lid_clock.specs.declared.actor.ClockActor.{ClockActor}
 use Rattle.lid_clock.specs.States.{CanDecide}
-use Rattle.lid_clock.proofs.Pointwise.{none_yet, next_meets, one_more, all_changed}
+use Rattle.lid_base.proofs.Upto.{none_yet, next_meets, one_more, all_changed}
 use Rattle.lid_parclock.proofs.deciding.decide_share.Goals as goal
 
 pub decide-requires : goal.decide-requires

@@ -1,6 +1,6 @@
 use Rattle.std.specs.Prelude.{false}
 use Rattle.lid_clock.specs.States.{Decides}
-use Rattle.lid_clock.proofs.Pointwise.{Upto}
+use Rattle.lid_base.proofs.Upto.{Upto}
 use Rattle.lid_parclock.proofs.deciding.decide_share.Given as goal
 
 -- the actors before this one have decided

@@ -1,5 +1,5 @@
 -- A cycle that is needed is made, and then kept.
-use Rattle.lid_clocked.proofs.Steps.{one_cycled}
+use Rattle.lid_clock.proofs.Steps.{one_cycled}
 use Rattle.lid_parclock.proofs.run.go_on.Goals as goal
 
 pub cycle_on-requires-clause-can : goal.cycle_on-requires-clause-can

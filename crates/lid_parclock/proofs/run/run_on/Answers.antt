@@ -1,7 +1,7 @@
 -- Each cycle counts one more, and after the last one the run is over.
 use Rattle.std.proofs.Common.{◌≡◌, ◌<◌, ℕ, suc, ◌+◌, ◌-◌, ◌^◌, sym, ◌∙◌, subst, true≢false, arith}
-use Rattle.lid_clocked.specs.Clocks.{IsOver}
-use Rattle.lid_clocked.proofs.FreeLives.{few_cycles, is_over}
+use Rattle.lid_clock.specs.Clocks.{IsOver}
+use Rattle.lid_clock.proofs.FreeLives.{few_cycles, is_over}
 use Rattle.lid_parclock.proofs.run.run_on.Goals as goal
 
 smaller : (made more : ℕ) → more ≡ suc made → made + 1 < 2 ^ 64 → 2 ^ 64 - more < 2 ^ 64 - made

@@ -1,6 +1,6 @@
 use Rattle.std.proofs.Common.{ℕ, ◌-◌, ◌^◌}
 use Rattle.lid_clock.specs.Lives.{Life}
-use Rattle.lid_clocked.specs.Clocks.{Clocks}
+use Rattle.lid_clock.specs.Clocks.{Clocks}
 use Rattle.lid_parclock.proofs.run.run_on.Given as goal
 
 -- each life of the run at the start is one of the run now, after as many cycles as were made

@@ -1,5 +1,5 @@
 use Rattle.std.proofs.Common.{Bool, true, false, List, filter, ◌∙◌, ap}
-use Rattle.lid_settle.specs.Rows.{bit_at}
+use Rattle.lid_strict_engine.specs.Rows.{bit_at}
 use Rattle.lid_pearl.specs.Inside.{is_picked}
 use Rattle.lid_pearl.proofs.Planning.{is_ordered, plan_split, plan_earlier}
 use Rattle.lid_pearl.proofs.pearl.plan_of.Goals as goal

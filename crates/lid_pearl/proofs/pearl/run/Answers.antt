@@ -1,8 +1,8 @@
 use Rattle.std.proofs.Common.{◌++◌, ℕ, List, map, ◌∙◌, ap, subst}
 use Rattle.lid_design.specs.declared.FlatLatch.{FlatLatch}
 use Rattle.lid_design.specs.Flat.{latch_input}
-use Rattle.lid_settle.specs.Rows.{bit_at, AgreesAt}
-use Rattle.lid_settle.proofs.Settling.{agrees_all}
+use Rattle.lid_strict_engine.specs.Rows.{bit_at, AreRightAt}
+use Rattle.lid_strict_engine.proofs.Settling.{agrees_all}
 use Rattle.lid_pearl.specs.Inside.{held, early_nets, late_nets}
 use Rattle.lid_pearl.proofs.pearl.run.Goals as goal
 
@@ -14,7 +14,7 @@ returns-clause-state c f early late state inputs =
     let ins = shape.ins.items in
     let known = early_nets latches plan.early in
     let put = c.put_bits.ensures.bits f known (ap (map f) c.as_slice.ensures.value ∙ inputs) (c.requires.kept.settled f early state) in
-    let put' = subst (λ (ks : List ℕ). AgreesAt f (ks ++ known) c.put_bits.new.bits) c.as_slice.ensures.value put in
+    let put' = subst (λ (ks : List ℕ). AreRightAt f (ks ++ known) c.put_bits.new.bits) c.as_slice.ensures.value put in
     let run = c.settle.ensures.bits f (ins ++ known) late c.requires.kept.ordered.late_reads put' in
     c.take_state.ensures
     ∙ ap (λ (ls : List FlatLatch). map (bit_at c.settle.new.bits) (map latch_input ls)) c.as_slice-latches.ensures.value
@@ -27,7 +27,7 @@ returns-clause-outs c f early state =
     let latches = shape.latches.items in
     let value = c.as_slice-latches.ensures.value in
     let settled = c.settle_state.ensures.settled f early (ap (λ (ls : List FlatLatch). map f (held ls)) value ∙ state) in
-    let settled' = subst (λ (ls : List FlatLatch). AgreesAt f (early_nets ls plan.early) c.settle_state.new.bits) value settled in
+    let settled' = subst (λ (ls : List FlatLatch). AreRightAt f (early_nets ls plan.early) c.settle_state.new.bits) value settled in
     c.take_bits.ensures
     ∙ ap (map (bit_at c.settle_state.new.bits)) c.as_slice-2.ensures.value
     ∙ agrees_all f (early_nets latches plan.early) c.settle_state.new.bits shape.outs.items settled' c.requires.kept.ordered.outs_early

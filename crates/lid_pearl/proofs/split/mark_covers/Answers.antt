@@ -4,8 +4,8 @@ use Rattle.std.proofs.lemmas.List.{length-set}
 use Rattle.std.proofs.lemmas.Option.{slice_get_read}
 use Rattle.lid_base.proofs.Lists.{all_at}
 use Rattle.lid_design.specs.declared.FlatCover.{FlatCover}
-use Rattle.lid_settle.specs.Rows.{bit_at}
-use Rattle.lid_pearl.specs.Inside.{AreMarked}
+use Rattle.lid_strict_engine.specs.Rows.{bit_at}
+use Rattle.lid_pearl.specs.Inside.{AreKnownMarks}
 use Rattle.lid_pearl.proofs.Marking.{marked_next}
 use Rattle.lid_pearl.proofs.split.mark_covers.Goals as goal
 
@@ -27,5 +27,5 @@ loop-i-preserved c =
     let room : d.out < length c.loop-i.marks = omega arith in
     let next = marked_next f rules c.loop-i.marks i d at room c.loop-i.invariant.1 in (
       ap length c.mark_cover.ensures ∙ length-set c.loop-i.marks d.out (list_all (bit_at c.loop-i.marks) d.ins) ∙ kept,
-      subst (λ (ms : List Bool). AreMarked f (take (i + 1) f.covers) (bit_at ms)) (sym c.mark_cover.ensures) next,
+      subst (λ (ms : List Bool). AreKnownMarks f (take (i + 1) f.covers) (bit_at ms)) (sym c.mark_cover.ensures) next,
     )

@@ -1,7 +1,7 @@
 use Rattle.std.proofs.Common.{◌≡◌, ◌<◌, true, length, slice_index_or, ◌∙◌, arith}
 use Rattle.std.proofs.lemmas.List.{length-set}
 use Rattle.lid_design.specs.Flat.{latch_out}
-use Rattle.lid_settle.proofs.Settling.{no_latch, latch_at}
+use Rattle.lid_strict_engine.proofs.Settling.{no_latch, latch_at}
 use Rattle.lid_pearl.specs.Inside.{held}
 use Rattle.lid_pearl.proofs.Marking.{latch_below, held_next, held_alone}
 use Rattle.lid_pearl.proofs.split.mark_held.Goals as goal

@@ -1,6 +1,6 @@
 use Rattle.std.proofs.Common.{◌≡◌, ℕ, true, false, length, take}
 use Rattle.lid_base.specs.Lists.{Among}
-use Rattle.lid_settle.specs.Rows.{bit_at}
+use Rattle.lid_strict_engine.specs.Rows.{bit_at}
 use Rattle.lid_pearl.specs.Inside.{held}
 use Rattle.lid_pearl.proofs.split.mark_held.Given as goal
 

@@ -3,7 +3,7 @@ use Rattle.std.specs.List.{Contains}
 use Rattle.std.proofs.lemmas.Result.{IfOk-weaker}
 use Rattle.lid_cert.specs.Certificates.{ascends}
 use Rattle.lid_rate.specs.Rates.{numbers_where, is_labelled, edges_of}
-use Rattle.lid_rate.specs.Pieces.{IsInside, IsPiece, IsLifted}
+use Rattle.lid_rate.specs.Pieces.{IsInnerEdge, IsPiece, IsLifted}
 use Rattle.lid_rate.proofs.Components.{nodes_ascend, edges_ascend, few_nodes, few_edges, edges_inside, loop_listed, small_piece, piece_loop, all_joined, part_of_label}
 use Rattle.lid_rate.proofs.parts.part_of.Goals as goal
 
@@ -16,7 +16,7 @@ piece_of-requires-clause-few c = let few = few_nodes c.args.graph.now c.requires
 pub piece_of-requires-clause-inside : goal.piece_of-requires-clause-inside
 piece_of-requires-clause-inside c i h =
     let l : i < length (edges_of c.args.graph.now c.args.least.now c.args.label) = subst (λ (l : List ℕ). i < length l) c.requires.edges h in
-    subst (λ (l : List ℕ). IsInside c.args.graph.now l (get_or c.args.edges.now i 0)) (sym c.requires.nodes) (subst (λ (l : List ℕ). IsInside c.args.graph.now (numbers_where (is_labelled c.args.least.now c.args.label) (length c.args.least.now)) (get_or l i 0)) (sym c.requires.edges) (edges_inside c.args.graph.now c.requires.graph c.args.least.now c.requires.labels c.args.label c.requires.own c.requires.within i l))
+    subst (λ (l : List ℕ). IsInnerEdge c.args.graph.now l (get_or c.args.edges.now i 0)) (sym c.requires.nodes) (subst (λ (l : List ℕ). IsInnerEdge c.args.graph.now (numbers_where (is_labelled c.args.least.now c.args.label) (length c.args.least.now)) (get_or l i 0)) (sym c.requires.edges) (edges_inside c.args.graph.now c.requires.graph c.args.least.now c.requires.labels c.args.label c.requires.own c.requires.within i l))
 
 pub place-requires-clause-ascending : goal.place-requires-clause-ascending
 place-requires-clause-ascending c = ap ascends c.requires.edges ∙ edges_ascend c.args.graph.now c.requires.graph c.args.least.now c.requires.labels c.args.label c.requires.own c.requires.within

@@ -1,7 +1,7 @@
 use Rattle.std.proofs.Common.{refl, sym, subst}
 use Rattle.lid_graph.specs.declared.graph.Graph.{Graph}
 use Rattle.lid_stations.specs.Placements.{links_of, station_count}
-use Rattle.lid_forward.specs.ForwardParts.{AreForwardRatios}
+use Rattle.lid_size_forward.specs.ForwardParts.{AreForwardRatios}
 use Rattle.lid_size.specs.Sizing.{sized}
 use Rattle.lid_size.proofs.Reaching.{compared_with, reaches_is}
 use Rattle.lid_size.proofs.comparing.reaches.Goals as goal

@@ -1,5 +1,5 @@
 use Rattle.std.proofs.Common.{List, sym, ◌∙◌, ap, subst}
-use Rattle.lid_ratio.specs.declared.lowest_terms.Ratio.{Ratio}
+use Rattle.lid_rate_ratio.specs.declared.lowest_terms.Ratio.{Ratio}
 use Rattle.lid_stations.specs.Placements.{links_of, station_count}
 use Rattle.lid_size.specs.Comparing.{IsFirstLow}
 use Rattle.lid_size.specs.Sizing.{sized, greatest}

@@ -2,8 +2,8 @@ use Rattle.std.proofs.Common.{ℕ, ◌*◌, ◌^◌, ◌<◌, ◌≤◌, length,
 use Rattle.std.proofs.lemmas.Bool.{ltb-true}
 use Rattle.std.proofs.lemmas.Nat.{mul-le}
 use Rattle.lid_graph.specs.Walks.{walk_start}
-use Rattle.lid_forward.specs.ForwardParts.{no_ratio}
-use Rattle.lid_forward.proofs.Closed.{walk_within, closed_start}
+use Rattle.lid_size_forward.specs.ForwardParts.{no_ratio}
+use Rattle.lid_size_forward.proofs.Closed.{walk_within, closed_start}
 use Rattle.lid_size.proofs.Refuted.{refuted}
 use Rattle.lid_size.proofs.testing.refutes.Goals as goal
 

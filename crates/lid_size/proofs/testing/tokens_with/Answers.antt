@@ -1,6 +1,6 @@
 use Rattle.std.proofs.Common.{◌+◌, ◌-◌, ◌/◌, ◌∙◌, ap, arith}
 use Rattle.lid_graph.specs.declared.graph.Edge.{Edge}
-use Rattle.lid_forward.proofs.Closed.{even_forward, late_forward}
+use Rattle.lid_size_forward.proofs.Closed.{even_forward, late_forward}
 use Rattle.lid_size.proofs.Refuted.{lessened_range, forward_tokens, backward_tokens}
 use Rattle.lid_size.proofs.testing.tokens_with.Goals as goal
 use Rattle.lid_size.proofs.testing.tokens_with.Goals.{then-k-eq0-via-then-k-eq0, then-k-eq0-via-else-k-eq0+then-at-caps}

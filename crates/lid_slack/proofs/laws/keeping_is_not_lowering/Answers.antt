@@ -1,7 +1,7 @@
 use Rattle.std.proofs.Common.{length}
 use Rattle.lid_graph.specs.Walks.{walk_tokens}
 use Rattle.lid_stations.specs.Markings.{marking}
-use Rattle.lid_longer.specs.Longer.{longer_marking, producer}
+use Rattle.lid_slack_longer.specs.Longer.{longer_marking, producer}
 use Rattle.lid_slack.proofs.Ratios.{keeps_lower, ratio_keeps, keeps_ratio, one_ratio}
 use Rattle.lid_slack.proofs.laws.keeping_is_not_lowering.Goals as goal
 

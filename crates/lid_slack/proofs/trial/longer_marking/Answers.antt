@@ -1,7 +1,7 @@
 use Rattle.std.proofs.Common.{sym, subst}
 use Rattle.lid_stations.specs.declared.placement.Placement.{Placement}
 use Rattle.lid_stations.specs.Placements.{Fits}
-use Rattle.lid_longer.proofs.Kept.{longer_fits}
+use Rattle.lid_slack_longer.proofs.Kept.{longer_fits}
 use Rattle.lid_slack.proofs.trial.longer_marking.Goals as goal
 
 pub marking-requires-clause-fits : goal.marking-requires-clause-fits

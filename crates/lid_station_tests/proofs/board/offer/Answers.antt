@@ -1,7 +1,7 @@
 use Rattle.std.proofs.Common.{ℕ, List, refl, ◌∙◌, ap, slice_get}
 use Rattle.lid_station.specs.Boards.{fill, marked, advanced}
 use Rattle.lid_station.proofs.Boards.{changed_here}
-use Rattle.lid_board.specs.Owners.{ends_of, plan_of}
+use Rattle.lid_board.specs.Owners.{ends_of, start_ends}
 use Rattle.lid_board.specs.Relation.{stream_of}
 use Rattle.lid_board.specs.Standing.{attended_next, served_within}
 use Rattle.lid_station_tests.proofs.Still.{served_here, still_back, owned_kept, owned_back}
@@ -37,8 +37,8 @@ pub put-requires-clause-admitted : goal.put-requires-clause-admitted
 put-requires-clause-admitted c =
     let there = served_here (ends_of c.args.hand.now) (fill c.args.station) c.in-Some.passed c.count_at.result c.count_at.ensures c.in-Some.is in
     let within = served_within c.args.board.now c.args.hand.now (fill c.args.station) there.0 c.requires.of there.1 in
-    attended_next c.look_out-look.new.self.board.now c.look_out-look.new.self.hand.now c.look_out-look.new.self.of_board (stream_of (plan_of c.args.board.now)) c.args.station _ (marked there.0)
-    (c.in-Room.ensures.kept (stream_of (plan_of c.args.board.now)) (λ station inside. refl))
+    attended_next c.look_out-look.new.self.board.now c.look_out-look.new.self.hand.now c.look_out-look.new.self.of_board (stream_of (start_ends c.args.board.now)) c.args.station _ (marked there.0)
+    (c.in-Room.ensures.kept (stream_of (start_ends c.args.board.now)) (λ station inside. refl))
     (changed_here _ _ (fill c.args.station) marked there.0 c.in-Room.ensures.changed there.1)
     (ap (λ (s : List ℕ). slice_get s there.0.passed) (c.requires.stream within) ∙ ap (slice_get c.args.stream.now) there.2 ∙ c.in-Some-next.ensures.next)
 

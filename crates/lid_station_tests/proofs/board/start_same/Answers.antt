@@ -3,7 +3,7 @@ use Rattle.std.specs.Prelude.{Option, slice_get}
 use Rattle.std.specs.List.{All}
 use Rattle.std.proofs.lemmas.List.{length-replicate}
 use Rattle.std.proofs.lemmas.Option.{slice_get-get_or}
-use Rattle.lid_board.specs.Starts.{Begins}
+use Rattle.lid_board.specs.Starts.{AreStreamsFor}
 use Rattle.lid_station_tests.proofs.Still.{begins_same, stands_same}
 use Rattle.lid_station_tests.proofs.board.start_same.Goals as goal
 
@@ -16,7 +16,7 @@ start-requires-clause-course c =
     let some : 0 < length stream = c.is_stream.ensures.some (search rules) in
     let next : slice_get stream 0 ≡ Some token = slice_get-get_or stream 0 0 some in
     let begins = begins_same c.args.course.now.stations token stream next (search rules) small in
-    subst (λ (fs : List (Option ℕ)). Begins fs (replicate c.args.course.now.stations stream)) (sym (c.as_slice.ensures.value ∙ firsts_are)) begins
+    subst (λ (fs : List (Option ℕ)). AreStreamsFor fs (replicate c.args.course.now.stations stream)) (sym (c.as_slice.ensures.value ∙ firsts_are)) begins
 
 pub returns-in-Ok-start-clause-stands : goal.returns-in-Ok-start-clause-stands
 returns-in-Ok-start-clause-stands c =

@@ -1,5 +1,5 @@
 use Rattle.std.proofs.Common.{◌≡◌, ◌++◌}
-use Rattle.lid_design.specs.Network.{from_each}
+use Rattle.lid_base.specs.Each.{from_each}
 use Rattle.lid_stations.specs.Markings.{self_edge}
 use Rattle.lid_stations.proofs.marked_graph.push_self_edges.Given as goal
 

@@ -1,5 +1,5 @@
 use Rattle.std.proofs.Common.{◌≡◌, ◌++◌, flat_map, take}
-use Rattle.lid_design.specs.Network.{from_each}
+use Rattle.lid_base.specs.Each.{from_each}
 use Rattle.lid_stations.specs.Placements.{links_of, station_count}
 use Rattle.lid_stations.specs.Markings.{station_edges}
 use Rattle.lid_stations.proofs.marked_graph.push_stations.Given as goal

@@ -1,14 +1,14 @@
 use Rattle.std.proofs.Common.{◌≡◌, length, map, take}
-use Rattle.lid_elab.specs.Elaborations.{shown_driver}
-use Rattle.lid_settle.specs.Programs.{shown, IsProgram}
-use Rattle.lid_strict.specs.Layouts.{nets_in, places_in, latches_in, cells_in}
+use Rattle.lid_check_elab.specs.Elaborations.{shown_driver}
+use Rattle.lid_strict_engine.specs.Programs.{program_covers, IsProgram}
+use Rattle.lid_strict.specs.Layouts.{nets_in, places_in, latches_in, network_covers}
 use Rattle.lid_strict.proofs.layout.lay_out.Given as goal
 
 abbrev pub invariant-loop-number : goal.invariant-loop-number
 invariant-loop-number l =
     IsProgram 0 l.layout.program
     × (l.layout.program.nets ≡ length l.drivers)
-    × (shown l.layout.program ≡ cells_in (map (shown_driver l.design) l.drivers) (take l.number-index l.order))
+    × (program_covers l.layout.program ≡ network_covers (map (shown_driver l.design) l.drivers) (take l.number-index l.order))
     × (l.layout.ins.items ≡ nets_in (map (shown_driver l.design) l.drivers) (take l.number-index l.order))
     × (l.layout.places.items ≡ places_in (map (shown_driver l.design) l.drivers) (take l.number-index l.order))
     × (l.layout.latches.items ≡ latches_in (map (shown_driver l.design) l.drivers) (take l.number-index l.order))

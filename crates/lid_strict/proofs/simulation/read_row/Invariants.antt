@@ -1,5 +1,5 @@
 use Rattle.std.proofs.Common.{◌≡◌, length, map, take}
-use Rattle.lid_settle.specs.Rows.{bit_at}
+use Rattle.lid_strict_engine.specs.Rows.{bit_at}
 use Rattle.lid_strict.proofs.simulation.read_row.Given as goal
 
 abbrev pub invariant-loop-i : goal.invariant-loop-i

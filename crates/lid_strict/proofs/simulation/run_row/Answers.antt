@@ -1,7 +1,7 @@
 use Rattle.std.proofs.Common.{[], ◌++◌, ℕ, List, map, sym, ◌∙◌, ap, subst}
 use Rattle.lid_design.specs.declared.FlatLatch.{FlatLatch}
 use Rattle.lid_design.specs.Flat.{latch_out, latch_input}
-use Rattle.lid_settle.specs.Rows.{bit_at, AgreesAt}
+use Rattle.lid_strict_engine.specs.Rows.{bit_at, AreRightAt}
 use Rattle.lid_strict.specs.Layouts.{known_first}
 use Rattle.lid_strict.proofs.simulation.run_row.Goals as goal
 
@@ -15,7 +15,7 @@ returns-clause-bits c f fits k h =
     let value = c.as_slice-latches.ensures.value in
     let read = c.read_row.ensures ∙ ap (map (bit_at c.args.row.now)) c.as_slice.ensures.value in
     let held = c.put_state.ensures.bits f [] (ap (λ (ls : List FlatLatch). map f (map latch_out ls)) value ∙ fits.latches) (λ k none. absurd none) in
-    let held' = subst (λ (ls : List FlatLatch). AgreesAt f (map latch_out ls ++ []) c.put_state.new.bits) value held in
+    let held' = subst (λ (ls : List FlatLatch). AreRightAt f (map latch_out ls ++ []) c.put_state.new.bits) value held in
     let put = c.put_bits.ensures.bits f (map latch_out latches ++ []) (ap (map f) c.as_slice-2.ensures.value ∙ fits.inputs ∙ sym read) held' in
-    let put' = subst (λ (ks : List ℕ). AgreesAt f (ks ++ (map latch_out latches ++ [])) c.put_bits.new.bits) c.as_slice-2.ensures.value put in
+    let put' = subst (λ (ks : List ℕ). AreRightAt f (ks ++ (map latch_out latches ++ [])) c.put_bits.new.bits) c.as_slice-2.ensures.value put in
     c.settle.ensures.bits f (known_first p) fits.covers c.requires.runnable.earlier put' k (c.requires.runnable.all k h)

@@ -1,6 +1,6 @@
 use Rattle.std.proofs.Common.{[], ◌+◌, Bool, List, sym, ◌∙◌, subst}
 use Rattle.std.proofs.lemmas.List.{get_or_default}
-use Rattle.lid_strict.specs.Layouts.{IsRun}
+use Rattle.lid_strict.specs.Layouts.{IsStrictRun}
 use Rattle.lid_strict.proofs.Running.{runs_next}
 use Rattle.lid_strict.proofs.simulation.run_rows.Goals as goal
 
@@ -18,5 +18,5 @@ loop-t-preserved c =
       is.state_size,
       is.inputs_size,
       is.bits_size,
-      subst (λ (rs : List (List Bool)). IsRun p outs rows (t + 1) new.state rs) (sym c.in_ok-push.ensures.items) next,
+      subst (λ (rs : List (List Bool)). IsStrictRun p outs rows (t + 1) new.state rs) (sym c.in_ok-push.ensures.items) next,
     )

@@ -1,7 +1,7 @@
 use Rattle.std.proofs.Common.{◌<◌, ℕ, map, sym, ◌∙◌, subst}
 use Rattle.std.specs.List.{AllByRecursion}
 use Rattle.std.proofs.lemmas.List.{length-map}
-use Rattle.lid_elab.specs.Elaborations.{shown_driver}
+use Rattle.lid_check_elab.specs.Elaborations.{shown_driver}
 use Rattle.lid_strict.proofs.Layouts.{runnable, strict_fits}
 use Rattle.lid_strict.proofs.simulation.simulate.Goals as goal
 

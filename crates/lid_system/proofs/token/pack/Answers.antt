@@ -1,8 +1,8 @@
 use Rattle.std.proofs.Common.{◌≡◌, ◌<◌, ◌^◌, ℕ, length, map, drop, sym, ◌∙◌, ap, subst, arith}
 use Rattle.lid_cover.specs.Masks.{packed}
-use Rattle.lid_settle.specs.Rows.{bit_at}
-use Rattle.lid_settle.specs.Truth.{is_set}
-use Rattle.lid_settle.proofs.Tabling.{later_below}
+use Rattle.lid_strict_engine.specs.Rows.{bit_at}
+use Rattle.lid_strict_engine.specs.Truth.{is_set}
+use Rattle.lid_strict_engine.proofs.Tabling.{later_below}
 use Rattle.lid_system.proofs.Packing.{bit_of_port, packed_ports}
 use Rattle.lid_system.proofs.token.pack.Goals as goal
 

@@ -1,6 +1,6 @@
 use Rattle.std.proofs.Common.{◌≡◌, ◌≤◌, length, map, drop}
 use Rattle.lid_cover.specs.Masks.{packed}
-use Rattle.lid_settle.specs.Rows.{bit_at}
+use Rattle.lid_strict_engine.specs.Rows.{bit_at}
 use Rattle.lid_system.proofs.token.pack.Given as goal
 
 abbrev pub invariant-loop-left : goal.invariant-loop-left

@@ -1,6 +1,6 @@
 use Rattle.std.proofs.Common.{ap, ◌∙◌, ℕ}
-use Rattle.lid_settle.specs.Truth.{is_set}
-use Rattle.lid_settle.proofs.Tabling.{packed_bit}
+use Rattle.lid_strict_engine.specs.Truth.{is_set}
+use Rattle.lid_strict_engine.proofs.Tabling.{packed_bit}
 use Rattle.lid_system.proofs.token.unpack.Goals as goal
 
 pub returns-clause-packed : goal.returns-clause-packed

@@ -1,6 +1,6 @@
 use Rattle.std.proofs.Common.{Option, ◌∙◌, sym, subst}
-use Rattle.lid_cli.specs.declared.job.Job.{Job}
-use Rattle.lid_script.specs.Statuses.{Run}
+use Rattle.lid_top_words.specs.declared.job.Job.{Job}
+use Rattle.lid_top_script.specs.Statuses.{Run}
 use Rattle.lid_top.proofs.Runs.{run_of_result}
 use Rattle.lid_top.proofs.top.lid_run.Goals as goal
 

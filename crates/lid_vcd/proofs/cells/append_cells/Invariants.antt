@@ -1,7 +1,7 @@
 use Rattle.std.proofs.Common.{◌≡◌, ◌+◌, ◌≤◌, ◌++◌, [], length}
-use Rattle.lid_wave.specs.Words.{words_on}
-use Rattle.lid_wave.specs.Form.{start}
-use Rattle.lid_wave.specs.Shows.{cells_on}
+use Rattle.lid_vcd_form.specs.Words.{words_on}
+use Rattle.lid_vcd_form.specs.Form.{start}
+use Rattle.lid_vcd_form.specs.Shows.{cells_on}
 use Rattle.lid_vcd.proofs.cells.append_cells.Given as goal
 
 abbrev pub invariant-loop-word : goal.invariant-loop-word

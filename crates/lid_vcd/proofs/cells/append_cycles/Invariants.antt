@@ -1,5 +1,5 @@
 use Rattle.std.proofs.Common.{◌≡◌, ◌++◌}
-use Rattle.lid_wave.specs.Shows.{cycles_of}
+use Rattle.lid_vcd_form.specs.Shows.{cycles_of}
 use Rattle.lid_vcd.proofs.cells.append_cycles.Given as goal
 
 abbrev pub invariant-loop-left : goal.invariant-loop-left

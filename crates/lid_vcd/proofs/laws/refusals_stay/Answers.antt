@@ -1,4 +1,4 @@
-use Rattle.lid_wave.specs.Form.{start}
+use Rattle.lid_vcd_form.specs.Form.{start}
 use Rattle.lid_vcd.proofs.Alive.{words_stop}
 use Rattle.lid_vcd.proofs.laws.refusals_stay.Goals as goal
 

@@ -1,6 +1,6 @@
 use Rattle.std.proofs.Common.{◌≡◌, ◌+◌, ◌≤◌, [], length}
-use Rattle.lid_wave.specs.Words.{words_on}
-use Rattle.lid_wave.specs.Form.{start, run}
+use Rattle.lid_vcd_form.specs.Words.{words_on}
+use Rattle.lid_vcd_form.specs.Form.{start, run}
 use Rattle.lid_vcd.proofs.reader.find_end.Given as goal
 
 abbrev pub invariant-loop-word : goal.invariant-loop-word

@@ -1,5 +1,5 @@
 use Rattle.std.proofs.Common.{arith, rules}
-use Rattle.lid_wave.specs.Words.{placed_words}
+use Rattle.lid_vcd_form.specs.Words.{placed_words}
 use Rattle.lid_vcd.proofs.Sound.{writable_trace}
 use Rattle.lid_vcd.proofs.reader.trace_at.Goals as goal
 

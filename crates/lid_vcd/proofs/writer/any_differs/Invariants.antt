@@ -1,5 +1,5 @@
 use Rattle.std.proofs.Common.{◌≡◌, length}
-use Rattle.lid_wave.specs.Text.{any_differs}
+use Rattle.lid_vcd_form.specs.Text.{any_differs}
 use Rattle.lid_vcd.proofs.writer.any_differs.Given as goal
 
 abbrev pub invariant-loop-rest : goal.invariant-loop-rest

@@ -1,7 +1,7 @@
 use Rattle.std.proofs.Common.{◌≡◌, ◌+◌, ◌*◌, ◌++◌, ◌≤◌, length}
 use Rattle.lid_base.specs.Lists.{Keeps}
-use Rattle.lid_lines.specs.Texts.{lines_text}
-use Rattle.lid_wave.specs.Text.{all_lines}
+use Rattle.lid_base_lines.specs.Texts.{lines_text}
+use Rattle.lid_vcd_form.specs.Text.{all_lines}
 use Rattle.lid_vcd.proofs.writer.append_all.Given as goal
 
 abbrev pub invariant-loop-rest : goal.invariant-loop-rest

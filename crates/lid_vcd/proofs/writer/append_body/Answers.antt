@@ -1,6 +1,6 @@
 use Rattle.std.proofs.Common.{arith}
 use Rattle.lid_base.proofs.Results.{on_ok}
-use Rattle.lid_reports.proofs.Steps.{cells_left}
+use Rattle.lid_texts_runs.proofs.Steps.{cells_left}
 use Rattle.lid_vcd.proofs.Parts.{body_made}
 use Rattle.lid_vcd.proofs.writer.append_body.Goals as goal
 

@@ -1,5 +1,5 @@
 use Rattle.std.proofs.Common.{◌++◌, List, sym, ap, ◌∙◌, append-nil, arith}
-use Rattle.lid_lines.specs.Texts.{Words, lines_text}
+use Rattle.lid_base_lines.specs.Texts.{Words, lines_text}
 use Rattle.lid_vcd.proofs.Parts.{none_changes}
 use Rattle.lid_vcd.proofs.writer.append_changes.Goals as goal
 

@@ -1,5 +1,5 @@
 use Rattle.std.proofs.Common.{◌∷◌, []}
-use Rattle.lid_wave.specs.Text.{declarations, timescale_words, scope_words, upscope_words, definitions_words, head_lines}
+use Rattle.lid_vcd_form.specs.Text.{declarations, timescale_words, scope_words, upscope_words, definitions_words, head_lines}
 use Rattle.lid_base.proofs.Results.{on_ok}
 use Rattle.lid_vcd.proofs.Parts.{three}
 use Rattle.lid_vcd.proofs.writer.append_head.Goals as goal

@@ -1,6 +1,6 @@
 use Rattle.std.proofs.Common.{arith}
 use Rattle.std.proofs.lemmas.Grind.{common_steps}
-use Rattle.lid_reports.proofs.Steps.{cells_left}
+use Rattle.lid_texts_runs.proofs.Steps.{cells_left}
 use Rattle.lid_vcd.proofs.Parts.{later_step}
 use Rattle.lid_vcd.proofs.writer.append_later.Goals as goal
 

@@ -1,7 +1,7 @@
 use Rattle.std.proofs.Common.{◌≡◌, ◌+◌, ◌*◌, ◌++◌, ◌≤◌, length}
 use Rattle.lid_base.specs.Lists.{Keeps}
-use Rattle.lid_lines.specs.Texts.{lines_text}
-use Rattle.lid_wave.specs.Text.{later_lines}
+use Rattle.lid_base_lines.specs.Texts.{lines_text}
+use Rattle.lid_vcd_form.specs.Text.{later_lines}
 use Rattle.lid_vcd.proofs.writer.append_later.Given as goal
 
 abbrev pub invariant-loop-left : goal.invariant-loop-left

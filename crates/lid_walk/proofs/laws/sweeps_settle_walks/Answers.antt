@@ -1,4 +1,4 @@
-use Rattle.lid_machine.proofs.Sweeps.{settles}
+use Rattle.lid_walk_machine.proofs.Sweeps.{settles}
 use Rattle.lid_walk.proofs.Settling.{caps_reached}
 use Rattle.lid_walk.proofs.laws.sweeps_settle_walks.Goals as goal
 

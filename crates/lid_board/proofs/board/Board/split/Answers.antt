@@ -1,6 +1,6 @@
 use Rattle.std.proofs.Common.{rules, ℕ, cond, List, None, get_or, sym, ◌∙◌, ap, subst}
 use Rattle.std.specs.Prelude.{Option}
-use Rattle.lid_board.specs.Owners.{plan_of}
+use Rattle.lid_board.specs.Owners.{start_ends}
 use Rattle.lid_board.specs.Parting.{is_chosen}
 use Rattle.lid_board.specs.Relation.{AreWithin}
 use Rattle.lid_board.specs.Ties.{IsTied}
@@ -40,8 +40,8 @@ returns-clause-of c = record {
   table = c.split_as-seat.ensures.seat.0 ∙ c.requires.of.table;
   room = written_long c.move_numbers.new.from c.args.hand.now.ends.items c.args.hand.now.ends.len (search rules) (search rules) ∙ c.requires.of.room;
   within =
-      subst (AreWithin (plan_of c.args.self.now)) (sym c.split_as-seat.ensures.left)
-      (within_left (plan_of c.args.self.now) c.args.hand.now.seat.me.0.ends (is_chosen c.args.ends.now) c.requires.of.within);
+      subst (AreWithin (start_ends c.args.self.now)) (sym c.split_as-seat.ensures.left)
+      (within_left (start_ends c.args.self.now) c.args.hand.now.seat.me.0.ends (is_chosen c.args.ends.now) c.requires.of.within);
 }
 
 pub returns-clause-new_of : goal.returns-clause-new_of
@@ -49,6 +49,6 @@ returns-clause-new_of c = record {
   table = c.split_as-seat.ensures.seat.2 ∙ c.requires.of.table;
   room = written_long c.move_numbers.new.into c.in_ok-numbers.numbers.items c.in_ok-numbers.numbers.len (search rules) (search rules) ∙ search rules ∙ c.requires.of.room;
   within =
-      subst (AreWithin (plan_of c.args.self.now)) (sym c.split_as-seat.ensures.right)
-      (within_right (plan_of c.args.self.now) c.args.hand.now.seat.me.0.ends (is_chosen c.args.ends.now) c.requires.of.within);
+      subst (AreWithin (start_ends c.args.self.now)) (sym c.split_as-seat.ensures.right)
+      (within_right (start_ends c.args.self.now) c.args.hand.now.seat.me.0.ends (is_chosen c.args.ends.now) c.requires.of.within);
 }

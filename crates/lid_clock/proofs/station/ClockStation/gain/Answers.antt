@@ -1,8 +1,8 @@
 -- A station gains the token that stands in its slot of its filler's tokens, where that fired.
 use Rattle.std.proofs.Common.{sym, arith}
 use Rattle.std.proofs.lemmas.Option.{get_or_from_slice_get}
-use Rattle.lid_runs.proofs.Elements.{is_there}
 use Rattle.lid_clock.proofs.Settled.{ends_there, filler_decided, slot_there, room_of, few_put, gains, gains_none}
+use Rattle.lid_base.proofs.Places.{item_read}
 use Rattle.lid_clock.proofs.station.ClockStation.gain.Goals as goal
 
 pub bounds-actors-self : goal.bounds-actors-self
@@ -39,7 +39,7 @@ returns-then-filler c = λ l k g station life inside is decided.
     let a = c.index-actors-self.result in
     let own = filler_decided r l k g station _ _ x c.args.actors.now life inside is decided a c.index-actors-self.is in
     let within = slot_there l k g station _ _ x a is own in
-    let read = sym (get_or_from_slice_get a.tokens.items x.slot c.index.result.now 0 (is_there a.tokens.items x.slot c.index.result.now within c.index.ensures)) in
+    let read = sym (get_or_from_slice_get a.tokens.items x.slot c.index.result.now 0 (item_read a.tokens.items x.slot c.index.result.now within c.index.ensures)) in
     let e = c.accept.ensures in
     gains r l k g station c.index.result.now x c.accept.new.self a life inside is own c.if-filler.true read
     (record { filler = e.ends.0; slot = e.ends.1; drainer = e.ends.2 }) e.put e.taken e.places

@@ -4,10 +4,10 @@ use Rattle.std.specs.Prelude.{Some, slice_get}
 use Rattle.std.proofs.lemmas.List.{with_items_is}
 use Rattle.std.proofs.lemmas.Option.{slice_get_within}
 use Rattle.lid_clock.specs.declared.actor.ClockActor.{ClockActor}
-use Rattle.lid_clock.specs.Cycles.{CanTake, Takes}
-use Rattle.lid_runs.proofs.Elements.{is_there}
+use Rattle.lid_clock.specs.Cycles.{CanTake, TakesRow}
 use Rattle.lid_clock.proofs.Cycling.{source_of, needs_too}
 use Rattle.lid_clock.proofs.Giving.{can_take, gave}
+use Rattle.lid_base.proofs.Places.{item_read}
 use Rattle.lid_clock.proofs.stream.ClockStream.give.Goals as goal
 
 pub receive-requires : goal.receive-requires
@@ -16,7 +16,7 @@ receive-requires c =
     let a = c.index-actors-0.result in
     let source = source_of q.0 q.1 q.2 c.args.self.now q.3 in
     let some : 0 < length c.as_mut_slice-actors.result.now = subst (λ (xs : List ClockActor). 0 < length xs) (sym c.as_mut_slice-actors.ensures.value) (slice_get_within c.args.self.now.actors.items 0 source.0 source.1) in
-    let there = subst (λ (xs : List ClockActor). slice_get xs 0 ≡ Some a) c.as_mut_slice-actors.ensures.value (is_there c.as_mut_slice-actors.result.now 0 a some c.index-actors-0.is) in
+    let there = subst (λ (xs : List ClockActor). slice_get xs 0 ≡ Some a) c.as_mut_slice-actors.ensures.value (item_read c.as_mut_slice-actors.result.now 0 a some c.index-actors-0.is) in
     subst (λ (x : ClockActor). CanTake x.part (length c.args.row.now)) c.index-actors-0.is
     (can_take q.0 q.2 _ a c.args.row.now (q.3.all_actors.each 0 a there) q.5)
 
@@ -27,9 +27,9 @@ returns c = λ l k g ran next.
     let a = c.index-actors-0.result in
     let source = source_of l k g x ran in
     let some : 0 < length c.as_mut_slice-actors.result.now = subst (λ (xs : List ClockActor). 0 < length xs) (sym c.as_mut_slice-actors.ensures.value) (slice_get_within x.actors.items 0 source.0 source.1) in
-    let there = subst (λ (xs : List ClockActor). slice_get xs 0 ≡ Some a) c.as_mut_slice-actors.ensures.value (is_there c.as_mut_slice-actors.result.now 0 a some c.index-actors-0.is) in
+    let there = subst (λ (xs : List ClockActor). slice_get xs 0 ≡ Some a) c.as_mut_slice-actors.ensures.value (item_read c.as_mut_slice-actors.result.now 0 a some c.index-actors-0.is) in
     let can = can_take q.0 q.2 _ a c.args.row.now (q.3.all_actors.each 0 a there) q.5 in
-    let takes = subst (λ (y : ClockActor). Takes y.part c.args.row.now c.receive.new.self.part) (sym c.index-actors-0.is) c.receive.ensures.part in
+    let takes = subst (λ (y : ClockActor). TakesRow y.part c.args.row.now c.receive.new.self.part) (sym c.index-actors-0.is) c.receive.ensures.part in
     let rest = subst (λ (y : ClockActor). c.receive.new.self ≡ record y { part = c.receive.new.self.part }) (sym c.index-actors-0.is) c.receive.ensures.rest in
     let many : length (set c.as_mut_slice-actors.result.now 0 c.receive.new.self) ≡ x.actors.len = length-set c.as_mut_slice-actors.result.now 0 c.receive.new.self ∙ c.as_mut_slice-actors.ensures.len in
     let items = with_items_is x.actors (set c.as_mut_slice-actors.result.now 0 c.receive.new.self) many ∙ ap (λ (xs : List ClockActor). set xs 0 c.receive.new.self) c.as_mut_slice-actors.ensures.value in

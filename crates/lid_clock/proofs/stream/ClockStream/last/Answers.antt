@@ -3,8 +3,8 @@ use Rattle.std.proofs.Common.{◌≡◌, List, Bool, subst, sym}
 use Rattle.std.specs.Prelude.{Option, Some, slice_get}
 use Rattle.lid_clock.specs.declared.actor.ClockActor.{ClockActor}
 use Rattle.lid_clock.specs.Lives.{IsLast}
-use Rattle.lid_runs.proofs.Elements.{is_there}
 use Rattle.lid_clock.proofs.Told.{last_is}
+use Rattle.lid_base.proofs.Places.{item_read}
 use Rattle.lid_clock.proofs.stream.ClockStream.last.Goals as goal
 
 pub returns-in-Some : goal.returns-in-Some
@@ -12,4 +12,4 @@ returns-in-Some c = λ l k g ran.
     let at = c.in-Some.ensures.lookup in
     subst (λ (o : Option (List Bool)). IsLast l k o) (sym c.last.ensures)
     (last_is l k g c.args.self.now c.in-Some.sink.now ran
-    (subst (λ (xs : List ClockActor). slice_get xs c.args.self.now.sink ≡ Some c.in-Some.sink.now) c.deref.ensures.value (is_there c.deref.result.now c.args.self.now.sink c.in-Some.sink.now at.3.0 at.1)))
+    (subst (λ (xs : List ClockActor). slice_get xs c.args.self.now.sink ≡ Some c.in-Some.sink.now) c.deref.ensures.value (item_read c.deref.result.now c.args.self.now.sink c.in-Some.sink.now at.3.0 at.1)))

@@ -1,7 +1,7 @@
 -- A station shows what stands in it.
 use Rattle.std.proofs.Common.{◌∙◌, arith}
-use Rattle.lid_runs.proofs.Elements.{is_there}
 use Rattle.lid_clock.proofs.Told.{shown_is, station_there}
+use Rattle.lid_base.proofs.Places.{item_read}
 use Rattle.lid_clock.proofs.stream.ClockStream.show.Goals as goal
 
 pub index-requires : goal.index-requires
@@ -13,5 +13,5 @@ index-requires c =
 pub returns : goal.returns
 returns c = λ l k g ran.
     let within = station_there c.requires.0 c.requires.1 c.requires.2 c.args.self.now c.args.station c.requires.3 c.requires.4 in
-    let there = is_there c.args.self.now.stations.items c.args.station c.index.result.now within c.index.ensures in
+    let there = item_read c.args.self.now.stations.items c.args.station c.index.result.now within c.index.ensures in
     c.shown.ensures ∙ shown_is l c.args.station _ _ c.index.result.now (ran.all_stations.each c.args.station c.index.result.now there)

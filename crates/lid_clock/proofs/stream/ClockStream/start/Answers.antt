@@ -12,14 +12,14 @@ use Rattle.lid_clock.specs.Ran.{lent}
 use Rattle.lid_clock.specs.declared.actor.ClockActor.{ClockActor}
 use Rattle.lid_clock.specs.declared.station.ClockStation.{ClockStation}
 use Rattle.lid_clock.specs.Lives.{sink}
-use Rattle.lid_clock.specs.Starts.{AreNew, AreAlone, HasLaid, IsSized, CanGain, AreReadied, AllBegin}
+use Rattle.lid_clock.specs.Starts.{AreNew, AreUnjoined, HasLaid, IsSized, CanGain, AreReadied, AllBegin}
 use Rattle.lid_clock.proofs.Begun.{all_sized, can_gain, built_of_life, starts}
 use Rattle.lid_clock.proofs.Built.{IsBuilt, built}
 use Rattle.lid_clock.proofs.stream.ClockStream.start.Goals as goal
 
 -- the vector of actors holds those to which stations were joined
 joined_are : (s : System) (p : Placement) (rows : ℕ) (first : Option (List Bool)) (alone : Vec ClockActor) (joined : List ClockActor) (stations : List ClockStation)
-    → AreAlone s rows first (actor_count (links_of s) p) alone.items → HasLaid (links_of s) p (station_count p.relays) joined stations → (with_items alone joined).items ≡ joined
+    → AreUnjoined s rows first (actor_count (links_of s) p) alone.items → HasLaid (links_of s) p (station_count p.relays) joined stations → (with_items alone joined).items ≡ joined
 joined_are s p rows first alone joined stations new laid = with_items_is alone joined (laid.joined.many ∙ sym new.many ∙ sym alone.ok.0)
 
 -- and those that were readied

@@ -1,6 +1,6 @@
 use Rattle.std.proofs.Common.{Bool, List, map, ◌∙◌, ap, subst}
-use Rattle.lid_settle.specs.Rows.{bit_at}
-use Rattle.lid_settle.proofs.Settling.{agrees_all}
+use Rattle.lid_strict_engine.specs.Rows.{bit_at}
+use Rattle.lid_strict_engine.proofs.Settling.{agrees_all}
 use Rattle.lid_pearl.specs.Pearls.{View, Shows}
 use Rattle.lid_pearl.specs.Inside.{early_nets}
 use Rattle.lid_pearl.proofs.Stepping.{shows_of}

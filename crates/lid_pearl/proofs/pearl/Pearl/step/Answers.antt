@@ -1,7 +1,7 @@
 use Rattle.std.proofs.Common.{◌++◌, Bool, List, length, take, drop, sym, ◌∙◌, ap, subst}
 use Rattle.lid_pearl.specs.Pearls.{View, Steps}
-use Rattle.lid_pearl.proofs.Planning.{refilled}
 use Rattle.lid_pearl.proofs.Stepping.{view_of, steps_of}
+use Rattle.lid_base.proofs.Lists.{refilled}
 use Rattle.lid_pearl.proofs.pearl.Pearl.step.Goals as goal
 
 pub returns : goal.returns

@@ -1,8 +1,8 @@
 -- Where nothing is put the tokens are made at the end of a firing, and else before.
 use Rattle.std.proofs.Common.{◌≡◌, length, sym, ◌∙◌, ap, arith}
 use Rattle.std.proofs.lemmas.Bool.{eqb-true, eqb-false}
-use Rattle.lid_machine.specs.Plans.{outs_of}
-use Rattle.lid_machine.specs.Setups.{plan}
+use Rattle.lid_walk_machine.specs.Plans.{outs_of}
+use Rattle.lid_walk_machine.specs.Setups.{plan}
 use Rattle.lid_shell.proofs.Made.{before_first, closed_late}
 use Rattle.lid_shell.proofs.actor.Actor.close.Goals as goal
 

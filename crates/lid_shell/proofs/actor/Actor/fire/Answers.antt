@@ -1,8 +1,8 @@
 -- An actor without stations is at the end of a firing.
 use Rattle.std.proofs.Common.{◌≡◌, Bool, true, length, ◌∙◌, subst, arith, eq-eqb}
-use Rattle.lid_machine.specs.Plans.{ins_of, outs_of}
-use Rattle.lid_machine.specs.Setups.{plan}
-use Rattle.lid_machine.specs.Machine.{ends_at}
+use Rattle.lid_walk_machine.specs.Plans.{ins_of, outs_of}
+use Rattle.lid_walk_machine.specs.Setups.{plan}
+use Rattle.lid_walk_machine.specs.Machine.{ends_at}
 use Rattle.lid_shell.specs.Actors.{IsActor}
 use Rattle.lid_shell.specs.Inside.{closed}
 use Rattle.lid_shell.proofs.actor.Actor.fire.Goals as goal

@@ -1,7 +1,7 @@
 -- A shell drains and fills the stations of its channels.
 use Rattle.std.proofs.Common.{◌+◌, ◌<◌, length, sym, subst}
 use Rattle.lid_system.specs.declared.System.{System}
-use Rattle.lid_nodes.specs.Wiring.{IsShellOf}
+use Rattle.lid_shell_nodes.specs.Wiring.{IsShellOf}
 use Rattle.lid_shell.proofs.Begun.{new_shell}
 use Rattle.lid_shell.proofs.actor.Actor.shell.Goals as goal
 

@@ -1,7 +1,7 @@
 -- The sink drains the stations of its channels, and fills none.
 use Rattle.std.proofs.Common.{◌-◌, length, sym, subst}
 use Rattle.lid_system.specs.declared.System.{System}
-use Rattle.lid_nodes.specs.Wiring.{IsSinkOf}
+use Rattle.lid_shell_nodes.specs.Wiring.{IsSinkOf}
 use Rattle.lid_shell.specs.Starts.{IsNewGiven}
 use Rattle.lid_shell.proofs.Begun.{new_sink, new_rows}
 use Rattle.lid_shell.proofs.actor.Actor.sink.Goals as goal

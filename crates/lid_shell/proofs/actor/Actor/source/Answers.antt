@@ -1,7 +1,7 @@
 -- The source fills the stations of its channels, and drains none.
 use Rattle.std.proofs.Common.{ℕ, ◌-◌, refl, length, sym, ◌∙◌, ap, subst}
 use Rattle.lid_system.specs.declared.System.{System}
-use Rattle.lid_nodes.specs.Wiring.{IsSourceOf}
+use Rattle.lid_shell_nodes.specs.Wiring.{IsSourceOf}
 use Rattle.lid_shell.proofs.Begun.{new_source}
 use Rattle.lid_shell.proofs.actor.Actor.source.Goals as goal
 

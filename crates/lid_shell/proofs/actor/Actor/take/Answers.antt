@@ -1,8 +1,8 @@
 -- A take is made as the machine makes it.
 use Rattle.std.proofs.Common.{ℕ, Bool, get_or, sym, ◌∙◌, ap}
 use Rattle.lid_base.specs.declared.runs.Answer.TheVariants as answer
-use Rattle.lid_machine.specs.Setups.{plan}
-use Rattle.lid_machine.specs.Machine.{in_at}
+use Rattle.lid_walk_machine.specs.Setups.{plan}
+use Rattle.lid_walk_machine.specs.Machine.{in_at}
 use Rattle.lid_shell.specs.Inside.{further}
 use Rattle.lid_shell.proofs.Told.{at_in}
 use Rattle.lid_shell.proofs.Desks.{own_in}

@@ -1,5 +1,5 @@
 use Rattle.std.proofs.Common.{◌≡◌, ◌-◌, length}
-use Rattle.lid_machine.specs.Machine.{ends_at}
+use Rattle.lid_walk_machine.specs.Machine.{ends_at}
 use Rattle.lid_shell.proofs.Along.{IsAlong}
 use Rattle.lid_shell.proofs.actor.Actor.turn.Given as goal
 

@@ -1,8 +1,8 @@
 -- A look at a station that is drained.
 use Rattle.std.proofs.Common.{ℕ, slice_index_or, sym, ◌∙◌, ap, arith}
 use Rattle.lid_base.specs.declared.runs.Answer.TheVariants as answer
-use Rattle.lid_machine.specs.Machine.{in_at}
-use Rattle.lid_machine.specs.Setups.{plan}
+use Rattle.lid_walk_machine.specs.Machine.{in_at}
+use Rattle.lid_walk_machine.specs.Setups.{plan}
 use Rattle.lid_shell.proofs.Changed.{moves_marked, moves_missed}
 use Rattle.lid_shell.proofs.Agreed.{agrees_token, agrees_void}
 use Rattle.lid_shell.proofs.Told.{at_in, token_in, word_in, finds_token, finds_no_token}

@@ -1,8 +1,8 @@
 -- A look at a station that is filled.
 use Rattle.std.proofs.Common.{ℕ, slice_index_or, sym, ◌∙◌, ap, arith}
 use Rattle.lid_base.specs.declared.runs.Answer.TheVariants as answer
-use Rattle.lid_machine.specs.Machine.{out_at}
-use Rattle.lid_machine.specs.Setups.{plan}
+use Rattle.lid_walk_machine.specs.Machine.{out_at}
+use Rattle.lid_walk_machine.specs.Setups.{plan}
 use Rattle.lid_shell.proofs.Changed.{moves_marked, moves_missed}
 use Rattle.lid_shell.proofs.Agreed.{agrees_room, agrees_stop}
 use Rattle.lid_shell.proofs.Told.{at_out, word_out, finds_room, finds_no_room}

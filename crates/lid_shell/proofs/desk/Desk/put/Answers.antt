@@ -1,7 +1,7 @@
 -- A put.
 use Rattle.std.proofs.Common.{ℕ, ◌+◌, ◌<◌, ◌^◌, slice_index_or, sym, ◌∙◌, ap, subst, arith}
-use Rattle.lid_machine.specs.Plans.{stream, start_of}
-use Rattle.lid_machine.specs.Setups.{plan}
+use Rattle.lid_walk_machine.specs.Plans.{stream, start_of}
+use Rattle.lid_walk_machine.specs.Setups.{plan}
 use Rattle.lid_shell.proofs.Changed.{moves_advanced}
 use Rattle.lid_shell.proofs.Agreed.{agrees_put}
 use Rattle.lid_shell.proofs.Streams.{token_small}

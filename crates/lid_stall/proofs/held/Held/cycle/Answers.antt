@@ -1,7 +1,7 @@
 -- A cycle in which the source and the sink are held as the stall that is due says.
 use Rattle.std.proofs.Common.{◌≡◌, ℕ, ◌+◌, ◌*◌, ◌<◌, ◌≤◌, ◌^◌, ◌||◌, cond, List, length, slice_get, sym, ◌∙◌, ap, subst, true≢false, arith}
 use Rattle.lid_clock.specs.Lives.{Holds}
-use Rattle.lid_stalltext.specs.declared.stalls.Stall.{Stall}
+use Rattle.lid_stall_text.specs.declared.stalls.Stall.{Stall}
 use Rattle.lid_stall.specs.Places.{due_of, place_after}
 use Rattle.lid_stall.proofs.Delays.{is_over, few_cycles}
 use Rattle.lid_stall.proofs.Steps.{holds_due, cycled}

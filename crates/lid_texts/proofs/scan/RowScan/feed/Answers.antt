@@ -1,10 +1,10 @@
 use Rattle.std.proofs.Common.{◌++◌, ◌∷◌, [], refl, sym, ◌∙◌, subst, arith, length-append}
 use Rattle.lid_base.proofs.Results.{on_ok}
 use Rattle.lid_texts.specs.Scans.{logical_of}
-use Rattle.lid_texts.specs.RowsWalk.{RowsGrow, Goes, IsWalked}
+use Rattle.lid_texts.specs.RowsWalk.{RowsGrow, WalkGoes, IsWalked}
 use Rattle.lid_texts.specs.Scanned.{GivesPrefix}
-use Rattle.lid_texts.proofs.Judging.{none_is}
 use Rattle.lid_texts.proofs.Scanning.{take_starts, goes_of, few_lines, next_line, read_here, read_stopped, gives_here, gives_stopped, gives_prefix, kept_ok, cut_some, cut_none, total_of, on_err_of, along, Taking}
+use Rattle.lid_base.proofs.Options.{none_of}
 use Rattle.lid_texts.proofs.scan.RowScan.feed.Goals as goal
 
 pub returns-then-self-clause-prefix : goal.returns-then-self-clause-prefix
@@ -33,7 +33,7 @@ returns-in_default-after-clause-read c = λ bytes read.
     let l = c.loop-left in
     on_ok c.extend_from_slice-kept.result
     (λ kept. read_here s.columns s.outs bytes c.args.piece.now l.left.now l.self.walk l.self.partial.items c.args.into.now.items l.into.items (l.invariant.taking bytes read) _ l.invariant.columns l.invariant.outs
-    (total_of s bytes c.args.piece.now l.self.total read l.invariant.total) (none_is l.self.walk.fault c.loop-left-test.ensures) refl c.cut_line.result.0.now
+    (total_of s bytes c.args.piece.now l.self.total read l.invariant.total) (none_of l.self.walk.fault c.loop-left-test.ensures) refl c.cut_line.result.0.now
     (cut_none l.left.now c.cut_line.result.0.now c.cut_line.result.1 c.cut_line.ensures.line c.in_default-after.is) kept)
     (kept_ok c.extend_from_slice-kept.result l.self.partial.items c.cut_line.result.0.now c.extend_from_slice-kept.new.self.items c.extend_from_slice-kept.ensures.items)
 
@@ -43,7 +43,7 @@ returns-in_default-after-clause-rows c = λ bytes read.
     let l = c.loop-left in
     on_ok c.extend_from_slice-kept.result
     (λ kept. gives_here s.columns s.outs bytes c.args.piece.now l.left.now l.self.walk l.self.partial.items c.args.into.now.items l.into.items (l.invariant.taking bytes read)
-    (none_is l.self.walk.fault c.loop-left-test.ensures) c.cut_line.result.0.now
+    (none_of l.self.walk.fault c.loop-left-test.ensures) c.cut_line.result.0.now
     (cut_none l.left.now c.cut_line.result.0.now c.cut_line.result.1 c.cut_line.ensures.line c.in_default-after.is))
     (kept_ok c.extend_from_slice-kept.result l.self.partial.items c.cut_line.result.0.now c.extend_from_slice-kept.new.self.items c.extend_from_slice-kept.ensures.items)
 
@@ -79,11 +79,11 @@ loop-left-preserved c =
     record {
       taking = λ bytes read.
           let taking = l.invariant.taking bytes read in
-          let none = none_is l.self.walk.fault c.loop-left-test.ensures in
+          let none = none_of l.self.walk.fault c.loop-left-test.ensures in
           let cut = cut_some l.left.now c.cut_line.result.0.now c.cut_line.result.1 c.in-Some-after.rest c.cut_line.ensures.line c.in-Some-after.is in
           let few = few_lines s.columns s.outs bytes c.args.piece.now l.left.now l.self.walk l.self.partial.items c.args.into.now.items l.into.items taking none c.cut_line.result.0.now c.in-Some-after.rest.now cut
           (let own = read.total in let most = l.invariant.few in simp length-append (omega arith)) in
-          let goes = along (λ columns outs. Goes columns outs taking.lines l.self.walk) s.columns l.self.columns s.outs l.self.outs (sym l.invariant.columns) (sym l.invariant.outs) (goes_of s.columns s.outs bytes c.args.piece.now l.left.now l.self.walk l.self.partial.items c.args.into.now.items l.into.items taking none) in
+          let goes = along (λ columns outs. WalkGoes columns outs taking.lines l.self.walk) s.columns l.self.columns s.outs l.self.outs (sym l.invariant.columns) (sym l.invariant.outs) (goes_of s.columns s.outs bytes c.args.piece.now l.left.now l.self.walk l.self.partial.items c.args.into.now.items l.into.items taking none) in
           let walked = along (λ columns outs. IsWalked columns outs (taking.lines ++ (l.self.partial.items ++ c.cut_line.result.0.now) ∷ []) c.end_line.new.self.walk) l.self.columns s.columns l.self.outs s.outs l.invariant.columns l.invariant.outs (c.in_ok-end_line.ensures.walked taking.lines few goes) in
           let grow = along (λ columns outs. RowsGrow columns outs (logical_of taking.lines) (logical_of (taking.lines ++ (l.self.partial.items ++ c.cut_line.result.0.now) ∷ [])) l.into.items c.end_line.new.into.items) l.self.columns s.columns l.self.outs s.outs l.invariant.columns l.invariant.outs (c.in_ok-end_line.ensures.rows taking.lines few goes) in
           subst (λ partial. Taking s.columns s.outs bytes c.args.piece.now c.in-Some-after.rest.now c.end_line.new.self.walk partial c.args.into.now.items c.end_line.new.into.items) (sym c.in_ok-end_line.ensures.partial)

@@ -1,6 +1,6 @@
 -- The board and the actors are those of a setup in which no actor has begun.
-use Rattle.lid_machine.specs.Machine.{begun}
-use Rattle.lid_actors.proofs.Starting.{setup_of}
+use Rattle.lid_walk_machine.specs.Machine.{begun}
+use Rattle.lid_walk.proofs.Opening.{setup_of}
 use Rattle.lid_walk.proofs.walk.Walk.start.Goals as goal
 
 pub adopt-requires : goal.adopt-requires

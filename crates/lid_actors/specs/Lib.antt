@@ -1,4 +1,0 @@
-pub mod Setups
-pub mod Firsts
-pub mod Actors
-pub mod Inside

@@ -1,0 +1,7 @@
+pub mod Came
+pub mod Cutting
+pub mod Going
+pub mod Fetches
+pub mod Passing
+pub mod FaultLines
+pub mod StepTexts

@@ -1,0 +1,4 @@
+pub mod Laws
+pub mod Limited
+pub mod Spelled
+pub mod Texts

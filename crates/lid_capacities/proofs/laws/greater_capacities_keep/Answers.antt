@@ -1,5 +1,0 @@
-use Rattle.lid_capacities.proofs.Forward.{greater_keep}
-use Rattle.lid_capacities.proofs.laws.greater_capacities_keep.Goals as goal
-
-pub returns : goal.returns
-returns c = greater_keep

@@ -1,5 +1,0 @@
-use Rattle.lid_capacities.proofs.Forward.{tokens_raise}
-use Rattle.lid_capacities.proofs.laws.tokens_raise_ratios.Goals as goal
-
-pub returns : goal.returns
-returns c = tokens_raise

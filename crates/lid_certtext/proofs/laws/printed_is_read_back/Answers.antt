@@ -1,5 +1,0 @@
-use Rattle.lid_certtext.proofs.ReadBack.{printed_is_read_back as law}
-use Rattle.lid_certtext.proofs.laws.printed_is_read_back.Goals as goal
-
-pub returns : goal.returns
-returns c = law

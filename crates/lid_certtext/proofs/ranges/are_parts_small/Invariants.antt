@@ -1,7 +1,0 @@
-use Rattle.std.proofs.Common.{take}
-use Rattle.std.specs.List.{All}
-use Rattle.lid_certtext.specs.Printed.{IsPartSmall}
-use Rattle.lid_certtext.proofs.ranges.are_parts_small.Given as goal
-
-abbrev pub invariant-loop-part : goal.invariant-loop-part
-invariant-loop-part l = All IsPartSmall (take l.part-index l.parts)

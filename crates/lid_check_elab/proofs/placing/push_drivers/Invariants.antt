@@ -1,0 +1,10 @@
+use Rattle.std.proofs.Common.{◌≡◌, ◌++◌, drop, map}
+use Rattle.lid_check_elab.specs.Elaborations.{shown_driver}
+use Rattle.lid_check_elab.specs.Templates.{seen_around}
+use Rattle.lid_check_elab.specs.Scopes.{picked}
+use Rattle.lid_check_elab.proofs.placing.push_drivers.Given as goal
+
+abbrev pub invariant-loop-pick : goal.invariant-loop-pick
+invariant-loop-pick l =
+    map (shown_driver l.judged) l.drivers.items ++ map (picked l.judged l.start l.offsets (seen_around l.around) l.locals) (drop l.pick-index l.picks)
+    ≡ map (shown_driver l.judged) l.fn.drivers.items ++ map (picked l.judged l.start l.offsets (seen_around l.around) l.locals) l.picks

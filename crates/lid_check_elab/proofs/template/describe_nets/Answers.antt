@@ -1,0 +1,15 @@
+use Rattle.std.proofs.Common.{◌∙◌, ap}
+use Rattle.lid_design.specs.Models.{firsts}
+use Rattle.lid_check_names.specs.Names.{texts}
+use Rattle.lid_check_elab.specs.Parts.{picks_among}
+use Rattle.lid_check_elab.proofs.Binding.{nets_picked}
+use Rattle.lid_check_elab.proofs.Driving.{model_here}
+use Rattle.lid_check_elab.proofs.template.describe_nets.Goals as goal
+
+pub returns : goal.returns
+returns c =
+    let d = c.args.judged.now in
+    let k = c.args.model in
+    let m = model_here d c.design.ensures.judged k c.requires.reached in
+    nets_picked d c.design.ensures.judged k c.requires.reached m.0 m.1 c.from_vec.result c.in_ok-picks.picks c.in_ok-driven.driven c.in_ok-driven.ensures c.from_vec.ensures
+    (c.in_ok-picks.ensures ∙ ap (λ ns. picks_among d k (firsts (texts ns))) c.as_slice.ensures.value)

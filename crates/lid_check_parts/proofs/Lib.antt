@@ -1,0 +1,11 @@
+pub mod Inside
+pub mod Reading
+pub mod Beginning
+pub mod Assembling
+pub mod Finding
+pub mod Columns
+pub mod Lists
+pub mod Earlier
+pub mod Nets
+pub mod Rules
+pub mod Looping

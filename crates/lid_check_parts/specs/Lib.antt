@@ -1,0 +1,4 @@
+pub mod PearlParts
+pub mod Inner
+pub mod Parts
+pub mod Standing

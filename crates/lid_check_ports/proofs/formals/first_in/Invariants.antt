@@ -1,0 +1,6 @@
+use Rattle.std.proofs.Common.{◌≡◌, find, drop}
+use Rattle.lid_check_names.specs.Names.{texts, is_among}
+use Rattle.lid_check_ports.proofs.formals.first_in.Given as goal
+
+abbrev pub invariant-loop-name : goal.invariant-loop-name
+invariant-loop-name l = find (λ name. is_among name l.set) (texts (drop l.name-index l.names)) ≡ find (λ name. is_among name l.set) (texts l.names)

@@ -1,0 +1,15 @@
+use Rattle.std.proofs.Common.{arith}
+use Rattle.std.proofs.lemmas.Grind.{common_steps}
+use Rattle.lid_check_rules.proofs.Telling.{rule_by_name}
+use Rattle.lid_check_rules.proofs.names.tell_first.Goals as goal
+
+pub returns-then-is_faulty : goal.returns-then-is_faulty
+returns-then-is_faulty c =
+    let left = c.loop-name.invariant in
+    let faulty = c.is_faulty.ensures in
+    let true_here = c.if-is_faulty.true in
+    let told = c.tell_name.ensures in
+    let model = c.as_slice.ensures in
+    let names = c.requires.names in
+    let rule = rule_by_name c.args.rule c.args.ports.now c.args.nets.now.model.now in
+    grind (arith, common_steps)

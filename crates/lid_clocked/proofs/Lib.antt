@@ -1,3 +1,0 @@
-pub mod FreeLives
-pub mod Kept
-pub mod Steps

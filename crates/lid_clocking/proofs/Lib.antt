@@ -1,4 +1,0 @@
-pub mod Fetched
-pub mod Lifetimes
-pub mod Rest
-pub mod Runs

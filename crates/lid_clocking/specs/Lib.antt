@@ -1,2 +1,0 @@
-pub mod Clocking
-pub mod Stops

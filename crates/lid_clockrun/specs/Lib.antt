@@ -1,5 +1,0 @@
-pub mod Courses
-pub mod RunTexts
-pub mod Runnings
-pub mod Pushing
-pub mod Stepping

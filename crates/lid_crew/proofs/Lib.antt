@@ -1,4 +1,0 @@
-pub mod Choosing
-pub mod Lists
-pub mod Picking
-pub mod Joining

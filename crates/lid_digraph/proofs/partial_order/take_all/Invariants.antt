@@ -1,5 +1,0 @@
-use Rattle.lid_digraph.specs.PartialOrders.{IsPartialOrder}
-use Rattle.lid_digraph.proofs.partial_order.take_all.Given as goal
-
-abbrev pub invariant-loop-k : goal.invariant-loop-k
-invariant-loop-k l = IsPartialOrder l.graph.reads.now l.order.items l.left

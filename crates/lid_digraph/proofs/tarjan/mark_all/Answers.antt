@@ -1,5 +1,0 @@
-use Rattle.lid_digraph.proofs.Uphill.{uphill_holds}
-use Rattle.lid_digraph.proofs.tarjan.mark_all.Goals as goal
-
-pub returns : goal.returns
-returns c = λ yes. uphill_holds c.args.graph.now.reads.now c.mark_back.new.marks c.args.ranks.now (c.is_uphill.ensures yes)

@@ -1,7 +1,0 @@
-use Rattle.std.proofs.Common.{drop, map}
-use Rattle.lid_wiring.specs.Locals.{local_of}
-use Rattle.lid_elab.proofs.Driving.{Left}
-use Rattle.lid_elab.proofs.driven.push_cells.Given as goal
-
-abbrev pub invariant-loop-i : goal.invariant-loop-i
-invariant-loop-i l = Left l.judged l.model l.into (map local_of (drop l.i l.cells)) l.fn.into (map local_of l.cells)

@@ -1,8 +1,0 @@
-//! What an emitted design is, and why there is none.
-#![tactic(auto)]
-
-mod fault;
-mod ports;
-
-pub use fault::EmitFault;
-pub use ports::{BLOCK_NAME, OFFER_NAME, STOP_NAME, VALID_NAME};

@@ -1,0 +1,16 @@
+pub mod Forms
+pub mod Ranks
+pub mod Nets
+pub mod Cells
+pub mod Others
+pub mod Listed
+pub mod Values
+pub mod Counts
+pub mod Edges
+pub mod Holding
+pub mod Firing
+pub mod Levels
+pub mod Agreeing
+pub mod Pearls
+pub mod Tokens
+pub mod Outside

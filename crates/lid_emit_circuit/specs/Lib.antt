@@ -1,0 +1,12 @@
+pub mod Known
+pub mod Heights
+pub mod Connected
+pub mod Lists
+pub mod Wiring
+pub mod Wires
+pub mod Gates
+pub mod Plans
+pub mod Network
+pub mod Runs
+pub mod Carried
+pub mod Laws

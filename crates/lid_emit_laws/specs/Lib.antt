@@ -1,0 +1,5 @@
+pub mod Passing
+pub mod Shortness
+pub mod Bounds
+pub mod Flats
+pub mod Laws

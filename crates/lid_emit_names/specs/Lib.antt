@@ -1,0 +1,4 @@
+pub mod Spelling
+pub mod Wires
+pub mod Named
+pub mod Laws

@@ -1,4 +1,0 @@
-pub mod Counting
-pub mod Adding
-pub mod Stationed
-pub mod Pearled

@@ -1,6 +1,0 @@
-use Rattle.std.proofs.Common.{◌≡◌, find, drop}
-use Rattle.lid_emitsize.specs.Taken.{is_taken}
-use Rattle.lid_emitsize.proofs.taken.first_of.Given as goal
-
-abbrev pub invariant-loop-name : goal.invariant-loop-name
-invariant-loop-name l = find (is_taken l.outputs) (drop l.name-index l.inputs) ≡ find (is_taken l.outputs) l.inputs

@@ -1,0 +1,14 @@
+pub mod Sums
+pub mod Coming
+pub mod Misses
+pub mod Making
+pub mod Rounding
+pub mod Running
+pub mod Sweeping
+pub mod Ordering
+pub mod Circling
+pub mod Worked
+pub mod Choosing
+pub mod Lists
+pub mod Picking
+pub mod Joining

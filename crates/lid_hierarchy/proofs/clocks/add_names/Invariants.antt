@@ -1,7 +1,0 @@
-use Rattle.std.proofs.Common.{take}
-use Rattle.lid_design.specs.Columns.{is_among}
-use Rattle.lid_hierarchy.specs.Clocks.{GrowsBy}
-use Rattle.lid_hierarchy.proofs.clocks.add_names.Given as goal
-
-abbrev pub invariant-loop-name : goal.invariant-loop-name
-invariant-loop-name l = GrowsBy (λ net. is_among net (take l.name-index l.names)) l.fn.set l.set

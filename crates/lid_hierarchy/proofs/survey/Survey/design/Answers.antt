@@ -1,6 +1,0 @@
-use Rattle.std.proofs.Common.{subst}
-use Rattle.lid_design.specs.Models.{HasNoRecursion}
-use Rattle.lid_hierarchy.proofs.survey.Survey.design.Goals as goal
-
-pub returns-clause-flat : goal.returns-clause-flat
-returns-clause-flat c = subst HasNoRecursion c.self.view_is c.self.invariant.flat

@@ -1,6 +1,0 @@
-use Rattle.std.proofs.Common.{◌≡◌, ◌++◌, drop, map}
-use Rattle.lid_hierarchy.specs.Graphs.{some_of}
-use Rattle.lid_hierarchy.proofs.uses.graph_of.Given as goal
-
-abbrev pub invariant-loop-row : goal.invariant-loop-row
-invariant-loop-row l = l.graph.items ++ map some_of (drop l.row-index l.numbers) ≡ map some_of l.numbers

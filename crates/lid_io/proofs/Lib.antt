@@ -1,4 +1,0 @@
-pub mod Fetches
-pub mod Passing
-pub mod FaultLines
-pub mod StepTexts

@@ -1,3 +1,0 @@
-pub mod Limiting
-pub mod Passing
-pub mod Judging

@@ -1,5 +1,0 @@
-pub mod Numbers
-pub mod Pieces
-pub mod ReadBack
-pub mod ReadWords
-pub mod Spelled

@@ -1,5 +1,0 @@
-use Rattle.lid_longer.proofs.Kept.{fewer_keep}
-use Rattle.lid_longer.proofs.laws.fewer_keep.Goals as goal
-
-pub returns : goal.returns
-returns c = fewer_keep

@@ -1,5 +1,0 @@
-use Rattle.lid_longer.proofs.Kept.{longer_fits}
-use Rattle.lid_longer.proofs.laws.further_stations_fit.Goals as goal
-
-pub returns : goal.returns
-returns c = longer_fits

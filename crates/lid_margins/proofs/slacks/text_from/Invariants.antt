@@ -1,6 +1,0 @@
-use Rattle.lid_stations.specs.Placements.{links_of}
-use Rattle.lid_margins.specs.Slacks.{AreSlackLines}
-use Rattle.lid_margins.proofs.slacks.text_from.Given as goal
-
-abbrev pub invariant-loop-channel : goal.invariant-loop-channel
-invariant-loop-channel l = AreSlackLines (links_of l.system) l.placement l.channel l.text.items

@@ -1,4 +1,0 @@
-pub mod Written
-pub mod Cells
-pub mod Plain
-pub mod Tables

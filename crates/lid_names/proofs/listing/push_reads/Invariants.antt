@@ -1,7 +1,0 @@
-use Rattle.std.proofs.Common.{◌≡◌, ◌++◌, flat_map, drop}
-use Rattle.lid_names.specs.Names.{texts}
-use Rattle.lid_design.specs.Models.{cell_reads}
-use Rattle.lid_names.proofs.listing.push_reads.Given as goal
-
-abbrev pub invariant-loop-cell : goal.invariant-loop-cell
-invariant-loop-cell l = texts l.list.items ++ flat_map cell_reads (drop l.cell-index l.cells) ≡ texts l.fn.list.items ++ flat_map cell_reads l.cells

@@ -1,6 +1,0 @@
-use Rattle.std.proofs.Common.{◌≡◌, ◌++◌, map, drop}
-use Rattle.lid_nodes.specs.Nodes.{channels_from}
-use Rattle.lid_nodes.proofs.wires.ports_of.Given as goal
-
-abbrev pub invariant-loop-channel : goal.invariant-loop-channel
-invariant-loop-channel l = l.ports.items ++ map (λ c. c.ports) (channels_from (drop l.channel-index l.channels) l.node) ≡ map (λ c. c.ports) (channels_from l.channels l.node)

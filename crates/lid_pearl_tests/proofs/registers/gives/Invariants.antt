@@ -1,5 +1,0 @@
-use Rattle.std.proofs.Common.{◌≡◌, length}
-use Rattle.lid_pearl_tests.proofs.registers.gives.Given as goal
-
-abbrev pub invariant-loop-i : goal.invariant-loop-i
-invariant-loop-i l = (length l.pearl.flat.ins ≡ l.ins) × (length l.pearl.flat.outs ≡ 1)

@@ -1,5 +1,0 @@
-//! Tests of pearls, over their public calls.
-#![tactic(auto)]
-
-#[cfg(test)]
-mod registers;

@@ -1,7 +1,0 @@
-use Rattle.std.proofs.Common.{◌≡◌, not, map, find, drop}
-use Rattle.lid_rules.specs.Conditions.{same_edge}
-use Rattle.lid_rules.specs.Edges.{seen}
-use Rattle.lid_rules.proofs.edges.find_other.Given as goal
-
-abbrev pub invariant-loop-latch : goal.invariant-loop-latch
-invariant-loop-latch l = find (λ t. not (same_edge l.rises t.rises)) (map seen (drop l.latch-index l.latches)) ≡ find (λ t. not (same_edge l.rises t.rises)) (map seen l.latches)

@@ -1,8 +1,0 @@
-pub mod Caps
-pub mod Turns
-pub mod Ending
-pub mod Passing
-pub mod Channels
-pub mod Filters
-pub mod Ends
-pub mod Elements

@@ -1,5 +1,0 @@
-use Rattle.lid_runs.proofs.Passing.{movers_move_on}
-use Rattle.lid_runs.proofs.laws.movers_move_tokens_on.Goals as goal
-
-pub returns : goal.returns
-returns c = movers_move_on

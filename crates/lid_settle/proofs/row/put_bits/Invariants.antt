@@ -1,8 +1,0 @@
-use Rattle.std.proofs.Common.{◌≡◌, ◌++◌, ℕ, Bool, List, length, map, take}
-use Rattle.lid_settle.specs.Rows.{AgreesAt}
-use Rattle.lid_settle.proofs.row.put_bits.Given as goal
-
-abbrev pub invariant-loop-i : goal.invariant-loop-i
-invariant-loop-i l =
-    (length l.bits ≡ length l.fn.bits)
-    × ((f : ℕ → Bool) (known : List ℕ) → map f l.nets ≡ l.values → AgreesAt f known l.fn.bits → AgreesAt f (take l.i l.nets ++ known) l.bits)

@@ -1,6 +1,0 @@
-use Rattle.std.proofs.Common.{◌≡◌, length, map, take}
-use Rattle.lid_settle.specs.Rows.{bit_at}
-use Rattle.lid_settle.proofs.row.take_bits.Given as goal
-
-abbrev pub invariant-loop-i : goal.invariant-loop-i
-invariant-loop-i l = (length l.into ≡ length l.nets) × (take l.i l.into ≡ map (bit_at l.bits) (take l.i l.nets))

@@ -1,8 +1,0 @@
-use Rattle.lid_settle.proofs.Tabling.{HasFrom}
-use Rattle.lid_settle.proofs.truth.table_of.Given as goal
-
-abbrev pub invariant-loop-left : goal.invariant-loop-left
-invariant-loop-left l = HasFrom l.cover l.table l.left
-
-abbrev pub decreases-loop-left : goal.decreases-loop-left
-decreases-loop-left l = l.left

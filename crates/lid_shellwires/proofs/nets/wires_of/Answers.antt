@@ -1,6 +1,0 @@
-use Rattle.std.proofs.Common.{length, ◌∙◌, ap}
-use Rattle.lid_shellwires.proofs.Standing.{length_here}
-use Rattle.lid_shellwires.proofs.nets.wires_of.Goals as goal
-
-pub wires_after-requires-clause-here : goal.wires_after-requires-clause-here
-wires_after-requires-clause-here c = ap length (c.as_slice.ensures.value ∙ c.in_ok-here.ensures) ∙ length_here c.args.v c.args.flat.now c.requires.rules c.args.reads.now c.requires.long

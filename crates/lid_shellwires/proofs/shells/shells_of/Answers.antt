@@ -1,8 +1,0 @@
-use Rattle.std.proofs.Common.{length, ◌∙◌, ap}
-use Rattle.lid_shellwires.specs.Reading.{lasts_from}
-use Rattle.lid_shellwires.proofs.Lasting.{length_lasts}
-use Rattle.lid_shellwires.proofs.shells.shells_of.Goals as goal
-
-pub all_shells-requires-clause-lasts : goal.all_shells-requires-clause-lasts
-all_shells-requires-clause-lasts c =
-    ap length (c.as_slice-2.ensures.value ∙ c.in_ok-lasts.ensures ∙ ap (lasts_from 0) c.as_slice.ensures) ∙ length_lasts 0 c.args.placement.now.relays ∙ c.requires.fits.counts

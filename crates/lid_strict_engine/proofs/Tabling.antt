@@ -1,0 +1,163 @@
+-- Truth tables are their bits packed into one number.
+use Rattle.std.proofs.Common.{◌≡◌, ℕ, zero, suc, ◌+◌, ◌-◌, ◌*◌, ◌/◌, ◌%◌, ◌^◌, ◌<◌, ◌≤◌, ◌==◌, Bool, true, false, if◌then◌else◌, List, [], ◌∷◌, length, get_or, map, take, drop, refl, sym, ◌∙◌, ap, subst, arith}
+use Rattle.std.proofs.Math.Nat.{pow-le-pow_right, pow-succ', zero-div, div-one}
+use Rattle.std.proofs.lemmas.Nat.{shr-shr, mod-pow-add}
+use Rattle.std.proofs.lemmas.Bool.{eqb-true, eq-eqb}
+use Rattle.std.proofs.lemmas.List.{length-map, length-drop}
+use Rattle.lid_cover.specs.declared.Cover.{Cover}
+use Rattle.lid_cover.specs.Cover.{cover_value, lowest_bit}
+use Rattle.lid_cover.specs.Masks.{packed}
+use Rattle.lid_base.specs.Each.{from_each}
+use Rattle.lid_strict_engine.specs.Rows.{bit_at}
+use Rattle.lid_strict_engine.specs.Truth.{is_set, unpacked, IsTruthTable}
+use Rattle.lid_base.proofs.Each.{each_length, each_at}
+
+abbrev one : Bool → ℕ
+one bit = if bit then 1 else 0
+
+half : (bit : Bool) (n : ℕ) → (one bit + 2 * n) / 2 ≡ n
+half true n = omega arith
+half false n = omega arith
+
+lowest : (bit : Bool) (n : ℕ) → lowest_bit (one bit + 2 * n) ≡ bit
+lowest true n = eq-eqb ((1 + 2 * n) % 2) 1 (omega arith)
+lowest false n = by ((0 + 2 * n) % 2 == 1) refl
+  where
+    by : (b : Bool) → ((0 + 2 * n) % 2 == 1) ≡ b → b ≡ false
+    by true e = absurd (let odd : (0 + 2 * n) % 2 ≡ 1 = eqb-true ((0 + 2 * n) % 2) 1 e in omega arith)
+    by false e = refl
+
+value_of_lowest : (i : ℕ) → one (lowest_bit i) ≡ i % 2
+value_of_lowest i = by (i % 2 == 1) refl
+  where
+    by : (b : Bool) → (i % 2 == 1) ≡ b → one b ≡ i % 2
+    by true e = let odd : i % 2 ≡ 1 = eqb-true (i % 2) 1 e in omega arith
+    by false e = even (i % 2) refl e
+      where
+        even : (m : ℕ) → i % 2 ≡ m → (m == 1) ≡ false → 0 ≡ m
+        even zero same e = refl
+        even (suc zero) same e = absurd (let f : true ≡ false = e in cc)
+        even (suc (suc m)) same e = absurd (omega arith)
+
+pub packed_bound : (bits : List Bool) → packed bits < 2 ^ length bits
+packed_bound [] = omega arith
+packed_bound (bit ∷ bits) =
+    let h = packed_bound bits in
+    let double : 2 ^ suc (length bits) ≡ 2 * 2 ^ length bits = pow-succ' 2 (length bits) in
+    by bit h double
+  where
+    by : (b : Bool) → packed bits < 2 ^ length bits → 2 ^ suc (length bits) ≡ 2 * 2 ^ length bits → one b + 2 * packed bits < 2 ^ suc (length bits)
+    by true h e = omega arith
+    by false h e = omega arith
+
+-- so many bits, or fewer
+pub packed_below : (bits : List Bool) (n : ℕ) → length bits ≤ n → packed bits < 2 ^ n
+packed_below bits n few =
+    let h = packed_bound bits in
+    let two : 0 < 2 = omega arith in
+    let le : 2 ^ length bits ≤ 2 ^ n = pow-le-pow_right two few in
+    omega arith
+
+-- the bits of the nets from a place on, where there is one before it
+pub later_below : (bits : List Bool) (nets : List ℕ) (left n : ℕ) → length nets ≤ suc n → 0 < left → packed (map (bit_at bits) (drop left nets)) < 2 ^ n
+later_below bits nets left n few some =
+    let long = length-map (drop left nets) (bit_at bits) ∙ length-drop left nets in
+    packed_below (map (bit_at bits) (drop left nets)) n (omega arith)
+
+pub packed_of_six : (bits : List Bool) → length bits ≡ 6 → packed bits < 64
+packed_of_six bits long = subst (λ (n : ℕ). packed bits < 2 ^ n) long (packed_bound bits)
+
+-- each bit of packed bits
+none_set : (i : ℕ) → is_set 0 i ≡ false
+none_set i = ap lowest_bit (zero-div (2 ^ i))
+
+pub packed_bit : (bits : List Bool) (i : ℕ) → is_set (packed bits) i ≡ get_or bits i false
+packed_bit [] i = none_set i
+packed_bit (bit ∷ bits) zero = ap lowest_bit (div-one (packed (bit ∷ bits))) ∙ lowest bit (packed bits)
+packed_bit (bit ∷ bits) (suc i) =
+    let later : suc i ≡ 1 + i = omega arith in
+    let parts : packed (bit ∷ bits) / 2 ^ 1 / 2 ^ i ≡ packed (bit ∷ bits) / 2 ^ (1 + i) = shr-shr (packed (bit ∷ bits)) 1 i in
+    ap (λ (n : ℕ). is_set (packed (bit ∷ bits)) n) later
+    ∙ ap lowest_bit (sym parts)
+    ∙ ap (λ (n : ℕ). is_set n i) (half bit (packed bits))
+    ∙ packed_bit bits i
+
+-- the lowest bits of a number, packed
+pub length_unpacked : (n i : ℕ) → length (unpacked n i) ≡ n
+length_unpacked zero i = refl
+length_unpacked (suc n) i = ap suc (length_unpacked n (i / 2))
+
+pub packed_unpacked : (n i : ℕ) → packed (unpacked n i) ≡ i % 2 ^ n
+packed_unpacked zero i = omega arith
+packed_unpacked (suc n) i =
+    let later : suc n ≡ n + 1 = omega arith in
+    let rest : packed (unpacked n (i / 2)) ≡ i / 2 % 2 ^ n = packed_unpacked n (i / 2) in
+    let first : one (lowest_bit i) ≡ i % 2 = value_of_lowest i in
+    let parts : i % 2 ^ (n + 1) ≡ (i / 2 ^ 1 % 2 ^ n) * 2 ^ 1 + i % 2 ^ 1 = mod-pow-add i n 1 in
+    let parts' : i % 2 ^ (n + 1) ≡ (i / 2 % 2 ^ n) * 2 + i % 2 = parts in
+    let sum : one (lowest_bit i) + 2 * packed (unpacked n (i / 2)) ≡ (i / 2 % 2 ^ n) * 2 + i % 2 = omega arith in
+    sum ∙ sym parts' ∙ ap (λ (m : ℕ). i % 2 ^ m) (sym later)
+
+pub unpacked_packed : (n : ℕ) (bits : List Bool) → n ≤ length bits → unpacked n (packed bits) ≡ take n bits
+unpacked_packed zero bits few = refl
+unpacked_packed (suc n) [] few = absurd (omega arith)
+unpacked_packed (suc n) (bit ∷ bits) few =
+    let head = lowest bit (packed bits) in
+    let tail : unpacked n ((one bit + 2 * packed bits) / 2) ≡ take n bits = ap (unpacked n) (half bit (packed bits)) ∙ unpacked_packed n bits (omega arith) in
+    ap (λ (b : Bool). b ∷ unpacked n ((one bit + 2 * packed bits) / 2)) head ∙ ap (λ (bs : List Bool). bit ∷ bs) tail
+
+-- the values of a cover at the lowest bits of numbers
+abbrev pub value_at : Cover → ℕ → Bool
+value_at cover i = cover_value cover (unpacked cover.inputs i)
+
+-- a table that has the values from some place on
+abbrev pub HasFrom : Cover → ℕ → ℕ → Type 0
+HasFrom cover table left = (left ≤ 64) × (table ≡ packed (from_each (value_at cover) left (64 - left)))
+
+pub has_none : (cover : Cover) → HasFrom cover 0 64
+has_none cover = (omega arith, refl)
+
+pub small_from : (cover : Cover) (table left : ℕ) → HasFrom cover table left → 0 < left → table < 9223372036854775808
+small_from cover table left has some =
+    let long = each_length (value_at cover) left (64 - left) in
+    let within : left ≤ 64 = has.0 in
+    subst (λ (n : ℕ). n < 9223372036854775808) (sym has.1) (packed_below (from_each (value_at cover) left (64 - left)) 63 (omega arith))
+
+-- one more value
+pub has_more : (cover : Cover) (table left value : ℕ) → HasFrom cover table left → 0 < left → value ≡ one (value_at cover (left - 1)) → HasFrom cover (table * 2 + value) (left - 1)
+has_more cover table left value has some is = (
+  (let within : left ≤ 64 = has.0 in omega arith),
+  (let within : left ≤ 64 = has.0 in
+      let v = value_at cover in
+      let place : left ≡ (left - 1) + 1 = omega arith in
+      let count : 64 - (left - 1) ≡ suc (64 - left) = omega arith in
+      let rest : packed (from_each v left (64 - left)) ≡ packed (from_each v ((left - 1) + 1) (64 - left)) = ap (λ (n : ℕ). packed (from_each v n (64 - left))) place in
+      let before : table ≡ packed (from_each v left (64 - left)) = has.1 in
+      let sum : table * 2 + value ≡ one (v (left - 1)) + 2 * packed (from_each v ((left - 1) + 1) (64 - left)) = omega arith in
+      sum ∙ ap (λ (n : ℕ). packed (from_each v (left - 1) n)) (sym count)),
+)
+
+pub has_all : (cover : Cover) (table left : ℕ) → HasFrom cover table left → left ≡ 0 → IsTruthTable table cover
+has_all cover table left has none i h =
+    let v = value_at cover in
+    let all : table ≡ packed (from_each v 0 64) = has.1 ∙ ap (λ (n : ℕ). packed (from_each v n (64 - n))) none in
+    ap (λ (n : ℕ). is_set n i) all
+    ∙ packed_bit (from_each v 0 64) i
+    ∙ each_at v 0 64 i false h
+    ∙ ap v (omega arith)
+
+-- the number of the places that a small cover tells apart
+pub size_is : (n : ℕ) → n ≤ 6 → (1 * 2 ^ n) % 18446744073709551616 ≡ 2 ^ n
+size_is zero h = refl
+size_is (suc zero) h = refl
+size_is (suc (suc zero)) h = refl
+size_is (suc (suc (suc zero))) h = refl
+size_is (suc (suc (suc (suc zero)))) h = refl
+size_is (suc (suc (suc (suc (suc zero))))) h = refl
+size_is (suc (suc (suc (suc (suc (suc zero)))))) h = refl
+size_is (suc (suc (suc (suc (suc (suc (suc n))))))) h = absurd (omega arith)
+
+-- what a table says of packed bits, of which there are at least as many as inputs
+pub table_says : (table : ℕ) (cover : Cover) → IsTruthTable table cover → (bits : List Bool) → length bits ≡ 6 → cover.inputs ≤ 6 → is_set table (packed bits) ≡ cover_value cover (take cover.inputs bits)
+table_says table cover is bits long few =
+    is (packed bits) (packed_of_six bits long) ∙ ap (cover_value cover) (unpacked_packed cover.inputs bits (omega arith))

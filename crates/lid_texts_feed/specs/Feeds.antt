@@ -1,0 +1,52 @@
+-- Rows texts that are fetched from a file: what a text may be, and its rows.
+use Rattle.std.specs.Prelude.{◌≡◌, ℕ, ◌+◌, ◌≤◌, Bool, List, length, take, Option, IfSome, Ok, Err, ⊤}
+use Rattle.std.specs.List.{AllByRecursion}
+use Rattle.lid_texts.specs.declared.rows.Rows.{Rows}
+use Rattle.lid_texts.specs.declared.rows.VecFault.{VecFault}
+use Rattle.lid_texts.specs.Rows.{rows_reading}
+use Rattle.lid_texts_feed.specs.declared.fault.FeedFault.{FeedFault}
+use Rattle.lid_texts_feed.specs.declared.fault.FeedFault.TheVariants.{Read, Refused}
+
+-- the greatest size of a rows text, in bytes
+abbrev pub most_bytes : ℕ
+most_bytes = 67108864
+
+-- what a fetch of a whole rows text may give: at most one byte more than a text may have, and where the
+-- file's bytes are told, these
+pub record IsText (held : Option (List ℕ)) (bytes : List ℕ) : Type 0 where
+  pub short : length bytes ≤ most_bytes + 1
+  pub told : IfSome held (λ file. bytes ≡ take (most_bytes + 1) file)
+
+-- these are all rows of a text of the file
+pub record AreAll (held : Option (List ℕ)) (columns : List (List ℕ)) (outs : ℕ) (rows : List (List Bool)) : Type 0 where
+  pub bytes : List ℕ
+  pub fetched : IsText held bytes
+  pub reads : rows_reading columns outs bytes ≡ Ok (record { columns = columns; bits = rows })
+
+-- a text of the file has so many rows
+pub record HasRows (held : Option (List ℕ)) (columns : List (List ℕ)) (outs n : ℕ) : Type 0 where
+  pub rows : List (List Bool)
+  pub all : AreAll held columns outs rows
+  pub wide : AllByRecursion (λ row. length row ≡ length columns) rows
+  pub count : n ≡ length rows
+  pub few : n ≤ 1000000
+
+-- a text of the file stands for no rows, but for this fault
+pub record IsRefusedText (held : Option (List ℕ)) (columns : List (List ℕ)) (outs : ℕ) (fault : VecFault) : Type 0 where
+  pub bytes : List ℕ
+  pub fetched : IsText held bytes
+  pub refuses : rows_reading columns outs bytes ≡ Err fault
+
+-- where the file's bytes are told and stand for rows, these are the first of them
+abbrev pub AreFirstRows : Option (List ℕ) → List (List ℕ) → ℕ → List (List Bool) → Type 0
+AreFirstRows held columns outs given = IfSome held (λ file. (rows : Rows) → rows_reading columns outs (take (most_bytes + 1) file) ≡ Ok rows → given ≡ take (length given) rows.bits)
+
+-- what holds where a fetch failed
+abbrev pub IfRead : Type 0 → FeedFault → Type 0
+IfRead Rises Read = Rises
+IfRead Rises _ = ⊤
+
+-- what holds of a fault of a text
+abbrev pub IfRefused : (VecFault → Type 0) → FeedFault → Type 0
+IfRefused Refuses (Refused fault) = Refuses fault
+IfRefused Refuses _ = ⊤

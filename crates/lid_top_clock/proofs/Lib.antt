@@ -1,0 +1,11 @@
+pub mod Pushes
+pub mod Outputs
+pub mod Stalling
+pub mod Ends
+pub mod Living
+pub mod Goings
+pub mod Tellings
+pub mod Fetched
+pub mod Lifetimes
+pub mod Rest
+pub mod Runs

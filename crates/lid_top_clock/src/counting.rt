@@ -1,0 +1,31 @@
+//! The first of two readings of rows, which judges and counts them and does not hold them.
+
+ghost use Rattle.std.specs.Prelude.{◌≡◌, ℕ, ◌≤◌, List, IfOk, IfErr};
+ghost use Rattle.lid_top_clock.specs.Clocking.{HasRows};
+ghost use Rattle.lid_top_script.specs.Causes.{Misses};
+ghost use Rattle.lid_top_script.specs.Scripts.{rows_limit, vec_reading};
+
+use crate::stops::feed_stop;
+use lid_base::Shelf;
+use lid_check::Checked;
+use lid_top_script::Stop;
+use std::alloc::Global;
+
+/// Fetches and judges rows for the inputs of an accepted design, and counts them.
+pub fn count_rows<'a, S: Shelf>(
+    alloc: Global,
+    shelf: &mut S,
+    checked: &Checked,
+    vec: &'a str,
+) -> Result<u64, Stop<'a>>
+    ensures ok { IfOk result (HasRows (S.held shelf.old) checked.now vec.now) }
+    ensures err { IfErr result (Misses (S.held shelf.old) vec.now rows_limit (vec_reading checked.now) (S.faults shelf.old) (S.faults shelf.new)) }
+    ensures kept { S.held shelf.new ≡ S.held shelf.old }
+    ensures grows { (q : List ℕ) → S.faults shelf.old q ≤ S.faults shelf.new q }
+{
+    let outs = checked.outputs().len() as u32;
+    match lid_texts_feed::count_rows(alloc, shelf, vec, checked.inputs(), outs) {
+        Ok(count) => Ok(count),
+        Err(fault) => Err(feed_stop(vec, fault)),
+    }
+}

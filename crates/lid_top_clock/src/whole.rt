@@ -1,0 +1,108 @@
+//! Running a system over the rows of a file, and telling it as it goes.
+
+ghost use Rattle.std.specs.Prelude.{◌≡◌, ℕ, ◌<◌, ◌≤◌, Bool, List, [], length, Option, OnOk, IfErr};
+ghost use Rattle.lid_base.specs.Outside.{Rose};
+ghost use Rattle.lid_system.specs.Systems.{IsWellFormed};
+ghost use Rattle.lid_stations.specs.Placements.{Fits};
+ghost use Rattle.lid_texts_feed.specs.Fetching.{HasGiven};
+ghost use Rattle.lid_top_clock.specs.Runnings.{ClockRun, run_by, source_columns, HasRun, HasStopped};
+ghost use Rattle.lid_top_clock.specs.Stepping.{IsFed, IsRunOf};
+ghost use Rattle.lid_stall_text.specs.Holds.{Ascend, listed};
+
+use crate::fault::RunFault;
+use crate::lines::Telling;
+use crate::steps::Running;
+use crate::task::Task;
+use crate::workers::Workers;
+use lid_base::{Gate, Items, Shelf, Sink};
+use lid_stall::Stall;
+use lid_texts_feed::RowFeed;
+use std::alloc::Global;
+use std::thread::Threads;
+
+/// Tells a run that has begun: the header, each output row after the cycle in which the sink fired for
+/// it, and the end.
+fn tell_run<S: Shelf, O: Sink, R: Threads + Sync, G: Gate>(
+    shelf: &mut S,
+    out: &mut O,
+    task: &Task<'_>,
+    feed: &mut RowFeed,
+    run: &mut Running,
+    telling: &mut Telling,
+    workers: &Workers<'_, R, G>,
+) -> Result<(), RunFault>
+    requires some { 0 < workers.now.many }
+    requires fed { (r : ClockRun) × (given : List (List Bool)) × IsRunOf r task.now.system.now task.now.columns.now × IsFed r (S.held shelf.old feed.old.name) run.old feed.old given }
+    requires none { run.old.made ≡ 0 }
+    requires line { telling.old.line.items ≡ [] }
+    requires held { telling.old.writer ≡ [] }
+    ensures ok { (r : ClockRun) (given : List (List Bool)) → IsRunOf r task.now.system.now task.now.columns.now → IsFed r (S.held shelf.old feed.old.name) run.old feed.old given
+        → OnOk result (HasRun r (O.written out.old) (O.written out.new)) }
+    ensures err { (r : ClockRun) (given : List (List Bool)) → IsRunOf r task.now.system.now task.now.columns.now → IsFed r (S.held shelf.old feed.old.name) run.old feed.old given
+        → IfErr result (HasStopped r (O.written out.old) (O.written out.new)
+        (Rose (S.faults shelf.old feed.old.name) (S.faults shelf.new feed.old.name)) (Rose (O.faults out.old) (O.faults out.new))) }
+    ensures kept { S.held shelf.new ≡ S.held shelf.old }
+    ensures grows { (q : List ℕ) → S.faults shelf.old q ≤ S.faults shelf.new q }
+    ensures rises { O.faults out.old ≤ O.faults out.new }
+{
+    if let Err(fault) = telling.tell_header(task.columns, out) {
+        return Err(fault);
+    }
+    while run.stream.below() {
+        if let Err(fault) = run.go(shelf, feed, workers) {
+            return Err(fault);
+        }
+        if let Err(fault) = telling.tell_last(run.stream.last(), task.columns, out) {
+            return Err(fault);
+        }
+    }
+    let Ok(()) = run.append_end(task.system.nodes.len() as u32, &mut telling.line) else {
+        return Err(RunFault::Memory);
+    };
+    telling.finish(out)
+}
+
+/// Runs a system with its stations over so many rows of a feed that has given none, and writes the text of
+/// the run to `out`: the output rows below their header line, how many cycles were made and how often each
+/// node fired, and a trace of at most so many cycles, where one is wanted. Where stalls are given, their
+/// cycles ascend, the source and the sink are held as they say, and it is told in how many cycles somebody
+/// was held; nobody is held where none are given, and then the workers make the cycles. A row is fetched only when it is needed, an output row is
+/// pushed after the cycle in which the sink fired for it, and a piece is written as soon as 65,536 bytes are
+/// held.
+///
+/// # Errors
+/// After a fault a first part of the text was written: of that of all rows that begin with those that the
+/// feed gave. `Feed` hands on the fault of the feed, where `Read` comes only where the count of its name
+/// rose in this call. `Few` tells how many rows the text has, where it ended without a fault after fewer
+/// rows. `Write` comes only where the count of `out` rose in this call. `Memory` may come at any text.
+pub fn run<S: Shelf, O: Sink, R: Threads + Sync, G: Gate>(
+    alloc: Global,
+    shelf: &mut S,
+    out: &mut O,
+    task: &Task<'_>,
+    feed: &mut RowFeed,
+    stalls: Option<Items<Stall>>,
+    workers: &Workers<'_, R, G>,
+) -> Result<(), RunFault>
+    requires some { 0 < workers.now.many }
+    requires system { IsWellFormed task.now.system.now }
+    requires fits { Fits task.now.system.now task.now.placement.now }
+    requires few { task.now.rows ≤ 1000000 }
+    requires ascend { Ascend (listed stalls) }
+    requires feeds { HasGiven (S.held shelf.old feed.old.name) (source_columns task.now.system.now) (length task.now.columns.now) feed.old [] }
+    ensures ok { OnOk result (HasRun (run_by task.now stalls (S.held shelf.old feed.old.name)) (O.written out.old) (O.written out.new)) }
+    ensures err { IfErr result (HasStopped (run_by task.now stalls (S.held shelf.old feed.old.name)) (O.written out.old) (O.written out.new)
+        (Rose (S.faults shelf.old feed.old.name) (S.faults shelf.new feed.old.name)) (Rose (O.faults out.old) (O.faults out.new))) }
+    ensures kept { S.held shelf.new ≡ S.held shelf.old }
+    ensures grows { (q : List ℕ) → S.faults shelf.old q ≤ S.faults shelf.new q }
+    ensures rises { O.faults out.old ≤ O.faults out.new }
+{
+    let mut run = match Running::start(alloc, shelf, task, feed, stalls) {
+        Ok(run) => run,
+        Err(fault) => return Err(fault),
+    };
+    let Ok(mut telling) = Telling::start(alloc) else {
+        return Err(RunFault::Memory);
+    };
+    tell_run(shelf, out, task, feed, &mut run, &mut telling, workers)
+}

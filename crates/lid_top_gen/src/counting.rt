@@ -1,0 +1,75 @@
+//! The clocked run, counted.
+
+ghost use Rattle.std.specs.Prelude.{◌≡◌, ◌≤◌, ℕ, if◌then◌else◌, length, IfOk};
+ghost use Rattle.std.specs.List.{All, AllByRecursion, sum_by};
+ghost use Rattle.lid_clock.specs.Lives.{IsSourceWide};
+ghost use Rattle.lid_design.specs.Network.{Table};
+ghost use Rattle.lid_top_gen.specs.Counts.{HasLife, AreRunCounts};
+ghost use Rattle.lid_stations.specs.Placements.{Fits};
+ghost use Rattle.lid_system.specs.Streams.{output_row};
+ghost use Rattle.lid_system.specs.Systems.{Point, IsWellFormed};
+
+use lid_clock::Clocked;
+use lid_stations::Placement;
+use lid_system::System;
+use lid_texts::Rows;
+use std::alloc::{AllocError, Global};
+
+/// What is counted of a run.
+#[derive(Clone, Copy)]
+pub(crate) struct Count {
+    /// The cycles until the sink has fired for each row.
+    pub cycles: u64,
+    /// The bits of the output rows that are 1.
+    pub ones: u64,
+}
+
+/// How many bits of a row are 1.
+fn row_ones(row: &[bool]) -> u64
+    ensures is { result ≡ sum_by (λ bit. if bit then 1 else 0) row.now }
+    ensures most { result ≤ length row.now }
+{
+    let mut ones = 0;
+    for bit in row {
+        if *bit {
+            ones += 1;
+        }
+    }
+    ones
+}
+
+/// How many bits of at most 1,000,000 rows of at most 4 bits are 1.
+fn count_ones(rows: &[Vec<bool>]) -> u64
+    requires few { length rows.now ≤ 1000000 }
+    requires narrow { All (λ row. length row.items ≤ 4) rows.now }
+    ensures { result ≡ sum_by (λ row. sum_by (λ bit. if bit then 1 else 0) row.items) rows.now }
+{
+    let mut ones = 0;
+    for row in rows {
+        ones += row_ones(row);
+    }
+    ones
+}
+
+/// Runs a system with its stations clock by clock, and counts.
+pub(crate) fn count_run(
+    alloc: Global,
+    system: &System,
+    placement: &Placement,
+    rows: &Rows,
+) -> Result<Count, AllocError>
+    requires system { IsWellFormed system.now }
+    requires fits { Fits system.now placement.now }
+    requires few { length rows.now.bits ≤ 1000000 }
+    requires wide { AllByRecursion (IsSourceWide system.now) rows.now.bits }
+    requires narrow { (b : Table Point) (t : ℕ) → length (output_row system.now b t) ≤ 4 }
+    requires lives { HasLife system.now placement.now rows.now.bits }
+    ensures { IfOk result (λ count. AreRunCounts system.now placement.now rows.now.bits count.cycles count.ones) }
+{
+    let mut run = Clocked::start(alloc, system, placement, rows)?;
+    let cycles = run.run();
+    Ok(Count {
+        cycles,
+        ones: count_ones(run.rows()),
+    })
+}

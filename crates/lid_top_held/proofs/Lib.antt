@@ -1,0 +1,7 @@
+mod Cells
+mod Dumps
+mod Lifetimes
+mod Tracing
+pub mod Scripted
+pub mod Walked
+pub mod Waved

@@ -1,0 +1,132 @@
+//! The dump of a clocked run: what its stations show, cycle by cycle, as a value change dump.
+
+ghost use Rattle.std.specs.Prelude.{◌≡◌, ◌↔◌, ◌*◌, ◌<◌, ◌≤◌, ◌++◌, ℕ, suc, true, false, Bool, List, length, OnOk, IfOk};
+ghost use Rattle.std.specs.List.{AllByRecursion};
+ghost use Rattle.lid_net_law.specs.Agreement.{IsSystemOf};
+ghost use Rattle.lid_clock.specs.Lives.{Life, IsBelow, IsSourceWide};
+ghost use Rattle.lid_clock.specs.Clocks.{Clocks, IsFreeLife};
+ghost use Rattle.lid_design.specs.Columns.{root_inputs};
+ghost use Rattle.lid_top_script.specs.Waved.{IsWaveText};
+ghost use Rattle.lid_stations.specs.Placements.{links_of, station_count, Fits};
+ghost use Rattle.lid_system.specs.Systems.{IsWellFormed as IsSystem};
+ghost use Rattle.lid_vcd_form.specs.Text.{wave_text};
+ghost use Rattle.lid_vcd_form.specs.Writable.{IsWritable};
+ghost use Rattle.lid_top_held.specs.Traces.{TraceBegins, IsTraceOf, life_cells};
+
+use lid_base::{Items, Shown};
+use lid_check::Checked;
+use lid_clock::Clocked;
+use lid_stations::Placement;
+use lid_system::System;
+use lid_texts::{Rows, Trace};
+use lid_vcd::write;
+use std::alloc::{AllocError, Global};
+
+/// Appends what each station shows.
+fn push_cells(run: &Clocked, stations: u32, cells: &mut Vec<Shown>) -> Result<(), AllocError>
+    requires { (l : Life) × (k : ℕ) × Clocks l k run.now × (stations ≡ station_count l.placement.relays) }
+    ensures { (l : Life) (k : ℕ) → Clocks l k run.now → stations ≡ station_count l.placement.relays → OnOk result (cells.new.items ≡ cells.old.items ++ life_cells l k) }
+{
+    for station in 0..stations {
+        cells.push(run.show(station))?;
+    }
+    Ok(())
+}
+
+/// Makes a cycle, where the sink has not yet fired for each row, and appends what each station showed as it
+/// began. Answers whether it made one.
+fn trace_cycle(run: &mut Clocked, stations: u32, cells: &mut Vec<Shown>) -> Result<bool, AllocError>
+    requires { (l : Life) × (k : ℕ) × Clocks l k run.old × (stations ≡ station_count l.placement.relays) }
+    ensures made { (l : Life) (k : ℕ) → Clocks l k run.old → IfOk result (λ made. made ≡ true → Clocks l (suc k) run.new) }
+    ensures shown { (l : Life) (k : ℕ) → Clocks l k run.old → stations ≡ station_count l.placement.relays → IfOk result (λ made. made ≡ true → cells.new.items ≡ cells.old.items ++ life_cells l k) }
+    ensures still { IfOk result (λ made. made ≡ false → cells.new.items ≡ cells.old.items) }
+    ensures below { (l : Life) (k : ℕ) → Clocks l k run.old → IfOk result (λ made. (made ≡ true) ↔ IsBelow l k) }
+{
+    if !run.ready() {
+        return Ok(false);
+    }
+    push_cells(run, stations, cells)?;
+    Ok(run.cycle())
+}
+
+/// The trace of a run that begins, of at most so many cycles.
+fn trace_run(
+    alloc: Global,
+    run: &mut Clocked,
+    stations: u32,
+    cycles: u64,
+) -> Result<Trace, AllocError>
+    requires { (l : Life) × TraceBegins l stations run.old }
+    ensures { (l : Life) → TraceBegins l stations run.old → IfOk result (IsTraceOf l cycles) }
+{
+    let mut cells = Vec::new(alloc);
+    let mut made = 0;
+    while made < cycles {
+        if !trace_cycle(run, stations, &mut cells)? {
+            break;
+        }
+        made += 1;
+    }
+    Ok(Trace {
+        stations,
+        cycles: made,
+        cells: Items::from_vec(cells),
+    })
+}
+
+/// The trace of the clocked run of a system with its stations over these rows, of at most so many cycles.
+fn trace_of(
+    alloc: Global,
+    system: &System,
+    placement: &Placement,
+    rows: &Rows,
+    cycles: u64,
+) -> Result<Trace, AllocError>
+    requires system { IsSystem system.now }
+    requires fits { Fits system.now placement.now }
+    requires few { length rows.now.bits ≤ 1000000 }
+    requires wide { AllByRecursion (IsSourceWide system.now) rows.now.bits }
+    requires alive { (l : Life) × IsFreeLife l rows.now.bits × (l.system ≡ system.now) × (l.placement ≡ placement.now) }
+    ensures { (l : Life) → IsFreeLife l rows.now.bits → l.system ≡ system.now → l.placement ≡ placement.now → IfOk result (IsTraceOf l cycles) }
+{
+    let mut run = Clocked::start(alloc, system, placement, rows)?;
+    trace_run(alloc, &mut run, placement.caps.len() as u32, cycles)
+}
+
+/// The dump of a trace.
+fn dump_of(alloc: Global, trace: &Trace) -> Result<Vec<u8>, AllocError>
+    requires { IsWritable trace.now }
+    ensures { IfOk result (λ text. text.items ≡ wave_text trace.now) }
+{
+    let mut text = Vec::new(alloc);
+    write(trace, &mut text)?;
+    Ok(text)
+}
+
+/// The value change dump of the clocked run of an accepted design over rows of input bits: what the stations
+/// of its system show in each cycle, for at most `cycles` cycles, or as far as the sink has not yet fired once
+/// for each row. The dump has at most 1,048,576 cells, stations times cycles.
+///
+/// # Errors
+/// Want of memory.
+pub fn dump_text(
+    alloc: Global,
+    checked: &Checked,
+    system: &System,
+    placement: &Placement,
+    rows: &Rows,
+    cycles: u64,
+) -> Result<Vec<u8>, AllocError>
+    requires system { IsSystem system.now }
+    requires fits { Fits system.now placement.now }
+    requires of { IsSystemOf checked.now system.now }
+    requires few { length rows.now.bits ≤ 1000000 }
+    requires wide { AllByRecursion (λ row. length row ≡ length (root_inputs checked.now)) rows.now.bits }
+    requires most { cycles ≤ 1048576 }
+    requires cells { station_count placement.now.relays * cycles ≤ 1048576 }
+    ensures { IfOk result (λ text. IsWaveText checked.now (links_of system.now) placement.now rows.now.bits cycles text.items) }
+{
+    let _ = checked.design();
+    let trace = trace_of(alloc, system, placement, rows, cycles)?;
+    dump_of(alloc, &trace)
+}

@@ -1,0 +1,129 @@
+-- What each status of a run says.
+use Rattle.std.specs.Prelude.{◌≡◌, ◌≢◌, ℕ, ◌≤◌, Bool, true, false, List, Option, None, IsSome, IfSome, ◌⊎◌}
+use Rattle.lid_base.specs.Outside.{Rose, Appended, AppendedPrefix}
+use Rattle.lid_top_words.specs.declared.job.Job.{Job}
+use Rattle.lid_top_words.specs.declared.job.Job.TheVariants.{Check, Clock, Emit, Free, Gen, Place, Rate, Size, Slack, Strict, Unwave, Verify, Walk, Wave}
+use Rattle.lid_top_refusals.specs.Saying.{Says}
+use Rattle.lid_top_refusals.specs.Faults.{usage_line, read_line, write_line, memory_line, denied_line}
+use Rattle.lid_top_script.specs.Outputs.{Output, IsTextOf}
+use Rattle.lid_top_script.specs.Scripts.{Ending, refuses, denies, gives, Script, EndsIn, ReachesFetch, script_of}
+
+-- a text that the script may end in
+pub record HasText (held : List ℕ → Option (List ℕ)) (script : Script) (text : List ℕ) : Type 0 where
+  pub output : Output
+  pub ends : EndsIn held script (gives output)
+  pub text_of : IsTextOf output text
+
+-- the whole output was written
+pub record Writes (held : List ℕ → Option (List ℕ)) (script : Script) (old new : Option (List ℕ)) : Type 0 where
+  pub text : List ℕ
+  pub has : HasText held script text
+  pub appended : Appended old new text
+
+-- a prefix of the output was written
+pub record WritesPrefix (held : List ℕ → Option (List ℕ)) (script : Script) (old new : Option (List ℕ)) : Type 0 where
+  pub text : List ℕ
+  pub has : HasText held script text
+  pub appended : AppendedPrefix old new text
+
+-- the script may end in a refusal, and its line was said
+pub record SaysRefusal (held : List ℕ → Option (List ℕ)) (script : Script) (Said : List ℕ → Type 0) : Type 0 where
+  pub line : List ℕ
+  pub ends : EndsIn held script (refuses line)
+  pub said : Said line
+
+-- the count of a file whose step was reached rose, and its name was said
+pub record SaysRead (held : List ℕ → Option (List ℕ)) (script : Script) (before after : List ℕ → ℕ) (Said : List ℕ → Type 0) : Type 0 where
+  pub file : List ℕ
+  pub reached : ReachesFetch held script file
+  pub rose : Rose (before file) (after file)
+  pub said : Said (read_line file)
+
+-- the count of no file whose step was reached rose
+abbrev pub ReadsAll : (List ℕ → Option (List ℕ)) → Script → (List ℕ → ℕ) → (List ℕ → ℕ) → Type 0
+ReadsAll held script before after = (file : List ℕ) → ReachesFetch held script file → ¬ Rose (before file) (after file)
+
+-- the shelf tells what each file whose step was reached holds
+abbrev pub TellsAll : (List ℕ → Option (List ℕ)) → Script → Type 0
+TellsAll held script = (file : List ℕ) → ReachesFetch held script file → IsSome (held file)
+
+-- the status of an ending
+abbrev pub status_of : Ending → ℕ
+status_of (refuses line) = 1
+status_of denies = 6
+status_of (gives output) = 0
+
+-- the status is that of an ending of the script
+pub record IsStatusOf (held : List ℕ → Option (List ℕ)) (script : Script) (status : ℕ) : Type 0 where
+  pub ending : Ending
+  pub ends : EndsIn held script ending
+  pub same : status ≡ status_of ending
+
+-- whether a job writes while it runs, before its output is whole: of all commands `clock` alone does
+abbrev pub writes_early : Job → Bool
+writes_early (Check net root) = false
+writes_early (Clock net vec stations stalls workers trace root) = true
+writes_early (Place net wires reach root) = false
+writes_early (Rate net stations root) = false
+writes_early (Size net stations root) = false
+writes_early (Slack net stations root) = false
+writes_early (Strict net vec root) = false
+writes_early (Verify net cert stations root) = false
+writes_early (Walk net vec schedule stations root) = false
+writes_early (Free net vec stations workers rounds tally root) = false
+writes_early (Wave net vec stations trace root) = false
+writes_early (Unwave file) = false
+writes_early (Emit net stations root) = false
+writes_early (Gen seed shells run) = false
+
+-- what stands in the output where it is not whole: what stood there before, but for a job that writes
+-- early, which may have written a prefix
+abbrev pub Leaves : {O : Type 0} → Bool → (List ℕ → Option (List ℕ)) → Script → (O → Option (List ℕ)) → O → O → Type 0
+Leaves false held script written old new = new ≡ old
+Leaves true held script written old new = (new ≡ old) ⊎ WritesPrefix held script (written old) (written new)
+
+-- what the run of a job shows. `Said` tells of each line whether it was said on the standard error;
+-- shelves are seen by what they hold and by their counts, the output by what was written and its count
+pub record JobRun {S O : Type 0} (job : Job)
+    (held : S → List ℕ → Option (List ℕ)) (reads : S → List ℕ → ℕ) (shelf shelf_after : S)
+    (written : O → Option (List ℕ)) (writes : O → ℕ) (out out_after : O)
+    (Said : List ℕ → Type 0) (status : ℕ) : Type 0 where
+  -- 0: the whole output was written
+  pub done : status ≡ 0 → Writes (held shelf) (script_of job) (written out) (written out_after)
+  -- 1: a reading, a check or a limit refuses
+  pub refused : status ≡ 1 → SaysRefusal (held shelf) (script_of job) Said
+  -- 3: a fetch of a file failed
+  pub read : status ≡ 3 → SaysRead (held shelf) (script_of job) (reads shelf) (reads shelf_after) Said
+  -- 4: a write failed; a prefix of the output stands
+  pub write : status ≡ 4 → Rose (writes out) (writes out_after) × WritesPrefix (held shelf) (script_of job) (written out) (written out_after)
+  -- 6: the certificate is none of the graph
+  pub denied : status ≡ 6 → EndsIn (held shelf) (script_of job) denies
+  -- 1, 3, 5, 6: the output is as it was, but for a job that writes early
+  pub left : status ≢ 0 → status ≢ 4 → Leaves (writes_early job) (held shelf) (script_of job) written out out_after
+  -- 1: the output is as it was, for all jobs, where the shelf tells its contents
+  pub unwritten : status ≡ 1 → TellsAll (held shelf) (script_of job) → out_after ≡ out
+  -- where no count rose, the status is that of an ending of the script, or want of memory
+  pub complete : ReadsAll (held shelf) (script_of job) (reads shelf) (reads shelf_after) → ¬ Rose (writes out) (writes out_after)
+      → (status ≡ 5) ⊎ IsStatusOf (held shelf) (script_of job) status
+
+-- what a run shows, by the job that its words ask for
+pub record Run {S O E : Type 0} (asked : Option Job)
+    (held : S → List ℕ → Option (List ℕ)) (reads : S → List ℕ → ℕ) (shelf shelf_after : S)
+    (written : O → Option (List ℕ)) (writes : O → ℕ) (out out_after : O)
+    (said : E → Option (List ℕ)) (errs : E → ℕ) (err err_after : E)
+    (status : ℕ) : Type 0 where
+  pub most : status ≤ 6
+  -- 2: the words are no job
+  pub usage : status ≡ 2 → asked ≡ None
+  -- words that are no job: nothing is fetched and nothing written
+  pub no_job : asked ≡ None → ((status ≡ 2) ⊎ (status ≡ 5)) × (shelf_after ≡ shelf) × (out_after ≡ out)
+  pub ran : IfSome asked (λ job. JobRun job held reads shelf shelf_after written writes out out_after (Says said errs err err_after) status)
+  -- no fetch changes what is held
+  pub kept : held shelf_after ≡ held shelf
+  -- 0: nothing is said
+  pub quiet : status ≡ 0 → err_after ≡ err
+  -- the lines that tell no file and no refusal
+  pub says_usage : status ≡ 2 → Says said errs err err_after usage_line
+  pub says_write : status ≡ 4 → Says said errs err err_after write_line
+  pub says_memory : status ≡ 5 → Says said errs err err_after memory_line
+  pub says_denied : status ≡ 6 → Says said errs err err_after denied_line

@@ -1,0 +1,23 @@
+-- How the run of a script ends that gives its text whole.
+use Rattle.std.specs.Prelude.{◌≡◌, ◌≤◌, ℕ, List, Option, Result, IfOk, IfErr}
+use Rattle.std.specs.declared.alloc.Global.{Global}
+use Rattle.std.specs.declared.vec.Vec.{Vec}
+use Rattle.lid_top_script.specs.declared.fault.Stop.{Stop}
+use Rattle.lid_top_script.specs.Scripts.{Script}
+use Rattle.lid_top_script.specs.Causes.{IsCause}
+use Rattle.lid_top_script.specs.Statuses.{HasText}
+
+-- over a shelf that held and holds this, whose counts rose so
+pub record RunsWhole (held now : List ℕ → Option (List ℕ)) (script : Script) (before after : List ℕ → ℕ) (result : Result (Vec ℕ Global) Stop) : Type 0 where
+  -- the text is that of the output in which the script ends
+  pub ok : IfOk result (λ text. HasText held script text.items)
+  -- where there is none, there is a cause
+  pub err : IfErr result (IsCause held script before after)
+  -- the files stay, and no count falls
+  pub kept : now ≡ held
+  pub grows : (q : List ℕ) → before q ≤ after q
+
+-- the same of a run without a shelf: it is so whatever one holds
+pub record RunsAnywhere (script : Script) (result : Result (Vec ℕ Global) Stop) : Type 0 where
+  pub ok : IfOk result (λ text. (held : List ℕ → Option (List ℕ)) → HasText held script text.items)
+  pub err : IfErr result (λ stop. (held : List ℕ → Option (List ℕ)) (before after : List ℕ → ℕ) → IsCause held script before after stop)

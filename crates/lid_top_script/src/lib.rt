@@ -1,0 +1,17 @@
+//! The steps of jobs: which files are fetched and read, what is checked, how a job ends, and what each
+//! status says of it.
+#![tactic(auto)]
+
+mod fault;
+mod placing;
+mod scheduling;
+mod stalling;
+mod steps;
+mod tracing;
+
+pub use fault::{JobEnd, Stop, dump_stop, emit_stop, gen_stop, rows_stop};
+pub use placing::{read_cert, read_placement, read_system, read_wires};
+pub use scheduling::read_schedule_file;
+pub use stalling::read_job_stalls;
+pub use steps::{accept, build_system, fetch_file, read_net, read_vec};
+pub use tracing::judge_trace;

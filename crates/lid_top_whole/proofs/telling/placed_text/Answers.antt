@@ -1,0 +1,11 @@
+use Rattle.lid_top_script.specs.Scripts.{told_script}
+use Rattle.lid_top_script.proofs.Placements.{cause_unplaced}
+use Rattle.lid_top_script.proofs.Within.{within_placed, whole_given, whole_stopped}
+use Rattle.lid_top_whole.proofs.telling.placed_text.Goals as goal
+
+pub returns-in-Ok : goal.returns-in-Ok
+unfolding told_script
+returns-in-Ok g c = whole_given (within_placed _ _ _ _ _ c.in-Ok.ensures.ok) c.told_text.ensures.ok c.told_text.ensures.err c.in-Ok.ensures.kept c.in-Ok.ensures.grows
+
+pub returns-in-Err : goal.returns-in-Err
+returns-in-Err g c = whole_stopped (cause_unplaced _ _ _ _ _ _ _ c.in-Err.ensures.err) c.in-Err.ensures.kept c.in-Err.ensures.grows

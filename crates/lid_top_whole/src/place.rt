@@ -1,0 +1,69 @@
+//! `place`: the relay stations that wires of such lengths need.
+
+ghost use Rattle.std.specs.Prelude.{◌≡◌, ◌≤◌, IfOk, IfErr};
+ghost use Rattle.lid_stations_text.specs.Written.{stations_text};
+ghost use Rattle.lid_top_script.specs.Causes.{IsWant};
+ghost use Rattle.lid_top_script.specs.Scripts.{wires_script, place_script};
+ghost use Rattle.lid_top_script.specs.Whole.{RunsWhole};
+ghost use Rattle.lid_stations.specs.Placements.{links_of, Fits};
+ghost use Rattle.lid_system.specs.Systems.{IsWellFormed as IsSystem};
+
+use lid_base::{Name, Shelf};
+use lid_stations::Placement;
+use lid_stations_text::print_stations;
+use lid_system::System;
+use lid_top_script::{Stop, read_system, read_wires};
+use std::alloc::Global;
+
+/// The text of a placement.
+fn stations_text<'a>(
+    alloc: Global,
+    system: &System,
+    placement: &Placement,
+) -> Result<Vec<u8>, Stop<'a>>
+    requires { Fits system.now placement.now }
+    ensures ok { IfOk result (λ text. text.items ≡ stations_text (links_of system.now) placement.now) }
+    ensures err { IfErr result IsWant }
+{
+    let mut text = Vec::new(alloc);
+    match print_stations(system, placement, &mut text) {
+        Ok(()) => Ok(text),
+        Err(_) => Err(Stop::Memory),
+    }
+}
+
+/// What `place` writes for a system.
+fn wires_text<'a, S: Shelf>(
+    alloc: Global,
+    shelf: &mut S,
+    system: &System,
+    wires: &'a str,
+    reach: u64,
+) -> Result<Vec<u8>, Stop<'a>>
+    requires system { IsSystem system.now }
+    requires reach { 1 ≤ reach }
+    ensures { RunsWhole (S.held shelf.old) (S.held shelf.new) (wires_script (links_of system.now) wires.now reach) (S.faults shelf.old) (S.faults shelf.new) result }
+{
+    match read_wires(alloc, shelf, system, wires, reach) {
+        Ok(placement) => stations_text(alloc, system, &placement),
+        Err(stop) => Err(stop),
+    }
+}
+
+/// What `place` writes.
+pub fn place_text<'a, S: Shelf>(
+    alloc: Global,
+    shelf: &mut S,
+    net: &'a str,
+    wires: &'a str,
+    reach: u64,
+    root: &Option<Name>,
+) -> Result<Vec<u8>, Stop<'a>>
+    requires { 1 ≤ reach }
+    ensures { RunsWhole (S.held shelf.old) (S.held shelf.new) (place_script net.now wires.now reach root.now) (S.faults shelf.old) (S.faults shelf.new) result }
+{
+    match read_system(alloc, shelf, net, root) {
+        Ok(system) => wires_text(alloc, shelf, &system, wires, reach),
+        Err(stop) => Err(stop),
+    }
+}

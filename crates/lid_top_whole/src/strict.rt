@@ -1,0 +1,79 @@
+//! `strict`: the strict outputs of a netlist.
+
+ghost use Rattle.std.specs.Prelude.{IfOk, IfErr};
+ghost use Rattle.lid_design.specs.WellFormed.{IsWellFormed};
+ghost use Rattle.lid_top_script.specs.Outputs.{IsStrictText};
+ghost use Rattle.lid_top_script.specs.Scripts.{rows_script, checked_script, strict_script};
+ghost use Rattle.lid_top_script.specs.Whole.{RunsWhole};
+ghost use Rattle.lid_top_script.specs.Causes.{IsWant};
+
+use lid_base::{Name, Shelf};
+use lid_check::Checked;
+use lid_design::Design;
+use lid_strict::strict;
+use lid_texts::{Rows, print_rows};
+use lid_top_script::{Stop, accept, read_net, read_vec};
+use std::alloc::Global;
+
+/// The text of the strict outputs.
+fn outputs_text<'a>(alloc: Global, checked: &Checked, rows: &Rows) -> Result<Vec<u8>, Stop<'a>>
+    ensures ok { IfOk result (λ text. IsStrictText checked.now rows.now.bits text.items) }
+    ensures err { IfErr result IsWant }
+{
+    let Ok(outs) = strict(alloc, checked, rows) else {
+        return Err(Stop::Memory);
+    };
+    let mut text = Vec::new(alloc);
+    match print_rows(&outs, &mut text) {
+        Ok(()) => Ok(text),
+        Err(_) => Err(Stop::Memory),
+    }
+}
+
+/// What `strict` writes for an accepted design.
+fn rows_text<'a, S: Shelf>(
+    alloc: Global,
+    shelf: &mut S,
+    checked: &Checked,
+    vec: &'a str,
+) -> Result<Vec<u8>, Stop<'a>>
+    ensures { RunsWhole (S.held shelf.old) (S.held shelf.new) (rows_script checked.now vec.now) (S.faults shelf.old) (S.faults shelf.new) result }
+{
+    match read_vec(alloc, shelf, checked, vec) {
+        Ok(rows) => outputs_text(alloc, checked, &rows),
+        Err(stop) => Err(stop),
+    }
+}
+
+/// What `strict` writes after it has read a netlist.
+fn checked_text<'a, S: Shelf>(
+    alloc: Global,
+    shelf: &mut S,
+    design: Design,
+    vec: &'a str,
+    root: &Option<Name>,
+) -> Result<Vec<u8>, Stop<'a>>
+    requires { IsWellFormed design }
+    ensures { RunsWhole (S.held shelf.old) (S.held shelf.new) (checked_script design vec.now root.now) (S.faults shelf.old) (S.faults shelf.new) result }
+{
+    match accept(alloc, design, root) {
+        Ok(checked) => rows_text(alloc, shelf, &checked, vec),
+        Err(stop) => Err(stop),
+    }
+}
+
+/// What `strict` writes.
+pub fn strict_text<'a, S: Shelf>(
+    alloc: Global,
+    shelf: &mut S,
+    net: &'a str,
+    vec: &'a str,
+    root: &Option<Name>,
+) -> Result<Vec<u8>, Stop<'a>>
+    ensures { RunsWhole (S.held shelf.old) (S.held shelf.new) (strict_script net.now vec.now root.now) (S.faults shelf.old) (S.faults shelf.new) result }
+{
+    match read_net(alloc, shelf, net) {
+        Ok(design) => checked_text(alloc, shelf, design, vec, root),
+        Err(stop) => Err(stop),
+    }
+}

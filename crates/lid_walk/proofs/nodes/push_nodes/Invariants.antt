@@ -1,0 +1,5 @@
+use Rattle.lid_walk.specs.Inside.{AreFirstActors}
+use Rattle.lid_walk.proofs.nodes.push_nodes.Given as goal
+
+abbrev pub invariant-loop-node : goal.invariant-loop-node
+invariant-loop-node l = AreFirstActors l.system l.placement l.rows.bits l.node l.actors.items

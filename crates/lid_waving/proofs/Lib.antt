@@ -1,4 +1,0 @@
-mod Cells
-mod Dumps
-mod Lifetimes
-mod Tracing

@@ -1,5 +1,0 @@
-use Rattle.lid_wirenames.proofs.Naming.{is_naming}
-use Rattle.lid_wirenames.proofs.laws.wires_have_names.Goals as goal
-
-pub returns : goal.returns
-returns c = λ q ports prefix inputs outputs distinct free small. is_naming q ports prefix inputs outputs distinct free small

@@ -1,6 +1,0 @@
-//! Names for the wires of wrapped systems.
-#![tactic(auto)]
-
-mod laws;
-
-pub use laws::wires_have_names;

@@ -1,7 +1,0 @@
-pub mod Forms
-pub mod Ranks
-pub mod Nets
-pub mod Cells
-pub mod Others
-pub mod Once
-pub mod Listed

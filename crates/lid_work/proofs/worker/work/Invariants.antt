@@ -1,6 +1,0 @@
-use Rattle.std.specs.Prelude.{◌≡◌}
-use Rattle.lid_work.proofs.Working.{IsAt}
-use Rattle.lid_work.proofs.worker.work.Given as goal
-
-abbrev pub invariant-loop-round : goal.invariant-loop-round
-invariant-loop-round g l = IsAt l.board l.round l.fn.worker l.worker
