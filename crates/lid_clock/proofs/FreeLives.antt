@@ -15,9 +15,10 @@ use Rattle.lid_stations.specs.Markings.{marking}
 use Rattle.lid_stations.proofs.Spots.{few_actors}
 use Rattle.lid_stations.proofs.Edges.{node_count}
 use Rattle.lid_stations.proofs.Alive.{rateable}
-use Rattle.lid_shell_laws.specs.Runs.{cap_of}
+use Rattle.lid_shell_laws.specs.Runs.{cap_of, IsWithinLag}
 use Rattle.lid_shell_laws.proofs.Caps.{cap_of_sink}
 use Rattle.lid_shell_laws.proofs.Ending.{ends, ends_within_lag}
+use Rattle.lid_clock_laws.proofs.Had.{bound_had}
 use Rattle.lid_clock.specs.Lives.{Life, IsLife, IsBelow, fired_after, sink}
 use Rattle.lid_clock.specs.Clocks.{IsFreeLife, IsOver}
 
@@ -91,7 +92,7 @@ module _ (l : Life) (rows : List (List Bool)) (free : IsFreeLife l rows) where
 
   -- after the last of the cycles that are needed the run is over
   pub is_over : (k : ℕ) → ((j : ℕ) → j < k → IsBelow l j) → (IsBelow l k → ⊥) → IsOver l k
-  is_over k needed ended = record { ends = first; within = ends_within_lag l.system l.placement free.rules.system free.rules.fits (length l.input) k first }
+  is_over k needed ended = record { ends = first; within = within; bound = bound_had l.system l.placement free.rules.system free.rules.fits (length l.input) k within }
     where
       at_cap : fired_after l k (sink l) ≡ caps_of l (sink l)
       at_cap = omega (arith, sinks_few l free.rules k, sink_cap l free.rules, ended)
@@ -105,3 +106,6 @@ module _ (l : Life) (rows : List (List Bool)) (free : IsFreeLife l rows) where
 
       first : IsFirstAtCap (graph_of l) (caps_of l) no_hold (sink l) k
       first = record { reached = sym (as_free k (sink l)) ∙ at_cap; first = first_is }
+
+      within : IsWithinLag (links_of l.system) l.placement (length l.input) k
+      within = ends_within_lag l.system l.placement free.rules.system free.rules.fits (length l.input) k first

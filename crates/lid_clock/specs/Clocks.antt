@@ -12,6 +12,7 @@ use Rattle.lid_system.specs.declared.System.{System}
 use Rattle.lid_system.specs.Systems.{Point}
 use Rattle.lid_system.specs.Streams.{output_row}
 use Rattle.lid_shell_laws.specs.Runs.{cap_of, IsWithinLag}
+use Rattle.lid_clock_laws.specs.Bounds.{HasBound}
 use Rattle.lid_clock.specs.Lives.{Life, IsLife, HoldsNobody, IsBelow, fired_after, sink}
 use Rattle.lid_clock.specs.Ran.{Ran}
 use Rattle.lid_clock.specs.declared.clocked.Clocked.{Clocked}
@@ -62,7 +63,8 @@ abbrev pub IsClockedRun : Clocked → Type 0
 IsClockedRun c = (l : Life) × (k : ℕ) × Clocks l k c
 
 -- a run is over after so many cycles: they are the least after which the sink has fired for each row, and
--- within the bound
+-- within the bound, which there is
 pub record IsOver (l : Life) (cycles : ℕ) : Type 0 where
   pub ends : IsFirstAtCap (marking (links_of l.system) l.placement) (cap_of (links_of l.system) (length l.input)) no_hold (sink l) cycles
   pub within : IsWithinLag (links_of l.system) l.placement (length l.input) cycles
+  pub bound : HasBound (links_of l.system) l.placement (length l.input) cycles

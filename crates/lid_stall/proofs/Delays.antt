@@ -13,9 +13,10 @@ use Rattle.lid_stations.specs.Placements.{links_of}
 use Rattle.lid_stations.specs.Stations.{actor_count}
 use Rattle.lid_stations.specs.Markings.{marking}
 use Rattle.lid_stations.proofs.Spots.{few_actors}
-use Rattle.lid_shell_laws.specs.Runs.{cap_of}
+use Rattle.lid_shell_laws.specs.Runs.{cap_of, IsWithinLag}
 use Rattle.lid_shell_laws.proofs.Caps.{cap_of_sink}
 use Rattle.lid_shell_laws.proofs.Ending.{ends, ends_within_lag}
+use Rattle.lid_clock_laws.proofs.Had.{bound_had}
 use Rattle.lid_clock.specs.Lives.{Life, IsLife, IsBelow, fired_after, sink}
 use Rattle.lid_stall_text.specs.declared.stalls.Stall.{Stall}
 use Rattle.lid_stall_text.specs.Holds.{holds_source, holds_sink, stalled_by, Ascend}
@@ -116,7 +117,8 @@ module _ (l : Life) (rules : IsLife l) (stalls : List Stall) (by : IsHeldBy l st
         all = all;
         cycles = cycles;
         ends = first;
-        within = ends_within_lag l.system l.placement rules.system rules.fits (length l.input) cycles first;
+        within = within;
+        bound = bound_had l.system l.placement rules.system rules.fits (length l.input) cycles within;
         least = first.first k (omega (arith, ahead k, firings_cap (graph_of l) (caps_of l) no_hold k (sink l), sink_cap, all));
         most = most k needed;
       }
@@ -134,6 +136,9 @@ module _ (l : Life) (rules : IsLife l) (stalls : List Stall) (by : IsHeldBy l st
 
       first : IsFirstAtCap (graph_of l) (caps_of l) no_hold (sink l) cycles
       first = found.1
+
+      within : IsWithinLag (links_of l.system) l.placement (length l.input) cycles
+      within = ends_within_lag l.system l.placement rules.system rules.fits (length l.input) cycles first
 
       late : (j : ℕ) → cycles ≤ j → length l.input ≤ free_after l j
       late j past =

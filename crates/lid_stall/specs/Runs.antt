@@ -5,6 +5,7 @@ use Rattle.lid_graph_laws.specs.Free.{held_below}
 use Rattle.lid_stations.specs.Placements.{links_of}
 use Rattle.lid_stations.specs.Markings.{marking}
 use Rattle.lid_shell_laws.specs.Runs.{cap_of, IsWithinLag}
+use Rattle.lid_clock_laws.specs.Bounds.{HasBound}
 use Rattle.lid_clock.specs.Lives.{Life, IsBelow, fired_after, sink}
 use Rattle.lid_clock.specs.Ran.{Ran}
 use Rattle.lid_stall_text.specs.declared.stalls.Stall.{Stall}
@@ -25,12 +26,13 @@ abbrev pub stalled_after : Life → ℕ → ℕ
 stalled_after l k = held_below (holds_one l) k
 
 -- a run is over after so many cycles: the sink has fired for each row. It takes at least the cycles after which
--- it is over where nobody is held, which are within the bound, and more only for cycles that hold somebody
+-- it is over where nobody is held, which are within the bound, which there is, and more only for cycles that hold somebody
 pub record IsOverBy (l : Life) (made : ℕ) : Type 0 where
   pub all : fired_after l made (sink l) ≡ length l.input
   pub cycles : ℕ
   pub ends : IsFirstAtCap (marking (links_of l.system) l.placement) (cap_of (links_of l.system) (length l.input)) no_hold (sink l) cycles
   pub within : IsWithinLag (links_of l.system) l.placement (length l.input) cycles
+  pub bound : HasBound (links_of l.system) l.placement (length l.input) cycles
   pub least : cycles ≤ made
   pub most : made ≤ cycles + stalled_after l made
 

@@ -12,7 +12,8 @@ use Rattle.lid_stations.specs.Stations.{actor_count}
 use Rattle.lid_stations.specs.Markings.{marking}
 use Rattle.lid_stations.proofs.Edges.{node_count}
 use Rattle.lid_stations.proofs.Alive.{rateable}
-use Rattle.lid_shell_laws.specs.Runs.{cap_of}
+use Rattle.lid_shell_laws.specs.Runs.{cap_of, IsWithinLag}
+use Rattle.lid_clock_laws.proofs.Had.{bound_had}
 use Rattle.lid_clock.specs.Lives.{Life, IsLife, fired_after, sink, IsBelow}
 use Rattle.lid_top_clock.specs.RunTexts.{IsRunText, end_text, first_outputs}
 use Rattle.lid_texts.specs.RowsText.{rows_text}
@@ -99,7 +100,7 @@ module _ (l : Life) (rules : IsLife l) where
     -- where the sink has first fired for each row, this is the text
     module _ (columns : List (List ℕ)) (trace : Option ℕ) where
       pub text_at : (k : ℕ) → IsFirstAt (λ j. fired_after l j (sink l)) rows k → IsRunText l columns stalls trace (rows_text columns (first_outputs l rows) ++ end_text l stalls trace k)
-      text_at k f = record { cycles = k; ends = first; within = λ n d lag ratio is_lag. omega (arith, over.within n d lag ratio is_lag, over.most, stalled k); written = refl }
+      text_at k f = record { cycles = k; ends = first; within = within; bound = bound_had l.system p rules.system rules.fits (length l.input) (k - stalled_of stalls k) within; written = refl }
         where
           first : IsFirstAtCap g cap l.hold (sink l) k
           first = record { reached = f.at ∙ sym sink_cap; first = λ j is. f.first j (is ∙ sink_cap) }
@@ -113,6 +114,9 @@ module _ (l : Life) (rules : IsLife l) where
 
           over : IsOverBy l k
           over = is_over l rules (listed stalls) (held_by l stalls held) k needed (λ below. absurd (let at = f.at in omega arith))
+
+          within : IsWithinLag (links_of l.system) l.placement (length l.input) (k - stalled_of stalls k)
+          within n d lag ratio is_lag = omega (arith, over.within n d lag ratio is_lag, over.most, stalled k)
 
       pub some_text : (k : ℕ) × IsRunText l columns stalls trace (rows_text columns (first_outputs l rows) ++ end_text l stalls trace k)
       some_text = let found = first_at (λ j. fired_after l j (sink l)) rows last ends_last in (found.0, text_at found.0 found.1)

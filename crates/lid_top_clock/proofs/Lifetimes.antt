@@ -79,6 +79,7 @@ module _ (d : Design) (s : System) (p : Placement) (of : IsSystemOf d s) (well :
     cycles = is.cycles;
     ends = is.ends;
     within = is.within;
+    bound = is.bound;
     written =
         is.written
         ∙ ap (λ outs. rows_text (root_outputs d) outs ++ end_text life stalls trace is.cycles) (rows_are d s of well rows b strict)

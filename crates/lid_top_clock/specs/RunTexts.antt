@@ -11,6 +11,7 @@ use Rattle.lid_stations.specs.declared.placement.Placement.{Placement}
 use Rattle.lid_stations.specs.Placements.{links_of, station_count}
 use Rattle.lid_stations.specs.Markings.{marking}
 use Rattle.lid_shell_laws.specs.Runs.{cap_of, IsWithinLag}
+use Rattle.lid_clock_laws.specs.Bounds.{HasBound}
 use Rattle.lid_clock.specs.Lives.{Life, IsLife, fired_after, shown_after, sink}
 use Rattle.lid_texts.specs.RowsText.{rows_text}
 use Rattle.lid_texts_runs.specs.Runs.{cycles_text, trace_text}
@@ -56,9 +57,10 @@ abbrev pub end_text : Life → Option (List Stall) → Option ℕ → ℕ → Li
 end_text l stalls trace k = cycles_text k (nodes_fired l k) ++ (stalled_line stalls k ++ traced l trace k)
 
 -- the text of the run of a life: all output rows, and what the cycles told up to the first after which the sink
--- has fired for each row. These, less those that held somebody, are within the bound
+-- has fired for each row. These, less those that held somebody, are within the bound, which there is
 pub record IsRunText (l : Life) (columns : List (List ℕ)) (stalls : Option (List Stall)) (trace : Option ℕ) (text : List ℕ) : Type 0 where
   pub cycles : ℕ
   pub ends : IsFirstAtCap (marking (links_of l.system) l.placement) (cap_of (links_of l.system) (length l.input)) l.hold (sink l) cycles
   pub within : IsWithinLag (links_of l.system) l.placement (length l.input) (cycles - stalled_of stalls cycles)
+  pub bound : HasBound (links_of l.system) l.placement (length l.input) (cycles - stalled_of stalls cycles)
   pub written : text ≡ rows_text columns (first_outputs l (length l.input)) ++ end_text l stalls trace cycles

@@ -16,6 +16,7 @@ use Rattle.lid_stations.specs.Placements.{Links, station_count}
 use Rattle.lid_stations.specs.Stations.{spot_at, channel_at}
 use Rattle.lid_stations.specs.Markings.{marking}
 use Rattle.lid_shell_laws.specs.Runs.{cap_of, sink_of, fired_in, IsWithinLag}
+use Rattle.lid_clock_laws.specs.Bounds.{HasBound}
 use Rattle.lid_shell_laws.specs.Views.{shown_at}
 use Rattle.lid_stall_text.specs.declared.stalls.Stall.{Stall}
 use Rattle.lid_stall_text.specs.Holds.{hold_of, stalled_of, stalled_line}
@@ -67,7 +68,7 @@ clock_end d b l p rows stalls trace cycles =
     ++ (stalled_line stalls cycles ++ traced d b l p rows (hold_of stalls (sink_of l)) cycles trace)
 
 -- `clock` writes the strict output rows, and how the run ends: that of the least number of cycles after which the sink
--- has fired once for each row. The cycles, less those in which stalls hold somebody, are within the bound. The tokens
+-- has fired once for each row. The cycles, less those in which stalls hold somebody, are within the bound, which there is. The tokens
 -- are those of a strict table; every one gives the rows
 pub record IsClockText (d : Design) (l : Links) (p : Placement) (rows : List (List Bool)) (stalls : Option (List Stall)) (trace : Option ℕ) (text : List ℕ) : Type 0 where
   pub table : Table Column
@@ -77,4 +78,5 @@ pub record IsClockText (d : Design) (l : Links) (p : Placement) (rows : List (Li
   pub cycles : ℕ
   pub ends : IsFirstAtCap (marking l p) (cap_of l (length rows)) (hold_of stalls (sink_of l)) (sink_of l) cycles
   pub within : IsWithinLag l p (length rows) (cycles - stalled_of stalls cycles)
+  pub bound : HasBound l p (length rows) (cycles - stalled_of stalls cycles)
   pub written : text ≡ rows_text (root_outputs d) outs ++ clock_end d table l p (length rows) stalls trace cycles

@@ -1,4 +1,5 @@
-use Rattle.lid_rate_ratio.proofs.Ratios.{positive_gcd, is_lowest}
+use Rattle.lid_graph_ratio_laws.proofs.Lowest.{positive_gcd}
+use Rattle.lid_rate_ratio.proofs.Ratios.{is_lowest}
 use Rattle.lid_rate_ratio.proofs.lowest_terms.lowest.Goals as goal
 
 pub nonzero_div-result : goal.nonzero_div-result
