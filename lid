@@ -37,11 +37,11 @@ installed=${here%/*}/libexec/lid/lid
 memory=${XDG_CACHE_HOME:-${HOME:-/nonexistent}/.cache}/lid$here
 
 stamps() {
-  cd "$here/crates" && exec xargs -0 -s 1900000 -a "$1" stat -c %Z
+  cd "$here/crates" && LC_ALL=C exec xargs -0 -s 1900000 -a "$1" stat -c %Z
 }
 
 is_remembered() {
-  [ -O "$memory/stamps" ] && stamps "$memory/names" 2> /dev/null | cmp -s - "$memory/stamps"
+  [ -O "$memory/stamps" ] && stamps "$memory/names" 2> /dev/null | LC_ALL=C cmp -s - "$memory/stamps"
 }
 
 program=''
