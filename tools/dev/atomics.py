@@ -9,14 +9,14 @@ say that `Void` and `Stop` come only where this load found nothing, at a hand wi
   functions of the crate. Each function makes the operation that CALLS has for it, once, in no branch, loop or closure,
   after no `return`, and no other function makes any. What the two looks answer hangs on the loaded word alone.
 - `lid_shell`: each of the four steps at a desk makes one call of the board; a step of an actor comes to one of them.
-- Elsewhere: no crate names `atomic_table`, and the threads of `lid_free_crew` and `lid_free` look, take and put by turns
-  of actors alone.
+- Elsewhere: no crate names `atomic_table`, and the threads of `lid_free_crew` and `lid_free` look, take and put by
+  turns of actors alone. Where the kit is here, that no operation of its `atomic_table` is unknown.
 
 It reads text, and takes a form that it does not know for a fault. Then it tries itself: each of the small wrong changes
 of `atomics_tries.txt`, in a copy, must be refused. It says what holds; else a line for each fault, and status 1.
 
     tools/dev/atomics.py
-    tools/dev/atomics.py --try    says for each wrong change why it was refused
+    tools/dev/atomics.py --try    says also why each wrong change was refused
 """
 
 import functools
@@ -125,7 +125,7 @@ def code_of(text: str) -> str:
 
 
 def functions(sources: dict[str, str], crate: str) -> tuple[dict[str, Function], list[str]]:
-    """The functions of a crate, each by its name, after its type where it is a method; and what is not clear of them."""
+    """The functions of a crate, each by its name, after its type where it is a method; and what is not clear there."""
     found, unclear = {}, []
     for file, text in sources.items():
         if not file.startswith(crate + "/"):
@@ -217,8 +217,8 @@ def faults_of_board(all_of: dict[str, Function]) -> list[str]:
             one = f"one {wanted[name][0]}" if name in wanted else "no operation"
             faults.append(f"{name}: {one} is wanted, and found: {told}")
     for name in ("look_in", "look_out", "take", "put"):
-        attended = all_of.get("Attended::" + name)
-        if not attended or not re.fullmatch(rf"self\.board\.{name}\(self\.hand, station(, token)?\);?", attended.body.strip()):
+        wanted_body = rf"self\.board\.{name}\(self\.hand, station(, token)?\);?"
+        if not re.fullmatch(wanted_body, all_of.get("Attended::" + name, Function("", "")).body.strip()):
             faults.append(f"Attended::{name}: it is not the call of the board and no more")
     if words := set(re.findall(r"\w+", all_of["half_at"].body)) - set("if else place word HALF 0 2".split()):
         faults.append(f"half_at: it reads {', '.join(sorted(words))}")
@@ -231,7 +231,8 @@ def faults_of_shell(all_of: dict[str, Function]) -> list[str]:
         found = [flat(line) for line in function.body.split("\n") if re.search(r"\bboard\b", line)]
         if found != STEPS.get(name, []):
             faults.append(f"{name}: {STEPS.get(name) or 'no board'} is wanted, and found: {found}")
-        if ("Stations" in function.header) != (name in STEPS) or (name in STEPS and "board: &mut B" not in function.header):
+        is_step, takes = name in STEPS, "Stations" in function.header
+        if takes != is_step or (is_step and "board: &mut B" not in function.header):
             faults.append(f"{name}: which board it takes cannot be told")
         place = function.body.find("board")
         if name in STEPS and name not in ("Actor::step", "Actor::turn") and way_to(function.body, place):
@@ -263,15 +264,15 @@ def faults_of(sources: dict[str, str]) -> list[str]:
     return faults + faults_of_answers({**board, **shell})
 
 
-def faults_of_kit() -> list[str]:
-    """Functions of the kit's `atomic_table` that this does not know; none where there is no kit."""
+def faults_of_kit() -> tuple[list[str], str]:
+    """Functions of the kit's `atomic_table` that this does not know, and a word on how many it knows."""
     if not shutil.which("rt"):
-        return []
+        return [], "no kit here"
     page = subprocess.run(["rt", "doc"], capture_output=True, text=True, check=False).stdout.strip()
     files = Path(page).parent.glob("rattle/atomic_table/src/*.rt")
     offered = {name for file in files for name in re.findall(r"^ *pub fn (\w+)", file.read_text(), re.M)}
     unknown = [name for name in sorted(offered) if not OPERATION.fullmatch(name) and name not in HARMLESS | ON_PERCHES]
-    return [f"atomic_table offers {name}, which this does not know" for name in unknown]
+    return [f"atomic_table offers {name}, which this does not know" for name in unknown], f"{len(offered)} of the kit known"
 
 
 def tries() -> list[tuple[str, str, str, str]]:
@@ -296,20 +297,21 @@ def faults_of_tries(sources: dict[str, str], is_told: bool) -> list[str]:
 
 def main():
     parser = parser_of(__doc__)
-    parser.add_argument("--try", dest="is_told", action="store_true", help="say for each wrong change why it was refused")
+    parser.add_argument("--try", dest="is_told", action="store_true", help="say why each wrong change was refused")
     is_told = parser.parse_args().is_told
     files = sorted(TOP.glob("crates/*/src/**/*.rt"))
     sources = {str(file.relative_to(TOP / "crates")): file.read_text() for file in files}
     if not any(file.startswith(BOARD + "/") for file in sources):
         sys.exit(f"atomics.py: the sources of {BOARD} are not here")
-    faults = faults_of(sources) + faults_of_kit()
+    of_kit, known = faults_of_kit()
+    faults = faults_of(sources) + of_kit
     faults += [] if faults else faults_of_tries(sources, is_told)
     for fault in faults:
         print(fault)
     if not faults:
         print(
-            f"atomics.py: {len(CALLS)} calls of {BOARD} make one atomic operation each, four steps of a desk one call each; "
-            f"{len(tries())} wrong changes refused"
+            f"atomics.py: {len(CALLS)} calls of {BOARD} make one atomic operation each ({known}), "
+            f"four steps of a desk one call each; {len(tries())} wrong changes refused"
         )
     sys.exit(bool(faults))
 
