@@ -272,7 +272,8 @@ def faults_of_kit() -> tuple[list[str], str]:
     files = Path(page).parent.glob("rattle/atomic_table/src/*.rt")
     offered = {name for file in files for name in re.findall(r"^ *pub fn (\w+)", file.read_text(), re.M)}
     unknown = [name for name in sorted(offered) if not OPERATION.fullmatch(name) and name not in HARMLESS | ON_PERCHES]
-    return [f"atomic_table offers {name}, which this does not know" for name in unknown], f"{len(offered)} of the kit known"
+    faults = [f"atomic_table offers {name}, which this does not know" for name in unknown]
+    return faults, f"{len(offered)} of the kit known"
 
 
 def tries() -> list[tuple[str, str, str, str]]:
