@@ -9,17 +9,69 @@ trap '' XFSZ # a full `ulimit -f` is a write that fails, here and in the program
 callers_path=${PATH-}
 PATH=/usr/bin:/bin:/run/current-system/sw/bin # no tool of this script is taken from elsewhere
 
-here=$(readlink -f -- "$0" && echo x) || { echo "./lid: no folder of $0 was found" >&2; exit 69; }
-here=${here%??}
-here=${here%/*}
+# the folder of this script: that of its name, without a process, where no link leads there
+case $0 in
+  *..*) here='' ;;
+  /*) here=${0%/*} ;;
+  ./*) here=$PWD ;;
+  */*) here=$PWD/${0%/*} ;;
+  *) here='' ;;
+esac
+if [ -h "$0" ] || ! { [ -n "$here" ] && { [ -e "$here/crates.txt" ] || [ -x "${here%/*}/libexec/lid/lid" ]; }; }; then
+  here=$(readlink -f -- "$0" && echo x) || { echo "./lid: no folder of $0 was found" >&2; exit 69; }
+  here=${here%??}
+  here=${here%/*}
+fi
+built=$here/crates/lid/out/lid
+installed=${here%/*}/libexec/lid/lid
+
+# --- the short way ---------------------------------------------------------------------------------------------------
+
+# The mark of a check: `names` has what was looked at, each a name from crates/ and a NUL after it, and `stamps` the
+# second in which the kernel last changed each in any way (its ctime, which neither `cp -p`, `touch` nor `rsync -t` sets
+# back, as they do the time that `[ a -nt b ]` compares). It says: a check of all checksums of release/SUMS found all
+# right, and since then no listed file was changed, replaced or taken away, and none was added to a src/ or specs/, to
+# crates/ or release/. (One that was added to a proofs/ is seen by the next check: it changes no source and no program.)
+# Where a second or a name differs, or there is no mark of this user's, all is checked again; where that finds all right,
+# the mark is made anew, from times that were noted before it began and are older than two seconds.
+memory=${XDG_CACHE_HOME:-${HOME:-/nonexistent}/.cache}/lid$here
+
+stamps() {
+  cd "$here/crates" && LC_ALL=C exec xargs -0 -s 1900000 -a "$1" stat -c %Z
+}
+
+is_remembered() {
+  [ -O "$memory/stamps" ] && stamps "$memory/names" 2> /dev/null | LC_ALL=C cmp -s - "$memory/stamps"
+}
+
+program=''
+if ! [ -e "$here/crates.txt" ]; then
+  if [ -x "$installed" ]; then program=$installed; fi
+elif is_remembered; then
+  program=$here/release/lid
+fi
+if [ -n "$program" ] && ! [ -t 2 ]; then
+  case ${1-} in
+    -* | help) ;;
+    *)
+      case ${2-} in
+        --help | -h) ;;
+        *)
+          PATH=$callers_path
+          exec "$program" "$@"
+          ;;
+      esac
+      ;;
+  esac
+fi
+
+# --- what the script says itself -------------------------------------------------------------------------------------
+
 if [ -e "$here/crates.txt" ]; then
   shared=$here
 else
   shared=${here%/*}/share/doc/lid
 fi
-built=$here/crates/lid/out/lid
-installed=${here%/*}/libexec/lid/lid
-memory=${XDG_CACHE_HOME:-${HOME:-/nonexistent}/.cache}/lid$here
 COMMANDS='check strict place clock rate verify slack size wave unwave walk free emit gen'
 
 usage_of() {
@@ -160,26 +212,19 @@ in_sources() {
   done | xargs -0 sh -c 'find "$@" -printf "%y %p\0"' sh
 }
 
-# when the kernel says that each of these files and folders was last changed in any way (its ctime)
-stamps() {
-  cd "$here/crates" && exec xargs -0 -s 1900000 -a "$1" stat -c %.Z
-}
-
-# whether all was found right by an earlier check, and nothing was changed, added or taken away since
-is_remembered() {
-  [ -O "$memory/stamps" ] && stamps "$memory/names" 2> /dev/null | cmp -s - "$memory/stamps"
-}
-
 # notes what stands there before a check, in files of this process
 note() {
   mkdir -p "$memory" && [ -O "$memory" ] &&
-    { in_sources | cut -z -c 10- && printf '%s\0' ../crates.txt . ../release ../release/SUMS ../release/lid; } > "$memory/names.$$" &&
+    {
+      in_sources | sed -z -e '\|^d [^/]*/[^/]*/proofs|d' -e 's|^. crates/||' &&
+        printf '%s\0' ../crates.txt . ../release ../release/SUMS ../release/lid
+    } > "$memory/names.$$" &&
     (stamps "$memory/names.$$" > "$memory/stamps.$$")
 }
 
 # keeps it after a check that found all right, unless a file is so new that a further change could have the same time
 keep() {
-  newest=$(sed 's/\..*//' "$memory/stamps.$$" | sort -n | tail -n 1)
+  newest=$(sort -n "$memory/stamps.$$" | tail -n 1)
   if [ -z "$1" ] && [ "$newest" -lt $(($(date +%s) - 2)) ]; then
     mv "$memory/names.$$" "$memory/names" && mv "$memory/stamps.$$" "$memory/stamps"
   fi
@@ -222,7 +267,7 @@ fault_of_sums() {
 }
 
 is_released() {
-  if is_remembered; then return; fi
+  if [ -n "$program" ]; then return; fi
   (cd "$here" && note) 2> /dev/null || rm -f "$memory/stamps.$$"
   reason=$(cd "$here" && fault)
   (keep "$reason") 2> /dev/null
@@ -252,8 +297,7 @@ build() {
 
 find_program() {
   if ! [ -e "$here/crates.txt" ]; then
-    program=$installed
-    [ -x "$program" ] || fail "this script stands alone in $here; run it in its tree, link to it (ln -s), or copy it by tools/install"
+    [ -n "$program" ] || fail "this script stands alone in $here; run it in its tree, link to it (ln -s), or copy it by tools/install"
   elif is_released; then
     program=$here/release/lid
   else

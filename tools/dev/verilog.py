@@ -1,12 +1,13 @@
 #!/usr/bin/env python3
 """Compares `lid strict` of a netlist that tools/from_verilog made with Icarus Verilog's run of the Verilog itself.
 
-    tools/dev/verilog.py ROWS SEED TOP FILE.v.. [--keep MODULE].. [--reset NAME=LEVEL]..
+    tools/dev/verilog.py ROWS SEED TOP FILE.v.. [--keep MODULE].. [--pass PASS].. [--reset NAME=LEVEL]..
 
-An input that resets asynchronously in the Verilog does so at the next edge in the netlist, so it is given by --reset:
-it has this level in the first three rows, which are not compared, and the other one then. Random rows are given to the inputs of TOP, all but its clock, and each output is read before the clock rises. Where
-Icarus says x, a register that nothing has set yet, lid's bit is not looked at (lid lets it begin at 0). It says how many
-bits were compared, or what `lid check` refuses.
+--keep and --pass are those of tools/from_verilog. An input that resets asynchronously in the Verilog does so at the next
+edge in the netlist, so it is given by --reset: it has this level in the first three rows, which are not compared, and the
+other one then. Random rows are given to the inputs of TOP, all but its clock, and each output is read before the clock
+rises. Where Icarus says x, a register that nothing has set yet, lid's bit is not looked at (lid lets it begin at 0). It
+says how many bits were compared, or what `lid check` refuses.
 """
 
 import random
@@ -57,11 +58,13 @@ def main():
         parser.add_argument(name, type=kind)
     parser.add_argument("FILE", nargs="+")
     parser.add_argument("--keep", metavar="MODULE", action="append", default=[])
+    parser.add_argument("--pass", metavar="PASS", action="append", default=[], dest="passes")
     parser.add_argument("--reset", metavar="NAME=LEVEL", action="append", default=[])
     given = parser.parse_intermixed_args()
     need("yosys", "iverilog")
     many, seed, top, files = given.ROWS, given.SEED, given.TOP, given.FILE
-    rest = [*files, *(word for module in given.keep for word in ("--keep", module))]
+    options = {"--keep": given.keep, "--pass": given.passes}
+    rest = [*files, *(word for option, values in options.items() for value in values for word in (option, value))]
     resets = {name: int(level or 1) for name, _, level in (reset.partition("=") for reset in given.reset)}
     net = subprocess.run([TOOLS / "from_verilog", top, *rest], capture_output=True, text=True, check=False)
     if net.returncode:
