@@ -48,7 +48,7 @@ def ladder(count: int, dice: random.Random) -> str:
     reads = {}
     for k in range(half):
         left, right = at[k], at[half + k]
-        reads[left], reads[right] = [at[k - 1]], [at[half + k - 1] if k else at[count - 1]]
+        reads[left], reads[right] = [at[(k - 1) % half]], [at[half + (k - 1) % half]]
         (reads[left] if k % 2 else reads[right]).append(right if k % 2 else left)
     return netlist([[f"n{u}" for u in reads[v]] for v in range(count)])
 

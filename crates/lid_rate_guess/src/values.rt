@@ -28,7 +28,7 @@ pub(crate) struct Search {
     order: Vec<u32>,
     seen: Vec<u32>,
     count: u32,
-    round: u32,
+    pub(crate) round: u32,
     waiting: Queue,
 }
 
