@@ -21,13 +21,19 @@ pub struct Guess {
     pub tight: Items<Option<u32>>,
     /// Numbers that rise along those edges.
     pub ranks: Items<u32>,
+    /// How many rounds of policy iteration it took: at most `MOST_ROUNDS`, after which the guess may be wrong.
+    pub rounds: u32,
 }
+
+/// After so many rounds policy iteration gives up, so that it ends. Of the graphs that were tried none takes 100.
+pub(crate) const MOST_ROUNDS: u32 = 4_096;
 
 /// A policy, and a closed walk of it.
 #[derive(Drop)]
 pub(crate) struct Plan {
     pub(crate) policy: Policy,
     pub(crate) cycle: Cycle,
+    pub(crate) rounds: u32,
 }
 
 /// Makes all marks 0.
@@ -47,7 +53,7 @@ fn iterate(
 ) -> Cycle {
     let edges = graph.edges.as_slice();
     let mut cycle = least_cycle(marks, edges, &policy.choices);
-    for _ in 0..4_096 {
+    for _ in 0..MOST_ROUNDS {
         evaluate(search, policy, fans, edges, cycle);
         if !improve(search, policy, fans, edges, cycle) {
             return cycle;
@@ -58,12 +64,13 @@ fn iterate(
     cycle
 }
 
-/// The closed walk of a policy that was improved as far as can be.
-fn improved(alloc: Global, policy: &mut Policy, graph: &Graph) -> Result<Cycle, AllocError> {
+/// The closed walk of a policy that was improved as far as can be, and after how many rounds.
+fn improved(alloc: Global, policy: &mut Policy, graph: &Graph) -> Result<(Cycle, u32), AllocError> {
     let fans = fans_of(alloc, graph, Direction::In)?;
     let mut search = new_search(alloc, graph)?;
     let mut marks = Vec::from_elem(alloc, 0, graph.nodes as usize)?;
-    Ok(iterate(policy, &mut search, &mut marks, &fans, graph))
+    let cycle = iterate(policy, &mut search, &mut marks, &fans, graph);
+    Ok((cycle, search.round))
 }
 
 /// The policy of the fewest tokens.
@@ -76,8 +83,12 @@ pub(crate) fn first_policy(alloc: Global, graph: &Graph) -> Result<Policy, Alloc
 /// The best policy that was found, and its closed walk.
 fn plan_of(alloc: Global, graph: &Graph) -> Result<Plan, AllocError> {
     let mut policy = first_policy(alloc, graph)?;
-    let cycle = improved(alloc, &mut policy, graph)?;
-    Ok(Plan { policy, cycle })
+    let (cycle, rounds) = improved(alloc, &mut policy, graph)?;
+    Ok(Plan {
+        policy,
+        cycle,
+        rounds,
+    })
 }
 
 /// The edges of the closed walk.
@@ -116,5 +127,6 @@ pub fn propose(alloc: Global, graph: &Graph) -> Result<Guess, AllocError> {
         lags: Items::from_vec(lags),
         tight: Items::from_vec(tight),
         ranks: Items::from_vec(ranks),
+        rounds: plan.rounds,
     })
 }

@@ -2,7 +2,7 @@
 
 use crate::fans::{Direction, fans_of};
 use crate::groups::Groups;
-use crate::guess::{Plan, clear, first_policy, walk_of};
+use crate::guess::{MOST_ROUNDS, Plan, clear, first_policy, walk_of};
 use crate::policy::{Cycle, STOP, least_cycle};
 use crate::queue::{Aim, new_queue, raise_all};
 use crate::tables::{get, put};
@@ -61,7 +61,7 @@ fn improve_at(
         tokens: aim.p,
         edges: aim.q,
     };
-    for _ in 0..4_096 {
+    for _ in 0..MOST_ROUNDS {
         evaluate(search, policy, fans, edges, ratio);
         if !improve(search, policy, fans, edges, ratio) {
             return no_cycle();
@@ -75,17 +75,18 @@ fn improve_at(
     no_cycle()
 }
 
-/// The same with what it needs.
+/// The same with what it needs, and after how many rounds.
 fn settle_at(
     alloc: Global,
     policy: &mut Policy,
     graph: &Graph,
     aim: Aim,
-) -> Result<Cycle, AllocError> {
+) -> Result<(Cycle, u32), AllocError> {
     let fans = fans_of(alloc, graph, Direction::In)?;
     let mut search = new_search(alloc, graph)?;
     let mut marks = Vec::from_elem(alloc, 0, graph.nodes as usize)?;
-    Ok(improve_at(policy, &mut search, &mut marks, &fans, graph, aim))
+    let cycle = improve_at(policy, &mut search, &mut marks, &fans, graph, aim);
+    Ok((cycle, search.round))
 }
 
 /// The least of some values.
@@ -113,8 +114,12 @@ fn labels_of(alloc: Global, plan: &Plan) -> Result<Vec<u64>, AllocError> {
 fn plan_at(alloc: Global, graph: &Graph, aim: Aim) -> Result<Plan, AllocError> {
     let mut policy = first_policy(alloc, graph)?;
     put(&mut policy.choices, 0, STOP);
-    let cycle = settle_at(alloc, &mut policy, graph, aim)?;
-    Ok(Plan { policy, cycle })
+    let (cycle, rounds) = settle_at(alloc, &mut policy, graph, aim)?;
+    Ok(Plan {
+        policy,
+        cycle,
+        rounds,
+    })
 }
 
 /// The guess by policy iteration at the ratio.

@@ -15,12 +15,25 @@ pub(crate) struct Cycle {
     pub(crate) edges: u64,
 }
 
-/// Takes each edge that has fewer tokens than the one that was taken before.
-fn choose_few(choices: &mut [u32], fewest: &mut [u32], edges: &[Edge]) {
+/// How late an edge is chosen among those with as many tokens: edges forth come first, which have even numbers, then
+/// those back, and edges from a transition to itself last.
+fn rank(edge: Edge, number: u32) -> u64 {
+    if edge.from == edge.to {
+        2
+    } else {
+        u64::from(number % 2)
+    }
+}
+
+/// Takes each edge that has fewer tokens than the one that was taken before, or as many and comes before it.
+fn choose_few(choices: &mut [u32], fewest: &mut [u64], edges: &[Edge]) {
     let mut number: u32 = 0;
     for edge in edges {
-        if edge.tokens < get(fewest, edge.from, 0) {
-            put(fewest, edge.from, edge.tokens);
+        let key = u64::from(edge.tokens)
+            .wrapping_mul(4)
+            .wrapping_add(rank(*edge, number));
+        if key < get(fewest, edge.from, 0) {
+            put(fewest, edge.from, key);
             put(choices, edge.from, number);
         }
         number = number.wrapping_add(1);
@@ -30,7 +43,7 @@ fn choose_few(choices: &mut [u32], fewest: &mut [u32], edges: &[Edge]) {
 /// For each transition an edge out of it with the fewest tokens.
 pub(crate) fn first_choices(alloc: Global, graph: &Graph) -> Result<Vec<u32>, AllocError> {
     let mut choices = Vec::from_elem(alloc, 0, graph.nodes as usize)?;
-    let mut fewest = Vec::from_elem(alloc, u32::MAX, graph.nodes as usize)?;
+    let mut fewest = Vec::from_elem(alloc, u64::MAX, graph.nodes as usize)?;
     choose_few(&mut choices, &mut fewest, graph.edges.as_slice());
     Ok(choices)
 }

@@ -44,8 +44,8 @@ fn place_after(queue: &Queue, further: u32) -> u32 {
     }
 }
 
-/// Lets a transition wait.
-fn add(queue: &mut Queue, v: u32) {
+/// Lets a transition wait, if it does not.
+pub(crate) fn add(queue: &mut Queue, v: u32) {
     if get(&queue.waiting, v, true) {
         return;
     }
@@ -55,13 +55,25 @@ fn add(queue: &mut Queue, v: u32) {
     queue.count = queue.count.wrapping_add(1);
 }
 
-/// Takes the transition that has waited longest.
-fn take(queue: &mut Queue) -> u32 {
+/// Takes the transition that has waited longest, if one waits.
+pub(crate) fn take(queue: &mut Queue) -> Option<u32> {
+    if queue.count == 0 {
+        return None;
+    }
     let v = get(&queue.places, queue.head, 0);
     put(&mut queue.waiting, v, false);
     queue.head = place_after(queue, 1);
     queue.count = queue.count.wrapping_sub(1);
-    v
+    Some(v)
+}
+
+/// Lets none wait.
+pub(crate) fn clear(queue: &mut Queue) {
+    for k in 0..queue.waiting.len() {
+        queue.waiting[k] = false;
+    }
+    queue.head = 0;
+    queue.count = 0;
 }
 
 /// Raises the label where an edge ends to what it asks, and lets the transition wait, if it is less.
@@ -103,10 +115,9 @@ pub(crate) fn raise_all(
     }
     for _ in 0..4 {
         for _ in 0..queue.places.len() {
-            if queue.count == 0 {
+            let Some(v) = take(queue) else {
                 return true;
-            }
-            let v = take(queue);
+            };
             raise_from(labels, queue, fans, edges, aim, v);
         }
     }

@@ -6,6 +6,7 @@
 
 use crate::groups::Groups;
 use crate::policy::{Cycle, STOP};
+use crate::queue::{Queue, add, clear, new_queue, take};
 use crate::tables::{edge_at, get, put};
 use lid_graph::{Edge, Graph};
 use std::alloc::{AllocError, Global};
@@ -20,14 +21,15 @@ pub(crate) struct Policy {
     pub(crate) values: Vec<u64>,
 }
 
-/// A search back from a transition: in which round each transition was seen last, and those of this
-/// round in the order in which they were seen.
+/// A search back from a transition: in which round each transition was seen last, those of this round in the
+/// order in which they were seen, and those whose values are to be looked at where edges lead to them.
 #[derive(Drop)]
 pub(crate) struct Search {
-    queue: Vec<u32>,
+    order: Vec<u32>,
     seen: Vec<u32>,
     count: u32,
-    round: u32,
+    pub(crate) round: u32,
+    waiting: Queue,
 }
 
 /// What an edge costs.
@@ -39,20 +41,22 @@ pub(crate) fn cost(edge: Edge, cycle: Cycle) -> u64 {
 
 /// A search that has seen nothing.
 pub(crate) fn new_search(alloc: Global, graph: &Graph) -> Result<Search, AllocError> {
-    let queue = Vec::from_elem(alloc, 0, graph.nodes as usize)?;
+    let order = Vec::from_elem(alloc, 0, graph.nodes as usize)?;
     let seen = Vec::from_elem(alloc, 0, graph.nodes as usize)?;
+    let waiting = new_queue(alloc, graph)?;
     Ok(Search {
-        queue,
+        order,
         seen,
         count: 0,
         round: 0,
+        waiting,
     })
 }
 
-/// Puts a transition at the end of the queue.
+/// Puts a transition at the end of the order.
 fn see(search: &mut Search, v: u32) {
     put(&mut search.seen, v, search.round);
-    put(&mut search.queue, search.count, v);
+    put(&mut search.order, search.count, v);
     search.count = search.count.wrapping_add(1);
 }
 
@@ -96,7 +100,7 @@ fn step_back(
     }
 }
 
-/// Goes back from each transition of the queue.
+/// Goes back from each transition that was seen.
 fn search_back(
     search: &mut Search,
     policy: &mut Policy,
@@ -110,7 +114,7 @@ fn search_back(
         if place >= search.count {
             return;
         }
-        let v = get(&search.queue, place, 0);
+        let v = get(&search.order, place, 0);
         step_back(search, policy, fans, edges, cycle, v, any);
         place = place.wrapping_add(1);
     }
@@ -166,34 +170,54 @@ pub(crate) fn evaluate(
     }
 }
 
-/// Chooses each edge into a transition that lowers the value where it begins. Answers whether one does.
-fn improve_into(policy: &mut Policy, fans: &Groups, edges: &[Edge], cycle: Cycle, v: u32) -> bool {
+/// Chooses each edge into a transition that lowers the value where it begins, which waits then. Answers whether
+/// one does.
+fn improve_into(
+    policy: &mut Policy,
+    waiting: &mut Queue,
+    fans: &Groups,
+    edges: &[Edge],
+    cycle: Cycle,
+    v: u32,
+) -> bool {
     let mut lowered = false;
     for k in fans.at(v) {
         let edge = edge_at(edges, *k);
         let value = value_along(policy, edge, cycle);
         if value < get(&policy.values, edge.from, 0) {
             choose(policy, *k, edge, value);
+            add(waiting, edge.from);
             lowered = true;
         }
     }
     lowered
 }
 
-/// Chooses each edge that lowers the value where it begins, nearest to the closed walk first. Answers
-/// whether one does.
+/// Chooses each edge that lowers the value where it begins, nearest to the closed walk first, and then those into
+/// transitions whose values fell, until none falls or four times as often as there are transitions. (Values fall
+/// without end where the choices close to a walk of lower ratio; and they fall far in a round, where one look at
+/// each edge would move what was found by one edge.) Answers whether a value fell.
 pub(crate) fn improve(
-    search: &Search,
+    search: &mut Search,
     policy: &mut Policy,
     fans: &Groups,
     edges: &[Edge],
     cycle: Cycle,
 ) -> bool {
+    for v in search.order.as_slice() {
+        add(&mut search.waiting, *v);
+    }
     let mut lowered = false;
-    for v in search.queue.as_slice() {
-        if improve_into(policy, fans, edges, cycle, *v) {
-            lowered = true;
+    for _ in 0..4 {
+        for _ in 0..search.order.len() {
+            let Some(v) = take(&mut search.waiting) else {
+                return lowered;
+            };
+            if improve_into(policy, &mut search.waiting, fans, edges, cycle, v) {
+                lowered = true;
+            }
         }
     }
+    clear(&mut search.waiting);
     lowered
 }

@@ -198,7 +198,7 @@ fn are_shown(graph: &Graph, guess: &Guess, ratio: Ratio) -> bool
 ///
 /// # Errors
 /// Where there is no memory.
-pub(crate) fn judge(
+pub fn judge(
     alloc: Global,
     graph: &Graph,
     guess: &Guess,

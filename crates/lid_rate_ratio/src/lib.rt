@@ -15,6 +15,7 @@ mod spanning_tree;
 pub use branching::{tree_by, tree_of};
 pub use cycle_ratio::Rate;
 pub use holding::{Bound, holds, holds_by};
+pub use judging::judge;
 pub use lowest_terms::{Ratio, lowest, tokens_on};
 pub use rating::{rate_by, rate_of};
 pub use relaxation::edge;

@@ -3,6 +3,7 @@
 mod cert;
 mod designs;
 mod graph;
+mod guesses;
 mod large;
 mod order;
 mod rate;

@@ -160,6 +160,7 @@ fn guess_of(alloc: Global, guessed: &Guessed) -> Result<Guess, AllocError> {
         lags: Items::from_vec(lags),
         tight: Items::from_vec(tight),
         ranks: Items::from_vec(ranks),
+        rounds: 0,
     })
 }
 

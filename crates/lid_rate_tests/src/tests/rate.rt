@@ -350,7 +350,7 @@ fn are_least(graph: &Graph, parts: &[Part]) -> bool {
 }
 
 /// The next of a row of numbers that look like chance.
-fn draw(state: &mut u32, below: u32) -> u32 {
+pub(crate) fn draw(state: &mut u32, below: u32) -> u32 {
     *state = (state.wrapping_mul(75).wrapping_add(74)) % 65_537;
     if below == 0 { 0 } else { *state % below }
 }
