@@ -1,5 +1,5 @@
 -- What further relay stations on a channel do.
-use Rattle.std.specs.Prelude.{◌≡◌, ℕ, ◌+◌, ◌-◌, ◌<◌, ◌≤◌, List, length, Option}
+use Rattle.std.specs.Prelude.{◌≡◌, ℕ, ◌+◌, ◌<◌, ◌≤◌, List, length, Option}
 use Rattle.lid_graph.specs.Walks.{walk_tokens}
 use Rattle.lid_graph.specs.Ratios.{IsClosedWalkNear, IsRatio}
 use Rattle.lid_system.specs.declared.System.{System}
@@ -7,7 +7,7 @@ use Rattle.lid_system.specs.Systems.{IsWellFormed}
 use Rattle.lid_stations.specs.declared.placement.Placement.{Placement}
 use Rattle.lid_stations.specs.Placements.{links_of, Fits}
 use Rattle.lid_stations.specs.Markings.{marking}
-use Rattle.lid_slack_longer.specs.Longer.{stations_through, longer, longer_marking, room, producer, KeepsAt}
+use Rattle.lid_slack_longer.specs.Longer.{last_station, longer, longer_marking, room, producer, KeepsAt}
 use Rattle.lid_slack_longer.specs.Labels.{edge_along, AreLabels, IsWay}
 
 -- as many further relay stations as there is room for fit
@@ -27,10 +27,6 @@ FewerKeep =
     → IsWellFormed s → Fits s p → c < length s.channels → y ≤ room p c → x ≤ y
     → IsRatio (marking (links_of s) p) (producer (links_of s) c) a b
     → KeepsAt (links_of s) p c y a b → KeepsAt (links_of s) p c x a b
-
--- the last station of channel c
-abbrev pub last_station : Placement → ℕ → ℕ
-last_station p c = stations_through p.relays c - 1
 
 -- labels of the present marked graph show that a ratio is kept with some further relay stations
 abbrev pub LabelsKeep : Type 0
