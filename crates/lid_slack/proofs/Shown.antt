@@ -1,5 +1,5 @@
 -- What labels and ways show of the slack of a channel.
-use Rattle.std.proofs.Common.{◌≡◌, ℕ, zero, suc, ◌+◌, ◌-◌, ◌*◌, ◌<◌, ◌≤◌, List, [], ◌∷◌, length, Option, Some, None, refl, sym, ◌∙◌, ap, subst, true≢false, arith}
+use Rattle.std.proofs.Common.{◌≡◌, ℕ, zero, suc, ◌+◌, ◌*◌, ◌<◌, ◌≤◌, List, [], ◌∷◌, length, Option, Some, None, sym, ap, subst, true≢false, arith}
 use Rattle.std.specs.List.{All}
 use Rattle.std.specs.Option.{MatchOption, IsNone}
 use Rattle.lid_graph.specs.declared.graph.Graph.{Graph}
@@ -8,11 +8,11 @@ use Rattle.lid_graph.specs.Ratios.{IsRatio}
 use Rattle.lid_system.specs.declared.System.{System}
 use Rattle.lid_rate_ratio.specs.declared.lowest_terms.Ratio.{Ratio}
 use Rattle.lid_stations.specs.declared.placement.Placement.{Placement}
-use Rattle.lid_stations.specs.Placements.{Links, links_of, IsPlacement, station_count}
+use Rattle.lid_stations.specs.Placements.{Links, links_of, station_count}
 use Rattle.lid_stations.specs.Markings.{marking}
 use Rattle.lid_stations.proofs.Edges.{edges_long}
 use Rattle.lid_slack_longer.specs.Longer.{last_station, longer_marking, producer, room, KeepsAt}
-use Rattle.lid_slack_longer.specs.Labels.{edge_along, AreLabels, IsWay}
+use Rattle.lid_slack_longer.specs.Labels.{edge_along, AreLabels}
 use Rattle.lid_slack_longer.specs.Laws.{HasWalk}
 use Rattle.lid_slack_longer.proofs.Labelling.{labels_keep, ways_close}
 use Rattle.lid_slack_longer.proofs.Renumbering.{through_is, last_below}

@@ -6,7 +6,10 @@ ghost use Rattle.lid_slack.specs.Slack.{IsCertified};
 ghost use Rattle.lid_stations.specs.Placements.{links_of, Fits};
 
 use lid_rate_ratio::Ratio;
-use lid_slack::{Certified, Ways, certify, new_ways, propose, propose_slack, slack, slack_and_next, slack_by_ways, slack_shown};
+use lid_slack::{
+    Certified, Ways, certify, new_ways, propose, propose_slack, slack, slack_and_next,
+    slack_by_ways, slack_shown,
+};
 use lid_slack_longer::{last_station, room};
 use lid_stations::Placement;
 use lid_system::System;
