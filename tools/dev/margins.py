@@ -2,18 +2,24 @@
 """Compares `lid slack` and `lid size` with their definitions, on random small designs and placements.
 
     tools/dev/margins.py SEED COUNT
+    tools/dev/margins.py SEED COUNT --beside PROGRAM
 
 The slack of a channel is found by trying each number of further relay stations, and the sizes of at most six stations
 by trying all lists of capacities up to 4, by the ratios of rates.py. The sizes that are printed must reach, none of them
 can be lowered by one, and they are the first of those lists, or come before it where one of them is above 4. It stops at the first difference.
+
+With --beside, COUNT generated systems of 1 to 30 shells, with up to 64 relay stations on a channel and in half of them
+capacities up to 16, are given to `lid slack` and to another program, as an earlier release: both must print the same.
 """
 
 import itertools
+import random
+import subprocess
 import sys
 import tempfile
 from fractions import Fraction
 
-from arguments import numbers
+from arguments import parser_of
 from compare import Maker, text_of
 from gen import Draws
 from generated import design
@@ -123,26 +129,64 @@ def compare_short(session: Session):
     session.came["short"] += 1
 
 
+def draw_long_stations(dice: random.Random, named: list[str]) -> str:
+    """Stations with up to so many relay stations on a channel, in half of all texts of capacities 2 to 16."""
+    most, plain = dice.choice([1, 3, 3, 12, 64]), dice.random() < 0.5
+    lines = []
+    for name in named:
+        relays = dice.choice([0, dice.randint(0, most)])
+        caps = [] if plain else [str(dice.randint(2, 16)) for _ in range(relays + 1)]
+        lines.append(" ".join([name, str(relays), *caps]))
+    return "\n".join([f"lid-stations {1 if plain else 2}", *lines]) + "\n"
+
+
+def compare_beside(session: Session, seed: int, other: str):
+    session.files["net"].write_text(text_of(design(Draws(seed), 1 + seed % 30)))
+    told, _, _ = session.run("check", session.files["net"])
+    named = [" ".join(line.split()[1:4]) for line in told.splitlines() if line.startswith("channel ")]
+    session.files["stations"].write_text(draw_long_stations(session.dice, named))
+    words = ["slack", session.files["net"], "--stations", session.files["stations"]]
+    ran = subprocess.run([other, *words], capture_output=True, text=True, check=False)
+    session.want(session.run(*words), (ran.stdout, ran.stderr, ran.returncode), "slack")
+    session.want(ran.returncode, 0, "slack of the other program")
+    session.came["systems"] += 1
+    session.came["channels"] += len(named)
+    session.came["channels of a shell to itself"] += sum(name.split()[0] == name.split()[1] for name in named)
+    session.came["channels with a ratio next"] += sum(not line.endswith(" -") for line in ran.stdout.splitlines())
+
+
+def compare_known(session: Session, maker: Maker, count: int):
+    compare_short(session)
+    known = [ring(), diamond(), pipeline()]
+    made = [maker.design() for _ in range(count)] + [design(Draws(n), 1 + n % 5) for n in range(count)]
+    for models in [*known, *made]:
+        try:
+            judge = Judge(models, models[0])
+            system = System(judge, judge.run())
+        except Refused:
+            continue
+        session.files["net"].write_text(text_of(models))
+        relays, caps = session.draw_stations(system.named)
+        if len(caps) > 14:
+            continue
+        compare_slack(session, system, relays, caps)
+        compare_size(session, system, relays, len(caps))
+
+
 def main():
-    seed, count = numbers(__doc__, "SEED", "COUNT")
-    maker = Maker(seed)
+    parser = parser_of(__doc__)
+    parser.add_argument("SEED", type=int)
+    parser.add_argument("COUNT", type=int)
+    parser.add_argument("--beside", metavar="PROGRAM")
+    given = parser.parse_args()
+    maker = Maker(given.SEED)
     with tempfile.TemporaryDirectory() as folder:
         session = Session(folder, maker.dice)
-        compare_short(session)
-        known = [ring(), diamond(), pipeline()]
-        made = [maker.design() for _ in range(count)] + [design(Draws(n), 1 + n % 5) for n in range(count)]
-        for models in [*known, *made]:
-            try:
-                judge = Judge(models, models[0])
-                system = System(judge, judge.run())
-            except Refused:
-                continue
-            session.files["net"].write_text(text_of(models))
-            relays, caps = session.draw_stations(system.named)
-            if len(caps) > 14:
-                continue
-            compare_slack(session, system, relays, caps)
-            compare_size(session, system, relays, len(caps))
+        if given.beside:
+            for seed in range(given.SEED, given.SEED + given.COUNT):
+                compare_beside(session, seed, given.beside)
+        else:
+            compare_known(session, maker, given.COUNT)
     print(*(f"{count:8} {what}" for what, count in session.came.most_common()), sep="\n")
 
 

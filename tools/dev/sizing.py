@@ -4,9 +4,7 @@
     tools/dev/sizing.py [WORD]
 
 It takes the designs whose names have WORD. A time is the processor's (user and system) of the whole program, the lesser
-of two where it is below 20 seconds, and memory is its peak. `slack` of all channels is run where it should take less than
-four minutes; elsewhere stands, after a ~, what it should take: two certificates for each channel, and the time of
-a certificate is that of `rate` less that of `check`.
+of two where it is below 20 seconds, and memory is its peak, first that of `size`, then that of `slack` of all channels.
 """
 
 import os
@@ -139,19 +137,16 @@ def wide(told: str) -> str:
 
 
 def row(name: str, net: Path, relays_of) -> str:
-    checked, _, told = least("check", net)
+    _, _, told = least("check", net)
     names = [line.split()[1:4] for line in told.splitlines() if line.startswith("channel ")]
     relays = relays_of(random.Random(1), names)
     stations = net.with_suffix(".stations")
     stations.write_text("lid-stations 1\n" + "".join(f"{a} {b} {p} {k}\n" for (a, b, p), k in zip(names, relays) if k > 0))
     rated, _, _ = least("rate", net, "--stations", stations)
     took, kept, sized = least("size", net, "--stations", stations)
-    wanted = 2 * len(names) * (rated - checked)
-    slack = f"~{wanted:,.0f}"
-    if wanted < 240:
-        slack = "{0:.2f}".format(*least("slack", net, "--stations", stations))
+    slack, held, _ = least("slack", net, "--stations", stations)
     count = sum(relays) + len(names)
-    return f"| {name} | {len(names):,} | {count:,} | {wide(sized)} | {rated:.2f} | {took:.2f} | {kept // 1024} | {slack} |"
+    return f"| {name} | {len(names):,} | {count:,} | {wide(sized)} | {rated:.2f} | {took:.2f} | {kept // 1024} | {slack:.2f} | {held // 1024} |"
 
 
 def main():
@@ -159,7 +154,7 @@ def main():
     parser.add_argument("WORD", nargs="?", default="")
     word = parser.parse_args().WORD
     program()
-    print("| Netlist | channels | stations | above 2 places | `rate` | `size` | MB | `slack` of all |\n|---|---|---|---|---|---|---|---|")
+    print("| Netlist | channels | stations | above 2 places | `rate` | `size` | MB | `slack` of all | MB |\n|---|---|---|---|---|---|---|---|---|")
     with tempfile.TemporaryDirectory() as folder:
         for name, make, relays_of in DESIGNS:
             if word in name:

@@ -4,7 +4,7 @@
 #![tactic(auto)]
 
 mod forwards;
-mod heap;
+pub mod heap;
 mod lengthening;
 mod search;
 mod sizes;

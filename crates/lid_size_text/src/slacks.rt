@@ -10,7 +10,7 @@ ghost use Rattle.lid_system.specs.Systems.{IsWellFormed};
 use crate::ratio::append_ratio;
 use lid_base_lines::append_number_word;
 use lid_rate_ratio::Ratio;
-use lid_slack::{Certified, SlackAndNext, certify, slack_from};
+use lid_slack::{Certified, Found, certify, new_ways, slack_by_ways};
 use lid_stations::Placement;
 use lid_system::System;
 use lid_texts_runs::append_node;
@@ -44,15 +44,15 @@ fn append_channel(system: &System, channel: u32, into: &mut Vec<u8>) -> Result<(
 fn append_slack(
     system: &System,
     channel: u32,
-    found: &SlackAndNext,
+    found: Found,
     into: &mut Vec<u8>,
 ) -> Result<(), AllocError>
     requires { channel < length system.now.channels }
-    ensures { OnOk result (into.new.items ≡ into.old.items ++ line_text (slack_words (links_of system.now) channel found.now.slack.added (next_ratio_word found.now.next))) }
+    ensures { OnOk result (into.new.items ≡ into.old.items ++ line_text (slack_words (links_of system.now) channel found.added (next_ratio_word found.next))) }
 {
     into.extend_from_slice(b"slack ")?;
     append_channel(system, channel, into)?;
-    append_number_word(u64::from(found.slack.added), into)?;
+    append_number_word(u64::from(found.added), into)?;
     into.extend_from_slice(b" next ")?;
     append_next(found.next, into)?;
     into.push(b'\n')?;
@@ -71,16 +71,19 @@ fn text_from(
     requires present { IsCertified (links_of system.now) placement.now present.now }
     ensures { IfOk result (λ text. IsSlackText (links_of system.now) placement.now text.items) }
 {
+    let mut ways = new_ways(alloc, &present.graph, &present.cert)?;
     let mut text = Vec::new(alloc);
     for channel in 0..system.channels.len() {
-        let found = slack_from(alloc, system, placement, present, channel as u32)?;
-        append_slack(system, channel as u32, &found, &mut text)?;
+        let number = channel as u32;
+        let found = slack_by_ways(alloc, system, placement, present, number, &mut ways)?;
+        append_slack(system, number, found, &mut text)?;
     }
     Ok(text)
 }
 
 /// The slack of each channel of a system, in order: a line with the channel, how many further relay stations it
-/// takes, and the ratio of its component with one more. The placement as it is is certified once for all channels.
+/// takes, and the ratio of its component with one more. The placement as it is is certified once for all channels, and
+/// what is searched for a channel is held no longer than for it.
 ///
 /// # Errors
 /// Where there is no memory.

@@ -1,2 +1,3 @@
 pub mod Ratios
 pub mod Tried
+pub mod Shown

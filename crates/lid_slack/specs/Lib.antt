@@ -1,3 +1,4 @@
 pub mod Slack
 pub mod Trials
 pub mod Laws
+pub mod Labelled

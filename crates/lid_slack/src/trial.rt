@@ -92,7 +92,7 @@ pub(crate) fn ratio_of(cert: &Cert, part: usize) -> Ratio
 }
 
 /// Whether a ratio is below another.
-fn is_below(ratio: Ratio, other: Ratio) -> bool
+pub(crate) fn is_below(ratio: Ratio, other: Ratio) -> bool
     requires p { ratio.p < 2 ^ 31 }
     requires q { ratio.q < 2 ^ 31 }
     requires other_p { other.p < 2 ^ 31 }

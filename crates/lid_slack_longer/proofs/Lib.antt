@@ -3,3 +3,5 @@ pub mod Rounds
 pub mod Renumbering
 pub mod Chains
 pub mod Kept
+pub mod Labelled
+pub mod Labelling

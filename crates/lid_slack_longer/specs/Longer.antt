@@ -12,6 +12,10 @@ use Rattle.lid_stations.specs.Markings.{marking}
 abbrev pub stations_through : List ℕ → ℕ → ℕ
 stations_through relays c = station_count (take (c + 1) relays)
 
+-- the last station of channel c
+abbrev pub last_station : Placement → ℕ → ℕ
+last_station p c = stations_through p.relays c - 1
+
 -- the placement with x further relay stations of capacity 2 after the last station of channel c
 abbrev pub longer : Placement → ℕ → ℕ → Placement
 longer p c x = record {

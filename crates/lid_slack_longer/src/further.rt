@@ -2,7 +2,7 @@
 
 ghost use Rattle.std.specs.Prelude.{◌≡◌, ◌+◌, ◌<◌, ◌≤◌, ◌++◌, length, take, drop, replicate, slice_index_or, slice_set, IfOk};
 ghost use Rattle.lid_stations.specs.Placements.{IsPlacement};
-ghost use Rattle.lid_slack_longer.specs.Longer.{room, longer, stations_through};
+ghost use Rattle.lid_slack_longer.specs.Longer.{room, longer, stations_through, last_station};
 
 use lid_base::Items;
 use lid_stations::Placement;
@@ -60,6 +60,16 @@ pub fn stations_through(placement: &Placement, channel: u32) -> usize
         count += relays[c] as usize + 1;
     }
     count
+}
+
+/// The number of the last station of a channel.
+pub fn last_station(placement: &Placement, channel: u32) -> u32
+    requires placement { IsPlacement placement.now }
+    requires there { channel < length placement.now.relays }
+    ensures is { result ≡ last_station placement.now channel }
+    ensures small { result < 65536 }
+{
+    stations_through(placement, channel).saturating_sub(1) as u32
 }
 
 /// The counts of relay stations, with so many more on a channel.

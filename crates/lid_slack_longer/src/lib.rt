@@ -3,7 +3,9 @@
 #![tactic(auto)]
 
 mod further;
+mod labels;
 mod laws;
 
-pub use further::{longer, room, stations_through};
-pub use laws::{fewer_keep, further_stations_fit, none_are_none};
+pub use further::{last_station, longer, room, stations_through};
+pub use labels::{Chain, are_labels, is_way};
+pub use laws::{fewer_keep, further_stations_fit, labels_keep, none_are_none, ways_close};

@@ -2,10 +2,15 @@
 
 ghost use Rattle.std.specs.Prelude.{◌<◌, length};
 ghost use Rattle.lid_system.specs.Systems.{IsWellFormed};
-ghost use Rattle.lid_stations.specs.Placements.{Fits};
+ghost use Rattle.lid_slack.specs.Slack.{IsCertified};
+ghost use Rattle.lid_stations.specs.Placements.{links_of, Fits};
 
 use lid_rate_ratio::Ratio;
-use lid_slack::{Certified, certify, propose_slack, slack, slack_and_next};
+use lid_slack::{
+    Certified, Ways, certify, new_ways, propose, propose_slack, slack, slack_and_next,
+    slack_by_ways, slack_shown,
+};
+use lid_slack_longer::{last_station, room};
 use lid_stations::Placement;
 use lid_system::System;
 use lid_tests_fixtures::{DIAMOND, MADE, RING, placed_of};
@@ -115,7 +120,89 @@ fn have_slacks(alloc: Global, system: &System, placement: &Placement, cases: &[C
     true
 }
 
+/// Whether what is proposed of a channel by shortest ways shows such a slack, so that no certificates are asked.
+fn is_shown(
+    system: &System,
+    placement: &Placement,
+    present: &Certified,
+    ways: &mut Ways,
+    case: Case,
+) -> bool
+    requires system { IsWellFormed system.now }
+    requires fits { Fits system.now placement.now }
+    requires present { IsCertified (links_of system.now) placement.now present.now }
+{
+    let (channel, added, p, q) = case;
+    if channel as usize >= system.channels.len() {
+        return false;
+    }
+    let station = last_station(placement, channel);
+    let most = room(placement, channel);
+    if propose(ways, &present.graph, &present.cert, station, most).is_err() {
+        return false;
+    }
+    match slack_shown(system, placement, present, channel, &ways.proposal) {
+        Some(found) => found.added == added && is_next(found.next, p, q),
+        None => false,
+    }
+}
+
+/// Whether `slack_by_ways` tells such a slack of a channel.
+fn is_told(
+    alloc: Global,
+    system: &System,
+    placement: &Placement,
+    present: &Certified,
+    ways: &mut Ways,
+    case: Case,
+) -> bool
+    requires system { IsWellFormed system.now }
+    requires fits { Fits system.now placement.now }
+    requires present { IsCertified (links_of system.now) placement.now present.now }
+{
+    let (channel, added, p, q) = case;
+    if channel as usize >= system.channels.len() {
+        return false;
+    }
+    match slack_by_ways(alloc, system, placement, present, channel, ways) {
+        Ok(found) => found.added == added && is_next(found.next, p, q),
+        Err(_) => false,
+    }
+}
+
+/// Whether each of some channels has such a slack by shortest ways, one after the other.
+fn are_shown(alloc: Global, system: &System, placement: &Placement, cases: &[Case]) -> bool
+    requires system { IsWellFormed system.now }
+    requires fits { Fits system.now placement.now }
+{
+    let Ok(present) = certify(alloc, system, placement) else {
+        return false;
+    };
+    let Ok(mut ways) = new_ways(alloc, &present.graph, &present.cert) else {
+        return false;
+    };
+    for case in cases {
+        if !is_shown(system, placement, &present, &mut ways, *case) {
+            return false;
+        }
+    }
+    for case in cases {
+        if !is_told(alloc, system, placement, &present, &mut ways, *case) {
+            return false;
+        }
+    }
+    true
+}
+
 /// The same of a netlist with stations as a text.
+fn are_shown_ways(alloc: Global, netlist: &[u8], stations: &[u8], cases: &[Case]) -> bool {
+    match placed_of(alloc, netlist, stations) {
+        Some(placed) => are_shown(alloc, &placed.system, &placed.placement, cases),
+        None => false,
+    }
+}
+
+/// The same of certificates.
 fn are_slacks(alloc: Global, netlist: &[u8], stations: &[u8], cases: &[Case]) -> bool {
     match placed_of(alloc, netlist, stations) {
         Some(placed) => have_slacks(alloc, &placed.system, &placed.placement, cases),
@@ -252,6 +339,54 @@ fn the_slack_of_a_generated_system_is_guessed(rt: HostRuntime) {
             b"lid-stations 1\nin u1 0 2\nu0 out 0 1\nu1 u0 0 1\n",
             0,
             &MADE_GUESSES
+        )
+    );
+}
+
+#[test]
+fn ways_show_the_slack_of_a_ring(rt: HostRuntime) {
+    assert!(rt;
+        are_shown_ways(
+            rt.alloc(),
+            RING,
+            b"lid-stations 1\nu0 u1 0 1\n",
+            &RING_CASES
+        )
+    );
+}
+
+#[test]
+fn ways_show_the_slack_of_two_ways(rt: HostRuntime) {
+    assert!(rt;
+        are_shown_ways(
+            rt.alloc(),
+            DIAMOND,
+            b"lid-stations 1\nu0 u1 0 3\n",
+            &TWO_WAYS_CASES
+        )
+    );
+}
+
+#[test]
+fn ways_show_that_a_full_channel_has_no_slack(rt: HostRuntime) {
+    assert!(rt;
+        are_shown_ways(
+            rt.alloc(),
+            RING,
+            b"lid-stations 1\nu0 u1 0 64\nu1 out 0 64\n",
+            &FULL_CASES
+        )
+    );
+}
+
+#[test]
+fn ways_show_the_slack_of_a_generated_system(rt: HostRuntime) {
+    assert!(rt;
+        are_shown_ways(
+            rt.alloc(),
+            MADE,
+            b"lid-stations 1\nin u1 0 2\nu0 out 0 1\nu1 u0 0 1\n",
+            &MADE_CASES
         )
     );
 }

@@ -7,5 +7,5 @@ pub loop-channel-preserved : goal.loop-channel-preserved
 loop-channel-preserved c =
     let l = links_of c.args.system.now in
     let found = c.in_ok-found.found in
-    one_more l c.args.placement.now c.loop-channel.channel c.loop-channel.text.items c.append_slack.new.into.items (slack_words l c.loop-channel.channel found.slack.added (next_ratio_word found.next)) c.loop-channel.invariant
-    (line_is l c.args.placement.now c.loop-channel.channel found.slack found.next c.in_ok-found.ensures.slack c.in_ok-found.ensures.next) c.in_ok-append_slack.ensures
+    one_more l c.args.placement.now c.loop-channel.channel c.loop-channel.text.items c.append_slack.new.into.items (slack_words l c.loop-channel.channel found.added (next_ratio_word found.next)) c.loop-channel.invariant
+    (line_is l c.args.placement.now c.loop-channel.channel found c.in_ok-found.ensures) c.in_ok-append_slack.ensures
