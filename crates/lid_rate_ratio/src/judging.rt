@@ -198,11 +198,7 @@ fn are_shown(graph: &Graph, guess: &Guess, ratio: Ratio) -> bool
 ///
 /// # Errors
 /// Where there is no memory.
-pub fn judge(
-    alloc: Global,
-    graph: &Graph,
-    guess: &Guess,
-) -> Result<Option<Ratio>, AllocError>
+pub fn judge(alloc: Global, graph: &Graph, guess: &Guess) -> Result<Option<Ratio>, AllocError>
     requires { IsSmallGraph graph.now }
     ensures { IfOk result (λ found. IfSome found (λ ratio. HasRate graph.now ratio.p ratio.q guess.now.walk guess.now.lags)) }
 {

@@ -48,13 +48,21 @@ fn lay_some(laid: &mut Laid, from: u32, to: u32, below: u32) -> Result<(), Alloc
     lay(laid, from, to, relays)
 }
 
+/// The number of the shell at a place of a ring in which each is numbered by so much more than the one before.
+fn number_of(place: u32, step: u32, shells: u32) -> u32 {
+    if shells == 0 {
+        0
+    } else {
+        place.wrapping_mul(step) % shells
+    }
+}
+
 /// Shells in a ring, each of which is numbered by so much more than the one before.
 fn ring_of(alloc: Global, shells: u32, step: u32) -> Result<Laid, AllocError> {
     let mut laid = new_laid(alloc, shells);
-    let count = shells.max(1);
     for place in 0..shells {
-        let from = place.wrapping_mul(step) % count;
-        let to = place.wrapping_add(1).wrapping_mul(step) % count;
+        let from = number_of(place, step, shells);
+        let to = number_of(place.wrapping_add(1), step, shells);
         lay_some(&mut laid, from, to, 16)?;
     }
     Ok(laid)
@@ -63,12 +71,16 @@ fn ring_of(alloc: Global, shells: u32, step: u32) -> Result<Laid, AllocError> {
 /// Two rings of shells that are numbered so, and channels between them, from the one and from the other in turn.
 fn ladder_of(alloc: Global, shells: u32, step: u32) -> Result<Laid, AllocError> {
     let mut laid = new_laid(alloc, shells.saturating_mul(2));
-    let count = shells.max(1);
     for place in 0..shells {
-        let from = place.wrapping_mul(step) % count;
-        let to = place.wrapping_add(1).wrapping_mul(step) % count;
+        let from = number_of(place, step, shells);
+        let to = number_of(place.wrapping_add(1), step, shells);
         lay_some(&mut laid, from, to, 15)?;
-        lay_some(&mut laid, shells.saturating_add(from), shells.saturating_add(to), 15)?;
+        lay_some(
+            &mut laid,
+            shells.saturating_add(from),
+            shells.saturating_add(to),
+            15,
+        )?;
         if place % 2 == 0 {
             lay_some(&mut laid, from, shells.saturating_add(from), 15)?;
         } else {
@@ -86,12 +98,21 @@ fn fan_of(alloc: Global, way: u32, relays: u32) -> Result<Laid, AllocError> {
     let mut laid = new_laid(alloc, readers.saturating_add(way));
     for place in 0..way {
         lay(&mut laid, place, place.saturating_add(1), relays)?;
-        let from = if place == 0 { 0 } else { way.saturating_add(place) };
+        let from = if place == 0 {
+            0
+        } else {
+            way.saturating_add(place)
+        };
         lay(&mut laid, from, second.saturating_add(place), relays)?;
     }
     for reader in 0..way {
         lay(&mut laid, way, readers.saturating_add(reader), 1)?;
-        lay(&mut laid, way.saturating_add(way), readers.saturating_add(reader), 0)?;
+        lay(
+            &mut laid,
+            way.saturating_add(way),
+            readers.saturating_add(reader),
+            0,
+        )?;
     }
     Ok(laid)
 }
@@ -101,7 +122,11 @@ fn blocks_of(alloc: Global, blocks: u32) -> Result<Laid, AllocError> {
     let mut laid = new_laid(alloc, blocks.saturating_mul(3));
     for block in 0..blocks {
         let at = block.saturating_mul(3);
-        let end = if block.saturating_add(1) < blocks { at.saturating_add(3) } else { 0 };
+        let end = if block.saturating_add(1) < blocks {
+            at.saturating_add(3)
+        } else {
+            0
+        };
         for between in 1..3u32 {
             lay_some(&mut laid, at, at.saturating_add(between), 6)?;
             lay_some(&mut laid, at.saturating_add(between), end, 6)?;
@@ -154,8 +179,8 @@ fn rings_take_few_rounds(rt: HostRuntime) {
 
 #[test]
 fn ladders_take_few_rounds(rt: HostRuntime) {
-    assert!(rt; is_found(rt.alloc(), ladder_of(rt.alloc(), 150, 7), 30));
-    assert!(rt; is_found(rt.alloc(), ladder_of(rt.alloc(), 2_000, 7), 60));
+    assert!(rt; is_found(rt.alloc(), ladder_of(rt.alloc(), 150, 7), 20));
+    assert!(rt; is_found(rt.alloc(), ladder_of(rt.alloc(), 2_000, 7), 40));
 }
 
 #[test]
@@ -166,6 +191,6 @@ fn fans_take_few_rounds(rt: HostRuntime) {
 
 #[test]
 fn blocks_take_few_rounds(rt: HostRuntime) {
-    assert!(rt; is_found(rt.alloc(), blocks_of(rt.alloc(), 60), 30));
-    assert!(rt; is_found(rt.alloc(), blocks_of(rt.alloc(), 1_300), 60));
+    assert!(rt; is_found(rt.alloc(), blocks_of(rt.alloc(), 60), 20));
+    assert!(rt; is_found(rt.alloc(), blocks_of(rt.alloc(), 1_300), 40));
 }
