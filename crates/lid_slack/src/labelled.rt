@@ -203,8 +203,7 @@ pub fn slack_by_ways(
     requires channel { channel < length system.now.channels }
     ensures { IfOk result (IsSlackAndNext (links_of system.now) placement.now channel) }
 {
-    let station = last_station(placement, channel);
     let most = room(placement, channel);
-    propose(ways, &present.graph, &present.cert, station, most)?;
+    propose(ways, &present.graph, &present.cert, channel, most)?;
     slack_found(alloc, system, placement, present, channel, &ways.proposal)
 }
