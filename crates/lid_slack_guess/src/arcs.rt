@@ -6,8 +6,8 @@ use lid_graph::{Edge, Graph};
 use lid_rate_guess::{Groups, edge_at, get, groups_of, put, put_each};
 use std::alloc::{AllocError, Global};
 
-/// A channel from one of its ends to the other: where it leads, its number, whether it is gone back along, how many edges
-/// it has, and what they cost.
+/// A channel from one of its ends to the other: where it leads, its number, whether it is gone back along, how many
+/// edges it has, and what they cost.
 #[derive(Clone, Copy)]
 pub(crate) struct Arc {
     pub(crate) to: u32,

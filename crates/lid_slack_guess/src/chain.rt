@@ -1,12 +1,13 @@
-//! A channel whose slack is asked, and how far the way from where its last station is drained to where it is filled may be.
+//! A channel whose slack is asked, and how far the way from where its last station is drained to where it is filled may
+//! be.
 
 use crate::arcs::{Potentials, cost_along, edge_on, start_of, stations_on};
 use lid_cert::Cert;
 use lid_graph::Graph;
 use lid_rate_guess::{edge_at, gcd, get};
 
-/// A channel, the nodes that it joins, the actor that fills its last station, the start tokens of that, the number of its
-/// part, and the ratio of that. Its edges before the last station are a prefix of the way from the producer.
+/// A channel, the nodes that it joins, the actor that fills its last station, the start tokens of that, the number of
+/// its part, and the ratio of that. Its edges before the last station are how a way goes on from the producer.
 #[derive(Clone, Copy)]
 pub(crate) struct Chain {
     pub(crate) channel: u32,
