@@ -71,7 +71,12 @@ fn text_from(
     requires present { IsCertified (links_of system.now) placement.now present.now }
     ensures { IfOk result (λ text. IsSlackText (links_of system.now) placement.now text.items) }
 {
-    let mut ways = new_ways(alloc, &present.graph, &present.cert)?;
+    let mut ways = new_ways(
+        alloc,
+        &present.graph,
+        &present.cert,
+        placement.relays.as_slice(),
+    )?;
     let mut text = Vec::new(alloc);
     for channel in 0..system.channels.len() {
         let number = channel as u32;

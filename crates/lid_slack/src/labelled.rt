@@ -1,5 +1,5 @@
-//! The slack of a channel from labels and a way that are proposed. They are tested, so whoever proposes them need not be
-//! believed.
+//! The slack of a channel from labels and a way that are proposed. They are tested, so whoever proposes them need not
+//! be believed.
 
 ghost use Rattle.std.specs.Prelude.{◌≡◌, ◌+◌, ◌<◌, ◌≤◌, length, IfOk, IfSome, IsTrue};
 ghost use Rattle.lid_graph.specs.Rateable.{IsRateable};
@@ -87,8 +87,8 @@ fn way_ratio(probe: &Probe<'_>, graph: &Graph, more: u32, way: &[u32]) -> Option
     Some(lowest(tokens, edges))
 }
 
-/// The ratio of a channel's component with so many further relay stations, if a way shows that it is no higher and below
-/// the present one, and labels that it is no lower.
+/// The ratio of a channel's component with so many further relay stations, if a way shows that it is no higher and
+/// below the present one, and labels that it is no lower.
 fn lower_ratio(
     probe: &Probe<'_>,
     graph: &Graph,
@@ -203,8 +203,7 @@ pub fn slack_by_ways(
     requires channel { channel < length system.now.channels }
     ensures { IfOk result (IsSlackAndNext (links_of system.now) placement.now channel) }
 {
-    let station = last_station(placement, channel);
     let most = room(placement, channel);
-    propose(ways, &present.graph, &present.cert, station, most)?;
+    propose(ways, &present.graph, &present.cert, channel, most)?;
     slack_found(alloc, system, placement, present, channel, &ways.proposal)
 }

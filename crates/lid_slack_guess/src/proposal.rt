@@ -1,10 +1,11 @@
 //! What is proposed of a channel.
 
-use crate::chain::{Chain, Lower, quotient};
+use crate::arcs::{Arc, Arcs, Potentials, edge_on};
+use crate::chain::{Chain, Price, quotient};
 use crate::search::{Search, far};
 use lid_cert::Cert;
 use lid_graph::Graph;
-use lid_rate_guess::{get, put};
+use lid_rate_guess::{edge_at, get, put};
 use std::alloc::{AllocError, Global};
 
 /// How many further relay stations a channel is said to take, and what may show it. Labels are told of the
@@ -23,6 +24,8 @@ pub struct Proposal {
     part: Option<u32>,
     /// The transitions whose labels are not their lags.
     raised: Vec<u32>,
+    /// The same of the labels with one more.
+    others: Vec<u32>,
 }
 
 /// For each of so many transitions no label.
@@ -39,11 +42,12 @@ pub(crate) fn no_proposal(alloc: Global, graph: &Graph) -> Result<Proposal, Allo
         next: no_labels(alloc, graph.nodes)?,
         part: None,
         raised: Vec::new(alloc),
+        others: Vec::new(alloc),
     })
 }
 
 /// The transitions of a part, by its number.
-pub(crate) fn nodes_of(cert: &Cert, number: u32) -> &[u32] {
+fn nodes_of(cert: &Cert, number: u32) -> &[u32] {
     match cert.parts.as_slice().get(number as usize) {
         Some(part) => part.nodes.as_slice(),
         None => &[],
@@ -57,64 +61,148 @@ fn unlabel(labels: &mut [Option<u64>], nodes: &[u32]) {
     }
 }
 
-/// Lets some transitions have their lags as labels.
-fn label(labels: &mut [Option<u64>], nodes: &[u32], lags: &[u64]) {
+/// Lets some transitions have as labels their lags, so many times in whole units.
+fn label(labels: &mut [Option<u64>], nodes: &[u32], lags: &[u64], price: Price) {
     for v in nodes {
-        put(labels, *v, Some(get(lags, *v, 0)));
+        let asked = get(lags, *v, 0).wrapping_mul(price.times);
+        put(labels, *v, Some(quotient(asked, price.unit)));
     }
 }
 
 /// Lets the transitions of a part have their lags as labels, and no others.
-pub(crate) fn turn_to(proposal: &mut Proposal, cert: &Cert, part: u32, lags: &[u64]) {
+pub(crate) fn turn_to(proposal: &mut Proposal, cert: &Cert, part: u32, lags: &[u64], price: Price) {
     if proposal.part == Some(part) {
-        label(&mut proposal.kept, &proposal.raised, lags);
+        label(&mut proposal.kept, &proposal.raised, lags, price);
     } else {
         if let Some(before) = proposal.part {
             unlabel(&mut proposal.kept, nodes_of(cert, before));
             unlabel(&mut proposal.next, nodes_of(cert, before));
         }
-        label(&mut proposal.kept, nodes_of(cert, part), lags);
+        label(&mut proposal.kept, nodes_of(cert, part), lags, price);
         proposal.part = Some(part);
     }
     proposal.raised.clear();
 }
 
-/// Raises the labels of the transitions that were settled, by what is needed less how far they are.
-pub(crate) fn raise(
-    proposal: &mut Proposal,
-    search: &Search,
+/// What raises labels: how far the filler of a channel is to be from its drainer, at a price. What is nearer lacks the
+/// rest.
+#[derive(Clone, Copy)]
+pub(crate) struct Rise {
+    pub(crate) channel: u32,
+    pub(crate) price: Price,
+    pub(crate) need: u64,
+}
+
+/// What was searched, and over what.
+#[derive(Clone, Copy)]
+pub(crate) struct Field<'f> {
+    pub(crate) graph: &'f Graph,
+    pub(crate) potentials: &'f Potentials,
+    pub(crate) arcs: &'f Arcs,
+    pub(crate) search: &'f Search,
+}
+
+/// Raises the label of a transition that is so far.
+fn raise_one(
+    labels: &mut [Option<u64>],
+    raised: &mut Vec<u32>,
     lags: &[u64],
-    need: u64,
+    rise: Rise,
+    v: u32,
+    far: u64,
 ) -> Result<(), AllocError> {
-    for v in &search.order {
-        let far = far(search, *v);
-        if far < need {
-            let label = get(lags, *v, 0).wrapping_add(need.wrapping_sub(far));
-            put(&mut proposal.kept, *v, Some(label));
-            proposal.raised.push(*v)?;
+    let asked = get(lags, v, 0).wrapping_mul(rise.price.times);
+    let more = rise.need.wrapping_sub(far);
+    let label = quotient(asked.wrapping_add(more), rise.price.unit);
+    if label > get(labels, v, None).unwrap_or(0) {
+        put(labels, v, Some(label));
+        raised.push(v)?;
+    }
+    Ok(())
+}
+
+/// Raises the labels of the movers of a channel, from an end of it that is so far on.
+fn raise_movers(
+    labels: &mut [Option<u64>],
+    raised: &mut Vec<u32>,
+    field: &Field<'_>,
+    rise: Rise,
+    arc: Arc,
+    from: u64,
+) -> Result<(), AllocError> {
+    let potentials = field.potentials;
+    let mut far = from;
+    for step in 0..arc.edges.saturating_sub(1) {
+        let k = edge_on(&potentials.firsts, arc.channel, arc.is_back, step);
+        let cost = rise.price.times.wrapping_mul(get(&potentials.costs, k, 0));
+        far = far.wrapping_add(cost).wrapping_add(rise.price.extra);
+        if far >= rise.need {
+            return Ok(());
+        }
+        let v = edge_at(field.graph.edges.as_slice(), k).to;
+        raise_one(labels, raised, &potentials.lags, rise, v, far)?;
+    }
+    Ok(())
+}
+
+/// Raises the label of a node that was settled, and of movers that are reached from it.
+fn raise_from(
+    labels: &mut [Option<u64>],
+    raised: &mut Vec<u32>,
+    field: &Field<'_>,
+    rise: Rise,
+    v: u32,
+) -> Result<(), AllocError> {
+    let far = far(field.search, v);
+    if far >= rise.need {
+        return Ok(());
+    }
+    raise_one(labels, raised, &field.potentials.lags, rise, v, far)?;
+    for arc in field.arcs.out_of(v) {
+        if arc.channel != rise.channel || !arc.is_back {
+            raise_movers(labels, raised, field, rise, *arc, far)?;
         }
     }
     Ok(())
 }
 
-/// Labels the transitions of a part for a lower ratio: what their lags, times the edges of that, and what was settled
-/// ask for, in whole units.
+/// Raises labels by what was settled.
+fn raise(
+    labels: &mut [Option<u64>],
+    raised: &mut Vec<u32>,
+    field: &Field<'_>,
+    rise: Rise,
+) -> Result<(), AllocError> {
+    for v in &field.search.order {
+        raise_from(labels, raised, field, rise, *v)?;
+    }
+    Ok(())
+}
+
+/// Raises the labels for the present ratio, which are the lags before.
+pub(crate) fn raise_kept(
+    proposal: &mut Proposal,
+    field: &Field<'_>,
+    rise: Rise,
+) -> Result<(), AllocError> {
+    raise(&mut proposal.kept, &mut proposal.raised, field, rise)
+}
+
+/// Labels the transitions of a channel's part for a lower ratio.
 pub(crate) fn label_next(
-    next: &mut [Option<u64>],
-    search: &Search,
-    nodes: &[u32],
-    lags: &[u64],
+    proposal: &mut Proposal,
+    cert: &Cert,
+    field: &Field<'_>,
     chain: Chain,
-    lower: Lower,
-    need: u64,
-) {
-    for v in nodes {
-        let asked = get(lags, *v, 0).wrapping_mul(lower.edges);
-        put(next, *v, Some(quotient(asked, chain.q)));
-    }
-    for v in &search.order {
-        let asked = get(lags, *v, 0).wrapping_mul(lower.edges);
-        let more = need.saturating_sub(far(search, *v));
-        put(next, *v, Some(quotient(asked.wrapping_add(more), chain.q)));
-    }
+    rise: Rise,
+) -> Result<(), AllocError> {
+    let nodes = nodes_of(cert, chain.part);
+    label(
+        &mut proposal.next,
+        nodes,
+        &field.potentials.lags,
+        rise.price,
+    );
+    proposal.others.clear();
+    raise(&mut proposal.next, &mut proposal.others, field, rise)
 }

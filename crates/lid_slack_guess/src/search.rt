@@ -1,45 +1,40 @@
-//! Dijkstra's search for the nearest way from where a station is drained to where it is filled, by other edges than
-//! its own.
+//! Dijkstra's search, over channels, for the nearest way from where a channel ends to where its last station is filled,
+//! by other edges than those of that station.
 
-use crate::arcs::{Arc, Arcs};
-use crate::chain::Chain;
+use crate::arcs::{Arc, Arcs, edge_on, start_of, stations_on};
+use crate::chain::{Chain, Price};
 use lid_graph::Graph;
-use lid_rate_guess::{edge_at, get, put};
+use lid_rate_guess::{get, put};
 use lid_size_guess::heap::{Reach, add, is_nearer, take};
 use std::alloc::{AllocError, Global};
 
-/// What the search knows of a transition: the round in which it was reached last, or one more where it is settled,
-/// how far it is, by how many edges, and by which it was reached.
+/// What the search knows of a node: the round in which it was reached last, or one more where it is settled, how far it
+/// is, by how many edges, and along which channel it was reached.
 #[derive(Clone, Copy)]
 struct Mark {
     far: u64,
     round: u32,
     steps: u32,
-    via: u32,
+    channel: u32,
+    is_back: bool,
 }
 
-/// A transition that was never reached.
+/// A node that was never reached.
 const UNSEEN: Mark = Mark {
     far: 0,
     round: 0,
     steps: 0,
-    via: 0,
+    channel: 0,
+    is_back: false,
 };
 
-/// The marks of all transitions, those that were settled in this round, and those that are to be settled.
+/// The marks of all nodes, those that were settled in this round, and those that are to be settled.
 #[derive(Drop)]
 pub(crate) struct Search {
     round: u32,
     marks: Vec<Mark>,
     pub(crate) order: Vec<u32>,
     heap: Vec<Reach>,
-}
-
-/// What an edge costs in a round: so many times its own cost, and so much more.
-#[derive(Clone, Copy)]
-pub(crate) struct Price {
-    pub(crate) times: u64,
-    pub(crate) extra: u64,
 }
 
 /// A search that has reached nothing.
@@ -52,12 +47,12 @@ pub(crate) fn new_search(alloc: Global, graph: &Graph) -> Result<Search, AllocEr
     })
 }
 
-/// How far a transition is that was reached in this round.
+/// How far a node is that was reached in this round.
 pub(crate) fn far(search: &Search, v: u32) -> u64 {
     get(&search.marks, v, UNSEEN).far
 }
 
-/// Whether a transition is not yet settled nor reached so near in this round.
+/// Whether a node is not yet settled nor reached so near in this round.
 fn is_news(search: &Search, v: u32, far: u64, steps: u32) -> bool {
     let mark = get(&search.marks, v, UNSEEN);
     if mark.round != search.round {
@@ -66,46 +61,48 @@ fn is_news(search: &Search, v: u32, far: u64, steps: u32) -> bool {
     is_nearer(far, steps, mark.far, mark.steps)
 }
 
-/// Reaches a transition by an edge.
-fn reach(search: &mut Search, reach: Reach, via: u32) -> Result<(), AllocError> {
+/// Reaches a node along a channel.
+fn reach(search: &mut Search, reach: Reach, channel: u32, is_back: bool) -> Result<(), AllocError> {
     let mark = Mark {
         far: reach.far,
         round: search.round,
         steps: reach.steps,
-        via,
+        channel,
+        is_back,
     };
     put(&mut search.marks, reach.at, mark);
     add(&mut search.heap, reach)
 }
 
-/// Goes on along arcs from what was reached, but for those of a station, as far as `need`.
+/// Goes on along arcs from what was reached, but for those of a channel, as far as `need`.
 fn go_on(
     search: &mut Search,
     arcs: &[Arc],
-    station: u32,
+    channel: u32,
     price: Price,
     from: Reach,
     need: u64,
 ) -> Result<(), AllocError> {
-    let steps = from.steps.wrapping_add(1);
     for arc in arcs {
+        let more = price.extra.wrapping_mul(u64::from(arc.edges));
         let far = from
             .far
             .wrapping_add(price.times.wrapping_mul(arc.cost))
-            .wrapping_add(price.extra);
-        if far < need && arc.edge / 2 != station && is_news(search, arc.to, far, steps) {
+            .wrapping_add(more);
+        let steps = from.steps.wrapping_add(arc.edges);
+        if far < need && arc.channel != channel && is_news(search, arc.to, far, steps) {
             let next = Reach {
                 far,
                 steps,
                 at: arc.to,
             };
-            reach(search, next, arc.edge)?;
+            reach(search, next, arc.channel, arc.is_back)?;
         }
     }
     Ok(())
 }
 
-/// Begins a round at a transition.
+/// Begins a round at a node.
 fn begin(search: &mut Search, start: u32) -> Result<(), AllocError> {
     search.round = search.round.wrapping_add(2);
     search.order.clear();
@@ -115,10 +112,10 @@ fn begin(search: &mut Search, start: u32) -> Result<(), AllocError> {
         steps: 0,
         at: start,
     };
-    reach(search, first, 0)
+    reach(search, first, 0, false)
 }
 
-/// Settles the nearest transition that is not settled yet. Answers it, or none where nothing more was reached.
+/// Settles the nearest node that is not settled yet. Answers it, or none where nothing more was reached.
 fn settle(search: &mut Search) -> Option<Reach> {
     for _ in 0..search.heap.len() {
         let nearest = take(&mut search.heap)?;
@@ -132,8 +129,8 @@ fn settle(search: &mut Search) -> Option<Reach> {
     None
 }
 
-/// How far it is from where a station is drained to where it is filled, or none where it is not less than `need`.
-/// The transitions that are nearer stand in the order of the search then.
+/// How far it is from where a channel ends to where its last station is filled, or none where it is not less than
+/// `need`. The nodes that are nearer than that, or than `need`, stand in the order of the search then.
 pub(crate) fn distance(
     search: &mut Search,
     arcs: &Arcs,
@@ -142,27 +139,29 @@ pub(crate) fn distance(
     need: u64,
 ) -> Result<Option<u64>, AllocError> {
     begin(search, chain.drainer)?;
-    if need == 0 {
-        return Ok(None);
-    }
+    let more = price.extra.wrapping_mul(u64::from(chain.prefix_edges));
+    let prefix = price
+        .times
+        .wrapping_mul(chain.prefix_cost)
+        .wrapping_add(more);
+    let mut bound = need;
+    let mut found = None;
     for _ in 0..search.marks.len() {
         let Some(nearest) = settle(search) else {
-            return Ok(None);
+            return Ok(found);
         };
-        if nearest.at == chain.filler {
-            return Ok(Some(nearest.far));
+        if nearest.far >= bound {
+            return Ok(found);
         }
         search.order.push(nearest.at)?;
-        go_on(
-            search,
-            arcs.out_of(nearest.at),
-            chain.station,
-            price,
-            nearest,
-            need,
-        )?;
+        if nearest.at == chain.producer && nearest.far.wrapping_add(prefix) < bound {
+            bound = nearest.far.wrapping_add(prefix);
+            found = Some(bound);
+        }
+        let out = arcs.out_of(nearest.at);
+        go_on(search, out, chain.channel, price, nearest, bound)?;
     }
-    Ok(None)
+    Ok(found)
 }
 
 /// Turns a list round.
@@ -175,22 +174,41 @@ fn reverse(list: &mut [u32]) {
     }
 }
 
+/// Appends the first edges of a channel, the last of them first.
+fn push_back(
+    way: &mut Vec<u32>,
+    firsts: &[u32],
+    channel: u32,
+    is_back: bool,
+    edges: u32,
+) -> Result<(), AllocError> {
+    let mut left = edges;
+    for _ in 0..edges {
+        left = left.wrapping_sub(1);
+        way.push(edge_on(firsts, channel, is_back, left))?;
+    }
+    Ok(())
+}
+
 /// Writes down the edges of the way that was found.
 pub(crate) fn take_way(
     way: &mut Vec<u32>,
     search: &Search,
     graph: &Graph,
+    firsts: &[u32],
     chain: Chain,
 ) -> Result<(), AllocError> {
     way.clear();
-    let mut at = chain.filler;
-    for _ in 0..graph.nodes {
+    push_back(way, firsts, chain.channel, false, chain.prefix_edges)?;
+    let mut at = chain.producer;
+    for _ in 0..search.order.len() {
         if at == chain.drainer {
             break;
         }
-        let via = get(&search.marks, at, UNSEEN).via;
-        way.push(via)?;
-        at = edge_at(graph.edges.as_slice(), via).from;
+        let mark = get(&search.marks, at, UNSEEN);
+        let edges = stations_on(firsts, mark.channel);
+        push_back(way, firsts, mark.channel, mark.is_back, edges)?;
+        at = start_of(graph, firsts, mark.channel, mark.is_back);
     }
     reverse(way.as_mut_slice());
     Ok(())

@@ -10,7 +10,7 @@ use lid_slack::{
     Certified, Ways, certify, new_ways, propose, propose_slack, slack, slack_and_next,
     slack_by_ways, slack_shown,
 };
-use lid_slack_longer::{last_station, room};
+use lid_slack_longer::room;
 use lid_stations::Placement;
 use lid_system::System;
 use lid_tests_fixtures::{DIAMOND, MADE, RING, placed_of};
@@ -136,9 +136,8 @@ fn is_shown(
     if channel as usize >= system.channels.len() {
         return false;
     }
-    let station = last_station(placement, channel);
     let most = room(placement, channel);
-    if propose(ways, &present.graph, &present.cert, station, most).is_err() {
+    if propose(ways, &present.graph, &present.cert, channel, most).is_err() {
         return false;
     }
     match slack_shown(system, placement, present, channel, &ways.proposal) {
@@ -178,7 +177,12 @@ fn are_shown(alloc: Global, system: &System, placement: &Placement, cases: &[Cas
     let Ok(present) = certify(alloc, system, placement) else {
         return false;
     };
-    let Ok(mut ways) = new_ways(alloc, &present.graph, &present.cert) else {
+    let Ok(mut ways) = new_ways(
+        alloc,
+        &present.graph,
+        &present.cert,
+        placement.relays.as_slice(),
+    ) else {
         return false;
     };
     for case in cases {

@@ -1,6 +1,5 @@
 use Rattle.std.proofs.Common.{ℕ, ◌*◌, ◌<◌, length, sym, subst}
 use Rattle.lid_graph.specs.declared.graph.Graph.{Graph}
-use Rattle.lid_slack_longer.specs.Labels.{edge_along}
 use Rattle.lid_slack.specs.Labelled.{present_marking}
 use Rattle.lid_slack.proofs.Shown.{edge_within, walk_within}
 use Rattle.lid_slack.proofs.labelled.way_ratio.Goals as goal
@@ -12,6 +11,4 @@ edge-requires c =
     (edge_within c.args.probe.now.system.now c.args.probe.now.placement.now c.args.probe.now.channel c.args.more c.requires.can))
 
 pub tokens_on-requires-clause-within : goal.tokens_on-requires-clause-within
-tokens_on-requires-clause-within c =
-    let along = edge_along c.args.graph.now c.last_station-station.result in
-    walk_within c.args.graph.now c.args.way.now along.to along.from (c.is_way.ensures.0 c.if-not-is_way.false).leads
+tokens_on-requires-clause-within c = walk_within c.args.graph.now c.args.way.now _ _ (c.is_way.ensures.0 c.if-not-is_way.false).leads
