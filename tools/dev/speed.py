@@ -140,7 +140,7 @@ def column(b: Bench, lemon: Path | None) -> dict[str, float | None]:
     told["the ratio alone by LEMON"] = b.lemon(lemon)
     told["verify"] = b.lid("verify", "NET", "cert")
     told["size"] = b.lid("size", "NET")
-    told["slack of all channels"] = b.lid("slack", "NET") if b.shells <= 200 else None
+    told["slack of all channels"] = b.lid("slack", "NET")
     try:
         told["emit"] = b.lid("emit", "NET")
     except subprocess.CalledProcessError:

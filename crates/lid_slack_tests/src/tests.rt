@@ -7,10 +7,9 @@ ghost use Rattle.lid_stations.specs.Placements.{links_of, Fits};
 
 use lid_rate_ratio::Ratio;
 use lid_slack::{
-    Certified, Ways, certify, new_ways, propose, propose_slack, slack, slack_and_next,
-    slack_by_ways, slack_shown,
+    Certified, Ways, certify, new_ways, propose_slack, slack, slack_and_next, slack_by_ways,
+    slack_shown,
 };
-use lid_slack_longer::room;
 use lid_stations::Placement;
 use lid_system::System;
 use lid_tests_fixtures::{DIAMOND, MADE, RING, placed_of};
@@ -120,34 +119,9 @@ fn have_slacks(alloc: Global, system: &System, placement: &Placement, cases: &[C
     true
 }
 
-/// Whether what is proposed of a channel by shortest ways shows such a slack, so that no certificates are asked.
+/// Whether what is proposed of a channel by shortest ways shows such a slack, so that no certificates are asked, and
+/// whether `slack_by_ways` tells it.
 fn is_shown(
-    system: &System,
-    placement: &Placement,
-    present: &Certified,
-    ways: &mut Ways,
-    case: Case,
-) -> bool
-    requires system { IsWellFormed system.now }
-    requires fits { Fits system.now placement.now }
-    requires present { IsCertified (links_of system.now) placement.now present.now }
-{
-    let (channel, added, p, q) = case;
-    if channel as usize >= system.channels.len() {
-        return false;
-    }
-    let most = room(placement, channel);
-    if propose(ways, &present.graph, &present.cert, channel, most).is_err() {
-        return false;
-    }
-    match slack_shown(system, placement, present, channel, &ways.proposal) {
-        Some(found) => found.added == added && is_next(found.next, p, q),
-        None => false,
-    }
-}
-
-/// Whether `slack_by_ways` tells such a slack of a channel.
-fn is_told(
     alloc: Global,
     system: &System,
     placement: &Placement,
@@ -163,9 +137,17 @@ fn is_told(
     if channel as usize >= system.channels.len() {
         return false;
     }
-    match slack_by_ways(alloc, system, placement, present, channel, ways) {
-        Ok(found) => found.added == added && is_next(found.next, p, q),
-        Err(_) => false,
+    let Ok(told) = slack_by_ways(alloc, system, placement, present, channel, ways) else {
+        return false;
+    };
+    match slack_shown(system, placement, present, channel, &ways.proposal) {
+        Some(found) => {
+            found.added == added
+                && is_next(found.next, p, q)
+                && told.added == added
+                && is_next(told.next, p, q)
+        }
+        None => false,
     }
 }
 
@@ -186,12 +168,7 @@ fn are_shown(alloc: Global, system: &System, placement: &Placement, cases: &[Cas
         return false;
     };
     for case in cases {
-        if !is_shown(system, placement, &present, &mut ways, *case) {
-            return false;
-        }
-    }
-    for case in cases {
-        if !is_told(alloc, system, placement, &present, &mut ways, *case) {
+        if !is_shown(alloc, system, placement, &present, &mut ways, *case) {
             return false;
         }
     }
@@ -347,50 +324,30 @@ fn the_slack_of_a_generated_system_is_guessed(rt: HostRuntime) {
     );
 }
 
-#[test]
-fn ways_show_the_slack_of_a_ring(rt: HostRuntime) {
-    assert!(rt;
-        are_shown_ways(
-            rt.alloc(),
-            RING,
-            b"lid-stations 1\nu0 u1 0 1\n",
-            &RING_CASES
-        )
-    );
-}
-
-#[test]
-fn ways_show_the_slack_of_two_ways(rt: HostRuntime) {
-    assert!(rt;
-        are_shown_ways(
-            rt.alloc(),
+/// Whether ways show the slacks of all systems above.
+fn are_all_shown(alloc: Global) -> bool {
+    are_shown_ways(alloc, RING, b"lid-stations 1\nu0 u1 0 1\n", &RING_CASES)
+        && are_shown_ways(
+            alloc,
             DIAMOND,
             b"lid-stations 1\nu0 u1 0 3\n",
-            &TWO_WAYS_CASES
+            &TWO_WAYS_CASES,
         )
-    );
-}
-
-#[test]
-fn ways_show_that_a_full_channel_has_no_slack(rt: HostRuntime) {
-    assert!(rt;
-        are_shown_ways(
-            rt.alloc(),
+        && are_shown_ways(
+            alloc,
             RING,
             b"lid-stations 1\nu0 u1 0 64\nu1 out 0 64\n",
-            &FULL_CASES
+            &FULL_CASES,
         )
-    );
+        && are_shown_ways(
+            alloc,
+            MADE,
+            b"lid-stations 1\nin u1 0 2\nu0 out 0 1\nu1 u0 0 1\n",
+            &MADE_CASES,
+        )
 }
 
 #[test]
-fn ways_show_the_slack_of_a_generated_system(rt: HostRuntime) {
-    assert!(rt;
-        are_shown_ways(
-            rt.alloc(),
-            MADE,
-            b"lid-stations 1\nin u1 0 2\nu0 out 0 1\nu1 u0 0 1\n",
-            &MADE_CASES
-        )
-    );
+fn ways_show_slacks(rt: HostRuntime) {
+    assert!(rt; are_all_shown(rt.alloc()));
 }
