@@ -182,31 +182,6 @@ fn the_size_of_a_trace_is_judged_before_the_run(rt: HostRuntime) -> Result<(), F
     Ok(())
 }
 
-/// Words of `clock` that are no job.
-static NO_JOBS: &[&[&str]] = &[
-    &[
-        "clock",
-        "n.blif",
-        "r.vec",
-        "--stalls",
-        "f",
-        "--workers",
-        "1",
-    ],
-    &["clock", "n.blif", "r.vec", "--workers", "65"],
-    &["clock", "n.blif"],
-    &["clock", "n.blif", "r.vec", "--trace", "0"],
-    &["clock", "n.blif", "r.vec", "--trace", "1048577"],
-];
-
-#[test]
-fn other_words_of_clock_are_no_job(rt: HostRuntime) -> Result<(), Fail> {
-    for words in NO_JOBS {
-        expect_run(&rt, words, &[], NONE_FAILS, ended(2, "lid: usage\n"))?;
-    }
-    Ok(())
-}
-
 /// Whether a run could not read the rows after three pieces of output were written.
 fn is_cut(ran: &Ran) -> bool {
     let said: &[u8] = b"lid: read one.vec\n";
@@ -215,7 +190,7 @@ fn is_cut(ran: &Ran) -> bool {
 
 #[test]
 fn rows_are_streamed(rt: HostRuntime) -> Result<(), Fail> {
-    let rows = zeros(rt.alloc(), 200_000)?;
+    let rows = zeros(rt.alloc(), "d\n", 200_000)?;
     let files = [("one.blif", REGISTER), ("one.vec", rows.as_str())];
     // two fetches of the netlist, eight of the rows to their end, and four of the rows again
     let failing = Failing {
@@ -228,14 +203,44 @@ fn rows_are_streamed(rt: HostRuntime) -> Result<(), Fail> {
     Ok(())
 }
 
-/// A netlist, and a file of rows that has fewer of them once it was read to its end. They come byte by byte,
-/// from a shelf that tells nothing.
+/// Which write of a clocked run over 70,000 rows fails, and how many bytes are written then.
+static WRITES: &[(u64, usize)] = &[(1, 0), (2, 65_536), (3, 131_072)];
+
+/// Whether a write failed after so many bytes of a text.
+fn is_broken(ran: &Ran, text: &[u8], written: usize) -> bool {
+    let said: &[u8] = b"lid: write\n";
+    ran.status == 4
+        && ran.out.written().len() == written
+        && text.starts_with(ran.out.written())
+        && ran.err.written() == said
+}
+
+#[test]
+fn each_piece_that_is_not_written_ends_the_run(rt: HostRuntime) -> Result<(), Fail> {
+    let rows = zeros(rt.alloc(), "d\n", 70_000)?;
+    let text = zeros(rt.alloc(), "q\n", 70_000)?;
+    let files = [("one.blif", REGISTER), ("one.vec", rows.as_str())];
+    for (write, written) in WRITES {
+        let failing = Failing {
+            fetches: &[],
+            writes: &[*write],
+            says: &[],
+        };
+        let ran = run_failing(&rt, &["clock", "one.blif", "one.vec"], &files, failing)?;
+        assert!(&rt; is_broken(&ran, text.as_bytes(), *written), "write {write}");
+    }
+    Ok(())
+}
+
+/// A netlist, and a file of rows that holds others once it was read to its end. They come byte by byte, from a shelf that
+/// tells nothing.
 #[derive(Drop)]
-struct Shrinking {
+struct Changing {
+    then: &'static [u8],
     was_read: bool,
 }
 
-impl Shelf for Shrinking {
+impl Shelf for Changing {
     ghost held = { λ _ _. None };
 
     ghost faults = { λ _ _. 0 };
@@ -248,7 +253,7 @@ impl Shelf for Shrinking {
         let file: &[u8] = if name == "one.blif" {
             REGISTER.as_bytes()
         } else if self.was_read {
-            b"d\n1\n0\n"
+            self.then
         } else {
             b"d\n1\n0\n1\n"
         };
@@ -264,17 +269,34 @@ impl Shelf for Shrinking {
     }
 }
 
+/// What the file of three rows holds when it is read again, and how the run ends: the status, and what is printed or
+/// said.
+static AGAIN: &[(&[u8], u8, &str)] = &[
+    (b"d\n1\n0\n", 1, "lid: rows Changed 3 2\n"),
+    (b"d\n", 1, "lid: rows Changed 3 0\n"),
+    (b"", 1, "lid: rows Header\n"),
+    (b"e\n1\n0\n1\n", 1, "lid: rows Header\n"),
+    (b"d\nx\n0\n1\n", 1, "lid: rows Char 2\n"),
+    (b"d\n1\n0\n10\n", 1, "lid: rows Width 4\n"),
+    // it is read no further than the rows that are needed, and other rows are run as they are
+    (
+        b"d\n0\n1\n1\n1\nx\n",
+        0,
+        "q\n0\n0\n1\ncycles 3\nfired in 2\nfired u0 2\nfired out 3\n",
+    ),
+];
+
 #[test]
 fn rows_that_changed_are_told(rt: HostRuntime) -> Result<(), Fail> {
-    let mut shelf = Shrinking { was_read: false };
-    let words = ["clock", "one.blif", "one.vec"];
-    let ran = run_over(&rt, &words, &mut shelf, NONE_FAILS)?;
-    expect_left(
-        &rt,
-        &ran,
-        ended(1, "lid: rows Changed 3 2\n"),
-        "rows changed",
-    );
+    for (then, status, told) in AGAIN {
+        let mut shelf = Changing {
+            then: *then,
+            was_read: false,
+        };
+        let words = ["clock", "one.blif", "one.vec"];
+        let ran = run_over(&rt, &words, &mut shelf, NONE_FAILS)?;
+        expect_left(&rt, &ran, left_by(*status, told), told);
+    }
     Ok(())
 }
 

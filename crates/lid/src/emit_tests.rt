@@ -162,18 +162,3 @@ fn a_size_of_16384_is_emitted(rt: HostRuntime) -> Result<(), Fail> {
     expect_run(&rt, &words, &files, NONE_FAILS, left)?;
     Ok(())
 }
-
-/// Words of `emit` that are no job.
-static NO_JOBS: &[&[&str]] = &[
-    &["emit"],
-    &["emit", "n.blif", "s"],
-    &["emit", "n.blif", "--trace", "1"],
-];
-
-#[test]
-fn other_words_of_emit_are_no_job(rt: HostRuntime) -> Result<(), Fail> {
-    for words in NO_JOBS {
-        expect_run(&rt, words, &[], NONE_FAILS, ended(2, "lid: usage\n"))?;
-    }
-    Ok(())
-}

@@ -52,22 +52,6 @@ fn two_ways_of_unlike_length_are_run(rt: HostRuntime) -> Result<(), Fail> {
     Ok(())
 }
 
-/// Words of `free` that are no job.
-static NO_JOBS: &[&[&str]] = &[
-    &["free", "n.blif", "r.vec", "--workers", "65"],
-    &["free", "n.blif", "r.vec", "--workers", "0"],
-    &["free", "n.blif", "r.vec", "--rounds", "1000001"],
-    &["free", "n.blif", "r.vec", "--trace", "1"],
-];
-
-#[test]
-fn other_words_of_free_are_no_job(rt: HostRuntime) -> Result<(), Fail> {
-    for words in NO_JOBS {
-        expect_run(&rt, words, &[], NONE_FAILS, ended(2, "lid: usage\n"))?;
-    }
-    Ok(())
-}
-
 #[test]
 fn two_workers_run_at_once(rt: HostRuntime) -> Result<(), Fail> {
     let files = [("n.blif", RING), ("r.vec", FOUR), ("s", ONE_RELAY)];

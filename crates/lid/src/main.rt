@@ -34,6 +34,8 @@ mod run_tests;
 #[cfg(test)]
 mod stall_tests;
 #[cfg(test)]
+mod stops_tests;
+#[cfg(test)]
 mod tests;
 #[cfg(test)]
 mod worker_tests;

@@ -95,19 +95,3 @@ slack u1 out 0 64 next -\nslack u2 u1 0 3 next 9/10\n";
     expect_run(&rt, &words, &files, NONE_FAILS, done(told))?;
     Ok(())
 }
-
-/// Words of `size` and `slack` that are no job.
-static NO_JOBS: &[&[&str]] = &[
-    &["size"],
-    &["slack", "n.blif", "s"],
-    &["size", "n.blif", "--reach", "1"],
-    &["slack", "n.blif", "--tally"],
-];
-
-#[test]
-fn other_words_of_size_and_slack_are_no_job(rt: HostRuntime) -> Result<(), Fail> {
-    for words in NO_JOBS {
-        expect_run(&rt, words, &[], NONE_FAILS, ended(2, "lid: usage\n"))?;
-    }
-    Ok(())
-}

@@ -47,31 +47,6 @@ fn long_wires_get_relay_stations(rt: HostRuntime) -> Result<(), Fail> {
     Ok(())
 }
 
-/// Stations that are refused, with the line that says so.
-static REFUSED: &[(&str, &str)] = &[
-    ("lid-stations 1\nu0 u1 1 0\n", "lid: stations NoChannel 2\n"),
-    (
-        "lid-stations 1\nu0 u1 0 1\nu0 u1 0 2\n",
-        "lid: stations Twice 3\n",
-    ),
-    ("lid-stations 1\nu1 out 0 65\n", "lid: stations TooMany 2\n"),
-    (
-        "lid-stations 2\nu1 out 0 0 17\n",
-        "lid: stations Capacity 2\n",
-    ),
-    ("lid-stations 3\n", "lid: stations Word 1\n"),
-];
-
-#[test]
-fn stations_are_refused_at_their_lines(rt: HostRuntime) -> Result<(), Fail> {
-    for (stations, line) in REFUSED {
-        let files = [("n.blif", RING), ("s", *stations)];
-        let words = ["rate", "n.blif", "--stations", "s"];
-        expect_run(&rt, &words, &files, NONE_FAILS, ended(1, line))?;
-    }
-    Ok(())
-}
-
 /// A certificate of the ring with one relay station.
 const RING_CERT: &str =
     "lid-cert 1\npart 1\nratio 1 1\ncycle 8\nnode 0 0 0 0 -\npart 4\nratio 2 3\n\

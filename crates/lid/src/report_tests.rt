@@ -130,7 +130,7 @@ fn push_reader(net: &mut String, reader: u32) -> Result<(), Fail> {
 }
 
 /// 128 registers, each of which reads all of them, and an output or none.
-fn with_readers(alloc: Global, outputs: &str) -> Result<String, Fail> {
+pub fn with_readers(alloc: Global, outputs: &str) -> Result<String, Fail> {
     let mut net = String::from_str(alloc, ".model top")?;
     net.push_str(outputs)?;
     for reader in 0..128 {
@@ -157,14 +157,8 @@ fn readers_text(alloc: Global) -> Result<String, Fail> {
 }
 
 #[test]
-fn channels_are_counted_before_they_are_made(rt: HostRuntime) -> Result<(), Fail> {
+fn as_many_channels_as_there_may_be_are_told(rt: HostRuntime) -> Result<(), Fail> {
     let at = with_readers(rt.alloc(), "")?;
     let text = readers_text(rt.alloc())?;
-    expect_checked(&rt, at.as_str(), done(text.as_str()))?;
-    let past = with_readers(rt.alloc(), "\n.outputs n0")?;
-    expect_checked(
-        &rt,
-        past.as_str(),
-        ended(1, "lid: net TooManyChannels 16385\n"),
-    )
+    expect_checked(&rt, at.as_str(), done(text.as_str()))
 }

@@ -107,6 +107,15 @@ fn sink_of(alloc: Global, writes: &[u64]) -> Result<MemSink, AllocError> {
     MemSink::new(alloc, 1_048_576, failing)
 }
 
+/// The words of a line, at its blanks.
+pub fn split_words<'a>(alloc: Global, line: &'a str) -> Result<Vec<&'a str>, AllocError> {
+    let mut words = Vec::new(alloc);
+    for word in line.split(' ') {
+        words.push(word)?;
+    }
+    Ok(words)
+}
+
 /// Runs the words over a shelf in memory.
 pub fn run_over<R: Threads + AllocGlobal + Sync, S: Shelf>(
     rt: &R,
@@ -121,7 +130,7 @@ pub fn run_over<R: Threads + AllocGlobal + Sync, S: Shelf>(
 }
 
 /// Runs the words over files in memory, on workers that pass a gate.
-fn run_gated<R: Threads + AllocGlobal + Sync, G: Gate>(
+pub fn run_gated<R: Threads + AllocGlobal + Sync, G: Gate>(
     rt: &R,
     words: &[&str],
     files: &[(&str, &str)],
@@ -460,14 +469,6 @@ fn each_failing_call_is_told(rt: HostRuntime) -> Result<(), Fail> {
 }
 
 #[test]
-fn a_missing_file_is_named(rt: HostRuntime) -> Result<(), Fail> {
-    let left = ended(3, "lid: read one.blif\n");
-    let words = ["strict", "one.blif", "one.vec"];
-    expect_run(&rt, &words, &[("one.vec", "d\n1\n")], NONE_FAILS, left)?;
-    Ok(())
-}
-
-#[test]
 fn a_failing_err_changes_no_status(rt: HostRuntime) -> Result<(), Fail> {
     let failing = Failing {
         fetches: &[],
@@ -479,9 +480,9 @@ fn a_failing_err_changes_no_status(rt: HostRuntime) -> Result<(), Fail> {
     Ok(())
 }
 
-/// A rows text of so many rows of one 0.
-pub fn zeros(alloc: Global, rows: u32) -> Result<String, AllocError> {
-    let mut text = String::from_str(alloc, "d\n")?;
+/// A header line, and so many rows of one 0.
+pub fn zeros(alloc: Global, header: &str, rows: u32) -> Result<String, AllocError> {
+    let mut text = String::from_str(alloc, header)?;
     for _ in 0..rows {
         text.push_str("0\n")?;
     }
@@ -510,7 +511,7 @@ fn expect_pieces<R: Threads + AllocGlobal + Sync + Abort>(
 
 #[test]
 fn a_long_output_is_written_in_pieces(rt: HostRuntime) -> Result<(), Fail> {
-    let rows = zeros(rt.alloc(), 70_000)?;
+    let rows = zeros(rt.alloc(), "d\n", 70_000)?;
     expect_pieces(&rt, rows.as_str(), NONE_FAILS, 0, 140_002)?;
     let failing = Failing {
         fetches: &[],
