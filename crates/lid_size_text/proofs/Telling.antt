@@ -5,19 +5,19 @@ use Rattle.std.proofs.lemmas.List.{length-append, get_or_append_left, get_or_pus
 use Rattle.lid_base_lines.specs.Texts.{Words, line_text, lines_text}
 use Rattle.lid_base_lines.proofs.Pieces.{lines_text_append}
 use Rattle.lid_rate_ratio.specs.declared.lowest_terms.Ratio.{Ratio}
-use Rattle.lid_slack.specs.declared.answer.Found.{Found}
-use Rattle.lid_slack.specs.Slack.{IsNext, IsSlackAndNext}
+use Rattle.lid_slack.specs.declared.answer.PlainSlack.{PlainSlack}
+use Rattle.lid_slack.specs.Slack.{HasNextRatio, IsSlackAndNext}
 use Rattle.lid_stations.specs.declared.placement.Placement.{Placement}
 use Rattle.lid_stations.specs.Placements.{Links}
 use Rattle.lid_size_text.specs.Slacks.{slack_words, next_ratio_word, IsNextWord, IsSlackLine, AreSlackLines}
 
 module _ (l : Links) (p : Placement) where
-  next_is : (c x : ℕ) (next : Option Ratio) → IsNext l p c x next → IsNextWord l p c x (next_ratio_word next)
+  next_is : (c x : ℕ) (next : Option Ratio) → HasNextRatio l p c x next → IsNextWord l p c x (next_ratio_word next)
   next_is c x None full = inl (full, refl)
   next_is c x (Some ratio) more = inr (ratio.p, ratio.q, more.0, more.1, refl)
 
   -- the line of a channel's slack
-  pub line_is : (c : ℕ) (found : Found) → IsSlackAndNext l p c found → IsSlackLine l p c (slack_words l c found.added (next_ratio_word found.next))
+  pub line_is : (c : ℕ) (found : PlainSlack) → IsSlackAndNext l p c found → IsSlackLine l p c (slack_words l c found.added (next_ratio_word found.next))
   line_is c found is = record { added = found.added; slack = is.added; next = next_ratio_word found.next; is_next = next_is c found.added found.next is.next; are = refl }
 
   -- no line yet

@@ -10,7 +10,7 @@ ghost use Rattle.lid_system.specs.Systems.{IsWellFormed};
 use crate::ratio::append_ratio;
 use lid_base_lines::append_number_word;
 use lid_rate_ratio::Ratio;
-use lid_slack::{Certified, Found, certify, new_ways, slack_by_ways};
+use lid_slack::{Certified, PlainSlack, certify, new_ways, slack_by_ways};
 use lid_stations::Placement;
 use lid_system::System;
 use lid_texts_runs::append_node;
@@ -44,7 +44,7 @@ fn append_channel(system: &System, channel: u32, into: &mut Vec<u8>) -> Result<(
 fn append_slack(
     system: &System,
     channel: u32,
-    found: Found,
+    found: PlainSlack,
     into: &mut Vec<u8>,
 ) -> Result<(), AllocError>
     requires { channel < length system.now.channels }

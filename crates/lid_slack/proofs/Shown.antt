@@ -12,13 +12,13 @@ use Rattle.lid_stations.specs.Placements.{Links, links_of, station_count}
 use Rattle.lid_stations.specs.Markings.{marking}
 use Rattle.lid_stations.proofs.Edges.{edges_long}
 use Rattle.lid_slack_longer.specs.Longer.{last_station, longer_marking, producer, room, KeepsAt}
-use Rattle.lid_slack_longer.specs.Labels.{edge_along, AreLabels}
+use Rattle.lid_slack_longer.specs.Labels.{edge_along, AreKeepingLabels}
 use Rattle.lid_slack_longer.specs.Laws.{HasWalk}
 use Rattle.lid_slack_longer.proofs.Labelling.{labels_keep, ways_close}
 use Rattle.lid_slack_longer.proofs.Renumbering.{through_is, last_below}
 use Rattle.lid_slack.specs.declared.answer.Slack.{Slack}
-use Rattle.lid_slack.specs.declared.answer.Found.{Found}
-use Rattle.lid_slack.specs.Slack.{IsEnd, IsTold, IsNextRatio, IsNext, IsSlackAndNext}
+use Rattle.lid_slack.specs.declared.answer.PlainSlack.{PlainSlack}
+use Rattle.lid_slack.specs.Slack.{IsEnd, IsTold, IsNextRatio, HasNextRatio, IsSlackAndNext}
 use Rattle.lid_slack.specs.Trials.{CanTry, IsPresent, IsMost}
 use Rattle.lid_slack.specs.Labelled.{IsWayRatio}
 use Rattle.lid_slack.proofs.Ratios.{exact_below}
@@ -41,9 +41,9 @@ walk_within g (k ∷ ks) u v walk zero d h = walk.0
 walk_within g (k ∷ ks) u v walk (suc i) d h = walk_within g ks (edge_at g k).to v walk.2 i d (omega arith)
 
 -- labels show that a ratio is kept
-pub labels_show : (s : System) (p : Placement) (c x a b : ℕ) (g : Graph) (labels : List (Option ℕ)) → CanTry s p c x → 1 ≤ x → g ≡ marking (links_of s) p → AreLabels g (last_station p c) (producer (links_of s) c) x a b labels → KeepsAt (links_of s) p c x a b
+pub labels_show : (s : System) (p : Placement) (c x a b : ℕ) (g : Graph) (labels : List (Option ℕ)) → CanTry s p c x → 1 ≤ x → g ≡ marking (links_of s) p → AreKeepingLabels g (last_station p c) (producer (links_of s) c) x a b labels → KeepsAt (links_of s) p c x a b
 labels_show s p c x a b g labels can some is are =
-    labels_keep s p c x a b labels can.system can.fits can.there some (subst (λ (h : Graph). AreLabels h (last_station p c) (producer (links_of s) c) x a b labels) is are)
+    labels_keep s p c x a b labels can.system can.fits can.there some (subst (λ (h : Graph). AreKeepingLabels h (last_station p c) (producer (links_of s) c) x a b labels) is are)
 
 module _ (s : System) (p : Placement) (c x a b : ℕ) (can : CanTry s p c x) (g : Graph) (is : g ≡ marking (links_of s) p) (way : List ℕ) (rated : IsWayRatio g (last_station p c) x way a b) where
   here : IsWayRatio (marking (links_of s) p) (last_station p c) x way a b
@@ -74,13 +74,13 @@ module _ (s : System) (p : Placement) (c x a b : ℕ) (can : CanTry s p c x) (g 
   way_shows keeps = record { positive = here.lowest.positive; lowest = here.lowest.coprime; all = keeps; some = (has.walk, has.near, exact) }
 
 -- what is shown where all that there is room for keep the ratio, and where one more does not
-pub found_all : (s : System) (p : Placement) (c a b x : ℕ) (found : Found) → CanTry s p c x → IsPresent s p c a b → x ≡ room p c → KeepsAt (links_of s) p c x a b → found ≡ record { added = x; next = None } → IsSlackAndNext (links_of s) p c found
+pub found_all : (s : System) (p : Placement) (c a b x : ℕ) (found : PlainSlack) → CanTry s p c x → IsPresent s p c a b → x ≡ room p c → KeepsAt (links_of s) p c x a b → found ≡ record { added = x; next = None } → IsSlackAndNext (links_of s) p c found
 found_all s p c a b x found can present full keeps is =
     let most : IsMost s p c a b x = record { within = can.enough; keeps = keeps; next = λ less. absurd (omega arith) } in
     let all : IsSlackAndNext (links_of s) p c (record { added = x; next = None }) = record { added = is_slack s p c a b present x can most; next = full } in
     subst (IsSlackAndNext (links_of s) p c) (sym is) all
 
-pub found_less : (s : System) (p : Placement) (c a b x : ℕ) (ratio : Ratio) (found : Found) → CanTry s p c x → IsPresent s p c a b → x < room p c → KeepsAt (links_of s) p c x a b → (KeepsAt (links_of s) p c (x + 1) a b → ⊥) → IsRatio (longer_marking (links_of s) p c (x + 1)) (producer (links_of s) c) ratio.p ratio.q → found ≡ record { added = x; next = Some ratio } → IsSlackAndNext (links_of s) p c found
+pub found_less : (s : System) (p : Placement) (c a b x : ℕ) (ratio : Ratio) (found : PlainSlack) → CanTry s p c x → IsPresent s p c a b → x < room p c → KeepsAt (links_of s) p c x a b → (KeepsAt (links_of s) p c (x + 1) a b → ⊥) → IsRatio (longer_marking (links_of s) p c (x + 1)) (producer (links_of s) c) ratio.p ratio.q → found ≡ record { added = x; next = Some ratio } → IsSlackAndNext (links_of s) p c found
 found_less s p c a b x ratio found can present less keeps lower is_ratio is =
     let most : IsMost s p c a b x = record { within = can.enough; keeps = keeps; next = λ room. lower } in
     let all : IsSlackAndNext (links_of s) p c (record { added = x; next = Some ratio }) = record { added = is_slack s p c a b present x can most; next = (less, is_ratio) } in
@@ -90,14 +90,14 @@ found_less s p c a b x ratio found can present less keeps lower is_ratio is =
 pub told_found : (l : Links) (p : Placement) (c : ℕ) (slack : Slack) (next : Option Ratio) → IsTold l p c slack → IsNextRatio l p c slack next → IsSlackAndNext l p c (record { added = slack.added; next = next })
 told_found l p c slack next told is = record { added = told.added; next = by_end slack.against told.against is }
   where
-    by_next : (walk : List ℕ) → slack.added < room p c → (o : Option Ratio) → MatchOption o ⊥ (λ ratio. IsRatio (longer_marking l p c (slack.added + 1)) (producer l c) ratio.p ratio.q) → IsNext l p c slack.added o
+    by_next : (walk : List ℕ) → slack.added < room p c → (o : Option Ratio) → MatchOption o ⊥ (λ ratio. IsRatio (longer_marking l p c (slack.added + 1)) (producer l c) ratio.p ratio.q) → HasNextRatio l p c slack.added o
     by_next walk less None none = absurd none
     by_next walk less (Some ratio) h = (less, h)
 
-    by_none : slack.added ≡ room p c → (o : Option Ratio) → IsNone o → IsNext l p c slack.added o
+    by_none : slack.added ≡ room p c → (o : Option Ratio) → IsNone o → HasNextRatio l p c slack.added o
     by_none full None none = full
     by_none full (Some ratio) none = absurd (true≢false none)
 
-    by_end : (o : Option (List ℕ)) → IsEnd l p c slack.added o → MatchOption o (IsNone next) (λ walk. MatchOption next ⊥ (λ ratio. IsRatio (longer_marking l p c (slack.added + 1)) (producer l c) ratio.p ratio.q)) → IsNext l p c slack.added next
+    by_end : (o : Option (List ℕ)) → IsEnd l p c slack.added o → MatchOption o (IsNone next) (λ walk. MatchOption next ⊥ (λ ratio. IsRatio (longer_marking l p c (slack.added + 1)) (producer l c) ratio.p ratio.q)) → HasNextRatio l p c slack.added next
     by_end None full none = by_none full next none
     by_end (Some walk) h told = by_next walk h.0 next told

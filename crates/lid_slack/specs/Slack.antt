@@ -9,7 +9,7 @@ use Rattle.lid_stations.specs.Markings.{marking}
 use Rattle.lid_rate_ratio.specs.declared.lowest_terms.Ratio.{Ratio}
 use Rattle.lid_cert.specs.Certificates.{Certifies, IsInRange}
 use Rattle.lid_slack.specs.declared.answer.Slack.{Slack}
-use Rattle.lid_slack.specs.declared.answer.Found.{Found}
+use Rattle.lid_slack.specs.declared.answer.PlainSlack.{PlainSlack}
 use Rattle.lid_slack.specs.declared.certified.Certified.{Certified}
 use Rattle.lid_slack_longer.specs.Longer.{longer_marking, producer, room, KeepsRatio}
 
@@ -59,11 +59,11 @@ IsNextRatio l p c slack next =
     (λ walk. MatchOption next ⊥ (λ ratio. IsRatio (longer_marking l p c (slack.added + 1)) (producer l c) ratio.p ratio.q))
 
 -- with one more than x the component has this ratio, where there is room for one more, else no ratio is told
-abbrev pub IsNext : Links → Placement → ℕ → ℕ → Option Ratio → Type 0
-IsNext l p c x next =
+abbrev pub HasNextRatio : Links → Placement → ℕ → ℕ → Option Ratio → Type 0
+HasNextRatio l p c x next =
     MatchOption next (x ≡ room p c) (λ ratio. (x < room p c) × IsRatio (longer_marking l p c (x + 1)) (producer l c) ratio.p ratio.q)
 
 -- the slack of channel c, and the ratio of its component with one more
-pub record IsSlackAndNext (l : Links) (p : Placement) (c : ℕ) (found : Found) : Type 0 where
+pub record IsSlackAndNext (l : Links) (p : Placement) (c : ℕ) (found : PlainSlack) : Type 0 where
   pub added : IsSlack l p c found.added
-  pub next : IsNext l p c found.added found.next
+  pub next : HasNextRatio l p c found.added found.next

@@ -28,7 +28,7 @@ pub struct SlackAndNext {
 
 /// The slack of a channel and the ratio with one more, without what shows them.
 #[derive(Clone, Copy)]
-pub struct Found {
+pub struct PlainSlack {
     /// The greatest number of further relay stations, from 0 to 64, as in `Slack`.
     pub added: u32,
     /// Where there is room for one more, the ratio of the component with one more than `added`.

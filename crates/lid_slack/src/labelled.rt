@@ -11,7 +11,7 @@ ghost use Rattle.lid_slack_longer.specs.Longer.{last_station, producer, KeepsAt}
 ghost use Rattle.lid_stations.specs.Placements.{links_of, Fits};
 ghost use Rattle.lid_system.specs.Systems.{IsWellFormed};
 
-use crate::answer::Found;
+use crate::answer::PlainSlack;
 use crate::certified::Certified;
 use crate::finding::slack_from;
 use crate::trial::{Probe, is_below, part_of, producer, ratio_of};
@@ -122,7 +122,7 @@ pub fn slack_shown(
     present: &Certified,
     channel: u32,
     proposal: &Proposal,
-) -> Option<Found>
+) -> Option<PlainSlack>
     requires system { IsWellFormed system.now }
     requires fits { Fits system.now placement.now }
     requires present { IsCertified (links_of system.now) placement.now present.now }
@@ -145,10 +145,10 @@ pub fn slack_shown(
         return None;
     }
     if added == most {
-        return Some(Found { added, next: None });
+        return Some(PlainSlack { added, next: None });
     }
     match lower_ratio(&probe, graph, added + 1, &proposal.way, &proposal.next) {
-        Some(ratio) => Some(Found {
+        Some(ratio) => Some(PlainSlack {
             added,
             next: Some(ratio),
         }),
@@ -167,7 +167,7 @@ pub fn slack_found(
     present: &Certified,
     channel: u32,
     proposal: &Proposal,
-) -> Result<Found, AllocError>
+) -> Result<PlainSlack, AllocError>
     requires system { IsWellFormed system.now }
     requires fits { Fits system.now placement.now }
     requires present { IsCertified (links_of system.now) placement.now present.now }
@@ -178,7 +178,7 @@ pub fn slack_found(
         return Ok(found);
     }
     let all = slack_from(alloc, system, placement, present, channel)?;
-    Ok(Found {
+    Ok(PlainSlack {
         added: all.slack.added,
         next: all.next,
     })
@@ -196,7 +196,7 @@ pub fn slack_by_ways(
     present: &Certified,
     channel: u32,
     ways: &mut Ways,
-) -> Result<Found, AllocError>
+) -> Result<PlainSlack, AllocError>
     requires system { IsWellFormed system.now }
     requires fits { Fits system.now placement.now }
     requires present { IsCertified (links_of system.now) placement.now present.now }

@@ -10,7 +10,7 @@ mod laws;
 mod proposal;
 mod trial;
 
-pub use answer::{Found, Slack, SlackAndNext};
+pub use answer::{PlainSlack, Slack, SlackAndNext};
 pub use certified::{Certified, certify};
 pub use finding::{slack, slack_and_next, slack_from};
 pub use labelled::{slack_by_ways, slack_found, slack_shown};

@@ -15,7 +15,7 @@ use Rattle.lid_stations.specs.Markings.{forth, back, marking}
 use Rattle.lid_stations.proofs.Spots.{spot_is, channel_there}
 use Rattle.lid_stations.proofs.Edges.{edges_long, forth_at, back_at, self_at, by_edge, two_there}
 use Rattle.lid_slack_longer.specs.Longer.{stations_through, longer_marking, producer}
-use Rattle.lid_slack_longer.specs.Labels.{has_label, label_of, Allows, IsEdgeAllowed, edge_along, edge_back, IsElsewhere, AreLabels, IsWay}
+use Rattle.lid_slack_longer.specs.Labels.{has_label, label_of, Allows, IsEdgeAllowed, edge_along, edge_back, IsElsewhere, AreKeepingLabels, IsWay}
 use Rattle.lid_slack_longer.specs.Laws.{HasWalk, LabelsKeep, WaysClose}
 use Rattle.lid_slack_longer.proofs.Reading.{stays}
 use Rattle.lid_slack_longer.proofs.Renumbering.{last_station, last_below, through_is, shift, shift_node}
@@ -48,7 +48,7 @@ module _ (s : System) (p : Placement) (c : ℕ) (well : IsWellFormed s) (fits : 
       (λ station h else. subst IsBase (sym (back_at s p station h)) (inl (station, h, (λ is. else.1 (omega arith)), inr (refl, refl, refl))))
       (λ w h else. subst IsBase (sym (self_at s p w h)) (inr (h, refl, refl)))
 
-  module _ (start x a b : ℕ) (labels : List (Option ℕ)) (are : AreLabels g last start x a b labels) where
+  module _ (start x a b : ℕ) (labels : List (Option ℕ)) (are : AreKeepingLabels g last start x a b labels) where
     abbrev inside : ℕ → Type 0
     inside n = has_label labels n ≡ true
 
@@ -171,8 +171,8 @@ module _ (s : System) (p : Placement) (c : ℕ) (well : IsWellFormed s) (fits : 
 pub labels_keep : LabelsKeep
 labels_keep s p c x a b labels well fits below some are =
     let there : c < length p.relays = omega (arith, fits.counts) in
-    let here : AreLabels (marking (links_of s) p) (last_station s p c well fits there) (producer (links_of s) c) x a b labels =
-    subst (λ (n : ℕ). AreLabels (marking (links_of s) p) n (producer (links_of s) c) x a b labels) (last_is s p c well fits there) are in
+    let here : AreKeepingLabels (marking (links_of s) p) (last_station s p c well fits there) (producer (links_of s) c) x a b labels =
+    subst (λ (n : ℕ). AreKeepingLabels (marking (links_of s) p) n (producer (links_of s) c) x a b labels) (last_is s p c well fits there) are in
     labelled_keeps a b x (Base s p c well fits there) (producing s p c well fits there) (consuming s p c well fits there) (forth_tokens s p c well fits there) (back_tokens s p c well fits there)
     (λ n. has_label labels n ≡ true) (label_of labels) (labelled s p c well fits there (producer (links_of s) c) x a b labels here)
     (longer_marking (links_of s) p c x) (place s p c well fits there x) (steps s p c well fits there x some)

@@ -48,7 +48,7 @@ pub record IsChainAllowed (g : Graph) (station x a b : ℕ) (labels : List (Opti
 
 -- at a ratio a/b of at most 1 labels, of which `start` has one, allow for a station with x further relay stations, and
 -- for all edges but the two of the station
-pub record AreLabels (g : Graph) (station start x a b : ℕ) (labels : List (Option ℕ)) : Type 0 where
+pub record AreKeepingLabels (g : Graph) (station start x a b : ℕ) (labels : List (Option ℕ)) : Type 0 where
   pub at_most_one : a ≤ b
   pub begins : has_label labels start ≡ true
   pub chain : IsChainAllowed g station x a b labels

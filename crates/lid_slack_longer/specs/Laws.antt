@@ -8,7 +8,7 @@ use Rattle.lid_stations.specs.declared.placement.Placement.{Placement}
 use Rattle.lid_stations.specs.Placements.{links_of, Fits}
 use Rattle.lid_stations.specs.Markings.{marking}
 use Rattle.lid_slack_longer.specs.Longer.{last_station, longer, longer_marking, room, producer, KeepsAt}
-use Rattle.lid_slack_longer.specs.Labels.{edge_along, AreLabels, IsWay}
+use Rattle.lid_slack_longer.specs.Labels.{edge_along, AreKeepingLabels, IsWay}
 
 -- as many further relay stations as there is room for fit
 abbrev pub LongerFits : Type 0
@@ -33,7 +33,7 @@ abbrev pub LabelsKeep : Type 0
 LabelsKeep =
     (s : System) (p : Placement) (c x a b : ℕ) (labels : List (Option ℕ))
     → IsWellFormed s → Fits s p → c < length s.channels → 1 ≤ x
-    → AreLabels (marking (links_of s) p) (last_station p c) (producer (links_of s) c) x a b labels
+    → AreKeepingLabels (marking (links_of s) p) (last_station p c) (producer (links_of s) c) x a b labels
     → KeepsAt (links_of s) p c x a b
 
 -- a closed walk of the channel's component with x further relay stations, of so many edges and tokens

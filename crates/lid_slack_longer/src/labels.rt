@@ -3,7 +3,7 @@
 
 ghost use Rattle.std.specs.Prelude.{◌≡◌, ℕ, ◌+◌, ◌*◌, ◌<◌, ◌≤◌, ◌↔◌, length, IsTrue};
 ghost use Rattle.lid_graph.specs.Walks.{edge_at, IsWalk};
-ghost use Rattle.lid_slack_longer.specs.Labels.{label_at, IsEdgeAllowed, IsChainAllowed, IsElsewhere, AreLabels, IsWay};
+ghost use Rattle.lid_slack_longer.specs.Labels.{label_at, IsEdgeAllowed, IsChainAllowed, IsElsewhere, AreKeepingLabels, IsWay};
 
 use lid_graph::{Edge, Graph};
 
@@ -114,7 +114,7 @@ pub fn are_labels(
     b: u64,
     labels: &[Option<u64>],
 ) -> bool
-    ensures { IsTrue result ↔ AreLabels graph.now chain.station start chain.more a b labels.now }
+    ensures { IsTrue result ↔ AreKeepingLabels graph.now chain.station start chain.more a b labels.now }
 {
     if a > b || label_at(labels, start).is_none() {
         return false;
