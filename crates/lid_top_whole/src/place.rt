@@ -63,7 +63,7 @@ pub fn place_text<'a, S: Shelf>(
     ensures { RunsWhole (S.held shelf.old) (S.held shelf.new) (place_script net.now wires.now reach root.now) (S.faults shelf.old) (S.faults shelf.new) result }
 {
     match read_system(alloc, shelf, net, root) {
-        Ok(system) => wires_text(alloc, shelf, &system, wires, reach),
+        Ok(built) => wires_text(alloc, shelf, &built.system, wires, reach),
         Err(stop) => Err(stop),
     }
 }

@@ -5,8 +5,8 @@ use Rattle.lid_top_whole.proofs.place.place_text.Goals as goal
 
 pub returns-in-Ok : goal.returns-in-Ok
 unfolding place_script
-returns-in-Ok g c = whole_within (within_built _ _ _ (λ l. wires_script l c.args.wires.now c.args.reach) _ c.in-Ok.ensures.ok) c.in-Ok.ensures.kept c.in-Ok.ensures.grows c.wires_text.ensures
+returns-in-Ok g c = whole_within (within_built _ _ _ (λ d l. wires_script l c.args.wires.now c.args.reach) _ c.in-Ok.ensures.ok) c.in-Ok.ensures.kept c.in-Ok.ensures.grows c.wires_text.ensures
 
 pub returns-in-Err : goal.returns-in-Err
 unfolding place_script
-returns-in-Err g c = whole_stopped (cause_unbuilt _ _ _ (λ l. wires_script l c.args.wires.now c.args.reach) _ _ _ c.in-Err.ensures.err) c.in-Err.ensures.kept c.in-Err.ensures.grows
+returns-in-Err g c = whole_stopped (cause_unbuilt _ _ _ (λ d l. wires_script l c.args.wires.now c.args.reach) _ _ _ c.in-Err.ensures.err) c.in-Err.ensures.kept c.in-Err.ensures.grows

@@ -1,5 +1,5 @@
 use Rattle.lid_top.proofs.Pieces.{passed_whole, passed_in_part}
-use Rattle.lid_top.proofs.job.write_pieces.Goals as goal
+use Rattle.lid_top.proofs.writing.write_pieces.Goals as goal
 
 pub returns-clause-ok : goal.returns-clause-ok
 returns-clause-ok g c =
