@@ -5,7 +5,7 @@ ghost use Rattle.lid_base.specs.Outside.{Rose};
 ghost use Rattle.lid_top_words.specs.Jobs.{IsJobInRange};
 ghost use Rattle.lid_top_script.specs.Scripts.{script_of};
 ghost use Rattle.lid_top_script.specs.Early.{RunsEarly};
-ghost use Rattle.lid_top_script.specs.Whole.{RunsWhole};
+ghost use Rattle.lid_top_script.specs.Whole.{RunsOn};
 ghost use Rattle.lid_top_script.specs.Causes.{IsJobEnd, IsStoppedJob, IsRefusedJob};
 ghost use Rattle.lid_top_script.specs.Statuses.{Writes, WritesPrefix, TellsAll, Leaves, writes_early};
 
@@ -115,7 +115,7 @@ fn text_of<'a, R: Threads + AllocGlobal + Sync, S: Shelf, G: Gate>(
 ) -> Result<Vec<u8>, Stop<'a>>
     requires whole { writes_early job.now ≡ false }
     requires sound { IsJobInRange job.now }
-    ensures { RunsWhole (S.held shelf.old) (S.held shelf.new) (script_of job.now) (S.faults shelf.old) (S.faults shelf.new) result }
+    ensures { RunsOn S.held S.faults shelf.old shelf.new (script_of job.now) result }
 {
     match job {
         Job::Clock { .. } => unreachable!(),

@@ -3,7 +3,7 @@
 ghost use Rattle.std.specs.Prelude.{◌≡◌, true};
 ghost use Rattle.lid_top_words.specs.Jobs.{IsJobInRange};
 ghost use Rattle.lid_top_script.specs.Scripts.{script_of};
-ghost use Rattle.lid_top_script.specs.Whole.{RunsWhole};
+ghost use Rattle.lid_top_script.specs.Whole.{RunsOn};
 ghost use Rattle.lid_top.specs.Families.{is_told, reads_netlist, is_free, holds_rows};
 
 use lid_base::{Gate, Shelf};
@@ -23,7 +23,7 @@ pub(crate) fn told_text<'a, S: Shelf>(
     job: &'a Job,
 ) -> Result<Vec<u8>, Stop<'a>>
     requires { is_told job.now ≡ true }
-    ensures { RunsWhole (S.held shelf.old) (S.held shelf.new) (script_of job.now) (S.faults shelf.old) (S.faults shelf.new) result }
+    ensures { RunsOn S.held S.faults shelf.old shelf.new (script_of job.now) result }
 {
     match job {
         Job::Rate {
@@ -62,7 +62,7 @@ pub(crate) fn netlist_text<'a, S: Shelf>(
 ) -> Result<Vec<u8>, Stop<'a>>
     requires of { reads_netlist job.now ≡ true }
     requires sound { IsJobInRange job.now }
-    ensures { RunsWhole (S.held shelf.old) (S.held shelf.new) (script_of job.now) (S.faults shelf.old) (S.faults shelf.new) result }
+    ensures { RunsOn S.held S.faults shelf.old shelf.new (script_of job.now) result }
 {
     match job {
         Job::Emit {
@@ -98,7 +98,7 @@ pub(crate) fn free_text<'a, R: Threads + AllocGlobal + Sync, S: Shelf, G: Gate>(
 ) -> Result<Vec<u8>, Stop<'a>>
     requires of { is_free job.now ≡ true }
     requires sound { IsJobInRange job.now }
-    ensures { RunsWhole (S.held shelf.old) (S.held shelf.new) (script_of job.now) (S.faults shelf.old) (S.faults shelf.new) result }
+    ensures { RunsOn S.held S.faults shelf.old shelf.new (script_of job.now) result }
 {
     match job {
         Job::Free {
@@ -130,7 +130,7 @@ pub(crate) fn rows_text<'a, R: Threads + AllocGlobal + Sync, S: Shelf, G: Gate>(
 ) -> Result<Vec<u8>, Stop<'a>>
     requires of { holds_rows job.now ≡ true }
     requires sound { IsJobInRange job.now }
-    ensures { RunsWhole (S.held shelf.old) (S.held shelf.new) (script_of job.now) (S.faults shelf.old) (S.faults shelf.new) result }
+    ensures { RunsOn S.held S.faults shelf.old shelf.new (script_of job.now) result }
 {
     match job {
         Job::Walk {

@@ -1,12 +1,10 @@
 //! `clock`: the clocked run of a netlist for rows of input bits, from its files to what is written. The rows are read
 //! twice, and what the run tells is written as it goes.
 
-ghost use Rattle.std.specs.Prelude.{◌≡◌, ◌<◌, Bool, List, length};
-ghost use Rattle.lid_top_script.specs.Causes.{Got};
+ghost use Rattle.std.specs.Prelude.{◌≡◌, ◌<◌, Bool, List};
+ghost use Rattle.lid_top_clock.specs.Clocking.{asked_script, after_stations, after_stalls, after_rows, after_trace, IsCounted};
 ghost use Rattle.lid_top_script.specs.Early.{RunsEarly};
-ghost use Rattle.lid_top_script.specs.Scripts.{rows_limit, vec_reading, rerun_script, traced_script, vec_script, stalled_script, clock_script};
 ghost use Rattle.lid_stall_text.specs.Holds.{Ascend, listed};
-ghost use Rattle.lid_stations.specs.Placements.{links_of};
 
 use crate::asked::{Asked, Given};
 use crate::counting::count_rows;
@@ -32,7 +30,7 @@ pub fn run_clock<'a, S: Shelf, O: Sink, R: Threads + AllocGlobal + Sync, G: Gate
     asked: &Asked<'a>,
 ) -> Result<(), JobEnd<'a>>
     requires some { 0 < workers.now.many }
-    ensures ran { RunsEarly (S.held shelf.old) (clock_script asked.now.files.net.now asked.now.vec.now asked.now.files.stations.now asked.now.stalls.now asked.now.trace asked.now.files.root.now) (S.faults shelf.old) (S.faults shelf.new) O.written O.faults out.old out.new result }
+    ensures ran { RunsEarly (S.held shelf.old) (asked_script asked.now) (S.faults shelf.old) (S.faults shelf.new) O.written O.faults out.old out.new result }
     ensures kept { S.held shelf.new ≡ S.held shelf.old }
 {
     match read_wrapped(workers.rt.alloc(), shelf, &asked.files) {
@@ -50,7 +48,7 @@ fn run_wrapped<'a, S: Shelf, O: Sink, R: Threads + AllocGlobal + Sync, G: Gate>(
     asked: &Asked<'a>,
 ) -> Result<(), JobEnd<'a>>
     requires some { 0 < workers.now.many }
-    ensures ran { RunsEarly (S.held shelf.old) (stalled_script wrapped.now.design (links_of wrapped.now.system) wrapped.now.placement asked.now.vec.now asked.now.stalls.now asked.now.trace) (S.faults shelf.old) (S.faults shelf.new) O.written O.faults out.old out.new result }
+    ensures ran { RunsEarly (S.held shelf.old) (after_stations asked.now wrapped.now) (S.faults shelf.old) (S.faults shelf.new) O.written O.faults out.old out.new result }
     ensures kept { S.held shelf.new ≡ S.held shelf.old }
 {
     match read_job_stalls(workers.rt.alloc(), shelf, asked.stalls) {
@@ -70,7 +68,7 @@ fn run_stalled<'a, S: Shelf, O: Sink, R: Threads + AllocGlobal + Sync, G: Gate>(
 ) -> Result<(), JobEnd<'a>>
     requires some { 0 < workers.now.many }
     requires ascend { Ascend (listed stalls) }
-    ensures ran { RunsEarly (S.held shelf.old) (vec_script wrapped.now.design (links_of wrapped.now.system) wrapped.now.placement asked.now.vec.now stalls asked.now.trace) (S.faults shelf.old) (S.faults shelf.new) O.written O.faults out.old out.new result }
+    ensures ran { RunsEarly (S.held shelf.old) (after_stalls asked.now wrapped.now stalls) (S.faults shelf.old) (S.faults shelf.new) O.written O.faults out.old out.new result }
     ensures kept { S.held shelf.new ≡ S.held shelf.old }
 {
     match count_rows(workers.rt.alloc(), shelf, wrapped, asked.vec) {
@@ -89,8 +87,8 @@ fn run_counted<'a, S: Shelf, O: Sink, R: Threads + AllocGlobal + Sync, G: Gate>(
     given: Given,
 ) -> Result<(), JobEnd<'a>>
     requires some { 0 < workers.now.many }
-    ensures ran { (rows : List (List Bool)) → Got (S.held shelf.old) asked.now.vec.now rows_limit (vec_reading wrapped.now.design) rows → given.rows ≡ length rows
-        → RunsEarly (S.held shelf.old) (traced_script wrapped.now.design (links_of wrapped.now.system) wrapped.now.placement asked.now.vec.now given.stalls asked.now.trace rows) (S.faults shelf.old) (S.faults shelf.new) O.written O.faults out.old out.new result }
+    ensures ran { (rows : List (List Bool)) → IsCounted (S.held shelf.old) asked.now wrapped.now given.rows rows
+        → RunsEarly (S.held shelf.old) (after_rows asked.now wrapped.now given.stalls rows) (S.faults shelf.old) (S.faults shelf.new) O.written O.faults out.old out.new result }
     ensures kept { S.held shelf.new ≡ S.held shelf.old }
 {
     match judge_trace(wrapped, &asked.trace) {
@@ -110,8 +108,8 @@ fn run_again<'a, S: Shelf, O: Sink, R: Threads + AllocGlobal + Sync, G: Gate>(
     given: Given,
 ) -> Result<(), JobEnd<'a>>
     requires some { 0 < workers.now.many }
-    ensures ran { (rows : List (List Bool)) → Got (S.held shelf.old) asked.now.vec.now rows_limit (vec_reading wrapped.now.design) rows → given.rows ≡ length rows
-        → RunsEarly (S.held shelf.old) (rerun_script wrapped.now.design (links_of wrapped.now.system) wrapped.now.placement asked.now.vec.now given.stalls asked.now.trace rows) (S.faults shelf.old) (S.faults shelf.new) O.written O.faults out.old out.new result }
+    ensures ran { (rows : List (List Bool)) → IsCounted (S.held shelf.old) asked.now wrapped.now given.rows rows
+        → RunsEarly (S.held shelf.old) (after_trace asked.now wrapped.now given.stalls rows) (S.faults shelf.old) (S.faults shelf.new) O.written O.faults out.old out.new result }
     ensures kept { S.held shelf.new ≡ S.held shelf.old }
 {
     let checked = &wrapped.checked;

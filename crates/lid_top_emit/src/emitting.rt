@@ -5,7 +5,7 @@ ghost use Rattle.lid_blifout.specs.Canonical.{canonical_text};
 ghost use Rattle.lid_blifout.specs.Writable.{IsWritable};
 ghost use Rattle.lid_top_script.specs.Causes.{IsWant};
 ghost use Rattle.lid_top_script.specs.Scripts.{wrapping_script, emit_script};
-ghost use Rattle.lid_top_script.specs.Whole.{RunsWhole, RunsAnywhere};
+ghost use Rattle.lid_top_script.specs.Whole.{RunsOn, RunsAnywhere};
 ghost use Rattle.lid_stations.specs.Placements.{links_of};
 ghost use Rattle.lid_top_emit.specs.Spelling.{HasSpelledPorts};
 
@@ -50,7 +50,7 @@ pub fn emit_text<'a, S: Shelf>(
     shelf: &mut S,
     files: &NetFiles<'a>,
 ) -> Result<Vec<u8>, Stop<'a>>
-    ensures { RunsWhole (S.held shelf.old) (S.held shelf.new) (emit_script files.now.net.now files.now.stations.now files.now.root.now) (S.faults shelf.old) (S.faults shelf.new) result }
+    ensures { RunsOn S.held S.faults shelf.old shelf.new (emit_script files.now.net.now files.now.stations.now files.now.root.now) result }
 {
     match read_wrapped(alloc, shelf, files) {
         Ok(wrapped) => wrapped_text(alloc, &wrapped),

@@ -1,7 +1,7 @@
 //! The steps of a run that holds its rows: from the netlist to the text.
 
 ghost use Rattle.lid_top_script.specs.Scripts.{rows_step};
-ghost use Rattle.lid_top_script.specs.Whole.{RunsWhole};
+ghost use Rattle.lid_top_script.specs.Whole.{RunsOn};
 ghost use Rattle.lid_top_held.specs.Runs.{fed_script, asked_script, IsSoundRun};
 
 use crate::freeing::freed_text;
@@ -21,7 +21,7 @@ fn fed_text<'a, R: Threads + AllocGlobal + Sync, S: Shelf, G: Gate>(
     run: HeldRun<'a>,
 ) -> Result<Vec<u8>, Stop<'a>>
     requires { IsSoundRun run }
-    ensures { RunsWhole (S.held shelf.old) (S.held shelf.new) (fed_script run.entry fed.now.wrapped.now fed.now.rows.now.bits) (S.faults shelf.old) (S.faults shelf.new) result }
+    ensures { RunsOn S.held S.faults shelf.old shelf.new (fed_script run.entry fed.now.wrapped.now fed.now.rows.now.bits) result }
 {
     match run {
         HeldRun::Walk(schedule) => walked_text(rt.alloc(), shelf, fed, schedule),
@@ -43,7 +43,7 @@ fn wrapped_text<'a, R: Threads + AllocGlobal + Sync, S: Shelf, G: Gate>(
     asked: &Asked<'a>,
 ) -> Result<Vec<u8>, Stop<'a>>
     requires { IsSoundRun asked.now.run }
-    ensures { RunsWhole (S.held shelf.old) (S.held shelf.new) (rows_step wrapped.now.design asked.now.vec.now (fed_script asked.now.run wrapped.now)) (S.faults shelf.old) (S.faults shelf.new) result }
+    ensures { RunsOn S.held S.faults shelf.old shelf.new (rows_step wrapped.now.design asked.now.vec.now (fed_script asked.now.run wrapped.now)) result }
 {
     match read_vec(rt.alloc(), shelf, &wrapped.checked, asked.vec) {
         Ok(rows) => {
@@ -71,7 +71,7 @@ pub fn run_text<'a, R: Threads + AllocGlobal + Sync, S: Shelf, G: Gate>(
     asked: &Asked<'a>,
 ) -> Result<Vec<u8>, Stop<'a>>
     requires { IsSoundRun asked.now.run }
-    ensures { RunsWhole (S.held shelf.old) (S.held shelf.new) (asked_script asked.now) (S.faults shelf.old) (S.faults shelf.new) result }
+    ensures { RunsOn S.held S.faults shelf.old shelf.new (asked_script asked.now) result }
 {
     match read_wrapped(rt.alloc(), shelf, &asked.files) {
         Ok(wrapped) => wrapped_text(rt, gate, shelf, &wrapped, asked),

@@ -6,7 +6,7 @@ ghost use Rattle.lid_walk_machine.specs.Plans.{actors_of};
 ghost use Rattle.lid_walk_machine.specs.Setups.{Setup, plan};
 ghost use Rattle.lid_walk_machine.specs.Machine.{State, answers, after_all};
 ghost use Rattle.lid_top_script.specs.Scripts.{schedule_script};
-ghost use Rattle.lid_top_script.specs.Whole.{RunsWhole};
+ghost use Rattle.lid_top_script.specs.Whole.{RunsOn};
 ghost use Rattle.lid_top_script.specs.Walked.{answer_lines, IsWalkText};
 ghost use Rattle.lid_stations.specs.Placements.{links_of};
 ghost use Rattle.lid_stations.specs.Stations.{actor_count};
@@ -61,7 +61,7 @@ pub(crate) fn walked_text<'a, S: Shelf>(
     fed: &Fed<'_>,
     schedule: &'a str,
 ) -> Result<Vec<u8>, Stop<'a>>
-    ensures { RunsWhole (S.held shelf.old) (S.held shelf.new) (schedule_script fed.now.wrapped.now.design (links_of fed.now.wrapped.now.system) fed.now.wrapped.now.placement schedule.now fed.now.rows.now.bits) (S.faults shelf.old) (S.faults shelf.new) result }
+    ensures { RunsOn S.held S.faults shelf.old shelf.new (schedule_script fed.now.wrapped.now.design (links_of fed.now.wrapped.now.system) fed.now.wrapped.now.placement schedule.now fed.now.rows.now.bits) result }
 {
     match read_schedule_file(alloc, shelf, actors_of(fed.wrapped), schedule) {
         Ok(list) => match lines_text(alloc, fed, list.as_slice()) {

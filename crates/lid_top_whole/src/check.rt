@@ -6,7 +6,7 @@ ghost use Rattle.lid_texts_runs.specs.Runs.{report_text};
 ghost use Rattle.lid_top_script.specs.Outputs.{channel_line, report_of, root_name};
 ghost use Rattle.lid_top_script.specs.Causes.{IsWant};
 ghost use Rattle.lid_top_script.specs.Scripts.{check_script};
-ghost use Rattle.lid_top_script.specs.Whole.{RunsWhole};
+ghost use Rattle.lid_top_script.specs.Whole.{RunsOn};
 
 use lid_base::{Items, Name, Shelf, copy_name};
 use lid_check::Checked;
@@ -94,7 +94,7 @@ pub fn check_text<'a, S: Shelf>(
     net: &'a str,
     root: &Option<Name>,
 ) -> Result<Vec<u8>, Stop<'a>>
-    ensures { RunsWhole (S.held shelf.old) (S.held shelf.new) (check_script net.now root.now) (S.faults shelf.old) (S.faults shelf.new) result }
+    ensures { RunsOn S.held S.faults shelf.old shelf.new (check_script net.now root.now) result }
 {
     match read_system(alloc, shelf, net, root) {
         Ok(built) => built_text(alloc, &built),

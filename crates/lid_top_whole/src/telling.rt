@@ -5,7 +5,7 @@ ghost use Rattle.lid_top_whole.specs.Telling.{output_of};
 ghost use Rattle.lid_top_script.specs.Causes.{IsWant};
 ghost use Rattle.lid_top_script.specs.Outputs.{IsTextOf};
 ghost use Rattle.lid_top_script.specs.Scripts.{telling_script};
-ghost use Rattle.lid_top_script.specs.Whole.{RunsWhole};
+ghost use Rattle.lid_top_script.specs.Whole.{RunsOn};
 ghost use Rattle.lid_stations.specs.Markings.{marking};
 ghost use Rattle.lid_stations.specs.Placements.{links_of};
 ghost use Rattle.lid_rate_text.specs.Throughput.{IsRateText};
@@ -68,7 +68,7 @@ pub fn telling_text<'a, S: Shelf>(
     files: &NetFiles<'a>,
     telling: Telling,
 ) -> Result<Vec<u8>, Stop<'a>>
-    ensures { RunsWhole (S.held shelf.old) (S.held shelf.new) (telling_script (output_of telling) files.now.net.now files.now.stations.now files.now.root.now) (S.faults shelf.old) (S.faults shelf.new) result }
+    ensures { RunsOn S.held S.faults shelf.old shelf.new (telling_script (output_of telling) files.now.net.now files.now.stations.now files.now.root.now) result }
 {
     match read_wrapped(alloc, shelf, files) {
         Ok(wrapped) => told_text(alloc, &wrapped, telling),

@@ -5,7 +5,7 @@ ghost use Rattle.std.specs.List.{All};
 ghost use Rattle.lid_cert.specs.Certificates.{ascends, IsInRange};
 ghost use Rattle.lid_top_script.specs.Causes.{IsWant};
 ghost use Rattle.lid_top_script.specs.Scripts.{IsVerdictOn, judging_script, cert_script, verify_script};
-ghost use Rattle.lid_top_script.specs.Whole.{RunsWhole, RunsAnywhere};
+ghost use Rattle.lid_top_script.specs.Whole.{RunsOn, RunsAnywhere};
 ghost use Rattle.lid_stations.specs.Markings.{marking};
 ghost use Rattle.lid_stations.specs.Placements.{links_of};
 ghost use Rattle.lid_rate_text.specs.Throughput.{verdict_text};
@@ -66,7 +66,7 @@ fn cert_text<'a, S: Shelf>(
     wrapped: &Wrapped,
     cert: &'a str,
 ) -> Result<Vec<u8>, Stop<'a>>
-    ensures { RunsWhole (S.held shelf.old) (S.held shelf.new) (cert_script (links_of wrapped.now.system) wrapped.now.placement cert.now) (S.faults shelf.old) (S.faults shelf.new) result }
+    ensures { RunsOn S.held S.faults shelf.old shelf.new (cert_script (links_of wrapped.now.system) wrapped.now.placement cert.now) result }
 {
     match read_cert(alloc, shelf, cert) {
         Ok(cert) => judged_text(alloc, wrapped, &cert),
@@ -81,7 +81,7 @@ pub fn verify_text<'a, S: Shelf>(
     files: &NetFiles<'a>,
     cert: &'a str,
 ) -> Result<Vec<u8>, Stop<'a>>
-    ensures { RunsWhole (S.held shelf.old) (S.held shelf.new) (verify_script files.now.net.now cert.now files.now.stations.now files.now.root.now) (S.faults shelf.old) (S.faults shelf.new) result }
+    ensures { RunsOn S.held S.faults shelf.old shelf.new (verify_script files.now.net.now cert.now files.now.stations.now files.now.root.now) result }
 {
     match read_wrapped(alloc, shelf, files) {
         Ok(wrapped) => cert_text(alloc, shelf, &wrapped, cert),

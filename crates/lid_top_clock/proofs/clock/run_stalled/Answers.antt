@@ -10,7 +10,7 @@ unfolding vec_script
 returns-in-Ok-clause-ran g c =
     let has = c.in-Ok.ensures.ok in
     let still = subst (λ (held : List ℕ → Option (List ℕ)). Got held c.args.asked.now.vec.now rows_limit (vec_reading c.args.wrapped.now.design) has.rows) (sym c.in-Ok.ensures.kept) has.got in
-    runs_within (within_read _ _ _ _ _ has.rows has.got) c.in-Ok.ensures.kept c.in-Ok.ensures.grows (c.run_counted.ensures.ran has.rows still has.many)
+    runs_within (within_read _ _ _ _ _ has.rows has.got) c.in-Ok.ensures.kept c.in-Ok.ensures.grows (c.run_counted.ensures.ran has.rows (still, has.many))
 
 pub returns-in-Err-clause-ran : goal.returns-in-Err-clause-ran
 unfolding vec_script

@@ -1,5 +1,6 @@
 use Rattle.std.proofs.Common.{length, refl, sym, ap, subst}
 use Rattle.lid_top_clock.specs.Clocking.{HasRows}
+use Rattle.lid_top_clock.specs.Stops.{stop_of_feed}
 use Rattle.lid_top_script.specs.Scripts.{rows_limit, vec_reading}
 use Rattle.lid_top_script.specs.Causes.{Misses}
 use Rattle.lid_top_script.specs.Wrapped.{Wrapping}
@@ -19,6 +20,6 @@ returns-in-Err-clause-err g c =
     let before = g.S.Shelf.faults c.args.shelf.now in
     let after = g.S.Shelf.faults c.count_rows.new.shelf in
     subst (λ s. Misses held c.args.vec.now rows_limit (vec_reading c.args.wrapped.now.design) before after s) (sym c.feed_stop.ensures)
-    (subst (λ (w : Wrapping). Misses held c.args.vec.now rows_limit (vec_reading w.design) before after _) c.wrapped.view_is
+    (subst (λ (w : Wrapping). Misses held c.args.vec.now rows_limit (vec_reading w.design) before after (stop_of_feed c.args.vec c.in-Err.fault)) c.wrapped.view_is
     (misses held c.wrapped.inside.checked c.args.vec.now c.inputs.result.now (length c.outputs.result.now) c.inputs.ensures.names (ap length c.outputs.ensures.names)
     c.args.vec before after c.in-Err.fault refl c.in-Err.ensures.failed c.in-Err.ensures.refused))
