@@ -7,8 +7,8 @@ use Rattle.lid_stations.specs.Stations.{actor_count}
 use Rattle.lid_top_script.specs.Wrapped.{Wrapping}
 
 module _ {inside w : Wrapping} (same : inside ≡ w) where
-  pub wide_inside : {rows : List (List Bool)} → AllByRecursion (λ row. length row ≡ length (root_inputs w.design)) rows → AllByRecursion (λ row. length row ≡ length (root_inputs inside.design)) rows
-  wide_inside {rows = rows} wide = subst (λ (v : Wrapping). AllByRecursion (λ row. length row ≡ length (root_inputs v.design)) rows) (sym same) wide
+  pub wide_inside : (rows : List (List Bool)) → AllByRecursion (λ row. length row ≡ length (root_inputs w.design)) rows → AllByRecursion (λ row. length row ≡ length (root_inputs inside.design)) rows
+  wide_inside rows wide = subst (λ (v : Wrapping). AllByRecursion (λ row. length row ≡ length (root_inputs v.design)) rows) (sym same) wide
 
-  pub below_inside : {schedule : List ℕ} → AllByRecursion (λ v. v < actor_count (links_of w.system) w.placement) schedule → AllByRecursion (λ v. v < actor_count (links_of inside.system) inside.placement) schedule
-  below_inside {schedule = schedule} below = subst (λ (u : Wrapping). AllByRecursion (λ v. v < actor_count (links_of u.system) u.placement) schedule) (sym same) below
+  pub below_inside : (schedule : List ℕ) → AllByRecursion (λ v. v < actor_count (links_of w.system) w.placement) schedule → AllByRecursion (λ v. v < actor_count (links_of inside.system) inside.placement) schedule
+  below_inside schedule below = subst (λ (u : Wrapping). AllByRecursion (λ v. v < actor_count (links_of u.system) u.placement) schedule) (sym same) below

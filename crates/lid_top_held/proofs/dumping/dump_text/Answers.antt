@@ -17,7 +17,7 @@ trace_of-requires c =
     let e = c.design.ensures in
     let rows = c.args.fed.now.rows.now.bits in
     subst (λ (u : Wrapping). HasFreeLife u rows) c.wrapped.view_is
-    (alive w.checked w.system w.placement is.of is.system is.fits rows c.args.fed.now.few (wide_inside c.wrapped.view_is c.args.fed.now.wide) (table_of w.checked (judged_of w.checked e.formed e.accepted.models) e.accepted.loops))
+    (alive w.checked w.system w.placement is.of is.system is.fits rows c.args.fed.now.few (wide_inside c.wrapped.view_is c.args.fed.now.rows.now.bits c.args.fed.now.wide) (table_of w.checked (judged_of w.checked e.formed e.accepted.models) e.accepted.loops))
 
 pub dump_of-requires : goal.dump_of-requires
 dump_of-requires c =
@@ -27,7 +27,7 @@ dump_of-requires c =
     let rows = c.args.fed.now.rows.now.bits in
     let told = subst (λ (u : Wrapping). IsTraceOfAll u rows c.args.cycles c.in_ok-trace.trace) (sym c.wrapped.view_is) c.in_ok-trace.ensures in
     let cells = subst (λ (u : Wrapping). station_count u.placement.relays * c.args.cycles ≤ 1048576) (sym c.wrapped.view_is) c.requires.cells in
-    trace_writable w.checked w.system w.placement is.of is.system is.fits rows c.args.fed.now.few (wide_inside c.wrapped.view_is c.args.fed.now.wide) (table_of w.checked (judged_of w.checked e.formed e.accepted.models) e.accepted.loops)
+    trace_writable w.checked w.system w.placement is.of is.system is.fits rows c.args.fed.now.few (wide_inside c.wrapped.view_is c.args.fed.now.rows.now.bits c.args.fed.now.wide) (table_of w.checked (judged_of w.checked e.formed e.accepted.models) e.accepted.loops)
     c.args.cycles c.in_ok-trace.trace told c.requires.most cells
 
 pub returns : goal.returns
@@ -39,6 +39,6 @@ returns c =
     let told = subst (λ (u : Wrapping). IsTraceOfAll u rows c.args.cycles c.in_ok-trace.trace) (sym c.wrapped.view_is) c.in_ok-trace.ensures in
     subst (λ (u : Wrapping). IfOk c.dump_of.result (λ text. IsWaveText u.design (links_of u.system) u.placement rows c.args.cycles text.items)) c.wrapped.view_is
     (if_ok c.dump_of.result
-    (λ text. dumped w.checked w.system w.placement is.of is.system is.fits rows c.args.fed.now.few (wide_inside c.wrapped.view_is c.args.fed.now.wide) (table_of w.checked (judged_of w.checked e.formed e.accepted.models) e.accepted.loops)
+    (λ text. dumped w.checked w.system w.placement is.of is.system is.fits rows c.args.fed.now.few (wide_inside c.wrapped.view_is c.args.fed.now.rows.now.bits c.args.fed.now.wide) (table_of w.checked (judged_of w.checked e.formed e.accepted.models) e.accepted.loops)
     c.args.cycles c.in_ok-trace.trace told text.items)
     c.dump_of.ensures)

@@ -1,5 +1,5 @@
 -- There is a relay station less on each channel than there are stations.
-use Rattle.std.proofs.Common.{◌≡◌, subst, arith}
+use Rattle.std.proofs.Common.{ap, arith}
 use Rattle.lid_stations.specs.Placements.{links_of}
 use Rattle.lid_stations.specs.Stations.{actor_count}
 use Rattle.lid_stations.proofs.Spots.{fewer_relays}
@@ -13,4 +13,5 @@ pub returns : goal.returns
 returns c =
     let e = fewer_relays c.wrapped.inside.placement.relays in
     let caps = c.wrapped.invariant.fits.rules.caps in
-    subst (λ (w : Wrapping). c.result ≡ actor_count (links_of w.system) w.placement) c.wrapped.view_is (omega arith)
+    let same = ap (λ (w : Wrapping). actor_count (links_of w.system) w.placement) c.wrapped.view_is in
+    omega arith
