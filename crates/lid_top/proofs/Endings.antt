@@ -16,7 +16,7 @@ use Rattle.lid_stall_text.specs.declared.stalls.Stall.{Stall}
 use Rattle.lid_stations.specs.declared.placement.Placement.{Placement}
 use Rattle.lid_stations.specs.Placements.{Links, no_relays}
 use Rattle.lid_stations.specs.Stations.{actor_count}
-use Rattle.lid_top_script.specs.Scripts.{Ending, refuses, gives, Script, fetch, again, decide, end, Reading, good, bad, step, net_reading, vec_reading, check_step, net_step, report_script, check_script, rows_script, checked_script, strict_script, links, system_step, placement_step, stalls_read, stalls_step, stations_read, wires_read, cert_read, wires_script, told_script, judged_script, judging_script, cert_script, place_script, telling_script, verify_script, trace_read, rerun_script, traced_script, vec_script, stalled_script, placed_script, built_script, clock_script, rows_step, built_step, held_step, schedule_read, schedule_script, walk_script, freeing_script, free_script, waving_script, wave_script, dump_read, unwave_script, emit_read, wrapping_script, wrapped_script, emit_script, size_read, generating, gen_script, script_of, IsFetched, IsReread, IsChecked, IsUnchecked, EndsIn}
+use Rattle.lid_top_script.specs.Scripts.{Ending, refuses, gives, Script, fetch, again, decide, end, Reading, good, bad, step, net_reading, vec_reading, check_step, net_step, report_script, check_script, rows_script, checked_script, strict_script, links, system_step, placement_step, stalls_read, stalls_step, stations_read, wires_read, cert_read, wires_script, told_script, judged_script, judging_script, cert_script, place_script, telling_script, verify_script, trace_read, rerun_script, traced_script, vec_script, stalled_script, clock_script, rows_step, wrapped_step, held_step, schedule_read, schedule_script, walk_script, freeing_script, free_script, waving_script, wave_script, dump_read, unwave_script, emit_read, wrapping_script, emit_script, size_read, generating, gen_script, script_of, IsFetched, IsReread, IsChecked, IsUnchecked, EndsIn}
 use Rattle.lid_top_script.specs.Statuses.{TellsAll}
 use Rattle.lid_base.proofs.Options.{same_some}
 
@@ -118,32 +118,30 @@ module _ (apart : (d : Design) (fault : CheckFault) → IsAccepted d → IsRefus
   )
 
   -- the system of a netlist has one outcome
-  system_once : (held : List ℕ → Option (List ℕ)) (net : List ℕ) (root : Option (List ℕ)) (next : Links → Script) → ((l : Links) → IsSettled held (next l)) → IsSettled held (system_step net root next)
+  system_once : (held : List ℕ → Option (List ℕ)) (net : List ℕ) (root : Option (List ℕ)) (next : Design → Links → Script) → ((d : Design) (l : Links) → IsSettled held (next d l)) → IsSettled held (system_step net root next)
   system_once held net root next s = λ bytes _.
-      let built : Design → Script = λ checked. net_step checked (λ channels. next (links checked channels)) in
+      let built : Design → Script = λ checked. net_step checked (λ channels. next checked (links checked channels)) in
       settled_step held (net_reading bytes) (λ d. check_step root d built)
-      (λ d. checked_once held root d built (λ checked. built_once held checked (λ channels. next (links checked channels)) (λ channels. s (links checked channels))))
+      (λ d. checked_once held root d built (λ checked. built_once held checked (λ channels. next checked (links checked channels)) (λ channels. s checked (links checked channels))))
 
-  -- `clock` of an accepted design has one outcome
-  clocked_once : (held : List ℕ → Option (List ℕ)) (d : Design) (vec : List ℕ) (stations stalls : Option (List ℕ)) (trace : Option ℕ) → IsSettled held (built_script d vec stations stalls trace)
-  unfolding built_script placed_script stalled_script vec_script traced_script rerun_script
-  clocked_once held d vec stations stalls trace = built_once held d (λ channels. placed_script d (links d channels) vec stations stalls trace) (λ channels.
-      let l = links d channels in
-      placed_once held l stations (λ p. stalled_script d l p vec stalls trace) (λ p.
+  -- and so has its placement
+  wrapped_once : (held : List ℕ → Option (List ℕ)) (net : List ℕ) (stations root : Option (List ℕ)) (next : Design → Links → Placement → Script)
+      → ((d : Design) (l : Links) (p : Placement) → IsSettled held (next d l p)) → IsSettled held (wrapped_step net stations root next)
+  wrapped_once held net stations root next s = system_once held net root (λ d l. placement_step l stations (next d l)) (λ d l. placed_once held l stations (next d l) (s d l))
+
+  -- `clock` of a system with its stations has one outcome
+  clocked_once : (held : List ℕ → Option (List ℕ)) (d : Design) (l : Links) (p : Placement) (vec : List ℕ) (stalls : Option (List ℕ)) (trace : Option ℕ) → IsSettled held (stalled_script d l p vec stalls trace)
+  unfolding stalled_script vec_script traced_script rerun_script
+  clocked_once held d l p vec stalls trace =
       stalled_once held stalls (λ read. vec_script d l p vec read trace) (λ read text _.
       settled_step held (vec_reading d text) (traced_script d l p vec read trace) (λ rows.
-      settled_step held (trace_read p trace) (λ _. rerun_script d l p vec read trace rows) (λ _ reread _. tt)))))
+      settled_step held (trace_read p trace) (λ _. rerun_script d l p vec read trace rows) (λ _ reread _. tt)))
 
   -- a run that holds its rows has one outcome
   held_once : (held : List ℕ → Option (List ℕ)) (net vec : List ℕ) (stations root : Option (List ℕ)) (next : Design → Links → Placement → List (List Bool) → Script)
       → ((d : Design) (l : Links) (p : Placement) (rows : List (List Bool)) → IsSettled held (next d l p rows)) → IsSettled held (held_step net vec stations root next)
-  held_once held net vec stations root next s = λ bytes _.
-      let built : Design → Script = λ checked. built_step checked vec stations (next checked) in
-      settled_step held (net_reading bytes) (λ d. check_step root d built) (λ d. checked_once held root d built (λ checked.
-      built_once held checked (λ channels. placement_step (links checked channels) stations (λ p. rows_step checked vec (next checked (links checked channels) p))) (λ channels.
-      let l = links checked channels in
-      placed_once held l stations (λ p. rows_step checked vec (next checked l p)) (λ p text _.
-      settled_step held (vec_reading checked text) (next checked l p) (λ rows. s checked l p rows)))))
+  held_once held net vec stations root next s =
+      wrapped_once held net stations root (λ d l p. rows_step d vec (next d l p)) (λ d l p text _. settled_step held (vec_reading d text) (next d l p) (s d l p))
 
   waved_once : (held : List ℕ → Option (List ℕ)) (d : Design) (l : Links) (p : Placement) (cycles : ℕ) (rows : List (List Bool)) → IsSettled held (waving_script d l p cycles rows)
   unfolding waving_script
@@ -161,41 +159,29 @@ module _ (apart : (d : Design) (fault : CheckFault) → IsAccepted d → IsRefus
   unfolding wrapping_script
   wrapping_once held d l p = settled_step held (emit_read d l p) (λ _. end (gives (emitted d l p))) (λ _. tt)
 
-  wrapped_once : (held : List ℕ → Option (List ℕ)) (d : Design) (stations : Option (List ℕ)) → IsSettled held (wrapped_script d stations)
-  unfolding wrapped_script
-  wrapped_once held d stations = built_once held d (λ channels. placement_step (links d channels) stations (wrapping_script d (links d channels))) (λ channels.
-      placed_once held (links d channels) stations (wrapping_script d (links d channels)) (λ p. wrapping_once held d (links d channels) p))
-
   output_once : (held : List ℕ → Option (List ℕ)) (output : Links → Placement → Output) (net : List ℕ) (stations root : Option (List ℕ)) → IsSettled held (telling_script output net stations root)
   unfolding telling_script told_script
-  output_once held output net stations root =
-      system_once held net root (λ l. placement_step l stations (told_script output l)) (λ l. placed_once held l stations (told_script output l) (λ _. tt))
+  output_once held output net stations root = wrapped_once held net stations root (λ d. told_script output) (λ d l p. tt)
 
   settled_job : (held : List ℕ → Option (List ℕ)) (job : Job) → IsSettled held (script_of job)
   unfolding emit_script free_script walk_script wave_script unwave_script gen_script clock_script check_script report_script strict_script checked_script rows_script place_script wires_script verify_script cert_script
-  settled_job held (Check net root) = λ bytes _.
-      let reported : (d : Design) → IsSettled held (report_script d) = λ d. built_once held d (λ channels. end (gives (report d channels))) (λ _. tt) in
-      settled_step held (net_reading bytes) (λ d. check_step root d report_script) (λ d. checked_once held root d report_script reported)
-  settled_job held (Clock net vec stations stalls workers trace root) = λ bytes _.
-      let built : Design → Script = λ checked. built_script checked vec stations stalls trace in
-      settled_step held (net_reading bytes) (λ d. check_step root d built) (λ d. checked_once held root d built (λ checked. clocked_once held checked vec stations stalls trace))
+  settled_job held (Check net root) = system_once held net root report_script (λ d l. tt)
+  settled_job held (Clock net vec stations stalls workers trace root) =
+      wrapped_once held net stations root (λ d l p. stalled_script d l p vec stalls trace) (λ d l p. clocked_once held d l p vec stalls trace)
   settled_job held (Place net wires reach root) =
-      system_once held net root (λ l. wires_script l wires reach) (λ l bytes _. settled_step held (wires_read reach l bytes) (λ p. end (gives (placed l p))) (λ _. tt))
+      system_once held net root (λ d l. wires_script l wires reach) (λ d l bytes _. settled_step held (wires_read reach l bytes) (λ p. end (gives (placed l p))) (λ _. tt))
   settled_job held (Rate net stations root) = output_once held throughput net stations root
   settled_job held (Size net stations root) = output_once held sized net stations root
   settled_job held (Slack net stations root) = output_once held slacks net stations root
   settled_job held (Verify net cert stations root) =
-      system_once held net root (λ l. placement_step l stations (λ p. cert_script l p cert))
-      (λ l. placed_once held l stations (λ p. cert_script l p cert) (λ p bytes _. settled_step held (cert_read bytes) (judging_script l p) (λ c. judged_once held l p c)))
+      wrapped_once held net stations root (λ d l p. cert_script l p cert) (λ d l p bytes _. settled_step held (cert_read bytes) (judging_script l p) (λ c. judged_once held l p c))
   settled_job held (Free net vec stations workers rounds tally root) =
       held_once held net vec stations root (λ d l p rows. freeing_script d l p workers rounds tally rows) (λ d l p rows. freed_once held d l p workers rounds tally rows)
   settled_job held (Walk net vec schedule stations root) =
       held_once held net vec stations root (λ d l p rows. schedule_script d l p schedule rows) (λ d l p rows. walked_once held d l p schedule rows)
   settled_job held (Wave net vec stations cycles root) =
       held_once held net vec stations root (λ d l p rows. waving_script d l p cycles rows) (λ d l p rows. waved_once held d l p cycles rows)
-  settled_job held (Emit net stations root) = λ bytes _.
-      let wrapped : Design → Script = λ checked. wrapped_script checked stations in
-      settled_step held (net_reading bytes) (λ d. check_step root d wrapped) (λ d. checked_once held root d wrapped (λ checked. wrapped_once held checked stations))
+  settled_job held (Emit net stations root) = wrapped_once held net stations root wrapping_script (λ d l p. wrapping_once held d l p)
   settled_job held (Unwave file) = λ bytes _. settled_step held (dump_read bytes) (λ trace. end (gives (unwaved trace))) (λ _. tt)
   settled_job held (Gen seed shells run) = settled_step held (size_read shells) (λ _. end (gives (generating seed shells run))) (λ _. tt)
   settled_job held (Strict net vec root) = λ bytes _.

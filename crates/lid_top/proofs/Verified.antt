@@ -48,20 +48,21 @@ module _ (held : List ℕ → Option (List ℕ)) (P : Ending → Type 0) (output
   after_step (good a) next other go e = go a e
   after_step (bad line) next other go e = absurd (not_refused e)
 
-  module _ (next other : Links → Script) (go : (l : Links) → EndsIn held (next l) (gives output) → EndsSo (other l)) where
-    after_net : (checked : Design) → EndsIn held (net_step checked (λ channels. next (links checked channels))) (gives output) → EndsSo (net_step checked (λ channels. other (links checked channels)))
-    after_net checked (inl (channels, has, x)) = let r = go (links checked channels) x in (r.0, r.1, inl (channels, has, r.2))
+  module _ (next other : Design → Links → Script) (go : (d : Design) (l : Links) → EndsIn held (next d l) (gives output) → EndsSo (other d l)) where
+    abbrev on : (Design → Links → Script) → Design → Script
+    on then checked = net_step checked (λ channels. then checked (links checked channels))
+
+    after_net : (checked : Design) → EndsIn held (on next checked) (gives output) → EndsSo (on other checked)
+    after_net checked (inl (channels, has, x)) = let r = go checked (links checked channels) x in (r.0, r.1, inl (channels, has, r.2))
     after_net checked (inr (line, b, x)) = absurd (not_refused x)
 
-    after_check : (root : Option (List ℕ)) (d : Design) → EndsIn held (check_step root d (λ checked. net_step checked (λ channels. next (links checked channels)))) (gives output) → EndsSo (check_step root d (λ checked. net_step checked (λ channels. other (links checked channels))))
+    after_check : (root : Option (List ℕ)) (d : Design) → EndsIn held (check_step root d (on next)) (gives output) → EndsSo (check_step root d (on other))
     after_check root d (inl (checked, is, x)) = let r = after_net checked x in (r.0, r.1, inl (checked, is, r.2))
     after_check root d (inr (line, b, x)) = absurd (not_refused x)
 
     after_system : (net : List ℕ) (root : Option (List ℕ)) → EndsIn held (system_step net root next) (gives output) → EndsSo (system_step net root other)
     after_system net root (bytes, fetched, e) =
-        let r =
-        after_step (net_reading bytes) (λ d. check_step root d (λ checked. net_step checked (λ channels. next (links checked channels))))
-        (λ d. check_step root d (λ checked. net_step checked (λ channels. other (links checked channels)))) (after_check root) e in
+        let r = after_step (net_reading bytes) (λ d. check_step root d (on next)) (λ d. check_step root d (on other)) (after_check root) e in
         (r.0, r.1, (bytes, fetched, r.2))
 
   after_placement : (l : Links) (stations : Option (List ℕ)) (next other : Placement → Script) → ((p : Placement) → EndsIn held (next p) (gives output) → EndsSo (other p)) → EndsIn held (placement_step l stations next) (gives output) → EndsSo (placement_step l stations other)
@@ -98,8 +99,8 @@ module _ (held : List ℕ → Option (List ℕ)) (cert text : List ℕ) (told : 
   verified : (net : List ℕ) (stations root : Option (List ℕ)) → HasText held (telling_script throughput net stations root) text → HasEnding held (IsVerdict text) (verify_script net cert stations root)
   unfolding telling_script verify_script told_script
   verified net stations root h =
-      after_system held (IsVerdict text) h.output (λ l. placement_step l stations (told_script throughput l)) (λ l. placement_step l stations (λ p. cert_script l p cert))
-      (λ l e. after_placement held (IsVerdict text) h.output l stations (told_script throughput l) (λ p. cert_script l p cert)
+      after_system held (IsVerdict text) h.output (λ d l. placement_step l stations (told_script throughput l)) (λ d l. placement_step l stations (λ p. cert_script l p cert))
+      (λ d l e. after_placement held (IsVerdict text) h.output l stations (told_script throughput l) (λ p. cert_script l p cert)
       (λ p f. judged l p (subst (λ o. IsTextOf o text) (sym (ap (given_of h.output) f)) h.text_of)) e)
       net root h.ends
 

@@ -1,2 +1,2 @@
 pub mod Verified
-pub mod Held
+pub mod Families

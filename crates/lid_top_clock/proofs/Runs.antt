@@ -34,7 +34,10 @@ use Rattle.lid_top_script.specs.Scripts.{refuses, Script, rows_limit, vec_readin
 use Rattle.lid_top_script.specs.Causes.{Got, Declines, IsJobEnd, IsRefusedJob, stop_of_rows}
 use Rattle.lid_top_script.specs.Statuses.{HasText, Writes, WritesPrefix}
 use Rattle.lid_top_script.specs.Early.{RunsEarly}
+use Rattle.lid_top_script.specs.Wrapped.{Wrapping}
 use Rattle.lid_top_script.proofs.Readings.{vec_declines}
+use Rattle.lid_top_clock.specs.declared.asked.Asked.{Asked}
+use Rattle.lid_top_clock.specs.Clocking.{after_trace}
 use Rattle.lid_top_clock.specs.Stops.{end_of_run}
 use Rattle.lid_top_clock.proofs.Lifetimes.{life, lives, clock_text}
 use Rattle.lid_top_clock.proofs.Rest.{Rest, rest, Falls, is_changed, never_told, falls_refused, falls_few}
@@ -172,3 +175,9 @@ module _ (held : List ℕ → Option (List ℕ)) (d : Design) (s : System) (p : 
 
     pub runs_in_part : {columns : List (List ℕ)} {name : List ℕ} {end : JobEnd} (fault : RunFault) → end ≡ end_of_run file count fault → columns ≡ root_outputs d → name ≡ vec → Stops fault columns name → Runs (Err end)
     runs_in_part fault is same named stopped = subst (λ end. Runs (Err end)) (sym is) (in_part fault (along (Stops fault) same named stopped))
+
+-- what is said of the fields of a design with its stations is said of it
+pub runs_outside : {O : Type 0} {held : List ℕ → Option (List ℕ)} {before after : List ℕ → ℕ} {written : O → Option (List ℕ)} {writes : O → ℕ} {out out_after : O} {result : Result (Unit {0}) JobEnd} {fields w : Wrapping} (a : Asked) (stalls : Option (List Stall)) (rows : List (List Bool)) → fields ≡ w
+    → RunsEarly held (after_trace a fields stalls rows) before after written writes out out_after result → RunsEarly held (after_trace a w stalls rows) before after written writes out out_after result
+runs_outside {held = held} {before = before} {after = after} {written = written} {writes = writes} {out = out} {out_after = out_after} {result = result} a stalls rows same ran =
+    subst (λ (u : Wrapping). RunsEarly held (after_trace a u stalls rows) before after written writes out out_after result) same ran

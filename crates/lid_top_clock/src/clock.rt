@@ -1,159 +1,22 @@
-//! `clock`: the clocked run of a netlist for rows of input bits. The rows are read twice, and what the run
-//! tells is written as it goes.
+//! `clock`: the clocked run of a netlist for rows of input bits, from its files to what is written. The rows are read
+//! twice, and what the run tells is written as it goes.
 
-ghost use Rattle.std.specs.Prelude.{◌≡◌, ℕ, ◌<◌, ◌≤◌, Bool, List, length};
-ghost use Rattle.lid_net_law.specs.Agreement.{IsSystemOf};
-ghost use Rattle.lid_top_clock.specs.Clocking.{IsWrapped};
-ghost use Rattle.lid_design.specs.WellFormed.{IsWellFormed};
-ghost use Rattle.lid_top_script.specs.Causes.{Got};
+ghost use Rattle.std.specs.Prelude.{◌≡◌, ◌<◌, Bool, List};
+ghost use Rattle.lid_top_clock.specs.Clocking.{asked_script, after_stations, after_stalls, after_rows, after_trace, IsCounted};
 ghost use Rattle.lid_top_script.specs.Early.{RunsEarly};
-ghost use Rattle.lid_top_script.specs.Scripts.{check_step, rows_limit, vec_reading, traced_script, vec_script, stalled_script, placed_script, built_script, clock_script};
 ghost use Rattle.lid_stall_text.specs.Holds.{Ascend, listed};
-ghost use Rattle.lid_stations.specs.Placements.{links_of};
-ghost use Rattle.lid_system.specs.Systems.{IsWellFormed as IsSystem};
 
-use crate::asked::{Asked, Wrapped};
+use crate::asked::{Asked, Given};
 use crate::counting::count_rows;
-use crate::rerun::run_again;
+use crate::stops::run_end;
+use crate::task::Task;
+use crate::whole::run;
 use crate::workers::Workers;
 use lid_base::{Gate, Items, Shelf, Sink};
-use lid_check::Checked;
-use lid_design::Design;
 use lid_stall_text::Stall;
-use lid_system::System;
-use lid_top_script::{
-    JobEnd, accept, build_system, judge_trace, read_job_stalls, read_net, read_placement,
-};
+use lid_texts_feed::RowFeed;
+use lid_top_script::{JobEnd, Stop, Wrapped, judge_trace, read_job_stalls, read_wrapped};
 use std::thread::Threads;
-
-/// Judges the trace, and runs for so many rows.
-fn run_counted<'a, S: Shelf, O: Sink, R: Threads + AllocGlobal + Sync, G: Gate>(
-    workers: &Workers<'_, R, G>,
-    shelf: &mut S,
-    out: &mut O,
-    wrapped: &Wrapped<'_>,
-    count: u64,
-    asked: &Asked<'a>,
-    stalls: Option<Items<Stall>>,
-) -> Result<(), JobEnd<'a>>
-    requires some { 0 < workers.now.many }
-    requires wrapped { IsWrapped wrapped.now }
-    requires few { count ≤ 1000000 }
-    requires ascend { Ascend (listed stalls) }
-    ensures ran { (rows : List (List Bool)) → Got (S.held shelf.old) asked.now.vec.now rows_limit (vec_reading wrapped.now.checked.now) rows → count ≡ length rows
-        → RunsEarly (S.held shelf.old) (traced_script wrapped.now.checked.now (links_of wrapped.now.system.now) wrapped.now.placement.now asked.now.vec.now stalls asked.now.trace rows) (S.faults shelf.old) (S.faults shelf.new) O.written O.faults out.old out.new result }
-    ensures kept { S.held shelf.new ≡ S.held shelf.old }
-{
-    match judge_trace(wrapped.placement, &asked.trace) {
-        Ok(()) => run_again(workers, shelf, out, wrapped, count, asked, stalls),
-        Err(stop) => Err(JobEnd::Stopped(stop)),
-    }
-}
-
-/// Reads and counts the rows, and runs for them.
-fn run_placed<'a, S: Shelf, O: Sink, R: Threads + AllocGlobal + Sync, G: Gate>(
-    workers: &Workers<'_, R, G>,
-    shelf: &mut S,
-    out: &mut O,
-    wrapped: &Wrapped<'_>,
-    asked: &Asked<'a>,
-    stalls: Option<Items<Stall>>,
-) -> Result<(), JobEnd<'a>>
-    requires some { 0 < workers.now.many }
-    requires wrapped { IsWrapped wrapped.now }
-    requires ascend { Ascend (listed stalls) }
-    ensures ran { RunsEarly (S.held shelf.old) (vec_script wrapped.now.checked.now (links_of wrapped.now.system.now) wrapped.now.placement.now asked.now.vec.now stalls asked.now.trace) (S.faults shelf.old) (S.faults shelf.new) O.written O.faults out.old out.new result }
-    ensures kept { S.held shelf.new ≡ S.held shelf.old }
-{
-    match count_rows(workers.rt.alloc(), shelf, wrapped.checked, asked.vec) {
-        Ok(count) => run_counted(workers, shelf, out, wrapped, count, asked, stalls),
-        Err(stop) => Err(JobEnd::Stopped(stop)),
-    }
-}
-
-/// Reads the stalls, and runs the system with its stations.
-fn run_stalled<'a, S: Shelf, O: Sink, R: Threads + AllocGlobal + Sync, G: Gate>(
-    workers: &Workers<'_, R, G>,
-    shelf: &mut S,
-    out: &mut O,
-    wrapped: &Wrapped<'_>,
-    asked: &Asked<'a>,
-) -> Result<(), JobEnd<'a>>
-    requires some { 0 < workers.now.many }
-    requires wrapped { IsWrapped wrapped.now }
-    ensures ran { RunsEarly (S.held shelf.old) (stalled_script wrapped.now.checked.now (links_of wrapped.now.system.now) wrapped.now.placement.now asked.now.vec.now asked.now.stalls.now asked.now.trace) (S.faults shelf.old) (S.faults shelf.new) O.written O.faults out.old out.new result }
-    ensures kept { S.held shelf.new ≡ S.held shelf.old }
-{
-    match read_job_stalls(workers.rt.alloc(), shelf, asked.stalls) {
-        Ok(stalls) => run_placed(workers, shelf, out, wrapped, asked, stalls),
-        Err(stop) => Err(JobEnd::Stopped(stop)),
-    }
-}
-
-/// Reads the stations of a system, and runs it.
-fn run_built<'a, S: Shelf, O: Sink, R: Threads + AllocGlobal + Sync, G: Gate>(
-    workers: &Workers<'_, R, G>,
-    shelf: &mut S,
-    out: &mut O,
-    checked: &Checked,
-    system: &System,
-    asked: &Asked<'a>,
-) -> Result<(), JobEnd<'a>>
-    requires some { 0 < workers.now.many }
-    requires system { IsSystem system.now }
-    requires of { IsSystemOf checked.now system.now }
-    ensures ran { RunsEarly (S.held shelf.old) (placed_script checked.now (links_of system.now) asked.now.vec.now asked.now.stations.now asked.now.stalls.now asked.now.trace) (S.faults shelf.old) (S.faults shelf.new) O.written O.faults out.old out.new result }
-    ensures kept { S.held shelf.new ≡ S.held shelf.old }
-{
-    match read_placement(workers.rt.alloc(), shelf, system, asked.stations) {
-        Ok(placement) => {
-            let wrapped = Wrapped {
-                checked,
-                system,
-                placement: &placement,
-            };
-            run_stalled(workers, shelf, out, &wrapped, asked)
-        }
-        Err(stop) => Err(JobEnd::Stopped(stop)),
-    }
-}
-
-/// Builds the system of an accepted design, and runs it.
-fn run_checked<'a, S: Shelf, O: Sink, R: Threads + AllocGlobal + Sync, G: Gate>(
-    workers: &Workers<'_, R, G>,
-    shelf: &mut S,
-    out: &mut O,
-    checked: &Checked,
-    asked: &Asked<'a>,
-) -> Result<(), JobEnd<'a>>
-    requires some { 0 < workers.now.many }
-    ensures ran { RunsEarly (S.held shelf.old) (built_script checked.now asked.now.vec.now asked.now.stations.now asked.now.stalls.now asked.now.trace) (S.faults shelf.old) (S.faults shelf.new) O.written O.faults out.old out.new result }
-    ensures kept { S.held shelf.new ≡ S.held shelf.old }
-{
-    match build_system(workers.rt.alloc(), checked) {
-        Ok(system) => run_built(workers, shelf, out, checked, &system, asked),
-        Err(stop) => Err(JobEnd::Stopped(stop)),
-    }
-}
-
-/// Accepts a design that was read, and runs it.
-fn run_read<'a, S: Shelf, O: Sink, R: Threads + AllocGlobal + Sync, G: Gate>(
-    workers: &Workers<'_, R, G>,
-    shelf: &mut S,
-    out: &mut O,
-    design: Design,
-    asked: &Asked<'a>,
-) -> Result<(), JobEnd<'a>>
-    requires some { 0 < workers.now.many }
-    requires formed { IsWellFormed design }
-    ensures ran { RunsEarly (S.held shelf.old) (check_step asked.now.root.now design (λ checked. built_script checked asked.now.vec.now asked.now.stations.now asked.now.stalls.now asked.now.trace)) (S.faults shelf.old) (S.faults shelf.new) O.written O.faults out.old out.new result }
-    ensures kept { S.held shelf.new ≡ S.held shelf.old }
-{
-    match accept(workers.rt.alloc(), design, asked.root) {
-        Ok(checked) => run_checked(workers, shelf, out, &checked, asked),
-        Err(stop) => Err(JobEnd::Stopped(stop)),
-    }
-}
 
 /// Runs `clock`: what it tells goes to `out`, as it runs.
 ///
@@ -167,11 +30,105 @@ pub fn run_clock<'a, S: Shelf, O: Sink, R: Threads + AllocGlobal + Sync, G: Gate
     asked: &Asked<'a>,
 ) -> Result<(), JobEnd<'a>>
     requires some { 0 < workers.now.many }
-    ensures ran { RunsEarly (S.held shelf.old) (clock_script asked.now.net.now asked.now.vec.now asked.now.stations.now asked.now.stalls.now asked.now.trace asked.now.root.now) (S.faults shelf.old) (S.faults shelf.new) O.written O.faults out.old out.new result }
+    ensures ran { RunsEarly (S.held shelf.old) (asked_script asked.now) (S.faults shelf.old) (S.faults shelf.new) O.written O.faults out.old out.new result }
     ensures kept { S.held shelf.new ≡ S.held shelf.old }
 {
-    match read_net(workers.rt.alloc(), shelf, asked.net) {
-        Ok(design) => run_read(workers, shelf, out, design, asked),
+    match read_wrapped(workers.rt.alloc(), shelf, &asked.files) {
+        Ok(wrapped) => run_wrapped(workers, shelf, out, &wrapped, asked),
         Err(stop) => Err(JobEnd::Stopped(stop)),
+    }
+}
+
+/// Reads the stalls, and runs a design with its stations.
+fn run_wrapped<'a, S: Shelf, O: Sink, R: Threads + AllocGlobal + Sync, G: Gate>(
+    workers: &Workers<'_, R, G>,
+    shelf: &mut S,
+    out: &mut O,
+    wrapped: &Wrapped,
+    asked: &Asked<'a>,
+) -> Result<(), JobEnd<'a>>
+    requires some { 0 < workers.now.many }
+    ensures ran { RunsEarly (S.held shelf.old) (after_stations asked.now wrapped.now) (S.faults shelf.old) (S.faults shelf.new) O.written O.faults out.old out.new result }
+    ensures kept { S.held shelf.new ≡ S.held shelf.old }
+{
+    match read_job_stalls(workers.rt.alloc(), shelf, asked.stalls) {
+        Ok(stalls) => run_stalled(workers, shelf, out, wrapped, asked, stalls),
+        Err(stop) => Err(JobEnd::Stopped(stop)),
+    }
+}
+
+/// Reads and counts the rows, and runs for them.
+fn run_stalled<'a, S: Shelf, O: Sink, R: Threads + AllocGlobal + Sync, G: Gate>(
+    workers: &Workers<'_, R, G>,
+    shelf: &mut S,
+    out: &mut O,
+    wrapped: &Wrapped,
+    asked: &Asked<'a>,
+    stalls: Option<Items<Stall>>,
+) -> Result<(), JobEnd<'a>>
+    requires some { 0 < workers.now.many }
+    requires ascend { Ascend (listed stalls) }
+    ensures ran { RunsEarly (S.held shelf.old) (after_stalls asked.now wrapped.now stalls) (S.faults shelf.old) (S.faults shelf.new) O.written O.faults out.old out.new result }
+    ensures kept { S.held shelf.new ≡ S.held shelf.old }
+{
+    match count_rows(workers.rt.alloc(), shelf, wrapped, asked.vec) {
+        Ok(rows) => run_counted(workers, shelf, out, wrapped, asked, Given { rows, stalls }),
+        Err(stop) => Err(JobEnd::Stopped(stop)),
+    }
+}
+
+/// Judges the trace, and runs for rows that were read once.
+fn run_counted<'a, S: Shelf, O: Sink, R: Threads + AllocGlobal + Sync, G: Gate>(
+    workers: &Workers<'_, R, G>,
+    shelf: &mut S,
+    out: &mut O,
+    wrapped: &Wrapped,
+    asked: &Asked<'a>,
+    given: Given,
+) -> Result<(), JobEnd<'a>>
+    requires some { 0 < workers.now.many }
+    ensures ran { (rows : List (List Bool)) → IsCounted (S.held shelf.old) asked.now wrapped.now given.rows rows
+        → RunsEarly (S.held shelf.old) (after_rows asked.now wrapped.now given.stalls rows) (S.faults shelf.old) (S.faults shelf.new) O.written O.faults out.old out.new result }
+    ensures kept { S.held shelf.new ≡ S.held shelf.old }
+{
+    match judge_trace(wrapped, &asked.trace) {
+        Ok(()) => run_again(workers, shelf, out, wrapped, asked, given),
+        Err(stop) => Err(JobEnd::Stopped(stop)),
+    }
+}
+
+/// Runs clock by clock, for rows that were read once. They are fetched again as they are needed, and what the run
+/// tells is written as it goes.
+fn run_again<'a, S: Shelf, O: Sink, R: Threads + AllocGlobal + Sync, G: Gate>(
+    workers: &Workers<'_, R, G>,
+    shelf: &mut S,
+    out: &mut O,
+    wrapped: &Wrapped,
+    asked: &Asked<'a>,
+    given: Given,
+) -> Result<(), JobEnd<'a>>
+    requires some { 0 < workers.now.many }
+    ensures ran { (rows : List (List Bool)) → IsCounted (S.held shelf.old) asked.now wrapped.now given.rows rows
+        → RunsEarly (S.held shelf.old) (after_trace asked.now wrapped.now given.stalls rows) (S.faults shelf.old) (S.faults shelf.new) O.written O.faults out.old out.new result }
+    ensures kept { S.held shelf.new ≡ S.held shelf.old }
+{
+    let checked = &wrapped.checked;
+    let Given { rows, stalls } = given;
+    let alloc = workers.rt.alloc();
+    let outs = checked.outputs().len() as u32;
+    let Ok(mut feed) = RowFeed::start(alloc, asked.vec, checked.inputs(), outs) else {
+        return Err(JobEnd::Stopped(Stop::Memory));
+    };
+    let _ = checked.design();
+    let task = Task {
+        system: &wrapped.system,
+        placement: &wrapped.placement,
+        columns: checked.outputs(),
+        rows,
+        trace: asked.trace,
+    };
+    match run(shelf, out, &task, &mut feed, stalls, workers) {
+        Ok(()) => Ok(()),
+        Err(fault) => Err(run_end(asked.vec, rows, fault)),
     }
 }

@@ -7,22 +7,22 @@ ghost use Rattle.lid_top_script.specs.Scripts.{rows_limit, vec_reading};
 
 use crate::stops::feed_stop;
 use lid_base::Shelf;
-use lid_check::Checked;
-use lid_top_script::Stop;
+use lid_top_script::{Stop, Wrapped};
 use std::alloc::Global;
 
 /// Fetches and judges rows for the inputs of an accepted design, and counts them.
-pub fn count_rows<'a, S: Shelf>(
+pub(crate) fn count_rows<'a, S: Shelf>(
     alloc: Global,
     shelf: &mut S,
-    checked: &Checked,
+    wrapped: &Wrapped,
     vec: &'a str,
 ) -> Result<u64, Stop<'a>>
-    ensures ok { IfOk result (HasRows (S.held shelf.old) checked.now vec.now) }
-    ensures err { IfErr result (Misses (S.held shelf.old) vec.now rows_limit (vec_reading checked.now) (S.faults shelf.old) (S.faults shelf.new)) }
+    ensures ok { IfOk result (HasRows (S.held shelf.old) wrapped.now.design vec.now) }
+    ensures err { IfErr result (Misses (S.held shelf.old) vec.now rows_limit (vec_reading wrapped.now.design) (S.faults shelf.old) (S.faults shelf.new)) }
     ensures kept { S.held shelf.new ≡ S.held shelf.old }
     ensures grows { (q : List ℕ) → S.faults shelf.old q ≤ S.faults shelf.new q }
 {
+    let checked = &wrapped.checked;
     let outs = checked.outputs().len() as u32;
     match lid_texts_feed::count_rows(alloc, shelf, vec, checked.inputs(), outs) {
         Ok(count) => Ok(count),

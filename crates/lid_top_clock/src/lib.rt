@@ -7,7 +7,6 @@ mod counting;
 mod course;
 mod fault;
 mod lines;
-mod rerun;
 mod steps;
 mod stops;
 mod task;

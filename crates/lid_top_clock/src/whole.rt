@@ -17,7 +17,6 @@ use crate::workers::Workers;
 use lid_base::{Gate, Items, Shelf, Sink};
 use lid_stall::Stall;
 use lid_texts_feed::RowFeed;
-use std::alloc::Global;
 use std::thread::Threads;
 
 /// Tells a run that has begun: the header, each output row after the cycle in which the sink fired for
@@ -75,8 +74,7 @@ fn tell_run<S: Shelf, O: Sink, R: Threads + Sync, G: Gate>(
 /// feed gave. `Feed` hands on the fault of the feed, where `Read` comes only where the count of its name
 /// rose in this call. `Few` tells how many rows the text has, where it ended without a fault after fewer
 /// rows. `Write` comes only where the count of `out` rose in this call. `Memory` may come at any text.
-pub fn run<S: Shelf, O: Sink, R: Threads + Sync, G: Gate>(
-    alloc: Global,
+pub fn run<S: Shelf, O: Sink, R: Threads + AllocGlobal + Sync, G: Gate>(
     shelf: &mut S,
     out: &mut O,
     task: &Task<'_>,
@@ -97,6 +95,7 @@ pub fn run<S: Shelf, O: Sink, R: Threads + Sync, G: Gate>(
     ensures grows { (q : List ℕ) → S.faults shelf.old q ≤ S.faults shelf.new q }
     ensures rises { O.faults out.old ≤ O.faults out.new }
 {
+    let alloc = workers.rt.alloc();
     let mut run = match Running::start(alloc, shelf, task, feed, stalls) {
         Ok(run) => run,
         Err(fault) => return Err(fault),

@@ -21,6 +21,8 @@ use Rattle.lid_design.specs.declared.Model.{Model as ModelOf}
 use Rattle.lid_design.specs.Columns.{data_inputs, is_clock, root_inputs, root_outputs}
 use Rattle.lid_design.specs.Models.{number_named}
 use Rattle.lid_check.specs.Acceptance.{rooted_at, with_root}
+use Rattle.lid_top_script.specs.Wrapped.{Wrapping}
+use Rattle.lid_top_script.specs.Causes.{GotWrapped}
 use Rattle.lid_top_script.specs.Scripts.{Reading, good, bad, unless_faulty, net_reading}
 use Rattle.lid_top_emit.specs.Spelling.{IsSpelledModel, HasSpelledPorts}
 use Rattle.std.proofs.lemmas.Option.{same_Some}
@@ -59,19 +61,25 @@ good_none None a b h = (refl, same h)
 good_none (Some fault) a b h = absurd (let e : unless_faulty (Some fault) a ≡ good b = h in cc)
 
 -- a netlist that was read
-pub read_spelled : (bytes : List ℕ) (d : Design) → net_reading bytes ≡ good d → HasSpelledPorts d
+read_spelled : (bytes : List ℕ) (d : Design) → net_reading bytes ≡ good d → HasSpelledPorts d
 unfolding net_reading
 read_spelled bytes d h =
     let parts = good_none (blif_fault bytes) (design_of (logical_lines bytes)) d h in
     subst HasSpelledPorts parts.1 (text_spelled bytes parts.0)
 
-pub rooted_spelled : (d c : Design) (root : Option (List ℕ)) → with_root d root ≡ Some c → HasSpelledPorts d → HasSpelledPorts c
+rooted_spelled : (d c : Design) (root : Option (List ℕ)) → with_root d root ≡ Some c → HasSpelledPorts d → HasSpelledPorts c
 rooted_spelled d c None e h = subst HasSpelledPorts (same_Some d c e) h
 rooted_spelled d c (Some name) e h = by (number_named d name) e
   where
     by : (k : Option ℕ) → option_map (rooted_at d) k ≡ Some c → HasSpelledPorts c
     by None f = absurd (let e : None ≡ Some c = f in cc)
     by (Some k) f = subst HasSpelledPorts (same_Some (rooted_at d k) c f) h
+
+-- a design that was read and accepted
+pub wrapped_spelled : {held : List ℕ → Option (List ℕ)} {net : List ℕ} {stations root : Option (List ℕ)} {w : Wrapping} → GotWrapped held net stations root w → HasSpelledPorts w.design
+wrapped_spelled {root = root} {w = w} g =
+    let b = g.built in
+    rooted_spelled b.design w.design root b.builds.is_checked.rooted (read_spelled b.got.bytes b.design b.got.stands)
 
 -- the root's
 found_spelled : (ms : List ModelOf) (k : ℕ) (m : ModelOf) → slice_get ms k ≡ Some m → AllByRecursion IsSpelledModel ms → IsSpelledModel m

@@ -1,5 +1,6 @@
 mod Cells
 mod Dumps
+mod Feeding
 mod Lifetimes
 mod Tracing
 pub mod Scripted

@@ -31,7 +31,8 @@ use Rattle.lid_clock.specs.Clocks.{IsFreeLife}
 use Rattle.lid_clock.proofs.FreeLives.{sinks_few}
 use Rattle.lid_top_script.specs.Clocked.{station_token, trace_cells, trace_of}
 use Rattle.lid_top_script.specs.Waved.{IsWaveText}
-use Rattle.lid_top_held.specs.Traces.{life_cells, cells_before, IsTraceOf}
+use Rattle.lid_top_script.specs.Wrapped.{Wrapping}
+use Rattle.lid_top_held.specs.Traces.{life_cells, cells_before, IsTraceOf, HasFreeLife, IsTraceOfAll}
 use Rattle.lid_top_script.proofs.Tokens.{shown_same, token_same}
 use Rattle.lid_top_held.proofs.Cells.{writable}
 use Rattle.lid_base.proofs.Each.{each_same}
@@ -140,12 +141,15 @@ module _ (d : Design) (s : System) (p : Placement) (of : IsSystemOf d s) (well :
   free : IsFreeLife one rows
   free = lives d s p of well rows (has rows).0 (has rows).1 fits few wide
 
-  pub alive : (l : Life) × IsFreeLife l rows × (l.system ≡ s) × (l.placement ≡ p)
-  alive = (one, free, refl, refl)
+  abbrev wrapping : Wrapping
+  wrapping = record { design = d; system = s; placement = p }
 
-  module _ (most : ℕ) (t : Trace) (told : (l : Life) → IsFreeLife l rows → l.system ≡ s → l.placement ≡ p → IsTraceOf l most t) where
+  pub alive : HasFreeLife wrapping rows
+  alive = (one, (free, refl, refl))
+
+  module _ (most : ℕ) (t : Trace) (told : IsTraceOfAll wrapping rows most t) where
     pub trace_writable : most ≤ 1048576 → station_count p.relays * most ≤ 1048576 → IsWritable t
-    trace_writable small cells = writable one free.rules most t (told one free refl refl) small cells
+    trace_writable small cells = writable one free.rules most t (told one (free, refl, refl)) small cells
 
     pub dumped : (text : List ℕ) → text ≡ wave_text t → IsWaveText d (links_of s) p rows most text
-    dumped text is = dump_is d s p of well rows (has rows).0 (has rows).1 fits most t text free (told one free refl refl) is
+    dumped text is = dump_is d s p of well rows (has rows).0 (has rows).1 fits most t text free (told one (free, refl, refl)) is

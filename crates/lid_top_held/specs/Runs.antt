@@ -1,15 +1,11 @@
 -- The scripts of runs that hold their rows: that of the command, and the steps that are left once the rows are read.
-use Rattle.std.specs.Prelude.{⊤, ◌≡◌, ◌≤◌, ℕ, Bool, List, Option, length}
-use Rattle.std.specs.List.{AllByRecursion}
-use Rattle.lid_net_law.specs.Agreement.{IsSystemOf}
+use Rattle.std.specs.Prelude.{⊤, ◌≤◌, ℕ, Bool, List, Option}
 use Rattle.lid_design.specs.declared.Design.{Design}
-use Rattle.lid_design.specs.Columns.{root_inputs}
-use Rattle.lid_system.specs.Systems.{IsWellFormed}
 use Rattle.lid_stations.specs.declared.placement.Placement.{Placement}
-use Rattle.lid_stations.specs.Placements.{Links, Fits}
+use Rattle.lid_stations.specs.Placements.{Links, links_of}
+use Rattle.lid_top_script.specs.Wrapped.{Wrapping}
 use Rattle.lid_top_script.specs.Scripts.{Script, freeing_script, schedule_script, waving_script, free_script, walk_script, wave_script}
 use Rattle.lid_top_held.specs.declared.run.Asked.{Asked}
-use Rattle.lid_top_held.specs.declared.run.Fed.{Fed}
 use Rattle.lid_top_held.specs.declared.run.HeldRun.{HeldRun}
 use Rattle.lid_top_held.specs.declared.run.HeldRun.TheVariants.{Free, Walk, Wave}
 
@@ -19,6 +15,10 @@ script_for (Free workers rounds tally) d l p rows = freeing_script d l p workers
 script_for (Walk schedule) d l p rows = schedule_script d l p schedule.now rows
 script_for (Wave cycles) d l p rows = waving_script d l p cycles rows
 
+-- those of a design with its system and stations, for these rows
+abbrev pub fed_script : HeldRun → Wrapping → List (List Bool) → Script
+fed_script run w rows = script_for run w.design (links_of w.system) w.placement rows
+
 -- the script of the command
 abbrev pub script_by : List ℕ → List ℕ → Option (List ℕ) → Option (List ℕ) → HeldRun → Script
 script_by net vec stations root (Free workers rounds tally) = free_script net vec stations workers rounds tally root
@@ -27,18 +27,10 @@ script_by net vec stations root (Wave cycles) = wave_script net vec stations cyc
 
 -- that of what is asked for
 abbrev pub asked_script : Asked → Script
-asked_script a = script_by a.net.now a.vec.now a.stations.now a.root.now a.run
+asked_script a = script_by a.files.net.now a.vec.now a.files.stations.now a.files.root.now a.run
 
 -- there are some workers, and not too many of them or of their rounds; a trace has some cycles and not too many
 abbrev pub IsSoundRun : HeldRun → Type 0
 IsSoundRun (Free workers rounds tally) = (1 ≤ workers) × (workers ≤ 64) × (rounds ≤ 1000000)
 IsSoundRun (Walk schedule) = ⊤
 IsSoundRun (Wave cycles) = (1 ≤ cycles) × (cycles ≤ 1048576)
-
--- a system of the design, with stations that fit it, and rows for the inputs of the design
-pub record IsFedSystem (f : Fed) : Type 0 where
-  pub system : IsWellFormed f.system.now
-  pub fits : Fits f.system.now f.placement.now
-  pub of : IsSystemOf f.checked.now f.system.now
-  pub few : length f.rows.now.bits ≤ 1000000
-  pub wide : AllByRecursion (λ row. length row ≡ length (root_inputs f.checked.now)) f.rows.now.bits

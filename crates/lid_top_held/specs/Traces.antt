@@ -1,5 +1,5 @@
 -- The trace of a clocked run in which nobody is held back.
-use Rattle.std.specs.Prelude.{◌≡◌, ℕ, ◌<◌, ◌≤◌, List}
+use Rattle.std.specs.Prelude.{◌≡◌, ℕ, ◌<◌, ◌≤◌, Bool, List}
 use Rattle.std.specs.List.{flat_map}
 use Rattle.lid_base.specs.declared.runs.Shown.{Shown}
 use Rattle.lid_base.specs.Each.{from_each}
@@ -7,7 +7,16 @@ use Rattle.lid_stations.specs.Placements.{station_count}
 use Rattle.lid_texts_runs.specs.declared.trace.Trace.{Trace}
 use Rattle.lid_clock.specs.Lives.{Life, IsBelow, shown_after}
 use Rattle.lid_clock.specs.declared.clocked.Clocked.{Clocked}
-use Rattle.lid_clock.specs.Clocks.{Clocks}
+use Rattle.lid_clock.specs.Clocks.{Clocks, IsFreeLife}
+use Rattle.lid_top_script.specs.Wrapped.{Wrapping}
+
+-- a life in which nobody is held, of a system with its stations for these rows
+abbrev pub IsLifeFor : Wrapping → List (List Bool) → Life → Type 0
+IsLifeFor w rows l = IsFreeLife l rows × (l.system ≡ w.system) × (l.placement ≡ w.placement)
+
+-- there is one
+abbrev pub HasFreeLife : Wrapping → List (List Bool) → Type 0
+HasFreeLife w rows = (l : Life) × IsLifeFor w rows l
 
 -- what the stations show as cycle k begins, in order
 abbrev pub life_cells : Life → ℕ → List Shown
@@ -36,3 +45,7 @@ pub record IsTraceOf (l : Life) (most : ℕ) (t : Trace) : Type 0 where
   pub needed : (j : ℕ) → j < t.cycles → IsBelow l j
   pub ended : t.cycles < most → ¬ IsBelow l t.cycles
   pub shown : t.cells ≡ cells_before l t.cycles
+
+-- the trace of each of these lives
+abbrev pub IsTraceOfAll : Wrapping → List (List Bool) → ℕ → Trace → Type 0
+IsTraceOfAll w rows most t = (l : Life) → IsLifeFor w rows l → IsTraceOf l most t

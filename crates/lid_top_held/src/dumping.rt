@@ -1,24 +1,18 @@
 //! The dump of a clocked run: what its stations show, cycle by cycle, as a value change dump.
 
-ghost use Rattle.std.specs.Prelude.{◌≡◌, ◌↔◌, ◌*◌, ◌<◌, ◌≤◌, ◌++◌, ℕ, suc, true, false, Bool, List, length, OnOk, IfOk};
-ghost use Rattle.std.specs.List.{AllByRecursion};
-ghost use Rattle.lid_net_law.specs.Agreement.{IsSystemOf};
-ghost use Rattle.lid_clock.specs.Lives.{Life, IsBelow, IsSourceWide};
-ghost use Rattle.lid_clock.specs.Clocks.{Clocks, IsFreeLife};
-ghost use Rattle.lid_design.specs.Columns.{root_inputs};
+ghost use Rattle.std.specs.Prelude.{◌≡◌, ◌↔◌, ◌*◌, ◌≤◌, ◌++◌, ℕ, suc, true, false, OnOk, IfOk};
+ghost use Rattle.lid_clock.specs.Lives.{Life, IsBelow};
+ghost use Rattle.lid_clock.specs.Clocks.{Clocks};
 ghost use Rattle.lid_top_script.specs.Waved.{IsWaveText};
-ghost use Rattle.lid_stations.specs.Placements.{links_of, station_count, Fits};
-ghost use Rattle.lid_system.specs.Systems.{IsWellFormed as IsSystem};
+ghost use Rattle.lid_stations.specs.Placements.{links_of, station_count};
 ghost use Rattle.lid_vcd_form.specs.Text.{wave_text};
 ghost use Rattle.lid_vcd_form.specs.Writable.{IsWritable};
-ghost use Rattle.lid_top_held.specs.Traces.{TraceBegins, IsTraceOf, life_cells};
+ghost use Rattle.lid_top_held.specs.Traces.{TraceBegins, IsTraceOf, HasFreeLife, IsTraceOfAll, life_cells};
 
+use crate::run::Fed;
 use lid_base::{Items, Shown};
-use lid_check::Checked;
 use lid_clock::Clocked;
-use lid_stations::Placement;
-use lid_system::System;
-use lid_texts::{Rows, Trace};
+use lid_texts::Trace;
 use lid_vcd::write;
 use std::alloc::{AllocError, Global};
 
@@ -75,22 +69,13 @@ fn trace_run(
 }
 
 /// The trace of the clocked run of a system with its stations over these rows, of at most so many cycles.
-fn trace_of(
-    alloc: Global,
-    system: &System,
-    placement: &Placement,
-    rows: &Rows,
-    cycles: u64,
-) -> Result<Trace, AllocError>
-    requires system { IsSystem system.now }
-    requires fits { Fits system.now placement.now }
-    requires few { length rows.now.bits ≤ 1000000 }
-    requires wide { AllByRecursion (IsSourceWide system.now) rows.now.bits }
-    requires alive { (l : Life) × IsFreeLife l rows.now.bits × (l.system ≡ system.now) × (l.placement ≡ placement.now) }
-    ensures { (l : Life) → IsFreeLife l rows.now.bits → l.system ≡ system.now → l.placement ≡ placement.now → IfOk result (IsTraceOf l cycles) }
+fn trace_of(alloc: Global, fed: &Fed<'_>, cycles: u64) -> Result<Trace, AllocError>
+    requires { HasFreeLife fed.now.wrapped.now fed.now.rows.now.bits }
+    ensures { IfOk result (IsTraceOfAll fed.now.wrapped.now fed.now.rows.now.bits cycles) }
 {
-    let mut run = Clocked::start(alloc, system, placement, rows)?;
-    trace_run(alloc, &mut run, placement.caps.len() as u32, cycles)
+    let wrapped = fed.wrapped;
+    let mut run = Clocked::start(alloc, &wrapped.system, &wrapped.placement, fed.rows)?;
+    trace_run(alloc, &mut run, wrapped.placement.caps.len() as u32, cycles)
 }
 
 /// The dump of a trace.
@@ -109,24 +94,13 @@ fn dump_of(alloc: Global, trace: &Trace) -> Result<Vec<u8>, AllocError>
 ///
 /// # Errors
 /// Want of memory.
-pub fn dump_text(
-    alloc: Global,
-    checked: &Checked,
-    system: &System,
-    placement: &Placement,
-    rows: &Rows,
-    cycles: u64,
-) -> Result<Vec<u8>, AllocError>
-    requires system { IsSystem system.now }
-    requires fits { Fits system.now placement.now }
-    requires of { IsSystemOf checked.now system.now }
-    requires few { length rows.now.bits ≤ 1000000 }
-    requires wide { AllByRecursion (λ row. length row ≡ length (root_inputs checked.now)) rows.now.bits }
+pub(crate) fn dump_text(alloc: Global, fed: &Fed<'_>, cycles: u64) -> Result<Vec<u8>, AllocError>
     requires most { cycles ≤ 1048576 }
-    requires cells { station_count placement.now.relays * cycles ≤ 1048576 }
-    ensures { IfOk result (λ text. IsWaveText checked.now (links_of system.now) placement.now rows.now.bits cycles text.items) }
+    requires cells { station_count fed.now.wrapped.now.placement.relays * cycles ≤ 1048576 }
+    ensures { IfOk result (λ text. IsWaveText fed.now.wrapped.now.design (links_of fed.now.wrapped.now.system) fed.now.wrapped.now.placement fed.now.rows.now.bits cycles text.items) }
 {
-    let _ = checked.design();
-    let trace = trace_of(alloc, system, placement, rows, cycles)?;
+    let wrapped = fed.wrapped;
+    let _ = wrapped.checked.design();
+    let trace = trace_of(alloc, fed, cycles)?;
     dump_of(alloc, &trace)
 }

@@ -1,7 +1,6 @@
 //! `free`: the strict output rows, by threads that turn actors at shared stations.
 
 ghost use Rattle.std.specs.Prelude.{◌≡◌, ◌++◌, ◌≤◌, if◌then◌else◌, [], IfOk};
-ghost use Rattle.lid_top_held.specs.Runs.{IsFedSystem};
 ghost use Rattle.lid_texts_runs.specs.Runs.{tallies_text};
 ghost use Rattle.lid_texts.specs.RowsText.{rows_text};
 ghost use Rattle.lid_top_script.specs.Freed.{IsFreeText};
@@ -43,18 +42,18 @@ fn run_text<R: Threads + AllocGlobal + Sync, G: Gate>(
     rounds: u64,
     tally: bool,
 ) -> Result<Vec<u8>, AllocError>
-    requires fed { IsFedSystem fed.now }
     requires some { 1 ≤ workers }
     requires most { workers ≤ 64 }
     requires rounds { rounds ≤ 1000000 }
-    ensures { IfOk result (λ text. IsFreeText fed.now.checked.now (links_of fed.now.system.now) fed.now.placement.now fed.now.rows.now.bits workers rounds tally text.items) }
+    ensures { IfOk result (λ text. IsFreeText fed.now.wrapped.now.design (links_of fed.now.wrapped.now.system) fed.now.wrapped.now.placement fed.now.rows.now.bits workers rounds tally text.items) }
 {
-    let _ = fed.checked.design();
+    let wrapped = fed.wrapped;
+    let _ = wrapped.checked.design();
     let end = free_run(
         rt,
         rt.alloc(),
-        fed.system,
-        fed.placement,
+        &wrapped.system,
+        &wrapped.placement,
         fed.rows,
         workers,
         rounds,
@@ -72,11 +71,10 @@ pub(crate) fn freed_text<'a, R: Threads + AllocGlobal + Sync, G: Gate>(
     rounds: u64,
     tally: bool,
 ) -> Result<Vec<u8>, Stop<'a>>
-    requires fed { IsFedSystem fed.now }
     requires some { 1 ≤ workers }
     requires most { workers ≤ 64 }
     requires rounds { rounds ≤ 1000000 }
-    ensures { RunsAnywhere (freeing_script fed.now.checked.now (links_of fed.now.system.now) fed.now.placement.now workers rounds tally fed.now.rows.now.bits) result }
+    ensures { RunsAnywhere (freeing_script fed.now.wrapped.now.design (links_of fed.now.wrapped.now.system) fed.now.wrapped.now.placement workers rounds tally fed.now.rows.now.bits) result }
 {
     match run_text(rt, gate, fed, workers, rounds, tally) {
         Ok(text) => Ok(text),

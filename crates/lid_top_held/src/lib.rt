@@ -9,7 +9,6 @@ mod unwave;
 mod walking;
 mod waving;
 
-pub use dumping::dump_text;
 pub use held::run_text;
 pub use run::{Asked, HeldRun};
 pub use unwave::unwave_text;

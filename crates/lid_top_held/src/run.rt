@@ -1,10 +1,14 @@
 //! Runs that hold their rows, and what they run.
 
+ghost use Rattle.std.specs.Prelude.{◌≡◌, ◌≤◌, length};
+ghost use Rattle.std.specs.List.{AllByRecursion};
+ghost use Rattle.std.proofs.Props.{props};
+ghost use Rattle.lid_design.specs.Columns.{root_inputs};
+
 use lid_base::{Name, Text};
-use lid_check::Checked;
-use lid_stations::Placement;
-use lid_system::System;
 use lid_texts::Rows;
+use lid_top_script::{NetFiles, Wrapped};
+use std::convert::AsStr;
 
 /// What is done once the rows of a run are read.
 #[derive(Clone, Copy)]
@@ -21,30 +25,45 @@ pub enum HeldRun<'a> {
     Wave(u64),
 }
 
-/// What a run is asked for: the names of its files, its root model, and what is done with its rows.
+/// What a run is asked for: its files, its root model, and what is done with its rows.
 #[derive(Clone, Copy)]
 pub struct Asked<'a> {
-    /// The file of its netlist.
-    pub net: &'a str,
-    /// That of its rows.
+    /// The files of its netlist and its stations, and its root.
+    pub files: NetFiles<'a>,
+    /// The file of its rows.
     pub vec: &'a str,
-    /// That of its stations, where there is one.
-    pub stations: &'a Option<Text>,
-    /// The name of its root model, where it is not the first.
-    pub root: &'a Option<Name>,
     /// What is done.
     pub run: HeldRun<'a>,
 }
 
-/// An accepted design with its system, the stations of that, and rows for its inputs.
+impl<'a> Asked<'a> {
+    /// What words ask for.
+    pub fn of(
+        net: &'a Text,
+        vec: &'a Text,
+        stations: &'a Option<Text>,
+        root: &'a Option<Name>,
+        run: HeldRun<'a>,
+    ) -> Asked<'a>
+        ensures files { (result.files.net.now ≡ net.now) × (result.files.stations.now ≡ stations.now) × (result.files.root.now ≡ root.now) }
+        ensures vec { result.vec.now ≡ vec.now }
+        ensures run { result.run ≡ run.entry }
+    {
+        Asked {
+            files: NetFiles::of(net, stations, root),
+            vec: vec.as_str(),
+            run,
+        }
+    }
+}
+
+/// A design with its system and stations, and at most 1,000,000 rows for the inputs of the design.
 #[derive(Clone, Copy)]
 pub(crate) struct Fed<'s> {
-    /// The design.
-    pub(crate) checked: &'s Checked,
-    /// Its system.
-    pub(crate) system: &'s System,
-    /// The stations.
-    pub(crate) placement: &'s Placement,
+    /// The design, with its system and stations.
+    pub(crate) wrapped: &'s Wrapped,
     /// The rows.
     pub(crate) rows: &'s Rows,
+    ghost few: { length rows.now.bits ≤ 1000000 },
+    ghost wide: { AllByRecursion (λ row. length row ≡ length (root_inputs wrapped.now.design)) rows.now.bits } by { Prim.hlevel props },
 }

@@ -4,7 +4,7 @@ ghost use Rattle.std.specs.Prelude.{◌≡◌, ℕ, ◌≤◌, List, IfOk, IfErr
 ghost use Rattle.lid_texts_runs.specs.Runs.{trace_text};
 ghost use Rattle.lid_top_script.specs.Causes.{Declines, Got, IsWant, Misses};
 ghost use Rattle.lid_top_script.specs.Scripts.{good, dump_limit, dump_read, unwave_script};
-ghost use Rattle.lid_top_script.specs.Whole.{RunsWhole};
+ghost use Rattle.lid_top_script.specs.Whole.{RunsOn};
 ghost use Rattle.lid_vcd_form.specs.Writable.{IsWritable};
 
 use lid_base::Shelf;
@@ -65,7 +65,7 @@ pub fn unwave_text<'a, S: Shelf>(
     shelf: &mut S,
     file: &'a str,
 ) -> Result<Vec<u8>, Stop<'a>>
-    ensures { RunsWhole (S.held shelf.old) (S.held shelf.new) (unwave_script file.now) (S.faults shelf.old) (S.faults shelf.new) result }
+    ensures { RunsOn S.held S.faults shelf.old shelf.new (unwave_script file.now) result }
 {
     match read_dump(alloc, shelf, file) {
         Ok(trace) => text_of(alloc, &trace),

@@ -2,34 +2,29 @@
 
 ghost use Rattle.std.specs.Prelude.{◌≡◌, ◌++◌, ◌<◌, IfOk, OnOk};
 ghost use Rattle.std.specs.List.{AllByRecursion};
-ghost use Rattle.lid_top_held.specs.Runs.{IsFedSystem};
 ghost use Rattle.lid_walk_machine.specs.Plans.{actors_of};
 ghost use Rattle.lid_walk_machine.specs.Setups.{Setup, plan};
 ghost use Rattle.lid_walk_machine.specs.Machine.{State, answers, after_all};
 ghost use Rattle.lid_top_script.specs.Scripts.{schedule_script};
-ghost use Rattle.lid_top_script.specs.Whole.{RunsWhole};
+ghost use Rattle.lid_top_script.specs.Whole.{RunsOn};
 ghost use Rattle.lid_top_script.specs.Walked.{answer_lines, IsWalkText};
-ghost use Rattle.lid_stations.specs.Placements.{links_of, Fits};
+ghost use Rattle.lid_stations.specs.Placements.{links_of};
 ghost use Rattle.lid_stations.specs.Stations.{actor_count};
-ghost use Rattle.lid_system.specs.Systems.{IsWellFormed as IsSystem};
 ghost use Rattle.lid_walk.specs.Walks.{Walks};
 
 use crate::run::Fed;
 use lid_base::Shelf;
-use lid_stations::Placement;
-use lid_system::System;
 use lid_texts::{print_answer, print_rows};
-use lid_top_script::{Stop, read_schedule_file};
+use lid_top_script::{Stop, Wrapped, read_schedule_file};
 use lid_walk::Walk;
 use std::alloc::{AllocError, Global};
 
 /// How many actors there are: all nodes, and a mover for each station but the last of each channel.
-fn actors_of(system: &System, placement: &Placement) -> u32
-    requires system { IsSystem system.now }
-    requires fits { Fits system.now placement.now }
-    ensures { result ≡ actor_count (links_of system.now) placement.now }
+fn actors_of(wrapped: &Wrapped) -> u32
+    ensures { result ≡ actor_count (links_of wrapped.now.system) wrapped.now.placement }
 {
-    (system.nodes.len() + (placement.caps.len() - placement.relays.len())) as u32
+    let placement = &wrapped.placement;
+    (wrapped.system.nodes.len() + (placement.caps.len() - placement.relays.len())) as u32
 }
 
 /// Walks on along a schedule, and appends a line for each step.
@@ -47,12 +42,12 @@ fn walk_on(walk: &mut Walk<'_>, schedule: &[u32], into: &mut Vec<u8>) -> Result<
 
 /// The text of a walk along a schedule.
 fn lines_text(alloc: Global, fed: &Fed<'_>, schedule: &[u32]) -> Result<Vec<u8>, AllocError>
-    requires fed { IsFedSystem fed.now }
-    requires below { AllByRecursion (λ v. v < actor_count (links_of fed.now.system.now) fed.now.placement.now) schedule.now }
-    ensures { IfOk result (λ text. IsWalkText fed.now.checked.now (links_of fed.now.system.now) fed.now.placement.now fed.now.rows.now.bits schedule.now text.items) }
+    requires { AllByRecursion (λ v. v < actor_count (links_of fed.now.wrapped.now.system) fed.now.wrapped.now.placement) schedule.now }
+    ensures { IfOk result (λ text. IsWalkText fed.now.wrapped.now.design (links_of fed.now.wrapped.now.system) fed.now.wrapped.now.placement fed.now.rows.now.bits schedule.now text.items) }
 {
-    let _ = fed.checked.design();
-    let mut walk = Walk::start(alloc, fed.system, fed.placement, fed.rows)?;
+    let wrapped = fed.wrapped;
+    let _ = wrapped.checked.design();
+    let mut walk = Walk::start(alloc, &wrapped.system, &wrapped.placement, fed.rows)?;
     let mut text = Vec::new(alloc);
     walk_on(&mut walk, schedule, &mut text)?;
     print_rows(&walk.into_rows(), &mut text)?;
@@ -66,10 +61,9 @@ pub(crate) fn walked_text<'a, S: Shelf>(
     fed: &Fed<'_>,
     schedule: &'a str,
 ) -> Result<Vec<u8>, Stop<'a>>
-    requires { IsFedSystem fed.now }
-    ensures { RunsWhole (S.held shelf.old) (S.held shelf.new) (schedule_script fed.now.checked.now (links_of fed.now.system.now) fed.now.placement.now schedule.now fed.now.rows.now.bits) (S.faults shelf.old) (S.faults shelf.new) result }
+    ensures { RunsOn S.held S.faults shelf.old shelf.new (schedule_script fed.now.wrapped.now.design (links_of fed.now.wrapped.now.system) fed.now.wrapped.now.placement schedule.now fed.now.rows.now.bits) result }
 {
-    match read_schedule_file(alloc, shelf, actors_of(fed.system, fed.placement), schedule) {
+    match read_schedule_file(alloc, shelf, actors_of(fed.wrapped), schedule) {
         Ok(list) => match lines_text(alloc, fed, list.as_slice()) {
             Ok(text) => Ok(text),
             Err(_) => Err(Stop::Memory),

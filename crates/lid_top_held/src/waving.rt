@@ -1,7 +1,6 @@
 //! `wave`: the trace of the clocked run as a value change dump.
 
 ghost use Rattle.std.specs.Prelude.{◌≤◌};
-ghost use Rattle.lid_top_held.specs.Runs.{IsFedSystem};
 ghost use Rattle.lid_top_script.specs.Scripts.{waving_script};
 ghost use Rattle.lid_top_script.specs.Whole.{RunsAnywhere};
 ghost use Rattle.lid_stations.specs.Placements.{links_of};
@@ -13,20 +12,12 @@ use std::alloc::Global;
 
 /// What `wave` writes once the rows are read: the dump of a trace of 1 to 1,048,576 cycles.
 pub(crate) fn waved_text<'a>(alloc: Global, fed: &Fed<'_>, cycles: u64) -> Result<Vec<u8>, Stop<'a>>
-    requires fed { IsFedSystem fed.now }
     requires some { 1 ≤ cycles }
     requires most { cycles ≤ 1048576 }
-    ensures { RunsAnywhere (waving_script fed.now.checked.now (links_of fed.now.system.now) fed.now.placement.now cycles fed.now.rows.now.bits) result }
+    ensures { RunsAnywhere (waving_script fed.now.wrapped.now.design (links_of fed.now.wrapped.now.system) fed.now.wrapped.now.placement cycles fed.now.rows.now.bits) result }
 {
-    match judge_trace(fed.placement, &Some(cycles)) {
-        Ok(()) => match dump_text(
-            alloc,
-            fed.checked,
-            fed.system,
-            fed.placement,
-            fed.rows,
-            cycles,
-        ) {
+    match judge_trace(fed.wrapped, &Some(cycles)) {
+        Ok(()) => match dump_text(alloc, fed, cycles) {
             Ok(text) => Ok(text),
             Err(_) => Err(Stop::Memory),
         },

@@ -7,7 +7,7 @@ use Rattle.lid_base.proofs.Results.{if_ok, on_ok, if_err}
 use Rattle.lid_design.specs.declared.Design.{Design}
 use Rattle.lid_system.specs.declared.Channel.{Channel}
 use Rattle.lid_stations.specs.declared.placement.Placement.{Placement}
-use Rattle.lid_stations.specs.Placements.{Links}
+use Rattle.lid_stations.specs.Placements.{Links, links_of}
 use Rattle.lid_stall_text.specs.declared.stalls.Stall.{Stall}
 use Rattle.lid_top_refusals.specs.Refusals.{refusal_line}
 use Rattle.lid_top_script.specs.declared.fault.Stop.{Stop}
@@ -15,8 +15,9 @@ use Rattle.lid_top_script.specs.declared.fault.Stop.TheVariants.{Refused, Read, 
 use Rattle.lid_top_script.specs.declared.fault.JobEnd.{JobEnd}
 use Rattle.lid_top_script.specs.declared.fault.JobEnd.TheVariants.{Stopped, Unwritten}
 use Rattle.lid_top_script.specs.Outputs.{Output, IsTextOf}
-use Rattle.lid_top_script.specs.Scripts.{Ending, refuses, denies, gives, Script, decide, end as ended, Reading, good, step, read_step, net_limit, net_reading, check_step, net_step, system_step, IsChecked, IsUnchecked, HasChannels, IsOverfull, links, text_limit, stations_read, placement_step, stalls_read, stalls_step, EndsIn, ReachesFetch}
-use Rattle.lid_top_script.specs.Causes.{Got, GotSystem, GotPlacement, GotStalls, IsCause, IsJobEnd, IsWant}
+use Rattle.lid_top_script.specs.Scripts.{Ending, refuses, denies, gives, Script, decide, end as ended, Reading, good, step, read_step, net_limit, net_reading, check_step, net_step, system_step, wrapped_step, IsChecked, IsUnchecked, HasChannels, IsOverfull, links, text_limit, stations_read, placement_step, stalls_read, stalls_step, EndsIn, ReachesFetch}
+use Rattle.lid_top_script.specs.Wrapped.{Building, Wrapping}
+use Rattle.lid_top_script.specs.Causes.{Got, GotSystem, GotPlacement, GotWrapped, GotStalls, IsCause, IsJobEnd, IsWant}
 use Rattle.lid_top_script.specs.Statuses.{HasText, Writes, WritesPrefix, TellsAll, Leaves}
 use Rattle.lid_top_script.specs.Early.{RunsEarly}
 use Rattle.lid_top_script.specs.Whole.{RunsWhole, RunsAnywhere}
@@ -55,7 +56,7 @@ pub within_checked : (held : List ℕ → Option (List ℕ)) (root : Option (Lis
 within_checked held root d = within_decided held (IsChecked root d) (IsUnchecked root d)
 
 -- the system of a design was built
-pub within_linked : (held : List ℕ → Option (List ℕ)) (d : Design) (next : Links → Script) (channels : List Channel) (l : Links) → HasChannels d channels → l ≡ links d channels → Within held (next l) (net_step d (λ channels. next (links d channels)))
+within_linked : (held : List ℕ → Option (List ℕ)) (d : Design) (next : Links → Script) (channels : List Channel) (l : Links) → HasChannels d channels → l ≡ links d channels → Within held (next l) (net_step d (λ channels. next (links d channels)))
 within_linked held d next channels l has is =
     subst (λ (x : Links). Within held (next x) (net_step d (λ channels. next (links d channels)))) (sym is)
     (within_decided held (HasChannels d) (IsOverfull d) (λ channels. next (links d channels)) channels has)
@@ -68,13 +69,15 @@ within_both held inner between outer v w = record {
 }
 
 -- a netlist was fetched, read and checked, and its system built
-pub within_built : (held : List ℕ → Option (List ℕ)) (net : List ℕ) (root : Option (List ℕ)) (next : Links → Script) (l : Links) → GotSystem held net root l → Within held (next l) (system_step net root next)
-within_built held net root next l g =
-    let b = g.builds in
-    let built : Design → Script = λ checked. net_step checked (λ channels. next (links checked channels)) in
+pub within_built : (held : List ℕ → Option (List ℕ)) (net : List ℕ) (root : Option (List ℕ)) (next : Design → Links → Script) (b : Building) → GotSystem held net root b → Within held (next b.design (links_of b.system)) (system_step net root next)
+within_built held net root next b g =
+    let l = links_of b.system in
+    let on = next b.design in
+    let built : Design → Script = λ checked. net_step checked (λ channels. next checked (links checked channels)) in
     let checked_on : Design → Script = λ d. check_step root d built in
-    within_both held (next l) (checked_on g.design) (system_step net root next)
-    (within_both held (next l) (built b.checked) (checked_on g.design) (within_linked held b.checked next b.channels l b.has b.links_are) (within_checked held root g.design built b.checked b.is_checked))
+    within_both held (on l) (checked_on g.design) (system_step net root next)
+    (within_both held (on l) (built b.design) (checked_on g.design) (within_linked held b.design on b.system.channels l g.builds.has g.builds.links_are)
+    (within_checked held root g.design built b.design g.builds.is_checked))
     (within_read held net net_limit net_reading checked_on g.design g.got)
 
 -- the placement of the job is known
@@ -84,6 +87,16 @@ within_placed held l next None p g = record {
   reaches = λ file r. subst (λ x. ReachesFetch held (next x) file) g r;
 }
 within_placed held l next (Some stations) p g = within_read held stations text_limit (stations_read l) next p g
+
+-- a netlist was fetched, read and checked, its system built, and the placement of the job is known
+pub within_wrapped : (held : List ℕ → Option (List ℕ)) (net : List ℕ) (stations root : Option (List ℕ)) (next : Design → Links → Placement → Script) (w : Wrapping) → GotWrapped held net stations root w
+    → Within held (next w.design (links_of w.system) w.placement) (wrapped_step net stations root next)
+within_wrapped held net stations root next w g =
+    let l = links_of w.system in
+    let on : Design → Links → Script = λ d l. placement_step l stations (next d l) in
+    within_both held (next w.design l w.placement) (on w.design l) (wrapped_step net stations root next)
+    (within_placed held l (next w.design l) stations w.placement g.placed)
+    (within_built held net root on (record { design = w.design; system = w.system }) g.built)
 
 -- the stalls of the job are known
 pub within_stalled : (held : List ℕ → Option (List ℕ)) (next : Option (List Stall) → Script) (stalls : Option (List ℕ)) (read : Option (List Stall)) → GotStalls held stalls read → Within held (next read) (stalls_step stalls next)

@@ -13,7 +13,7 @@ use Rattle.lid_texts.specs.declared.rows.VecFault.TheVariants as rows
 use Rattle.lid_design.specs.declared.Design.{Design}
 use Rattle.lid_system.specs.declared.Channel.{Channel}
 use Rattle.lid_stations.specs.declared.placement.Placement.{Placement}
-use Rattle.lid_stations.specs.Placements.{Links, no_relays}
+use Rattle.lid_stations.specs.Placements.{Links, links_of, no_relays}
 use Rattle.lid_check_rules.specs.declared.fault.CheckFault.{CheckFault}
 use Rattle.lid_check_rules.specs.declared.fault.CheckFault.TheVariants as check
 use Rattle.lid_net_channels.specs.declared.fault.NetFault.{NetFault}
@@ -35,6 +35,7 @@ use Rattle.lid_gen.specs.declared.fault.GenFault.{GenFault}
 use Rattle.lid_gen.specs.declared.fault.GenFault.TheVariants as gen
 use Rattle.lid_top_refusals.specs.Faults.{read_line, write_line, memory_line, denied_line}
 use Rattle.lid_top_refusals.specs.Refusals.{refusal_line}
+use Rattle.lid_top_script.specs.Wrapped.{Building, Wrapping}
 use Rattle.lid_top_script.specs.Scripts.{refuses, denies, Script, Reading, good, bad, net_limit, net_reading, text_limit, stations_read, stalls_read, links, IsFetched, IsChecked, IsUnchecked, HasChannels, IsOverfull, EndsIn, ReachesFetch}
 
 -- a fault that is want of memory is no refusal
@@ -134,13 +135,11 @@ Misses held name limit read before after (Read file) = (file.now ≡ name) × Ro
 Misses held name limit read before after Memory = Unit {0}
 Misses held name limit read before after Denied = ⊥
 
--- the system of a design that is accepted, as placements see it
-pub record BuildsSystem (root : Option (List ℕ)) (d : Design) (l : Links) : Type 0 where
-  pub checked : Design
-  pub is_checked : IsChecked root d checked
-  pub channels : List Channel
-  pub has : HasChannels checked channels
-  pub links_are : l ≡ links checked channels
+-- the system of a design that is accepted
+pub record BuildsSystem (root : Option (List ℕ)) (d : Design) (b : Building) : Type 0 where
+  pub is_checked : IsChecked root d b.design
+  pub has : HasChannels b.design b.system.channels
+  pub links_are : links_of b.system ≡ links b.design b.system.channels
 
 -- a design that is accepted has too many channels
 pub record HasTooMany (root : Option (List ℕ)) (d : Design) (line : List ℕ) : Type 0 where
@@ -153,10 +152,10 @@ abbrev pub FailsSystem : Option (List ℕ) → Design → Stop → Type 0
 FailsSystem root d = Refuses (λ line. IsUnchecked root d line ⊎ HasTooMany root d line)
 
 -- the system of a netlist that is fetched and read
-pub record GotSystem (held : List ℕ → Option (List ℕ)) (net : List ℕ) (root : Option (List ℕ)) (l : Links) : Type 0 where
+pub record GotSystem (held : List ℕ → Option (List ℕ)) (net : List ℕ) (root : Option (List ℕ)) (b : Building) : Type 0 where
   pub design : Design
   pub got : Got held net net_limit net_reading design
-  pub builds : BuildsSystem root design l
+  pub builds : BuildsSystem root design b
 
 -- a netlist that is read has no system, or is not read
 pub record RefusesSystem (held : List ℕ → Option (List ℕ)) (net : List ℕ) (root : Option (List ℕ)) (line : List ℕ) : Type 0 where
@@ -180,6 +179,21 @@ GotPlacement held l (Some stations) p = Got held stations text_limit (stations_r
 abbrev pub MissesPlacement : (List ℕ → Option (List ℕ)) → Links → Option (List ℕ) → (List ℕ → ℕ) → (List ℕ → ℕ) → Stop → Type 0
 MissesPlacement held l None before after stop = IsWant stop
 MissesPlacement held l (Some stations) before after stop = Misses held stations text_limit (stations_read l) before after stop
+
+-- the design of a netlist that is fetched and read, with its system and the placement of the job
+pub record GotWrapped (held : List ℕ → Option (List ℕ)) (net : List ℕ) (stations root : Option (List ℕ)) (w : Wrapping) : Type 0 where
+  pub built : GotSystem held net root (record { design = w.design; system = w.system })
+  pub placed : GotPlacement held (links_of w.system) stations w.placement
+
+-- the system is had, and no placement
+pub record MissesStations (held : List ℕ → Option (List ℕ)) (net : List ℕ) (stations root : Option (List ℕ)) (before after : List ℕ → ℕ) (stop : Stop) : Type 0 where
+  pub building : Building
+  pub built : GotSystem held net root building
+  pub misses : MissesPlacement held (links_of building.system) stations before after stop
+
+-- why they are not had
+abbrev pub MissesWrapped : (List ℕ → Option (List ℕ)) → List ℕ → Option (List ℕ) → Option (List ℕ) → (List ℕ → ℕ) → (List ℕ → ℕ) → Stop → Type 0
+MissesWrapped held net stations root before after stop = MissesSystem held net root before after stop ⊎ MissesStations held net stations root before after stop
 
 -- the stalls of a job, of whose file the bytes are known
 abbrev pub GotStalls : (List ℕ → Option (List ℕ)) → Option (List ℕ) → Option (List Stall) → Type 0

@@ -1,4 +1,5 @@
 pub mod Causes
+pub mod Wrapped
 pub mod Clocked
 pub mod Walked
 pub mod Waved

@@ -168,13 +168,21 @@ pub record IsOverfull (d : Design) (line : List ℕ) : Type 0 where
 abbrev pub net_step : Design → (List Channel → Script) → Script
 net_step d next = decide (HasChannels d) (IsOverfull d) next
 
--- `check` of an accepted design: its system is built, and told
-unfoldable pub report_script : Design → Script
-report_script d = net_step d (λ channels. end (gives (report d channels)))
+-- what a placement sees of the system of a design with these channels: the source, the shells and the sink
+abbrev pub links : Design → List Channel → Links
+links d channels = record { nodes = length (pearls d) + 2; channels = channels }
 
--- `check`: the netlist is fetched, read and checked
+-- the netlist is fetched, read and checked, and its system built
+abbrev pub system_step : List ℕ → Option (List ℕ) → (Design → Links → Script) → Script
+system_step net root next = read_step net net_limit net_reading (λ d. check_step root d (λ checked. net_step checked (λ channels. next checked (links checked channels))))
+
+-- `check` of a design and its system: it is told
+unfoldable pub report_script : Design → Links → Script
+report_script d l = end (gives (report d l.channels))
+
+-- `check`: the netlist is read and checked, and its system built
 unfoldable pub check_script : List ℕ → Option (List ℕ) → Script
-check_script net root = read_step net net_limit net_reading (λ d. check_step root d report_script)
+check_script net root = system_step net root report_script
 
 -- `strict` of a design: it is checked first
 unfoldable pub checked_script : Design → List ℕ → Option (List ℕ) → Script
@@ -187,14 +195,6 @@ strict_script net vec root = read_step net net_limit net_reading (λ d. checked_
 -- the greatest size of a text of stations or wires, or of a certificate
 abbrev pub text_limit : ℕ
 text_limit = 16777216
-
--- what a placement sees of the system of a design with these channels: the source, the shells and the sink
-abbrev pub links : Design → List Channel → Links
-links d channels = record { nodes = length (pearls d) + 2; channels = channels }
-
--- the netlist is fetched, read and checked, and its system built
-abbrev pub system_step : List ℕ → Option (List ℕ) → (Links → Script) → Script
-system_step net root next = read_step net net_limit net_reading (λ d. check_step root d (λ checked. net_step checked (λ channels. next (links checked channels))))
 
 abbrev pub placement_read : Result Placement PlaceFault → Reading Placement
 placement_read (Ok p) = good p
@@ -213,6 +213,10 @@ wires_read reach l bytes = placement_read (wires_reading reach l bytes)
 abbrev pub placement_step : Links → Option (List ℕ) → (Placement → Script) → Script
 placement_step l None next = next (no_relays l)
 placement_step l (Some stations) next = read_step stations text_limit (stations_read l) next
+
+-- most commands begin so: the netlist is read and checked, and its system built, then the stations are read
+abbrev pub wrapped_step : List ℕ → Option (List ℕ) → Option (List ℕ) → (Design → Links → Placement → Script) → Script
+wrapped_step net stations root next = system_step net root (λ d l. placement_step l stations (next d l))
 
 abbrev pub cert_unless : Option CertFault → Cert → Reading Cert
 cert_unless None cert = good cert
@@ -253,15 +257,15 @@ cert_script l p cert = read_step cert text_limit cert_read (judging_script l p)
 
 -- `place`: the netlist is read and its system built, then the wires are read
 unfoldable pub place_script : List ℕ → List ℕ → ℕ → Option (List ℕ) → Script
-place_script net wires reach root = system_step net root (λ l. wires_script l wires reach)
+place_script net wires reach root = system_step net root (λ d l. wires_script l wires reach)
 
 -- `rate`, `size` and `slack`: the netlist is read and its system built, then the stations are read
 unfoldable pub telling_script : (Links → Placement → Output) → List ℕ → Option (List ℕ) → Option (List ℕ) → Script
-telling_script output net stations root = system_step net root (λ l. placement_step l stations (told_script output l))
+telling_script output net stations root = wrapped_step net stations root (λ d. told_script output)
 
 -- `verify`: as `rate`, and then the certificate is read and judged
 unfoldable pub verify_script : List ℕ → List ℕ → Option (List ℕ) → Option (List ℕ) → Script
-verify_script net cert stations root = system_step net root (λ l. placement_step l stations (λ p. cert_script l p cert))
+verify_script net cert stations root = wrapped_step net stations root (λ d l p. cert_script l p cert)
 
 -- whether a trace of so many cells is refused: a limit is told as at most 2^64 - 1
 abbrev pub cells_read : ℕ → Reading (Unit {0})
@@ -306,18 +310,10 @@ vec_script d l p vec stalls trace = read_step vec rows_limit (vec_reading d) (tr
 unfoldable pub stalled_script : Design → Links → Placement → List ℕ → Option (List ℕ) → Option ℕ → Script
 stalled_script d l p vec stalls trace = stalls_step stalls (λ read. vec_script d l p vec read trace)
 
--- `clock` of a design with these channels: the stations are read
-unfoldable pub placed_script : Design → Links → List ℕ → Option (List ℕ) → Option (List ℕ) → Option ℕ → Script
-placed_script d l vec stations stalls trace = placement_step l stations (λ p. stalled_script d l p vec stalls trace)
-
--- `clock` of an accepted design: its system is built
-unfoldable pub built_script : Design → List ℕ → Option (List ℕ) → Option (List ℕ) → Option ℕ → Script
-built_script d vec stations stalls trace = net_step d (λ channels. placed_script d (links d channels) vec stations stalls trace)
-
 -- `clock`: the netlist is read and checked, and its system built, then the stations are read, then the stalls, then
 -- the rows, and the trace is judged
 unfoldable pub clock_script : List ℕ → List ℕ → Option (List ℕ) → Option (List ℕ) → Option ℕ → Option (List ℕ) → Script
-clock_script net vec stations stalls trace root = read_step net net_limit net_reading (λ d. check_step root d (λ checked. built_script checked vec stations stalls trace))
+clock_script net vec stations stalls trace root = wrapped_step net stations root (λ d l p. stalled_script d l p vec stalls trace)
 
 abbrev pub schedule_good : Result (List ℕ) SchedFault → Reading (List ℕ)
 schedule_good (Ok schedule) = good schedule
@@ -336,12 +332,8 @@ schedule_script d l p schedule rows = read_step schedule text_limit (schedule_re
 abbrev pub rows_step : Design → List ℕ → (List (List Bool) → Script) → Script
 rows_step d vec next = read_step vec rows_limit (vec_reading d) next
 
-abbrev pub built_step : Design → List ℕ → Option (List ℕ) → (Links → Placement → List (List Bool) → Script) → Script
-built_step d vec stations next =
-    net_step d (λ channels. placement_step (links d channels) stations (λ p. rows_step d vec (next (links d channels) p)))
-
 abbrev pub held_step : List ℕ → List ℕ → Option (List ℕ) → Option (List ℕ) → (Design → Links → Placement → List (List Bool) → Script) → Script
-held_step net vec stations root next = read_step net net_limit net_reading (λ d. check_step root d (λ checked. built_step checked vec stations (next checked)))
+held_step net vec stations root next = wrapped_step net stations root (λ d l p. rows_step d vec (next d l p))
 
 -- `walk`: the schedule is read after the rows
 unfoldable pub walk_script : List ℕ → List ℕ → List ℕ → Option (List ℕ) → Option (List ℕ) → Script
@@ -391,13 +383,9 @@ emit_read d l p = emit_good (emit_fault d l p)
 unfoldable pub wrapping_script : Design → Links → Placement → Script
 wrapping_script d l p = step (emit_read d l p) (λ _. end (gives (emitted d l p)))
 
--- `emit` of an accepted design: its system is built, then the stations are read
-unfoldable pub wrapped_script : Design → Option (List ℕ) → Script
-wrapped_script d stations = net_step d (λ channels. placement_step (links d channels) stations (wrapping_script d (links d channels)))
-
--- `emit`: the netlist is fetched, read and checked
+-- `emit`: the netlist is read and checked, and its system built, then the stations are read
 unfoldable pub emit_script : List ℕ → Option (List ℕ) → Option (List ℕ) → Script
-emit_script net stations root = read_step net net_limit net_reading (λ d. check_step root d (λ checked. wrapped_script checked stations))
+emit_script net stations root = wrapped_step net stations root wrapping_script
 
 abbrev pub size_good : Option GenFault → Reading (Unit {0})
 size_good None = good tt

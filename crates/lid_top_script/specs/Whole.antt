@@ -17,6 +17,10 @@ pub record RunsWhole (held now : List ℕ → Option (List ℕ)) (script : Scrip
   pub kept : now ≡ held
   pub grows : (q : List ℕ) → before q ≤ after q
 
+-- the same, by what a shelf tells before and after
+abbrev pub RunsOn : {S : Type 0} → (S → List ℕ → Option (List ℕ)) → (S → List ℕ → ℕ) → S → S → Script → Result (Vec ℕ Global) Stop → Type 0
+RunsOn held faults old new script result = RunsWhole (held old) (held new) script (faults old) (faults new) result
+
 -- the same of a run without a shelf: it is so whatever one holds
 pub record RunsAnywhere (script : Script) (result : Result (Vec ℕ Global) Stop) : Type 0 where
   pub ok : IfOk result (λ text. (held : List ℕ → Option (List ℕ)) → HasText held script text.items)

@@ -8,10 +8,14 @@ mod scheduling;
 mod stalling;
 mod steps;
 mod tracing;
+mod wrapped;
+mod wrapping;
 
 pub use fault::{JobEnd, Stop, dump_stop, emit_stop, gen_stop, rows_stop};
-pub use placing::{read_cert, read_placement, read_system, read_wires};
+pub use placing::{read_cert, read_wires};
 pub use scheduling::read_schedule_file;
 pub use stalling::read_job_stalls;
-pub use steps::{accept, build_system, fetch_file, read_net, read_vec};
+pub use steps::{accept, fetch_file, read_net, read_vec};
 pub use tracing::judge_trace;
+pub use wrapped::{Built, NetFiles, Wrapped};
+pub use wrapping::{read_system, read_wrapped};

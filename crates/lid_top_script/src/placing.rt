@@ -1,19 +1,16 @@
-//! The steps of commands that know of stations: systems that are built, and placements and certificates
-//! that are read.
+//! Placements and certificates that are read.
 
 ghost use Rattle.std.specs.Prelude.{◌≡◌, ℕ, ◌≤◌, List, IfOk, IfErr};
 ghost use Rattle.lid_cert.specs.Certificates.{IsInRange};
-ghost use Rattle.lid_design.specs.WellFormed.{IsWellFormed};
 ghost use Rattle.lid_stations.specs.Placements.{links_of, Fits};
 ghost use Rattle.lid_system.specs.Systems.{IsWellFormed as IsSystem};
 ghost use Rattle.lid_top_script.specs.Scripts.{good, text_limit, stations_read, wires_read, cert_read};
-ghost use Rattle.lid_top_script.specs.Causes.{Declines, Got, Misses, GotSystem, MissesSystem, GotPlacement, MissesPlacement, BuildsSystem, FailsSystem};
+ghost use Rattle.lid_top_script.specs.Causes.{Declines, Got, Misses, GotPlacement, MissesPlacement};
 
 use crate::fault::{Stop, cert_stop, place_stop};
-use crate::steps::{accept, build_system, fetch_file, read_net};
-use lid_base::{Name, Shelf, Text};
+use crate::steps::fetch_file;
+use lid_base::{Shelf, Text};
 use lid_cert::Cert;
-use lid_design::Design;
 use lid_stations::{Placement, none};
 use lid_stations_text::{place, read_stations};
 use lid_system::System;
@@ -22,41 +19,6 @@ use std::convert::AsStr;
 
 /// The greatest size of a text of stations or wires, or of a certificate, in bytes.
 const TEXT_LIMIT: usize = 16_777_216;
-
-/// The system of a design that was read.
-fn system_of<'a>(alloc: Global, design: Design, root: &Option<Name>) -> Result<System, Stop<'a>>
-    requires { IsWellFormed design }
-    ensures ok { IfOk result (λ system. BuildsSystem root.now design (links_of system)) }
-    ensures formed { IfOk result IsSystem }
-    ensures err { IfErr result (FailsSystem root.now design) }
-{
-    match accept(alloc, design, root) {
-        Ok(checked) => match build_system(alloc, &checked) {
-            Ok(system) => Ok(system),
-            Err(stop) => Err(stop),
-        },
-        Err(stop) => Err(stop),
-    }
-}
-
-/// Fetches, reads and accepts a netlist, and builds its system.
-pub fn read_system<'a, S: Shelf>(
-    alloc: Global,
-    shelf: &mut S,
-    net: &'a str,
-    root: &Option<Name>,
-) -> Result<System, Stop<'a>>
-    ensures ok { IfOk result (λ system. GotSystem (S.held shelf.old) net.now root.now (links_of system)) }
-    ensures formed { IfOk result IsSystem }
-    ensures err { IfErr result (MissesSystem (S.held shelf.old) net.now root.now (S.faults shelf.old) (S.faults shelf.new)) }
-    ensures kept { S.held shelf.new ≡ S.held shelf.old }
-    ensures grows { (q : List ℕ) → S.faults shelf.old q ≤ S.faults shelf.new q }
-{
-    match read_net(alloc, shelf, net) {
-        Ok(design) => system_of(alloc, design, root),
-        Err(stop) => Err(stop),
-    }
-}
 
 /// The placement of a text of stations.
 fn stations_of<'a>(alloc: Global, system: &System, bytes: &[u8]) -> Result<Placement, Stop<'a>>
@@ -93,7 +55,7 @@ fn read_stations_file<'a, S: Shelf>(
 
 /// The placement of a job: that of the file of stations, where one is named, and otherwise the one
 /// without relay stations.
-pub fn read_placement<'a, S: Shelf>(
+pub(crate) fn read_placement<'a, S: Shelf>(
     alloc: Global,
     shelf: &mut S,
     system: &System,

@@ -128,7 +128,7 @@ pub fn accept<'a>(alloc: Global, design: Design, root: &Option<Name>) -> Result<
 }
 
 /// Builds the system of an accepted design.
-pub fn build_system<'a>(alloc: Global, checked: &Checked) -> Result<System, Stop<'a>>
+pub(crate) fn build_system<'a>(alloc: Global, checked: &Checked) -> Result<System, Stop<'a>>
     ensures formed { IfOk result IsSystem }
     ensures ok { IfOk result (λ system. HasChannels checked.now system.channels) }
     ensures system { IfOk result (IsSystemOf checked.now) }

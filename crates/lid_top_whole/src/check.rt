@@ -1,20 +1,18 @@
 //! `check`: whether a netlist is accepted, and its nodes and channels.
 
-ghost use Rattle.std.specs.Prelude.{◌≡◌, ◌≤◌, ◌<◌, Option, length, map, IfOk};
+ghost use Rattle.std.specs.Prelude.{◌≡◌, ◌≤◌, ◌<◌, Option, length, map, IfOk, IfErr};
 ghost use Rattle.std.specs.List.{AllByRecursion};
-ghost use Rattle.lid_design.specs.WellFormed.{IsWellFormed};
 ghost use Rattle.lid_texts_runs.specs.Runs.{report_text};
-ghost use Rattle.lid_system.specs.Systems.{IsWellFormed as IsSystem};
 ghost use Rattle.lid_top_script.specs.Outputs.{channel_line, report_of, root_name};
-ghost use Rattle.lid_top_script.specs.Scripts.{report_script, check_step, check_script};
-ghost use Rattle.lid_top_script.specs.Whole.{RunsWhole, RunsAnywhere};
+ghost use Rattle.lid_top_script.specs.Causes.{IsWant};
+ghost use Rattle.lid_top_script.specs.Scripts.{check_script};
+ghost use Rattle.lid_top_script.specs.Whole.{RunsOn};
 
 use lid_base::{Items, Name, Shelf, copy_name};
 use lid_check::Checked;
-use lid_design::Design;
-use lid_system::{Channel, System};
+use lid_system::Channel;
 use lid_texts_runs::{ChannelLine, Report, print_report};
-use lid_top_script::{Stop, accept, build_system, read_net};
+use lid_top_script::{Built, Stop, read_system};
 use std::alloc::{AllocError, Global};
 
 /// What is told of a channel.
@@ -51,12 +49,12 @@ fn root_name(checked: &Checked) -> &Name
 }
 
 /// What is told of an accepted design and its system.
-fn report_of(alloc: Global, checked: &Checked, system: &System) -> Result<Report, AllocError>
-    requires { IsSystem system.now }
-    ensures { IfOk result (λ report. report ≡ report_of checked.now system.now.channels) }
+fn report_of(alloc: Global, built: &Built) -> Result<Report, AllocError>
+    ensures { IfOk result (λ report. report ≡ report_of built.now.design built.now.system.channels) }
 {
+    let checked = &built.checked;
     let root = copy_name(alloc, root_name(checked).as_slice())?;
-    let channels = lines_of(alloc, system.channels.as_slice())?;
+    let channels = lines_of(alloc, built.system.channels.as_slice())?;
     Ok(Report {
         root,
         shells: checked.pearls(),
@@ -69,38 +67,23 @@ fn report_of(alloc: Global, checked: &Checked, system: &System) -> Result<Report
 }
 
 /// What is printed of an accepted design and its system.
-fn print_system(alloc: Global, checked: &Checked, system: &System) -> Result<Vec<u8>, AllocError>
-    requires { IsSystem system.now }
-    ensures { IfOk result (λ text. text.items ≡ report_text (report_of checked.now system.now.channels)) }
+fn print_built(alloc: Global, built: &Built) -> Result<Vec<u8>, AllocError>
+    ensures { IfOk result (λ text. text.items ≡ report_text (report_of built.now.design built.now.system.channels)) }
 {
-    let report = report_of(alloc, checked, system)?;
+    let report = report_of(alloc, built)?;
     let mut text = Vec::new(alloc);
     print_report(&report, &mut text)?;
     Ok(text)
 }
 
-/// What `check` writes for an accepted design, whatever the shelf holds.
-fn system_text<'a>(alloc: Global, checked: &Checked) -> Result<Vec<u8>, Stop<'a>>
-    ensures { RunsAnywhere (report_script checked.now) result }
+/// The same, with want of memory as a reason to stop.
+fn built_text<'a>(alloc: Global, built: &Built) -> Result<Vec<u8>, Stop<'a>>
+    ensures ok { IfOk result (λ text. text.items ≡ report_text (report_of built.now.design built.now.system.channels)) }
+    ensures err { IfErr result IsWant }
 {
-    let system = match build_system(alloc, checked) {
-        Ok(system) => system,
-        Err(stop) => return Err(stop),
-    };
-    match print_system(alloc, checked, &system) {
+    match print_built(alloc, built) {
         Ok(text) => Ok(text),
         Err(_) => Err(Stop::Memory),
-    }
-}
-
-/// What `check` writes after it has read a netlist, whatever the shelf holds.
-fn checked_text<'a>(alloc: Global, design: Design, root: &Option<Name>) -> Result<Vec<u8>, Stop<'a>>
-    requires { IsWellFormed design }
-    ensures { RunsAnywhere (check_step root.now design report_script) result }
-{
-    match accept(alloc, design, root) {
-        Ok(checked) => system_text(alloc, &checked),
-        Err(stop) => Err(stop),
     }
 }
 
@@ -111,10 +94,10 @@ pub fn check_text<'a, S: Shelf>(
     net: &'a str,
     root: &Option<Name>,
 ) -> Result<Vec<u8>, Stop<'a>>
-    ensures { RunsWhole (S.held shelf.old) (S.held shelf.new) (check_script net.now root.now) (S.faults shelf.old) (S.faults shelf.new) result }
+    ensures { RunsOn S.held S.faults shelf.old shelf.new (check_script net.now root.now) result }
 {
-    match read_net(alloc, shelf, net) {
-        Ok(design) => checked_text(alloc, design, root),
+    match read_system(alloc, shelf, net, root) {
+        Ok(built) => built_text(alloc, &built),
         Err(stop) => Err(stop),
     }
 }

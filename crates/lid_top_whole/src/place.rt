@@ -4,7 +4,7 @@ ghost use Rattle.std.specs.Prelude.{◌≡◌, ◌≤◌, IfOk, IfErr};
 ghost use Rattle.lid_stations_text.specs.Written.{stations_text};
 ghost use Rattle.lid_top_script.specs.Causes.{IsWant};
 ghost use Rattle.lid_top_script.specs.Scripts.{wires_script, place_script};
-ghost use Rattle.lid_top_script.specs.Whole.{RunsWhole};
+ghost use Rattle.lid_top_script.specs.Whole.{RunsOn};
 ghost use Rattle.lid_stations.specs.Placements.{links_of, Fits};
 ghost use Rattle.lid_system.specs.Systems.{IsWellFormed as IsSystem};
 
@@ -42,7 +42,7 @@ fn wires_text<'a, S: Shelf>(
 ) -> Result<Vec<u8>, Stop<'a>>
     requires system { IsSystem system.now }
     requires reach { 1 ≤ reach }
-    ensures { RunsWhole (S.held shelf.old) (S.held shelf.new) (wires_script (links_of system.now) wires.now reach) (S.faults shelf.old) (S.faults shelf.new) result }
+    ensures { RunsOn S.held S.faults shelf.old shelf.new (wires_script (links_of system.now) wires.now reach) result }
 {
     match read_wires(alloc, shelf, system, wires, reach) {
         Ok(placement) => stations_text(alloc, system, &placement),
@@ -60,10 +60,10 @@ pub fn place_text<'a, S: Shelf>(
     root: &Option<Name>,
 ) -> Result<Vec<u8>, Stop<'a>>
     requires { 1 ≤ reach }
-    ensures { RunsWhole (S.held shelf.old) (S.held shelf.new) (place_script net.now wires.now reach root.now) (S.faults shelf.old) (S.faults shelf.new) result }
+    ensures { RunsOn S.held S.faults shelf.old shelf.new (place_script net.now wires.now reach root.now) result }
 {
     match read_system(alloc, shelf, net, root) {
-        Ok(system) => wires_text(alloc, shelf, &system, wires, reach),
+        Ok(built) => wires_text(alloc, shelf, &built.system, wires, reach),
         Err(stop) => Err(stop),
     }
 }

@@ -4,7 +4,7 @@ ghost use Rattle.std.specs.Prelude.{IfOk, IfErr};
 ghost use Rattle.lid_design.specs.WellFormed.{IsWellFormed};
 ghost use Rattle.lid_top_script.specs.Outputs.{IsStrictText};
 ghost use Rattle.lid_top_script.specs.Scripts.{rows_script, checked_script, strict_script};
-ghost use Rattle.lid_top_script.specs.Whole.{RunsWhole};
+ghost use Rattle.lid_top_script.specs.Whole.{RunsOn};
 ghost use Rattle.lid_top_script.specs.Causes.{IsWant};
 
 use lid_base::{Name, Shelf};
@@ -37,7 +37,7 @@ fn rows_text<'a, S: Shelf>(
     checked: &Checked,
     vec: &'a str,
 ) -> Result<Vec<u8>, Stop<'a>>
-    ensures { RunsWhole (S.held shelf.old) (S.held shelf.new) (rows_script checked.now vec.now) (S.faults shelf.old) (S.faults shelf.new) result }
+    ensures { RunsOn S.held S.faults shelf.old shelf.new (rows_script checked.now vec.now) result }
 {
     match read_vec(alloc, shelf, checked, vec) {
         Ok(rows) => outputs_text(alloc, checked, &rows),
@@ -54,7 +54,7 @@ fn checked_text<'a, S: Shelf>(
     root: &Option<Name>,
 ) -> Result<Vec<u8>, Stop<'a>>
     requires { IsWellFormed design }
-    ensures { RunsWhole (S.held shelf.old) (S.held shelf.new) (checked_script design vec.now root.now) (S.faults shelf.old) (S.faults shelf.new) result }
+    ensures { RunsOn S.held S.faults shelf.old shelf.new (checked_script design vec.now root.now) result }
 {
     match accept(alloc, design, root) {
         Ok(checked) => rows_text(alloc, shelf, &checked, vec),
@@ -70,7 +70,7 @@ pub fn strict_text<'a, S: Shelf>(
     vec: &'a str,
     root: &Option<Name>,
 ) -> Result<Vec<u8>, Stop<'a>>
-    ensures { RunsWhole (S.held shelf.old) (S.held shelf.new) (strict_script net.now vec.now root.now) (S.faults shelf.old) (S.faults shelf.new) result }
+    ensures { RunsOn S.held S.faults shelf.old shelf.new (strict_script net.now vec.now root.now) result }
 {
     match read_net(alloc, shelf, net) {
         Ok(design) => checked_text(alloc, shelf, design, vec, root),

@@ -4,17 +4,15 @@ ghost use Rattle.std.specs.Prelude.{IfOk, IfErr};
 ghost use Rattle.lid_top_whole.specs.Telling.{output_of};
 ghost use Rattle.lid_top_script.specs.Causes.{IsWant};
 ghost use Rattle.lid_top_script.specs.Outputs.{IsTextOf};
-ghost use Rattle.lid_top_script.specs.Scripts.{placement_step, told_script, telling_script};
-ghost use Rattle.lid_top_script.specs.Whole.{RunsWhole};
+ghost use Rattle.lid_top_script.specs.Scripts.{telling_script};
+ghost use Rattle.lid_top_script.specs.Whole.{RunsOn};
 ghost use Rattle.lid_stations.specs.Markings.{marking};
-ghost use Rattle.lid_stations.specs.Placements.{links_of, Fits};
-ghost use Rattle.lid_system.specs.Systems.{IsWellFormed as IsSystem};
+ghost use Rattle.lid_stations.specs.Placements.{links_of};
 ghost use Rattle.lid_rate_text.specs.Throughput.{IsRateText};
 
-use lid_base::{Name, Shelf, Text};
-use lid_stations::{Placement, marking};
-use lid_system::System;
-use lid_top_script::{Stop, read_placement, read_system};
+use lid_base::Shelf;
+use lid_stations::marking;
+use lid_top_script::{NetFiles, Stop, Wrapped, read_wrapped};
 use std::alloc::{AllocError, Global};
 
 /// What is told of a system and its stations.
@@ -29,69 +27,32 @@ pub enum Telling {
 }
 
 /// The text of a certificate of the throughput of a placement.
-fn certified_text(
-    alloc: Global,
-    system: &System,
-    placement: &Placement,
-) -> Result<Vec<u8>, AllocError>
-    requires system { IsSystem system.now }
-    requires fits { Fits system.now placement.now }
-    ensures { IfOk result (λ text. IsRateText (marking (links_of system.now) placement.now) text.items) }
+fn certified_text(alloc: Global, wrapped: &Wrapped) -> Result<Vec<u8>, AllocError>
+    ensures { IfOk result (λ text. IsRateText (marking (links_of wrapped.now.system) wrapped.now.placement) text.items) }
 {
-    let graph = marking(alloc, system, placement)?;
+    let graph = marking(alloc, &wrapped.system, &wrapped.placement)?;
     lid_rate_text::rate_text(alloc, &graph)
 }
 
 /// What is told of a system and its stations.
-fn told_of(
-    alloc: Global,
-    system: &System,
-    placement: &Placement,
-    telling: Telling,
-) -> Result<Vec<u8>, AllocError>
-    requires system { IsSystem system.now }
-    requires fits { Fits system.now placement.now }
-    ensures { IfOk result (λ text. IsTextOf (output_of telling (links_of system.now) placement.now) text.items) }
+fn told_of(alloc: Global, wrapped: &Wrapped, telling: Telling) -> Result<Vec<u8>, AllocError>
+    ensures { IfOk result (λ text. IsTextOf (output_of telling (links_of wrapped.now.system) wrapped.now.placement) text.items) }
 {
     match telling {
-        Telling::Rate => certified_text(alloc, system, placement),
-        Telling::Size => lid_size_text::size_text(alloc, system, placement),
-        Telling::Slack => lid_size_text::slack_text(alloc, system, placement),
+        Telling::Rate => certified_text(alloc, wrapped),
+        Telling::Size => lid_size_text::size_text(alloc, &wrapped.system, &wrapped.placement),
+        Telling::Slack => lid_size_text::slack_text(alloc, &wrapped.system, &wrapped.placement),
     }
 }
 
 /// The same, with want of memory as a reason to stop.
-fn told_text<'a>(
-    alloc: Global,
-    system: &System,
-    placement: &Placement,
-    telling: Telling,
-) -> Result<Vec<u8>, Stop<'a>>
-    requires system { IsSystem system.now }
-    requires fits { Fits system.now placement.now }
-    ensures ok { IfOk result (λ text. IsTextOf (output_of telling (links_of system.now) placement.now) text.items) }
+fn told_text<'a>(alloc: Global, wrapped: &Wrapped, telling: Telling) -> Result<Vec<u8>, Stop<'a>>
+    ensures ok { IfOk result (λ text. IsTextOf (output_of telling (links_of wrapped.now.system) wrapped.now.placement) text.items) }
     ensures err { IfErr result IsWant }
 {
-    match told_of(alloc, system, placement, telling) {
+    match told_of(alloc, wrapped, telling) {
         Ok(text) => Ok(text),
         Err(_) => Err(Stop::Memory),
-    }
-}
-
-/// What is told of a system, once its stations are read.
-fn placed_text<'a, S: Shelf>(
-    alloc: Global,
-    shelf: &mut S,
-    system: &System,
-    stations: &'a Option<Text>,
-    telling: Telling,
-) -> Result<Vec<u8>, Stop<'a>>
-    requires { IsSystem system.now }
-    ensures { RunsWhole (S.held shelf.old) (S.held shelf.new) (placement_step (links_of system.now) stations.now (told_script (output_of telling) (links_of system.now))) (S.faults shelf.old) (S.faults shelf.new) result }
-{
-    match read_placement(alloc, shelf, system, stations) {
-        Ok(placement) => told_text(alloc, system, &placement, telling),
-        Err(stop) => Err(stop),
     }
 }
 
@@ -104,15 +65,13 @@ fn placed_text<'a, S: Shelf>(
 pub fn telling_text<'a, S: Shelf>(
     alloc: Global,
     shelf: &mut S,
-    net: &'a str,
-    stations: &'a Option<Text>,
-    root: &Option<Name>,
+    files: &NetFiles<'a>,
     telling: Telling,
 ) -> Result<Vec<u8>, Stop<'a>>
-    ensures { RunsWhole (S.held shelf.old) (S.held shelf.new) (telling_script (output_of telling) net.now stations.now root.now) (S.faults shelf.old) (S.faults shelf.new) result }
+    ensures { RunsOn S.held S.faults shelf.old shelf.new (telling_script (output_of telling) files.now.net.now files.now.stations.now files.now.root.now) result }
 {
-    match read_system(alloc, shelf, net, root) {
-        Ok(system) => placed_text(alloc, shelf, &system, stations, telling),
+    match read_wrapped(alloc, shelf, files) {
+        Ok(wrapped) => told_text(alloc, &wrapped, telling),
         Err(stop) => Err(stop),
     }
 }

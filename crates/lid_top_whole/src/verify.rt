@@ -1,40 +1,38 @@
 //! `verify`: whether a certificate shows the throughput.
 
-ghost use Rattle.std.specs.Prelude.{◌≡◌, true, Option, IfOk, IfErr};
+ghost use Rattle.std.specs.Prelude.{◌≡◌, ◌-◌, true, length, IfOk, IfErr};
 ghost use Rattle.std.specs.List.{All};
 ghost use Rattle.lid_cert.specs.Certificates.{ascends, IsInRange};
 ghost use Rattle.lid_top_script.specs.Causes.{IsWant};
-ghost use Rattle.lid_top_script.specs.Scripts.{IsVerdictOn, placement_step, judging_script, cert_script, verify_script};
-ghost use Rattle.lid_top_script.specs.Whole.{RunsWhole, RunsAnywhere};
+ghost use Rattle.lid_top_script.specs.Scripts.{IsVerdictOn, judging_script, cert_script, verify_script};
+ghost use Rattle.lid_top_script.specs.Whole.{RunsOn, RunsAnywhere};
 ghost use Rattle.lid_stations.specs.Markings.{marking};
-ghost use Rattle.lid_stations.specs.Placements.{links_of, Fits};
-ghost use Rattle.lid_system.specs.Systems.{IsWellFormed as IsSystem};
+ghost use Rattle.lid_stations.specs.Placements.{links_of};
 ghost use Rattle.lid_rate_text.specs.Throughput.{verdict_text};
 
-use lid_base::{Name, Shelf, Text};
+use lid_base::Shelf;
 use lid_cert::{Cert, check_by_owners};
-use lid_stations::{Placement, marking};
-use lid_system::System;
-use lid_top_script::{Stop, read_cert, read_placement, read_system};
+use lid_stations::marking;
+use lid_top_script::{NetFiles, Stop, Wrapped, read_cert, read_wrapped};
 use std::alloc::Global;
 
 /// Whether a certificate shows the throughput of a placement.
-fn judge<'a>(
-    alloc: Global,
-    system: &System,
-    placement: &Placement,
-    cert: &Cert,
-) -> Result<bool, Stop<'a>>
-    requires system { IsSystem system.now }
-    requires fits { Fits system.now placement.now }
-    requires range { IsInRange cert.now }
-    ensures ok { IfOk result (IsVerdictOn (marking (links_of system.now) placement.now) cert.now) }
+fn judge<'a>(alloc: Global, wrapped: &Wrapped, cert: &Cert) -> Result<bool, Stop<'a>>
+    requires { IsInRange cert.now }
+    ensures ok { IfOk result (IsVerdictOn (marking (links_of wrapped.now.system) wrapped.now.placement) cert.now) }
     ensures err { IfErr result IsWant }
 {
-    match marking(alloc, system, placement) {
+    match marking(alloc, &wrapped.system, &wrapped.placement) {
         Ok(graph) => Ok(check_by_owners(alloc, &graph, cert)),
         Err(_) => Err(Stop::Memory),
     }
+}
+
+/// The number of the sink.
+fn sink_of(wrapped: &Wrapped) -> u32
+    ensures { result ≡ length wrapped.now.system.nodes - 1 }
+{
+    wrapped.system.nodes.len() as u32 - 1
 }
 
 /// The text of what a certificate shows, where the sink is this transition.
@@ -50,19 +48,12 @@ fn shown_text<'a>(alloc: Global, cert: &Cert, sink: u32) -> Result<Vec<u8>, Stop
 }
 
 /// What `verify` writes for a certificate.
-fn judged_text<'a>(
-    alloc: Global,
-    system: &System,
-    placement: &Placement,
-    cert: &Cert,
-) -> Result<Vec<u8>, Stop<'a>>
-    requires system { IsSystem system.now }
-    requires fits { Fits system.now placement.now }
-    requires range { IsInRange cert.now }
-    ensures { RunsAnywhere (judging_script (links_of system.now) placement.now cert.now) result }
+fn judged_text<'a>(alloc: Global, wrapped: &Wrapped, cert: &Cert) -> Result<Vec<u8>, Stop<'a>>
+    requires { IsInRange cert.now }
+    ensures { RunsAnywhere (judging_script (links_of wrapped.now.system) wrapped.now.placement cert.now) result }
 {
-    match judge(alloc, system, placement, cert) {
-        Ok(true) => shown_text(alloc, cert, system.nodes.len() as u32 - 1),
+    match judge(alloc, wrapped, cert) {
+        Ok(true) => shown_text(alloc, cert, sink_of(wrapped)),
         Ok(false) => Err(Stop::Denied),
         Err(stop) => Err(stop),
     }
@@ -72,33 +63,13 @@ fn judged_text<'a>(
 fn cert_text<'a, S: Shelf>(
     alloc: Global,
     shelf: &mut S,
-    system: &System,
-    placement: &Placement,
+    wrapped: &Wrapped,
     cert: &'a str,
 ) -> Result<Vec<u8>, Stop<'a>>
-    requires system { IsSystem system.now }
-    requires fits { Fits system.now placement.now }
-    ensures { RunsWhole (S.held shelf.old) (S.held shelf.new) (cert_script (links_of system.now) placement.now cert.now) (S.faults shelf.old) (S.faults shelf.new) result }
+    ensures { RunsOn S.held S.faults shelf.old shelf.new (cert_script (links_of wrapped.now.system) wrapped.now.placement cert.now) result }
 {
     match read_cert(alloc, shelf, cert) {
-        Ok(cert) => judged_text(alloc, system, placement, &cert),
-        Err(stop) => Err(stop),
-    }
-}
-
-/// What `verify` writes for a system.
-fn placed_text<'a, S: Shelf>(
-    alloc: Global,
-    shelf: &mut S,
-    system: &System,
-    stations: &'a Option<Text>,
-    cert: &'a str,
-) -> Result<Vec<u8>, Stop<'a>>
-    requires { IsSystem system.now }
-    ensures { RunsWhole (S.held shelf.old) (S.held shelf.new) (placement_step (links_of system.now) stations.now (λ p. cert_script (links_of system.now) p cert.now)) (S.faults shelf.old) (S.faults shelf.new) result }
-{
-    match read_placement(alloc, shelf, system, stations) {
-        Ok(placement) => cert_text(alloc, shelf, system, &placement, cert),
+        Ok(cert) => judged_text(alloc, wrapped, &cert),
         Err(stop) => Err(stop),
     }
 }
@@ -107,15 +78,13 @@ fn placed_text<'a, S: Shelf>(
 pub fn verify_text<'a, S: Shelf>(
     alloc: Global,
     shelf: &mut S,
-    net: &'a str,
+    files: &NetFiles<'a>,
     cert: &'a str,
-    stations: &'a Option<Text>,
-    root: &Option<Name>,
 ) -> Result<Vec<u8>, Stop<'a>>
-    ensures { RunsWhole (S.held shelf.old) (S.held shelf.new) (verify_script net.now cert.now stations.now root.now) (S.faults shelf.old) (S.faults shelf.new) result }
+    ensures { RunsOn S.held S.faults shelf.old shelf.new (verify_script files.now.net.now cert.now files.now.stations.now files.now.root.now) result }
 {
-    match read_system(alloc, shelf, net, root) {
-        Ok(system) => placed_text(alloc, shelf, &system, stations, cert),
+    match read_wrapped(alloc, shelf, files) {
+        Ok(wrapped) => cert_text(alloc, shelf, &wrapped, cert),
         Err(stop) => Err(stop),
     }
 }

@@ -6,9 +6,9 @@ use Rattle.lid_top_clock.proofs.clock.run_counted.Goals as goal
 
 pub returns-in-Ok-clause-ran : goal.returns-in-Ok-clause-ran
 unfolding traced_script
-returns-in-Ok-clause-ran g c = λ rows got many.
-    runs_within (within_step _ _ _ tt c.in-Ok.ensures.ok) refl (λ q. omega arith) (c.run_again.ensures.ran rows got many)
+returns-in-Ok-clause-ran g c = λ rows counted.
+    runs_within (within_step _ _ _ tt c.in-Ok.ensures.ok) refl (λ q. omega arith) (c.run_again.ensures.ran rows counted)
 
 pub returns-in-Err-clause-ran : goal.returns-in-Err-clause-ran
 unfolding traced_script
-returns-in-Err-clause-ran g c = λ rows got many. runs_stopped (cause_declined _ _ _ _ _ c.in-Err.stop c.in-Err.ensures.err)
+returns-in-Err-clause-ran g c = λ rows counted. runs_stopped (cause_declined _ _ _ _ _ c.in-Err.stop c.in-Err.ensures.err)

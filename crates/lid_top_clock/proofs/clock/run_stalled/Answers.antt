@@ -1,12 +1,17 @@
-use Rattle.lid_top_script.specs.Scripts.{stalled_script}
-use Rattle.lid_top_script.proofs.Stalls.{cause_unstalled}
-use Rattle.lid_top_script.proofs.Within.{within_stalled, runs_within, runs_stopped}
+use Rattle.std.proofs.Common.{List, ℕ, Option, sym, subst}
+use Rattle.lid_top_script.specs.Scripts.{rows_limit, vec_reading, vec_script}
+use Rattle.lid_top_script.specs.Causes.{Got}
+use Rattle.lid_top_script.proofs.Composition.{cause_here}
+use Rattle.lid_top_script.proofs.Within.{within_read, runs_within, runs_stopped}
 use Rattle.lid_top_clock.proofs.clock.run_stalled.Goals as goal
 
 pub returns-in-Ok-clause-ran : goal.returns-in-Ok-clause-ran
-unfolding stalled_script
-returns-in-Ok-clause-ran g c = runs_within (within_stalled _ _ _ c.in-Ok.stalls c.in-Ok.ensures.ok) c.in-Ok.ensures.kept c.in-Ok.ensures.grows c.run_placed.ensures.ran
+unfolding vec_script
+returns-in-Ok-clause-ran g c =
+    let has = c.in-Ok.ensures.ok in
+    let still = subst (λ (held : List ℕ → Option (List ℕ)). Got held c.args.asked.now.vec.now rows_limit (vec_reading c.args.wrapped.now.design) has.rows) (sym c.in-Ok.ensures.kept) has.got in
+    runs_within (within_read _ _ _ _ _ has.rows has.got) c.in-Ok.ensures.kept c.in-Ok.ensures.grows (c.run_counted.ensures.ran has.rows (still, has.many))
 
 pub returns-in-Err-clause-ran : goal.returns-in-Err-clause-ran
-unfolding stalled_script
-returns-in-Err-clause-ran g c = runs_stopped (cause_unstalled _ _ _ _ _ c.in-Err.stop c.in-Err.ensures.err)
+unfolding vec_script
+returns-in-Err-clause-ran g c = runs_stopped (cause_here _ _ _ _ _ _ _ c.in-Err.stop c.in-Err.ensures.err)

@@ -1,33 +1,44 @@
+use Rattle.std.proofs.Common.{◌*◌, ◌≤◌, IfOk, sym, subst}
 use Rattle.lid_base.proofs.Results.{if_ok}
 use Rattle.lid_check.proofs.Sound.{judged_of}
 use Rattle.lid_strict.proofs.Accepted.{table_of}
-use Rattle.lid_top_held.proofs.Lifetimes.{wide_rows, alive, trace_writable, dumped}
+use Rattle.lid_stations.specs.Placements.{links_of, station_count}
+use Rattle.lid_top_script.specs.Waved.{IsWaveText}
+use Rattle.lid_top_script.specs.Wrapped.{Wrapping}
+use Rattle.lid_top_held.specs.Traces.{HasFreeLife, IsTraceOfAll}
+use Rattle.lid_top_held.proofs.Feeding.{wide_inside}
+use Rattle.lid_top_held.proofs.Lifetimes.{alive, trace_writable, dumped}
 use Rattle.lid_top_held.proofs.dumping.dump_text.Goals as goal
 
-pub trace_of-requires-clause-wide : goal.trace_of-requires-clause-wide
-trace_of-requires-clause-wide c = wide_rows c.args.checked.now c.args.system.now c.requires.of c.args.rows.now.bits c.requires.wide
-
-pub trace_of-requires-clause-alive : goal.trace_of-requires-clause-alive
-trace_of-requires-clause-alive c =
-    let d = c.args.checked.now in
-    let q = c.requires in
+pub trace_of-requires : goal.trace_of-requires
+trace_of-requires c =
+    let w = c.wrapped.inside in
+    let is = c.wrapped.invariant in
     let e = c.design.ensures in
-    alive d c.args.system.now c.args.placement.now q.of q.system q.fits c.args.rows.now.bits q.few q.wide (table_of d (judged_of d e.formed e.accepted.models) e.accepted.loops)
+    let rows = c.args.fed.now.rows.now.bits in
+    subst (λ (u : Wrapping). HasFreeLife u rows) c.wrapped.view_is
+    (alive w.checked w.system w.placement is.of is.system is.fits rows c.args.fed.now.few (wide_inside c.wrapped.view_is c.args.fed.now.rows.now.bits c.args.fed.now.wide) (table_of w.checked (judged_of w.checked e.formed e.accepted.models) e.accepted.loops))
 
 pub dump_of-requires : goal.dump_of-requires
 dump_of-requires c =
-    let d = c.args.checked.now in
-    let q = c.requires in
+    let w = c.wrapped.inside in
+    let is = c.wrapped.invariant in
     let e = c.design.ensures in
-    trace_writable d c.args.system.now c.args.placement.now q.of q.system q.fits c.args.rows.now.bits q.few q.wide (table_of d (judged_of d e.formed e.accepted.models) e.accepted.loops)
-    c.args.cycles c.in_ok-trace.trace c.in_ok-trace.ensures q.most q.cells
+    let rows = c.args.fed.now.rows.now.bits in
+    let told = subst (λ (u : Wrapping). IsTraceOfAll u rows c.args.cycles c.in_ok-trace.trace) (sym c.wrapped.view_is) c.in_ok-trace.ensures in
+    let cells = subst (λ (u : Wrapping). station_count u.placement.relays * c.args.cycles ≤ 1048576) (sym c.wrapped.view_is) c.requires.cells in
+    trace_writable w.checked w.system w.placement is.of is.system is.fits rows c.args.fed.now.few (wide_inside c.wrapped.view_is c.args.fed.now.rows.now.bits c.args.fed.now.wide) (table_of w.checked (judged_of w.checked e.formed e.accepted.models) e.accepted.loops)
+    c.args.cycles c.in_ok-trace.trace told c.requires.most cells
 
 pub returns : goal.returns
 returns c =
-    let d = c.args.checked.now in
-    let q = c.requires in
+    let w = c.wrapped.inside in
+    let is = c.wrapped.invariant in
     let e = c.design.ensures in
-    if_ok c.dump_of.result
-    (λ text. dumped d c.args.system.now c.args.placement.now q.of q.system q.fits c.args.rows.now.bits q.few q.wide (table_of d (judged_of d e.formed e.accepted.models) e.accepted.loops)
-    c.args.cycles c.in_ok-trace.trace c.in_ok-trace.ensures text.items)
-    c.dump_of.ensures
+    let rows = c.args.fed.now.rows.now.bits in
+    let told = subst (λ (u : Wrapping). IsTraceOfAll u rows c.args.cycles c.in_ok-trace.trace) (sym c.wrapped.view_is) c.in_ok-trace.ensures in
+    subst (λ (u : Wrapping). IfOk c.dump_of.result (λ text. IsWaveText u.design (links_of u.system) u.placement rows c.args.cycles text.items)) c.wrapped.view_is
+    (if_ok c.dump_of.result
+    (λ text. dumped w.checked w.system w.placement is.of is.system is.fits rows c.args.fed.now.few (wide_inside c.wrapped.view_is c.args.fed.now.rows.now.bits c.args.fed.now.wide) (table_of w.checked (judged_of w.checked e.formed e.accepted.models) e.accepted.loops)
+    c.args.cycles c.in_ok-trace.trace told text.items)
+    c.dump_of.ensures)

@@ -1,5 +1,5 @@
 -- The free run of the system's setup, whose table is that of the design.
-use Rattle.std.proofs.Common.{ℕ, if◌then◌else◌, List, [], ◌++◌, length, ◌∙◌, ap, subst}
+use Rattle.std.proofs.Common.{ℕ, if◌then◌else◌, List, [], ◌++◌, length, IfOk, ◌∙◌, ap, subst}
 use Rattle.lid_net_law.proofs.Agreeing.{rows_are}
 use Rattle.lid_base.proofs.Results.{if_ok}
 use Rattle.lid_check.proofs.Sound.{judged_of}
@@ -9,28 +9,34 @@ use Rattle.lid_free.specs.FreeRuns.{IsLawful}
 use Rattle.lid_walk_machine.specs.Plans.{Plan, sink}
 use Rattle.lid_walk_machine.specs.Setups.{Setup, plan}
 use Rattle.lid_texts_runs.specs.Runs.{tallies_text}
+use Rattle.lid_stations.specs.Placements.{links_of}
+use Rattle.lid_top_script.specs.Freed.{IsFreeText}
+use Rattle.lid_top_script.specs.Wrapped.{Wrapping}
 use Rattle.lid_top_script.proofs.Tokens.{are_outputs}
 use Rattle.lid_strict.proofs.Accepted.{table_of}
 use Rattle.lid_texts.specs.RowsText.{rows_text}
 use Rattle.lid_top_held.proofs.Walked.{setup, is_setup_of, same_plan}
+use Rattle.lid_top_held.proofs.Feeding.{wide_inside}
 use Rattle.lid_top_held.proofs.freeing.run_text.Goals as goal
 
 pub returns : goal.returns
 returns g c =
-    let d = c.args.fed.now.checked.now in
-    let s = c.args.fed.now.system.now in
-    let p = c.args.fed.now.placement.now in
+    let w = c.wrapped.inside in
+    let q = c.wrapped.invariant in
+    let d = w.checked in
+    let s = w.system in
+    let p = w.placement in
     let rows = c.args.fed.now.rows.now.bits in
-    let q = c.requires.fed in
     let e = c.design.ensures in
     let has : HasTable (drivers d) = table_of d (judged_of d e.formed e.accepted.models) e.accepted.loops in
     let table = has rows in
     let m : Setup = setup d s p q.of q.system rows table.0 table.1 in
     let end = c.in_ok-end.end in
-    let free = c.in_ok-end.ensures m (is_setup_of d s p q.of q.system rows table.0 table.1 q.fits q.few q.wide) in
+    let free = c.in_ok-end.ensures m (is_setup_of d s p q.of q.system rows table.0 table.1 q.fits c.args.fed.now.few (wide_inside c.wrapped.view_is c.args.fed.now.rows.now.bits c.args.fed.now.wide)) in
     let named = (q.of.sink (sink (plan m)) end.rows.columns free.columns.0 free.columns.1).0 in
     let told : List ℕ = if c.args.tally then tallies_text end.tallies end.finish end.finish_fired else [] in
-    if_ok c.end_text.result
+    subst (λ (u : Wrapping). IfOk c.end_text.result (λ text. IsFreeText u.design (links_of u.system) u.placement rows c.args.workers c.args.rounds c.args.tally text.items)) c.wrapped.view_is
+    (if_ok c.end_text.result
     (λ text written. record {
       table = table.0;
       strict = table.1;
@@ -42,4 +48,4 @@ returns g c =
           written ∙ ap (λ xs. rows_text xs end.rows.bits ++ told) named
           ∙ ap (λ xs. rows_text (root_outputs d) xs ++ told) (free.rows ∙ rows_are d s q.of q.system rows table.0 table.1);
     })
-    c.end_text.ensures
+    c.end_text.ensures)

@@ -1,15 +1,14 @@
 use Rattle.std.proofs.Common.{refl, sym, subst, arith}
-use Rattle.lid_stations.specs.Placements.{links_of}
 use Rattle.lid_top_script.specs.Scripts.{Script}
 use Rattle.lid_top_script.specs.Whole.{RunsWhole}
 use Rattle.lid_top_script.proofs.Within.{within_same, whole_anywhere}
 use Rattle.lid_top_held.specs.declared.run.Fed.{Fed}
 use Rattle.lid_top_held.specs.declared.run.HeldRun.{HeldRun}
-use Rattle.lid_top_held.specs.Runs.{script_for}
+use Rattle.lid_top_held.specs.Runs.{fed_script}
 use Rattle.lid_top_held.proofs.held.fed_text.Goals as goal
 
 abbrev left : HeldRun → Fed → Script
-left run f = script_for run f.checked.now (links_of f.system.now) f.placement.now f.rows.now.bits
+left run f = fed_script run f.wrapped.now f.rows.now.bits
 
 pub returns-in-Free : goal.returns-in-Free
 returns-in-Free g c =
