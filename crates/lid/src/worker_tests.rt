@@ -1,5 +1,5 @@
 //! Runs on workers, through the top call. They print what the runs of the other tests print, which is worked out by hand
-//! there, and their workers pass the gate as often, and with those numbers, as docs/CLOCK.md and docs/THREADS.md say.
+//! there, and their workers pass the gate as often, and with the numbers, that `cycle_on` and `free_run` speak of.
 
 use crate::clock_tests::{RUNS, STATIONED};
 use crate::net_tests::{ONE_RELAY, RING};
