@@ -6,8 +6,8 @@ ghost use Rattle.std.specs.List.{All, sum_by};
 ghost use Rattle.lid_base.specs.Lists.{Keeps};
 ghost use Rattle.lid_cert.specs.Certificates.{AreLists};
 ghost use Rattle.lid_base_lines.specs.Texts.{line_text, lines_text, spaced};
-ghost use Rattle.lid_cert_text.specs.Printed.{IsSmall, IsPartFull, IsReadBack, room};
-ghost use Rattle.lid_cert_text.specs.Written.{cert_text, parts_lines, part_lines, cycle_words, node_rows, node_words, node_numbers, via_word};
+ghost use Rattle.lid_cert_text.specs.Printed.{IsSmall, IsPartFull, room};
+ghost use Rattle.lid_cert_text.specs.Written.{IsReadBack, cert_text, parts_lines, part_lines, cycle_words, node_rows, node_words, node_numbers, via_word};
 
 use crate::ranges::are_parts_small;
 use lid_base_lines::{

@@ -16,7 +16,8 @@ use Rattle.lid_shell.specs.declared.turn.TurnEnd.TheVariants.{Fired, Void, Stop,
 use Rattle.lid_shell.specs.Actors.{IsActor}
 use Rattle.lid_shell.specs.Boards.{Agrees, ServesAll}
 use Rattle.lid_shell.specs.Steps.{Works, Moves, missed_end}
-use Rattle.lid_shell.specs.Turns.{answer_at, end_at, fired_at, EndsSo, Turned}
+use Rattle.lid_shell.specs.Turns.{answer_at, fired_at, EndsSo, Turned}
+use Rattle.lid_shell.specs.TurnEnds.{end_at}
 use Rattle.lid_walk.proofs.Serving.{drains_by, fills_by}
 use Rattle.lid_walk.proofs.Turning.{resting}
 use Rattle.lid_free_crew.specs.Posts.{stations_of, AgreesAt, IsAtWork}

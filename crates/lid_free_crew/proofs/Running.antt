@@ -19,7 +19,7 @@ use Rattle.lid_shell.specs.declared.turn.TurnEnd.{TurnEnd}
 use Rattle.lid_shell.specs.Actors.{IsActor}
 use Rattle.lid_shell.specs.Boards.{IsEndWith, ServesBoth}
 use Rattle.lid_shell.specs.Steps.{Works}
-use Rattle.lid_shell.specs.Turns.{end_at}
+use Rattle.lid_shell.specs.TurnEnds.{end_at}
 use Rattle.lid_walk.proofs.Serving.{drains_by, fills_by, drain_apart, fill_apart, drained_own, filled_own}
 use Rattle.lid_walk.proofs.Turning.{as_far}
 use Rattle.lid_free_crew.specs.Posts.{resting, AgreesAt, IsEndOf}

@@ -15,7 +15,7 @@ use Rattle.lid_shell.specs.declared.turn.TurnEnd.TheVariants.{Done}
 use Rattle.lid_shell.specs.Actors.{IsActor}
 use Rattle.lid_shell.specs.Boards.{ServesAll}
 use Rattle.lid_shell.specs.Steps.{Works}
-use Rattle.lid_shell.specs.Turns.{end_at}
+use Rattle.lid_shell.specs.TurnEnds.{end_at}
 use Rattle.lid_free_crew.specs.Posts.{known, stations_of, IsEndOf, KeepsEnds}
 use Rattle.lid_free_crew.specs.Tallies.{counted, fired_one, void_one, stop_one, done_one, void_misses, stop_misses}
 use Rattle.lid_free_crew.specs.Turns.{HasMadeTurns}

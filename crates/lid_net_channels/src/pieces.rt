@@ -4,7 +4,8 @@ ghost use Rattle.std.specs.Prelude.{◌≡◌, ◌≤◌, ◌<◌, ◌⊎◌, �
 ghost use Rattle.lid_system.specs.declared.Channel.{Channel};
 ghost use Rattle.lid_net_channels.specs.declared.reads.Read.{Read};
 ghost use Rattle.lid_net_channels.specs.declared.fault.NetFault.TheVariants.{TooManyChannels, Memory};
-ghost use Rattle.lid_net_channels.specs.Pieces.{AreChannelsOf, begun, with_port, extended, piece_for, grown, cut_back, last_width, joins, ArePieced};
+ghost use Rattle.lid_net_channels.specs.Pieces.{AreChannelsOf};
+ghost use Rattle.lid_net_channels.specs.Cutting.{begun, with_port, extended, piece_for, grown, cut_back, last_width, joins, ArePieced};
 
 use crate::fault::NetFault;
 use crate::reads::Read;

@@ -13,7 +13,8 @@ use Rattle.lid_shell.specs.declared.turn.TurnEnd.TheVariants as end
 use Rattle.lid_shell.specs.Boards.{ServesAll}
 use Rattle.lid_shell.specs.Actors.{IsActor}
 use Rattle.lid_shell.specs.Steps.{Works, MakesStep, IsExact, Moves, MissesLate, missed_end, misses_after}
-use Rattle.lid_shell.specs.Turns.{answer_at, end_at, EndsSo, Turned}
+use Rattle.lid_shell.specs.Turns.{answer_at, EndsSo, Turned}
+use Rattle.lid_shell.specs.TurnEnds.{end_at}
 use Rattle.lid_shell.specs.Inside.{ending}
 use Rattle.lid_shell.proofs.Told.{passed_in, passed_out}
 use Rattle.lid_shell.proofs.Changed.{moves_not}

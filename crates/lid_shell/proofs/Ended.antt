@@ -16,7 +16,8 @@ use Rattle.lid_shell.specs.declared.turn.TurnEnd.{TurnEnd}
 use Rattle.lid_shell.specs.declared.turn.TurnEnd.TheVariants as end
 use Rattle.lid_shell.specs.Actors.{IsBegun}
 use Rattle.lid_shell.specs.Steps.{Works, MakesStep, found_in, missed_end, MissesLate}
-use Rattle.lid_shell.specs.Turns.{answer_at, end_at, fired_at, EndsSo}
+use Rattle.lid_shell.specs.Turns.{answer_at, fired_at, EndsSo}
+use Rattle.lid_shell.specs.TurnEnds.{end_at}
 use Rattle.lid_shell.specs.Inside.{act_in, IsAbout, further, ending}
 use Rattle.lid_shell.proofs.Stepped.{act_is, next_of, answer_below, after_below, answer_at_cap, after_at_cap}
 

@@ -18,13 +18,6 @@ answer_at (Void station told) = answer.Void station told
 answer_at (Stop station told) = answer.Stop station told
 answer_at Done = answer.Done
 
--- how a turn ends whose last step answers this
-abbrev pub end_at : Answer → TurnEnd
-end_at (answer.Void station told) = Void station told
-end_at (answer.Stop station told) = Stop station told
-end_at answer.Done = Done
-end_at _ = Fired
-
 -- how often an actor has fired after a turn that ends so
 abbrev pub fired_at : TurnEnd → ℕ → ℕ
 fired_at Fired fired = fired + 1

@@ -12,7 +12,8 @@ ghost use Rattle.lid_shell.specs.Boards.{ServesAll};
 ghost use Rattle.lid_shell.specs.Parts.{IsSinkRole, AreColumnsAtSink};
 ghost use Rattle.lid_shell.specs.Actors.{IsActor};
 ghost use Rattle.lid_shell.specs.Steps.{Works, CanStep, CanTurn, MakesStep, IsExact, missed_end, Moves, MissesLate};
-ghost use Rattle.lid_shell.specs.Turns.{answer_at, end_at, Turned};
+ghost use Rattle.lid_shell.specs.Turns.{answer_at, Turned};
+ghost use Rattle.lid_shell.specs.TurnEnds.{end_at};
 ghost use Rattle.lid_shell.specs.declared.turn.TurnEnd.TheVariants as end;
 
 use crate::building::{mover_desk, new_desk, new_given};

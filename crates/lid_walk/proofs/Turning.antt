@@ -14,7 +14,8 @@ use Rattle.lid_shell.specs.declared.turn.TurnEnd.TheVariants.{Fired}
 use Rattle.lid_shell.specs.Actors.{IsActor}
 use Rattle.lid_shell.specs.Boards.{ServesAll}
 use Rattle.lid_shell.specs.Steps.{Works, Moves}
-use Rattle.lid_shell.specs.Turns.{end_at, fired_at, Turned}
+use Rattle.lid_shell.specs.Turns.{fired_at, Turned}
+use Rattle.lid_shell.specs.TurnEnds.{end_at}
 pub use Rattle.lid_shell.proofs.Along.{resting}
 use Rattle.lid_walk.specs.declared.walk.Walk.{Walk}
 use Rattle.lid_walk.specs.Walks.{Walks, HasActor, HasActorAtRest}
