@@ -10,7 +10,8 @@ use Rattle.lid_station.specs.declared.pair.Pair.{Pair}
 use Rattle.lid_shell_laws.specs.Runs.{place_in}
 use Rattle.lid_stations.proofs.Spots.{stands_between}
 use Rattle.lid_walk_machine.specs.Plans.{actors_of, stations_of, sink, ins_of, outs_of, drainer_of, filler_of, cap, start_of}
-use Rattle.lid_walk_machine.specs.Setups.{Setup, IsSetup, plan, output_rows}
+use Rattle.lid_walk_machine.specs.Setups.{plan, output_rows}
+use Rattle.lid_shell_laws.specs.Setups.{Setup, IsSetup}
 use Rattle.lid_walk_machine.specs.Machine.{Progress, State, begun, takes_from, puts_from, taken_by, in_count, out_count, sweeps}
 use Rattle.lid_walk_machine.proofs.Sweeps.{many, settles}
 use Rattle.lid_walk_machine.proofs.Sound.{sound_begun}

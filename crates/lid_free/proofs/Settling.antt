@@ -7,7 +7,8 @@ use Rattle.std.proofs.lemmas.Bool.{cases_lt}
 use Rattle.std.proofs.Math.Nat.{add-mul, one-mul, mul-le-mul_right}
 use Rattle.lid_base.specs.Each.{from_each}
 use Rattle.lid_walk_machine.specs.Plans.{actors_of, cap}
-use Rattle.lid_walk_machine.specs.Setups.{Setup, IsSetup, plan}
+use Rattle.lid_walk_machine.specs.Setups.{plan}
+use Rattle.lid_shell_laws.specs.Setups.{Setup, IsSetup}
 use Rattle.lid_walk_machine.specs.Machine.{State, sweep, IsSettled, sweeps}
 use Rattle.lid_walk_machine.specs.Laws.{AllRest, HasSwept as MachineSwept}
 use Rattle.lid_walk_machine.proofs.Sweeps.{has_swept, many}

@@ -11,7 +11,8 @@ use Rattle.lid_board.specs.Standing.{AreStreamsOf}
 use Rattle.lid_board.specs.declared.board.Board.{Board}
 use Rattle.lid_shell_laws.specs.Runs.{place_in}
 use Rattle.lid_walk_machine.specs.Plans.{Plan, stations_of, ins_of, outs_of, drainer_of, filler_of, start_of}
-use Rattle.lid_walk_machine.specs.Setups.{Setup, plan}
+use Rattle.lid_walk_machine.specs.Setups.{plan}
+use Rattle.lid_shell_laws.specs.Setups.{Setup}
 use Rattle.lid_walk_machine.specs.Machine.{Progress, State, next, until_rest, positions, turn, turn_answer, taken_by, put_by, out_count, in_count}
 use Rattle.lid_walk_machine.proofs.Moves.{elsewhere}
 use Rattle.lid_shell.specs.declared.actor.Actor.{Actor}

@@ -4,7 +4,8 @@ use Rattle.lid_base.specs.declared.runs.Answer.{Answer}
 use Rattle.lid_base.specs.declared.runs.Answer.TheVariants as answer
 use Rattle.lid_station.specs.Boards.{Ends}
 use Rattle.lid_walk_machine.specs.Plans.{ins_of, outs_of, cap, start_of}
-use Rattle.lid_walk_machine.specs.Setups.{Setup, plan}
+use Rattle.lid_walk_machine.specs.Setups.{plan}
+use Rattle.lid_shell_laws.specs.Setups.{Setup}
 use Rattle.lid_walk_machine.specs.Machine.{void_word, stop_word}
 use Rattle.lid_shell.specs.declared.actor.Actor.{Actor}
 use Rattle.lid_shell.specs.declared.turn.TurnEnd.{TurnEnd}

@@ -1,7 +1,8 @@
 //! Takes and puts.
 
 ghost use Rattle.std.specs.Prelude.{◌≡◌, ◌<◌, ◌+◌, ℕ, None, length, slice_set};
-ghost use Rattle.lid_walk_machine.specs.Setups.{Setup, plan};
+ghost use Rattle.lid_walk_machine.specs.Setups.{plan};
+ghost use Rattle.lid_shell_laws.specs.Setups.{Setup};
 ghost use Rattle.lid_walk_machine.specs.Machine.{Progress};
 ghost use Rattle.lid_shell.specs.declared.desk.Next.TheVariants.{Take, Put};
 ghost use Rattle.lid_shell.specs.Inside.{CanDo, CanPut, AreMade, IsAbout, IsBusyAtBoard, HasTaken, HasPut};

@@ -4,7 +4,8 @@ use Rattle.std.specs.Prelude.{Option, Some, slice_get}
 use Rattle.lid_station.specs.Plain.{plain_ends, PlainStands}
 use Rattle.lid_station.specs.declared.pair.Pair.{Pair}
 use Rattle.lid_walk_machine.specs.Plans.{actors_of}
-use Rattle.lid_walk_machine.specs.Setups.{Setup, plan}
+use Rattle.lid_walk_machine.specs.Setups.{plan}
+use Rattle.lid_shell_laws.specs.Setups.{Setup}
 use Rattle.lid_walk_machine.specs.Machine.{Progress, State, turn, turn_answer}
 use Rattle.lid_walk_machine.specs.Laws.{HasTurned}
 use Rattle.lid_walk_machine.proofs.Turns.{has_turned}

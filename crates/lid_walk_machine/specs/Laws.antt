@@ -4,7 +4,8 @@ use Rattle.std.specs.Prelude.{◌≡◌, ℕ, suc, ◌+◌, ◌<◌, ◌≤◌, 
 use Rattle.lid_graph.specs.Firings.{no_hold}
 use Rattle.lid_shell_laws.specs.Runs.{fired_in}
 use Rattle.lid_walk_machine.specs.Plans.{Plan, actors_of, stations_of, ins_of, outs_of, cap, room_of}
-use Rattle.lid_walk_machine.specs.Setups.{Setup, IsSetup, plan}
+use Rattle.lid_walk_machine.specs.Setups.{plan}
+use Rattle.lid_shell_laws.specs.Setups.{Setup, IsSetup}
 use Rattle.lid_walk_machine.specs.Machine.{State, begun, takes_from, puts_from, ends_at, in_at, out_at, in_count, out_count, next, turn, sweep, IsSettled, sweeps}
 
 -- the tokens that were taken from a station are the first of those that were put, these are the first of its
