@@ -307,7 +307,8 @@ pub fn read_back_law()
 /// A design that was read is writable where none of its formals ends in a backslash, and its
 /// canonical text is short enough to be read.
 pub fn writable_law()
-    ensures { (bytes : List ℕ) → blif_fault bytes ≡ None → HasPlainFormals (design_of (logical_lines bytes)) → length (canonical_text (design_of (logical_lines bytes))) ≤ 16777216 → IsWritable (design_of (logical_lines bytes)) }
+    ensures { (bytes : List ℕ) → blif_fault bytes ≡ None → HasPlainFormals (design_of (logical_lines bytes))
+        → length (canonical_text (design_of (logical_lines bytes))) ≤ 16777216 → IsWritable (design_of (logical_lines bytes)) }
 {}
 
 /// Appends the canonical text of a design: its models in order, and of each its name, its inputs,

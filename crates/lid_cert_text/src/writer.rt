@@ -126,7 +126,8 @@ pub fn print_cert(cert: &Cert, into: &mut Vec<u8>) -> Result<(), AllocError>
     ensures ok { OnOk result (into.new.items ≡ into.old.items ++ cert_text cert.now) }
     ensures err { OnErr result (into.new.items ≡ into.old.items) }
     ensures back { All IsPartFull cert.now.parts → length (cert_text cert.now) ≤ 16777216 → IsReadBack cert.now }
-    ensures short { All IsPartFull cert.now.parts → All (λ part. IsSmall (length part.nodes)) cert.now.parts → length (cert_text cert.now) ≤ 11 + sum_by room cert.now.parts }
+    ensures short { All IsPartFull cert.now.parts → All (λ part. IsSmall (length part.nodes)) cert.now.parts
+        → length (cert_text cert.now) ≤ 11 + sum_by room cert.now.parts }
 {
     are_parts_small(cert.parts.as_slice());
     cut_back(into.len(), append_text(cert, into), into)

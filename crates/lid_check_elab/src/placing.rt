@@ -48,7 +48,8 @@ pub fn push_drivers(
     requires start { start ≤ 1048576 }
     requires picks { All (λ pick. pick < length locals.now) picks.now }
     requires small { All (λ pick. IsSmallAt judged.now offsets.now (seen_around around) (slice_get locals.now pick)) picks.now }
-    ensures { OnOk result (map (shown_driver judged.now) drivers.new.items ≡ map (shown_driver judged.now) drivers.old.items ++ map (picked judged.now start offsets.now (seen_around around.entry) locals.now) picks.now) }
+    ensures { OnOk result (map (shown_driver judged.now) drivers.new.items ≡ map (shown_driver judged.now) drivers.old.items
+        ++ map (picked judged.now start offsets.now (seen_around around.entry) locals.now) picks.now) }
 {
     for pick in picks {
         let local = &locals[*pick as usize];
@@ -130,7 +131,8 @@ fn push_instances(
     requires there { (path : List ℕ) × IsScopeAt judged.now path scope }
     requires after { AreNext judged.now (scope.start + size_of judged.now scope.model) (reverse stack.now.items) }
     ensures next { OnOk result (AreNext judged.now (scope.start + length (model_nets judged.now scope.model)) (reverse stack.new.items)) }
-    ensures lighter { OnOk result (weights judged.now (reverse stack.new.items) + 1 ≡ weights judged.now (reverse stack.old.items) + weight_of judged.now scope.model) }
+    ensures lighter { OnOk result (weights judged.now (reverse stack.new.items) + 1
+        ≡ weights judged.now (reverse stack.old.items) + weight_of judged.now scope.model) }
 {
     let _ = judged.design();
     let mut i = offsets.len();
@@ -154,7 +156,10 @@ fn push_instance(
     requires exists { i < length offsets.now }
     requires after { AreNext judged.now (scope.start + offset_of judged.now scope.model (i + 1)) (reverse stack.now.items) }
     ensures next { OnOk result (AreNext judged.now (scope.start + offset_of judged.now scope.model i) (reverse stack.new.items)) }
-    ensures heavier { OnOk result (weights judged.now (reverse stack.new.items) + over_insts judged.now (weight_of judged.now) (take i (insts_of judged.now scope.model)) ≡ weights judged.now (reverse stack.old.items) + over_insts judged.now (weight_of judged.now) (take (i + 1) (insts_of judged.now scope.model))) }
+    ensures heavier { OnOk result (weights judged.now (reverse stack.new.items) + over_insts judged.now (weight_of judged.now)
+        (take i (insts_of judged.now scope.model))
+        ≡ weights judged.now (reverse stack.old.items) + over_insts judged.now (weight_of judged.now)
+        (take (i + 1) (insts_of judged.now scope.model))) }
 {
     let _ = judged.design();
     let inst = i as u32;

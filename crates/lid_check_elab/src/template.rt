@@ -65,7 +65,8 @@ pub fn place_driver(
 ) -> Result<ColumnDriver, AllocError>
     requires start { start ≤ 1048576 }
     requires small { IsSmallLocal offsets.now (seen_around around) (shown_local judged.now local.now) }
-    ensures { IfOk result (λ driver. shown_driver judged.now driver ≡ placed_driver start offsets.now (seen_around around.entry) (shown_local judged.now local.now)) }
+    ensures { IfOk result (λ driver. shown_driver judged.now driver
+        ≡ placed_driver start offsets.now (seen_around around.entry) (shown_local judged.now local.now)) }
 {
     let _ = judged;
     Ok(match local {

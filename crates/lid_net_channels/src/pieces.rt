@@ -27,7 +27,8 @@ const MOST_PORTS: u64 = 31;
 /// there is no memory.
 pub fn cut_channels(alloc: Global, reads: &[Read]) -> Result<Items<Channel>, NetFault>
     ensures ok { IfOk result (λ channels. AreChannelsOf reads.now channels × (length channels ≤ 16384)) }
-    ensures err { IfErr result (λ fault. (fault ≡ Memory) ⊎ ((channels : List Channel) × AreChannelsOf reads.now channels × (16384 < length channels) × (fault ≡ TooManyChannels (length channels)))) }
+    ensures err { IfErr result (λ fault. (fault ≡ Memory) ⊎ ((channels : List Channel) × AreChannelsOf reads.now channels × (16384 < length channels)
+        × (fault ≡ TooManyChannels (length channels)))) }
 {
     let count = count_channels(reads);
     if count > MOST_CHANNELS {
