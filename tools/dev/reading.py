@@ -41,6 +41,12 @@ def definitions(text):
     return found, constructors
 
 
+def kind(line):
+    """What a line of a file is there for."""
+    word = line.strip().partition(" ")[0]
+    return {"": "blank", "use": "imports"}.get(word, "comments" if word.startswith("--") else "imports" if line.startswith("pub use ") else "definitions")
+
+
 def main():
     nothing(__doc__)
     need_top()
@@ -75,13 +81,16 @@ def main():
     by_file = collections.defaultdict(list)
     for module, name in sorted(seen):
         by_file[module].append(name)
-    lines = 0
+    lines, kinds = 0, collections.Counter()
     for module, names in sorted(by_file.items()):
-        size = len(files[module].read_text().splitlines())
+        text = files[module].read_text().splitlines()
+        size = len(text)
         lines += size
+        kinds.update(map(kind, text))
         few = ": " + ", ".join(names) if len(names) < 8 else ""
         print(f"{files[module]} {size} lines, {len(names)} of {len(read[module][1])}{few}")
-    print(f"{len(by_file)} files, {lines} lines")
+    print(f"{len(by_file)} files, {lines} lines: {kinds['definitions']} of definitions, {kinds['comments']} of comments on them, "
+          f"{kinds['imports']} of imports, {kinds['blank']} blank")
 
 
 main()

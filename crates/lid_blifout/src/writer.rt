@@ -287,9 +287,9 @@ fn append_model(model: &Model, into: &mut Vec<u8>) -> Result<(), AllocError>
     into.extend_from_slice(b".end\n")
 }
 
-/// Appends the lines of the models.
+/// Appends the lines of the models, one after the other.
 #[tactic(auto, using(lid_base_lines::proofs::Pieces::lines_text_append))]
-pub fn append_models(models: &[Model], into: &mut Vec<u8>) -> Result<(), AllocError>
+fn append_each(models: &[Model], into: &mut Vec<u8>) -> Result<(), AllocError>
     ensures ok { OnOk result (into.new.items ≡ into.old.items ++ lines_text (models_lines models.now)) }
     ensures kept { Keeps into.old.items into.new.items }
 {
@@ -297,6 +297,17 @@ pub fn append_models(models: &[Model], into: &mut Vec<u8>) -> Result<(), AllocEr
         append_model(model, into)?;
     }
     Ok(())
+}
+
+/// Appends the lines of models as they are written, whether they can be read back or not.
+///
+/// # Errors
+/// Where there is no memory; `into` is then as it was.
+pub fn append_models(models: &[Model], into: &mut Vec<u8>) -> Result<(), AllocError>
+    ensures ok { OnOk result (into.new.items ≡ into.old.items ++ lines_text (models_lines models.now)) }
+    ensures err { OnErr result (into.new.items ≡ into.old.items) }
+{
+    cut_back(into.len(), append_each(models, into), into)
 }
 
 /// The canonical text of a writable design is read as that design.
@@ -307,7 +318,8 @@ pub fn read_back_law()
 /// A design that was read is writable where none of its formals ends in a backslash, and its
 /// canonical text is short enough to be read.
 pub fn writable_law()
-    ensures { (bytes : List ℕ) → blif_fault bytes ≡ None → HasPlainFormals (design_of (logical_lines bytes)) → length (canonical_text (design_of (logical_lines bytes))) ≤ 16777216 → IsWritable (design_of (logical_lines bytes)) }
+    ensures { (bytes : List ℕ) → blif_fault bytes ≡ None → HasPlainFormals (design_of (logical_lines bytes))
+        → length (canonical_text (design_of (logical_lines bytes))) ≤ 16777216 → IsWritable (design_of (logical_lines bytes)) }
 {}
 
 /// Appends the canonical text of a design: its models in order, and of each its name, its inputs,
@@ -329,9 +341,5 @@ pub fn write(design: &Design, into: &mut Vec<u8>) -> Result<(), AllocError>
     ensures read_back { (blif_fault (canonical_text design.now) ≡ None) × (design_of (logical_lines (canonical_text design.now)) ≡ design.now) }
     ensures err { OnErr result (into.new.items ≡ into.old.items) }
 {
-    cut_back(
-        into.len(),
-        append_models(design.models.as_slice(), into),
-        into,
-    )
+    append_models(design.models.as_slice(), into)
 }

@@ -52,7 +52,8 @@ impl Board {
         ensures nothing { TellsNothing result }
         ensures drained { HasDrained result (facts (held (ends_of hand.old) (drain station))) }
         ensures again { (held (ends_of hand.old) (drain station)).mark ≡ true → IsToken result }
-        ensures exact { IsOwned (ends_of hand.old) (fill station) → (IsVoid result ↔ (held (ends_of hand.old) (fill station)).passed ≡ (held (ends_of hand.old) (drain station)).passed) }
+        ensures exact { IsOwned (ends_of hand.old) (fill station)
+            → (IsVoid result ↔ (held (ends_of hand.old) (fill station)).passed ≡ (held (ends_of hand.old) (drain station)).passed) }
     {
         let spot = self.spot(hand, station, 2 * station as usize + 1);
         let cells = &self.table.shared;
@@ -75,7 +76,8 @@ impl Board {
         ensures filled { HasFilled result (facts (held (ends_of hand.old) (fill station))) }
         ensures full { TellsFull result (facts (held (ends_of hand.old) (fill station))) }
         ensures again { (held (ends_of hand.old) (fill station)).mark ≡ true → IsRoom result }
-        ensures exact { IsOwned (ends_of hand.old) (drain station) → (IsStop result ↔ (held (ends_of hand.old) (fill station)).passed ≡ (held (ends_of hand.old) (drain station)).passed + (held (ends_of hand.old) (fill station)).cap) }
+        ensures exact { IsOwned (ends_of hand.old) (drain station)
+            → (IsStop result ↔ (held (ends_of hand.old) (fill station)).passed ≡ (held (ends_of hand.old) (drain station)).passed + (held (ends_of hand.old) (fill station)).cap) }
     {
         let spot = self.spot(hand, station, 2 * station as usize);
         let cells = &self.table.shared;

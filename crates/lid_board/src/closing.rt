@@ -33,7 +33,8 @@ fn copy_places(closed: &Closed<(), Global>, first: usize, places: &mut [u32])
     requires full { IsFull closed.now.words }
     requires inside { first + (length places.old + 1) / 2 ≤ slots_len closed.now.words }
     requires small { All (λ token. token < 2 ^ 31) places.old }
-    ensures each { (place : ℕ) → place < length places.new → slice_index places.new place ≡ word_half place (slice_index (slots_items closed.now.words) (first + place / 2)) - 2147483648 }
+    ensures each { (place : ℕ) → place < length places.new
+        → slice_index places.new place ≡ word_half place (slice_index (slots_items closed.now.words) (first + place / 2)) - 2147483648 }
     ensures small { All (λ token. token < 2 ^ 31) places.new }
 {
     for place in 0..places.len() {
@@ -64,7 +65,8 @@ fn restore_all(
     requires full { IsFull closed.now.words }
     requires firsts { length pairs.old ≤ length firsts.now }
     requires numbers { 2 * length pairs.old ≤ length numbers.now }
-    requires can { (i : ℕ) → (p : Pair) → slice_get pairs.old i ≡ Some p → CanRestore (slots_len closed.now.words) (slice_index firsts.now i) (number_at numbers.now (2 * i)) (number_at numbers.now (2 * i + 1)) p }
+    requires can { (i : ℕ) → (p : Pair) → slice_get pairs.old i ≡ Some p
+        → CanRestore (slots_len closed.now.words) (slice_index firsts.now i) (number_at numbers.now (2 * i)) (number_at numbers.now (2 * i + 1)) p }
     ensures { Restored (slots_items closed.now.words) firsts.now numbers.now pairs.old pairs.new (length pairs.old) }
 {
     for station in 0..pairs.len() {

@@ -130,8 +130,10 @@ impl Board {
         ensures plan { IfOk result (λ r. start_ends r.0 ≡ starts firsts.now caps.now (C.streams course.now)) }
         ensures many { IfOk result (λ r. length (start_ends r.0) ≡ 2 * length firsts.now) }
         ensures all { IfOk result (λ r. ends_of r.1 ≡ start_ends r.0) }
-        ensures fills { IfOk result (λ r. (station : ℕ) → station < length firsts.now → at (ends_of r.1) (fill station) ≡ Some (start_fill firsts.now caps.now (C.streams course.now) station)) }
-        ensures drains { IfOk result (λ r. (station : ℕ) → station < length firsts.now → at (ends_of r.1) (drain station) ≡ Some (start_drain firsts.now caps.now (C.streams course.now) station)) }
+        ensures fills { IfOk result (λ r. (station : ℕ) → station < length firsts.now
+            → at (ends_of r.1) (fill station) ≡ Some (start_fill firsts.now caps.now (C.streams course.now) station)) }
+        ensures drains { IfOk result (λ r. (station : ℕ) → station < length firsts.now
+            → at (ends_of r.1) (drain station) ≡ Some (start_drain firsts.now caps.now (C.streams course.now) station)) }
         ensures stands { IfOk result (λ r. AreStreamsOf (start_ends r.0) (λ station. slice_index_or (C.streams course.now) station [])) }
     {
         let key = key_of(alloc, firsts, caps, course)?;

@@ -51,7 +51,8 @@ pub(crate) fn load_as<J: Telling>(
     _place: u64,
 ) -> u64
     requires here { IsAtWord seat.old.table_id cells.now.table_id word }
-    requires rule { Allows (Related cells.now.key.me.0.ends) cells.now.table_id.slots seat.old.id seat.old.me word (λ n. n) (λ found m. (m.1 ≡ seat.old.me.1) × J.told found m.0) }
+    requires rule { Allows (Related cells.now.key.me.0.ends) cells.now.table_id.slots seat.old.id seat.old.me word (λ n. n)
+        (λ found m. (m.1 ≡ seat.old.me.1) × J.told found m.0) }
     ensures seat { (seat.new.table_id ≡ seat.old.table_id) × (seat.new.id ≡ seat.old.id) × (seat.new.me.1 ≡ seat.old.me.1) }
     ensures told { J.told result seat.new.me.0 }
 {
@@ -69,7 +70,8 @@ pub(crate) fn and_as<J: Telling>(
     _place: u64,
 ) -> u64
     requires here { IsAtWord seat.old.table_id cells.now.table_id word }
-    requires rule { Allows (Related cells.now.key.me.0.ends) cells.now.table_id.slots seat.old.id seat.old.me word (λ n. bit_and n bits) (λ found m. (m.1 ≡ seat.old.me.1) × J.told found m.0) }
+    requires rule { Allows (Related cells.now.key.me.0.ends) cells.now.table_id.slots seat.old.id seat.old.me word (λ n. bit_and n bits)
+        (λ found m. (m.1 ≡ seat.old.me.1) × J.told found m.0) }
     ensures seat { (seat.new.table_id ≡ seat.old.table_id) × (seat.new.id ≡ seat.old.id) × (seat.new.me.1 ≡ seat.old.me.1) }
     ensures told { J.told result seat.new.me.0 }
 {
@@ -85,7 +87,8 @@ pub(crate) fn or_as<J: Telling>(
     _station: u32,
 )
     requires here { IsAtWord seat.old.table_id cells.now.table_id word }
-    requires rule { Allows (Related cells.now.key.me.0.ends) cells.now.table_id.slots seat.old.id seat.old.me word (λ n. bit_or n bits) (λ found m. (m.1 ≡ seat.old.me.1) × J.told found m.0) }
+    requires rule { Allows (Related cells.now.key.me.0.ends) cells.now.table_id.slots seat.old.id seat.old.me word (λ n. bit_or n bits)
+        (λ found m. (m.1 ≡ seat.old.me.1) × J.told found m.0) }
     ensures seat { (seat.new.table_id ≡ seat.old.table_id) × (seat.new.id ≡ seat.old.id) × (seat.new.me.1 ≡ seat.old.me.1) }
     ensures told { (found : ℕ) × J.told found seat.new.me.0 }
 {

@@ -11,8 +11,8 @@ use Rattle.lid_graph.specs.declared.graph.Edge.{Edge}
 use Rattle.lid_graph.specs.declared.graph.Graph.{Graph}
 use Rattle.lid_cert.specs.declared.cert.Part.{Part}
 use Rattle.lid_cert.specs.declared.cert.Cert.{Cert}
-use Rattle.lid_cert.specs.Certificates.{place_in, has_node, least_node, ascends, IsEdgeMet, IsPart, Certifies}
-use Rattle.lid_cert.specs.Owners.{owner_of, Claims, Owns, part_at, no_part, IsEdgeOwned, AreOwned}
+use Rattle.lid_cert.specs.Certificates.{place_in, has_node, least_node, ascends, IsEdgeMet, IsPart, Certifies, part_at, no_part}
+use Rattle.lid_cert.specs.Owners.{owner_of, Claims, Owns, IsEdgeOwned, AreOwned}
 use Rattle.lid_cert.proofs.Parts.{placed}
 
 abbrev bit : Bool → ℕ

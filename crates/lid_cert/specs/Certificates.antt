@@ -113,3 +113,10 @@ pub record IsPartInRange (part : Part) : Type 0 where
 
 abbrev pub IsInRange : Cert → Type 0
 IsInRange cert = All IsPartInRange cert.parts
+
+-- what stands past the last part
+abbrev pub no_part : Part
+no_part = record { nodes = []; p = 0; q = 0; cycle = []; lag = []; lead = []; via = []; depth = [] }
+
+abbrev pub part_at : List Part → ℕ → Part
+part_at parts number = slice_index_or parts number no_part

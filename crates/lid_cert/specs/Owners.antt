@@ -5,7 +5,7 @@ use Rattle.std.specs.Option.{MatchOption}
 use Rattle.lid_graph.specs.declared.graph.Edge.{Edge}
 use Rattle.lid_graph.specs.declared.graph.Graph.{Graph}
 use Rattle.lid_cert.specs.declared.cert.Part.{Part}
-use Rattle.lid_cert.specs.Certificates.{ascends, least_node, IsEdgeMet, IsPartInside}
+use Rattle.lid_cert.specs.Certificates.{ascends, least_node, IsEdgeMet, IsPartInside, part_at}
 
 -- the number of the part that owns a transition
 abbrev pub owner_of : List (Option ℕ) → ℕ → Option ℕ
@@ -22,13 +22,6 @@ abbrev pub Owns : ℕ → List (Option ℕ) → List Part → List (Option ℕ) 
 Owns number before [] after = after ≡ before
 Owns number before (part ∷ parts) after =
     (between : List (Option ℕ)) × Claims number before part.nodes between × Owns (number + 1) between parts after
-
--- what stands past the last part
-abbrev pub no_part : Part
-no_part = record { nodes = []; p = 0; q = 0; cycle = []; lag = []; lead = []; via = []; depth = [] }
-
-abbrev pub part_at : List Part → ℕ → Part
-part_at parts number = slice_index_or parts number no_part
 
 -- the part that owns where an edge begins meets the rule for the edge; where none owns it, none owns the
 -- end

@@ -1,9 +1,8 @@
 //! Where transitions stand in a part, and what the part says of them.
 
 ghost use Rattle.std.specs.List.{All};
-ghost use Rattle.lid_cert.specs.Owners.{part_at};
+ghost use Rattle.lid_cert.specs.Certificates.{part_at, ascends, rises, place_in, has_node, lag_of, lead_of, depth_of, via_of, AreLists};
 ghost use Rattle.std.specs.Prelude.{ℕ, length, false, IfSome, IsNone, ◌≡◌, ◌+◌, ◌<◌, true, None, position, option_map, slice_index, slice_index_or, ◌==◌};
-ghost use Rattle.lid_cert.specs.Certificates.{ascends, rises, place_in, has_node, lag_of, lead_of, depth_of, via_of, AreLists};
 
 use crate::cert::{Cert, Part};
 

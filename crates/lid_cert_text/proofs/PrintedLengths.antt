@@ -11,8 +11,8 @@ use Rattle.lid_cert.specs.declared.cert.Cert.{Cert}
 use Rattle.lid_cert.specs.Certificates.{AreLists}
 use Rattle.lid_base_lines.specs.Texts.{Words, line_text, lines_text, spaced}
 use Rattle.lid_base_lines.proofs.Pieces.{line_text_cons, lines_text_append, spaced_push}
-use Rattle.lid_cert_text.specs.Written.{via_word, node_words, node_rows, count_words, ratio_words, cycle_words, part_lines, parts_lines, header_words, cert_text}
-use Rattle.lid_cert_text.specs.Printed.{IsSmall, IsSmallVia, IsPartSmall, IsPartFull, IsPartPrintable, IsReadBack, room, PrintedIsShort, RoomIsSmall}
+use Rattle.lid_cert_text.specs.Written.{via_word, node_words, node_rows, count_words, ratio_words, cycle_words, part_lines, parts_lines, header_words, cert_text, IsReadBack}
+use Rattle.lid_cert_text.specs.Printed.{IsSmall, IsSmallVia, IsPartSmall, IsPartFull, IsPartPrintable, room, PrintedIsShort, RoomIsSmall}
 use Rattle.lid_cert_text.proofs.PrintedLines.{rows_push}
 use Rattle.lid_cert_text.proofs.ReadBack.{printed_is_read_back}
 

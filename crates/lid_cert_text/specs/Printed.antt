@@ -1,11 +1,10 @@
 -- The certificates that their text gives back.
-use Rattle.std.specs.Prelude.{◌≡◌, ℕ, ◌+◌, ◌*◌, ◌^◌, ◌<◌, ◌≤◌, length, Option, None, IfSome}
+use Rattle.std.specs.Prelude.{ℕ, ◌+◌, ◌*◌, ◌^◌, ◌<◌, ◌≤◌, length, Option, IfSome}
 use Rattle.std.specs.List.{All, sum_by}
 use Rattle.lid_cert.specs.declared.cert.Part.{Part}
 use Rattle.lid_cert.specs.declared.cert.Cert.{Cert}
 use Rattle.lid_cert.specs.Certificates.{AreLists, IsPartInRange}
-use Rattle.lid_cert_text.specs.Texts.{cert_fault, cert_of}
-use Rattle.lid_cert_text.specs.Written.{cert_text}
+use Rattle.lid_cert_text.specs.Written.{cert_text, IsReadBack}
 
 -- transitions, edges and depths lie below 2^32
 abbrev pub IsSmall : ℕ → Type 0
@@ -31,11 +30,6 @@ pub record IsPartPrintable (part : Part) : Type 0 where
   pub full : IsPartFull part
   pub lists : AreLists part
   pub small : IsPartSmall part
-
--- the text of the certificate has no fault, and stands for the certificate
-pub record IsReadBack (cert : Cert) : Type 0 where
-  pub sound : cert_fault (cert_text cert) ≡ None
-  pub same : cert_of (cert_text cert) ≡ cert
 
 -- a certificate is read back where its parts have their form and its text is not too long
 abbrev pub PrintedIsReadBack : Type 0

@@ -1,10 +1,11 @@
 -- Certificates as texts: how they are written, line by line.
-use Rattle.std.specs.Prelude.{ℕ, zero, suc, List, [], ◌∷◌, ◌++◌, length, map, codes, slice_index, slice_index_or, Option, Some, None}
+use Rattle.std.specs.Prelude.{ℕ, zero, suc, List, [], ◌∷◌, ◌++◌, length, map, codes, slice_index, slice_index_or, Option, Some, None, ◌≡◌}
 use Rattle.std.specs.Fmt.{decimal}
 use Rattle.std.specs.List.{flat_map}
 use Rattle.lid_cert.specs.declared.cert.Part.{Part}
 use Rattle.lid_cert.specs.declared.cert.Cert.{Cert}
 use Rattle.lid_base_lines.specs.Texts.{Words, lines_text}
+use Rattle.lid_cert_text.specs.Texts.{cert_fault, cert_of}
 
 abbrev pub via_word : Option ℕ → List ℕ
 via_word None = codes "-"
@@ -52,3 +53,8 @@ cert_lines cert = header_words ∷ parts_lines cert.parts
 -- a certificate as a text
 unfoldable pub cert_text : Cert → List ℕ
 cert_text cert = lines_text (cert_lines cert)
+
+-- the text of the certificate has no fault, and stands for the certificate
+pub record IsReadBack (cert : Cert) : Type 0 where
+  pub sound : cert_fault (cert_text cert) ≡ None
+  pub same : cert_of (cert_text cert) ≡ cert

@@ -2,7 +2,8 @@
 use Rattle.std.proofs.Common.{◌≡◌, ◌⊎◌, ℕ, zero, suc, ◌<◌, ◌≤◌, List, [], ◌∷◌, length, inl, inr, refl, sym, ◌∙◌, ap, subst, arith}
 use Rattle.lid_base.specs.Lists.{Among}
 use Rattle.lid_design.specs.Network.{Driver}
-use Rattle.lid_design.specs.Walks.{Feeds, EdgesLead, WalksEnd, IsDriven}
+use Rattle.lid_design.specs.Walks.{WalksEnd, IsDriven}
+use Rattle.lid_design.specs.Feeds.{Feeds, EdgesLead}
 
 -- a list without one of its items
 pub record Without {A : Type 0} (x : A) (xs : List A) : Type 0 where

@@ -12,7 +12,7 @@ use Rattle.lid_design.specs.declared.Flat.{Flat}
 use Rattle.lid_design.specs.Network.{Driver, from_input, from_latch, from_cover, from_connection}
 use Rattle.lid_design.specs.Columns.{Column, column, data_inputs, drivers}
 use Rattle.lid_design.specs.WellFormed.{IsWellFormed}
-use Rattle.lid_design.specs.Walks.{read_now, Feeds, EdgesLead}
+use Rattle.lid_design.specs.Feeds.{read_now, Feeds, EdgesLead}
 use Rattle.lid_design.specs.Elaboration.{columns}
 use Rattle.lid_design.specs.Loops.{pearls, IsInside, WalkInside}
 use Rattle.lid_design.specs.Flat.{flat_drivers, IsFlat}

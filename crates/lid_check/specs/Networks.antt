@@ -3,7 +3,7 @@ use Rattle.std.specs.Prelude.{◌≡◌, ◌<◌, ◌≤◌, ℕ, List, [], leng
 use Rattle.std.specs.List.{AllByRecursion}
 use Rattle.lid_design.specs.declared.Design.{Design}
 use Rattle.lid_design.specs.Columns.{column, root_outputs}
-use Rattle.lid_design.specs.Walks.{read_now}
+use Rattle.lid_design.specs.Feeds.{read_now}
 use Rattle.lid_check_digraph.specs.Graphs.{IsOrder}
 use Rattle.lid_check_elab.specs.Elaborations.{shown_driver, column_at, IsElaborated}
 use Rattle.lid_check.specs.declared.network.Network.{Network}

@@ -12,7 +12,8 @@ use Rattle.lid_design.specs.declared.Model.{Model}
 use Rattle.lid_design.specs.declared.Inst.{Inst}
 use Rattle.lid_design.specs.Network.{Driver, from_latch, from_cover, from_connection}
 use Rattle.lid_design.specs.Columns.{Column, column, data_inputs, drivers}
-use Rattle.lid_design.specs.Walks.{read_now, read_before}
+use Rattle.lid_design.specs.Walks.{read_before}
+use Rattle.lid_design.specs.Feeds.{read_now}
 use Rattle.lid_design.specs.Models.{nets, insts_of, instance_number, number_named, number_from, IsReached, data_inputs_of}
 use Rattle.lid_design.specs.Elaboration.{model_nets, columns}
 use Rattle.lid_check_elab.specs.Elaborations.{map_driver, column_at}

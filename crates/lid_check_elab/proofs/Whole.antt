@@ -9,7 +9,8 @@ use Rattle.std.proofs.lemmas.Option.{get_or_from_slice_get, slice_get_within}
 use Rattle.lid_design.specs.declared.Design.{Design}
 use Rattle.lid_design.specs.Network.{Driver}
 use Rattle.lid_design.specs.Columns.{Column}
-use Rattle.lid_design.specs.Walks.{read_now, read_before}
+use Rattle.lid_design.specs.Walks.{read_before}
+use Rattle.lid_design.specs.Feeds.{read_now}
 use Rattle.lid_design.specs.Models.{insts_of, instance_number, number_from}
 use Rattle.lid_design.specs.Elaboration.{instances, columns}
 use Rattle.lid_design.proofs.Reached.{root_reached}

@@ -5,7 +5,8 @@ use Rattle.lid_base.specs.Lists.{Among}
 use Rattle.lid_design.specs.declared.Design.{Design}
 use Rattle.lid_design.specs.Network.{Driver, from_input, from_latch, from_cover, from_connection}
 use Rattle.lid_design.specs.Columns.{Column, column, drivers}
-use Rattle.lid_design.specs.Walks.{read_now, read_before, IsDriven}
+use Rattle.lid_design.specs.Walks.{read_before, IsDriven}
+use Rattle.lid_design.specs.Feeds.{read_now}
 use Rattle.lid_design.specs.Models.{insts_of, instance_number, number_from}
 use Rattle.lid_design.specs.Elaboration.{columns, model_nets}
 use Rattle.lid_check_elab.specs.Covers.{cover_in}

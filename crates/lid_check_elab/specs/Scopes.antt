@@ -7,7 +7,8 @@ use Rattle.lid_design.specs.declared.Design.{Design}
 use Rattle.lid_design.specs.declared.Inst.{Inst}
 use Rattle.lid_design.specs.Network.{Driver, from_input}
 use Rattle.lid_design.specs.Columns.{Column, drivers}
-use Rattle.lid_design.specs.Walks.{read_now, read_before}
+use Rattle.lid_design.specs.Walks.{read_before}
+use Rattle.lid_design.specs.Feeds.{read_now}
 use Rattle.lid_design.specs.Models.{insts_of, number_from, data_inputs_of}
 use Rattle.lid_design.specs.Elaboration.{columns}
 use Rattle.lid_check_elab.specs.Elaborations.{map_driver, column_at}

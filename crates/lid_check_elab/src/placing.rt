@@ -11,7 +11,7 @@ ghost use Rattle.lid_check_elab.specs.Scopes.{picked, IsSmallAt, ArePlaced, AreN
 ghost use Rattle.lid_check_elab.specs.Parts.{HasOffsets, IsTemplate, AreTemplates};
 
 use crate::driver::ColumnDriver;
-use crate::template::{LocalDriver, Template, place_driver};
+use crate::template::{Base, LocalDriver, Template, place_driver};
 use lid_base::Items;
 use lid_check_drivers::Judged;
 use std::alloc::{AllocError, Global};
@@ -39,20 +39,19 @@ pub fn push_drivers(
     alloc: Global,
     judged: &Judged<'_>,
     drivers: &mut Vec<ColumnDriver>,
-    start: u32,
-    offsets: &[u32],
-    around: Option<(u32, &[u32])>,
+    base: Base<'_>,
     locals: &[LocalDriver],
     picks: &[u32],
 ) -> Result<(), AllocError>
-    requires start { start ≤ 1048576 }
+    requires start { base.start ≤ 1048576 }
     requires picks { All (λ pick. pick < length locals.now) picks.now }
-    requires small { All (λ pick. IsSmallAt judged.now offsets.now (seen_around around) (slice_get locals.now pick)) picks.now }
-    ensures { OnOk result (map (shown_driver judged.now) drivers.new.items ≡ map (shown_driver judged.now) drivers.old.items ++ map (picked judged.now start offsets.now (seen_around around.entry) locals.now) picks.now) }
+    requires small { All (λ pick. IsSmallAt judged.now base.offsets.now (seen_around base.around) (slice_get locals.now pick)) picks.now }
+    ensures { OnOk result (map (shown_driver judged.now) drivers.new.items ≡ map (shown_driver judged.now) drivers.old.items
+        ++ map (picked judged.now base.start base.offsets.now (seen_around base.around.entry) locals.now) picks.now) }
 {
     for pick in picks {
         let local = &locals[*pick as usize];
-        drivers.push(place_driver(alloc, judged, start, offsets, around, local)?)?;
+        drivers.push(place_driver(alloc, judged, base, local)?)?;
     }
     Ok(())
 }
@@ -75,13 +74,16 @@ pub fn place_scope(
     let _ = judged.design();
     let template = scope_template(judged, templates, scope);
     let around = around_of(judged, templates, scope);
+    let base = Base {
+        start: scope.start,
+        offsets: template.offsets.as_slice(),
+        around,
+    };
     push_drivers(
         alloc,
         judged,
         drivers,
-        scope.start,
-        template.offsets.as_slice(),
-        around,
+        base,
         template.locals.as_slice(),
         template.picks.as_slice(),
     )
@@ -130,7 +132,8 @@ fn push_instances(
     requires there { (path : List ℕ) × IsScopeAt judged.now path scope }
     requires after { AreNext judged.now (scope.start + size_of judged.now scope.model) (reverse stack.now.items) }
     ensures next { OnOk result (AreNext judged.now (scope.start + length (model_nets judged.now scope.model)) (reverse stack.new.items)) }
-    ensures lighter { OnOk result (weights judged.now (reverse stack.new.items) + 1 ≡ weights judged.now (reverse stack.old.items) + weight_of judged.now scope.model) }
+    ensures lighter { OnOk result (weights judged.now (reverse stack.new.items) + 1
+        ≡ weights judged.now (reverse stack.old.items) + weight_of judged.now scope.model) }
 {
     let _ = judged.design();
     let mut i = offsets.len();
@@ -154,7 +157,10 @@ fn push_instance(
     requires exists { i < length offsets.now }
     requires after { AreNext judged.now (scope.start + offset_of judged.now scope.model (i + 1)) (reverse stack.now.items) }
     ensures next { OnOk result (AreNext judged.now (scope.start + offset_of judged.now scope.model i) (reverse stack.new.items)) }
-    ensures heavier { OnOk result (weights judged.now (reverse stack.new.items) + over_insts judged.now (weight_of judged.now) (take i (insts_of judged.now scope.model)) ≡ weights judged.now (reverse stack.old.items) + over_insts judged.now (weight_of judged.now) (take (i + 1) (insts_of judged.now scope.model))) }
+    ensures heavier { OnOk result (weights judged.now (reverse stack.new.items) + over_insts judged.now (weight_of judged.now)
+        (take i (insts_of judged.now scope.model))
+        ≡ weights judged.now (reverse stack.old.items) + over_insts judged.now (weight_of judged.now)
+        (take (i + 1) (insts_of judged.now scope.model))) }
 {
     let _ = judged.design();
     let inst = i as u32;

@@ -52,21 +52,34 @@ pub struct Template {
     pub actuals: Items<Items<u32>>,
 }
 
-/// What gives a column its bit, from what drives its net in its model. The columns of the place
-/// begin at `start`, those of its instances at `offsets` behind it. In an instance, `around` has the
-/// first column of the place around, and the nets there that the inputs are bound to.
+/// From where the columns of a scope are counted.
+#[derive(Clone, Copy)]
+pub struct Base<'t> {
+    /// The first column of the scope.
+    pub start: u32,
+    /// For each instance of its model, how many columns stand between the first and those of the instance.
+    pub offsets: &'t [u32],
+    /// In an instance, the first column of the scope around, and the nets there that its inputs are bound to.
+    pub around: Option<(u32, &'t [u32])>,
+}
+
+/// What gives a column its bit, from what drives its net in its model.
 pub fn place_driver(
     alloc: Global,
     judged: &Judged<'_>,
-    start: u32,
-    offsets: &[u32],
-    around: Option<(u32, &[u32])>,
+    base: Base<'_>,
     local: &LocalDriver,
 ) -> Result<ColumnDriver, AllocError>
-    requires start { start ≤ 1048576 }
-    requires small { IsSmallLocal offsets.now (seen_around around) (shown_local judged.now local.now) }
-    ensures { IfOk result (λ driver. shown_driver judged.now driver ≡ placed_driver start offsets.now (seen_around around.entry) (shown_local judged.now local.now)) }
+    requires start { base.start ≤ 1048576 }
+    requires small { IsSmallLocal base.offsets.now (seen_around base.around) (shown_local judged.now local.now) }
+    ensures { IfOk result (λ driver. shown_driver judged.now driver
+        ≡ placed_driver base.start base.offsets.now (seen_around base.around.entry) (shown_local judged.now local.now)) }
 {
+    let Base {
+        start,
+        offsets,
+        around,
+    } = base;
     let _ = judged;
     Ok(match local {
         LocalDriver::Input(place) => match around {

@@ -6,7 +6,7 @@ use Rattle.lid_design.specs.declared.Design.{Design}
 use Rattle.lid_design.specs.declared.Model.{Model}
 use Rattle.lid_design.specs.declared.Inst.{Inst}
 use Rattle.lid_design.specs.Columns.{Column, column, model_named, instance_model, model_at, is_clock, data_inputs, drivers}
-use Rattle.lid_design.specs.Walks.{Feeds, EdgesLead}
+use Rattle.lid_design.specs.Feeds.{Feeds, EdgesLead}
 use Rattle.lid_design.specs.Loops.{HasNoLoop, WalkInside}
 use Rattle.lid_check_loops.specs.Dependence.{HasNoDependence}
 use Rattle.lid_check_laws.specs.Plain.{IsRising, IsApart}

@@ -10,7 +10,7 @@ use Rattle.lid_design.specs.declared.Model.{Model}
 use Rattle.lid_design.specs.declared.Inst.{Inst}
 use Rattle.lid_design.specs.Columns.{Column, column, model_named, instance_model, model_at, data_inputs, drivers}
 use Rattle.lid_design.specs.Models.{insts_of}
-use Rattle.lid_design.specs.Walks.{Feeds}
+use Rattle.lid_design.specs.Feeds.{Feeds}
 use Rattle.lid_design.specs.Loops.{HasNoLoop, pearls}
 use Rattle.lid_design.specs.WellFormed.{IsWellFormed}
 use Rattle.lid_check_loops.specs.Dependence.{HasNoDependence}

@@ -3,7 +3,7 @@
 use Rattle.std.proofs.Common.{◌⊎◌, ℕ, zero, suc, ◌+◌, ◌<◌, ◌≤◌, List, inl, inr, subst, arith}
 use Rattle.lid_design.specs.Network.{Driver}
 use Rattle.lid_design.specs.Columns.{Column}
-use Rattle.lid_design.specs.Walks.{Feeds, EdgesLead}
+use Rattle.lid_design.specs.Feeds.{Feeds, EdgesLead}
 
 -- a walk along edges that keep a set stays in it
 pub walk_keeps : (drivers : Column → List (Driver Column)) (P : Column → Type 0) → ((a c : Column) → Feeds drivers a c → P a → P c) → (n : ℕ) (a c : Column) → EdgesLead drivers n a c → P a → P c

@@ -18,10 +18,12 @@ ghost use Rattle.lid_check_laws.specs.Plain.{IsPlainPearl, IsRising, IsApart, Ar
 /// no clock names, covers read lower nets than they drive, a set of nets parts the inputs from the
 /// outputs, and at most 262,144 cells drive, with the inputs, at most 1,048,576 nets.
 pub fn one_model_is_accepted()
-    ensures models { (d : Design) (m : Model) → slice_get d.models d.root ≡ Some m → IsPlainPearl m → length m.cells ≤ 262144 → length m.inputs + length m.cells ≤ 1048576 → ModelsPass d }
+    ensures models { (d : Design) (m : Model) → slice_get d.models d.root ≡ Some m → IsPlainPearl m → length m.cells ≤ 262144
+        → length m.inputs + length m.cells ≤ 1048576 → ModelsPass d }
     ensures loops { (d : Design) (m : Model) (heights : List (List ℕ × ℕ)) → slice_get d.models d.root ≡ Some m → m.insts ≡ [] → IsRising heights m → HasNoLoop d }
     ensures outputs { (d : Design) (m : Model) (late : List (List ℕ)) → slice_get d.models d.root ≡ Some m → m.insts ≡ [] → IsApart late m → HasNoDependence d }
-    ensures accepted { (d : Design) (m : Model) (heights : List (List ℕ × ℕ)) (late : List (List ℕ)) → slice_get d.models d.root ≡ Some m → IsPlainPearl m → IsRising heights m → IsApart late m → length m.cells ≤ 262144 → length m.inputs + length m.cells ≤ 1048576 → IsAccepted d }
+    ensures accepted { (d : Design) (m : Model) (heights : List (List ℕ × ℕ)) (late : List (List ℕ)) → slice_get d.models d.root ≡ Some m
+        → IsPlainPearl m → IsRising heights m → IsApart late m → length m.cells ≤ 262144 → length m.inputs + length m.cells ≤ 1048576 → IsAccepted d }
 {}
 
 /// A design whose root has instances is accepted where the root and the models of its instances meet the
@@ -30,14 +32,21 @@ pub fn one_model_is_accepted()
 /// Heights and sets of nets are told for each model. The cells are those of the root, its instances and the
 /// cells of their models, and there are no more nets than drivers in the root and in these models.
 pub fn roots_with_instances_are_accepted()
-    ensures models { (d : Design) (m : Model) → IsWellFormed d → slice_get d.models d.root ≡ Some m → IsPlainRoot d m → ((inst : Inst) (sub : Model) → Among inst m.insts → IsPlainInst d inst sub → AreParted sub) → count_cells d ≤ 262144 → count_nets d ≤ 1048576 → ModelsPass d }
-    ensures accepted { (d : Design) (m : Model) (heights : Model → List (List ℕ × ℕ)) (late : Model → List (List ℕ)) → IsWellFormed d → slice_get d.models d.root ≡ Some m → IsPlainRoot d m → IsRising (heights m) m → ((inst : Inst) (sub : Model) → Among inst m.insts → IsPlainInst d inst sub → IsRising (heights sub) sub × IsApart (late sub) sub) → count_cells d ≤ 262144 → count_nets d ≤ 1048576 → IsAccepted d }
+    ensures models { (d : Design) (m : Model) → IsWellFormed d → slice_get d.models d.root ≡ Some m → IsPlainRoot d m
+        → ((inst : Inst) (sub : Model) → Among inst m.insts → IsPlainInst d inst sub → AreParted sub) → count_cells d ≤ 262144
+        → count_nets d ≤ 1048576 → ModelsPass d }
+    ensures accepted { (d : Design) (m : Model) (heights : Model → List (List ℕ × ℕ)) (late : Model → List (List ℕ)) → IsWellFormed d
+        → slice_get d.models d.root ≡ Some m → IsPlainRoot d m → IsRising (heights m) m
+        → ((inst : Inst) (sub : Model) → Among inst m.insts → IsPlainInst d inst sub → IsRising (heights sub) sub × IsApart (late sub) sub)
+        → count_cells d ≤ 262144 → count_nets d ≤ 1048576 → IsAccepted d }
 {}
 
 /// The counts of a design whose root has instances, by the lists of its models.
 pub fn roots_with_instances_are_counted()
-    ensures cells { (d : Design) (m : Model) → IsWellFormed d → slice_get d.models d.root ≡ Some m → IsPlainRoot d m → count_cells d ≡ length m.cells + length m.insts + sum_by (cells_below d) m.insts }
-    ensures nets { (d : Design) (m : Model) → IsWellFormed d → slice_get d.models d.root ≡ Some m → IsPlainRoot d m → count_nets d ≤ length (root_drivers d m) + sum_by (nets_below d) m.insts }
+    ensures cells { (d : Design) (m : Model) → IsWellFormed d → slice_get d.models d.root ≡ Some m → IsPlainRoot d m
+        → count_cells d ≡ length m.cells + length m.insts + sum_by (cells_below d) m.insts }
+    ensures nets { (d : Design) (m : Model) → IsWellFormed d → slice_get d.models d.root ≡ Some m → IsPlainRoot d m
+        → count_nets d ≤ length (root_drivers d m) + sum_by (nets_below d) m.insts }
 {}
 
 /// A model of a well-formed design is the one that its name tells. So what an instance drives, and what is
@@ -49,6 +58,10 @@ pub fn models_are_found_by_name()
 /// Designs meet these facts: one of a model with an input, an output, a cover and a latch, and one with an
 /// instance of that model.
 pub fn some_designs_are_plain()
-    ensures lone { (d : Design) × (m : Model) × (heights : List (List ℕ × ℕ)) × (late : List (List ℕ)) × (slice_get d.models d.root ≡ Some m) × IsPlainPearl m × IsRising heights m × IsApart late m × (length m.inputs ≡ 1) × (length m.outputs ≡ 1) × (length m.cells ≡ 2) }
-    ensures assembled { (d : Design) × (m : Model) × (heights : Model → List (List ℕ × ℕ)) × (late : Model → List (List ℕ)) × IsWellFormed d × (slice_get d.models d.root ≡ Some m) × IsPlainRoot d m × IsRising (heights m) m × ((inst : Inst) (sub : Model) → Among inst m.insts → IsPlainInst d inst sub → IsRising (heights sub) sub × IsApart (late sub) sub) × (length m.inputs ≡ 1) × (length m.outputs ≡ 1) × (length m.insts ≡ 1) }
+    ensures lone { (d : Design) × (m : Model) × (heights : List (List ℕ × ℕ)) × (late : List (List ℕ)) × (slice_get d.models d.root ≡ Some m)
+        × IsPlainPearl m × IsRising heights m × IsApart late m × (length m.inputs ≡ 1) × (length m.outputs ≡ 1) × (length m.cells ≡ 2) }
+    ensures assembled { (d : Design) × (m : Model) × (heights : Model → List (List ℕ × ℕ)) × (late : Model → List (List ℕ)) × IsWellFormed d
+        × (slice_get d.models d.root ≡ Some m) × IsPlainRoot d m × IsRising (heights m) m
+        × ((inst : Inst) (sub : Model) → Among inst m.insts → IsPlainInst d inst sub → IsRising (heights sub) sub × IsApart (late sub) sub)
+        × (length m.inputs ≡ 1) × (length m.outputs ≡ 1) × (length m.insts ≡ 1) }
 {}

@@ -20,5 +20,6 @@ pub fn flat_parts_are_small()
     ensures drivers { (f : Flat) → IsFlat f → length f.ins + length f.latches + length f.covers ≡ f.nets }
     ensures reads { (f : Flat) → IsFlat f → sum_by (λ (c : FlatCover). length c.ins) f.covers ≤ 64 * f.nets }
     ensures nets { (d : Design) (pearl : ℕ) (part : PearlPart) (f : Flat) → IsAccepted d → IsPearlPart d pearl part → IsFlatOf d pearl f → f.nets ≤ 1048576 }
-    ensures cells { (d : Design) (pearl : ℕ) (part : PearlPart) (f : Flat) → IsAccepted d → IsPearlPart d pearl part → IsFlatOf d pearl f → IsFlat f → length f.latches + count_logic f.covers ≤ 262144 }
+    ensures cells { (d : Design) (pearl : ℕ) (part : PearlPart) (f : Flat) → IsAccepted d → IsPearlPart d pearl part → IsFlatOf d pearl f → IsFlat f
+        → length f.latches + count_logic f.covers ≤ 262144 }
 {}

@@ -11,7 +11,7 @@ use Rattle.lid_check_hierarchy.proofs.Fixpoints.{find_position}
 use Rattle.lid_design.specs.declared.Design.{Design}
 use Rattle.lid_design.specs.Network.{Driver}
 use Rattle.lid_design.specs.Columns.{Column, column, drivers, model_at}
-use Rattle.lid_design.specs.Walks.{Feeds}
+use Rattle.lid_design.specs.Feeds.{Feeds}
 use Rattle.lid_design.specs.Models.{number_from, data_inputs_of}
 use Rattle.lid_design.specs.Elaboration.{model_nets, columns}
 use Rattle.lid_design.specs.Loops.{IsInside, WalkInside, IsDependent}

@@ -14,7 +14,7 @@ use Rattle.lid_design.specs.declared.Model.{Model}
 use Rattle.lid_design.specs.declared.Inst.{Inst}
 use Rattle.lid_design.specs.Network.{Driver}
 use Rattle.lid_design.specs.Columns.{Column, column, drivers, model_named, instance_model, model_at}
-use Rattle.lid_design.specs.Walks.{Feeds}
+use Rattle.lid_design.specs.Feeds.{Feeds}
 use Rattle.lid_design.specs.Models.{insts_of, number_named, instance_number, number_from}
 use Rattle.lid_design.specs.Elaboration.{model_nets, columns}
 use Rattle.lid_design.specs.Loops.{IsInside, pearls}

@@ -7,7 +7,7 @@ use Rattle.lid_base.proofs.Lists.{among_left, among_filter, filter_among, map_am
 use Rattle.lid_design.specs.declared.Design.{Design}
 use Rattle.lid_design.specs.declared.Model.{Model}
 use Rattle.lid_design.specs.Columns.{Column, column, is_clock, data_inputs, drivers}
-use Rattle.lid_design.specs.Walks.{Feeds}
+use Rattle.lid_design.specs.Feeds.{Feeds}
 use Rattle.lid_design.specs.Models.{cell_names, actual_names, occurrences, firsts, nets, insts_of, number_named, instance_number, number_from, data_inputs_of}
 use Rattle.lid_design.specs.Elaboration.{Instance, instances_in, instances, model_nets, columns_at, columns}
 use Rattle.lid_check_drivers.proofs.Wired.{firsts_among}

@@ -7,7 +7,8 @@ use Rattle.lid_base.proofs.Lists.{among_left, among_map, map_among, among_get, a
 use Rattle.lid_design.specs.declared.Design.{Design}
 use Rattle.lid_design.specs.Network.{Driver, from_input, from_latch, from_cover, from_connection}
 use Rattle.lid_design.specs.Columns.{Column, column, drivers}
-use Rattle.lid_design.specs.Walks.{read_now, read_before, Feeds, EdgesLead as WalkOf}
+use Rattle.lid_design.specs.Walks.{read_before}
+use Rattle.lid_design.specs.Feeds.{read_now, Feeds, EdgesLead as WalkOf}
 use Rattle.lid_design.specs.Elaboration.{columns}
 use Rattle.lid_design.specs.Loops.{IsOnLoop as IsColumnOnLoop, HasNoLoop as HasNoColumnLoop}
 use Rattle.lid_check_digraph.specs.Graphs.{reads_at, IsGraph, EdgesLead, IsOnLoop, HasNoLoop}

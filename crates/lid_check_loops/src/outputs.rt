@@ -57,7 +57,8 @@ fn find_input(
     requires cut { length cut.now ≡ length graph.now.reads.now }
     requires few { length graph.now.reads.now ≤ 1048576 }
     requires fits { IsFittingPearl survey.now (length graph.now.reads.now) pearl }
-    requires some { (input : List ℕ) × Among input (data_inputs_of survey.now pearl.model) × LeadsInPearl survey.now graph.now.reads.now cut.now pearl input output.now }
+    requires some { (input : List ℕ) × Among input (data_inputs_of survey.now pearl.model)
+        × LeadsInPearl survey.now graph.now.reads.now cut.now pearl input output.now }
     ensures { IfOk result (IsFirstInput survey.now graph.now.reads.now cut.now pearl output.now) }
 {
     let Some(end) = number_of(survey, pearl, output) else {

@@ -103,7 +103,8 @@ fn count_with_insts(
 
 /// Adds the count of the model of an instance.
 fn join_inst(survey: &Survey<'_>, what: Measure, k: u32, i: u32, count: u64, counts: &[u64]) -> u64
-    ensures { (inst : Inst) → slice_get (insts_of survey.now k) i ≡ Some inst → result ≡ min (with_inst what survey.now (λ j. slice_index_or counts.now j 0) count inst) 18446744073709551615 }
+    ensures { (inst : Inst) → slice_get (insts_of survey.now k) i ≡ Some inst
+        → result ≡ min (with_inst what survey.now (λ j. slice_index_or counts.now j 0) count inst) 18446744073709551615 }
 {
     match survey.model_of(k, i) {
         Some(sub) => join(what, count, read(counts, sub)),

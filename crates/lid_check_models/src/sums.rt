@@ -8,5 +8,6 @@ ghost use Rattle.lid_check_models.specs.Counts.{own, count_of};
 /// What is counted in a model is the sum, over the model and all instances in it by all paths, of what
 /// each has itself; but for the depth, which is no sum. This does nothing; its contract is the law.
 pub fn counts_are_sums()
-    ensures { (what : Measure) (d : Design) (k : ℕ) → (what ≡ Depth → ⊥) → count_of what d k ≡ sum_by (λ p. own what d p.model) (instances_in (length d.models) d [] k) }
+    ensures { (what : Measure) (d : Design) (k : ℕ) → (what ≡ Depth → ⊥)
+        → count_of what d k ≡ sum_by (λ p. own what d p.model) (instances_in (length d.models) d [] k) }
 {}

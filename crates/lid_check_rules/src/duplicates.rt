@@ -134,7 +134,8 @@ fn is_duplicate(is_root: bool, lists: &Lists<'_>, name: &[u8]) -> bool
 
 /// Whether a name stands among the outputs of a model, and among its inputs or clocks.
 fn is_both_ways(lists: &Lists<'_>, name: &[u8]) -> bool
-    ensures { result ≡ (is_among name.now lists.now.model.now.outputs && (is_among name.now lists.now.model.now.inputs || is_among name.now lists.now.model.now.clocks)) }
+    ensures { result ≡ (is_among name.now lists.now.model.now.outputs
+        && (is_among name.now lists.now.model.now.inputs || is_among name.now lists.now.model.now.clocks)) }
 {
     lists.outputs.all.has(name) && (lists.inputs.all.has(name) || lists.clocks.all.has(name))
 }

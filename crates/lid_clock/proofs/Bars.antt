@@ -30,12 +30,12 @@ pub sees : (l : Life) (k g v fired : ℕ) (a : ClockActor) (stations : List Cloc
 sees l k g v fired a stations actor beside =
     record {
       ins = λ i within.
-          let is = drained_is (links_of l.system) l.placement v i _ (reads_own a.ins.items (ins_of l v) i actor.drains within) in
+          let is = drained_is (links_of l.setup.system) l.setup.placement v i _ (reads_own a.ins.items (ins_of l v) i actor.drains within) in
           let low : get_or a.ins.items i 0 < stations_of l = is.0 in
           let many : length stations ≡ stations_of l = beside.many in
           omega arith;
       outs = λ i within.
-          let is = filled_is (links_of l.system) l.placement v i _ (reads_own a.outs.items (outs_of l v) i actor.fills within) in
+          let is = filled_is (links_of l.setup.system) l.setup.placement v i _ (reads_own a.outs.items (outs_of l v) i actor.fills within) in
           let low : get_or a.outs.items i 0 < stations_of l = is.0 in
           let many : length stations ≡ stations_of l = beside.many in
           omega arith;
@@ -62,31 +62,31 @@ read_at l k place number reads own stations same stated beside there =
 
 -- where an actor sees no bar, it may fire
 pub may_fire : (l : Life) (k g v : ℕ) (a : ClockActor) (stations : List ClockStation) → IsActor l g v (fired_after l k v) a → AreStations l k stations → SeesNoBar a stations
-    → MayFire (links_of l.system) l.placement (length l.input) (fired_after l k) v
+    → MayFire (links_of l.setup.system) l.setup.placement (length l.setup.input) (fired_after l k) v
 may_fire l k g v a stations actor beside clear =
     record {
-      below = subst (λ (n : ℕ). n < cap_of (links_of l.system) (length l.input) v) actor.fired_is (subst (λ (n : ℕ). a.fired < n) actor.capped clear.below);
+      below = subst (λ (n : ℕ). n < cap_of (links_of l.setup.system) (length l.setup.input) v) actor.fired_is (subst (λ (n : ℕ). a.fired < n) actor.capped clear.below);
       tokens = λ station there drains.
-          let place = drained_there (links_of l.system) l.placement v station there drains in
+          let place = drained_there (links_of l.setup.system) l.setup.placement v station there drains in
           let read = read_at l k place.0 station a.ins.items (ins_of l v) stations actor.drains place.1 beside there in
           let x = read.station in
           let some : x.taken < x.put = clear.hold place.0 read.within x read.at in
           subst (λ (n : ℕ). n < put_after l k station) read.is.taken_is (subst (λ (n : ℕ). x.taken < n) read.is.put_is some);
       room = λ station there fills.
-          let place = filled_there (links_of l.system) l.placement v station there fills in
+          let place = filled_there (links_of l.setup.system) l.setup.placement v station there fills in
           let read = read_at l k place.0 station a.outs.items (outs_of l v) stations actor.fills place.1 beside there in
           let x = read.station in
           let some : x.put < x.taken + length x.places.items = clear.room place.0 read.within x read.at in
-          subst (λ (n : ℕ). n < taken_after l k station + capacity l.placement station) read.is.put_is
-          (subst (λ (n : ℕ). x.put < n + capacity l.placement station) read.is.taken_is
+          subst (λ (n : ℕ). n < taken_after l k station + capacity l.setup.placement station) read.is.put_is
+          (subst (λ (n : ℕ). x.put < n + capacity l.setup.placement station) read.is.taken_is
           (subst (λ (n : ℕ). x.put < x.taken + n) read.is.size some));
     }
 
 finds_void : (l : Life) (k g v : ℕ) (a : ClockActor) (stations : List ClockStation) → IsActor l g v (fired_after l k v) a → AreStations l k stations → OneIsEmpty a.ins.items stations
-    → FindsVoid (links_of l.system) l.placement (length l.input) (fired_after l k) v
+    → FindsVoid (links_of l.setup.system) l.setup.placement (length l.setup.input) (fired_after l k) v
 finds_void l k g v a stations actor beside one =
     let station : ℕ = get_or a.ins.items one.place 0 in
-    let own = drained_is (links_of l.system) l.placement v one.place station (reads_own a.ins.items (ins_of l v) one.place actor.drains one.within) in
+    let own = drained_is (links_of l.setup.system) l.setup.placement v one.place station (reads_own a.ins.items (ins_of l v) one.place actor.drains one.within) in
     let is : IsStation l station (put_after l k station) (taken_after l k station) one.station = beside.each station one.station one.is in
     record {
       station = station;
@@ -96,25 +96,25 @@ finds_void l k g v a stations actor beside one =
     }
 
 finds_stop : (l : Life) (k g v : ℕ) (a : ClockActor) (stations : List ClockStation) → IsActor l g v (fired_after l k v) a → AreStations l k stations → OneIsFull a.outs.items stations
-    → FindsStop (links_of l.system) l.placement (length l.input) (fired_after l k) v
+    → FindsStop (links_of l.setup.system) l.setup.placement (length l.setup.input) (fired_after l k) v
 finds_stop l k g v a stations actor beside one =
     let station : ℕ = get_or a.outs.items one.place 0 in
-    let own = filled_is (links_of l.system) l.placement v one.place station (reads_own a.outs.items (outs_of l v) one.place actor.fills one.within) in
+    let own = filled_is (links_of l.setup.system) l.setup.placement v one.place station (reads_own a.outs.items (outs_of l v) one.place actor.fills one.within) in
     let is : IsStation l station (put_after l k station) (taken_after l k station) one.station = beside.each station one.station one.is in
     record {
       station = station;
       there = own.0;
       fills = own.1;
       stop =
-          subst (λ (n : ℕ). taken_after l k station + capacity l.placement station ≤ n) is.put_is
-          (subst (λ (n : ℕ). n + capacity l.placement station ≤ one.station.put) is.taken_is
+          subst (λ (n : ℕ). taken_after l k station + capacity l.setup.placement station ≤ n) is.put_is
+          (subst (λ (n : ℕ). n + capacity l.setup.placement station ≤ one.station.put) is.taken_is
           (subst (λ (n : ℕ). one.station.taken + n ≤ one.station.put) is.size one.so));
     }
 
 -- where it sees one, it may not
 pub may_not_fire : (l : Life) (k g v : ℕ) (a : ClockActor) (stations : List ClockStation) → IsActor l g v (fired_after l k v) a → AreStations l k stations → SeesBar a stations
-    → MayNotFire (links_of l.system) l.placement (length l.input) (fired_after l k) v
+    → MayNotFire (links_of l.setup.system) l.setup.placement (length l.setup.input) (fired_after l k) v
 may_not_fire l k g v a stations actor beside (inl at_cap) =
-    inl (subst (λ (n : ℕ). cap_of (links_of l.system) (length l.input) v ≤ n) actor.fired_is (subst (λ (n : ℕ). n ≤ a.fired) actor.capped at_cap))
+    inl (subst (λ (n : ℕ). cap_of (links_of l.setup.system) (length l.setup.input) v ≤ n) actor.fired_is (subst (λ (n : ℕ). n ≤ a.fired) actor.capped at_cap))
 may_not_fire l k g v a stations actor beside (inr (inl void)) = inr (inl (finds_void l k g v a stations actor beside void))
 may_not_fire l k g v a stations actor beside (inr (inr stop)) = inr (inr (finds_stop l k g v a stations actor beside stop))

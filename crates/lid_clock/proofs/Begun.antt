@@ -124,11 +124,11 @@ module _ (r : RunsGoByRules) (s : System) (p : Placement) (well : IsWellFormed s
 
 -- a run that was built of what a life starts with is built of that life
 pub built_of_life : (l : Life) (s : System) (p : Placement) (rows : ℕ) (first : Option (List Bool)) (actors : List ClockActor) (stations : List ClockStation) → StartsSo l s p rows first → IsBuilt s p rows first actors stations
-    → IsBuilt l.system l.placement (length l.input) (slice_get l.input 0) actors stations
+    → IsBuilt l.setup.system l.setup.placement (length l.setup.input) (slice_get l.setup.input 0) actors stations
 built_of_life l s p rows first actors stations so is =
-    subst (λ (x : System). IsBuilt x l.placement (length l.input) (slice_get l.input 0) actors stations) (sym so.of)
-    (subst (λ (x : Placement). IsBuilt s x (length l.input) (slice_get l.input 0) actors stations) (sym so.stations)
-    (subst (λ (n : ℕ). IsBuilt s p n (slice_get l.input 0) actors stations) (sym so.many)
+    subst (λ (x : System). IsBuilt x l.setup.placement (length l.setup.input) (slice_get l.setup.input 0) actors stations) (sym so.of)
+    (subst (λ (x : Placement). IsBuilt s x (length l.setup.input) (slice_get l.setup.input 0) actors stations) (sym so.stations)
+    (subst (λ (n : ℕ). IsBuilt s p n (slice_get l.setup.input 0) actors stations) (sym so.many)
     (subst (λ (x : Option (List Bool)). IsBuilt s p rows x actors stations) (sym so.begins) is)))
 
 module _ (r : RunsGoByRules) (l : Life) (life : IsLife l) where
@@ -138,41 +138,41 @@ module _ (r : RunsGoByRules) (l : Life) (life : IsLife l) where
   none_fired v = refl
 
   -- the row that the source holds is the first one
-  first_held : (row : List Bool) → IfSome (slice_get l.input 0) (λ given. row ≡ given) → 0 < length l.input → slice_get l.input 0 ≡ Some row
+  first_held : (row : List Bool) → IfSome (slice_get l.setup.input 0) (λ given. row ≡ given) → 0 < length l.setup.input → slice_get l.setup.input 0 ≡ Some row
   first_held row held some =
-      let given = item_at l.input 0 some in
+      let given = item_at l.setup.input 0 some in
       let same : row ≡ given.0 = MatchOption-at_some ⊤ (λ (x : List Bool). row ≡ x) given.0 given.1 held in
       given.1 ∙ ap (λ (x : List Bool). Some x) (sym same)
 
-  new_part : (v : ℕ) (part : Role) → IsNewRole l.system (slice_get l.input 0) v part → IsRole l (min 1 (length l.input)) v 0 part
+  new_part : (v : ℕ) (part : Role) → IsNewRole l.setup.system (slice_get l.setup.input 0) v part → IsRole l (min 1 (length l.setup.input)) v 0 part
   new_part v (Source node row) new = (
     new.0,
     new.1,
     λ some.
-        let none : min 1 (length l.input) - 1 ≡ 0 = omega arith in
+        let none : min 1 (length l.setup.input) - 1 ≡ 0 = omega arith in
         record {
           next = omega arith;
           near = omega arith;
-          is = ap (slice_get l.input) none ∙ first_held row.items new.3 some;
+          is = ap (slice_get l.setup.input) none ∙ first_held row.items new.3 some;
         },
   )
-  new_part v (Shell node) new = (new.0, new.1, new.2 l.table)
+  new_part v (Shell node) new = (new.0, new.1, new.2 l.setup.table)
   new_part v Mover new = new
   new_part v (Sink node row) new = new.0
 
   -- what a node but the sink shows are the tokens of the first row
-  shown : (v : ℕ) (part : Role) (tokens : List ℕ) → IsNewRole l.system (slice_get l.input 0) v part → ShowsFirstTokens part tokens → v < length l.system.nodes → v + 1 ≢ length l.system.nodes → 0 < length l.input → tokens ≡ tokens_from l.system l.table v 0
+  shown : (v : ℕ) (part : Role) (tokens : List ℕ) → IsNewRole l.setup.system (slice_get l.setup.input 0) v part → ShowsFirstTokens part tokens → v < length l.setup.system.nodes → v + 1 ≢ length l.setup.system.nodes → 0 < length l.setup.input → tokens ≡ tokens_from l.setup.system l.setup.table v 0
   shown v (Source node row) tokens new shows node_is not_sink some =
-      shows l.system l.input l.table 0 life.system new.1 life.table (first_held row.items new.3 some) ∙ ap (λ (u : ℕ). tokens_from l.system l.table u 0) (sym new.0)
-  shown v (Shell node) tokens new shows node_is not_sink some = shows l.system l.input l.table v 0 life.system life.table some (new.2 l.table)
-  shown v Mover tokens new shows node_is not_sink some = let past : length l.system.nodes ≤ v = new in absurd (omega arith)
+      shows l.setup.system l.setup.input l.setup.table 0 life.system new.1 life.table (first_held row.items new.3 some) ∙ ap (λ (u : ℕ). tokens_from l.setup.system l.setup.table u 0) (sym new.0)
+  shown v (Shell node) tokens new shows node_is not_sink some = shows l.setup.system l.setup.input l.setup.table v 0 life.system life.table some (new.2 l.setup.table)
+  shown v Mover tokens new shows node_is not_sink some = let past : length l.setup.system.nodes ≤ v = new in absurd (omega arith)
   shown v (Sink node row) tokens new shows node_is not_sink some = absurd (not_sink new.0.last)
 
-  module _ (actors : List ClockActor) (stations : List ClockStation) (is : IsBuilt l.system l.placement (length l.input) (slice_get l.input 0) actors stations) where
-    new_actor : (v : ℕ) (a : ClockActor) → slice_get actors v ≡ Some a → IsActor l (min 1 (length l.input)) v (fired_after l 0 v) a
+  module _ (actors : List ClockActor) (stations : List ClockStation) (is : IsBuilt l.setup.system l.setup.placement (length l.setup.input) (slice_get l.setup.input 0) actors stations) where
+    new_actor : (v : ℕ) (a : ClockActor) → slice_get actors v ≡ Some a → IsActor l (min 1 (length l.setup.input)) v (fired_after l 0 v) a
     new_actor v a at =
-        let own : IsActorJoined (links_of l.system) l.placement (station_count l.placement.relays) v a = is.joined.each v a at in
-        let new : IsNew l.system (length l.input) (slice_get l.input 0) v a = is.new v a at in
+        let own : IsActorJoined (links_of l.setup.system) l.setup.placement (station_count l.setup.placement.relays) v a = is.joined.each v a at in
+        let new : IsNew l.setup.system (length l.setup.input) (slice_get l.setup.input 0) v a = is.new v a at in
         let within : v < length actors = slice_get_within actors v a at in
         let many : length actors ≡ actors_of l = is.joined.many in
         record {
@@ -182,45 +182,45 @@ module _ (r : RunsGoByRules) (l : Life) (life : IsLife l) where
           capped = new.capped;
           fired_is = new.fired_is ∙ sym (none_fired v);
           places = is.places v a at;
-          is = subst (λ (n : ℕ). IsRole l (min 1 (length l.input)) v n a.part) (sym (none_fired v)) (new_part v a.part new.is);
+          is = subst (λ (n : ℕ). IsRole l (min 1 (length l.setup.input)) v n a.part) (sym (none_fired v)) (new_part v a.part new.is);
         }
 
     -- a station that a node fills starts with that node's token of the first row
-    first_token : (i slot : ℕ) (a : ClockActor) → i < stations_of l → slice_get actors (filler (links_of l.system) l.placement i) ≡ Some a → filler (links_of l.system) l.placement i < length l.system.nodes → 0 < length l.input
-        → slot ≡ length (filled_of (links_of l.system) l.placement i (filler (links_of l.system) l.placement i)) → get_or a.tokens.items slot 0 ≡ token_of_life l i 0
+    first_token : (i slot : ℕ) (a : ClockActor) → i < stations_of l → slice_get actors (filler (links_of l.setup.system) l.setup.placement i) ≡ Some a → filler (links_of l.setup.system) l.setup.placement i < length l.setup.system.nodes → 0 < length l.setup.input
+        → slot ≡ length (filled_of (links_of l.setup.system) l.setup.placement i (filler (links_of l.setup.system) l.setup.placement i)) → get_or a.tokens.items slot 0 ≡ token_of_life l i 0
     first_token i slot a there at node some is_slot =
-        let v : ℕ = filler (links_of l.system) l.placement i in
-        let not_sink = (r.between l.system l.placement i life.system life.fits there).not_sink in
-        let tokens : a.tokens.items ≡ tokens_from l.system l.table v 0 = shown v a.part a.tokens.items (is.new v a at).is (is.shows some v a at) node not_sink some in
-        let own : a.tokens.items ≡ map (λ station. token_of_life l station 0) (outs_of l v) = tokens ∙ sym (r.filled l.system l.placement l.table v 0 life.system life.fits node) in
-        let place : slice_get (outs_of l v) slot ≡ Some i = subst (λ (n : ℕ). slice_get (outs_of l v) n ≡ Some i) (sym is_slot) (slot_at (links_of l.system) l.placement i there) in
+        let v : ℕ = filler (links_of l.setup.system) l.setup.placement i in
+        let not_sink = (r.between l.setup.system l.setup.placement i life.system life.fits there).not_sink in
+        let tokens : a.tokens.items ≡ tokens_from l.setup.system l.setup.table v 0 = shown v a.part a.tokens.items (is.new v a at).is (is.shows some v a at) node not_sink some in
+        let own : a.tokens.items ≡ map (λ station. token_of_life l station 0) (outs_of l v) = tokens ∙ sym (r.filled l.setup.system l.setup.placement l.setup.table v 0 life.system life.fits node) in
+        let place : slice_get (outs_of l v) slot ≡ Some i = subst (λ (n : ℕ). slice_get (outs_of l v) n ≡ Some i) (sym is_slot) (slot_at (links_of l.setup.system) l.setup.placement i there) in
         ap (λ (xs : List ℕ). get_or xs slot 0) own
         ∙ get_or-map (λ (station : ℕ). token_of_life l station 0) (outs_of l v) slot 0 0 (slice_get_within (outs_of l v) slot i place)
         ∙ ap (λ (station : ℕ). token_of_life l station 0) (get_or_from_slice_get (outs_of l v) slot i 0 place)
 
     -- a station that gained its filler's token
-    gained : (i : ℕ) (x y : ClockStation) → i < stations_of l → IsLaid (links_of l.system) l.placement i y → nat_lt 0 (length l.input) ≡ true → y.filler < length l.system.nodes → HasGained actors y x
+    gained : (i : ℕ) (x y : ClockStation) → i < stations_of l → IsLaid (links_of l.setup.system) l.setup.placement i y → nat_lt 0 (length l.setup.input) ≡ true → y.filler < length l.setup.system.nodes → HasGained actors y x
         → IsStation l i (put_after l 0 i) (taken_after l 0 i) x
     gained i x y there laid rows node has =
-        let links : Links = links_of l.system in
-        let some : 0 < length l.input = ltb-true 0 (length l.input) rows in
-        let fills : y.filler ≡ filler links l.placement i = laid.empty.filled in
-        let one : start_count l.placement i ≡ 1 = elim (r.starts l.system l.placement i life.system life.fits there) [
+        let links : Links = links_of l.setup.system in
+        let some : 0 < length l.setup.input = ltb-true 0 (length l.setup.input) rows in
+        let fills : y.filler ≡ filler links l.setup.placement i = laid.empty.filled in
+        let one : start_count l.setup.placement i ≡ 1 = elim (r.starts l.setup.system l.setup.placement i life.system life.fits there) [
           | inl h ↦ h.1
-          | inr h ↦ (let past : length l.system.nodes ≤ filler links l.placement i = h.0 in absurd (omega arith))
+          | inr h ↦ (let past : length l.setup.system.nodes ≤ filler links l.setup.placement i = h.0 in absurd (omega arith))
         ] in
-        let none_put : fired_after l 0 (filler links l.placement i) ≡ 0 = none_fired (filler links l.placement i) in
-        let none_taken : fired_after l 0 (drainer links l.placement i) ≡ 0 = none_fired (drainer links l.placement i) in
-        let below : filler links l.placement i < actors_of l = (r.between l.system l.placement i life.system life.fits there).filled in
+        let none_put : fired_after l 0 (filler links l.setup.placement i) ≡ 0 = none_fired (filler links l.setup.placement i) in
+        let none_taken : fired_after l 0 (drainer links l.setup.placement i) ≡ 0 = none_fired (drainer links l.setup.placement i) in
+        let below : filler links l.setup.placement i < actors_of l = (r.between l.setup.system l.setup.placement i life.system life.fits there).filled in
         let many : length actors ≡ actors_of l = is.joined.many in
-        let filling = item_at actors (filler links l.placement i) (omega arith) in
+        let filling = item_at actors (filler links l.setup.placement i) (omega arith) in
         let at : slice_get actors y.filler ≡ Some filling.0 = ap (slice_get actors) fills ∙ filling.1 in
         let token : token_in x.places.items 0 ≡ token_of_life l i 0 = has.token filling.0 at ∙ first_token i y.slot filling.0 there filling.1 (omega arith) some laid.slot in
         let put : x.put ≡ 1 = has.put_is in
         record {
           filled = has.filled ∙ fills;
           slot = subst (λ (v : ℕ). slice_get (outs_of l v) x.slot ≡ Some i) (sym (has.filled ∙ fills))
-              (subst (λ (n : ℕ). slice_get (outs_of l (filler links l.placement i)) n ≡ Some i) (sym (has.slot ∙ laid.slot)) (slot_at links l.placement i there));
+              (subst (λ (n : ℕ). slice_get (outs_of l (filler links l.setup.placement i)) n ≡ Some i) (sym (has.slot ∙ laid.slot)) (slot_at links l.setup.placement i there));
           drained = has.drained ∙ laid.empty.drained;
           put_is = omega arith;
           taken_is = has.taken_is ∙ sym none_taken;
@@ -231,25 +231,25 @@ module _ (r : RunsGoByRules) (l : Life) (life : IsLife l) where
         }
 
     -- a station that starts with none
-    empty : (i : ℕ) (x : ClockStation) → i < stations_of l → IsLaid (links_of l.system) l.placement i x → (nat_lt 0 (length l.input) ≡ false) ⊎ (length l.system.nodes ≤ x.filler)
+    empty : (i : ℕ) (x : ClockStation) → i < stations_of l → IsLaid (links_of l.setup.system) l.setup.placement i x → (nat_lt 0 (length l.setup.input) ≡ false) ⊎ (length l.setup.system.nodes ≤ x.filler)
         → IsStation l i (put_after l 0 i) (taken_after l 0 i) x
     empty i x there laid why =
-        let links : Links = links_of l.system in
-        let fills : x.filler ≡ filler links l.placement i = laid.empty.filled in
-        let none_put : fired_after l 0 (filler links l.placement i) ≡ 0 = none_fired (filler links l.placement i) in
-        let none_taken : fired_after l 0 (drainer links l.placement i) ≡ 0 = none_fired (drainer links l.placement i) in
+        let links : Links = links_of l.setup.system in
+        let fills : x.filler ≡ filler links l.setup.placement i = laid.empty.filled in
+        let none_put : fired_after l 0 (filler links l.setup.placement i) ≡ 0 = none_fired (filler links l.setup.placement i) in
+        let none_taken : fired_after l 0 (drainer links l.setup.placement i) ≡ 0 = none_fired (drainer links l.setup.placement i) in
         let put : x.put ≡ 0 = laid.empty.put_is in
-        let none : starts_with l.placement (length l.input) i ≡ 0 = elim why [
-          | inl no_rows ↦ (let rows : length l.input ≤ 0 = ltb-false 0 (length l.input) no_rows in omega arith)
-          | inr past ↦ elim (r.starts l.system l.placement i life.system life.fits there) [
-            | inl h ↦ (let node : filler links l.placement i < length l.system.nodes = h.0 in absurd (omega arith))
-            | inr h ↦ (let zero_start : start_count l.placement i ≡ 0 = h.1 in omega arith)
+        let none : starts_with l.setup.placement (length l.setup.input) i ≡ 0 = elim why [
+          | inl no_rows ↦ (let rows : length l.setup.input ≤ 0 = ltb-false 0 (length l.setup.input) no_rows in omega arith)
+          | inr past ↦ elim (r.starts l.setup.system l.setup.placement i life.system life.fits there) [
+            | inl h ↦ (let node : filler links l.setup.placement i < length l.setup.system.nodes = h.0 in absurd (omega arith))
+            | inr h ↦ (let zero_start : start_count l.setup.placement i ≡ 0 = h.1 in omega arith)
           ]
         ] in
         record {
           filled = fills;
           slot = subst (λ (v : ℕ). slice_get (outs_of l v) x.slot ≡ Some i) (sym fills)
-              (subst (λ (n : ℕ). slice_get (outs_of l (filler links l.placement i)) n ≡ Some i) (sym laid.slot) (slot_at links l.placement i there));
+              (subst (λ (n : ℕ). slice_get (outs_of l (filler links l.setup.placement i)) n ≡ Some i) (sym laid.slot) (slot_at links l.setup.placement i there));
           drained = laid.empty.drained;
           put_is = omega arith;
           taken_is = laid.empty.taken_is ∙ sym none_taken;
@@ -261,7 +261,7 @@ module _ (r : RunsGoByRules) (l : Life) (life : IsLife l) where
     new_station i x at =
         let within : i < length stations = slice_get_within stations i x at in
         let many : length stations ≡ stations_of l = is.many in
-        let begun : HasBegun l.system l.placement (length l.input) actors i x = is.each i x at in
+        let begun : HasBegun l.setup.system l.setup.placement (length l.setup.input) actors i x = is.each i x at in
         elim begun.begins [
           | inl h ↦ gained i x begun.was (omega arith) begun.laid h.0 h.1 h.2
           | inr h ↦ subst (λ (y : ClockStation). IsStation l i (put_after l 0 i) (taken_after l 0 i) y) (sym h.1) (empty i begun.was (omega arith) begun.laid h.0)
@@ -276,15 +276,15 @@ module _ (r : RunsGoByRules) (l : Life) (life : IsLife l) where
         }
 
     -- so it is a run that has not yet made a cycle
-    pub starts : (x : ClockStream) (g : ℕ) → x.actors.items ≡ actors → x.stations.items ≡ stations → x.rows ≡ length l.input → x.given ≡ min 1 (length l.input) → x.sink ≡ sink l → g ≡ min 1 (length l.input) → Ran l 0 g x
+    pub starts : (x : ClockStream) (g : ℕ) → x.actors.items ≡ actors → x.stations.items ≡ stations → x.rows ≡ length l.setup.input → x.given ≡ min 1 (length l.setup.input) → x.sink ≡ sink l → g ≡ min 1 (length l.setup.input) → Ran l 0 g x
     starts x g own_actors own_stations rows given last as_given =
-        let run : Ran l 0 (min 1 (length l.input)) x = record {
+        let run : Ran l 0 (min 1 (length l.setup.input)) x = record {
           rules = life;
           rows_are = rows;
           given_is = given;
           few = omega arith;
           sink_is = last;
-          all_actors = subst (λ (xs : List ClockActor). AreActors l 0 (min 1 (length l.input)) xs) (sym own_actors) (record { many = is.joined.many; each = new_actor });
+          all_actors = subst (λ (xs : List ClockActor). AreActors l 0 (min 1 (length l.setup.input)) xs) (sym own_actors) (record { many = is.joined.many; each = new_actor });
           all_stations = subst (λ (xs : List ClockStation). AreStations l 0 xs) (sym own_stations) (record { many = is.many; each = new_station });
           latest = subst (λ (xs : List ClockActor). (a : ClockActor) → slice_get xs (sink l) ≡ Some a → IsLatest l 0 a) (sym own_actors) latest;
         } in

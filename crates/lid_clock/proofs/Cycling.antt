@@ -17,7 +17,7 @@ use Rattle.lid_base.proofs.Places.{item_at}
 -- the source of a run
 pub source_of : (l : Life) (k g : ℕ) (x : ClockStream) → Ran l k g x → (a : ClockActor) × (slice_get x.actors.items 0 ≡ Some a)
 source_of l k g x ran =
-    let least : 2 ≤ length l.system.nodes = ran.rules.system.least in
+    let least : 2 ≤ length l.setup.system.nodes = ran.rules.system.least in
     let many : length x.actors.items ≡ actors_of l = ran.all_actors.many in
     item_at x.actors.items 0 (omega arith)
 
@@ -29,9 +29,9 @@ needs_too l m k g j h x ran too needs =
     let other : source.0.fired ≡ fired_after m j 0 = fired_is m j h 0 x source.0 too source.1 in
     let given : x.given ≡ g = ran.given_is in
     let as_given : x.given ≡ h = too.given_is in
-    let rows : x.rows ≡ length l.input = ran.rows_are in
-    let as_many : x.rows ≡ length m.input = too.rows_are in
-    let more : fired_after l k 0 + 1 < length l.input = needs.goes_on in
+    let rows : x.rows ≡ length l.setup.input = ran.rows_are in
+    let as_many : x.rows ≡ length m.setup.input = too.rows_are in
+    let more : fired_after l k 0 + 1 < length l.setup.input = needs.goes_on in
     let lacks : g ≡ fired_after l k 0 + 1 = needs.lacks in
     record { goes_on = omega arith; lacks = omega arith }
 
@@ -42,7 +42,7 @@ latest l k g a decided =
       fired = λ went.
           let goes : fired_after l (suc k) (sink l) ≡ fired_after l k (sink l) + 1 = decided.goes went in (
             (k, sym (add-one k), goes),
-            decided.row went refl ∙ ap (λ (n : ℕ). Some (output_row l.system l.table n)) (omega arith),
+            decided.row went refl ∙ ap (λ (n : ℕ). Some (output_row l.setup.system l.setup.table n)) (omega arith),
           );
       rested = λ went sunk.
           let rests : fired_after l (suc k) (sink l) ≡ fired_after l k (sink l) = decided.rests went in

@@ -22,9 +22,9 @@ still l g v fired a actor =
 
 -- an actor that is held, or may not fire, has decided
 pub rested : (r : RunsGoByRules) (l : Life) (k g v : ℕ) (a : ClockActor) → MayBegin l k g → IsActor l g v (fired_after l k v) a
-    → (l.hold k v ≡ true) ⊎ MayNotFire (links_of l.system) l.placement (length l.input) (fired_after l k) v → Decided l k g v (record a { went = false })
+    → (l.hold k v ≡ true) ⊎ MayNotFire (links_of l.setup.system) l.setup.placement (length l.setup.input) (fired_after l k) v → Decided l k g v (record a { went = false })
 rested r l k g v a begins actor why =
-    let same : fired_after l (suc k) v ≡ fired_after l k v = r.rests l.system l.placement (length l.input) l.hold k v begins.rules.system begins.rules.fits actor.there why in
+    let same : fired_after l (suc k) v ≡ fired_after l k v = r.rests l.setup.system l.setup.placement (length l.setup.input) l.hold k v begins.rules.system begins.rules.fits actor.there why in
     record {
       actor = subst (λ (n : ℕ). IsActor l g v n (record a { went = false })) (sym same) (still l g v (fired_after l k v) a actor);
       goes = λ h. clash false h refl;
@@ -37,8 +37,8 @@ rested r l k g v a begins actor why =
 pub fired : (r : RunsGoByRules) (l : Life) (k g v : ℕ) (a : ClockActor) (stations : List ClockStation) (new : ClockActor) → MayBegin l k g → IsActor l g v (fired_after l k v) a → AreStations l k stations
     → l.hold k v ≡ false → SeesNoBar a stations → Fires a stations new → Decided l k g v new
 fired r l k g v a stations new begins actor beside free clear fires =
-    let may : MayFire (links_of l.system) l.placement (length l.input) (fired_after l k) v = may_fire l k g v a stations actor beside clear in
-    let goes : fired_after l (suc k) v ≡ fired_after l k v + 1 = r.fires l.system l.placement (length l.input) l.hold k v begins.rules.system begins.rules.fits actor.there free may in
+    let may : MayFire (links_of l.setup.system) l.setup.placement (length l.setup.input) (fired_after l k) v = may_fire l k g v a stations actor beside clear in
+    let goes : fired_after l (suc k) v ≡ fired_after l k v + 1 = r.fires l.setup.system l.setup.placement (length l.setup.input) l.hold k v begins.rules.system begins.rules.fits actor.there free may in
     let firing : IsFiring l k g v new.taken.items = record { begins = begins; there = actor.there; below = may.below; takes = took l k g v a stations new.taken.items actor beside clear.hold fires.taken } in
     let done : IsMade l k g v new.tokens.items new.part = made r l k g v new.taken.items new.tokens.items a.part new.part firing actor.is fires.passes in
     let now : IsActor l g v (fired_after l k v + 1) new = stays l g g v (fired_after l k v) (fired_after l k v + 1) a new actor fires.same (fires.fired ∙ ap (λ (n : ℕ). n + 1) actor.fired_is) fires.places done.is in

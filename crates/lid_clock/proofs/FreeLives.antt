@@ -37,17 +37,17 @@ before k last count most late below = by_order (cases_lt k last)
     by_order (inr past) = absurd (omega (arith, late past))
 
 abbrev graph_of : Life → Graph
-graph_of l = marking (links_of l.system) l.placement
+graph_of l = marking (links_of l.setup.system) l.setup.placement
 
 abbrev caps_of : Life → Counts
-caps_of l = cap_of (links_of l.system) (length l.input)
+caps_of l = cap_of (links_of l.setup.system) (length l.setup.input)
 
 module _ (l : Life) (rules : IsLife l) where
-  sink_cap : caps_of l (sink l) ≡ length l.input
-  sink_cap = cap_of_sink l.system (length l.input) rules.system.least
+  sink_cap : caps_of l (sink l) ≡ length l.setup.input
+  sink_cap = cap_of_sink l.setup.system (length l.setup.input) rules.system.least
 
   -- the sink fires at most once for each row
-  pub sinks_few : (k : ℕ) → fired_after l k (sink l) ≤ length l.input
+  pub sinks_few : (k : ℕ) → fired_after l k (sink l) ≤ length l.setup.input
   sinks_few k = omega (arith, firings_cap (graph_of l) (caps_of l) l.hold k (sink l), sink_cap)
 
   -- its count does not fall
@@ -58,8 +58,8 @@ module _ (l : Life) (rules : IsLife l) where
   pub sinks_by_one : (k : ℕ) → fired_after l (suc k) (sink l) ≤ fired_after l k (sink l) + 1
   sinks_by_one k =
       let least = rules.system.least in
-      let there : sink l < (graph_of l).nodes = omega (arith, node_count l.system l.placement) in
-      rises_by_one (graph_of l) (caps_of l) l.hold (rateable l.system l.placement rules.system rules.fits).paired k (sink l) there
+      let there : sink l < (graph_of l).nodes = omega (arith, node_count l.setup.system l.setup.placement) in
+      rises_by_one (graph_of l) (caps_of l) l.hold (rateable l.setup.system l.setup.placement rules.system rules.fits).paired k (sink l) there
 
 module _ (l : Life) (rows : List (List Bool)) (free : IsFreeLife l rows) where
   -- its counts are those of a run in which nobody is held
@@ -74,10 +74,10 @@ module _ (l : Life) (rows : List (List Bool)) (free : IsFreeLife l rows) where
       omega (arith, holds_delay (graph_of l) (caps_of l) l.hold k v)
 
   -- a cycle that is needed is one of a cycle for each actor and each row
-  pub before_end : (k : ℕ) → IsBelow l k → k < actor_count (links_of l.system) l.placement * length l.input
+  pub before_end : (k : ℕ) → IsBelow l k → k < actor_count (links_of l.setup.system) l.setup.placement * length l.setup.input
   before_end k below =
-      before k (actor_count (links_of l.system) l.placement * length l.input) (fired_after l k (sink l)) (length l.input)
-      (λ late. as_free k (sink l) ∙ ends l.system l.placement free.rules.system free.rules.fits (length l.input) k late)
+      before k (actor_count (links_of l.setup.system) l.setup.placement * length l.setup.input) (fired_after l k (sink l)) (length l.setup.input)
+      (λ late. as_free k (sink l) ∙ ends l.setup.system l.setup.placement free.rules.system free.rules.fits (length l.setup.input) k late)
       below
 
   -- so cycles can be counted
@@ -86,13 +86,13 @@ module _ (l : Life) (rows : List (List Bool)) (free : IsFreeLife l rows) where
       omega (
         arith,
         before_end k below,
-        mul-le (actor_count (links_of l.system) l.placement) (length l.input) 69634 1000000
-            (few_actors l.system l.placement free.rules.system free.rules.fits) free.rules.few,
+        mul-le (actor_count (links_of l.setup.system) l.setup.placement) (length l.setup.input) 69634 1000000
+            (few_actors l.setup.system l.setup.placement free.rules.system free.rules.fits) free.rules.few,
       )
 
   -- after the last of the cycles that are needed the run is over
   pub is_over : (k : ℕ) → ((j : ℕ) → j < k → IsBelow l j) → (IsBelow l k → ⊥) → IsOver l k
-  is_over k needed ended = record { ends = first; within = within; bound = bound_had l.system l.placement free.rules.system free.rules.fits (length l.input) k within }
+  is_over k needed ended = record { ends = first; within = within; bound = bound_had l.setup.system l.setup.placement free.rules.system free.rules.fits (length l.setup.input) k within }
     where
       at_cap : fired_after l k (sink l) ≡ caps_of l (sink l)
       at_cap = omega (arith, sinks_few l free.rules k, sink_cap l free.rules, ended)
@@ -107,5 +107,5 @@ module _ (l : Life) (rows : List (List Bool)) (free : IsFreeLife l rows) where
       first : IsFirstAtCap (graph_of l) (caps_of l) no_hold (sink l) k
       first = record { reached = sym (as_free k (sink l)) ∙ at_cap; first = first_is }
 
-      within : IsWithinLag (links_of l.system) l.placement (length l.input) k
-      within = ends_within_lag l.system l.placement free.rules.system free.rules.fits (length l.input) k first
+      within : IsWithinLag (links_of l.setup.system) l.setup.placement (length l.setup.input) k
+      within = ends_within_lag l.setup.system l.setup.placement free.rules.system free.rules.fits (length l.setup.input) k first

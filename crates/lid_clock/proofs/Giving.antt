@@ -9,7 +9,8 @@ use Rattle.lid_clock.specs.declared.actor.ClockActor.{ClockActor}
 use Rattle.lid_clock.specs.declared.stream.ClockStream.{ClockStream}
 use Rattle.lid_clock.specs.Parts.{IsOfSize}
 use Rattle.lid_clock.specs.Actors.{HasPlaces, IsSameActor}
-use Rattle.lid_clock.specs.Lives.{Life, IsLife, IsSourceWide, NeedsRow, fired_after, sink}
+use Rattle.lid_clock.specs.Lives.{Life, IsLife, NeedsRow, fired_after, sink}
+use Rattle.lid_shell_laws.specs.Setups.{IsInputRow}
 use Rattle.lid_clock.specs.States.{IsRole, IsActor, AreActors, AreStations}
 use Rattle.lid_clock.specs.Ran.{Ran}
 use Rattle.lid_clock.specs.Cycles.{CanTake, TakesRow}
@@ -19,28 +20,28 @@ use native.Mathlib.Decide.{ℕ_discrete}
 use Rattle.lid_base.proofs.Places.{set_here, set_there}
 
 -- the source of a life can take a row that is as wide as its columns
-part_can_take : (l : Life) (g fired ins outs : ℕ) (part : Role) (row : List Bool) → IsRole l g 0 fired part → IsOfSize part ins outs → IsSourceWide l.system row → CanTake part (length row)
+part_can_take : (l : Life) (g fired ins outs : ℕ) (part : Role) (row : List Bool) → IsRole l g 0 fired part → IsOfSize part ins outs → IsInputRow l.setup.system row → CanTake part (length row)
 part_can_take l g fired ins outs (Source node line) row is size wide = size.0 ∙ is.1.wide ∙ sym (wide is.1.columns is.1.node)
 part_can_take l g fired ins outs _ row is size wide = tt
 
-pub can_take : (l : Life) (g fired : ℕ) (a : ClockActor) (row : List Bool) → IsActor l g 0 fired a → IsSourceWide l.system row → CanTake a.part (length row)
+pub can_take : (l : Life) (g fired : ℕ) (a : ClockActor) (row : List Bool) → IsActor l g 0 fired a → IsInputRow l.setup.system row → CanTake a.part (length row)
 can_take l g fired a row actor wide = part_can_take l g fired _ _ a.part row actor.is actor.places.size wide
 
 -- the source of a life takes the next row
-part_given : (l : Life) (g fired : ℕ) (old new : Role) (row : List Bool) → IsLife l → IsRole l g 0 fired old → g ≡ fired + 1 → slice_get l.input g ≡ Some row → TakesRow old row new → IsRole l (g + 1) 0 fired new
+part_given : (l : Life) (g fired : ℕ) (old new : Role) (row : List Bool) → IsLife l → IsRole l g 0 fired old → g ≡ fired + 1 → slice_get l.setup.input g ≡ Some row → TakesRow old row new → IsRole l (g + 1) 0 fired new
 part_given l g fired (Source node line) (Source now given) row life is lacks at takes = (
   refl,
-  subst (IsSourceOf l.system) (sym takes.0) is.1,
+  subst (IsSourceOf l.setup.system) (sym takes.0) is.1,
   λ some. record {
     next = omega arith;
     near = omega arith;
-    is = ap (slice_get l.input) (omega arith) ∙ at ∙ ap (λ (xs : List Bool). Some xs) (sym takes.1);
+    is = ap (slice_get l.setup.input) (omega arith) ∙ at ∙ ap (λ (xs : List Bool). Some xs) (sym takes.1);
   },
 )
 part_given l g fired (Source node line) _ row life is lacks at takes = absurd takes
 part_given l g fired (Shell node) new row life is lacks at takes = absurd (omega (arith, is.0))
-part_given l g fired Mover new row life is lacks at takes = let least : 2 ≤ length l.system.nodes = life.system.least in let past : length l.system.nodes ≤ 0 = is in absurd (omega arith)
-part_given l g fired (Sink node line) new row life is lacks at takes = let least : 2 ≤ length l.system.nodes = life.system.least in let last : 0 + 1 ≡ length l.system.nodes = is.last in absurd (omega arith)
+part_given l g fired Mover new row life is lacks at takes = let least : 2 ≤ length l.setup.system.nodes = life.system.least in let past : length l.setup.system.nodes ≤ 0 = is in absurd (omega arith)
+part_given l g fired (Sink node line) new row life is lacks at takes = let least : 2 ≤ length l.setup.system.nodes = life.system.least in let last : 0 + 1 ≡ length l.setup.system.nodes = is.last in absurd (omega arith)
 
 size_given : (old new : Role) (row : List Bool) (ins outs : ℕ) → IsOfSize old ins outs → CanTake old (length row) → TakesRow old row new → IsOfSize new ins outs
 size_given (Source node line) (Source now given) row ins outs size can takes =
@@ -51,7 +52,7 @@ size_given Mover new row ins outs size can takes = subst (λ (p : Role). IsOfSiz
 size_given (Sink node line) new row ins outs size can takes = subst (λ (p : Role). IsOfSize p ins outs) (sym takes) size
 
 -- the source after it took the row
-source_given : (l : Life) (g fired : ℕ) (old new : ClockActor) (row : List Bool) → IsLife l → IsActor l g 0 fired old → g ≡ fired + 1 → slice_get l.input g ≡ Some row
+source_given : (l : Life) (g fired : ℕ) (old new : ClockActor) (row : List Bool) → IsLife l → IsActor l g 0 fired old → g ≡ fired + 1 → slice_get l.setup.input g ≡ Some row
     → CanTake old.part (length row) → TakesRow old.part row new.part → new ≡ record old { part = new.part } → IsActor l (g + 1) 0 fired new
 source_given l g fired old new row life actor lacks at can takes rest =
     let taken : length new.taken.items ≡ length old.taken.items = ap (λ (a : ClockActor). length a.taken.items) rest in
@@ -90,15 +91,15 @@ actors_given l k g actors new all source =
     }
 
 -- a run that is given the next row of a life
-pub gave : (l : Life) (k g : ℕ) (x new : ClockStream) (old source : ClockActor) (row : List Bool) → Ran l k g x → NeedsRow l k g → slice_get l.input g ≡ Some row → slice_get x.actors.items 0 ≡ Some old
+pub gave : (l : Life) (k g : ℕ) (x new : ClockStream) (old source : ClockActor) (row : List Bool) → Ran l k g x → NeedsRow l k g → slice_get l.setup.input g ≡ Some row → slice_get x.actors.items 0 ≡ Some old
     → CanTake old.part (length row) → TakesRow old.part row source.part → source ≡ record old { part = source.part }
     → new.actors.items ≡ set x.actors.items 0 source → new.stations ≡ x.stations → new.rows ≡ x.rows → new.given ≡ x.given + 1 → new.sink ≡ x.sink → Ran l k (g + 1) new
 gave l k g x new old source row ran needs at there can takes rest is_actors is_stations rows given sunk =
-    let within : g < length l.input = slice_get_within l.input g row at in
+    let within : g < length l.setup.input = slice_get_within l.setup.input g row at in
     let actor : IsActor l g 0 (fired_after l k 0) old = ran.all_actors.each 0 old there in
     let now : IsActor l (g + 1) 0 (fired_after l k 0) source = source_given l g (fired_after l k 0) old source row ran.rules actor needs.lacks at can takes rest in
-    let least : 2 ≤ length l.system.nodes = ran.rules.system.least in
-    let last : sink l ≡ length l.system.nodes - 1 = refl in
+    let least : 2 ≤ length l.setup.system.nodes = ran.rules.system.least in
+    let last : sink l ≡ length l.setup.system.nodes - 1 = refl in
     record {
       rules = ran.rules;
       rows_are = rows ∙ ran.rows_are;

@@ -23,7 +23,7 @@ abbrev pub AgreeBefore : ℕ → Hold → Hold → Type 0
 AgreeBefore k a b = (j v : ℕ) → j < k → a j v ≡ b j v
 
 abbrev edges_of : Life → List Edge
-edges_of l = (marking (links_of l.system) l.placement).edges
+edges_of l = (marking (links_of l.setup.system) l.setup.placement).edges
 
 -- how often actors fire does not depend on later holds
 pub fired_alike : (l : Life) (hold : Hold) (k : ℕ) → AgreeBefore k hold l.hold → fired_after (held_so l hold) k ≡ fired_after l k
@@ -32,8 +32,8 @@ fired_alike l hold zero agree = refl
 fired_alike l hold (suc k) agree =
     let before : fired_after (held_so l hold) k ≡ fired_after l k = fired_alike l hold k (λ j v below. agree j v (omega arith)) in
     fun_ext (λ v.
-    ap (λ (b : Bool). cond b (fired_after (held_so l hold) k v) (least_into (edges_of l) (fired_after (held_so l hold) k) v (cap_of (links_of l.system) (length l.input) v))) (agree k v (omega arith))
-    ∙ ap (λ (c : Counts). cond (l.hold k v) (c v) (least_into (edges_of l) c v (cap_of (links_of l.system) (length l.input) v))) before)
+    ap (λ (b : Bool). cond b (fired_after (held_so l hold) k v) (least_into (edges_of l) (fired_after (held_so l hold) k) v (cap_of (links_of l.setup.system) (length l.setup.input) v))) (agree k v (omega arith))
+    ∙ ap (λ (c : Counts). cond (l.hold k v) (c v) (least_into (edges_of l) c v (cap_of (links_of l.setup.system) (length l.setup.input) v))) before)
 
 rules_alike : (l : Life) (hold : Hold) → IsLife l → IsLife (held_so l hold)
 rules_alike l hold life = record { system = life.system; fits = life.fits; few = life.few; wide = life.wide; table = life.table }
@@ -79,8 +79,8 @@ stations_alike l hold k stations agree all =
       each = λ i x there.
           let is : IsStation (held_so l hold) i (put_after l k i) (taken_after l k i) x = station_alike l hold i (put_after l k i) (taken_after l k i) x (all.each i x there) in
           let same = fired_alike l hold k agree in
-          let puts : put_after l k i ≡ put_after (held_so l hold) k i = ap (λ (c : Counts). in_count (links_of l.system) l.placement (length l.input) c i) (sym same) in
-          let takes : taken_after l k i ≡ taken_after (held_so l hold) k i = ap (λ (c : Counts). out_count (links_of l.system) l.placement c i) (sym same) in
+          let puts : put_after l k i ≡ put_after (held_so l hold) k i = ap (λ (c : Counts). in_count (links_of l.setup.system) l.setup.placement (length l.setup.input) c i) (sym same) in
+          let takes : taken_after l k i ≡ taken_after (held_so l hold) k i = ap (λ (c : Counts). out_count (links_of l.setup.system) l.setup.placement c i) (sym same) in
           subst (λ (n : ℕ). IsStation (held_so l hold) i n (taken_after (held_so l hold) k i) x) puts (subst (λ (n : ℕ). IsStation (held_so l hold) i (put_after l k i) n x) takes is);
     }
 
@@ -91,7 +91,7 @@ begins_alike l hold k g agree begins =
       rules = rules_alike l hold begins.rules;
       fed = λ needs.
           let same : fired_after (held_so l hold) k 0 ≡ fired_after l k 0 = ap (λ (c : Counts). c 0) (fired_alike l hold k agree) in
-          let more : fired_after (held_so l hold) k 0 + 1 < length l.input = needs.goes_on in
+          let more : fired_after (held_so l hold) k 0 + 1 < length l.setup.input = needs.goes_on in
           let lacks : g ≡ fired_after (held_so l hold) k 0 + 1 = needs.lacks in
           begins.fed (record { goes_on = omega arith; lacks = omega arith });
     }

@@ -18,36 +18,36 @@ use native.Mathlib.Decide.{ℕ_discrete}
 use Rattle.lid_base.proofs.Places.{item_at, item_read}
 
 -- nothing barred an actor that fired
-not_barred : (r : RunsGoByRules) (l : Life) (k v : ℕ) → IsLife l → v < actors_of l → fired_after l (suc k) v ≡ fired_after l k v + 1 → ¬ (MayNotFire (links_of l.system) l.placement (length l.input) (fired_after l k) v)
+not_barred : (r : RunsGoByRules) (l : Life) (k v : ℕ) → IsLife l → v < actors_of l → fired_after l (suc k) v ≡ fired_after l k v + 1 → ¬ (MayNotFire (links_of l.setup.system) l.setup.placement (length l.setup.input) (fired_after l k) v)
 not_barred r l k v life there fired barred =
-    let same : fired_after l (suc k) v ≡ fired_after l k v = r.rests l.system l.placement (length l.input) l.hold k v life.system life.fits there (inr barred) in
+    let same : fired_after l (suc k) v ≡ fired_after l k v = r.rests l.setup.system l.setup.placement (length l.setup.input) l.hold k v life.system life.fits there (inr barred) in
     absurd (omega arith)
 
 -- a station whose filler fired had room
 pub had_room : (r : RunsGoByRules) (l : Life) (k station : ℕ) → IsLife l → station < stations_of l
-    → fired_after l (suc k) (filler (links_of l.system) l.placement station) ≡ fired_after l k (filler (links_of l.system) l.placement station) + 1
-    → put_after l k station < taken_after l k station + capacity l.placement station
+    → fired_after l (suc k) (filler (links_of l.setup.system) l.setup.placement station) ≡ fired_after l k (filler (links_of l.setup.system) l.setup.placement station) + 1
+    → put_after l k station < taken_after l k station + capacity l.setup.placement station
 had_room r l k station life there fired =
-    let between : StandsBetween l.system l.placement station = r.between l.system l.placement station life.system life.fits there in
+    let between : StandsBetween l.setup.system l.setup.placement station = r.between l.setup.system l.setup.placement station life.system life.fits there in
     lt_of_not-le (λ full. not_barred r l k _ life between.filled fired (inr (inr (record { station = station; there = there; fills = refl; stop = full }))))
 
 -- a station whose drainer fired had a token
 pub had_token : (r : RunsGoByRules) (l : Life) (k station : ℕ) → IsLife l → station < stations_of l
-    → fired_after l (suc k) (drainer (links_of l.system) l.placement station) ≡ fired_after l k (drainer (links_of l.system) l.placement station) + 1
+    → fired_after l (suc k) (drainer (links_of l.setup.system) l.setup.placement station) ≡ fired_after l k (drainer (links_of l.setup.system) l.setup.placement station) + 1
     → taken_after l k station < put_after l k station
 had_token r l k station life there fired =
-    let between : StandsBetween l.system l.placement station = r.between l.system l.placement station life.system life.fits there in
+    let between : StandsBetween l.setup.system l.setup.placement station = r.between l.setup.system l.setup.placement station life.system life.fits there in
     lt_of_not-le (λ void. not_barred r l k _ life between.drained fired (inr (inl (record { station = station; there = there; drains = refl; void = void }))))
 
 module _ (r : RunsGoByRules) (l : Life) (k g station put taken : ℕ) (x : ClockStation) (actors : List ClockActor) (life : IsLife l) (there : station < stations_of l) (is : IsStation l station put taken x) (decided : AreDecided l k g actors) where
   -- the filler and the drainer of a station are among the actors
   pub ends_there : (x.filler < length actors) × (x.drainer < length actors)
   ends_there =
-      let between : StandsBetween l.system l.placement station = r.between l.system l.placement station life.system life.fits there in
-      let low : filler (links_of l.system) l.placement station < actors_of l = between.filled in
-      let high : drainer (links_of l.system) l.placement station < actors_of l = between.drained in
-      let fills : x.filler ≡ filler (links_of l.system) l.placement station = is.filled in
-      let drains : x.drainer ≡ drainer (links_of l.system) l.placement station = is.drained in
+      let between : StandsBetween l.setup.system l.setup.placement station = r.between l.setup.system l.setup.placement station life.system life.fits there in
+      let low : filler (links_of l.setup.system) l.setup.placement station < actors_of l = between.filled in
+      let high : drainer (links_of l.setup.system) l.setup.placement station < actors_of l = between.drained in
+      let fills : x.filler ≡ filler (links_of l.setup.system) l.setup.placement station = is.filled in
+      let drains : x.drainer ≡ drainer (links_of l.setup.system) l.setup.placement station = is.drained in
       let many : length actors ≡ actors_of l = decided.many in
       (omega arith, omega arith)
 
@@ -73,9 +73,9 @@ slot_there l k g station put taken x a is decided =
 -- fewer tokens were put than can be counted
 pub few_put : (r : RunsGoByRules) (l : Life) (k station taken : ℕ) (x : ClockStation) → IsLife l → station < stations_of l → IsStation l station (put_after l k station) taken x → x.put + 1 < 2 ^ 64
 few_put r l k station taken x life there is =
-    let few : HoldsFew (links_of l.system) l.placement (length l.input) (fired_after l k) station = r.few l.system l.placement (length l.input) l.hold k station life.system life.fits there in
-    let low : put_after l k station ≤ length l.input = few.few in
-    let most : length l.input ≤ 1000000 = life.few in
+    let few : HoldsFew (links_of l.setup.system) l.setup.placement (length l.setup.input) (fired_after l k) station = r.few l.setup.system l.setup.placement (length l.setup.input) l.hold k station life.system life.fits there in
+    let low : put_after l k station ≤ length l.setup.input = few.few in
+    let most : length l.setup.input ≤ 1000000 = life.few in
     let same : x.put ≡ put_after l k station = is.put_is in
     omega arith
 
@@ -105,10 +105,10 @@ pub record KeepsEnds (old new : ClockStation) : Type 0 where
   pub drainer : new.drainer ≡ old.drainer
 
 -- a station that gained its token
-pub gained : (l : Life) (station put taken token : ℕ) (old new : ClockStation) → IsStation l station put taken old → KeepsEnds old new → put < taken + capacity l.placement station → token ≡ token_of_life l station put
+pub gained : (l : Life) (station put taken token : ℕ) (old new : ClockStation) → IsStation l station put taken old → KeepsEnds old new → put < taken + capacity l.setup.placement station → token ≡ token_of_life l station put
     → new.put ≡ old.put + 1 → new.taken ≡ old.taken → new.places.items ≡ set old.places.items (old.put % length old.places.items) token → IsStation l station (put + 1) taken new
 gained l station put taken token old new is ends room wants puts takes places =
-    let size : length old.places.items ≡ capacity l.placement station = is.size in
+    let size : length old.places.items ≡ capacity l.setup.placement station = is.size in
     let some : 0 < length old.places.items = old.some in
     let written : new.places.items ≡ set old.places.items (put % length old.places.items) token = places ∙ ap (λ (n : ℕ). set old.places.items (n % length old.places.items) token) is.put_is in
     record {
@@ -137,12 +137,12 @@ lost l station put taken old new is ends puts takes places =
 
 -- how often the filler of a station has fired, by the station's own word
 filler_fired : (l : Life) (k g station put taken : ℕ) (x : ClockStation) (a : ClockActor) → IsStation l station put taken x → Decided l k g x.filler a → a.went ≡ true
-    → fired_after l (suc k) (filler (links_of l.system) l.placement station) ≡ fired_after l k (filler (links_of l.system) l.placement station) + 1
+    → fired_after l (suc k) (filler (links_of l.setup.system) l.setup.placement station) ≡ fired_after l k (filler (links_of l.setup.system) l.setup.placement station) + 1
 filler_fired l k g station put taken x a is decided went =
     subst (λ (v : ℕ). fired_after l (suc k) v ≡ fired_after l k v + 1) is.filled (decided.goes went)
 
 drainer_fired : (l : Life) (k g station put taken : ℕ) (x : ClockStation) (a : ClockActor) → IsStation l station put taken x → Decided l k g x.drainer a → a.went ≡ true
-    → fired_after l (suc k) (drainer (links_of l.system) l.placement station) ≡ fired_after l k (drainer (links_of l.system) l.placement station) + 1
+    → fired_after l (suc k) (drainer (links_of l.setup.system) l.setup.placement station) ≡ fired_after l k (drainer (links_of l.setup.system) l.setup.placement station) + 1
 drainer_fired l k g station put taken x a is decided went =
     subst (λ (v : ℕ). fired_after l (suc k) v ≡ fired_after l k v + 1) is.drained (decided.goes went)
 
@@ -150,10 +150,10 @@ drainer_fired l k g station put taken x a is decided went =
 pub room_of : (r : RunsGoByRules) (l : Life) (k g station : ℕ) (x : ClockStation) (a : ClockActor) → IsLife l → station < stations_of l → IsStation l station (put_after l k station) (taken_after l k station) x → Decided l k g x.filler a → a.went ≡ true
     → x.put < x.taken + length x.places.items
 room_of r l k g station x a life there is decided went =
-    let room : put_after l k station < taken_after l k station + capacity l.placement station = had_room r l k station life there (filler_fired l k g station _ _ x a is decided went) in
+    let room : put_after l k station < taken_after l k station + capacity l.setup.placement station = had_room r l k station life there (filler_fired l k g station _ _ x a is decided went) in
     let puts : x.put ≡ put_after l k station = is.put_is in
     let takes : x.taken ≡ taken_after l k station = is.taken_is in
-    let size : length x.places.items ≡ capacity l.placement station = is.size in
+    let size : length x.places.items ≡ capacity l.setup.placement station = is.size in
     omega arith
 
 -- a station gains the token that its filler put
@@ -162,7 +162,7 @@ pub gains : (r : RunsGoByRules) (l : Life) (k g station token : ℕ) (old new : 
     → new.put ≡ old.put + 1 → new.taken ≡ old.taken → new.places.items ≡ set old.places.items (old.put % length old.places.items) token
     → IsStation l station (put_after l (suc k) station) (taken_after l k station) new
 gains r l k g station token old new a life there is decided went read ends puts takes places =
-    let fired : fired_after l (suc k) (filler (links_of l.system) l.placement station) ≡ fired_after l k (filler (links_of l.system) l.placement station) + 1 = filler_fired l k g station _ _ old a is decided went in
+    let fired : fired_after l (suc k) (filler (links_of l.setup.system) l.setup.placement station) ≡ fired_after l k (filler (links_of l.setup.system) l.setup.placement station) + 1 = filler_fired l k g station _ _ old a is decided went in
     let room = had_room r l k station life there fired in
     let more : put_after l k station + 1 ≡ put_after l (suc k) station = omega arith in
     subst (λ (n : ℕ). IsStation l station n (taken_after l k station) new) more
@@ -172,7 +172,7 @@ gains r l k g station token old new a life there is decided went read ends puts 
 pub gains_none : (l : Life) (k g station : ℕ) (x : ClockStation) (a : ClockActor) → IsStation l station (put_after l k station) (taken_after l k station) x → Decided l k g x.filler a → a.went ≡ false
     → IsStation l station (put_after l (suc k) station) (taken_after l k station) x
 gains_none l k g station x a is decided went =
-    let same : fired_after l (suc k) (filler (links_of l.system) l.placement station) ≡ fired_after l k (filler (links_of l.system) l.placement station) =
+    let same : fired_after l (suc k) (filler (links_of l.setup.system) l.setup.placement station) ≡ fired_after l k (filler (links_of l.setup.system) l.setup.placement station) =
     subst (λ (v : ℕ). fired_after l (suc k) v ≡ fired_after l k v) is.filled (decided.rests went) in
     let as_many : put_after l k station ≡ put_after l (suc k) station = omega arith in
     subst (λ (n : ℕ). IsStation l station n (taken_after l k station) x) as_many is
@@ -192,7 +192,7 @@ grows l k g station put taken x a is decided = more a.went refl where
   more : (b : Bool) → a.went ≡ b → put_after l k station ≤ put_after l (suc k) station
   more true went = let fired = filler_fired l k g station put taken x a is decided went in omega arith
   more false went =
-      let same : fired_after l (suc k) (filler (links_of l.system) l.placement station) ≡ fired_after l k (filler (links_of l.system) l.placement station) =
+      let same : fired_after l (suc k) (filler (links_of l.setup.system) l.setup.placement station) ≡ fired_after l k (filler (links_of l.setup.system) l.setup.placement station) =
       subst (λ (v : ℕ). fired_after l (suc k) v ≡ fired_after l k v) is.filled (decided.rests went) in
       omega arith
 
@@ -208,6 +208,6 @@ settles l k g station old new a is decided went ends puts takes places =
 pub settles_as_is : (l : Life) (k g station : ℕ) (x : ClockStation) (a : ClockActor) → IsStation l station (put_after l (suc k) station) (taken_after l k station) x → Decided l k g x.drainer a → a.went ≡ false
     → IsStation l station (put_after l (suc k) station) (taken_after l (suc k) station) x
 settles_as_is l k g station x a is decided went =
-    let same : fired_after l (suc k) (drainer (links_of l.system) l.placement station) ≡ fired_after l k (drainer (links_of l.system) l.placement station) =
+    let same : fired_after l (suc k) (drainer (links_of l.setup.system) l.setup.placement station) ≡ fired_after l k (drainer (links_of l.setup.system) l.setup.placement station) =
     subst (λ (v : ℕ). fired_after l (suc k) v ≡ fired_after l k v) is.drained (decided.rests went) in
     subst (λ (n : ℕ). IsStation l station (put_after l (suc k) station) n x) (sym same) is

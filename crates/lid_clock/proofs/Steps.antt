@@ -4,7 +4,8 @@ use Rattle.std.proofs.lemmas.Bool.{cases_lt}
 use Rattle.std.proofs.lemmas.Option.{slice_get_read}
 use Rattle.lid_base.proofs.Lists.{all_at}
 use Rattle.lid_clock.specs.declared.stream.ClockStream.{ClockStream}
-use Rattle.lid_clock.specs.Lives.{Life, IsSourceWide, NeedsRow, IsBelow, HoldsNobody}
+use Rattle.lid_clock.specs.Lives.{Life, NeedsRow, IsBelow, HoldsNobody}
+use Rattle.lid_shell_laws.specs.Setups.{IsInputRow}
 use Rattle.lid_clock.specs.Ran.{Ran}
 use Rattle.lid_clock.specs.declared.clocked.Clocked.{Clocked}
 use Rattle.lid_clock.specs.Clocks.{IsFreeLife, Goes}
@@ -14,11 +15,11 @@ module _ (l : Life) (rows : List (List Bool)) (free : IsFreeLife l rows) (k g : 
   pub row_there : g < length rows
   row_there = omega (arith, needs.goes_on, needs.lacks, ap length free.input)
 
-  pub row_next : (row : List Bool) → row ≡ get_or rows g row → slice_get l.input g ≡ Some row
+  pub row_next : (row : List Bool) → row ≡ get_or rows g row → slice_get l.setup.input g ≡ Some row
   row_next row is = ap (λ (xs : List (List Bool)). slice_get xs g) free.input ∙ slice_get_read rows (length rows) g row refl row_there is
 
-  pub row_wide : (row : List Bool) → row ≡ get_or rows g row → IsSourceWide l.system row
-  row_wide row is = all_at (IsSourceWide l.system) l.input g row free.rules.wide (row_next row is)
+  pub row_wide : (row : List Bool) → row ≡ get_or rows g row → IsInputRow l.setup.system row
+  row_wide row is = all_at (IsInputRow l.setup.system) l.setup.input g row free.rules.wide (row_next row is)
 
 -- and once it is given none is lacking
 pub fed : (l : Life) (k g : ℕ) → NeedsRow l k g → NeedsRow l k (g + 1) → ⊥

@@ -35,7 +35,7 @@ took_at : (l : Life) (k g v i : ℕ) (a : ClockActor) (stations : List ClockStat
 took_at l k g v i a stations taken actor beside hold oldest within =
     let station : ℕ = get_or (ins_of l v) i 0 in
     let at_place : slice_get (ins_of l v) i ≡ Some station = slice_get-get_or (ins_of l v) i 0 within in
-    let own = drained_is (links_of l.system) l.placement v i station at_place in
+    let own = drained_is (links_of l.setup.system) l.setup.placement v i station at_place in
     let read = read_at l k i station a.ins.items (ins_of l v) stations actor.drains at_place beside own.0 in
     oldest.each i read.within read.station read.at
     ∙ oldest_is l station (put_after l k station) (taken_after l k station) read.station read.is (hold i read.within read.station read.at)
@@ -52,10 +52,10 @@ took l k g v a stations taken actor beside hold oldest =
 
 -- where an actor puts the tokens of a number, each is the one that its station wants
 pub offers : (l : Life) (k v n : ℕ) (into : List ℕ) → into ≡ tokens_out l v n
-    → ((station : ℕ) → station < stations_of l → filler (links_of l.system) l.placement station ≡ v → n ≡ put_after l k station)
+    → ((station : ℕ) → station < stations_of l → filler (links_of l.setup.system) l.setup.placement station ≡ v → n ≡ put_after l k station)
     → (i station : ℕ) → slice_get (outs_of l v) i ≡ Some station → get_or into i 0 ≡ token_of_life l station (put_after l k station)
 offers l k v n into is next i station at =
-    let own = filled_is (links_of l.system) l.placement v i station at in
+    let own = filled_is (links_of l.setup.system) l.setup.placement v i station at in
     let within : i < length (outs_of l v) = slice_get_within (outs_of l v) i station at in
     ap (λ (xs : List ℕ). get_or xs i 0) is
     ∙ get_or-map (λ (s : ℕ). token_of_life l s n) (outs_of l v) i 0 0 within
@@ -63,45 +63,45 @@ offers l k v n into is next i station at =
     ∙ ap (λ (j : ℕ). token_of_life l station j) (next station own.0 own.1)
 
 -- a station that a node fills wants the token of the next number, where there are rows
-pub node_next : (r : RunsGoByRules) (l : Life) (k v station : ℕ) → IsLife l → v < length l.system.nodes → 0 < length l.input
-    → station < stations_of l → filler (links_of l.system) l.placement station ≡ v → fired_after l k v + 1 ≡ put_after l k station
+pub node_next : (r : RunsGoByRules) (l : Life) (k v station : ℕ) → IsLife l → v < length l.setup.system.nodes → 0 < length l.setup.input
+    → station < stations_of l → filler (links_of l.setup.system) l.setup.placement station ≡ v → fired_after l k v + 1 ≡ put_after l k station
 node_next r l k v station life node some there fills =
-    let same : fired_after l k (filler (links_of l.system) l.placement station) ≡ fired_after l k v = ap (fired_after l k) fills in
-    elim (r.starts l.system l.placement station life.system life.fits there) [
-      | inl h ↦ (let one : start_count l.placement station ≡ 1 = h.1 in omega arith)
-      | inr h ↦ (let past : length l.system.nodes ≤ filler (links_of l.system) l.placement station = h.0 in absurd (omega arith))
+    let same : fired_after l k (filler (links_of l.setup.system) l.setup.placement station) ≡ fired_after l k v = ap (fired_after l k) fills in
+    elim (r.starts l.setup.system l.setup.placement station life.system life.fits there) [
+      | inl h ↦ (let one : start_count l.setup.placement station ≡ 1 = h.1 in omega arith)
+      | inr h ↦ (let past : length l.setup.system.nodes ≤ filler (links_of l.setup.system) l.setup.placement station = h.0 in absurd (omega arith))
     ]
 
 -- one that a mover fills wants that of the same number
-pub mover_next : (r : RunsGoByRules) (l : Life) (k v station : ℕ) → IsLife l → length l.system.nodes ≤ v
-    → station < stations_of l → filler (links_of l.system) l.placement station ≡ v → fired_after l k v ≡ put_after l k station
+pub mover_next : (r : RunsGoByRules) (l : Life) (k v station : ℕ) → IsLife l → length l.setup.system.nodes ≤ v
+    → station < stations_of l → filler (links_of l.setup.system) l.setup.placement station ≡ v → fired_after l k v ≡ put_after l k station
 mover_next r l k v station life mover there fills =
-    let same : fired_after l k (filler (links_of l.system) l.placement station) ≡ fired_after l k v = ap (fired_after l k) fills in
-    elim (r.starts l.system l.placement station life.system life.fits there) [
-      | inl h ↦ (let before : filler (links_of l.system) l.placement station < length l.system.nodes = h.0 in absurd (omega arith))
-      | inr h ↦ (let none : start_count l.placement station ≡ 0 = h.1 in omega arith)
+    let same : fired_after l k (filler (links_of l.setup.system) l.setup.placement station) ≡ fired_after l k v = ap (fired_after l k) fills in
+    elim (r.starts l.setup.system l.setup.placement station life.system life.fits there) [
+      | inl h ↦ (let before : filler (links_of l.setup.system) l.setup.placement station < length l.setup.system.nodes = h.0 in absurd (omega arith))
+      | inr h ↦ (let none : start_count l.setup.placement station ≡ 0 = h.1 in omega arith)
     ]
 
 -- the sink fills no station
-pub sink_fills_none : (r : RunsGoByRules) (l : Life) (v station : ℕ) → IsLife l → v + 1 ≡ length l.system.nodes
-    → station < stations_of l → filler (links_of l.system) l.placement station ≡ v → ⊥
+pub sink_fills_none : (r : RunsGoByRules) (l : Life) (v station : ℕ) → IsLife l → v + 1 ≡ length l.setup.system.nodes
+    → station < stations_of l → filler (links_of l.setup.system) l.setup.placement station ≡ v → ⊥
 sink_fills_none r l v station life last there fills =
-    let between = r.between l.system l.placement station life.system life.fits there in
+    let between = r.between l.setup.system l.setup.placement station life.system life.fits there in
     between.not_sink (ap (λ (n : ℕ). n + 1) fills ∙ last)
 
 -- the tokens that a node takes are those of the channels that lead to it
-pub node_takes : (r : RunsGoByRules) (l : Life) (v i : ℕ) → IsLife l → v < length l.system.nodes → tokens_in l v i ≡ tokens_to l.system l.table v i
-node_takes r l v i life node = r.drained l.system l.placement l.table v i life.system life.fits node
+pub node_takes : (r : RunsGoByRules) (l : Life) (v i : ℕ) → IsLife l → v < length l.setup.system.nodes → tokens_in l v i ≡ tokens_to l.setup.system l.setup.table v i
+node_takes r l v i life node = r.drained l.setup.system l.setup.placement l.setup.table v i life.system life.fits node
 
 -- those that it puts are those of the channels that come from it
-pub node_puts : (r : RunsGoByRules) (l : Life) (v i : ℕ) → IsLife l → v < length l.system.nodes → tokens_out l v i ≡ tokens_from l.system l.table v i
-node_puts r l v i life node = r.filled l.system l.placement l.table v i life.system life.fits node
+pub node_puts : (r : RunsGoByRules) (l : Life) (v i : ℕ) → IsLife l → v < length l.setup.system.nodes → tokens_out l v i ≡ tokens_from l.setup.system l.setup.table v i
+node_puts r l v i life node = r.filled l.setup.system l.setup.placement l.setup.table v i life.system life.fits node
 
 -- a mover puts what it takes
-pub mover_puts : (r : RunsGoByRules) (l : Life) (v i : ℕ) → IsLife l → length l.system.nodes ≤ v → v < actors_of l → tokens_in l v i ≡ tokens_out l v i
+pub mover_puts : (r : RunsGoByRules) (l : Life) (v i : ℕ) → IsLife l → length l.setup.system.nodes ≤ v → v < actors_of l → tokens_in l v i ≡ tokens_out l v i
 mover_puts r l v i life mover there =
-    let moves = r.moves l.system l.placement v life.system life.fits mover there in
+    let moves = r.moves l.setup.system l.setup.placement v life.system life.fits mover there in
     let station : ℕ = moves.0 in
     ap (map (λ (s : ℕ). token_of_life l s i)) moves.1.drained
-    ∙ ap (λ (t : ℕ). t ∷ []) (sym (moves.1.tokens l.table i))
+    ∙ ap (λ (t : ℕ). t ∷ []) (sym (moves.1.tokens l.setup.table i))
     ∙ sym (ap (map (λ (s : ℕ). token_of_life l s i)) moves.1.filled)

@@ -29,7 +29,7 @@ fired_is l k g v x a ran there = (ran.all_actors.each v a there).fired_is
 pub below_is : (l : Life) (k g : ℕ) (x : ClockStream) (a : ClockActor) → Ran l k g x → slice_get x.actors.items x.sink ≡ Some a → (ltb a.fired x.rows ≡ true) ↔ IsBelow l k
 below_is l k g x a ran there =
     let is : a.fired ≡ fired_after l k (sink l) = fired_is l k g x.sink x a ran there ∙ ap (fired_after l k) ran.sink_is in
-    let rows : x.rows ≡ length l.input = ran.rows_are in
+    let rows : x.rows ≡ length l.setup.input = ran.rows_are in
     ((λ yes_below. let low = ltb-true a.fired x.rows yes_below in omega arith), λ low. lt-ltb a.fired x.rows (omega arith))
 
 -- whether the source needs a row
@@ -37,10 +37,10 @@ pub needs_is : (l : Life) (k g : ℕ) (x : ClockStream) (a : ClockActor) (b : Bo
     → (b ≡ true → (x.given ≡ a.fired + 1) × (x.given < x.rows)) → (x.given ≡ a.fired + 1 → x.given < x.rows → b ≡ true) → (b ≡ true) ↔ NeedsRow l k g
 needs_is l k g x a b ran there is_so so =
     let is : a.fired ≡ fired_after l k 0 = fired_is l k g 0 x a ran there in
-    let rows : x.rows ≡ length l.input = ran.rows_are in
+    let rows : x.rows ≡ length l.setup.input = ran.rows_are in
     let given : x.given ≡ g = ran.given_is in (
       (λ e. let lacks = (is_so e).0 in let more = (is_so e).1 in record { goes_on = omega arith; lacks = omega arith }),
-      λ needs. let more : fired_after l k 0 + 1 < length l.input = needs.goes_on in let lacks : g ≡ fired_after l k 0 + 1 = needs.lacks in so (omega arith) (omega arith),
+      λ needs. let more : fired_after l k 0 + 1 < length l.setup.input = needs.goes_on in let lacks : g ≡ fired_after l k 0 + 1 = needs.lacks in so (omega arith) (omega arith),
     )
 
 -- the row of the last cycle
@@ -72,9 +72,9 @@ same_shown cap put taken f h same =
 
 -- what a station of a life shows
 pub shown_is : (l : Life) (station put taken : ℕ) (x : ClockStation) → IsStation l station put taken x
-    → shown_as (length x.places.items) x.put x.taken (token_in x.places.items) ≡ shown_as (capacity l.placement station) put taken (token_of_life l station)
+    → shown_as (length x.places.items) x.put x.taken (token_in x.places.items) ≡ shown_as (capacity l.setup.placement station) put taken (token_of_life l station)
 shown_is l station put taken x is =
     ap (λ (n : ℕ). shown_as n x.put x.taken (token_in x.places.items)) is.size
-    ∙ ap (λ (n : ℕ). shown_as (capacity l.placement station) n x.taken (token_in x.places.items)) is.put_is
-    ∙ ap (λ (n : ℕ). shown_as (capacity l.placement station) put n (token_in x.places.items)) is.taken_is
-    ∙ same_shown (capacity l.placement station) put taken (token_in x.places.items) (token_of_life l station) (λ some. is.tokens taken (omega arith) some)
+    ∙ ap (λ (n : ℕ). shown_as (capacity l.setup.placement station) n x.taken (token_in x.places.items)) is.put_is
+    ∙ ap (λ (n : ℕ). shown_as (capacity l.setup.placement station) put n (token_in x.places.items)) is.taken_is
+    ∙ same_shown (capacity l.setup.placement station) put taken (token_in x.places.items) (token_of_life l station) (λ some. is.tokens taken (omega arith) some)

@@ -20,12 +20,12 @@ use Rattle.lid_clock.specs.declared.clocked.Clocked.{Clocked}
 -- a life of these rows, in which nobody is held back
 pub record IsFreeLife (l : Life) (rows : List (List Bool)) : Type 0 where
   pub rules : IsLife l
-  pub input : l.input ≡ rows
+  pub input : l.setup.input ≡ rows
   pub nobody : (k : ℕ) → HoldsNobody l k
 
 -- the output rows of the first k cycles
 abbrev pub rows_after : Life → ℕ → List (List Bool)
-rows_after l k = from_each (output_row l.system l.table) 0 (fired_after l k (sink l))
+rows_after l k = from_each (output_row l.setup.system l.setup.table) 0 (fired_after l k (sink l))
 
 -- rows have the width of the sink
 abbrev pub AreOutWide : System → List (List Bool) → Type 0
@@ -34,8 +34,8 @@ AreOutWide s room = (b : Table Point) (t : ℕ) → All (λ row. length row ≡ 
 -- the room for output rows, of which those of the first k cycles were kept: so many
 pub record HasKept (l : Life) (k done : ℕ) (room : List (List Bool)) : Type 0 where
   pub count : done ≡ fired_after l k (sink l)
-  pub many : length room ≡ length l.input
-  pub wide : AreOutWide l.system room
+  pub many : length room ≡ length l.setup.input
+  pub wide : AreOutWide l.setup.system room
   pub rows : take done room ≡ rows_after l k
 
 -- the rows that vectors hold
@@ -65,6 +65,6 @@ IsClockedRun c = (l : Life) × (k : ℕ) × Clocks l k c
 -- a run is over after so many cycles: they are the least after which the sink has fired for each row, and
 -- within the bound, which there is
 pub record IsOver (l : Life) (cycles : ℕ) : Type 0 where
-  pub ends : IsFirstAtCap (marking (links_of l.system) l.placement) (cap_of (links_of l.system) (length l.input)) no_hold (sink l) cycles
-  pub within : IsWithinLag (links_of l.system) l.placement (length l.input) cycles
-  pub bound : HasBound (links_of l.system) l.placement (length l.input) cycles
+  pub ends : IsFirstAtCap (marking (links_of l.setup.system) l.setup.placement) (cap_of (links_of l.setup.system) (length l.setup.input)) no_hold (sink l) cycles
+  pub within : IsWithinLag (links_of l.setup.system) l.setup.placement (length l.setup.input) cycles
+  pub bound : HasBound (links_of l.setup.system) l.setup.placement (length l.setup.input) cycles

@@ -1,61 +1,46 @@
 -- Lives: all that a clocked run may depend on. A run is given rows one by one, so it is one of many lives: of
 -- each whose rows begin with those that were given, and whose hold is that of the cycles made.
 use Rattle.std.specs.Prelude.{◌≡◌, ℕ, ◌+◌, ◌-◌, ◌<◌, ◌≤◌, ◌==◌, Bool, false, if◌then◌else◌, List, length, Option, Some, None, slice_get}
-use Rattle.std.specs.List.{AllByRecursion}
 use Rattle.lid_base.specs.declared.runs.Shown.{Shown}
-use Rattle.lid_design.specs.Network.{Table}
 use Rattle.lid_graph.specs.Firings.{Counts, Hold}
 use Rattle.lid_system.specs.declared.System.{System}
-use Rattle.lid_system.specs.declared.Node.TheVariants.{Source}
-use Rattle.lid_system.specs.Systems.{Point, IsWellFormed}
-use Rattle.lid_system.specs.Tables.{IsTable}
 use Rattle.lid_system.specs.Streams.{output_row}
 use Rattle.lid_stations.specs.declared.placement.Placement.{Placement}
-use Rattle.lid_stations.specs.Placements.{links_of, Fits}
+use Rattle.lid_stations.specs.Placements.{links_of}
+use Rattle.lid_shell_laws.specs.Setups.{Setup, IsSetup}
 use Rattle.lid_shell_laws.specs.Runs.{sink_of, token_of, fired_in}
 use Rattle.lid_shell_laws.specs.Views.{shown_at}
 
--- a system with its stations, all input rows, their table, and who is held in each cycle
+-- a setup, and who is held in each cycle
 pub record Life : Type 0 where
-  pub system : System
-  pub placement : Placement
-  pub input : List (List Bool)
-  pub table : Table Point
+  pub setup : Setup
   pub hold : Hold
 
--- a row has the width of the source
-abbrev pub IsSourceWide : System → List Bool → Type 0
-IsSourceWide s row = (columns : List (List ℕ)) → slice_get s.nodes 0 ≡ Some (Source columns) → length row ≡ length columns
-
--- the rules of lives
-pub record IsLife (l : Life) : Type 0 where
-  pub system : IsWellFormed l.system
-  pub fits : Fits l.system l.placement
-  pub few : length l.input ≤ 1000000
-  pub wide : AllByRecursion (IsSourceWide l.system) l.input
-  pub table : IsTable l.system l.input l.table
+-- the rules of lives are those of their setups
+abbrev pub IsLife : Life → Type 0
+IsLife l = IsSetup l.setup
 
 -- how often each actor has fired after k cycles
 abbrev pub fired_after : Life → ℕ → Counts
-fired_after l k = fired_in (links_of l.system) l.placement (length l.input) l.hold k
+fired_after l k = fired_in (links_of l.setup.system) l.setup.placement (length l.setup.input) l.hold k
 
 -- the number of the sink
 abbrev pub sink : Life → ℕ
-sink l = sink_of (links_of l.system)
+sink l = sink_of (links_of l.setup.system)
 
 -- the source needs a row after k cycles, where g rows were given: it has fired for all rows but the last of
 -- these, and is not at its last firing
 pub record NeedsRow (l : Life) (k g : ℕ) : Type 0 where
-  pub goes_on : fired_after l k 0 + 1 < length l.input
+  pub goes_on : fired_after l k 0 + 1 < length l.setup.input
   pub lacks : g ≡ fired_after l k 0 + 1
 
 -- the sink has not yet fired for each row
 abbrev pub IsBelow : Life → ℕ → Type 0
-IsBelow l k = fired_after l k (sink l) < length l.input
+IsBelow l k = fired_after l k (sink l) < length l.setup.input
 
 -- what a station shows as cycle k begins
 abbrev pub shown_after : Life → ℕ → ℕ → Shown
-shown_after l k station = shown_at (links_of l.system) l.placement (length l.input) (fired_after l k) station (token_of l.system l.placement l.table station)
+shown_after l k station = shown_at (links_of l.setup.system) l.setup.placement (length l.setup.input) (fired_after l k) station (token_of l.setup.system l.setup.placement l.setup.table station)
 
 -- cycle k holds the source, the sink, both or neither, and nobody else
 abbrev pub Holds : Life → ℕ → Bool → Bool → Type 0
@@ -71,13 +56,13 @@ HasSunk l k = (j : ℕ) × (k ≡ j + 1) × (fired_after l k (sink l) ≡ fired_
 
 -- the output row of the last of k cycles, where the sink fired in it
 pub record IsLast (l : Life) (k : ℕ) (last : Option (List Bool)) : Type 0 where
-  pub some : HasSunk l k → last ≡ Some (output_row l.system l.table (fired_after l k (sink l) - 1))
+  pub some : HasSunk l k → last ≡ Some (output_row l.setup.system l.setup.table (fired_after l k (sink l) - 1))
   pub none : ¬ HasSunk l k → last ≡ None
 
 -- the life of a run that starts with a system, stations, a number of rows and the first of them
 pub record StartsSo (l : Life) (s : System) (p : Placement) (rows : ℕ) (first : Option (List Bool)) : Type 0 where
   pub rules : IsLife l
-  pub of : l.system ≡ s
-  pub stations : l.placement ≡ p
-  pub many : length l.input ≡ rows
-  pub begins : slice_get l.input 0 ≡ first
+  pub of : l.setup.system ≡ s
+  pub stations : l.setup.placement ≡ p
+  pub many : length l.setup.input ≡ rows
+  pub begins : slice_get l.setup.input 0 ≡ first

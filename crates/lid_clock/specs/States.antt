@@ -16,38 +16,38 @@ use Rattle.lid_clock.specs.Lives.{Life, IsLife, fired_after, sink, NeedsRow, Has
 
 -- the stations that an actor of a life drains, and those that it fills
 abbrev pub ins_of : Life → ℕ → List ℕ
-ins_of l v = drained_by (links_of l.system) l.placement v
+ins_of l v = drained_by (links_of l.setup.system) l.setup.placement v
 
 abbrev pub outs_of : Life → ℕ → List ℕ
-outs_of l v = filled_by (links_of l.system) l.placement v
+outs_of l v = filled_by (links_of l.setup.system) l.setup.placement v
 
 -- the token of a number of a station
 abbrev pub token_of_life : Life → ℕ → ℕ → ℕ
-token_of_life l station i = token_of l.system l.placement l.table station i
+token_of_life l station i = token_of l.setup.system l.setup.placement l.setup.table station i
 
 -- how many tokens were put in a station after k cycles, and how many were taken
 abbrev pub put_after : Life → ℕ → ℕ → ℕ
-put_after l k station = in_count (links_of l.system) l.placement (length l.input) (fired_after l k) station
+put_after l k station = in_count (links_of l.setup.system) l.setup.placement (length l.setup.input) (fired_after l k) station
 
 abbrev pub taken_after : Life → ℕ → ℕ → ℕ
-taken_after l k station = out_count (links_of l.system) l.placement (fired_after l k) station
+taken_after l k station = out_count (links_of l.setup.system) l.setup.placement (fired_after l k) station
 
 -- the actors of a life
 abbrev pub actors_of : Life → ℕ
-actors_of l = actor_count (links_of l.system) l.placement
+actors_of l = actor_count (links_of l.setup.system) l.setup.placement
 
 -- the stations of a life
 abbrev pub stations_of : Life → ℕ
-stations_of l = station_count l.placement.relays
+stations_of l = station_count l.setup.placement.relays
 
 -- a station in which so many tokens were put, and from which so many were taken
 pub record IsStation (l : Life) (station put taken : ℕ) (x : ClockStation) : Type 0 where
-  pub filled : x.filler ≡ filler (links_of l.system) l.placement station
+  pub filled : x.filler ≡ filler (links_of l.setup.system) l.setup.placement station
   pub slot : slice_get (outs_of l x.filler) x.slot ≡ Some station
-  pub drained : x.drainer ≡ drainer (links_of l.system) l.placement station
+  pub drained : x.drainer ≡ drainer (links_of l.setup.system) l.setup.placement station
   pub put_is : x.put ≡ put
   pub taken_is : x.taken ≡ taken
-  pub size : length x.places.items ≡ capacity l.placement station
+  pub size : length x.places.items ≡ capacity l.setup.placement station
   pub tokens : (i : ℕ) → taken ≤ i → i < put → token_in x.places.items i ≡ token_of_life l station i
 
 -- all stations after k cycles
@@ -59,21 +59,21 @@ pub record AreStations (l : Life) (k : ℕ) (stations : List ClockStation) : Typ
 pub record HoldsLast (l : Life) (g fired : ℕ) (row : List Bool) : Type 0 where
   pub next : fired + 1 ≤ g
   pub near : g ≤ fired + 2
-  pub is : slice_get l.input (g - 1) ≡ Some row
+  pub is : slice_get l.setup.input (g - 1) ≡ Some row
 
 -- the part of an actor that has fired so often
 abbrev pub IsRole : Life → ℕ → ℕ → ℕ → Role → Type 0
-IsRole l g v fired (Source node row) = (v ≡ 0) × IsSourceOf l.system node × (0 < length l.input → HoldsLast l g fired row.items)
-IsRole l g v fired (Shell node) = (0 < v) × (v + 1 < length l.system.nodes) × IsShellOf l.system l.table v fired node
-IsRole l g v fired Mover = length l.system.nodes ≤ v
-IsRole l g v fired (Sink node row) = IsSinkOf l.system v node
+IsRole l g v fired (Source node row) = (v ≡ 0) × IsSourceOf l.setup.system node × (0 < length l.setup.input → HoldsLast l g fired row.items)
+IsRole l g v fired (Shell node) = (0 < v) × (v + 1 < length l.setup.system.nodes) × IsShellOf l.setup.system l.setup.table v fired node
+IsRole l g v fired Mover = length l.setup.system.nodes ≤ v
+IsRole l g v fired (Sink node row) = IsSinkOf l.setup.system v node
 
 -- an actor that has fired so often
 pub record IsActor (l : Life) (g v fired : ℕ) (a : ClockActor) : Type 0 where
   pub there : v < actors_of l
   pub drains : a.ins.items ≡ ins_of l v
   pub fills : a.outs.items ≡ outs_of l v
-  pub capped : a.cap ≡ cap_of (links_of l.system) (length l.input) v
+  pub capped : a.cap ≡ cap_of (links_of l.setup.system) (length l.setup.input) v
   pub fired_is : a.fired ≡ fired
   pub places : HasPlaces a
   pub is : IsRole l g v fired a.part
@@ -89,7 +89,7 @@ pub record Decided (l : Life) (k g v : ℕ) (a : ClockActor) : Type 0 where
   pub goes : a.went ≡ true → fired_after l (suc k) v ≡ fired_after l k v + 1
   pub rests : a.went ≡ false → fired_after l (suc k) v ≡ fired_after l k v
   pub offers : a.went ≡ true → (i station : ℕ) → slice_get (outs_of l v) i ≡ Some station → get_or a.tokens.items i 0 ≡ token_of_life l station (put_after l k station)
-  pub row : a.went ≡ true → v ≡ sink l → row_of a.part ≡ Some (output_row l.system l.table (fired_after l k v))
+  pub row : a.went ≡ true → v ≡ sink l → row_of a.part ≡ Some (output_row l.setup.system l.setup.table (fired_after l k v))
 
 -- all actors after their decisions in cycle k
 pub record AreDecided (l : Life) (k g : ℕ) (actors : List ClockActor) : Type 0 where
@@ -144,5 +144,5 @@ Settles old actors new =
 
 -- what the sink shows of the last of k cycles: whether it fired, and its row
 pub record IsLatest (l : Life) (k : ℕ) (a : ClockActor) : Type 0 where
-  pub fired : a.went ≡ true → HasSunk l k × (row_of a.part ≡ Some (output_row l.system l.table (fired_after l k (sink l) - 1)))
+  pub fired : a.went ≡ true → HasSunk l k × (row_of a.part ≡ Some (output_row l.setup.system l.setup.table (fired_after l k (sink l) - 1)))
   pub rested : a.went ≡ false → ¬ (HasSunk l k)

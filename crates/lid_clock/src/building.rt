@@ -5,7 +5,7 @@ ghost use Rattle.lid_system.specs.Systems.{IsWellFormed};
 ghost use Rattle.lid_stations.specs.Placements.{links_of, Fits};
 ghost use Rattle.lid_stations.specs.Stations.{actor_count};
 ghost use Rattle.lid_shell_laws.specs.Runs.{cap_of};
-ghost use Rattle.lid_clock.specs.Lives.{IsSourceWide};
+ghost use Rattle.lid_shell_laws.specs.Setups.{IsInputRow};
 ghost use Rattle.lid_clock.specs.Ran.{lent};
 ghost use Rattle.lid_clock.specs.Starts.{IsNewRole, IsNew, IsAlone, AreUnjoined};
 
@@ -31,7 +31,7 @@ fn held_row(alloc: Global, first: Option<&[bool]>, width: usize) -> Result<Vec<b
 /// The source, which holds the first row.
 fn source_part(alloc: Global, system: &System, first: Option<&[bool]>) -> Result<Role, AllocError>
     requires system { IsWellFormed system.now }
-    requires first { IfSome (lent first) (IsSourceWide system.now) }
+    requires first { IfSome (lent first) (IsInputRow system.now) }
     ensures { IfOk result (IsNewRole system.now (lent first.entry) 0) }
 {
     let node = SourceNode::of(alloc, system)?;
@@ -67,7 +67,7 @@ fn new_part(
     v: u32,
 ) -> Result<Role, AllocError>
     requires system { IsWellFormed system.now }
-    requires first { IfSome (lent first) (IsSourceWide system.now) }
+    requires first { IfSome (lent first) (IsInputRow system.now) }
     requires few { v < 2147483648 }
     ensures { IfOk result (IsNewRole system.now (lent first.entry) v) }
 {
@@ -105,7 +105,7 @@ fn new_actor(
     v: u32,
 ) -> Result<ClockActor, AllocError>
     requires system { IsWellFormed system.now }
-    requires first { IfSome (lent first) (IsSourceWide system.now) }
+    requires first { IfSome (lent first) (IsInputRow system.now) }
     requires few { v < 2147483648 }
     ensures new { IfOk result (IsNew system.now rows (lent first.entry) v) }
     ensures alone { IfOk result IsAlone }
@@ -143,7 +143,7 @@ pub(crate) fn new_actors(
 ) -> Result<Vec<ClockActor>, AllocError>
     requires system { IsWellFormed system.now }
     requires fits { Fits system.now placement.now }
-    requires first { IfSome (lent first) (IsSourceWide system.now) }
+    requires first { IfSome (lent first) (IsInputRow system.now) }
     ensures { IfOk result (λ actors. AreUnjoined system.now rows (lent first.entry) (actor_count (links_of system.now) placement.now) actors.items) }
 {
     let mut actors = Vec::new(alloc);

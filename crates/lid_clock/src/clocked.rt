@@ -7,7 +7,8 @@ ghost use Rattle.lid_system.specs.Systems.{Point, IsWellFormed};
 ghost use Rattle.lid_system.specs.Streams.{output_row};
 ghost use Rattle.lid_stations.specs.Placements.{links_of, station_count, Fits};
 ghost use Rattle.lid_stations.specs.Stations.{actor_count};
-ghost use Rattle.lid_clock.specs.Lives.{Life, IsSourceWide, NeedsRow, IsBelow, fired_after, shown_after};
+ghost use Rattle.lid_clock.specs.Lives.{Life, NeedsRow, IsBelow, fired_after, shown_after};
+ghost use Rattle.lid_shell_laws.specs.Setups.{IsInputRow};
 ghost use Rattle.lid_clock.specs.Clocks.{IsFreeLife, Clocks, HasCycled, IsClockedRun, IsOver, rows_after, rows_in};
 
 use crate::stream::ClockStream;
@@ -82,8 +83,8 @@ impl<'r> Clocked<'r> {
         requires system { IsWellFormed system.now }
         requires fits { Fits system.now placement.now }
         requires few { length rows.now.bits ≤ 1000000 }
-        requires wide { AllByRecursion (IsSourceWide system.now) rows.now.bits }
-        ensures { IfOk result (λ c. (l : Life) → IsFreeLife l rows.now.bits → l.system ≡ system.now → l.placement ≡ placement.now → Clocks l 0 c) }
+        requires wide { AllByRecursion (IsInputRow system.now) rows.now.bits }
+        ensures { IfOk result (λ c. (l : Life) → IsFreeLife l rows.now.bits → l.setup.system ≡ system.now → l.setup.placement ≡ placement.now → Clocks l 0 c) }
     {
         let count = rows.bits.len();
         let stream = ClockStream::start(alloc, system, placement, count as u64, first_of(rows))?;
@@ -170,7 +171,7 @@ impl<'r> Clocked<'r> {
 
     /// What a station shows.
     pub fn show(&self, station: u32) -> Shown
-        requires { (l : Life) × (k : ℕ) × Clocks l k self.now × (station < station_count l.placement.relays) }
+        requires { (l : Life) × (k : ℕ) × Clocks l k self.now × (station < station_count l.setup.placement.relays) }
         ensures { (l : Life) (k : ℕ) → Clocks l k self.now → result ≡ shown_after l k station }
     {
         self.stream.show(station)
@@ -178,7 +179,7 @@ impl<'r> Clocked<'r> {
 
     /// How often an actor has fired.
     pub fn fired(&self, actor: u32) -> u64
-        requires { (l : Life) × (k : ℕ) × Clocks l k self.now × (actor < actor_count (links_of l.system) l.placement) }
+        requires { (l : Life) × (k : ℕ) × Clocks l k self.now × (actor < actor_count (links_of l.setup.system) l.setup.placement) }
         ensures { (l : Life) (k : ℕ) → Clocks l k self.now → result ≡ fired_after l k actor }
     {
         self.stream.fired(actor)

@@ -45,7 +45,7 @@ impl ClockStream {
     /// Takes the next row, where one is wanting. The row has the width of the source.
     pub fn give(&mut self, row: &[bool])
         requires { CanGive self.old row.now }
-        ensures { (l : Life) (k g : ℕ) → Ran l k g self.old → slice_get l.input g ≡ Some row.now → Ran l k (g + 1) self.new }
+        ensures { (l : Life) (k g : ℕ) → Ran l k g self.old → slice_get l.setup.input g ≡ Some row.now → Ran l k (g + 1) self.new }
     {
         let actors = self.actors.as_mut_slice();
         actors[0].receive(row);
@@ -74,7 +74,7 @@ impl ClockStream {
 
     /// What a station shows as the next cycle begins. The station exists.
     pub fn show(&self, station: u32) -> Shown
-        requires { (l : Life) × (k : ℕ) × (g : ℕ) × Ran l k g self.now × (station < station_count l.placement.relays) }
+        requires { (l : Life) × (k : ℕ) × (g : ℕ) × Ran l k g self.now × (station < station_count l.setup.placement.relays) }
         ensures { (l : Life) (k g : ℕ) → Ran l k g self.now → result ≡ shown_after l k station }
     {
         self.stations[station as usize].shown()
@@ -82,7 +82,7 @@ impl ClockStream {
 
     /// How often an actor has fired. The actor exists.
     pub fn fired(&self, actor: u32) -> u64
-        requires { (l : Life) × (k : ℕ) × (g : ℕ) × Ran l k g self.now × (actor < actor_count (links_of l.system) l.placement) }
+        requires { (l : Life) × (k : ℕ) × (g : ℕ) × Ran l k g self.now × (actor < actor_count (links_of l.setup.system) l.setup.placement) }
         ensures { (l : Life) (k g : ℕ) → Ran l k g self.now → result ≡ fired_after l k actor }
     {
         self.actors[actor as usize].fired

@@ -7,7 +7,8 @@ use Rattle.lid_system.specs.Systems.{IsWellFormed}
 use Rattle.lid_system.specs.Tables.{system_drivers}
 use Rattle.lid_stations.specs.declared.placement.Placement.{Placement}
 use Rattle.lid_stations.specs.Placements.{Fits}
-use Rattle.lid_clock.specs.Lives.{Life, IsLife, IsSourceWide, Holds}
+use Rattle.lid_clock.specs.Lives.{Life, IsLife, Holds}
+use Rattle.lid_shell_laws.specs.Setups.{IsInputRow}
 use Rattle.lid_clock.specs.declared.clocked.Clocked.{Clocked}
 use Rattle.lid_clock.specs.Clocks.{IsFreeLife, Clocks, IsClockedRun}
 use Rattle.lid_clock_tests.specs.Runs.{IsFreeFrom}
@@ -26,9 +27,9 @@ nobody s zero v = both (v == 0) (v == (length s.nodes - 1))
 nobody s (suc k) v = refl
 
 module _ (s : System) (p : Placement) (rows : List (List Bool)) (held : Bool)
-    (formed : IsWellFormed s) (fits : Fits s p) (few : length rows ≤ 1000000) (wide : AllByRecursion (IsSourceWide s) rows) (tables : HasTable (system_drivers s)) where
+    (formed : IsWellFormed s) (fits : Fits s p) (few : length rows ≤ 1000000) (wide : AllByRecursion (IsInputRow s) rows) (tables : HasTable (system_drivers s)) where
   abbrev pub life : Life
-  life = record { system = s; placement = p; input = rows; table = (tables rows).0; hold = hold_of s held }
+  life = record { setup = record { system = s; placement = p; input = rows; table = (tables rows).0 }; hold = hold_of s held }
 
   pub rules : IsLife life
   rules = record { system = formed; fits = fits; few = few; wide = wide; table = (tables rows).1 }
@@ -41,8 +42,8 @@ module _ (s : System) (p : Placement) (rows : List (List Bool)) (held : Bool)
   free (suc k) late = λ v. refl
 
 -- a run over these rows that has started is one of a life in which nobody is held
-pub starts : (s : System) (p : Placement) (rows : List (List Bool)) (formed : IsWellFormed s) (fits : Fits s p) (few : length rows ≤ 1000000) (wide : AllByRecursion (IsSourceWide s) rows) (tables : HasTable (system_drivers s))
-    (c : Clocked) → ((l : Life) → IsFreeLife l rows → l.system ≡ s → l.placement ≡ p → Clocks l 0 c) → IsClockedRun c
+pub starts : (s : System) (p : Placement) (rows : List (List Bool)) (formed : IsWellFormed s) (fits : Fits s p) (few : length rows ≤ 1000000) (wide : AllByRecursion (IsInputRow s) rows) (tables : HasTable (system_drivers s))
+    (c : Clocked) → ((l : Life) → IsFreeLife l rows → l.setup.system ≡ s → l.setup.placement ≡ p → Clocks l 0 c) → IsClockedRun c
 starts s p rows formed fits few wide tables c started =
     let l = life s p rows false formed fits few wide tables in
     let free : IsFreeLife l rows = record {

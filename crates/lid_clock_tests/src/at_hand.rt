@@ -4,7 +4,7 @@ ghost use Rattle.std.specs.Prelude.{◌≤◌, length};
 ghost use Rattle.std.specs.List.{AllByRecursion};
 ghost use Rattle.lid_system.specs.Systems.{IsWellFormed};
 ghost use Rattle.lid_stations.specs.Placements.{Fits};
-ghost use Rattle.lid_clock.specs.Lives.{IsSourceWide};
+ghost use Rattle.lid_shell_laws.specs.Setups.{IsInputRow};
 ghost use Rattle.lid_clock.specs.Clocks.{IsClockedRun};
 
 use crate::letters::{bit_letter, digit, letter, shown_letter};
@@ -94,7 +94,7 @@ fn runs(
     requires system { IsWellFormed system.now }
     requires fits { Fits system.now placement.now }
     requires few { length rows.now.bits ≤ 1000000 }
-    requires wide { AllByRecursion (IsSourceWide system.now) rows.now.bits }
+    requires wide { AllByRecursion (IsInputRow system.now) rows.now.bits }
 {
     systems_have_one_table();
     let Ok(mut clocked) = Clocked::start(alloc, system, placement, rows) else {

@@ -4,7 +4,7 @@ ghost use Rattle.std.specs.Prelude.{◌≡◌, ◌≤◌, min, length, option_ma
 ghost use Rattle.std.specs.List.{AllByRecursion};
 ghost use Rattle.lid_system.specs.Systems.{IsWellFormed};
 ghost use Rattle.lid_stations.specs.Placements.{Fits};
-ghost use Rattle.lid_clock.specs.Lives.{IsSourceWide};
+ghost use Rattle.lid_shell_laws.specs.Setups.{IsInputRow};
 ghost use Rattle.lid_clock_tests.specs.Runs.{IsAlive, StreamIsFed, FeedsStream, StreamBegins, StreamGoes};
 
 use crate::letters::{digit, letter, row_letter, shown_letter};
@@ -179,7 +179,7 @@ fn runs(
     requires system { IsWellFormed system.now }
     requires fits { Fits system.now placement.now }
     requires few { length rows.now ≤ 1000000 }
-    requires wide { AllByRecursion (IsSourceWide system.now) rows.now }
+    requires wide { AllByRecursion (IsInputRow system.now) rows.now }
 {
     systems_have_one_table();
     match ClockStream::start(alloc, system, placement, rows.len() as u64, first_of(rows)) {

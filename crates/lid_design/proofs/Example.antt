@@ -6,7 +6,8 @@ use Rattle.lid_base.specs.Lists.{Among}
 use Rattle.lid_cover.specs.declared.Cover.{Cover}
 use Rattle.lid_design.specs.declared.Flat.{Flat}
 use Rattle.lid_design.specs.Network.{Driver, from_input, from_latch, from_cover}
-use Rattle.lid_design.specs.Walks.{read_now, EdgesLead, IsDriven, IsDrivenOnce}
+use Rattle.lid_design.specs.Walks.{IsDriven, IsDrivenOnce}
+use Rattle.lid_design.specs.Feeds.{read_now, EdgesLead}
 use Rattle.lid_design.specs.Flat.{flat_drivers, IsNumbered, IsFlatCover, IsFlat}
 
 abbrev both : Cover

@@ -10,7 +10,8 @@ use Rattle.lid_design.specs.declared.Flat.{Flat}
 use Rattle.lid_design.specs.declared.FlatLatch.{FlatLatch}
 use Rattle.lid_design.specs.declared.FlatCover.{FlatCover}
 use Rattle.lid_design.specs.Network.{Driver, from_input, from_latch, from_cover, Table, bit_of, IsStrict}
-use Rattle.lid_design.specs.Walks.{read_now, read_before, Feeds, EdgesLead, WalksEnd, IsDriven, AreReadsDriven}
+use Rattle.lid_design.specs.Walks.{read_before, WalksEnd, IsDriven, AreReadsDriven}
+use Rattle.lid_design.specs.Feeds.{read_now, Feeds, EdgesLead}
 use Rattle.lid_design.specs.Flat.{inputs_at, latch_at, cover_at, flat_drivers, latch_out, latch_input, latch_init, ReadEarlier, IsFlat, state_at, MeetsRow}
 use Rattle.lid_base.proofs.Alls.{all_from_among}
 

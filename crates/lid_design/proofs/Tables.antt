@@ -6,7 +6,8 @@ use Rattle.lid_base.specs.Lists.{Among}
 use Rattle.lid_base.proofs.Lists.{among_left, among_right, all_among, some_item, map_same}
 use Rattle.lid_cover.specs.Cover.{cover_value}
 use Rattle.lid_design.specs.Network.{Driver, from_input, from_latch, from_cover, from_connection, Table, latch_bit, bit_of, IsStrict}
-use Rattle.lid_design.specs.Walks.{read_now, read_before, Feeds, EdgesLead, HasNoWalk, WalksEnd, IsDriven, IsDrivenOnce, AreReadsDriven, HasTable, HasOneTable}
+use Rattle.lid_design.specs.Walks.{read_before, HasNoWalk, WalksEnd, IsDriven, IsDrivenOnce, AreReadsDriven, HasTable, HasOneTable}
+use Rattle.lid_design.specs.Feeds.{read_now, Feeds, EdgesLead}
 
 -- what a driver gives, from the input row, the latch bits and the bits of the same row
 abbrev pub bit_by : {C : Type 0} → List Bool → (Bool → C → Bool) → (C → Bool) → Driver C → Bool

@@ -8,7 +8,8 @@ use Rattle.lid_design.specs.declared.Flat.{Flat}
 use Rattle.lid_design.specs.declared.FlatLatch.{FlatLatch}
 use Rattle.lid_design.specs.declared.FlatCover.{FlatCover}
 use Rattle.lid_design.specs.Network.{Driver, from_input, from_latch, from_cover, Table}
-use Rattle.lid_design.specs.Walks.{EdgesLead, IsDriven, IsDrivenOnce}
+use Rattle.lid_design.specs.Walks.{IsDriven, IsDrivenOnce}
+use Rattle.lid_design.specs.Feeds.{EdgesLead}
 
 -- the inputs that are net k, each by its place, where the first of them has place j
 abbrev pub inputs_at : ℕ → ℕ → List ℕ → List (Driver ℕ)

@@ -1,5 +1,6 @@
 pub mod Network
 pub mod Columns
+pub mod Feeds
 pub mod Walks
 pub mod Models
 pub mod Elaboration

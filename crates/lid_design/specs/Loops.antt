@@ -3,7 +3,7 @@ use Rattle.std.specs.Prelude.{◌≡◌, ℕ, zero, suc, ◌==◌, if◌then◌e
 use Rattle.std.specs.List.{range_with_len}
 use Rattle.lid_design.specs.declared.Design.{Design}
 use Rattle.lid_design.specs.Columns.{Column, column, drivers}
-use Rattle.lid_design.specs.Walks.{Feeds, EdgesLead}
+use Rattle.lid_design.specs.Feeds.{Feeds, EdgesLead}
 use Rattle.lid_design.specs.Models.{insts_of}
 
 -- a column of the elaborated graph lies on a closed walk. An edge leads to each column from those

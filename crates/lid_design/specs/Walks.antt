@@ -1,14 +1,8 @@
 -- Walks along what columns read, and what is wanted of a network so that it has one strict table.
-use Rattle.std.specs.Prelude.{◌≡◌, ℕ, zero, suc, ◌<◌, ◌≤◌, Bool, List, [], ◌∷◌, ◌++◌, length}
+use Rattle.std.specs.Prelude.{◌≡◌, ℕ, ◌<◌, ◌≤◌, Bool, List, [], ◌∷◌, ◌++◌, length}
 use Rattle.lid_base.specs.Lists.{Among}
 use Rattle.lid_design.specs.Network.{Driver, from_input, from_latch, from_cover, from_connection, Table, IsStrict}
-
--- the columns whose bits of the same row a driver reads
-abbrev pub read_now : {C : Type 0} → Driver C → List C
-read_now (from_input j) = []
-read_now (from_latch first input) = []
-read_now (from_cover cover inputs) = inputs
-read_now (from_connection c) = c ∷ []
+use Rattle.lid_design.specs.Feeds.{read_now, EdgesLead}
 
 -- the columns whose bits of the row before a driver reads
 abbrev pub read_before : {C : Type 0} → Driver C → List C
@@ -16,15 +10,6 @@ read_before (from_input j) = []
 read_before (from_latch first input) = input ∷ []
 read_before (from_cover cover inputs) = []
 read_before (from_connection c) = []
-
--- a driver of c reads a in the same row
-abbrev pub Feeds : {C : Type 0} → (C → List (Driver C)) → C → C → Type 0
-Feeds {C} drivers a c = (s : Driver C) × Among s (drivers c) × Among a (read_now s)
-
--- so many edges lead from a to c
-abbrev pub EdgesLead : {C : Type 0} → (C → List (Driver C)) → ℕ → C → C → Type 0
-EdgesLead drivers zero a c = a ≡ c
-EdgesLead {C} drivers (suc n) a c = (b : C) × EdgesLead drivers n a b × Feeds drivers b c
 
 -- no walk of n edges ends at c
 abbrev pub HasNoWalk : {C : Type 0} → (C → List (Driver C)) → ℕ → C → Type 0

@@ -4,7 +4,8 @@ use Rattle.std.specs.List.{AllByRecursion}
 use Rattle.lid_base.specs.Lists.{Among}
 use Rattle.lid_cover.specs.Cover.{IsCover}
 use Rattle.lid_design.specs.Network.{Driver, from_input, from_latch, from_cover, from_connection}
-use Rattle.lid_design.specs.Walks.{read_now, read_before}
+use Rattle.lid_design.specs.Walks.{read_before}
+use Rattle.lid_design.specs.Feeds.{read_now}
 use Rattle.lid_design.specs.Flat.{IsFlat}
 use Rattle.lid_emit_circuit.specs.Wires.{Wire, given, steady, place}
 use Rattle.lid_emit_circuit.specs.Plans.{CircuitPlan}

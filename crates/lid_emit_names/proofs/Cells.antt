@@ -8,7 +8,8 @@ use Rattle.lid_design.specs.declared.Cell.TheVariants.{Names, Latch}
 use Rattle.lid_design.specs.declared.LatchKind.TheVariants.{Plain}
 use Rattle.lid_design.specs.Network.{Driver, from_input, from_latch, from_cover, from_connection}
 use Rattle.lid_design.specs.Models.{cell_out, cell_reads}
-use Rattle.lid_design.specs.Walks.{read_now, read_before}
+use Rattle.lid_design.specs.Walks.{read_before}
+use Rattle.lid_design.specs.Feeds.{read_now}
 use Rattle.lid_emit_circuit.specs.Wires.{Wire}
 use Rattle.lid_emit_circuit.specs.Plans.{CircuitPlan}
 use Rattle.lid_emit_circuit.specs.Network.{emitted}

@@ -11,7 +11,7 @@ use Rattle.lid_design.specs.declared.Cell.{Cell}
 use Rattle.lid_design.specs.declared.Cell.TheVariants.{Names}
 use Rattle.lid_design.specs.Network.{Driver, from_input, from_latch, from_cover, from_connection}
 use Rattle.lid_base.specs.Each.{from_each}
-use Rattle.lid_design.specs.Walks.{read_now}
+use Rattle.lid_design.specs.Feeds.{read_now}
 use Rattle.lid_design.specs.Models.{cell_reads}
 use Rattle.lid_design.specs.WellFormed.{IsWellFormed, IsWellFormedCell}
 use Rattle.lid_check_laws.specs.Plain.{IsUnclocked, AreAmong, pearl_drivers, IsPlainPearl, IsRising, IsApart}

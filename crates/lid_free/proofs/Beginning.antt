@@ -23,7 +23,8 @@ use Rattle.lid_board.specs.Views.{Ends, at}
 use Rattle.lid_board.specs.declared.board.Board.{Board}
 use Rattle.lid_board.specs.declared.hand.Hand.{Hand}
 use Rattle.lid_walk_machine.specs.Plans.{stations_of, start_of, room_of, stream}
-use Rattle.lid_walk_machine.specs.Setups.{Setup, IsSetup, plan}
+use Rattle.lid_walk_machine.specs.Setups.{plan}
+use Rattle.lid_shell_laws.specs.Setups.{Setup, IsSetup}
 use Rattle.lid_walk.specs.Setups.{IsSetupOf}
 use Rattle.lid_walk.specs.Firsts.{first_token, first_tokens}
 use Rattle.lid_walk.proofs.Opening.{places_many, first_at, firsts_many, counted, begins, rooms}

@@ -10,9 +10,9 @@ use Rattle.lid_station.specs.declared.pair.Pair.{Pair}
 use Rattle.lid_shell_laws.specs.Runs.{place_in}
 use Rattle.lid_stations.proofs.Spots.{stands_between}
 use Rattle.lid_walk_machine.specs.Plans.{actors_of, stations_of, sink, ins_of, outs_of, drainer_of, filler_of, cap, start_of}
-use Rattle.lid_walk_machine.specs.Setups.{Setup, IsSetup, plan, output_rows}
-use Rattle.lid_walk_machine.specs.Machine.{Progress, State, begun, takes_from, puts_from, taken_by, in_count, out_count}
-use Rattle.lid_walk_machine.specs.Laws.{sweeps}
+use Rattle.lid_walk_machine.specs.Setups.{plan, output_rows}
+use Rattle.lid_shell_laws.specs.Setups.{Setup, IsSetup}
+use Rattle.lid_walk_machine.specs.Machine.{Progress, State, begun, takes_from, puts_from, taken_by, in_count, out_count, sweeps}
 use Rattle.lid_walk_machine.proofs.Sweeps.{many, settles}
 use Rattle.lid_walk_machine.proofs.Sound.{sound_begun}
 use Rattle.lid_shell.specs.declared.actor.Actor.{Actor}
@@ -22,8 +22,7 @@ use Rattle.lid_walk.proofs.Turning.{as_far}
 use Rattle.lid_walk.specs.declared.walk.Walk.{Walk}
 use Rattle.lid_walk.proofs.Numbers.{sink_there}
 use Rattle.lid_walk.proofs.Sweeping.{count, count_more}
-use Rattle.lid_free_crew.specs.Posts.{no_turns}
-use Rattle.lid_free_crew.specs.Tallies.{AddsUp, sum_below}
+use Rattle.lid_free_crew.specs.Tallies.{no_turns, AddsUp, sum_below}
 use Rattle.lid_free_crew.specs.Shares.{numbers_of}
 use Rattle.lid_free.specs.FreeRuns.{IsShareTally, FitStations, AreWithinRounds, FirstTurnsFire, AreSweeps, Finishes, IsNothing, IsFreeEnd, rounds_made, state_at}
 use Rattle.lid_free.specs.Gathering.{fired_of, AreGathered}

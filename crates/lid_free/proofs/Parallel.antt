@@ -12,7 +12,8 @@ use Rattle.lid_board.specs.Views.{at, facts}
 use Rattle.lid_board.specs.declared.board.Board.{Board}
 use Rattle.lid_board.specs.declared.view.EndFacts.{EndFacts}
 use Rattle.lid_walk_machine.specs.Plans.{actors_of, cap}
-use Rattle.lid_walk_machine.specs.Setups.{Setup, plan}
+use Rattle.lid_walk_machine.specs.Setups.{plan}
+use Rattle.lid_shell_laws.specs.Setups.{Setup}
 use Rattle.lid_walk_machine.specs.Machine.{Progress}
 use Rattle.lid_shell.specs.declared.actor.Actor.{Actor}
 use Rattle.lid_shell.specs.Steps.{Works}

@@ -7,7 +7,8 @@ use Rattle.std.proofs.lemmas.List.{with_items_is}
 use Rattle.lid_base.specs.declared.runs.Tally.{Tally}
 use Rattle.lid_station.specs.declared.pair.Pair.{Pair}
 use Rattle.lid_walk_machine.specs.Plans.{actors_of, stations_of}
-use Rattle.lid_walk_machine.specs.Setups.{Setup, plan}
+use Rattle.lid_walk_machine.specs.Setups.{plan}
+use Rattle.lid_shell_laws.specs.Setups.{Setup}
 use Rattle.lid_shell.specs.declared.actor.Actor.{Actor}
 use Rattle.lid_free_crew.specs.Posts.{IsReady}
 use Rattle.lid_free_crew.specs.declared.worker.Worker.{Worker}

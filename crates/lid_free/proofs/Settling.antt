@@ -7,9 +7,10 @@ use Rattle.std.proofs.lemmas.Bool.{cases_lt}
 use Rattle.std.proofs.Math.Nat.{add-mul, one-mul, mul-le-mul_right}
 use Rattle.lid_base.specs.Each.{from_each}
 use Rattle.lid_walk_machine.specs.Plans.{actors_of, cap}
-use Rattle.lid_walk_machine.specs.Setups.{Setup, IsSetup, plan}
-use Rattle.lid_walk_machine.specs.Machine.{State, sweep}
-use Rattle.lid_walk_machine.specs.Laws.{AllRest, IsSettled, HasSwept as MachineSwept, sweeps}
+use Rattle.lid_walk_machine.specs.Setups.{plan}
+use Rattle.lid_shell_laws.specs.Setups.{Setup, IsSetup}
+use Rattle.lid_walk_machine.specs.Machine.{State, sweep, IsSettled, sweeps}
+use Rattle.lid_walk_machine.specs.Laws.{AllRest, HasSwept as MachineSwept}
 use Rattle.lid_walk_machine.proofs.Sweeps.{has_swept, many}
 use Rattle.lid_walk.proofs.Numbers.{few_actors}
 use Rattle.lid_walk.proofs.Sweeping.{count}

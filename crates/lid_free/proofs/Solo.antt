@@ -11,9 +11,9 @@ use Rattle.lid_board.specs.Views.{at, facts}
 use Rattle.lid_board.specs.declared.board.Board.{Board}
 use Rattle.lid_shell_laws.specs.Runs.{place_in}
 use Rattle.lid_walk_machine.specs.Plans.{Plan, actors_of, stations_of, ins_of, outs_of, drainer_of, filler_of, start_of}
-use Rattle.lid_walk_machine.specs.Setups.{Setup, IsSetup, plan}
-use Rattle.lid_walk_machine.specs.Machine.{Progress, State, begun, takes_from, puts_from, in_count, out_count}
-use Rattle.lid_walk_machine.specs.Laws.{sweeps}
+use Rattle.lid_walk_machine.specs.Setups.{plan}
+use Rattle.lid_shell_laws.specs.Setups.{Setup, IsSetup}
+use Rattle.lid_walk_machine.specs.Machine.{Progress, State, begun, takes_from, puts_from, in_count, out_count, sweeps}
 use Rattle.lid_shell.specs.declared.actor.Actor.{Actor}
 use Rattle.lid_shell.specs.Boards.{ServesBoth, ServesAll}
 use Rattle.lid_walk_machine.proofs.Counts.{early}

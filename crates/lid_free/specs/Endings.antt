@@ -2,7 +2,8 @@
 use Rattle.std.specs.Prelude.{◌≡◌, ℕ, ◌<◌, ◌≤◌, length, Some, slice_get}
 use Rattle.lid_base.specs.declared.runs.Tally.{Tally}
 use Rattle.lid_walk_machine.specs.Plans.{actors_of, stations_of, sink}
-use Rattle.lid_walk_machine.specs.Setups.{Setup, plan, output_rows}
+use Rattle.lid_walk_machine.specs.Setups.{plan, output_rows}
+use Rattle.lid_shell_laws.specs.Setups.{Setup}
 use Rattle.lid_shell.specs.Parts.{AreColumnsAtSink}
 use Rattle.lid_free.specs.FreeRuns.{IsShareTally, FitStations, AreWithinRounds, FirstTurnsFire, AreSweeps, Finishes}
 use Rattle.lid_free.specs.declared.run.FreeEnd.{FreeEnd}

@@ -7,12 +7,11 @@ use Rattle.lid_graph.specs.Firings.{no_hold}
 use Rattle.lid_stations.specs.Stations.{start_count}
 use Rattle.lid_shell_laws.specs.Runs.{fired_in}
 use Rattle.lid_walk_machine.specs.Plans.{Plan, actors_of, stations_of, sink, ins_of, drainer_of, filler_of, cap, start_of, room_of}
-use Rattle.lid_walk_machine.specs.Setups.{Setup, plan, output_rows}
-use Rattle.lid_walk_machine.specs.Machine.{State, begun, out_count}
-use Rattle.lid_walk_machine.specs.Laws.{IsSettled, sweeps}
+use Rattle.lid_walk_machine.specs.Setups.{plan, output_rows}
+use Rattle.lid_shell_laws.specs.Setups.{Setup}
+use Rattle.lid_walk_machine.specs.Machine.{State, begun, out_count, IsSettled, sweeps}
 use Rattle.lid_shell.specs.Parts.{AreColumnsAtSink}
-use Rattle.lid_free_crew.specs.Posts.{no_turns}
-use Rattle.lid_free_crew.specs.Tallies.{AddsUp, sum_below}
+use Rattle.lid_free_crew.specs.Tallies.{no_turns, AddsUp, sum_below}
 use Rattle.lid_free_crew.specs.Alone.{run_from, rounds_of}
 use Rattle.lid_free_crew.specs.Shares.{numbers_of}
 use Rattle.lid_free.specs.declared.run.FreeEnd.{FreeEnd}

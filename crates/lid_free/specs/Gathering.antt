@@ -4,9 +4,10 @@ use Rattle.lid_base.specs.Each.{from_each}
 use Rattle.lid_base.specs.declared.runs.Tally.{Tally}
 use Rattle.lid_station.specs.declared.pair.Pair.{Pair}
 use Rattle.lid_walk_machine.specs.Plans.{actors_of, stations_of}
-use Rattle.lid_walk_machine.specs.Setups.{Setup, IsSetup, plan}
-use Rattle.lid_walk_machine.specs.Machine.{begun}
-use Rattle.lid_walk_machine.specs.Laws.{IsSound, sweeps}
+use Rattle.lid_walk_machine.specs.Setups.{plan}
+use Rattle.lid_shell_laws.specs.Setups.{Setup, IsSetup}
+use Rattle.lid_walk_machine.specs.Machine.{begun, sweeps}
+use Rattle.lid_walk_machine.specs.Laws.{IsSound}
 use Rattle.lid_shell.specs.declared.actor.Actor.{Actor}
 use Rattle.lid_walk.specs.Actors.{AreActors}
 use Rattle.lid_walk.specs.Walks.{IsBoard}

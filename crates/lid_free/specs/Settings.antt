@@ -14,12 +14,13 @@ use Rattle.lid_board.specs.Views.{at}
 use Rattle.lid_board.specs.declared.board.Board.{Board}
 use Rattle.lid_board.specs.declared.view.EndFacts.{EndFacts}
 use Rattle.lid_walk_machine.specs.Plans.{Plan, actors_of, stations_of, start_of, room_of, stream}
-use Rattle.lid_walk_machine.specs.Setups.{Setup, IsSetup, plan}
+use Rattle.lid_walk_machine.specs.Setups.{plan}
+use Rattle.lid_shell_laws.specs.Setups.{Setup, IsSetup}
 use Rattle.lid_walk_machine.specs.Machine.{begun}
 use Rattle.lid_shell.specs.declared.actor.Actor.{Actor}
 use Rattle.lid_walk.specs.Actors.{AreActors}
 use Rattle.lid_free_crew.specs.declared.worker.Worker.{Worker}
-use Rattle.lid_free_crew.specs.Posts.{no_turns}
+use Rattle.lid_free_crew.specs.Tallies.{no_turns}
 use Rattle.lid_free_crew.specs.Shares.{share}
 use Rattle.lid_free_crew.specs.Crews.{HasShare, HasNone}
 use Rattle.lid_free.specs.declared.setting.Boards.{Boards}

@@ -1,8 +1,9 @@
 -- Serves the bodies: the sweeps after the parallel phase.
 use Rattle.std.specs.Prelude.{◌≡◌, ℕ, ◌<◌, ◌≤◌}
-use Rattle.lid_walk_machine.specs.Setups.{Setup, plan}
-use Rattle.lid_walk_machine.specs.Machine.{State}
-use Rattle.lid_walk_machine.specs.Laws.{AllRest, IsSettled, sweeps}
+use Rattle.lid_walk_machine.specs.Setups.{plan}
+use Rattle.lid_shell_laws.specs.Setups.{Setup}
+use Rattle.lid_walk_machine.specs.Machine.{State, IsSettled, sweeps}
+use Rattle.lid_walk_machine.specs.Laws.{AllRest}
 use Rattle.lid_walk.specs.declared.walk.Walk.{Walk}
 use Rattle.lid_walk.specs.Walks.{Walks, firings_between}
 use Rattle.lid_free.specs.declared.ending.Sweeps.{Sweeps}

@@ -1,7 +1,8 @@
 //! The sweeps after the parallel phase.
 
 ghost use Rattle.std.specs.Prelude.{◌≡◌, ℕ};
-ghost use Rattle.lid_walk_machine.specs.Setups.{Setup, plan};
+ghost use Rattle.lid_walk_machine.specs.Setups.{plan};
+ghost use Rattle.lid_shell_laws.specs.Setups.{Setup};
 ghost use Rattle.lid_walk_machine.specs.Machine.{State};
 ghost use Rattle.lid_walk_machine.specs.Laws.{AllRest};
 ghost use Rattle.lid_walk.specs.Walks.{Walks, IsAtRest};

@@ -1,7 +1,7 @@
 //! The parallel phase, and what is gathered after it.
 
 ghost use Rattle.std.specs.Prelude.{◌≡◌, ◌==◌, ◌≤◌, ℕ, cond, length, map, Some, slice_get};
-ghost use Rattle.lid_walk_machine.specs.Setups.{Setup};
+ghost use Rattle.lid_shell_laws.specs.Setups.{Setup};
 ghost use Rattle.lid_free_crew.specs.Posts.{IsReady};
 ghost use Rattle.lid_free_crew.specs.Crews.{HaveWorked};
 ghost use Rattle.lid_free.specs.Gathering.{fired_of, HasWorkedOut, AreGathered};

@@ -8,7 +8,8 @@ use Rattle.lid_board.specs.Owners.{start_ends}
 use Rattle.lid_board.specs.Standing.{AreStreamsOf}
 use Rattle.lid_board.specs.declared.board.Board.{Board}
 use Rattle.lid_walk_machine.specs.Plans.{ins_of, outs_of, cap}
-use Rattle.lid_walk_machine.specs.Setups.{Setup, plan}
+use Rattle.lid_walk_machine.specs.Setups.{plan}
+use Rattle.lid_shell_laws.specs.Setups.{Setup}
 use Rattle.lid_walk_machine.specs.Machine.{State, turn, turn_answer}
 use Rattle.lid_shell.specs.declared.actor.Actor.{Actor}
 use Rattle.lid_shell.specs.declared.turn.TurnEnd.{TurnEnd}
@@ -16,7 +17,8 @@ use Rattle.lid_shell.specs.declared.turn.TurnEnd.TheVariants.{Fired, Void, Stop,
 use Rattle.lid_shell.specs.Actors.{IsActor}
 use Rattle.lid_shell.specs.Boards.{Agrees, ServesAll}
 use Rattle.lid_shell.specs.Steps.{Works, Moves, missed_end}
-use Rattle.lid_shell.specs.Turns.{answer_at, end_at, fired_at, EndsSo, Turned}
+use Rattle.lid_shell.specs.Turns.{answer_at, fired_at, EndsSo, Turned}
+use Rattle.lid_shell.specs.TurnEnds.{end_at}
 use Rattle.lid_walk.proofs.Serving.{drains_by, fills_by}
 use Rattle.lid_walk.proofs.Turning.{resting}
 use Rattle.lid_free_crew.specs.Posts.{stations_of, AgreesAt, IsAtWork}

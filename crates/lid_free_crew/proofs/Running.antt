@@ -11,7 +11,8 @@ use Rattle.lid_board.specs.Standing.{AreStreamsOf}
 use Rattle.lid_board.specs.declared.board.Board.{Board}
 use Rattle.lid_shell_laws.specs.Runs.{place_in}
 use Rattle.lid_walk_machine.specs.Plans.{Plan, stations_of, ins_of, outs_of, drainer_of, filler_of, start_of}
-use Rattle.lid_walk_machine.specs.Setups.{Setup, plan}
+use Rattle.lid_walk_machine.specs.Setups.{plan}
+use Rattle.lid_shell_laws.specs.Setups.{Setup}
 use Rattle.lid_walk_machine.specs.Machine.{Progress, State, next, until_rest, positions, turn, turn_answer, taken_by, put_by, out_count, in_count}
 use Rattle.lid_walk_machine.proofs.Moves.{elsewhere}
 use Rattle.lid_shell.specs.declared.actor.Actor.{Actor}
@@ -19,7 +20,7 @@ use Rattle.lid_shell.specs.declared.turn.TurnEnd.{TurnEnd}
 use Rattle.lid_shell.specs.Actors.{IsActor}
 use Rattle.lid_shell.specs.Boards.{IsEndWith, ServesBoth}
 use Rattle.lid_shell.specs.Steps.{Works}
-use Rattle.lid_shell.specs.Turns.{end_at}
+use Rattle.lid_shell.specs.TurnEnds.{end_at}
 use Rattle.lid_walk.proofs.Serving.{drains_by, fills_by, drain_apart, fill_apart, drained_own, filled_own}
 use Rattle.lid_walk.proofs.Turning.{as_far}
 use Rattle.lid_free_crew.specs.Posts.{resting, AgreesAt, IsEndOf}

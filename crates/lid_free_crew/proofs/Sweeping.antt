@@ -2,8 +2,7 @@
 use Rattle.std.proofs.Common.{◌≡◌, ℕ, zero, suc, ◌+◌, List, [], ◌∷◌, refl, sym, ◌∙◌, ap, arith}
 use Rattle.lid_base.specs.Each.{from_each}
 use Rattle.lid_walk_machine.specs.Plans.{Plan, actors_of}
-use Rattle.lid_walk_machine.specs.Machine.{State, turn, turns_from, sweep}
-use Rattle.lid_walk_machine.specs.Laws.{sweeps}
+use Rattle.lid_walk_machine.specs.Machine.{State, turn, turns_from, sweep, sweeps}
 use Rattle.lid_free_crew.specs.Alone.{TurnsSoFar, turned, round_of, rounds_of}
 use Rattle.lid_free_crew.specs.Laws.{RoundsOfAllAreSweeps}
 

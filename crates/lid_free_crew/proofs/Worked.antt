@@ -6,10 +6,11 @@ use Rattle.lid_station.specs.Boards.{Ends}
 use Rattle.lid_shell.specs.declared.actor.Actor.{Actor}
 use Rattle.lid_board.specs.Owners.{IsOf}
 use Rattle.lid_board.specs.declared.board.Board.{Board}
-use Rattle.lid_walk_machine.specs.Setups.{Setup, plan}
+use Rattle.lid_walk_machine.specs.Setups.{plan}
+use Rattle.lid_shell_laws.specs.Setups.{Setup}
 use Rattle.lid_walk_machine.specs.Machine.{State}
-use Rattle.lid_free_crew.specs.Posts.{known, no_turns, IsReady, StaysAt}
-use Rattle.lid_free_crew.specs.Tallies.{AddsUp, IsTallyOf}
+use Rattle.lid_free_crew.specs.Posts.{known, IsReady, StaysAt}
+use Rattle.lid_free_crew.specs.Tallies.{no_turns, AddsUp, IsTallyOf}
 use Rattle.lid_free_crew.specs.Turns.{HaveGone}
 use Rattle.lid_free_crew.specs.Alone.{TurnsSoFar, run_from, round_of, rounds_of, WorksAlone, MakesRounds}
 use Rattle.lid_free_crew.specs.Order.{stage_of, TurnsMade, WorksInOrder}

@@ -6,14 +6,15 @@ use Rattle.lid_board.specs.Owners.{start_ends}
 use Rattle.lid_board.specs.Standing.{AreStreamsOf}
 use Rattle.lid_board.specs.declared.board.Board.{Board}
 use Rattle.lid_walk_machine.specs.Plans.{Plan}
-use Rattle.lid_walk_machine.specs.Setups.{Setup, IsSetup, plan}
+use Rattle.lid_walk_machine.specs.Setups.{plan}
+use Rattle.lid_shell_laws.specs.Setups.{Setup, IsSetup}
 use Rattle.lid_walk_machine.specs.Machine.{State, turn, turn_answer}
 use Rattle.lid_shell.specs.declared.actor.Actor.{Actor}
 use Rattle.lid_shell.specs.Boards.{ServesAll}
 use Rattle.lid_shell.specs.Steps.{Works}
-use Rattle.lid_shell.specs.Turns.{end_at}
-use Rattle.lid_free_crew.specs.Posts.{known, no_turns}
-use Rattle.lid_free_crew.specs.Tallies.{counted}
+use Rattle.lid_shell.specs.TurnEnds.{end_at}
+use Rattle.lid_free_crew.specs.Posts.{known}
+use Rattle.lid_free_crew.specs.Tallies.{no_turns, counted}
 use Rattle.lid_free_crew.specs.declared.worker.Worker.{Worker}
 
 -- a state of the machine, and how the turns so far ended

@@ -9,12 +9,12 @@ use Rattle.lid_board.specs.declared.board.Board.{Board}
 use Rattle.lid_board.specs.declared.hand.Hand.{Hand}
 use Rattle.lid_board.specs.declared.view.EndFacts.{EndFacts}
 use Rattle.lid_shell.specs.declared.actor.Actor.{Actor}
-use Rattle.lid_free_crew.specs.Posts.{no_turns, StaysAt}
-use Rattle.lid_free_crew.specs.Tallies.{IsTallyOf}
+use Rattle.lid_free_crew.specs.Posts.{StaysAt}
+use Rattle.lid_free_crew.specs.Tallies.{no_turns, IsTallyOf}
 use Rattle.lid_free_crew.specs.Turns.{HaveGone}
 use Rattle.lid_free_crew.specs.Order.{WorksInOrder}
 use Rattle.lid_free_crew.specs.Alone.{WorksAlone, MakesRounds}
-use Rattle.lid_walk_machine.specs.Setups.{Setup}
+use Rattle.lid_shell_laws.specs.Setups.{Setup}
 use Rattle.lid_walk_machine.specs.Machine.{State}
 use Rattle.lid_free_crew.specs.declared.worker.Worker.{Worker}
 use Rattle.lid_free_crew.specs.Shares.{share, holder}

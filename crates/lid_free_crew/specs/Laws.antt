@@ -2,7 +2,7 @@
 use Rattle.std.specs.Prelude.{◌≡◌, ℕ}
 use Rattle.lid_base.specs.Each.{from_each}
 use Rattle.lid_walk_machine.specs.Plans.{Plan, actors_of}
-use Rattle.lid_walk_machine.specs.Laws.{sweeps}
+use Rattle.lid_walk_machine.specs.Machine.{sweeps}
 use Rattle.lid_free_crew.specs.Alone.{TurnsSoFar, rounds_of}
 
 -- rounds of all actors, in the order of their numbers, are sweeps

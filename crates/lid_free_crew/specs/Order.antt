@@ -7,7 +7,8 @@ use Rattle.lid_board.specs.Owners.{start_ends}
 use Rattle.lid_board.specs.Standing.{AreStreamsOf}
 use Rattle.lid_board.specs.declared.board.Board.{Board}
 use Rattle.lid_board.specs.declared.hand.Hand.{Hand}
-use Rattle.lid_walk_machine.specs.Setups.{Setup, plan}
+use Rattle.lid_walk_machine.specs.Setups.{plan}
+use Rattle.lid_shell_laws.specs.Setups.{Setup}
 use Rattle.lid_walk_machine.specs.Machine.{State, turn, turn_answer}
 use Rattle.lid_shell.specs.declared.actor.Actor.{Actor}
 use Rattle.lid_shell.specs.declared.turn.TurnEnd.{TurnEnd}
@@ -15,7 +16,7 @@ use Rattle.lid_shell.specs.declared.turn.TurnEnd.TheVariants.{Done}
 use Rattle.lid_shell.specs.Actors.{IsActor}
 use Rattle.lid_shell.specs.Boards.{ServesAll}
 use Rattle.lid_shell.specs.Steps.{Works}
-use Rattle.lid_shell.specs.Turns.{end_at}
+use Rattle.lid_shell.specs.TurnEnds.{end_at}
 use Rattle.lid_free_crew.specs.Posts.{known, stations_of, IsEndOf, KeepsEnds}
 use Rattle.lid_free_crew.specs.Tallies.{counted, fired_one, void_one, stop_one, done_one, void_misses, stop_misses}
 use Rattle.lid_free_crew.specs.Turns.{HasMadeTurns}

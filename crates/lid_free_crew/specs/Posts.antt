@@ -1,17 +1,17 @@
 -- Workers at their boards: what a hand knows, what a worker must have, and what stays.
-use Rattle.std.specs.Prelude.{◌≡◌, ℕ, ◌≤◌, List, length, Option, Some, None, slice_get}
-use Rattle.lid_base.specs.declared.runs.Tally.{Tally}
+use Rattle.std.specs.Prelude.{◌≡◌, ℕ, ◌≤◌, List, length, Some, None, slice_get}
 use Rattle.lid_station.specs.Boards.{Facts, Ends}
 use Rattle.lid_board.specs.Owners.{IsOf, ends_of, start_ends}
 use Rattle.lid_board.specs.Standing.{AreStreamsOf}
 use Rattle.lid_board.specs.Views.{facts_at}
 use Rattle.lid_board.specs.declared.board.Board.{Board}
 use Rattle.lid_board.specs.declared.hand.Hand.{Hand}
-use Rattle.lid_walk_machine.specs.Setups.{Setup}
+use Rattle.lid_shell_laws.specs.Setups.{Setup}
 use Rattle.lid_walk_machine.specs.Machine.{Progress}
 use Rattle.lid_shell.specs.declared.actor.Actor.{Actor}
 use Rattle.lid_shell.specs.Steps.{Works, CanTurn, IsOwn}
 use Rattle.lid_free_crew.specs.declared.worker.Worker.{Worker}
+use Rattle.lid_free_crew.specs.Tallies.{no_turns}
 
 -- what is known at the ends that a hand has
 abbrev pub known : Hand → Ends
@@ -41,10 +41,6 @@ IsEndOf a end = IsOwn a.desk.ins.items a.desk.outs.items end
 abbrev pub AreApart : List Actor → Type 0
 AreApart actors =
     (i j end : ℕ) → (a b : Actor) → slice_get actors i ≡ Some a → slice_get actors j ≡ Some b → IsEndOf a end → IsEndOf b end → i ≡ j
-
--- nothing was counted
-abbrev pub no_turns : Tally
-no_turns = record { turns = 0; fired = 0; voids = 0; stops = 0; dones = 0 }
 
 -- a worker is ready to work at a board
 pub record IsReady (board : Board) (w : Worker) : Type 0 where

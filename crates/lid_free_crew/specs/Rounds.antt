@@ -3,7 +3,8 @@ use Rattle.std.specs.Prelude.{◌≡◌, ℕ, ◌+◌, ◌≤◌, ◌==◌, cond
 use Rattle.lid_base.specs.declared.runs.Tally.{Tally}
 use Rattle.lid_station.specs.Boards.{Ends}
 use Rattle.lid_board.specs.declared.board.Board.{Board}
-use Rattle.lid_walk_machine.specs.Setups.{Setup, plan}
+use Rattle.lid_walk_machine.specs.Setups.{plan}
+use Rattle.lid_shell_laws.specs.Setups.{Setup}
 use Rattle.lid_shell.specs.declared.actor.Actor.{Actor}
 use Rattle.lid_free_crew.specs.Posts.{stations_of, IsEndOf, KeepsEnds}
 use Rattle.lid_free_crew.specs.Tallies.{AddsUp, void_misses, stop_misses, fired_by}

@@ -2,7 +2,7 @@
 use Rattle.std.specs.Prelude.{◌≡◌, ℕ, ◌+◌, ◌<◌, ◌≤◌, length, Some, slice_get}
 use Rattle.lid_station.specs.Boards.{Ends}
 use Rattle.lid_board.specs.declared.board.Board.{Board}
-use Rattle.lid_walk_machine.specs.Setups.{Setup}
+use Rattle.lid_shell_laws.specs.Setups.{Setup}
 use Rattle.lid_shell.specs.declared.actor.Actor.{Actor}
 use Rattle.lid_free_crew.specs.Posts.{known, AgreesAt}
 use Rattle.lid_free_crew.specs.Tallies.{misses_of}

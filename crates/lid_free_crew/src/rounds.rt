@@ -4,7 +4,8 @@ ghost use Rattle.std.specs.Prelude.{◌≡◌, ◌+◌, ◌^◌, ◌<◌, ◌≤
 ghost use Rattle.lid_base.specs.declared.runs.Tally.{Tally};
 ghost use Rattle.lid_station.specs.Boards.{Ends};
 ghost use Rattle.lid_board.specs.Owners.{IsOf};
-ghost use Rattle.lid_walk_machine.specs.Setups.{Setup, plan};
+ghost use Rattle.lid_walk_machine.specs.Setups.{plan};
+ghost use Rattle.lid_shell_laws.specs.Setups.{Setup};
 ghost use Rattle.lid_walk_machine.specs.Machine.{State};
 ghost use Rattle.lid_shell.specs.declared.actor.Actor.{Actor};
 ghost use Rattle.lid_free_crew.specs.Posts.{known, IsAtWork, AreApart};

@@ -2,7 +2,7 @@
 
 ghost use Rattle.std.specs.Prelude.{◌≡◌, ◌≤◌, ℕ, List};
 ghost use Rattle.lid_board.specs.Owners.{IsOf};
-ghost use Rattle.lid_walk_machine.specs.Setups.{Setup};
+ghost use Rattle.lid_shell_laws.specs.Setups.{Setup};
 ghost use Rattle.lid_walk_machine.specs.Machine.{State};
 ghost use Rattle.lid_free_crew.specs.Posts.{IsReady, StaysAt};
 ghost use Rattle.lid_free_crew.specs.Turns.{HaveGone};

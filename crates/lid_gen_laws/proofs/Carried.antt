@@ -11,7 +11,7 @@ use Rattle.lid_system.specs.declared.Channel.{Channel}
 use Rattle.lid_net_channels.specs.declared.reads.Read.{Read}
 use Rattle.lid_net_channels.specs.Reads.{IsBefore, AreAscending}
 use Rattle.lid_net_channels.specs.Pieces.{read_by, reads_in, AreCut}
-use Rattle.lid_net_law.specs.Agreement.{IsPassedOn}
+use Rattle.lid_net_law.specs.Ports.{IsPassedOn}
 use Rattle.lid_net.specs.declared.origin.Origin.TheVariants.{Port}
 use Rattle.lid_net.specs.Graphs.{inputs_of, LeadsIn, LeadsTo, IsReadBy, IsGraphOf}
 use Rattle.lid_net.proofs.Tracing.{ArePortsOnce}

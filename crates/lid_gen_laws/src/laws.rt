@@ -31,7 +31,8 @@ pub fn generated_designs_are_writable()
 /// The system of a generated design has at most two channels for each shell and one for each output, which
 /// is far below the limit of systems.
 pub fn generated_systems_are_small()
-    ensures { (seed shells : ℕ) (channels : List Channel) → size_fault shells ≡ None → IsGraphOf (generated seed shells) channels → length channels ≤ 2 * shells + 4 }
+    ensures { (seed shells : ℕ) (channels : List Channel) → size_fault shells ≡ None → IsGraphOf (generated seed shells) channels
+        → length channels ≤ 2 * shells + 4 }
 {
     generated_designs_are_accepted();
 }
@@ -41,7 +42,8 @@ pub fn generated_systems_are_small()
 pub fn generated_runs_fit()
     ensures columns { (seed shells rows : ℕ) → size_fault shells ≡ None → (generated_rows seed shells rows).columns ≡ root_inputs (generated seed shells) }
     ensures rows { (seed shells rows : ℕ) → length (generated_rows seed shells rows).bits ≡ rows }
-    ensures wide { (seed shells rows : ℕ) → AllByRecursion (λ row. length row ≡ length (generated_rows seed shells rows).columns) (generated_rows seed shells rows).bits }
+    ensures wide { (seed shells rows : ℕ)
+        → AllByRecursion (λ row. length row ≡ length (generated_rows seed shells rows).columns) (generated_rows seed shells rows).bits }
     ensures relays { (seed shells rows channels : ℕ) → length (generated_relays seed shells rows channels) ≡ channels }
     ensures few { (seed shells rows channels : ℕ) → AllByRecursion (λ relays. relays ≤ 3) (generated_relays seed shells rows channels) }
 {}

@@ -13,11 +13,11 @@ use Rattle.lid_graph_laws.specs.Laws.{HasWalkOf, RiseWithoutTokens, NumbersShowT
 use Rattle.lid_graph_laws.proofs.Walking.{walks_keep_back}
 
 -- the transitions that a walk from u meets, u itself first
-abbrev met : Graph → ℕ → List ℕ → List ℕ
+abbrev pub met : Graph → ℕ → List ℕ → List ℕ
 met g u [] = u ∷ []
 met g u (k ∷ ks) = u ∷ met g (edge_at g k).to ks
 
-length_met : (g : Graph) (u : ℕ) (ks : List ℕ) → length (met g u ks) ≡ suc (length ks)
+pub length_met : (g : Graph) (u : ℕ) (ks : List ℕ) → length (met g u ks) ≡ suc (length ks)
 length_met g u [] = refl
 length_met g u (k ∷ ks) = ap suc (length_met g (edge_at g k).to ks)
 
@@ -43,7 +43,7 @@ leads_to g u v w (k ∷ ks) walk is = by_head (w == u) refl is (λ is. leads_to 
     by_head false e is rest = later (rest is)
 
 -- where no test passes, all fail
-all_differ : (w : ℕ) (xs : List ℕ) → list_any (λ x. w == x) xs ≡ false → AllByRecursion (λ x. (w == x) ≡ false) xs
+pub all_differ : (w : ℕ) (xs : List ℕ) → list_any (λ x. w == x) xs ≡ false → AllByRecursion (λ x. (w == x) ≡ false) xs
 all_differ w [] is = tt
 all_differ w (x ∷ xs) is = by_head (w == x) refl is (λ is. all_differ w xs is)
   where
@@ -68,7 +68,7 @@ meets_once g tokens u v (k ∷ ks) walk none = (by_again (list_any (λ x. u == x
     by_again false is = all_differ u (met g (edge_at g k).to ks) is
 
 -- what a walk meets lies in the graph
-met_below : (g : Graph) → IsPaired g → (u v : ℕ) (ks : List ℕ) → IsWalk g u ks v → u < g.nodes → (w : ℕ) → list_any (λ x. w == x) (met g u ks) ≡ true → w < g.nodes
+pub met_below : (g : Graph) → IsPaired g → (u v : ℕ) (ks : List ℕ) → IsWalk g u ks v → u < g.nodes → (w : ℕ) → list_any (λ x. w == x) (met g u ks) ≡ true → w < g.nodes
 met_below g paired u v [] walk h w is = by_head (w == u) refl is
   where
     by_head : (b : Bool) → w == u ≡ b → (b || false) ≡ true → w < g.nodes
@@ -118,7 +118,7 @@ cut_walk g u v (k ∷ ks) (suc n) walk h = longer (cut_walk g (edge_at g k).to v
       tokens = omega (arith, c.tokens);
     }
 
-ends_below : (g : Graph) → IsPaired g → (u v : ℕ) (ks : List ℕ) → IsWalk g u ks v → u < g.nodes → v < g.nodes
+pub ends_below : (g : Graph) → IsPaired g → (u v : ℕ) (ks : List ℕ) → IsWalk g u ks v → u < g.nodes → v < g.nodes
 ends_below g paired u v [] walk h = subst (λ (n : ℕ). n < g.nodes) walk h
 ends_below g paired u v (k ∷ ks) walk h = ends_below g paired (edge_at g k).to v ks walk.2 (paired.ends k walk.0).to
 
@@ -150,7 +150,7 @@ edges_for_tokens g paired tokens (suc most) u v ks walk h few = by_length (cases
     by_length (inr more) shorter = by_cut shorter (cut_walk g u v ks g.nodes walk more)
 
 -- a walk that ends in the graph begins there
-begins_below : (g : Graph) → IsPaired g → (u v : ℕ) (ks : List ℕ) → IsWalk g u ks v → v < g.nodes → u < g.nodes
+pub begins_below : (g : Graph) → IsPaired g → (u v : ℕ) (ks : List ℕ) → IsWalk g u ks v → v < g.nodes → u < g.nodes
 begins_below g paired u v [] walk h = subst (λ (n : ℕ). n < g.nodes) (sym walk) h
 begins_below g paired u v (k ∷ ks) walk h = subst (λ (n : ℕ). n < g.nodes) walk.1 (paired.ends k walk.0).from
 

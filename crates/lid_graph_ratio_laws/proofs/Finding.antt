@@ -7,7 +7,8 @@ use Rattle.lid_graph.specs.declared.graph.Graph.{Graph}
 use Rattle.lid_graph.specs.Walks.{edge_at, IsPaired, IsWalk, IsClosedWalk, IsJoined, walk_start, walk_tokens}
 use Rattle.lid_graph.specs.Ratios.{IsClosedWalkNear, IsRatio}
 use Rattle.lid_graph.proofs.Journeys.{joined_step, joined_back}
-use Rattle.lid_graph_ratio_laws.proofs.Splitting.{GoesRound, IsShortened, goes_round, shortened, closed_at, ends_below}
+use Rattle.lid_graph_ratio_laws.proofs.Splitting.{GoesRound, IsShortened, goes_round, shortened, closed_at}
+use Rattle.lid_graph_laws.proofs.Alive.{ends_below}
 use Rattle.lid_graph_ratio_laws.proofs.Deciding.{Exceeds, NoneExceeds, some_or_all, exceeds_or_none, joined_or_not}
 use Rattle.lid_graph_ratio_laws.proofs.Lowest.{coprime, positive_gcd, common, most_scaled, falls}
 

@@ -6,7 +6,8 @@ use Rattle.lid_graph.specs.declared.graph.Graph.{Graph}
 use Rattle.lid_graph.specs.Walks.{edge_at, IsPaired, IsWalk, IsJoined, walk_start, walk_tokens}
 use Rattle.lid_graph.specs.Ratios.{IsRatio, IsLag}
 use Rattle.lid_graph.proofs.Journeys.{joined_back}
-use Rattle.lid_graph_ratio_laws.proofs.Splitting.{GoesRound, IsShortened, goes_round, shortened, closed_at, begins_below}
+use Rattle.lid_graph_ratio_laws.proofs.Splitting.{GoesRound, IsShortened, goes_round, shortened, closed_at}
+use Rattle.lid_graph_laws.proofs.Alive.{begins_below}
 use Rattle.lid_graph_ratio_laws.proofs.Deciding.{Exceeds, NoneExceeds, some_or_all, exceeds_or_none}
 
 -- a short walk that ends at v has so many more edges than tokens

@@ -7,7 +7,7 @@ use Rattle.lid_graph.specs.declared.graph.Graph.{Graph}
 use Rattle.lid_graph.specs.Walks.{IsPaired, IsJoined, walk_tokens}
 use Rattle.lid_graph.specs.Ratios.{IsRatio, IsLag}
 use Rattle.lid_graph_ratio_laws.specs.Laws.{AreRatioAndLag, HasRatioAndLags, ComponentsHaveRatios, RatiosAreUnique, LagsAreUnique}
-use Rattle.lid_graph_ratio_laws.proofs.Splitting.{ends_below}
+use Rattle.lid_graph_laws.proofs.Alive.{ends_below}
 use Rattle.lid_graph_ratio_laws.proofs.Deciding.{joined_or_not}
 use Rattle.lid_graph_ratio_laws.proofs.Lowest.{positive_gcd, common, most_scaled}
 use Rattle.lid_graph_ratio_laws.proofs.Finding.{HasRatio, has_ratio, ratio_near}

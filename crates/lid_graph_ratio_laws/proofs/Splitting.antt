@@ -8,15 +8,7 @@ use Rattle.lid_graph.specs.declared.graph.Graph.{Graph}
 use Rattle.lid_graph.specs.Walks.{edge_at, IsPaired, IsWalk, IsClosedWalk, walk_start, walk_tokens}
 use Rattle.lid_graph.proofs.Journeys.{walk_append}
 use Rattle.lid_graph_laws.proofs.Walking.{tokens_append}
-
--- the transitions that a walk from u meets, u itself first
-abbrev met : Graph → ℕ → List ℕ → List ℕ
-met g u [] = u ∷ []
-met g u (k ∷ ks) = u ∷ met g (edge_at g k).to ks
-
-length_met : (g : Graph) (u : ℕ) (ks : List ℕ) → length (met g u ks) ≡ suc (length ks)
-length_met g u [] = refl
-length_met g u (k ∷ ks) = ap suc (length_met g (edge_at g k).to ks)
+use Rattle.lid_graph_laws.proofs.Alive.{met, length_met, all_differ, met_below}
 
 -- a walk cut where it meets w
 record IsCutAt (g : Graph) (u v w : ℕ) (ks : List ℕ) : Type 0 where
@@ -54,15 +46,6 @@ pub record GoesRound (g : Graph) (u v : ℕ) (ks : List ℕ) : Type 0 where
   pub some : 0 < length round
   pub long : length ks ≡ length first + length round + length last
   pub tokens : walk_tokens g ks ≡ walk_tokens g first + walk_tokens g round + walk_tokens g last
-
--- where no test passes, all fail
-all_differ : (w : ℕ) (xs : List ℕ) → list_any (λ x. w == x) xs ≡ false → AllByRecursion (λ x. (w == x) ≡ false) xs
-all_differ w [] is = tt
-all_differ w (x ∷ xs) is = by_head (w == x) refl is (λ is. all_differ w xs is)
-  where
-    by_head : (b : Bool) → (w == x) ≡ b → (b || list_any (λ x. w == x) xs) ≡ false → (list_any (λ x. w == x) xs ≡ false → AllByRecursion (λ x. (w == x) ≡ false) xs) → AllByRecursion (λ x. (w == x) ≡ false) (x ∷ xs)
-    by_head true e is rest = cc
-    by_head false e is rest = (e, rest is)
 
 -- a walk goes round, or meets no transition twice
 round_or_once : (g : Graph) (u v : ℕ) (ks : List ℕ) → IsWalk g u ks v → GoesRound g u v ks ⊎ IsDistinct (λ x y. x == y) (met g u ks)
@@ -106,19 +89,6 @@ round_or_once g u v (k ∷ ks) walk = by_again (list_any (λ x. u == x) (met g (
     by_again true is rest = inl (here (cut_at g (edge_at g k).to v u ks walk.2 is))
     by_again false is rest = by_rest (all_differ u (met g (edge_at g k).to ks) is) rest
 
--- what a walk meets lies in the graph
-met_below : (g : Graph) → IsPaired g → (u v : ℕ) (ks : List ℕ) → IsWalk g u ks v → u < g.nodes → (w : ℕ) → list_any (λ x. w == x) (met g u ks) ≡ true → w < g.nodes
-met_below g paired u v [] walk h w is = by_head (w == u) refl is
-  where
-    by_head : (b : Bool) → w == u ≡ b → (b || false) ≡ true → w < g.nodes
-    by_head true e is = subst (λ (n : ℕ). n < g.nodes) (sym (eqb-true w u e)) h
-    by_head false e is = cc
-met_below g paired u v (k ∷ ks) walk h w is = by_head (w == u) refl is (λ is. met_below g paired (edge_at g k).to v ks walk.2 (paired.ends k walk.0).to w is)
-  where
-    by_head : (b : Bool) → w == u ≡ b → (b || list_any (λ x. w == x) (met g (edge_at g k).to ks)) ≡ true → (list_any (λ x. w == x) (met g (edge_at g k).to ks) ≡ true → w < g.nodes) → w < g.nodes
-    by_head true e is rest = subst (λ (n : ℕ). n < g.nodes) (sym (eqb-true w u e)) h
-    by_head false e is rest = rest is
-
 -- a walk of as many edges as there are transitions goes round
 pub goes_round : (g : Graph) → IsPaired g → (u v : ℕ) (ks : List ℕ) → IsWalk g u ks v → u < g.nodes → g.nodes ≤ length ks → GoesRound g u v ks
 goes_round g paired u v ks walk h long = by_once (round_or_once g u v ks walk)
@@ -146,12 +116,3 @@ shortened g u v ks r = record {
 pub closed_at : (g : Graph) (w : ℕ) (ks : List ℕ) → IsWalk g w ks w → 0 < length ks → (walk_start g ks ≡ w) × IsClosedWalk g ks
 closed_at g w [] walk some = absurd (omega arith)
 closed_at g w (k ∷ ks) walk some = (walk.1, record { some = some; closed = (walk.0, refl, subst (IsWalk g (edge_at g k).to ks) (sym walk.1) walk.2) })
-
--- a walk leads from one transition of the graph to another
-pub ends_below : (g : Graph) → IsPaired g → (u v : ℕ) (ks : List ℕ) → IsWalk g u ks v → u < g.nodes → v < g.nodes
-ends_below g paired u v [] walk h = subst (λ (n : ℕ). n < g.nodes) walk h
-ends_below g paired u v (k ∷ ks) walk h = ends_below g paired (edge_at g k).to v ks walk.2 (paired.ends k walk.0).to
-
-pub begins_below : (g : Graph) → IsPaired g → (u v : ℕ) (ks : List ℕ) → IsWalk g u ks v → v < g.nodes → u < g.nodes
-begins_below g paired u v [] walk h = subst (λ (n : ℕ). n < g.nodes) (sym walk) h
-begins_below g paired u v (k ∷ ks) walk h = subst (λ (n : ℕ). n < g.nodes) walk.1 (paired.ends k walk.0).from

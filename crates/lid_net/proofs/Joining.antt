@@ -26,7 +26,8 @@ use Rattle.lid_system.specs.declared.Node.{Node}
 use Rattle.lid_system.specs.declared.Node.TheVariants.{Source, Shell, Sink}
 use Rattle.lid_system.specs.Systems.{Point, source_port, shell_net, ports_of as system_ports, ports_at, IsRead, IsShell, IsSink, IsNode, IsChannel, Precedes, IsWellFormed}
 use Rattle.lid_system.specs.Tables.{carried_at}
-use Rattle.lid_net_law.specs.Agreement.{column_of, IsPassedOn, LeadsBack, IsLed, AreLed, IsPearlShell, IsSystemOf}
+use Rattle.lid_net_law.specs.Agreement.{column_of, LeadsBack, IsLed, AreLed, IsPearlShell, IsSystemOf}
+use Rattle.lid_net_law.specs.Ports.{IsPassedOn, outputs_at, ports_of, IsPort}
 use Rattle.lid_net_law.proofs.Leading.{carried_column}
 use Rattle.lid_net_channels.specs.declared.reads.Read.{Read}
 use Rattle.lid_net_channels.specs.Reads.{IsBefore, AreAscending}
@@ -39,7 +40,6 @@ use Rattle.lid_net.proofs.Rising.{channels_rise, channel_ports, first_port}
 use Rattle.lid_net.specs.declared.part.ShellPart.{ShellPart}
 use Rattle.lid_net.specs.Reads.{read_of}
 use Rattle.lid_net.specs.Nodes.{IsBitFor, IsBitOfOrigin, AreInBits, IsShellFor, AreShellNodes, AreNodes}
-use Rattle.lid_net_law.specs.Ports.{outputs_at, ports_of, IsPort}
 use Rattle.lid_net.specs.Graphs.{inputs_at, inputs_of, LeadsIn, LeadsTo, IsReadBy, IsGraphOf}
 use Rattle.lid_net.specs.PearlParts.{IsShellPartOf, ArePartsOf}
 use Rattle.lid_net.specs.Systems.{AreColumnsLed, AreLeads, AreOutputs, AreNodesOf}

@@ -19,7 +19,8 @@ use Rattle.lid_design.specs.Columns.{Column, column, is_among, model_named, inst
 use Rattle.lid_design.specs.Models.{insts_of, formal_of, formals, number_from}
 use Rattle.lid_design.specs.Elaboration.{columns}
 use Rattle.lid_design.specs.Loops.{pearls}
-use Rattle.lid_design.specs.Walks.{Feeds, HasNoWalk, WalksEnd}
+use Rattle.lid_design.specs.Walks.{HasNoWalk, WalksEnd}
+use Rattle.lid_design.specs.Feeds.{Feeds}
 use Rattle.lid_design.specs.WellFormed.{IsWellFormed, IsWellFormedCell}
 use Rattle.lid_check_elab.specs.Elaborations.{shown_driver, map_driver, column_at}
 use Rattle.lid_check_parts.specs.Parts.{driver_at}

@@ -11,7 +11,8 @@ use Rattle.lid_design.specs.declared.Design.{Design}
 use Rattle.lid_design.specs.declared.Model.{Model}
 use Rattle.lid_design.specs.Network.{Driver, from_input, from_latch, from_cover, from_connection}
 use Rattle.lid_design.specs.Columns.{Column, column, drivers, root_inputs}
-use Rattle.lid_design.specs.Walks.{read_now, read_before}
+use Rattle.lid_design.specs.Walks.{read_before}
+use Rattle.lid_design.specs.Feeds.{read_now}
 use Rattle.lid_design.specs.Elaboration.{columns}
 use Rattle.lid_check_elab.specs.declared.driver.ColumnDriver.{ColumnDriver}
 use Rattle.lid_check_elab.specs.declared.driver.ColumnDriver.TheVariants.{Input, Latch, Cover as OfCover, Connection}
@@ -21,7 +22,7 @@ use Rattle.lid_check_parts.specs.Parts.{driver_at, HasCover}
 use Rattle.lid_check_rules.specs.Buffers.{passes_on}
 use Rattle.lid_check.specs.Networks.{IsNetwork}
 use Rattle.lid_check.specs.declared.network.Network.{Network}
-use Rattle.lid_net_law.specs.Agreement.{IsPassedOn}
+use Rattle.lid_net_law.specs.Ports.{IsPassedOn, ports_of, IsPort, IsNoPort}
 use Rattle.lid_net_law.proofs.Inputs.{root_input_drives}
 use Rattle.lid_net.specs.declared.origin.Origin.{Origin}
 use Rattle.lid_net.specs.declared.origin.Origin.TheVariants.{Const, Port}
@@ -29,7 +30,6 @@ use Rattle.lid_net.specs.declared.step.BackStep.{BackStep}
 use Rattle.lid_net.specs.declared.step.BackStep.TheVariants.{Ends, Passes, Stops}
 use Rattle.lid_net.specs.Steps.{step_from, origin_at, LeadsWithin, IsLedTo, AreOrigins}
 use Rattle.lid_check.proofs.Flats.{driven}
-use Rattle.lid_net_law.specs.Ports.{ports_of, IsPort, IsNoPort}
 use Rattle.lid_net.specs.Graphs.{LeadsIn, LeadsTo}
 use Rattle.lid_net.specs.Systems.{AreColumnsLed}
 

@@ -10,8 +10,7 @@ use Rattle.lid_design.specs.Network.{Driver, from_cover}
 use Rattle.lid_design.specs.Columns.{Column, column, model_at, data_inputs, drivers, root_outputs}
 use Rattle.lid_design.specs.Loops.{pearls}
 use Rattle.lid_system.specs.declared.Channel.{Channel}
-use Rattle.lid_net_law.specs.Ports.{IsPort, IsNoPort}
-use Rattle.lid_net_law.specs.Agreement.{IsPassedOn}
+use Rattle.lid_net_law.specs.Ports.{IsPort, IsNoPort, IsPassedOn}
 use Rattle.lid_net_channels.specs.declared.reads.Read.{Read}
 use Rattle.lid_net_channels.specs.Reads.{AreAscending}
 use Rattle.lid_net_channels.specs.Pieces.{reads_in, AreCut}

@@ -36,7 +36,8 @@ pub fn build(alloc: Global, checked: &Checked) -> Result<System, NetFault>
     ensures formed { IfOk result IsWellFormed }
     ensures system { IfOk result (IsSystemOf checked.now) }
     ensures graph { IfOk result (λ s. IsGraphOf checked.now s.channels) }
-    ensures err { IfErr result (λ fault. (fault ≡ Memory) ⊎ ((channels : List Channel) × IsGraphOf checked.now channels × (16384 < length channels) × (fault ≡ TooManyChannels (length channels)))) }
+    ensures err { IfErr result (λ fault. (fault ≡ Memory) ⊎ ((channels : List Channel) × IsGraphOf checked.now channels × (16384 < length channels)
+        × (fault ≡ TooManyChannels (length channels)))) }
 {
     match collect_parts(alloc, checked) {
         Ok(parts) => join(alloc, checked, parts),
@@ -50,7 +51,8 @@ fn join(alloc: Global, checked: &Checked, parts: Vec<ShellPart>) -> Result<Syste
     ensures formed { IfOk result IsWellFormed }
     ensures system { IfOk result (IsSystemOf checked.now) }
     ensures graph { IfOk result (λ s. IsGraphOf checked.now s.channels) }
-    ensures err { IfErr result (λ fault. (fault ≡ Memory) ⊎ ((channels : List Channel) × IsGraphOf checked.now channels × (16384 < length channels) × (fault ≡ TooManyChannels (length channels)))) }
+    ensures err { IfErr result (λ fault. (fault ≡ Memory) ⊎ ((channels : List Channel) × IsGraphOf checked.now channels × (16384 < length channels)
+        × (fault ≡ TooManyChannels (length channels)))) }
 {
     let leads = match find_leads(alloc, checked, parts.as_slice()) {
         Ok(leads) => leads,

@@ -38,7 +38,8 @@ pub struct Ends<'c> {
 fn bit_of(wiring: &Wiring, to: u32, number: u32) -> InBit
     requires wired { IsWired wiring.now }
     requires led { CanRead wiring.now to number }
-    ensures { (channels : List Channel) → CarryAll channels wiring.now.reads.items wiring.now.bits.items → IsBitFor channels wiring.now.origins.items to number result }
+    ensures { (channels : List Channel) → CarryAll channels wiring.now.reads.items wiring.now.bits.items
+        → IsBitFor channels wiring.now.origins.items to number result }
 {
     match origin_of(wiring.origins.as_slice(), number) {
         Some(Origin::Const(bit)) => InBit::Const(bit),
@@ -59,7 +60,8 @@ fn bit_of(wiring: &Wiring, to: u32, number: u32) -> InBit
 fn bits_of(alloc: Global, wiring: &Wiring, to: u32, ins: &[u32]) -> Result<Items<InBit>, AllocError>
     requires wired { IsWired wiring.now }
     requires led { AllByRecursion (CanRead wiring.now to) ins.now }
-    ensures { IfOk result (λ bits. (channels : List Channel) → CarryAll channels wiring.now.reads.items wiring.now.bits.items → AreInBits channels wiring.now.origins.items to ins.now bits) }
+    ensures { IfOk result (λ bits. (channels : List Channel) → CarryAll channels wiring.now.reads.items wiring.now.bits.items
+        → AreInBits channels wiring.now.origins.items to ins.now bits) }
 {
     let mut bits = Vec::with_capacity(alloc, ins.len())?;
     for number in ins {
@@ -78,7 +80,8 @@ pub(crate) fn make_nodes(
     requires few { length parts.items ≤ 4096 }
     requires wired { IsWired wiring.now }
     requires led { CanReadAll wiring.now 1 (map part_ins parts.items ++ ends.now.numbers.now ∷ []) }
-    ensures { IfOk result (λ nodes. (channels : List Channel) → CarryAll channels wiring.now.reads.items wiring.now.bits.items → AreNodes channels wiring.now.origins.items parts.items ends.now.inputs.now ends.now.outputs.now ends.now.numbers.now nodes) }
+    ensures { IfOk result (λ nodes. (channels : List Channel) → CarryAll channels wiring.now.reads.items wiring.now.bits.items
+        → AreNodes channels wiring.now.origins.items parts.items ends.now.inputs.now ends.now.outputs.now ends.now.numbers.now nodes) }
 {
     let mut nodes = Vec::with_capacity(alloc, parts.len() + 2)?;
     let sink = parts.as_slice().len() as u32 + 1;
@@ -100,7 +103,9 @@ fn push_sink(
 ) -> Result<(), AllocError>
     requires wired { IsWired wiring.now }
     requires led { AllByRecursion (CanRead wiring.now node) ends.now.numbers.now }
-    ensures { OnOk result ((ins : List InBit) × (nodes.new.items ≡ nodes.old.items ++ Sink ends.now.outputs.now ins ∷ []) × ((channels : List Channel) → CarryAll channels wiring.now.reads.items wiring.now.bits.items → AreInBits channels wiring.now.origins.items node ends.now.numbers.now ins)) }
+    ensures { OnOk result ((ins : List InBit) × (nodes.new.items ≡ nodes.old.items ++ Sink ends.now.outputs.now ins ∷ [])
+        × ((channels : List Channel) → CarryAll channels wiring.now.reads.items wiring.now.bits.items
+        → AreInBits channels wiring.now.origins.items node ends.now.numbers.now ins)) }
 {
     let ins = bits_of(alloc, wiring, node, ends.numbers)?;
     let columns = copy_names(alloc, ends.outputs)?;
@@ -118,7 +123,9 @@ fn push_shells(
     requires few { length parts.items ≤ 4096 }
     requires wired { IsWired wiring.now }
     requires led { CanReadAll wiring.now 1 (map part_ins parts.items) }
-    ensures { OnOk result ((shells : List Node) × (nodes.new.items ≡ nodes.old.items ++ reverse shells) × ((channels : List Channel) → CarryAll channels wiring.now.reads.items wiring.now.bits.items → AreShellNodes channels wiring.now.origins.items 1 parts.items shells)) }
+    ensures { OnOk result ((shells : List Node) × (nodes.new.items ≡ nodes.old.items ++ reverse shells)
+        × ((channels : List Channel) → CarryAll channels wiring.now.reads.items wiring.now.bits.items
+        → AreShellNodes channels wiring.now.origins.items 1 parts.items shells)) }
 {
     let mut left = parts;
     while let Some(part) = left.pop() {
@@ -133,7 +140,9 @@ fn push_shells(
 fn shell_of(alloc: Global, wiring: &Wiring, node: u32, part: ShellPart) -> Result<Node, AllocError>
     requires wired { IsWired wiring.now }
     requires led { AllByRecursion (CanRead wiring.now node) part.ins }
-    ensures { IfOk result (λ shell. (ins : List InBit) × (shell ≡ Shell part.pearl ins) × ((channels : List Channel) → CarryAll channels wiring.now.reads.items wiring.now.bits.items → AreInBits channels wiring.now.origins.items node part.ins ins)) }
+    ensures { IfOk result (λ shell. (ins : List InBit) × (shell ≡ Shell part.pearl ins)
+        × ((channels : List Channel) → CarryAll channels wiring.now.reads.items wiring.now.bits.items
+        → AreInBits channels wiring.now.origins.items node part.ins ins)) }
 {
     let ins = bits_of(alloc, wiring, node, part.ins.as_slice())?;
     let ShellPart { pearl, .. } = part;

@@ -10,7 +10,8 @@ use Rattle.lid_base.specs.Lists.{Among}
 use Rattle.lid_base.proofs.Lists.{all_among, among_left, among_right}
 use Rattle.lid_system.specs.declared.Channel.{Channel}
 use Rattle.lid_net_channels.specs.declared.reads.Read.{Read}
-use Rattle.lid_net_channels.specs.Pieces.{read_by, reads_in, is_beside, IsPieceAfter, IsNextPiece, AreCut, AreChannelsOf, begun, with_port, is_between, piece_for, extended, placed_read, grown, cut_back, last_width, joins, ArePieced}
+use Rattle.lid_net_channels.specs.Pieces.{read_by, reads_in, is_beside, IsPieceAfter, IsNextPiece, AreCut, AreChannelsOf}
+use Rattle.lid_net_channels.specs.Cutting.{begun, with_port, is_between, piece_for, extended, placed_read, grown, cut_back, last_width, joins, ArePieced}
 
 -- one read more is the first of those that come last first
 pub one_more : (reads : List Read) (i : ℕ) (r : Read) → i < length reads → r ≡ get_or reads i r → reverse (take (i + 1) reads) ≡ r ∷ reverse (take i reads)

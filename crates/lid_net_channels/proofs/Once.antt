@@ -9,7 +9,8 @@ use Rattle.lid_base.proofs.Lists.{all_among}
 use Rattle.lid_system.specs.declared.Channel.{Channel}
 use Rattle.lid_net_channels.specs.declared.reads.Read.{Read}
 use Rattle.lid_net_channels.specs.Reads.{IsBefore, AreAscending}
-use Rattle.lid_net_channels.specs.Pieces.{read_by, reads_in, is_beside, IsPieceAfter, IsNextPiece, AreCut, with_port, is_between, placed_read, grown, cut_back}
+use Rattle.lid_net_channels.specs.Pieces.{read_by, reads_in, is_beside, IsPieceAfter, IsNextPiece, AreCut}
+use Rattle.lid_net_channels.specs.Cutting.{with_port, is_between, placed_read, grown, cut_back}
 
 -- no two reads stand before each other
 not_both : (a b : Read) → IsBefore a b → IsBefore b a → ⊥

@@ -1,3 +1,4 @@
 pub mod Reads
 pub mod Pieces
+pub mod Cutting
 pub mod Bits

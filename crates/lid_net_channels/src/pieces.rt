@@ -4,7 +4,8 @@ ghost use Rattle.std.specs.Prelude.{◌≡◌, ◌≤◌, ◌<◌, ◌⊎◌, �
 ghost use Rattle.lid_system.specs.declared.Channel.{Channel};
 ghost use Rattle.lid_net_channels.specs.declared.reads.Read.{Read};
 ghost use Rattle.lid_net_channels.specs.declared.fault.NetFault.TheVariants.{TooManyChannels, Memory};
-ghost use Rattle.lid_net_channels.specs.Pieces.{AreChannelsOf, begun, with_port, extended, piece_for, grown, cut_back, last_width, joins, ArePieced};
+ghost use Rattle.lid_net_channels.specs.Pieces.{AreChannelsOf};
+ghost use Rattle.lid_net_channels.specs.Cutting.{begun, with_port, extended, piece_for, grown, cut_back, last_width, joins, ArePieced};
 
 use crate::fault::NetFault;
 use crate::reads::Read;
@@ -26,7 +27,8 @@ const MOST_PORTS: u64 = 31;
 /// there is no memory.
 pub fn cut_channels(alloc: Global, reads: &[Read]) -> Result<Items<Channel>, NetFault>
     ensures ok { IfOk result (λ channels. AreChannelsOf reads.now channels × (length channels ≤ 16384)) }
-    ensures err { IfErr result (λ fault. (fault ≡ Memory) ⊎ ((channels : List Channel) × AreChannelsOf reads.now channels × (16384 < length channels) × (fault ≡ TooManyChannels (length channels)))) }
+    ensures err { IfErr result (λ fault. (fault ≡ Memory) ⊎ ((channels : List Channel) × AreChannelsOf reads.now channels × (16384 < length channels)
+        × (fault ≡ TooManyChannels (length channels)))) }
 {
     let count = count_channels(reads);
     if count > MOST_CHANNELS {

@@ -18,7 +18,8 @@ use Rattle.lid_system.specs.Tables.{in_bit, carried_at}
 use Rattle.lid_system.proofs.Points.{carried_is}
 use Rattle.lid_check_rules.specs.Buffers.{passes_on}
 use Rattle.lid_check_rules.proofs.Buffers.{passed_on}
-use Rattle.lid_net_law.specs.Agreement.{column_of, seen, IsPassedOn, LeadsBack, AreLed}
+use Rattle.lid_net_law.specs.Agreement.{column_of, seen, LeadsBack, AreLed}
+use Rattle.lid_net_law.specs.Ports.{IsPassedOn}
 
 pub passed_value : (cover : Cover) → passes_on cover ≡ true → (bit : Bool) → cover_value cover (bit ∷ []) ≡ bit
 passed_value cover passes true = (passed_on cover passes).2

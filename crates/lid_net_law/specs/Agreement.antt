@@ -1,11 +1,11 @@
 -- The system of a design: whose nets stand for which columns, and where inputs are led back to.
-use Rattle.std.specs.Prelude.{◌≡◌, ◌⊎◌, ◌+◌, ℕ, zero, suc, true, List, [], ◌∷◌, length, map, Some, slice_get, slice_index_or}
+use Rattle.std.specs.Prelude.{◌≡◌, ◌+◌, ℕ, zero, suc, List, [], length, map, Some, slice_get, slice_index_or}
 use Rattle.lid_base.specs.Lists.{Among}
 use Rattle.lid_cover.specs.declared.Cover.{Cover}
 use Rattle.lid_cover.specs.Cover.{cover_value}
 use Rattle.lid_design.specs.declared.Design.{Design}
 use Rattle.lid_design.specs.declared.Model.{Model}
-use Rattle.lid_design.specs.Network.{Driver, from_cover, from_connection, Table}
+use Rattle.lid_design.specs.Network.{Driver, from_cover, Table}
 use Rattle.lid_design.specs.Columns.{Column, column, model_at, data_inputs, drivers, root_inputs, root_outputs}
 use Rattle.lid_design.specs.Loops.{pearls}
 use Rattle.lid_pearl.specs.Pearls.{View}
@@ -15,9 +15,8 @@ use Rattle.lid_system.specs.declared.InBit.{InBit}
 use Rattle.lid_system.specs.declared.InBit.TheVariants.{Const, Port}
 use Rattle.lid_system.specs.Systems.{Point, source_port, shell_net}
 use Rattle.lid_system.specs.Tables.{carried_at}
-use Rattle.lid_check_rules.specs.Buffers.{passes_on}
 use Rattle.lid_check_parts.specs.Standing.{StandsForAll}
-use Rattle.lid_net_law.specs.Ports.{IsNoPort}
+use Rattle.lid_net_law.specs.Ports.{IsNoPort, IsPassedOn}
 
 -- the column of a point, where net k of node i stands for `columns i k`: a port of the source stands for
 -- a data input of the root
@@ -28,12 +27,6 @@ column_of d columns (shell_net i k) = columns i k
 -- a table of columns, seen at the points of a system
 abbrev pub seen : Design → (ℕ → ℕ → Column) → Table Column → Table Point
 seen d columns b t p = b t (column_of d columns p)
-
--- a column has the bit of another in each row: by a binding, or by a buffer
-abbrev pub IsPassedOn : Design → Column → Column → Type 0
-IsPassedOn d a c =
-    Among {A = Driver Column} (from_connection a) (drivers d c)
-    ⊎ ((cover : Cover) × (passes_on cover ≡ true) × Among {A = Driver Column} (from_cover cover (a ∷ [])) (drivers d c))
 
 -- so many steps back a column is a constant of this bit, or the port that has this bit of a channel; no port
 -- stands on the way before it

@@ -9,7 +9,7 @@ use Rattle.lid_design.specs.declared.Flat.{Flat}
 use Rattle.lid_design.specs.declared.FlatLatch.{FlatLatch}
 use Rattle.lid_design.specs.declared.FlatCover.{FlatCover}
 use Rattle.lid_design.specs.Network.{Driver, from_input, from_latch, from_cover}
-use Rattle.lid_design.specs.Walks.{read_now}
+use Rattle.lid_design.specs.Feeds.{read_now}
 use Rattle.lid_design.specs.Flat.{flat_drivers, latch_out, ReadEarlier, IsFlat}
 use Rattle.lid_design.proofs.Parts.{input_drives, latch_drives, cover_drives}
 use Rattle.lid_strict_engine.specs.Rows.{bit_at, after}

@@ -9,7 +9,7 @@ use Rattle.lid_design.specs.declared.Flat.{Flat}
 use Rattle.lid_design.specs.declared.FlatLatch.{FlatLatch}
 use Rattle.lid_design.specs.declared.FlatCover.{FlatCover}
 use Rattle.lid_design.specs.Network.{Driver, from_input, from_latch, from_cover, Table, bit_of, IsStrict}
-use Rattle.lid_design.specs.Walks.{EdgesLead}
+use Rattle.lid_design.specs.Feeds.{EdgesLead}
 use Rattle.lid_design.specs.Flat.{inputs_at, latch_at, cover_at, flat_drivers, latch_out, IsFlatCover, ReadEarlier, IsFlat}
 use Rattle.lid_strict_engine.specs.Rows.{after}
 use Rattle.lid_pearl.specs.Pearls.{IsSplit, IsReordered}

@@ -7,7 +7,7 @@ use Rattle.lid_cover.specs.Cover.{same_bit}
 use Rattle.lid_design.specs.declared.Flat.{Flat}
 use Rattle.lid_design.specs.declared.FlatLatch.{FlatLatch}
 use Rattle.lid_design.specs.declared.FlatCover.{FlatCover}
-use Rattle.lid_design.specs.Walks.{EdgesLead}
+use Rattle.lid_design.specs.Feeds.{EdgesLead}
 use Rattle.lid_design.specs.Flat.{flat_drivers, latch_out, latch_input, ReadEarlier, IsRow}
 use Rattle.lid_strict_engine.specs.declared.program.Program.{Program}
 use Rattle.lid_strict_engine.specs.Programs.{program_covers, IsReadyProgram}

@@ -12,9 +12,14 @@ ghost use Rattle.lid_pearl.specs.Pearls.{View, IsReordered, Shows, Steps};
 /// contract is the law.
 pub fn pearls_follow_tables()
     ensures begins { (p : View) (b : Table ℕ) → p.state ≡ map latch_init p.flat.latches → p.state ≡ state_at p.flat b 0 }
-    ensures shows { (p : View) (rows : List (List Bool)) (b : Table ℕ) (t : ℕ) (outs : List Bool) → IsStrict (flat_drivers p.flat) rows b → t < length rows → p.state ≡ state_at p.flat b t → Shows p outs → outs ≡ map (b t) p.flat.outs }
-    ensures goes { (p q : View) (rows : List (List Bool)) (b : Table ℕ) (t : ℕ) (inputs outs : List Bool) → IsStrict (flat_drivers p.flat) rows b → slice_get rows t ≡ Some inputs → length inputs ≡ length p.flat.ins → p.state ≡ state_at p.flat b t → Steps p inputs q outs → q.state ≡ state_at q.flat b (t + 1) }
-    ensures gives { (p q : View) (rows : List (List Bool)) (b : Table ℕ) (t : ℕ) (inputs outs : List Bool) → IsStrict (flat_drivers p.flat) rows b → slice_get rows t ≡ Some inputs → length inputs ≡ length p.flat.ins → p.state ≡ state_at p.flat b t → Steps p inputs q outs → t + 1 < length rows → outs ≡ map (b (t + 1)) p.flat.outs }
+    ensures shows { (p : View) (rows : List (List Bool)) (b : Table ℕ) (t : ℕ) (outs : List Bool) → IsStrict (flat_drivers p.flat) rows b
+        → t < length rows → p.state ≡ state_at p.flat b t → Shows p outs → outs ≡ map (b t) p.flat.outs }
+    ensures goes { (p q : View) (rows : List (List Bool)) (b : Table ℕ) (t : ℕ) (inputs outs : List Bool) → IsStrict (flat_drivers p.flat) rows b
+        → slice_get rows t ≡ Some inputs → length inputs ≡ length p.flat.ins → p.state ≡ state_at p.flat b t → Steps p inputs q outs
+        → q.state ≡ state_at q.flat b (t + 1) }
+    ensures gives { (p q : View) (rows : List (List Bool)) (b : Table ℕ) (t : ℕ) (inputs outs : List Bool) → IsStrict (flat_drivers p.flat) rows b
+        → slice_get rows t ≡ Some inputs → length inputs ≡ length p.flat.ins → p.state ≡ state_at p.flat b t → Steps p inputs q outs
+        → t + 1 < length rows → outs ≡ map (b (t + 1)) p.flat.outs }
 {}
 
 /// A flat part and one with its covers in the order of a pearl have the same strict tables. This does

@@ -157,8 +157,11 @@ fn run(
     requires inputs { length inputs.now ≡ length shape.now.ins.items }
     requires outs { length into.old ≡ length shape.now.outs.items }
     ensures kept { ArePearlFields shape.now.nets shape.now.ins.items shape.now.outs.items shape.now.latches.items plan.now.early plan.now.late state.new bits.new }
-    ensures state { (f : ℕ → Bool) → IsRow (program_covers plan.now.early) f → IsRow (program_covers plan.now.late) f → map f (held shape.now.latches.items) ≡ state.old → map f shape.now.ins.items ≡ inputs.now → state.new ≡ map f (map latch_input shape.now.latches.items) }
-    ensures outs { (f : ℕ → Bool) → IsRow (program_covers plan.now.early) f → map f (held shape.now.latches.items) ≡ state.new → into.new ≡ map f shape.now.outs.items }
+    ensures state { (f : ℕ → Bool) → IsRow (program_covers plan.now.early) f → IsRow (program_covers plan.now.late) f
+        → map f (held shape.now.latches.items) ≡ state.old → map f shape.now.ins.items ≡ inputs.now
+        → state.new ≡ map f (map latch_input shape.now.latches.items) }
+    ensures outs { (f : ℕ → Bool) → IsRow (program_covers plan.now.early) f → map f (held shape.now.latches.items) ≡ state.new
+        → into.new ≡ map f shape.now.outs.items }
 {
     let latches = shape.latches.as_slice();
     put_bits(bits, shape.ins.as_slice(), inputs);

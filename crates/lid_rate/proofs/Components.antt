@@ -13,7 +13,7 @@ use Rattle.lid_cert.specs.declared.cert.Part.{Part}
 use Rattle.lid_cert.specs.Certificates.{place_in, has_node, lag_of, lead_of, depth_of, via_of, AreLists, IsEdgeMet, IsStartMet, IsVia, IsNodeMet, IsPart, ascends}
 use Rattle.lid_cert.proofs.Ascending.{rises_pair, place_found}
 use Rattle.lid_cert.proofs.Parts.{lag_along, stays_back}
-use Rattle.lid_rate_ratio.specs.WalksBack.{MeetsOnce}
+use Rattle.lid_rate_ratio.specs.Once.{MeetsOnce}
 use Rattle.lid_rate_ratio.specs.Components.{IsSmallGraph, IsLoop, AreAllJoined, IsBranch}
 use Rattle.lid_graph.specs.Rateable.{IsRateable}
 use Rattle.lid_rate.specs.Rates.{numbers_where, AreLabels, is_labelled, edges_of, IsPartOf, IsLoopAt}

@@ -12,7 +12,8 @@ use Rattle.lid_cert.specs.Certificates.{has_node, least_node, parts_with, ascend
 use Rattle.lid_cert.proofs.Ascending.{rises_pair}
 use Rattle.lid_cert.proofs.Consequences.{ratio_is_shown}
 use Rattle.lid_graph.specs.Rateable.{IsRateable}
-use Rattle.lid_rate.specs.Rates.{numbers_where, AreLabels, is_labelled, IsPartOf, IsExactPart, IsShort, is_own, AreParts}
+use Rattle.lid_rate.specs.Rates.{numbers_where, AreLabels, is_labelled, IsPartOf, IsShort, is_own, AreParts}
+use Rattle.lid_rate.specs.Exact.{IsExactPart}
 use Rattle.lid_rate.proofs.NumbersWhere.{Stands, those_only, those_all, those_ascends, those_has}
 use Rattle.lid_rate.proofs.Components.{same_label}
 

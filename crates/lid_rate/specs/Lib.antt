@@ -1,3 +1,4 @@
+pub mod Exact
 pub mod Rates
 pub mod Pieces
 pub mod Grouping

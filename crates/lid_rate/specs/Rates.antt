@@ -4,11 +4,11 @@ use Rattle.std.specs.List.{All, count_by, sum_by}
 use Rattle.lid_graph.specs.declared.graph.Edge.{Edge}
 use Rattle.lid_graph.specs.declared.graph.Graph.{Graph}
 use Rattle.lid_graph.specs.Walks.{edge_at, IsLeastJoined}
-use Rattle.lid_graph.specs.Ratios.{IsRatio, IsLag}
+use Rattle.lid_graph.specs.Ratios.{IsLag}
 use Rattle.lid_cert.specs.declared.cert.Part.{Part}
 use Rattle.lid_cert.specs.declared.cert.Cert.{Cert}
 use Rattle.lid_cert.specs.Certificates.{has_node, lag_of, least_node, IsPart, IsPartInRange}
-use Rattle.lid_rate_ratio.specs.WalksBack.{MeetsOnce}
+use Rattle.lid_rate_ratio.specs.Once.{MeetsOnce}
 
 -- a filter of the numbers below n: those that pass a test, in order
 abbrev pub numbers_where : (ℕ → Bool) → ℕ → List ℕ
@@ -46,14 +46,6 @@ pub record IsLoopAt (g : Graph) (v k : ℕ) : Type 0 where
 
 abbrev pub is_loop_edge : Edge → ℕ → Bool
 is_loop_edge e v = (e.from == v) && ((e.to == v) && (e.tokens == 1))
-
--- p/q is the ratio of the component, each lag is the number that it bounds, the walk meets no
--- transition twice, and all numbers are in the ranges of a certificate's text
-pub record IsExactPart (g : Graph) (part : Part) : Type 0 where
-  pub ratio : (v : ℕ) → has_node part v ≡ true → IsRatio g v part.p part.q
-  pub lag : (v : ℕ) → has_node part v ≡ true → IsLag g part.p part.q v (lag_of part v)
-  pub once : MeetsOnce g part.cycle
-  pub in_range : IsPartInRange part
 
 -- whether a transition is the least of its component
 abbrev pub is_own : List ℕ → ℕ → Bool

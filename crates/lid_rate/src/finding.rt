@@ -6,7 +6,8 @@ ghost use Rattle.lid_cert.specs.Certificates.{Certifies, IsInRange};
 ghost use Rattle.lid_rate.specs.Grouping.{AreSorted};
 ghost use Rattle.lid_graph.specs.Rateable.{IsRateable};
 ghost use Rattle.lid_graph.specs.Walks.{WalksHaveTokens};
-ghost use Rattle.lid_rate.specs.Rates.{IsExactPart, IsShort, AreLabels, AreParts};
+ghost use Rattle.lid_rate.specs.Rates.{IsShort, AreLabels, AreParts};
+ghost use Rattle.lid_rate.specs.Exact.{IsExactPart};
 
 use crate::grouping::{Sorted, places_of, sort};
 use crate::parts::part_of;

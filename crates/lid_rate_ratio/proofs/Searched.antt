@@ -6,7 +6,8 @@ use Rattle.std.proofs.lemmas.Bool.{cases_lt}
 use Rattle.std.proofs.lemmas.List.{length-reverse, get_or-reverse, get_or_default}
 use Rattle.lid_graph.specs.declared.graph.Graph.{Graph}
 use Rattle.lid_graph.specs.Walks.{edge_at, walk_start, walk_tokens, IsWalk, IsClosedWalk}
-use Rattle.lid_rate_ratio.specs.WalksBack.{MeetsOnce, IsCycleOn}
+use Rattle.lid_rate_ratio.specs.WalksBack.{IsCycleOn}
+use Rattle.lid_rate_ratio.specs.Once.{MeetsOnce}
 use Rattle.lid_rate_ratio.specs.BellmanFord.{AreLags, IsLower}
 use Rattle.lid_rate_ratio.specs.Bounds.{MeetRule, ShowsBound, IsLowerWalk}
 use Rattle.lid_rate_ratio.specs.Relaxation.{AreEdges, IsMet, IsAttained}

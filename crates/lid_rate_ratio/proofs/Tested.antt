@@ -7,7 +7,7 @@ use Rattle.std.proofs.lemmas.List.{get_or-set_same, get_or-set_other, length-set
 use Rattle.lid_graph.specs.declared.graph.Graph.{Graph}
 use Rattle.lid_graph.specs.Walks.{edge_at, walk_start, walk_tokens, IsWalk}
 use Rattle.lid_graph.proofs.Journeys.{walk_append}
-use Rattle.lid_rate_ratio.specs.WalksBack.{MeetsOnce}
+use Rattle.lid_rate_ratio.specs.Once.{MeetsOnce}
 use Rattle.lid_rate_ratio.specs.Relaxation.{AreAtMost}
 use Rattle.lid_rate_ratio.specs.CycleRatios.{IsLowest}
 use Rattle.lid_rate_ratio.specs.Components.{IsSmallGraph, IsCycle, IsAsked, AreLeastLags, HasRate}

@@ -5,7 +5,7 @@ use Rattle.lid_graph.specs.declared.graph.Graph.{Graph}
 use Rattle.lid_graph.specs.Walks.{walk_tokens, IsClosedWalk}
 use Rattle.lid_rate_ratio.specs.declared.holding.Bound.{Bound}
 use Rattle.lid_rate_ratio.specs.declared.holding.Bound.TheVariants.{At, Lower}
-use Rattle.lid_rate_ratio.specs.WalksBack.{MeetsOnce}
+use Rattle.lid_rate_ratio.specs.Once.{MeetsOnce}
 use Rattle.lid_rate_ratio.specs.Relaxation.{IsMet}
 
 -- labels that are as large as every edge asks at p/q

@@ -3,7 +3,8 @@ use Rattle.std.specs.Prelude.{◌≡◌, ℕ, ◌+◌, ◌*◌, ◌^◌, ◌<◌
 use Rattle.std.specs.Option.{MatchOption}
 use Rattle.lid_graph.specs.declared.graph.Graph.{Graph}
 use Rattle.lid_graph.specs.Walks.{edge_at, walk_tokens, IsWalk, IsClosedWalk, IsJoined}
-use Rattle.lid_rate_ratio.specs.WalksBack.{MeetsOnce, predecessor_of}
+use Rattle.lid_rate_ratio.specs.WalksBack.{predecessor_of}
+use Rattle.lid_rate_ratio.specs.Once.{MeetsOnce}
 use Rattle.lid_rate_ratio.specs.Relaxation.{IsMet, AreAtMost}
 use Rattle.lid_rate_ratio.specs.CycleRatios.{IsLowest}
 use Rattle.lid_rate_ratio.specs.SpanningTrees.{AreTreeLists, IsRoot}

@@ -1,3 +1,4 @@
+pub mod Once
 pub mod WalksBack
 pub mod Relaxation
 pub mod Cycles

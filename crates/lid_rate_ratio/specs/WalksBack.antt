@@ -1,8 +1,9 @@
 -- Walks that are told from their end.
-use Rattle.std.specs.Prelude.{◌≡◌, ℕ, ◌<◌, ◌≤◌, List, [], ◌∷◌, length, reverse, slice_index, slice_index_or, Option, Some, None}
+use Rattle.std.specs.Prelude.{◌≡◌, ℕ, ◌<◌, ◌≤◌, List, [], ◌∷◌, length, reverse, slice_index_or, Option, Some, None}
 use Rattle.std.specs.List.{Contains}
 use Rattle.lid_graph.specs.declared.graph.Graph.{Graph}
 use Rattle.lid_graph.specs.Walks.{edge_at}
+use Rattle.lid_rate_ratio.specs.Once.{MeetsOnce}
 
 -- edges of the list, each ending where the one before begins, the first at v; the last begins at u
 abbrev pub IsWalkBack : Graph → List ℕ → ℕ → List ℕ → ℕ → Type 0
@@ -17,15 +18,6 @@ predecessor_of predecessors v = slice_index_or predecessors v None
 abbrev pub IsPredecessorWalk : Graph → List (Option ℕ) → ℕ → List ℕ → ℕ → Type 0
 IsPredecessorWalk g predecessors v [] u = v ≡ u
 IsPredecessorWalk g predecessors v (k ∷ ks) u = (predecessor_of predecessors v ≡ Some k) × IsPredecessorWalk g predecessors (edge_at g k).from ks u
-
--- no two of the edges end at the same transition
-abbrev pub MeetsOnce : Graph → List ℕ → Type 0
-MeetsOnce g ks =
-    (i j : ℕ)
-    → i < length ks
-    → j < length ks
-    → (edge_at g (slice_index ks i)).to ≡ (edge_at g (slice_index ks j)).to
-    → i ≡ j
 
 -- a closed walk that meets no transition twice. It is found from its end, as a chain from a transition
 -- back to itself

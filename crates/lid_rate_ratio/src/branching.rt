@@ -76,7 +76,8 @@ fn are_reached(graph: &Graph, tree: &Branches, root: Root) -> bool
     requires root { CanSpan graph.now root.start root.q root.first }
     requires lists { AreTreeLists graph.now tree.now.via tree.now.lead tree.now.depth }
     requires small { AreAtMost tree.now.lead (2 ^ 61) }
-    ensures { IsTrue result ↔ ((v : ℕ) → v < graph.now.nodes → v ≢ root.start → MatchOption (predecessor_of tree.now.via v) ⊥ (IsBranch graph.now root.q tree.now.lead tree.now.depth v)) }
+    ensures { IsTrue result ↔ ((v : ℕ) → v < graph.now.nodes → v ≢ root.start
+        → MatchOption (predecessor_of tree.now.via v) ⊥ (IsBranch graph.now root.q tree.now.lead tree.now.depth v)) }
 {
     for v in 0..graph.nodes {
         if !is_reached(graph, tree, root, v) {

@@ -36,7 +36,8 @@ fn step_back(
     requires trace { (start : ℕ) × IsTrace graph.now predecessors.now start trace.old.chain.items trace.old.places.items trace.old.at }
     requires new { slice_index trace.old.places.items trace.old.at ≡ 0 }
     requires nodes { graph.now.nodes ≤ 2 ^ 18 }
-    ensures { IfOk result (λ went. (start : ℕ) → IsTrace graph.now predecessors.now start trace.old.chain.items trace.old.places.items trace.old.at → StepsBack graph.now predecessors.now start went trace.old.chain.items trace.old.at trace.new.chain.items trace.new.places.items trace.new.at) }
+    ensures { IfOk result (λ went. (start : ℕ) → IsTrace graph.now predecessors.now start trace.old.chain.items trace.old.places.items trace.old.at
+        → StepsBack graph.now predecessors.now start went trace.old.chain.items trace.old.at trace.new.chain.items trace.new.places.items trace.new.at) }
 {
     match predecessors[trace.at as usize] {
         None => Ok(false),

@@ -64,7 +64,8 @@ fn grow(tree: &mut Tree, graph: &Graph, edges: &[u32], start: u32, q: u64, first
     requires tree { IsTree graph.now edges.now start q first tree.old.via.items tree.old.lead.items tree.old.depth.items }
     ensures tree { IsTree graph.now edges.now start q first tree.new.via.items tree.new.lead.items tree.new.depth.items }
     ensures no_more { unreached tree.new.via.items ≤ unreached tree.old.via.items }
-    ensures grown { MatchBool result (unreached tree.new.via.items < unreached tree.old.via.items) (IsSpanning graph.now edges.now start (length edges.now) tree.new.via.items) }
+    ensures grown { MatchBool result (unreached tree.new.via.items < unreached tree.old.via.items)
+        (IsSpanning graph.now edges.now start (length edges.now) tree.new.via.items) }
 {
     let _ = first;
     let mut grown = false;

@@ -7,10 +7,9 @@ use Rattle.lid_graph.specs.declared.graph.Graph.{Graph}
 use Rattle.lid_cert.specs.declared.cert.Part.{Part}
 use Rattle.lid_cert.specs.declared.cert.Cert.{Cert}
 use Rattle.lid_cert.specs.Certificates.{Certifies, has_node, lag_of}
-use Rattle.lid_cert_text.specs.Printed.{IsReadBack}
-use Rattle.lid_cert_text.specs.Written.{cert_text}
+use Rattle.lid_cert_text.specs.Written.{IsReadBack, cert_text}
 use Rattle.lid_base_lines.specs.Texts.{Words, lines_text}
-use Rattle.lid_rate.specs.Rates.{IsExactPart}
+use Rattle.lid_rate.specs.Exact.{IsExactPart}
 
 -- the text of a certificate of the graph, with the ratio of each component, none of them 0, and the least
 -- lags, which is read back as that certificate

@@ -8,7 +8,8 @@ use Rattle.lid_shell_laws.specs.Runs.{place_in}
 use Rattle.lid_shell_laws.proofs.Ends.{drained_place, filled_place}
 use Rattle.lid_station.specs.Boards.{Facts, Ends, Changes, fill, drain, missed, marked, advanced}
 use Rattle.lid_walk_machine.specs.Plans.{ins_of, outs_of, start_of}
-use Rattle.lid_walk_machine.specs.Setups.{Setup, plan}
+use Rattle.lid_walk_machine.specs.Setups.{plan}
+use Rattle.lid_shell_laws.specs.Setups.{Setup}
 use Rattle.lid_walk_machine.specs.Machine.{Progress, takes_from, puts_from, ends_at}
 use Rattle.lid_shell.specs.Boards.{IsEndWith, IsDrainedBy, IsFilledBy, Agrees}
 use Rattle.lid_shell.specs.Inside.{further, set_back, closed}

@@ -5,7 +5,8 @@ use Rattle.std.proofs.lemmas.Bool.{ne_eqb, cases_lt}
 use Rattle.lid_base.specs.declared.runs.Answer.{Answer}
 use Rattle.lid_station.specs.Boards.{Ends, fill, drain}
 use Rattle.lid_walk_machine.specs.Plans.{ins_of, outs_of, start_of, cap}
-use Rattle.lid_walk_machine.specs.Setups.{Setup, plan}
+use Rattle.lid_walk_machine.specs.Setups.{plan}
+use Rattle.lid_shell_laws.specs.Setups.{Setup}
 use Rattle.lid_walk_machine.specs.Machine.{Progress, State, ends_at, after_as, finds, next, answer_of, until_rest, last_answer, turn, turn_answer}
 use Rattle.lid_shell.specs.declared.actor.Actor.{Actor}
 use Rattle.lid_shell.specs.declared.turn.TurnEnd.{TurnEnd}
@@ -13,7 +14,8 @@ use Rattle.lid_shell.specs.declared.turn.TurnEnd.TheVariants as end
 use Rattle.lid_shell.specs.Boards.{ServesAll}
 use Rattle.lid_shell.specs.Actors.{IsActor}
 use Rattle.lid_shell.specs.Steps.{Works, MakesStep, IsExact, Moves, MissesLate, missed_end, misses_after}
-use Rattle.lid_shell.specs.Turns.{answer_at, end_at, EndsSo, Turned}
+use Rattle.lid_shell.specs.Turns.{answer_at, EndsSo, Turned}
+use Rattle.lid_shell.specs.TurnEnds.{end_at}
 use Rattle.lid_shell.specs.Inside.{ending}
 use Rattle.lid_shell.proofs.Told.{passed_in, passed_out}
 use Rattle.lid_shell.proofs.Changed.{moves_not}

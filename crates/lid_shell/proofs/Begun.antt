@@ -5,10 +5,10 @@ use Rattle.lid_system.specs.declared.System.{System}
 use Rattle.lid_stations.specs.Placements.{links_of}
 use Rattle.lid_shell_laws.proofs.Ends.{drained_is}
 use Rattle.lid_shell_nodes.specs.Wiring.{ShellView, SinkView}
-use Rattle.lid_walk_machine.specs.Plans.{actors_of, sink, ins_of, outs_of, cap}
-use Rattle.lid_walk_machine.specs.Setups.{Setup, IsSetup, plan}
+use Rattle.lid_walk_machine.specs.Plans.{actors_of, sink, ins_of, outs_of, cap, drainer_of}
+use Rattle.lid_walk_machine.specs.Setups.{plan}
+use Rattle.lid_shell_laws.specs.Setups.{Setup, IsSetup}
 use Rattle.lid_walk_machine.specs.Machine.{Progress, puts_from}
-use Rattle.lid_walk_machine.specs.Plans.{drainer_of}
 use Rattle.lid_shell.specs.declared.desk.Desk.{Desk}
 use Rattle.lid_shell.specs.declared.part.Given.{Given}
 use Rattle.lid_shell.specs.declared.part.Role.{Role}

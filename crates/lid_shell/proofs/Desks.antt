@@ -8,7 +8,8 @@ use Rattle.std.proofs.lemmas.Grind.{same_number_lists}
 use Rattle.smallvec.specs.SmallVec.{SmallVec}
 use Rattle.lid_station.specs.Boards.{Ends, fill, drain}
 use Rattle.lid_walk_machine.specs.Plans.{ins_of, outs_of, start_of, stream}
-use Rattle.lid_walk_machine.specs.Setups.{Setup, plan}
+use Rattle.lid_walk_machine.specs.Setups.{plan}
+use Rattle.lid_shell_laws.specs.Setups.{Setup}
 use Rattle.lid_walk_machine.specs.Machine.{Progress, takes_from, puts_from, ends_at, in_at}
 use Rattle.lid_shell.specs.declared.desk.Desk.{Desk}
 use Rattle.lid_shell.specs.Actors.{IsDesk}

@@ -7,7 +7,8 @@ use Rattle.lid_base.specs.declared.runs.Answer.{Answer}
 use Rattle.lid_base.specs.declared.runs.Answer.TheVariants as answer
 use Rattle.lid_station.specs.Boards.{Ends}
 use Rattle.lid_walk_machine.specs.Plans.{ins_of, outs_of, cap}
-use Rattle.lid_walk_machine.specs.Setups.{Setup, plan}
+use Rattle.lid_walk_machine.specs.Setups.{plan}
+use Rattle.lid_shell_laws.specs.Setups.{Setup}
 use Rattle.lid_walk_machine.specs.Machine.{Progress, takes_from, ends_at, is_last, tells, moves}
 use Rattle.lid_shell.specs.declared.actor.Actor.{Actor}
 use Rattle.lid_shell.specs.declared.desk.Next.{Next}
@@ -16,7 +17,8 @@ use Rattle.lid_shell.specs.declared.turn.TurnEnd.{TurnEnd}
 use Rattle.lid_shell.specs.declared.turn.TurnEnd.TheVariants as end
 use Rattle.lid_shell.specs.Actors.{IsBegun}
 use Rattle.lid_shell.specs.Steps.{Works, MakesStep, found_in, missed_end, MissesLate}
-use Rattle.lid_shell.specs.Turns.{answer_at, end_at, fired_at, EndsSo}
+use Rattle.lid_shell.specs.Turns.{answer_at, fired_at, EndsSo}
+use Rattle.lid_shell.specs.TurnEnds.{end_at}
 use Rattle.lid_shell.specs.Inside.{act_in, IsAbout, further, ending}
 use Rattle.lid_shell.proofs.Stepped.{act_is, next_of, answer_below, after_below, answer_at_cap, after_at_cap}
 

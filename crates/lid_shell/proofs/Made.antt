@@ -6,7 +6,8 @@ use Rattle.std.proofs.lemmas.Option.{slice_get-get_or}
 use Rattle.smallvec.specs.SmallVec.{SmallVec}
 use Rattle.lid_station.specs.Boards.{Ends}
 use Rattle.lid_walk_machine.specs.Plans.{ins_of, outs_of, cap, stream}
-use Rattle.lid_walk_machine.specs.Setups.{Setup, IsSetup, plan}
+use Rattle.lid_walk_machine.specs.Setups.{plan}
+use Rattle.lid_shell_laws.specs.Setups.{Setup, IsSetup}
 use Rattle.lid_walk_machine.specs.Machine.{Progress, takes_from, puts_from, ends_at, is_last, goes_on}
 use Rattle.lid_shell.specs.declared.actor.Actor.{Actor}
 use Rattle.lid_shell.specs.declared.desk.Desk.{Desk}

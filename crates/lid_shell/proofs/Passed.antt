@@ -10,7 +10,8 @@ use Rattle.lid_system.specs.Streams.{token_at, output_row}
 use Rattle.lid_shell_nodes.specs.Nodes.{channels_to, channels_from, tokens_to, tokens_from}
 use Rattle.lid_shell_nodes.specs.Wiring.{SourceView, ShellView, SinkView, IsSourceOf, IsShellOf}
 use Rattle.lid_walk_machine.specs.Plans.{ins_of, outs_of, cap, start_of}
-use Rattle.lid_walk_machine.specs.Setups.{Setup, IsSetup, IsInputRow, output_rows, plan}
+use Rattle.lid_walk_machine.specs.Setups.{output_rows, plan}
+use Rattle.lid_shell_laws.specs.Setups.{Setup, IsSetup, IsInputRow}
 use Rattle.lid_shell.specs.declared.part.Given.{Given}
 use Rattle.lid_shell.specs.declared.part.Role.{Role}
 use Rattle.lid_shell.specs.declared.part.Role.TheVariants.{Shell, Mover, Sink}

@@ -5,7 +5,8 @@ use Rattle.lid_base.specs.Each.{from_each}
 use Rattle.lid_stations.specs.Placements.{links_of, station_count}
 use Rattle.lid_stations.specs.Stations.{filler, drainer}
 use Rattle.lid_walk_machine.specs.Plans.{ins_of, outs_of}
-use Rattle.lid_walk_machine.specs.Setups.{Setup, IsSetup, plan}
+use Rattle.lid_walk_machine.specs.Setups.{plan}
+use Rattle.lid_shell_laws.specs.Setups.{Setup, IsSetup}
 use Rattle.lid_base.proofs.Each.{each_length}
 
 few_of : (m : Setup) (f : ℕ → Bool) → IsSetup m → length (filter f (from_each (λ s. s) 0 (station_count m.placement.relays))) ≤ 65536

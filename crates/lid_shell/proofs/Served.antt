@@ -5,10 +5,10 @@ use Rattle.std.proofs.lemmas.Bool.{cases_eq}
 use Rattle.lid_stations.specs.Placements.{links_of}
 use Rattle.lid_shell_laws.proofs.Ends.{drained_is, filled_is, drained_there, filled_there, drained_place, filled_place}
 use Rattle.lid_station.specs.Boards.{Ends, fill, drain}
-use Rattle.lid_walk_machine.specs.Plans.{ins_of, outs_of, start_of, stations_of}
-use Rattle.lid_walk_machine.specs.Setups.{Setup, plan}
+use Rattle.lid_walk_machine.specs.Plans.{ins_of, outs_of, start_of, stations_of, drainer_of, filler_of}
+use Rattle.lid_walk_machine.specs.Setups.{plan}
+use Rattle.lid_shell_laws.specs.Setups.{Setup}
 use Rattle.lid_walk_machine.specs.Machine.{Progress, State, taken_by, put_by, in_count, out_count}
-use Rattle.lid_walk_machine.specs.Plans.{drainer_of, filler_of}
 use Rattle.lid_shell_laws.specs.Runs.{place_in}
 use Rattle.lid_shell.specs.Boards.{IsEndWith, Agrees, ServesBoth, ServesAll}
 use Rattle.lid_shell.specs.Steps.{IsOwn, Moves}

@@ -14,7 +14,8 @@ use Rattle.lid_stations.specs.Placements.{links_of}
 use Rattle.lid_stations.specs.Stations.{no_channel, channel_at, spot_at, start_count}
 use Rattle.lid_stations.proofs.Spots.{cap_range}
 use Rattle.lid_walk_machine.specs.Plans.{actors_of, stations_of, outs_of, cap, start_of, room_of, stream, filler_of}
-use Rattle.lid_walk_machine.specs.Setups.{Setup, IsSetup, plan}
+use Rattle.lid_walk_machine.specs.Setups.{plan}
+use Rattle.lid_shell_laws.specs.Setups.{Setup, IsSetup}
 use Rattle.lid_shell.specs.Inside.{ActorsGoByRules, tokens_taken, tokens_made}
 use Rattle.lid_base.proofs.Each.{each_length, each_get}
 

@@ -8,7 +8,8 @@ use Rattle.lid_shell_laws.proofs.Ends.{filled_is}
 use Rattle.lid_station.specs.Boards.{Facts, Ends, fill, drain}
 use Rattle.lid_station.specs.Words.{word, word_number}
 use Rattle.lid_walk_machine.specs.Plans.{ins_of, outs_of, cap, start_of, room_of, stream}
-use Rattle.lid_walk_machine.specs.Setups.{Setup, IsSetup, plan}
+use Rattle.lid_walk_machine.specs.Setups.{plan}
+use Rattle.lid_shell_laws.specs.Setups.{Setup, IsSetup}
 use Rattle.lid_walk_machine.specs.Machine.{Progress, State, takes_from, puts_from, in_at, out_at, in_count, out_count, void_word, stop_word}
 use Rattle.lid_shell.specs.Boards.{Agrees, ServesBoth}
 use Rattle.lid_shell.specs.Inside.{ActorsGoByRules}

@@ -1,7 +1,8 @@
 -- Actors of the interleaving machine: what an actor holds at each place of its firings.
 use Rattle.std.specs.Prelude.{◌≡◌, ℕ, ◌+◌, ◌<◌, ◌≤◌, nat_lt, if◌then◌else◌, length, Some, slice_get}
 use Rattle.lid_walk_machine.specs.Plans.{actors_of, ins_of, outs_of, cap, start_of}
-use Rattle.lid_walk_machine.specs.Setups.{Setup, IsSetup, plan}
+use Rattle.lid_walk_machine.specs.Setups.{plan}
+use Rattle.lid_shell_laws.specs.Setups.{Setup, IsSetup}
 use Rattle.lid_walk_machine.specs.Machine.{Progress, takes_from, puts_from, ends_at}
 use Rattle.lid_shell.specs.declared.actor.Actor.{Actor}
 use Rattle.lid_shell.specs.declared.desk.Desk.{Desk}

@@ -15,7 +15,8 @@ use Rattle.lid_stations.specs.Laws.{StationsStandBetweenActors}
 use Rattle.lid_shell_laws.specs.Laws.{NodesDrainTheirChannels, NodesFillTheirChannels, StationsOfNodesStartWithAToken, MoversMoveTokensOn}
 use Rattle.lid_station.specs.Boards.{Ends}
 use Rattle.lid_walk_machine.specs.Plans.{actors_of, ins_of, outs_of, cap, start_of, stream}
-use Rattle.lid_walk_machine.specs.Setups.{Setup, IsSetup, plan}
+use Rattle.lid_walk_machine.specs.Setups.{plan}
+use Rattle.lid_shell_laws.specs.Setups.{Setup, IsSetup}
 use Rattle.lid_walk_machine.specs.Machine.{Progress, State, Act, looks_in, looks_out, takes, puts, fires, takes_from, puts_from, ends_at, in_at, out_at, is_last, tells, moves, finds_at}
 use Rattle.lid_shell.specs.declared.actor.Actor.{Actor}
 use Rattle.lid_shell.specs.declared.desk.Desk.{Desk}

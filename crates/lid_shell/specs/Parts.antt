@@ -5,7 +5,8 @@ use Rattle.std.specs.List.{All}
 use Rattle.lid_system.specs.declared.Node.TheVariants as node
 use Rattle.lid_system.specs.declared.InBit.{InBit}
 use Rattle.lid_shell_nodes.specs.Wiring.{SinkView, IsSourceOf, IsShellOf, IsSinkOf}
-use Rattle.lid_walk_machine.specs.Setups.{Setup, output_rows}
+use Rattle.lid_walk_machine.specs.Setups.{output_rows}
+use Rattle.lid_shell_laws.specs.Setups.{Setup}
 use Rattle.lid_shell.specs.declared.part.Given.{Given}
 use Rattle.lid_shell.specs.declared.part.Role.{Role}
 use Rattle.lid_shell.specs.declared.part.Role.TheVariants.{Source, Shell, Mover, Sink}

@@ -4,7 +4,8 @@ use Rattle.lid_base.specs.declared.runs.Answer.{Answer}
 use Rattle.lid_base.specs.declared.runs.Answer.TheVariants as answer
 use Rattle.lid_station.specs.Boards.{Ends}
 use Rattle.lid_walk_machine.specs.Plans.{ins_of, outs_of, cap, start_of}
-use Rattle.lid_walk_machine.specs.Setups.{Setup, plan}
+use Rattle.lid_walk_machine.specs.Setups.{plan}
+use Rattle.lid_shell_laws.specs.Setups.{Setup}
 use Rattle.lid_walk_machine.specs.Machine.{void_word, stop_word}
 use Rattle.lid_shell.specs.declared.actor.Actor.{Actor}
 use Rattle.lid_shell.specs.declared.turn.TurnEnd.{TurnEnd}
@@ -17,13 +18,6 @@ answer_at Fired = answer.Fired
 answer_at (Void station told) = answer.Void station told
 answer_at (Stop station told) = answer.Stop station told
 answer_at Done = answer.Done
-
--- how a turn ends whose last step answers this
-abbrev pub end_at : Answer → TurnEnd
-end_at (answer.Void station told) = Void station told
-end_at (answer.Stop station told) = Stop station told
-end_at answer.Done = Done
-end_at _ = Fired
 
 -- how often an actor has fired after a turn that ends so
 abbrev pub fired_at : TurnEnd → ℕ → ℕ

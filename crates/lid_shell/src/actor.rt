@@ -6,13 +6,15 @@ ghost use Rattle.lid_base.specs.declared.runs.Answer.TheVariants as answer;
 ghost use Rattle.lid_system.specs.Systems.{IsWellFormed};
 ghost use Rattle.lid_stations.specs.Placements.{links_of};
 ghost use Rattle.lid_walk_machine.specs.Plans.{actors_of, sink, ins_of, outs_of};
-ghost use Rattle.lid_walk_machine.specs.Setups.{Setup, IsSetup, IsInputRow, output_rows, plan};
+ghost use Rattle.lid_walk_machine.specs.Setups.{output_rows, plan};
+ghost use Rattle.lid_shell_laws.specs.Setups.{Setup, IsSetup, IsInputRow};
 ghost use Rattle.lid_walk_machine.specs.Machine.{Progress, State, turn, turn_answer};
 ghost use Rattle.lid_shell.specs.Boards.{ServesAll};
 ghost use Rattle.lid_shell.specs.Parts.{IsSinkRole, AreColumnsAtSink};
 ghost use Rattle.lid_shell.specs.Actors.{IsActor};
 ghost use Rattle.lid_shell.specs.Steps.{Works, CanStep, CanTurn, MakesStep, IsExact, missed_end, Moves, MissesLate};
-ghost use Rattle.lid_shell.specs.Turns.{answer_at, end_at, Turned};
+ghost use Rattle.lid_shell.specs.Turns.{answer_at, Turned};
+ghost use Rattle.lid_shell.specs.TurnEnds.{end_at};
 ghost use Rattle.lid_shell.specs.declared.turn.TurnEnd.TheVariants as end;
 
 use crate::building::{mover_desk, new_desk, new_given};
@@ -49,7 +51,8 @@ impl<'r> Actor<'r> {
         outs: &[u32],
     ) -> Result<Actor<'r>, AllocError>
         requires system { IsWellFormed system.now }
-        ensures { IfOk result (λ a. (m : Setup) → IsSetup m → m.system ≡ system.now → m.input ≡ rows.now.bits → outs_of (plan m) 0 ≡ outs.now → IsActor m 0 (record { fired = 0; position = 0 }) a) }
+        ensures { IfOk result (λ a. (m : Setup) → IsSetup m → m.system ≡ system.now → m.input ≡ rows.now.bits → outs_of (plan m) 0 ≡ outs.now
+            → IsActor m 0 (record { fired = 0; position = 0 }) a) }
     {
         actors_go_by_rules();
         let node = SourceNode::of(alloc, system)?;
@@ -76,7 +79,8 @@ impl<'r> Actor<'r> {
     ) -> Result<Actor<'r>, AllocError>
         requires system { IsWellFormed system.now }
         requires shell { (0 < node) × (node + 1 < length system.now.nodes) }
-        ensures { IfOk result (λ a. (m : Setup) → IsSetup m → m.system ≡ system.now → length m.input ≡ rows → ins_of (plan m) node ≡ ins.now → outs_of (plan m) node ≡ outs.now → IsActor m node (record { fired = 0; position = 0 }) a) }
+        ensures { IfOk result (λ a. (m : Setup) → IsSetup m → m.system ≡ system.now → length m.input ≡ rows → ins_of (plan m) node ≡ ins.now
+            → outs_of (plan m) node ≡ outs.now → IsActor m node (record { fired = 0; position = 0 }) a) }
     {
         let part = ShellNode::of(alloc, system, node)?;
         let desk = new_desk(alloc, ins, outs, rows.saturating_sub(1))?;
@@ -88,7 +92,8 @@ impl<'r> Actor<'r> {
 
     /// A mover from one station to the next, in a run of so many rows. It takes no memory.
     pub fn mover(alloc: Global, from: u32, to: u32, rows: u64) -> Actor<'r>
-        ensures { (m : Setup) (v : ℕ) → IsSetup m → length m.system.nodes ≤ v → v < actors_of (plan m) → length m.input ≡ rows → ins_of (plan m) v ≡ from ∷ [] → outs_of (plan m) v ≡ to ∷ [] → IsActor m v (record { fired = 0; position = 0 }) result }
+        ensures { (m : Setup) (v : ℕ) → IsSetup m → length m.system.nodes ≤ v → v < actors_of (plan m) → length m.input ≡ rows
+            → ins_of (plan m) v ≡ from ∷ [] → outs_of (plan m) v ≡ to ∷ [] → IsActor m v (record { fired = 0; position = 0 }) result }
     {
         Actor {
             desk: mover_desk(alloc, from, to, rows),
@@ -108,7 +113,8 @@ impl<'r> Actor<'r> {
         rows: u64,
     ) -> Result<Actor<'r>, AllocError>
         requires system { IsWellFormed system.now }
-        ensures { IfOk result (λ a. (m : Setup) → IsSetup m → m.system ≡ system.now → length m.input ≡ rows → ins_of (plan m) (sink (plan m)) ≡ ins.now → IsActor m (sink (plan m)) (record { fired = 0; position = 0 }) a) }
+        ensures { IfOk result (λ a. (m : Setup) → IsSetup m → m.system ≡ system.now → length m.input ≡ rows
+            → ins_of (plan m) (sink (plan m)) ≡ ins.now → IsActor m (sink (plan m)) (record { fired = 0; position = 0 }) a) }
     {
         actors_go_by_rules();
         let node = SinkNode::of(alloc, system)?;
@@ -126,8 +132,10 @@ impl<'r> Actor<'r> {
     /// that the actor has fired; an actor without stations fires in one step.
     pub fn step<B: Stations>(&mut self, board: &mut B) -> Answer
         requires can { CanStep self.old (B.ends board.old) (B.stands board.old) }
-        ensures steps { (m : Setup) (v : ℕ) (q : Progress) → Works m v q self.old (B.ends board.old) (B.stands board.old) → MakesStep m v q result self.new (B.ends board.new) (B.stands board.new) }
-        ensures exact { (m : Setup) (v : ℕ) (st : State) → Works m v (st v) self.old (B.ends board.old) (B.stands board.old) → ServesAll m st v (B.ends board.old) → IsExact m st v result }
+        ensures steps { (m : Setup) (v : ℕ) (q : Progress) → Works m v q self.old (B.ends board.old) (B.stands board.old)
+            → MakesStep m v q result self.new (B.ends board.new) (B.stands board.new) }
+        ensures exact { (m : Setup) (v : ℕ) (st : State) → Works m v (st v) self.old (B.ends board.old) (B.stands board.old)
+            → ServesAll m st v (B.ends board.old) → IsExact m st v result }
         ensures moves { Moves self.old.desk.ins.items self.old.desk.outs.items (missed_end result) (B.ends board.old) (B.ends board.new) }
         ensures late { MissesLate (B.ends board.old) result }
         ensures done { result ≡ answer.Done → (self.new ≡ self.old) × (board.new ≡ board.old) }
@@ -154,8 +162,11 @@ impl<'r> Actor<'r> {
     /// nothing changed.
     pub fn turn<B: Stations>(&mut self, board: &mut B) -> TurnEnd
         requires can { CanTurn self.old (B.ends board.old) (B.stands board.old) }
-        ensures turned { (m : Setup) (v fired : ℕ) → Works m v (record { fired = fired; position = 0 }) self.old (B.ends board.old) (B.stands board.old) → Turned m v fired result self.new (B.ends board.new) (B.stands board.new) }
-        ensures exact { (m : Setup) (v : ℕ) (st : State) → (st v).position ≡ 0 → Works m v (st v) self.old (B.ends board.old) (B.stands board.old) → ServesAll m st v (B.ends board.old) → (result ≡ end_at (turn_answer (plan m) st v)) × IsActor m v (turn (plan m) st v v) self.new }
+        ensures turned { (m : Setup) (v fired : ℕ)
+            → Works m v (record { fired = fired; position = 0 }) self.old (B.ends board.old) (B.stands board.old)
+            → Turned m v fired result self.new (B.ends board.new) (B.stands board.new) }
+        ensures exact { (m : Setup) (v : ℕ) (st : State) → (st v).position ≡ 0 → Works m v (st v) self.old (B.ends board.old) (B.stands board.old)
+            → ServesAll m st v (B.ends board.old) → (result ≡ end_at (turn_answer (plan m) st v)) × IsActor m v (turn (plan m) st v v) self.new }
         ensures moves { Moves self.old.desk.ins.items self.old.desk.outs.items (missed_end (answer_at result)) (B.ends board.old) (B.ends board.new) }
         ensures late { MissesLate (B.ends board.old) (answer_at result) }
         ensures done { result ≡ end.Done → (self.new ≡ self.old) × (board.new ≡ board.old) }
@@ -207,7 +218,8 @@ impl<'r> Actor<'r> {
     pub fn into_given(self) -> Option<Rows>
         ensures sink { IsSome result ↔ IsSinkRole self.entry.part }
         ensures which { (m : Setup) (v : ℕ) (q : Progress) → IsActor m v q self.entry → (IsSome result ↔ v ≡ sink (plan m)) }
-        ensures rows { (m : Setup) (v : ℕ) (q : Progress) → IsActor m v q self.entry → IfSome result (λ rows. AreColumnsAtSink m v rows.columns × (rows.bits ≡ output_rows m q.fired)) }
+        ensures rows { (m : Setup) (v : ℕ) (q : Progress) → IsActor m v q self.entry
+            → IfSome result (λ rows. AreColumnsAtSink m v rows.columns × (rows.bits ≡ output_rows m q.fired)) }
     {
         let Actor { part, .. } = self;
         match part {

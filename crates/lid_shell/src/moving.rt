@@ -1,7 +1,8 @@
 //! Takes and puts.
 
 ghost use Rattle.std.specs.Prelude.{◌≡◌, ◌<◌, ◌+◌, ℕ, None, length, slice_set};
-ghost use Rattle.lid_walk_machine.specs.Setups.{Setup, plan};
+ghost use Rattle.lid_walk_machine.specs.Setups.{plan};
+ghost use Rattle.lid_shell_laws.specs.Setups.{Setup};
 ghost use Rattle.lid_walk_machine.specs.Machine.{Progress};
 ghost use Rattle.lid_shell.specs.declared.desk.Next.TheVariants.{Take, Put};
 ghost use Rattle.lid_shell.specs.Inside.{CanDo, CanPut, AreMade, IsAbout, IsBusyAtBoard, HasTaken, HasPut};
@@ -24,7 +25,8 @@ impl Desk {
     /// Takes the token that was seen at place i of the stations that are drained.
     pub(crate) fn take<B: Stations>(&mut self, board: &mut B, i: usize) -> u32
         requires { CanDo (Take i) self.old (B.ends board.old) (B.stands board.old) }
-        ensures takes { (m : Setup) (v : ℕ) (q : Progress) → IsBusyAtBoard m v q self.old (B.ends board.old) (B.stands board.old) → IsAbout m v q (Take i) → HasTaken m v q i result self.new (B.ends board.new) (B.stands board.new) }
+        ensures takes { (m : Setup) (v : ℕ) (q : Progress) → IsBusyAtBoard m v q self.old (B.ends board.old) (B.stands board.old)
+            → IsAbout m v q (Take i) → HasTaken m v q i result self.new (B.ends board.new) (B.stands board.new) }
         ensures moves { Moves self.old.ins.items self.old.outs.items None (B.ends board.old) (B.ends board.new) }
         ensures same { B.identity board.new ≡ B.identity board.old }
     {
@@ -37,7 +39,9 @@ impl Desk {
     /// Puts the token of this firing into the room that was seen at place j of the stations that are filled.
     pub(crate) fn put<B: Stations>(&mut self, board: &mut B, j: usize) -> u32
         requires { CanPut j self.old (B.ends board.old) (B.stands board.old) }
-        ensures puts { (m : Setup) (v : ℕ) (q : Progress) → IsBusyAtBoard m v q self.old (B.ends board.old) (B.stands board.old) → IsAbout m v q (Put j) → AreMade m v q.fired self.old.tokens.items → HasPut m v q j result self.new (B.ends board.new) (B.stands board.new) }
+        ensures puts { (m : Setup) (v : ℕ) (q : Progress) → IsBusyAtBoard m v q self.old (B.ends board.old) (B.stands board.old)
+            → IsAbout m v q (Put j) → AreMade m v q.fired self.old.tokens.items
+            → HasPut m v q j result self.new (B.ends board.new) (B.stands board.new) }
         ensures moves { Moves self.old.ins.items self.old.outs.items None (B.ends board.old) (B.ends board.new) }
         ensures same { B.identity board.new ≡ B.identity board.old }
     {

@@ -1,7 +1,8 @@
 //! What parts make of tokens.
 
 ghost use Rattle.std.specs.Prelude.{◌≡◌, ℕ, length};
-ghost use Rattle.lid_walk_machine.specs.Setups.{Setup, plan};
+ghost use Rattle.lid_walk_machine.specs.Setups.{plan};
+ghost use Rattle.lid_shell_laws.specs.Setups.{Setup};
 ghost use Rattle.lid_shell.specs.Inside.{CanPass, IsPassing, HasPassed, CanReceive, Receives};
 
 use crate::part::{Given, Role};

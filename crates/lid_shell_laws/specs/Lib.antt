@@ -1,4 +1,5 @@
 pub mod Runs
+pub mod Setups
 pub mod Rules
 pub mod Views
 pub mod Laws

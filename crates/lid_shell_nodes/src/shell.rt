@@ -96,7 +96,8 @@ impl ShellNode {
         requires { length into.old ≡ length self.old.ports }
         ensures many { length into.new ≡ length into.old }
         ensures kept { self.new ≡ self.old }
-        ensures tokens { (s : System) (rows : List (List Bool)) (b : Table Point) (v t : ℕ) → IsWellFormed s → IsTable s rows b → t < length rows → IsShellOf s b v t self.old → into.new ≡ tokens_from s b v t }
+        ensures tokens { (s : System) (rows : List (List Bool)) (b : Table Point) (v t : ℕ) → IsWellFormed s → IsTable s rows b → t < length rows
+            → IsShellOf s b v t self.old → into.new ≡ tokens_from s b v t }
     {
         self.pearl.outputs(self.room.outs.as_mut_slice());
         pack_all(self.room.outs.as_slice(), self.wires.ports.as_slice(), into);
@@ -108,8 +109,10 @@ impl ShellNode {
         requires many { length into.old ≡ length self.old.ports }
         ensures many { length into.new ≡ length into.old }
         ensures shape { (self.new.taken ≡ self.old.taken) × (self.new.ports ≡ self.old.ports) }
-        ensures goes { (s : System) (rows : List (List Bool)) (b : Table Point) (v t : ℕ) → IsWellFormed s → IsTable s rows b → t < length rows → IsShellOf s b v t self.old → taken.now ≡ tokens_to s b v t → IsShellOf s b v (t + 1) self.new }
-        ensures gives { (s : System) (rows : List (List Bool)) (b : Table Point) (v t : ℕ) → IsWellFormed s → IsTable s rows b → t + 1 < length rows → IsShellOf s b v t self.old → taken.now ≡ tokens_to s b v t → into.new ≡ tokens_from s b v (t + 1) }
+        ensures goes { (s : System) (rows : List (List Bool)) (b : Table Point) (v t : ℕ) → IsWellFormed s → IsTable s rows b → t < length rows
+            → IsShellOf s b v t self.old → taken.now ≡ tokens_to s b v t → IsShellOf s b v (t + 1) self.new }
+        ensures gives { (s : System) (rows : List (List Bool)) (b : Table Point) (v t : ℕ) → IsWellFormed s → IsTable s rows b → t + 1 < length rows
+            → IsShellOf s b v t self.old → taken.now ≡ tokens_to s b v t → into.new ≡ tokens_from s b v (t + 1) }
     {
         read_all(
             self.wires.inputs.reads.as_slice(),

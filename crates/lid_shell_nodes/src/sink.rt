@@ -61,7 +61,8 @@ impl SinkNode {
         requires taken { length taken.now ≡ self.now.taken }
         requires wide { length into.old ≡ length self.now.reads }
         ensures wide { length into.new ≡ length into.old }
-        ensures row { (s : System) (rows : List (List Bool)) (b : Table Point) (v t : ℕ) → IsWellFormed s → IsTable s rows b → t < length rows → IsSinkOf s v self.now → taken.now ≡ tokens_to s b v t → into.new ≡ output_row s b t }
+        ensures row { (s : System) (rows : List (List Bool)) (b : Table Point) (v t : ℕ) → IsWellFormed s → IsTable s rows b → t < length rows
+            → IsSinkOf s v self.now → taken.now ≡ tokens_to s b v t → into.new ≡ output_row s b t }
     {
         read_all(self.inputs.reads.as_slice(), taken, into);
     }

@@ -59,7 +59,8 @@ impl SourceNode {
         requires row { length row.now ≡ self.now.width }
         requires many { length into.old ≡ length self.now.ports }
         ensures many { length into.new ≡ length into.old }
-        ensures tokens { (s : System) (rows : List (List Bool)) (b : Table Point) (t : ℕ) → IsWellFormed s → IsSourceOf s self.now → IsTable s rows b → slice_get rows t ≡ Some row.now → into.new ≡ tokens_from s b 0 t }
+        ensures tokens { (s : System) (rows : List (List Bool)) (b : Table Point) (t : ℕ) → IsWellFormed s → IsSourceOf s self.now → IsTable s rows b
+            → slice_get rows t ≡ Some row.now → into.new ≡ tokens_from s b 0 t }
     {
         pack_all(row, self.ports.as_slice(), into);
     }

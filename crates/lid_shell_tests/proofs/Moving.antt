@@ -15,7 +15,8 @@ use Rattle.lid_stations.specs.Placements.{Links, links_of, Fits}
 use Rattle.lid_stations.specs.Stations.{drainer}
 use Rattle.lid_shell_laws.specs.Laws.{MoversMoveTokensOn}
 use Rattle.lid_walk_machine.specs.Plans.{actors_of, stations_of, ins_of, outs_of, start_of, room_of, stream, drainer_of}
-use Rattle.lid_walk_machine.specs.Setups.{Setup, IsSetup, IsInputRow, plan}
+use Rattle.lid_walk_machine.specs.Setups.{plan}
+use Rattle.lid_shell_laws.specs.Setups.{Setup, IsSetup, IsInputRow}
 use Rattle.lid_shell.specs.declared.actor.Actor.{Actor}
 use Rattle.lid_shell.specs.Actors.{IsActor}
 use Rattle.lid_shell.specs.Steps.{CanTurn}

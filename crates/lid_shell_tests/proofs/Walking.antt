@@ -7,7 +7,8 @@ use Rattle.lid_stations.specs.declared.placement.Placement.{Placement}
 use Rattle.lid_stations.specs.Placements.{links_of}
 use Rattle.lid_stations.specs.Stations.{actor_count}
 use Rattle.lid_walk_machine.specs.Plans.{actors_of}
-use Rattle.lid_walk_machine.specs.Setups.{Setup, plan}
+use Rattle.lid_walk_machine.specs.Setups.{plan}
+use Rattle.lid_shell_laws.specs.Setups.{Setup}
 use Rattle.lid_walk_machine.specs.Machine.{begun}
 use Rattle.lid_walk.specs.Setups.{IsSetupOf}
 use Rattle.lid_walk.proofs.Setting.{actors_are}

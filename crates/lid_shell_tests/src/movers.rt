@@ -4,7 +4,8 @@ ghost use Rattle.std.specs.Prelude.{◌≡◌, ◌≤◌, ◌+◌, [], ◌∷◌
 ghost use Rattle.std.specs.List.{AllByRecursion};
 ghost use Rattle.lid_system.specs.Systems.{IsWellFormed};
 ghost use Rattle.lid_stations.specs.Placements.{Fits};
-ghost use Rattle.lid_walk_machine.specs.Setups.{IsInputRow, plan};
+ghost use Rattle.lid_walk_machine.specs.Setups.{plan};
+ghost use Rattle.lid_shell_laws.specs.Setups.{IsInputRow};
 ghost use Rattle.lid_shell.specs.Steps.{CanTurn};
 
 use lid_base::{Answer, Items};

@@ -6,8 +6,7 @@ use Rattle.std.proofs.lemmas.List.Sums.{sum_by-cons}
 use Rattle.lid_graph.specs.declared.graph.Graph.{Graph}
 use Rattle.lid_cert.specs.declared.cert.Part.{Part}
 use Rattle.lid_cert.specs.declared.cert.Cert.{Cert}
-use Rattle.lid_cert.specs.Certificates.{has_node, least_node, IsPart}
-use Rattle.lid_cert.specs.Owners.{no_part, part_at}
+use Rattle.lid_cert.specs.Certificates.{has_node, least_node, IsPart, no_part, part_at}
 use Rattle.lid_cert.specs.Laws.{ShowsTransition}
 use Rattle.lid_cert.proofs.Consequences.{ratio_is_shown, each_is_shown}
 use Rattle.lid_size_laws.specs.Capacities.{IsForwardRatio, HasForwardRatio}

@@ -7,8 +7,7 @@ use Rattle.std.proofs.lemmas.List.Elements.{All-get_or}
 use Rattle.lid_graph.specs.declared.graph.Graph.{Graph}
 use Rattle.lid_graph.specs.Walks.{walk_tokens}
 use Rattle.lid_cert.specs.declared.cert.Cert.{Cert}
-use Rattle.lid_cert.specs.Certificates.{least_node, Certifies, IsInRange}
-use Rattle.lid_cert.specs.Owners.{part_at}
+use Rattle.lid_cert.specs.Certificates.{least_node, Certifies, IsInRange, part_at}
 use Rattle.lid_graph.specs.Rateable.{IsRateable}
 use Rattle.lid_rate.specs.Rates.{IsShort}
 use Rattle.lid_system.specs.declared.System.{System}

@@ -6,7 +6,7 @@ use Rattle.lid_base_lines.specs.Texts.{Words, line_text, lines_text}
 use Rattle.lid_base_lines.proofs.Pieces.{lines_text_append}
 use Rattle.lid_rate_ratio.specs.declared.lowest_terms.Ratio.{Ratio}
 use Rattle.lid_slack.specs.declared.answer.PlainSlack.{PlainSlack}
-use Rattle.lid_slack.specs.Slack.{HasNextRatio, IsSlackAndNext}
+use Rattle.lid_slack.specs.Told.{HasNextRatio, IsSlackAndNext}
 use Rattle.lid_stations.specs.declared.placement.Placement.{Placement}
 use Rattle.lid_stations.specs.Placements.{Links}
 use Rattle.lid_size_text.specs.Slacks.{slack_words, next_ratio_word, IsNextWord, IsSlackLine, AreSlackLines}

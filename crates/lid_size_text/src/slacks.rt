@@ -3,7 +3,7 @@
 ghost use Rattle.std.specs.Prelude.{◌≡◌, ◌++◌, ◌<◌, length, IfOk, OnOk};
 ghost use Rattle.lid_base_lines.specs.Texts.{line_text};
 ghost use Rattle.lid_size_text.specs.Slacks.{channel_name, slack_words, next_ratio_word, IsSlackText};
-ghost use Rattle.lid_slack.specs.Slack.{IsCertified};
+ghost use Rattle.lid_slack.specs.Told.{IsCertified};
 ghost use Rattle.lid_stations.specs.Placements.{links_of, Fits};
 ghost use Rattle.lid_system.specs.Systems.{IsWellFormed};
 

@@ -18,7 +18,7 @@ use Rattle.lid_slack_longer.proofs.Labelling.{labels_keep, ways_close}
 use Rattle.lid_slack_longer.proofs.Renumbering.{through_is, last_below}
 use Rattle.lid_slack.specs.declared.answer.Slack.{Slack}
 use Rattle.lid_slack.specs.declared.answer.PlainSlack.{PlainSlack}
-use Rattle.lid_slack.specs.Slack.{IsEnd, IsTold, IsNextRatio, HasNextRatio, IsSlackAndNext}
+use Rattle.lid_slack.specs.Told.{IsEnd, IsTold, IsNextRatio, HasNextRatio, IsSlackAndNext}
 use Rattle.lid_slack.specs.Trials.{CanTry, IsPresent, IsMost}
 use Rattle.lid_slack.specs.Labelled.{IsWayRatio}
 use Rattle.lid_slack.proofs.Ratios.{exact_below}

@@ -20,14 +20,14 @@ use Rattle.lid_cert.specs.declared.cert.Part.{Part}
 use Rattle.lid_cert.specs.declared.cert.Cert.{Cert}
 use Rattle.lid_cert.specs.Laws.{ShowsTransition}
 use Rattle.lid_cert.proofs.Consequences.{cycle_near, each_is_shown, ratio_is_shown}
-use Rattle.lid_rate.specs.Rates.{IsExactPart}
-use Rattle.lid_cert.specs.Certificates.{Certifies, has_node, IsPart}
-use Rattle.lid_cert.specs.Owners.{no_part, part_at}
+use Rattle.lid_rate.specs.Exact.{IsExactPart}
+use Rattle.lid_cert.specs.Certificates.{Certifies, has_node, IsPart, no_part, part_at}
 use Rattle.lid_slack_longer.specs.Longer.{longer, longer_marking, producer, room, KeepsAt, KeepsRatio}
 use Rattle.lid_slack_longer.proofs.Kept.{longer_fits, none_keep, fewer_keep}
 use Rattle.lid_slack.specs.declared.answer.Slack.{Slack}
 use Rattle.lid_slack.specs.declared.certified.Certified.{Certified}
-use Rattle.lid_slack.specs.Slack.{IsCertified, IsSlack, IsAgainst, IsTold}
+use Rattle.lid_slack.specs.Slack.{IsSlack}
+use Rattle.lid_slack.specs.Told.{IsCertified, IsAgainst, IsTold}
 use Rattle.lid_slack.specs.Trials.{CanTry, IsTrial, IsPresent, IsMost, IsBetween, IsFoundSlack}
 use Rattle.lid_slack.proofs.Ratios.{keeps_lower, exact_below, below_higher, ratio_keeps, keeps_ratio, one_ratio}
 

@@ -7,15 +7,14 @@ use Rattle.lid_stations.specs.Markings.{marking}
 use Rattle.lid_system.specs.declared.System.{System}
 use Rattle.lid_system.specs.Systems.{IsWellFormed}
 use Rattle.lid_cert.specs.declared.cert.Cert.{Cert}
-use Rattle.lid_cert.specs.Certificates.{Certifies, has_node}
-use Rattle.lid_cert.specs.Owners.{part_at}
+use Rattle.lid_cert.specs.Certificates.{Certifies, has_node, part_at}
 use Rattle.lid_rate_ratio.specs.declared.lowest_terms.Ratio.{Ratio}
-use Rattle.lid_rate.specs.Rates.{IsExactPart}
+use Rattle.lid_rate.specs.Exact.{IsExactPart}
 use Rattle.lid_slack_longer.specs.Longer.{longer_marking, producer, room, KeepsAt}
 use Rattle.lid_graph.specs.declared.graph.Graph.{Graph}
 use Rattle.lid_slack.specs.declared.answer.Slack.{Slack}
 use Rattle.lid_slack.specs.declared.trial.Probe.{Probe}
-use Rattle.lid_slack.specs.Slack.{IsEnd, IsAgainst, IsNextRatio}
+use Rattle.lid_slack.specs.Told.{IsEnd, IsAgainst, IsNextRatio}
 
 -- a channel of a system with stations, and as many further relay stations there as there is room for
 pub record CanTry (s : System) (p : Placement) (c x : ℕ) : Type 0 where

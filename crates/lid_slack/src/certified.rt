@@ -3,7 +3,7 @@
 ghost use Rattle.std.specs.Prelude.{IfOk};
 ghost use Rattle.lid_system.specs.Systems.{IsWellFormed};
 ghost use Rattle.lid_stations.specs.Placements.{links_of, Fits};
-ghost use Rattle.lid_slack.specs.Slack.{IsCertified};
+ghost use Rattle.lid_slack.specs.Told.{IsCertified};
 
 use lid_cert::Cert;
 use lid_graph::Graph;

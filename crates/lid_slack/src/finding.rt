@@ -6,7 +6,8 @@ ghost use Rattle.lid_graph.specs.Ratios.{IsRatio};
 ghost use Rattle.lid_system.specs.Systems.{IsWellFormed};
 ghost use Rattle.lid_stations.specs.Placements.{links_of, Fits};
 ghost use Rattle.lid_slack_longer.specs.Longer.{longer_marking, producer, room, KeepsRatio};
-ghost use Rattle.lid_slack.specs.Slack.{IsCertified, IsSlack, IsEnd, IsTold, IsNextRatio};
+ghost use Rattle.lid_slack.specs.Slack.{IsSlack};
+ghost use Rattle.lid_slack.specs.Told.{IsCertified, IsEnd, IsTold, IsNextRatio};
 ghost use Rattle.lid_slack.specs.Trials.{CanTry, IsPresent, CanProbe, ShowsPresent, marking_with, ProbeKeeps, IsAgainstMore, IsMostOf, IsFoundBy};
 
 use crate::answer::{Slack, SlackAndNext};

@@ -5,7 +5,7 @@ ghost use Rattle.std.specs.Prelude.{◌≡◌, ◌+◌, ◌<◌, ◌≤◌, leng
 ghost use Rattle.lid_graph.specs.Rateable.{IsRateable};
 ghost use Rattle.lid_graph.specs.Ratios.{IsRatio};
 ghost use Rattle.lid_slack.specs.Labelled.{present_marking, IsWayRatio};
-ghost use Rattle.lid_slack.specs.Slack.{IsCertified, IsSlackAndNext};
+ghost use Rattle.lid_slack.specs.Told.{IsCertified, IsSlackAndNext};
 ghost use Rattle.lid_slack.specs.Trials.{CanTry, IsPresent, CanProbe, ShowsPresent, marking_with, ProbeKeeps};
 ghost use Rattle.lid_slack_longer.specs.Longer.{last_station, producer, KeepsAt};
 ghost use Rattle.lid_stations.specs.Placements.{links_of, Fits};

@@ -1,8 +1,7 @@
 //! What is found with some further relay stations on a channel.
 
 ghost use Rattle.std.specs.Prelude.{◌≡◌, ◌<◌, ◌≤◌, ◌*◌, ◌^◌, ◌↔◌, true, false, length, IfOk, IsTrue};
-ghost use Rattle.lid_cert.specs.Certificates.{Certifies, has_node};
-ghost use Rattle.lid_cert.specs.Owners.{part_at};
+ghost use Rattle.lid_cert.specs.Certificates.{Certifies, has_node, part_at};
 ghost use Rattle.lid_graph.specs.Rateable.{IsRateable};
 ghost use Rattle.lid_stations.specs.Placements.{links_of};
 ghost use Rattle.lid_slack_longer.specs.Longer.{producer};

@@ -2,7 +2,7 @@
 
 ghost use Rattle.std.specs.Prelude.{◌<◌, length};
 ghost use Rattle.lid_system.specs.Systems.{IsWellFormed};
-ghost use Rattle.lid_slack.specs.Slack.{IsCertified};
+ghost use Rattle.lid_slack.specs.Told.{IsCertified};
 ghost use Rattle.lid_stations.specs.Placements.{links_of, Fits};
 
 use lid_rate_ratio::Ratio;

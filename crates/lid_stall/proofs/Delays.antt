@@ -25,10 +25,10 @@ use Rattle.lid_stall.specs.Runs.{IsHeldBy, holds_one, stalled_after, IsOverBy}
 use Rattle.lid_stall.proofs.Walking.{source_due, sink_due, divides_on, counted_moves}
 
 abbrev graph_of : Life → Graph
-graph_of l = marking (links_of l.system) l.placement
+graph_of l = marking (links_of l.setup.system) l.setup.placement
 
 abbrev caps_of : Life → Counts
-caps_of l = cap_of (links_of l.system) (length l.input)
+caps_of l = cap_of (links_of l.setup.system) (length l.setup.input)
 
 -- how often the sink has fired after k cycles in which nobody is held
 abbrev free_after : Life → ℕ → ℕ
@@ -76,10 +76,10 @@ module _ (l : Life) (rules : IsLife l) (stalls : List Stall) (by : IsHeldBy l st
           let held : cond (v == sink l) (holds_sink stalls k) false ≡ true = sym (ap (λ (b : Bool). cond b (holds_source stalls k) (cond (v == sink l) (holds_sink stalls k) false)) other) ∙ sym (by k v) ∙ is in
           by_sink (v == sink l) refl held
 
-  sink_cap : caps_of l (sink l) ≡ length l.input
-  sink_cap = cap_of_sink l.system (length l.input) rules.system.least
+  sink_cap : caps_of l (sink l) ≡ length l.setup.input
+  sink_cap = cap_of_sink l.setup.system (length l.setup.input) rules.system.least
 
-  sinks_few : (k : ℕ) → fired_after l k (sink l) ≤ length l.input
+  sinks_few : (k : ℕ) → fired_after l k (sink l) ≤ length l.setup.input
   sinks_few k = omega (arith, firings_cap (graph_of l) (caps_of l) l.hold k (sink l), sink_cap)
 
   -- holding delays, by no more cycles than hold
@@ -90,13 +90,13 @@ module _ (l : Life) (rules : IsLife l) (stalls : List Stall) (by : IsHeldBy l st
   behind k = holds_delay_by_their_cycles (graph_of l) (caps_of l) l.hold (holds_one l) k (sink l) names
 
   -- a cycle that is needed is one of a cycle for each actor and each row, and of those that hold somebody
-  before_end : (k : ℕ) → IsBelow l k → k < actor_count (links_of l.system) l.placement * length l.input + stalled_after l k
-  before_end k below = by_order (cases_lt k (actor_count (links_of l.system) l.placement * length l.input + stalled_after l k))
+  before_end : (k : ℕ) → IsBelow l k → k < actor_count (links_of l.setup.system) l.setup.placement * length l.setup.input + stalled_after l k
+  before_end k below = by_order (cases_lt k (actor_count (links_of l.setup.system) l.setup.placement * length l.setup.input + stalled_after l k))
     where
-      by_order : (k < actor_count (links_of l.system) l.placement * length l.input + stalled_after l k) ⊎ (actor_count (links_of l.system) l.placement * length l.input + stalled_after l k ≤ k) → k < actor_count (links_of l.system) l.placement * length l.input + stalled_after l k
+      by_order : (k < actor_count (links_of l.setup.system) l.setup.placement * length l.setup.input + stalled_after l k) ⊎ (actor_count (links_of l.setup.system) l.setup.placement * length l.setup.input + stalled_after l k ≤ k) → k < actor_count (links_of l.setup.system) l.setup.placement * length l.setup.input + stalled_after l k
       by_order (inl less) = less
       by_order (inr past) =
-          let all : free_after l (k - stalled_after l k) ≡ length l.input = ends l.system l.placement rules.system rules.fits (length l.input) (k - stalled_after l k) (omega arith) in
+          let all : free_after l (k - stalled_after l k) ≡ length l.setup.input = ends l.setup.system l.setup.placement rules.system rules.fits (length l.setup.input) (k - stalled_after l k) (omega arith) in
           absurd (omega (arith, all, behind k, below))
 
   -- so cycles can be counted
@@ -105,8 +105,8 @@ module _ (l : Life) (rules : IsLife l) (stalls : List Stall) (by : IsHeldBy l st
       omega (
         arith,
         before_end k below,
-        mul-le (actor_count (links_of l.system) l.placement) (length l.input) 69634 1000000
-            (few_actors l.system l.placement rules.system rules.fits) rules.few,
+        mul-le (actor_count (links_of l.setup.system) l.setup.placement) (length l.setup.input) 69634 1000000
+            (few_actors l.setup.system l.setup.placement rules.system rules.fits) rules.few,
       )
 
   -- after the last of the cycles that are needed the run is over
@@ -118,18 +118,18 @@ module _ (l : Life) (rules : IsLife l) (stalls : List Stall) (by : IsHeldBy l st
         cycles = cycles;
         ends = first;
         within = within;
-        bound = bound_had l.system l.placement rules.system rules.fits (length l.input) cycles within;
+        bound = bound_had l.setup.system l.setup.placement rules.system rules.fits (length l.setup.input) cycles within;
         least = first.first k (omega (arith, ahead k, firings_cap (graph_of l) (caps_of l) no_hold k (sink l), sink_cap, all));
         most = most k needed;
       }
     where
-      all : fired_after l k (sink l) ≡ length l.input
+      all : fired_after l k (sink l) ≡ length l.setup.input
       all = omega (arith, sinks_few k, ended)
 
-      found : (n : ℕ) × IsFirstAtCap (graph_of l) (caps_of l) no_hold (sink l) n × (n ≤ actor_count (links_of l.system) l.placement * length l.input)
+      found : (n : ℕ) × IsFirstAtCap (graph_of l) (caps_of l) no_hold (sink l) n × (n ≤ actor_count (links_of l.setup.system) l.setup.placement * length l.setup.input)
       found =
-          first_at_cap (graph_of l) (caps_of l) no_hold (sink l) (actor_count (links_of l.system) l.placement * length l.input)
-          (ends l.system l.placement rules.system rules.fits (length l.input) (actor_count (links_of l.system) l.placement * length l.input) (omega arith) ∙ sym sink_cap)
+          first_at_cap (graph_of l) (caps_of l) no_hold (sink l) (actor_count (links_of l.setup.system) l.setup.placement * length l.setup.input)
+          (ends l.setup.system l.setup.placement rules.system rules.fits (length l.setup.input) (actor_count (links_of l.setup.system) l.setup.placement * length l.setup.input) (omega arith) ∙ sym sink_cap)
 
       cycles : ℕ
       cycles = found.0
@@ -137,10 +137,10 @@ module _ (l : Life) (rules : IsLife l) (stalls : List Stall) (by : IsHeldBy l st
       first : IsFirstAtCap (graph_of l) (caps_of l) no_hold (sink l) cycles
       first = found.1
 
-      within : IsWithinLag (links_of l.system) l.placement (length l.input) cycles
-      within = ends_within_lag l.system l.placement rules.system rules.fits (length l.input) cycles first
+      within : IsWithinLag (links_of l.setup.system) l.setup.placement (length l.setup.input) cycles
+      within = ends_within_lag l.setup.system l.setup.placement rules.system rules.fits (length l.setup.input) cycles first
 
-      late : (j : ℕ) → cycles ≤ j → length l.input ≤ free_after l j
+      late : (j : ℕ) → cycles ≤ j → length l.setup.input ≤ free_after l j
       late j past =
           let same : (j - cycles) + cycles ≡ j = omega arith in
           let more : free_after l cycles ≤ free_after l j =
@@ -195,12 +195,12 @@ module _ (l : Life) (rules : IsLife l) (stalls : List Stall) (by : IsHeldBy l st
   few_stalled k = let has = passed k in omega (arith, has.few, has.at.most)
 
   -- so the run ends
-  pub ends_at : (k : ℕ) → actor_count (links_of l.system) l.placement * length l.input + length stalls ≤ k → fired_after l k (sink l) ≡ length l.input
+  pub ends_at : (k : ℕ) → actor_count (links_of l.setup.system) l.setup.placement * length l.setup.input + length stalls ≤ k → fired_after l k (sink l) ≡ length l.setup.input
   ends_at k late = omega (arith, over, sinks_few l rules stalls by k)
     where
-      over : length l.input ≤ fired_after l k (sink l)
-      over = by_order (cases_lt (fired_after l k (sink l)) (length l.input))
+      over : length l.setup.input ≤ fired_after l k (sink l)
+      over = by_order (cases_lt (fired_after l k (sink l)) (length l.setup.input))
         where
-          by_order : (fired_after l k (sink l) < length l.input) ⊎ (length l.input ≤ fired_after l k (sink l)) → length l.input ≤ fired_after l k (sink l)
+          by_order : (fired_after l k (sink l) < length l.setup.input) ⊎ (length l.setup.input ≤ fired_after l k (sink l)) → length l.setup.input ≤ fired_after l k (sink l)
           by_order (inl below) = absurd (omega (arith, before_end l rules stalls by k below, few_stalled k))
           by_order (inr past) = past

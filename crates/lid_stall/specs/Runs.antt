@@ -28,11 +28,11 @@ stalled_after l k = held_below (holds_one l) k
 -- a run is over after so many cycles: the sink has fired for each row. It takes at least the cycles after which
 -- it is over where nobody is held, which are within the bound, which there is, and more only for cycles that hold somebody
 pub record IsOverBy (l : Life) (made : ℕ) : Type 0 where
-  pub all : fired_after l made (sink l) ≡ length l.input
+  pub all : fired_after l made (sink l) ≡ length l.setup.input
   pub cycles : ℕ
-  pub ends : IsFirstAtCap (marking (links_of l.system) l.placement) (cap_of (links_of l.system) (length l.input)) no_hold (sink l) cycles
-  pub within : IsWithinLag (links_of l.system) l.placement (length l.input) cycles
-  pub bound : HasBound (links_of l.system) l.placement (length l.input) cycles
+  pub ends : IsFirstAtCap (marking (links_of l.setup.system) l.setup.placement) (cap_of (links_of l.setup.system) (length l.setup.input)) no_hold (sink l) cycles
+  pub within : IsWithinLag (links_of l.setup.system) l.setup.placement (length l.setup.input) cycles
+  pub bound : HasBound (links_of l.setup.system) l.setup.placement (length l.setup.input) cycles
   pub least : cycles ≤ made
   pub most : made ≤ cycles + stalled_after l made
 

@@ -3,7 +3,8 @@
 ghost use Rattle.std.specs.Prelude.{◌≡◌, ◌↔◌, ℕ, suc, ◌+◌, ◌^◌, ◌<◌, true, false, ◌||◌, if◌then◌else◌, Some, slice_get};
 ghost use Rattle.lid_stations.specs.Placements.{links_of, station_count};
 ghost use Rattle.lid_stations.specs.Stations.{actor_count};
-ghost use Rattle.lid_clock.specs.Lives.{Life, IsSourceWide, NeedsRow, IsBelow, IsLast, fired_after, shown_after};
+ghost use Rattle.lid_clock.specs.Lives.{Life, NeedsRow, IsBelow, IsLast, fired_after, shown_after};
+ghost use Rattle.lid_shell_laws.specs.Setups.{IsInputRow};
 ghost use Rattle.lid_clock.specs.Ran.{Ran, lent};
 ghost use Rattle.lid_stall_text.specs.Holds.{Ascend};
 ghost use Rattle.lid_stall.specs.Places.{due_of, place_after};
@@ -127,8 +128,8 @@ impl Held {
 
     /// Takes the next row, where one is wanting. The row has the width of the source.
     pub fn give(&mut self, row: &[bool])
-        requires { (l : Life) × (k : ℕ) × (g : ℕ) × RanHeld l k g self.old × NeedsRow l k g × IsSourceWide l.system row.now }
-        ensures { (l : Life) (k g : ℕ) → RanHeld l k g self.old → slice_get l.input g ≡ Some row.now → RanHeld l k (g + 1) self.new }
+        requires { (l : Life) × (k : ℕ) × (g : ℕ) × RanHeld l k g self.old × NeedsRow l k g × IsInputRow l.setup.system row.now }
+        ensures { (l : Life) (k g : ℕ) → RanHeld l k g self.old → slice_get l.setup.input g ≡ Some row.now → RanHeld l k (g + 1) self.new }
     {
         self.stream.give(row);
     }
@@ -142,7 +143,7 @@ impl Held {
 
     /// What a station shows as the next cycle begins. The station exists.
     pub fn show(&self, station: u32) -> Shown
-        requires { (l : Life) × (k : ℕ) × (g : ℕ) × RanHeld l k g self.now × (station < station_count l.placement.relays) }
+        requires { (l : Life) × (k : ℕ) × (g : ℕ) × RanHeld l k g self.now × (station < station_count l.setup.placement.relays) }
         ensures { (l : Life) (k g : ℕ) → RanHeld l k g self.now → result ≡ shown_after l k station }
     {
         self.stream.show(station)
@@ -150,7 +151,7 @@ impl Held {
 
     /// How often an actor has fired. The actor exists.
     pub fn fired(&self, actor: u32) -> u64
-        requires { (l : Life) × (k : ℕ) × (g : ℕ) × RanHeld l k g self.now × (actor < actor_count (links_of l.system) l.placement) }
+        requires { (l : Life) × (k : ℕ) × (g : ℕ) × RanHeld l k g self.now × (actor < actor_count (links_of l.setup.system) l.setup.placement) }
         ensures { (l : Life) (k g : ℕ) → RanHeld l k g self.now → result ≡ fired_after l k actor }
     {
         self.stream.fired(actor)

@@ -43,7 +43,8 @@ pub trait Stations {
         ensures nothing { TellsNothing result }
         ensures drained { (f : Facts) → ends self.old (drain station) ≡ Some f → HasDrained result f }
         ensures again { IsMarked (ends self.old) (drain station) → IsToken result }
-        ensures exact { (f : Facts) → (d : Facts) → ends self.old (fill station) ≡ Some f → ends self.old (drain station) ≡ Some d → (IsVoid result ↔ f.passed ≡ d.passed) }
+        ensures exact { (f : Facts) → (d : Facts) → ends self.old (fill station) ≡ Some f → ends self.old (drain station) ≡ Some d
+            → (IsVoid result ↔ f.passed ≡ d.passed) }
         ensures kept { (streams : ℕ → List ℕ) → stands self.old streams → stands self.new streams }
         ensures same { identity self.new ≡ identity self.old };
 
@@ -60,7 +61,8 @@ pub trait Stations {
         ensures filled { (f : Facts) → ends self.old (fill station) ≡ Some f → HasFilled result f }
         ensures full { (f : Facts) → ends self.old (fill station) ≡ Some f → TellsFull result f }
         ensures again { IsMarked (ends self.old) (fill station) → IsRoom result }
-        ensures exact { (f : Facts) → (d : Facts) → ends self.old (fill station) ≡ Some f → ends self.old (drain station) ≡ Some d → (IsStop result ↔ f.passed ≡ d.passed + f.cap) }
+        ensures exact { (f : Facts) → (d : Facts) → ends self.old (fill station) ≡ Some f → ends self.old (drain station) ≡ Some d
+            → (IsStop result ↔ f.passed ≡ d.passed + f.cap) }
         ensures kept { (streams : ℕ → List ℕ) → stands self.old streams → stands self.new streams }
         ensures same { identity self.new ≡ identity self.old };
 
@@ -68,7 +70,8 @@ pub trait Stations {
     fn take(&mut self, station: u32) -> u32
         requires { IsMarked (ends self.old) (drain station) }
         ensures changed { Changes (ends self.old) (drain station) advanced (ends self.new) }
-        ensures token { (streams : ℕ → List ℕ) → (f : Facts) → stands self.old streams → ends self.old (drain station) ≡ Some f → slice_get (streams station) f.passed ≡ Some result }
+        ensures token { (streams : ℕ → List ℕ) → (f : Facts) → stands self.old streams → ends self.old (drain station) ≡ Some f
+            → slice_get (streams station) f.passed ≡ Some result }
         ensures small { result < 2 ^ 31 }
         ensures kept { (streams : ℕ → List ℕ) → stands self.old streams → stands self.new streams }
         ensures same { identity self.new ≡ identity self.old };
@@ -79,7 +82,8 @@ pub trait Stations {
         requires small { token < 2 ^ 31 }
         requires admitted { admits self.old station token }
         ensures changed { Changes (ends self.old) (fill station) advanced (ends self.new) }
-        ensures kept { (streams : ℕ → List ℕ) → (f : Facts) → stands self.old streams → ends self.old (fill station) ≡ Some f → slice_get (streams station) f.passed ≡ Some token → stands self.new streams }
+        ensures kept { (streams : ℕ → List ℕ) → (f : Facts) → stands self.old streams → ends self.old (fill station) ≡ Some f
+            → slice_get (streams station) f.passed ≡ Some token → stands self.new streams }
         ensures same { identity self.new ≡ identity self.old };
 
     ghost next_is_admitted: { (board : Self) → (streams : ℕ → List ℕ) → (station : ℕ) → (token : ℕ) → (f : Facts) → stands board streams → ends board (fill station) ≡ Some f → slice_get (streams station) f.passed ≡ Some token → admits board station token };

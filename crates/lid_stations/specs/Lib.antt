@@ -1,4 +1,5 @@
 pub mod Placements
+pub mod Placed
 pub mod Stations
 pub mod Markings
 pub mod Laws

@@ -4,6 +4,7 @@
 mod ends;
 mod laws;
 mod marked_graph;
+mod placed;
 mod placement;
 
 pub use ends::{drainer, filler};
@@ -12,4 +13,5 @@ pub use laws::{
     stations_stand_between_actors, stations_stand_in_order,
 };
 pub use marked_graph::marking;
+pub use placed::Placed;
 pub use placement::{Placement, none};

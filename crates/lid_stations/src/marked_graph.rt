@@ -60,7 +60,8 @@ fn push_stations(
 ) -> Result<(), AllocError>
     requires system { IsWellFormed system.now }
     requires fits { Fits system.now placement.now }
-    ensures { OnOk result (edges.new.items ≡ edges.old.items ++ flat_map (station_edges (links_of system.now) placement.now) (from_each (λ station. station) 0 (station_count placement.now.relays))) }
+    ensures { OnOk result (edges.new.items ≡ edges.old.items
+        ++ flat_map (station_edges (links_of system.now) placement.now) (from_each (λ station. station) 0 (station_count placement.now.relays))) }
 {
     let mut station = 0usize;
     for c in 0..placement.relays.len() {
@@ -82,7 +83,9 @@ fn push_channel(
     requires fits { Fits system.now placement.now }
     requires there { c < length placement.now.relays }
     requires first { station ≡ station_count (take c placement.now.relays) }
-    ensures { OnOk result (edges.new.items ≡ edges.old.items ++ flat_map (station_edges (links_of system.now) placement.now) (from_each (λ station. station) station (slice_index_or placement.now.relays c 0 + 1))) }
+    ensures { OnOk result (edges.new.items ≡ edges.old.items
+        ++ flat_map (station_edges (links_of system.now) placement.now)
+        (from_each (λ station. station) station (slice_index_or placement.now.relays c 0 + 1))) }
 {
     let first = (system.nodes.len() + (station - c)) as u32;
     for place in 0..placement.relays.as_slice()[c] + 1 {
@@ -113,7 +116,8 @@ fn push_station(
     capacity: u32,
 ) -> Result<(), AllocError>
     requires { tokens ≤ capacity }
-    ensures { OnOk result (edges.new.items ≡ edges.old.items ++ record { from = from; to = to; tokens = tokens } ∷ record { from = to; to = from; tokens = capacity - tokens } ∷ []) }
+    ensures { OnOk result (edges.new.items ≡ edges.old.items
+        ++ record { from = from; to = to; tokens = tokens } ∷ record { from = to; to = from; tokens = capacity - tokens } ∷ []) }
 {
     let back = Edge {
         from: to,

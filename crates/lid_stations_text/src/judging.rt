@@ -48,8 +48,10 @@ fn judge_line(
     requires long { length places.now ≡ length system.now.channels }
     ensures channel { IfOk result (λ c. channel_of (links_of system.now) line.now.words ≡ Some c) }
     ensures free { IfOk result (λ c. slice_index_or places.now c None ≡ None) }
-    ensures ok { IfOk result (λ c. (earlier : _) → IsPlaced (links_of system.now) earlier places.now → line_fault (links_of system.now) form earlier line.now ≡ None) }
-    ensures err { IfErr result (λ e. (earlier : _) → IsPlaced (links_of system.now) earlier places.now → line_fault (links_of system.now) form earlier line.now ≡ Some e) }
+    ensures ok { IfOk result (λ c. (earlier : _) → IsPlaced (links_of system.now) earlier places.now
+        → line_fault (links_of system.now) form earlier line.now ≡ None) }
+    ensures err { IfErr result (λ e. (earlier : _) → IsPlaced (links_of system.now) earlier places.now
+        → line_fault (links_of system.now) form earlier line.now ≡ Some e) }
 {
     let words = line.words.as_slice();
     if !has_form(form, words) {

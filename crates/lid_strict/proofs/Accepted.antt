@@ -9,7 +9,8 @@ use Rattle.lid_design.specs.declared.Model.{Model}
 use Rattle.lid_design.specs.Network.{Driver, from_input, from_latch, from_cover, from_connection}
 use Rattle.lid_base.specs.Each.{from_each}
 use Rattle.lid_design.specs.Columns.{Column, column, drivers}
-use Rattle.lid_design.specs.Walks.{read_now, read_before, IsDriven, IsDrivenOnce, AreReadsDriven, WalksEnd, HasTable, HasOneTable}
+use Rattle.lid_design.specs.Walks.{read_before, IsDriven, IsDrivenOnce, AreReadsDriven, WalksEnd, HasTable, HasOneTable}
+use Rattle.lid_design.specs.Feeds.{read_now}
 use Rattle.lid_design.specs.Models.{nets, insts_of, number_named, instance_number, number_from, data_inputs_of}
 use Rattle.lid_design.specs.Elaboration.{columns, model_nets}
 use Rattle.lid_design.specs.Loops.{HasNoLoop}

@@ -8,7 +8,8 @@ use Rattle.lid_design.specs.declared.Design.{Design}
 use Rattle.lid_design.specs.Network.{Driver, Table, IsStrict}
 use Rattle.lid_base.specs.Each.{from_each}
 use Rattle.lid_design.specs.Columns.{Column, column, root_outputs, output_row, IsStrictOutput}
-use Rattle.lid_design.specs.Walks.{read_now, read_before}
+use Rattle.lid_design.specs.Walks.{read_before}
+use Rattle.lid_design.specs.Feeds.{read_now}
 use Rattle.lid_check_digraph.specs.Graphs.{IsOrder}
 use Rattle.lid_check_elab.specs.declared.driver.ColumnDriver.{ColumnDriver}
 use Rattle.lid_check_elab.specs.Elaborations.{shown_driver, column_at, IsElaborated}

@@ -8,7 +8,8 @@ use Rattle.lid_design.specs.declared.Design.{Design}
 use Rattle.lid_design.specs.Network.{Driver, from_input, from_latch, from_cover, from_connection, Table, IsStrict, bit_of}
 use Rattle.lid_design.specs.Columns.{Column, drivers}
 use Rattle.lid_design.specs.Elaboration.{columns}
-use Rattle.lid_design.specs.Walks.{EdgesLead, WalksEnd, IsDriven, IsDrivenOnce, HasTable}
+use Rattle.lid_design.specs.Walks.{WalksEnd, IsDriven, IsDrivenOnce, HasTable}
+use Rattle.lid_design.specs.Feeds.{EdgesLead}
 use Rattle.lid_design.proofs.Tables.{has_table}
 use Rattle.lid_check_digraph.specs.Graphs.{IsOrder}
 use Rattle.lid_check_digraph.proofs.Orders.{walks_end}

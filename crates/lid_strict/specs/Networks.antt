@@ -3,7 +3,8 @@ use Rattle.std.specs.Prelude.{◌<◌, ℕ, Bool, List, length, map, slice_get, 
 use Rattle.std.specs.List.{AllByRecursion}
 use Rattle.lid_design.specs.Network.{Driver, Table}
 use Rattle.lid_base.specs.Each.{from_each}
-use Rattle.lid_design.specs.Walks.{read_now, read_before}
+use Rattle.lid_design.specs.Walks.{read_before}
+use Rattle.lid_design.specs.Feeds.{read_now}
 
 -- what drives a number: the driver at its place
 abbrev pub driver_list : List (Driver ℕ) → ℕ → List (Driver ℕ)

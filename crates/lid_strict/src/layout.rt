@@ -3,7 +3,7 @@
 
 ghost use Rattle.std.specs.Prelude.{◌≡◌, ◌<◌, ◌++◌, [], length, map, IfOk, OnOk};
 ghost use Rattle.std.specs.List.{AllByRecursion};
-ghost use Rattle.lid_design.specs.Walks.{read_now};
+ghost use Rattle.lid_design.specs.Feeds.{read_now};
 ghost use Rattle.lid_check_digraph.specs.Graphs.{IsOrder};
 ghost use Rattle.lid_check_elab.specs.Covers.{no_cover};
 ghost use Rattle.lid_check_elab.specs.Elaborations.{shown_driver};
@@ -115,7 +115,8 @@ fn push_driver(
     requires cover { HasCover design.now driver.now }
     ensures program { OnOk result (IsProgram 0 layout.new.program) }
     ensures nets { OnOk result (layout.new.program.nets ≡ layout.old.program.nets) }
-    ensures covers { OnOk result (program_covers layout.new.program ≡ program_covers layout.old.program ++ driver_covers number (shown_driver design.now driver.now)) }
+    ensures covers { OnOk result (program_covers layout.new.program ≡ program_covers layout.old.program
+        ++ driver_covers number (shown_driver design.now driver.now)) }
     ensures ins { OnOk result (layout.new.ins.items ≡ layout.old.ins.items ++ input_nets number (shown_driver design.now driver.now)) }
     ensures places { OnOk result (layout.new.places.items ≡ layout.old.places.items ++ input_places (shown_driver design.now driver.now)) }
     ensures latches { OnOk result (layout.new.latches.items ≡ layout.old.latches.items ++ latches_of number (shown_driver design.now driver.now)) }

@@ -88,7 +88,8 @@ pub fn simulate(
     requires covers { AllByRecursion (HasCover design.now) drivers.now }
     requires held { AreHeldBelow (map (shown_driver design.now) drivers.now) }
     requires outs { AllByRecursion (λ k. k < length drivers.now) outs.now }
-    ensures { IfOk result (λ out. (b : Table ℕ) → IsStrict (driver_list (map (shown_driver design.now) drivers.now)) rows.now b → out ≡ rows_at outs.now b (length rows.now)) }
+    ensures { IfOk result (λ out. (b : Table ℕ) → IsStrict (driver_list (map (shown_driver design.now) drivers.now)) rows.now b
+        → out ≡ rows_at outs.now b (length rows.now)) }
 {
     let layout = lay_out(alloc, design, drivers, order)?;
     let mut results = Vec::with_capacity(alloc, rows.len())?;

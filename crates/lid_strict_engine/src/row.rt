@@ -87,7 +87,8 @@ pub fn settle(program: &Program, bits: &mut [bool])
     requires ready { IsReadyProgram program.now }
     requires size { length bits.old ≡ program.now.nets + 1 }
     ensures size { length bits.new ≡ length bits.old }
-    ensures bits { (f : ℕ → Bool) (known : List ℕ) → IsRow (program_covers program.now) f → ReadEarlier known (program_covers program.now) → AreRightAt f known bits.old → AreRightAt f (after known (program_covers program.now)) bits.new }
+    ensures bits { (f : ℕ → Bool) (known : List ℕ) → IsRow (program_covers program.now) f → ReadEarlier known (program_covers program.now)
+        → AreRightAt f known bits.old → AreRightAt f (after known (program_covers program.now)) bits.new }
 {
     for i in 0..program.steps.len() {
         let step = program.steps[i];
@@ -124,7 +125,8 @@ pub fn put_state(bits: &mut [bool], latches: &[FlatLatch], state: &[bool])
     requires below { AllByRecursion (λ k. k < length bits.old) (map latch_out latches.now) }
     requires long { length state.now ≡ length latches.now }
     ensures size { length bits.new ≡ length bits.old }
-    ensures bits { (f : ℕ → Bool) (known : List ℕ) → map f (map latch_out latches.now) ≡ state.now → AreRightAt f known bits.old → AreRightAt f (map latch_out latches.now ++ known) bits.new }
+    ensures bits { (f : ℕ → Bool) (known : List ℕ) → map f (map latch_out latches.now) ≡ state.now → AreRightAt f known bits.old
+        → AreRightAt f (map latch_out latches.now ++ known) bits.new }
 {
     for i in 0..latches.len() {
         bits[latches[i].out as usize] = state[i];

@@ -12,7 +12,8 @@ use Rattle.lid_design.specs.declared.Flat.{Flat}
 use Rattle.lid_design.specs.declared.FlatLatch.{FlatLatch}
 use Rattle.lid_design.specs.declared.FlatCover.{FlatCover}
 use Rattle.lid_design.specs.Network.{Driver, from_input, from_latch, from_cover, from_connection}
-use Rattle.lid_design.specs.Walks.{read_now, read_before, IsDriven, IsDrivenOnce}
+use Rattle.lid_design.specs.Walks.{read_before, IsDriven, IsDrivenOnce}
+use Rattle.lid_design.specs.Feeds.{read_now}
 use Rattle.lid_design.specs.Flat.{inputs_at, latch_at, cover_at, flat_drivers}
 use Rattle.lid_pearl.specs.Pearls.{View}
 use Rattle.lid_system.specs.declared.System.{System}

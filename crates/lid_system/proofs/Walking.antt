@@ -5,7 +5,8 @@ use Rattle.std.specs.Option.{option_map_or}
 use Rattle.lid_base.specs.Lists.{Among}
 use Rattle.lid_base.proofs.Lists.{among_left, map_among}
 use Rattle.lid_design.specs.Network.{Driver, from_input, from_latch, from_cover, from_connection}
-use Rattle.lid_design.specs.Walks.{read_now, read_before, Feeds, EdgesLead, WalksEnd, IsDriven, AreReadsDriven}
+use Rattle.lid_design.specs.Walks.{read_before, WalksEnd, IsDriven, AreReadsDriven}
+use Rattle.lid_design.specs.Feeds.{read_now, Feeds, EdgesLead}
 use Rattle.lid_design.specs.Flat.{flat_drivers}
 use Rattle.lid_design.proofs.Parts.{flat_walks_end, flat_reads_driven}
 use Rattle.lid_pearl.specs.Pearls.{View}

@@ -25,8 +25,10 @@ use lid_design::some_flat_part_meets_its_rules;
 /// its contract is the law.
 pub fn shells_stand_between_source_and_sink()
     ensures first { (s : System) → IsWellFormed s → (columns : List (List ℕ)) × (slice_get s.nodes 0 ≡ Some (Source columns)) }
-    ensures last { (s : System) → IsWellFormed s → (columns : List (List ℕ)) × (ins : List InBit) × (slice_get s.nodes (length s.nodes - 1) ≡ Some (Sink columns ins)) }
-    ensures between { (s : System) (i : ℕ) → IsWellFormed s → 0 < i → i + 1 < length s.nodes → (pearl : View) × (ins : List InBit) × (slice_get s.nodes i ≡ Some (Shell pearl ins)) }
+    ensures last { (s : System) → IsWellFormed s → (columns : List (List ℕ)) × (ins : List InBit)
+        × (slice_get s.nodes (length s.nodes - 1) ≡ Some (Sink columns ins)) }
+    ensures between { (s : System) (i : ℕ) → IsWellFormed s → 0 < i → i + 1 < length s.nodes → (pearl : View) × (ins : List InBit)
+        × (slice_get s.nodes i ≡ Some (Shell pearl ins)) }
 {}
 
 /// A well-formed system has exactly one table for any rows: two tables agree at each port and at each
@@ -35,7 +37,8 @@ pub fn systems_have_one_table()
     ensures some { (s : System) → IsWellFormed s → HasTable (system_drivers s) }
     ensures one { (s : System) → IsWellFormed s → HasOneTable (system_drivers s) }
     ensures ports { (s : System) (i : ℕ) → IsWellFormed s → AllByRecursion (IsDriven (system_drivers s)) (ports_at s i) }
-    ensures nets { (s : System) (i k : ℕ) (pearl : View) (ins : List InBit) → IsWellFormed s → slice_get s.nodes i ≡ Some (Shell pearl ins) → k < pearl.flat.nets → IsDriven (system_drivers s) (shell_net i k) }
+    ensures nets { (s : System) (i k : ℕ) (pearl : View) (ins : List InBit) → IsWellFormed s → slice_get s.nodes i ≡ Some (Shell pearl ins)
+        → k < pearl.flat.nets → IsDriven (system_drivers s) (shell_net i k) }
 {}
 
 /// Each channel of a well-formed system has exactly one stream for any rows. It has a token of 31 bits
@@ -44,8 +47,11 @@ pub fn channels_have_one_stream()
     ensures some { (s : System) (rows : List (List Bool)) (c : ℕ) → IsWellFormed s → c < length s.channels → (tokens : List ℕ) × IsStream s rows c tokens }
     ensures one { (s : System) (rows : List (List Bool)) (c : ℕ) (tokens others : List ℕ) → IsStream s rows c tokens → IsStream s rows c others → tokens ≡ others }
     ensures long { (s : System) (rows : List (List Bool)) (c : ℕ) (tokens : List ℕ) → IsStream s rows c tokens → length tokens ≡ length rows }
-    ensures small { (s : System) (rows : List (List Bool)) (c : ℕ) (tokens : List ℕ) → IsWellFormed s → IsStream s rows c tokens → AllByRecursion (λ token. token < 2 ^ 31) tokens }
-    ensures tokens { (s : System) (rows : List (List Bool)) (c t : ℕ) (tokens : List ℕ) (channel : Channel) (b : Table Point) → IsStream s rows c tokens → slice_get s.channels c ≡ Some channel → IsTable s rows b → t < length rows → slice_get tokens t ≡ Some (token_at s b channel t) }
+    ensures small { (s : System) (rows : List (List Bool)) (c : ℕ) (tokens : List ℕ) → IsWellFormed s → IsStream s rows c tokens
+        → AllByRecursion (λ token. token < 2 ^ 31) tokens }
+    ensures tokens { (s : System) (rows : List (List Bool)) (c t : ℕ) (tokens : List ℕ) (channel : Channel) (b : Table Point)
+        → IsStream s rows c tokens → slice_get s.channels c ≡ Some channel → IsTable s rows b → t < length rows
+        → slice_get tokens t ≡ Some (token_at s b channel t) }
 {}
 
 /// A well-formed system has exactly one list of strict output rows for any rows, one for each. This does
@@ -60,13 +66,17 @@ pub fn systems_have_one_output()
 /// node, are the channel's token, and a bit of the token is what an input that reads it has. This does nothing; its contract is
 /// the law.
 pub fn tokens_carry_bits()
-    ensures packs { (s : System) (b : Table Point) (t : ℕ) (c : ℕ) (channel : Channel) → IsWellFormed s → slice_get s.channels c ≡ Some channel → packed (map (bit_at (port_bits s b channel.from t)) channel.ports) ≡ token_at s b channel t }
-    ensures unpacks { (s : System) (b : Table Point) (t chan bit : ℕ) (channel : Channel) → slice_get s.channels chan ≡ Some channel → bit < length channel.ports → is_set (token_at s b channel t) bit ≡ in_bit s b t (Port chan bit) }
+    ensures packs { (s : System) (b : Table Point) (t : ℕ) (c : ℕ) (channel : Channel) → IsWellFormed s → slice_get s.channels c ≡ Some channel
+        → packed (map (bit_at (port_bits s b channel.from t)) channel.ports) ≡ token_at s b channel t }
+    ensures unpacks { (s : System) (b : Table Point) (t chan bit : ℕ) (channel : Channel) → slice_get s.channels chan ≡ Some channel
+        → bit < length channel.ports → is_set (token_at s b channel t) bit ≡ in_bit s b t (Port chan bit) }
 {}
 
 /// The ports of the source have the bits of the row. This does nothing; its contract is the law.
 pub fn sources_give_rows()
-    ensures { (s : System) (rows : List (List Bool)) (b : Table Point) (t : ℕ) (columns : List (List ℕ)) (row : List Bool) → slice_get s.nodes 0 ≡ Some (Source columns) → IsTable s rows b → slice_get rows t ≡ Some row → length row ≡ length columns → port_bits s b 0 t ≡ row }
+    ensures { (s : System) (rows : List (List Bool)) (b : Table Point) (t : ℕ) (columns : List (List ℕ)) (row : List Bool)
+        → slice_get s.nodes 0 ≡ Some (Source columns) → IsTable s rows b → slice_get rows t ≡ Some row → length row ≡ length columns
+        → port_bits s b 0 t ≡ row }
 {}
 
 /// The bits of the first rows do not depend on later rows: a table of all rows is one of the first rows,
@@ -74,8 +84,10 @@ pub fn sources_give_rows()
 /// contract is the law.
 pub fn first_rows_have_the_first_tokens()
     ensures table { (s : System) (rows more : List (List Bool)) (b : Table Point) → IsTable s (rows ++ more) b → IsTable s rows b }
-    ensures stream { (s : System) (rows more : List (List Bool)) (c : ℕ) (tokens : List ℕ) → IsWellFormed s → c < length s.channels → IsStream s (rows ++ more) c tokens → IsStream s rows c (take (length rows) tokens) }
-    ensures output { (s : System) (rows more outs : List (List Bool)) → IsWellFormed s → IsOutput s (rows ++ more) outs → IsOutput s rows (take (length rows) outs) }
+    ensures stream { (s : System) (rows more : List (List Bool)) (c : ℕ) (tokens : List ℕ) → IsWellFormed s → c < length s.channels
+        → IsStream s (rows ++ more) c tokens → IsStream s rows c (take (length rows) tokens) }
+    ensures output { (s : System) (rows more outs : List (List Bool)) → IsWellFormed s → IsOutput s (rows ++ more) outs
+        → IsOutput s rows (take (length rows) outs) }
 {}
 
 /// The nets of a shell are a strict table of its flat part, with the bits of the shell's inputs as its
@@ -84,11 +96,21 @@ pub fn first_rows_have_the_first_tokens()
 /// state of row t + 1, and to the ports' bits of that row where there is one. This does nothing; its
 /// contract is the law.
 pub fn shells_follow_tables()
-    ensures table { (s : System) (rows : List (List Bool)) (b : Table Point) (i : ℕ) (pearl : View) (ins : List InBit) → IsWellFormed s → slice_get s.nodes i ≡ Some (Shell pearl ins) → IsTable s rows b → IsStrict (flat_drivers pearl.flat) (from_each (input_bits s b i) 0 (length rows)) (nets_of b i) }
-    ensures begins { (s : System) (b : Table Point) (i : ℕ) (pearl : View) (ins : List InBit) → IsWellFormed s → slice_get s.nodes i ≡ Some (Shell pearl ins) → pearl.state ≡ state_at pearl.flat (nets_of b i) 0 }
-    ensures shows { (s : System) (rows : List (List Bool)) (b : Table Point) (i t : ℕ) (pearl p : View) (ins : List InBit) (outs : List Bool) → IsWellFormed s → slice_get s.nodes i ≡ Some (Shell pearl ins) → IsTable s rows b → t < length rows → p.flat ≡ pearl.flat → p.state ≡ state_at pearl.flat (nets_of b i) t → Shows p outs → outs ≡ port_bits s b i t }
-    ensures goes { (s : System) (rows : List (List Bool)) (b : Table Point) (i t : ℕ) (pearl p q : View) (ins : List InBit) (outs : List Bool) → IsWellFormed s → slice_get s.nodes i ≡ Some (Shell pearl ins) → IsTable s rows b → t < length rows → p.flat ≡ pearl.flat → p.state ≡ state_at pearl.flat (nets_of b i) t → Steps p (input_bits s b i t) q outs → (q.flat ≡ pearl.flat) × (q.state ≡ state_at pearl.flat (nets_of b i) (t + 1)) }
-    ensures gives { (s : System) (rows : List (List Bool)) (b : Table Point) (i t : ℕ) (pearl p q : View) (ins : List InBit) (outs : List Bool) → IsWellFormed s → slice_get s.nodes i ≡ Some (Shell pearl ins) → IsTable s rows b → t + 1 < length rows → p.flat ≡ pearl.flat → p.state ≡ state_at pearl.flat (nets_of b i) t → Steps p (input_bits s b i t) q outs → outs ≡ port_bits s b i (t + 1) }
+    ensures table { (s : System) (rows : List (List Bool)) (b : Table Point) (i : ℕ) (pearl : View) (ins : List InBit) → IsWellFormed s
+        → slice_get s.nodes i ≡ Some (Shell pearl ins) → IsTable s rows b
+        → IsStrict (flat_drivers pearl.flat) (from_each (input_bits s b i) 0 (length rows)) (nets_of b i) }
+    ensures begins { (s : System) (b : Table Point) (i : ℕ) (pearl : View) (ins : List InBit) → IsWellFormed s
+        → slice_get s.nodes i ≡ Some (Shell pearl ins) → pearl.state ≡ state_at pearl.flat (nets_of b i) 0 }
+    ensures shows { (s : System) (rows : List (List Bool)) (b : Table Point) (i t : ℕ) (pearl p : View) (ins : List InBit) (outs : List Bool)
+        → IsWellFormed s → slice_get s.nodes i ≡ Some (Shell pearl ins) → IsTable s rows b → t < length rows → p.flat ≡ pearl.flat
+        → p.state ≡ state_at pearl.flat (nets_of b i) t → Shows p outs → outs ≡ port_bits s b i t }
+    ensures goes { (s : System) (rows : List (List Bool)) (b : Table Point) (i t : ℕ) (pearl p q : View) (ins : List InBit) (outs : List Bool)
+        → IsWellFormed s → slice_get s.nodes i ≡ Some (Shell pearl ins) → IsTable s rows b → t < length rows → p.flat ≡ pearl.flat
+        → p.state ≡ state_at pearl.flat (nets_of b i) t → Steps p (input_bits s b i t) q outs → (q.flat ≡ pearl.flat)
+        × (q.state ≡ state_at pearl.flat (nets_of b i) (t + 1)) }
+    ensures gives { (s : System) (rows : List (List Bool)) (b : Table Point) (i t : ℕ) (pearl p q : View) (ins : List InBit) (outs : List Bool)
+        → IsWellFormed s → slice_get s.nodes i ≡ Some (Shell pearl ins) → IsTable s rows b → t + 1 < length rows → p.flat ≡ pearl.flat
+        → p.state ≡ state_at pearl.flat (nets_of b i) t → Steps p (input_bits s b i t) q outs → outs ≡ port_bits s b i (t + 1) }
 {}
 
 /// The rules of systems can be met by a system with a shell. This does nothing; its contract is the law.

@@ -12,7 +12,8 @@ use Rattle.lid_design.specs.declared.Flat.{Flat}
 use Rattle.lid_design.specs.declared.FlatLatch.{FlatLatch}
 use Rattle.lid_design.specs.declared.FlatCover.{FlatCover}
 use Rattle.lid_design.specs.Network.{Driver, from_input, from_latch, from_cover}
-use Rattle.lid_design.specs.Walks.{read_now, EdgesLead, IsDrivenOnce}
+use Rattle.lid_design.specs.Walks.{IsDrivenOnce}
+use Rattle.lid_design.specs.Feeds.{read_now, EdgesLead}
 use Rattle.lid_design.specs.Flat.{inputs_at, flat_drivers, IsFlat}
 use Rattle.lid_design.proofs.Parts.{latch_drives}
 use Rattle.lid_pearl.proofs.Marking.{same_driver}

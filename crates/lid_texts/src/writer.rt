@@ -13,12 +13,9 @@ use lid_base::{Items, Name};
 use lid_base_lines::{append_line, cut_back};
 use std::alloc::AllocError;
 
-/// Appends the header line: the column names, or `-` where there are no columns.
-///
-/// # Errors
-/// Where there is no memory; what was there before is still there.
+/// Appends the words of the header line.
 #[tactic(auto, unfolding(lid_base_lines::specs::Texts::line_text))]
-pub fn append_header(columns: &[Name], into: &mut Vec<u8>) -> Result<(), AllocError>
+fn append_columns(columns: &[Name], into: &mut Vec<u8>) -> Result<(), AllocError>
     ensures ok { OnOk result (into.new.items ≡ into.old.items ++ line_text (header_words columns.now)) }
     ensures kept { Keeps into.old.items into.new.items }
 {
@@ -27,6 +24,18 @@ pub fn append_header(columns: &[Name], into: &mut Vec<u8>) -> Result<(), AllocEr
     } else {
         into.extend_from_slice(b"-\n")
     }
+}
+
+/// Appends the header line: the column names, or `-` where there are no columns.
+///
+/// # Errors
+/// Where there is no memory; `into` is then as it was.
+pub fn append_header(columns: &[Name], into: &mut Vec<u8>) -> Result<(), AllocError>
+    ensures ok { OnOk result (into.new.items ≡ into.old.items ++ line_text (header_words columns.now)) }
+    ensures err { OnErr result (into.new.items ≡ into.old.items) }
+    ensures kept { Keeps into.old.items into.new.items }
+{
+    cut_back(into.len(), append_columns(columns, into), into)
 }
 
 /// Appends a character for each bit.
@@ -40,11 +49,8 @@ fn append_bits(row: &[bool], into: &mut Vec<u8>) -> Result<(), AllocError>
     Ok(())
 }
 
-/// Appends the line of a row: its bits as one word, or `-` where there are no columns.
-///
-/// # Errors
-/// Where there is no memory; what was there before is still there.
-pub fn append_row(columns: &[Name], row: &[bool], into: &mut Vec<u8>) -> Result<(), AllocError>
+/// Appends the word of a row and the end of its line.
+fn append_row_line(columns: &[Name], row: &[bool], into: &mut Vec<u8>) -> Result<(), AllocError>
     ensures ok { OnOk result (into.new.items ≡ into.old.items ++ row_text columns.now row.now) }
     ensures kept { Keeps into.old.items into.new.items }
 {
@@ -55,6 +61,18 @@ pub fn append_row(columns: &[Name], row: &[bool], into: &mut Vec<u8>) -> Result<
         into.extend_from_slice(b"-\n")?;
     }
     Ok(())
+}
+
+/// Appends the line of a row: its bits as one word, or `-` where there are no columns.
+///
+/// # Errors
+/// Where there is no memory; `into` is then as it was.
+pub fn append_row(columns: &[Name], row: &[bool], into: &mut Vec<u8>) -> Result<(), AllocError>
+    ensures ok { OnOk result (into.new.items ≡ into.old.items ++ row_text columns.now row.now) }
+    ensures err { OnErr result (into.new.items ≡ into.old.items) }
+    ensures kept { Keeps into.old.items into.new.items }
+{
+    cut_back(into.len(), append_row_line(columns, row, into), into)
 }
 
 /// Appends the line of each row.

@@ -1,10 +1,11 @@
 //! Lines of words of several kinds, appended to a text.
 
-ghost use Rattle.std.specs.Prelude.{◌≡◌, ◌<◌, ◌++◌, OnOk};
+ghost use Rattle.std.specs.Prelude.{◌≡◌, ◌<◌, ◌++◌, OnOk, OnErr};
 ghost use Rattle.lid_base.specs.Lists.{Keeps};
 ghost use Rattle.lid_texts_runs.specs.Pieces.{hex_digit, hex_digits, spelled, node_name, pieces_text};
 
 use lid_base::append_number;
+use lid_base_lines::cut_back;
 use std::alloc::AllocError;
 
 /// A word of a line.
@@ -45,11 +46,8 @@ fn append_hex(digits: u32, number: u64, into: &mut Vec<u8>) -> Result<(), AllocE
     Ok(())
 }
 
-/// Appends the name of a node by its number, where there are so many nodes: `in`, `u0` and so on, `out`.
-///
-/// # Errors
-/// Where there is no memory; what was there before is still there.
-pub fn append_node(count: u64, node: u64, into: &mut Vec<u8>) -> Result<(), AllocError>
+/// Appends the bytes of the name of a node.
+fn append_name(count: u64, node: u64, into: &mut Vec<u8>) -> Result<(), AllocError>
     ensures ok { OnOk result (into.new.items ≡ into.old.items ++ node_name count node) }
     ensures kept { Keeps into.old.items into.new.items }
 {
@@ -61,6 +59,18 @@ pub fn append_node(count: u64, node: u64, into: &mut Vec<u8>) -> Result<(), Allo
     }
     into.push(b'u')?;
     append_number(node - 1, into)
+}
+
+/// Appends the name of a node by its number, where there are so many nodes: `in`, `u0` and so on, `out`.
+///
+/// # Errors
+/// Where there is no memory; `into` is then as it was.
+pub fn append_node(count: u64, node: u64, into: &mut Vec<u8>) -> Result<(), AllocError>
+    ensures ok { OnOk result (into.new.items ≡ into.old.items ++ node_name count node) }
+    ensures err { OnErr result (into.new.items ≡ into.old.items) }
+    ensures kept { Keeps into.old.items into.new.items }
+{
+    cut_back(into.len(), append_name(count, node, into), into)
 }
 
 /// Appends a word.

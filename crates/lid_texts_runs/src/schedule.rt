@@ -58,7 +58,8 @@ fn push_actor(
 
 /// Appends the actors that the words of a line name.
 fn push_line(line: &Line, actors: u32, schedule: &mut Vec<u32>) -> Result<(), SchedFault>
-    ensures ok { OnOk result ((later : List (ℕ × List ℕ)) → actors_reading actors schedule.new.items later ≡ actors_reading actors schedule.old.items (words_on_line line.now.number line.now.words ++ later)) }
+    ensures ok { OnOk result ((later : List (ℕ × List ℕ))
+        → actors_reading actors schedule.new.items later ≡ actors_reading actors schedule.old.items (words_on_line line.now.number line.now.words ++ later)) }
     ensures err { IfErr result (λ e. (e ≡ SchedFault.Memory)
         ⊎ ((later : List (ℕ × List ℕ)) → actors_reading actors schedule.old.items (words_on_line line.now.number line.now.words ++ later) ≡ Err e)) }
 {

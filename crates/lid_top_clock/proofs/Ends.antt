@@ -53,16 +53,16 @@ first_at f n top is = search_on f n top top 0 (omega arith) is (λ j at. omega a
 
 module _ (l : Life) (rules : IsLife l) where
   abbrev s : System
-  s = l.system
+  s = l.setup.system
 
   abbrev p : Placement
-  p = l.placement
+  p = l.setup.placement
 
   abbrev g : Graph
   g = marking (links_of s) p
 
   abbrev rows : ℕ
-  rows = length l.input
+  rows = length l.setup.input
 
   abbrev cap : Counts
   cap = cap_of (links_of s) rows
@@ -100,7 +100,7 @@ module _ (l : Life) (rules : IsLife l) where
     -- where the sink has first fired for each row, this is the text
     module _ (columns : List (List ℕ)) (trace : Option ℕ) where
       pub text_at : (k : ℕ) → IsFirstAt (λ j. fired_after l j (sink l)) rows k → IsRunText l columns stalls trace (rows_text columns (first_outputs l rows) ++ end_text l stalls trace k)
-      text_at k f = record { cycles = k; ends = first; within = within; bound = bound_had l.system p rules.system rules.fits (length l.input) (k - stalled_of stalls k) within; written = refl }
+      text_at k f = record { cycles = k; ends = first; within = within; bound = bound_had l.setup.system p rules.system rules.fits (length l.setup.input) (k - stalled_of stalls k) within; written = refl }
         where
           first : IsFirstAtCap g cap l.hold (sink l) k
           first = record { reached = f.at ∙ sym sink_cap; first = λ j is. f.first j (is ∙ sink_cap) }
@@ -115,7 +115,7 @@ module _ (l : Life) (rules : IsLife l) where
           over : IsOverBy l k
           over = is_over l rules (listed stalls) (held_by l stalls held) k needed (λ below. absurd (let at = f.at in omega arith))
 
-          within : IsWithinLag (links_of l.system) l.placement (length l.input) (k - stalled_of stalls k)
+          within : IsWithinLag (links_of l.setup.system) l.setup.placement (length l.setup.input) (k - stalled_of stalls k)
           within n d lag ratio is_lag = omega (arith, over.within n d lag ratio is_lag, over.most, stalled k)
 
       pub some_text : (k : ℕ) × IsRunText l columns stalls trace (rows_text columns (first_outputs l rows) ++ end_text l stalls trace k)

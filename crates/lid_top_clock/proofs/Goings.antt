@@ -61,7 +61,7 @@ module _ (r : ClockRun) (run : Running) (given : List (List Bool)) (at : IsRunni
   module _ (new : Running) (feed : RowFeed) (row : List Bool)
       (needs : (l : Life) (k g : ℕ) → RanBy l k g run.stream → NeedsRow l k g)
       (gave : GivesRow r.held (source_columns r.system) (length r.columns) feed given row)
-      (gives : (l : Life) (k g : ℕ) → RanBy l k g run.stream → slice_get l.input g ≡ Some row → RanBy l k (g + 1) new.stream)
+      (gives : (l : Life) (k g : ℕ) → RanBy l k g run.stream → slice_get l.setup.input g ≡ Some row → RanBy l k (g + 1) new.stream)
       (made : new.made ≡ run.made) (count : new.given ≡ run.given + 1) (trace : new.trace ≡ run.trace) (told : new.told ≡ run.told) (stations : new.stations ≡ run.stations) (cells : new.cells ≡ run.cells) where
     is_at : (l : Life) → LifeBegins r (given ++ row ∷ []) l → IsAtLife r (length (given ++ row ∷ [])) new l
     is_at l b =
@@ -137,7 +137,7 @@ module _ (r : ClockRun) (run : Running) (given : List (List Bool)) (at : IsRunni
     trace_is : r.trace ≡ Some most
     trace_is = sym at.trace ∙ is
 
-    stations_are : (l : Life) → LifeBegins r given l → run.stations ≡ station_count l.placement.relays
+    stations_are : (l : Life) → LifeBegins r given l → run.stations ≡ station_count l.setup.placement.relays
     stations_are l b = at.stations ∙ ap (λ p. station_count p.relays) (sym b.of.stations)
 
     cells_are : (l : Life) → LifeBegins r given l → run.cells.items ≡ cells_after l (min run.made most)
@@ -152,7 +152,7 @@ module _ (r : ClockRun) (run : Running) (given : List (List Bool)) (at : IsRunni
 -- a run that has begun
 pub begun : (r : ClockRun) (s : System) (p : Placement) (rows : ℕ) (trace : Option ℕ) (stalls : Option (List Stall)) → r.system ≡ s → r.placement ≡ p → r.rows ≡ rows → r.trace ≡ trace → r.stalls ≡ stalls
     → MeetsRunRules r → (given : List (List Bool)) → AreGiven r given → (run : Running) (first : Option (List Bool)) → HasBegun s p rows first trace stalls run
-    → length given ≡ min 1 rows → ((l : Life) → LifeBegins r given l → slice_get l.input 0 ≡ first) → IsRunning r run given
+    → length given ≡ min 1 rows → ((l : Life) → LifeBegins r given l → slice_get l.setup.input 0 ≡ first) → IsRunning r run given
 begun r s p rows trace stalls system stations many most same sound given are run first h long begins = record {
   rules = sound;
   rows = are;

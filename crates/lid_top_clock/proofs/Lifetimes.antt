@@ -18,7 +18,8 @@ use Rattle.lid_stations.specs.Placements.{links_of, station_count, Fits}
 use Rattle.lid_shell_laws.specs.Runs.{sink_of, token_of, fired_in, in_count, out_count}
 use Rattle.lid_stations.specs.Stations.{capacity}
 use Rattle.lid_shell_laws.specs.Views.{shown_at}
-use Rattle.lid_clock.specs.Lives.{Life, IsSourceWide, shown_after}
+use Rattle.lid_clock.specs.Lives.{Life, shown_after}
+use Rattle.lid_shell_laws.specs.Setups.{IsInputRow}
 use Rattle.lid_texts.specs.RowsText.{rows_text}
 use Rattle.lid_texts_runs.specs.Runs.{cycles_text, trace_text}
 use Rattle.lid_top_clock.specs.RunTexts.{IsLifeOf, IsRunText, cells_after, end_text}
@@ -34,7 +35,7 @@ module _ (d : Design) (s : System) (p : Placement) (of : IsSystemOf d s) (well :
   held = hold_of stalls (sink_of (links_of s))
 
   abbrev pub life : Life
-  life = record { system = s; placement = p; input = rows; table = seen d of.columns b; hold = held }
+  life = record { setup = record { system = s; placement = p; input = rows; table = seen d of.columns b }; hold = held }
 
   pub lives : Fits s p → length rows ≤ 1000000 → AllByRecursion (λ row. length row ≡ length (root_inputs d)) rows → IsLifeOf life s p stalls
   lives fits few wide = record {
@@ -42,7 +43,7 @@ module _ (d : Design) (s : System) (p : Placement) (of : IsSystemOf d s) (well :
       system = well;
       fits = fits;
       few = few;
-      wide = all_weaker (λ row. length row ≡ length (root_inputs d)) (IsSourceWide s) rows (λ row is columns here. is ∙ ap length (sym (of.source 0 columns here))) wide;
+      wide = all_weaker (λ row. length row ≡ length (root_inputs d)) (IsInputRow s) rows (λ row is columns here. is ∙ ap length (sym (of.source 0 columns here))) wide;
       table = table_is d s of well rows b strict;
     };
     of = refl;

@@ -13,17 +13,18 @@ use Rattle.lid_system.specs.declared.System.{System}
 use Rattle.lid_system.specs.Tables.{system_drivers}
 use Rattle.lid_system.proofs.Points.{points_once}
 use Rattle.lid_system.proofs.Walking.{limit, points_end}
-use Rattle.lid_clock.specs.Lives.{Life, IsSourceWide}
+use Rattle.lid_clock.specs.Lives.{Life}
+use Rattle.lid_shell_laws.specs.Setups.{IsInputRow}
 use Rattle.lid_texts_feed.specs.Feeds.{AreFirstRows}
 use Rattle.lid_top_clock.specs.Runnings.{ClockRun, AreGiven, LifeBegins, columns_of, source_columns}
 use Rattle.lid_top_clock.specs.Stepping.{MeetsRunRules}
 use Rattle.lid_base.proofs.Places.{get_past}
 
 -- a row as wide as the columns of the input is one of the source
-pub wide_row : (s : System) (row : List Bool) → length row ≡ length (source_columns s) → IsSourceWide s row
+pub wide_row : (s : System) (row : List Bool) → length row ≡ length (source_columns s) → IsInputRow s row
 wide_row s row e columns is = e ∙ ap (λ node. length (option_map_or columns_of node [])) is
 
-all_same : (s : System) (n : ℕ) (row : List Bool) → IsSourceWide s row → AllByRecursion (IsSourceWide s) (replicate n row)
+all_same : (s : System) (n : ℕ) (row : List Bool) → IsInputRow s row → AllByRecursion (IsInputRow s) (replicate n row)
 all_same s zero row w = tt
 all_same s (suc n) row w = (w, all_same s n row w)
 
@@ -35,7 +36,7 @@ module _ (r : ClockRun) (sound : MeetsRunRules r) (given : List (List Bool)) (ro
   further : List (List Bool)
   further = replicate (r.rows - length given) zeros
 
-  zeros_wide : IsSourceWide r.system zeros
+  zeros_wide : IsInputRow r.system zeros
   unfolding zeros
   zeros_wide = wide_row r.system (replicate (length (source_columns r.system)) false) (length-replicate (length (source_columns r.system)) false)
 
@@ -46,16 +47,18 @@ module _ (r : ClockRun) (sound : MeetsRunRules r) (given : List (List Bool)) (ro
   unfolding input further
   long = length-append given (replicate (r.rows - length given) zeros) ∙ (let more = length-replicate (r.rows - length given) zeros in let few = rows.few in omega arith)
 
-  wide : AllByRecursion (IsSourceWide r.system) input
+  wide : AllByRecursion (IsInputRow r.system) input
   unfolding input further
-  wide = all_append (IsSourceWide r.system) given (replicate (r.rows - length given) zeros) rows.wide (all_same r.system (r.rows - length given) zeros zeros_wide)
+  wide = all_append (IsInputRow r.system) given (replicate (r.rows - length given) zeros) rows.wide (all_same r.system (r.rows - length given) zeros zeros_wide)
 
   abbrev life : Life
   life = record {
-    system = r.system;
-    placement = r.placement;
-    input = input;
-    table = (has_table (system_drivers r.system) (limit r.system sound.system) (points_end r.system sound.system) (points_once r.system sound.system) input).0;
+    setup = record {
+      system = r.system;
+      placement = r.placement;
+      input = input;
+      table = (has_table (system_drivers r.system) (limit r.system sound.system) (points_end r.system sound.system) (points_once r.system sound.system) input).0;
+    };
     hold = hold_of r.stalls (sink_of (links_of r.system));
   }
 
@@ -100,17 +103,17 @@ next_is given xs row is =
 -- a life that begins with a further row begins with those before, and its next row is that one
 module _ (r : ClockRun) (given : List (List Bool)) (row : List Bool) (l : Life) (b : LifeBegins r (given ++ row ∷ []) l) where
   pub begins_before : LifeBegins r given l
-  begins_before = record { of = b.of; many = b.many; first = first_of_more given l.input row b.first }
+  begins_before = record { of = b.of; many = b.many; first = first_of_more given l.setup.input row b.first }
 
-  pub next_row_is : slice_get l.input (length given) ≡ Some row
-  next_row_is = next_is given l.input row b.first
+  pub next_row_is : slice_get l.setup.input (length given) ≡ Some row
+  next_row_is = next_is given l.setup.input row b.first
 
 -- rows that were given, and a further one
 pub more_given : (r : ClockRun) (given : List (List Bool)) (row : List Bool) → AreGiven r given → length given < r.rows → length row ≡ length (source_columns r.system)
     → AreFirstRows r.held (source_columns r.system) (length r.columns) (given ++ row ∷ []) → AreGiven r (given ++ row ∷ [])
 more_given r given row before below width first = record {
   few = (let long = length-append given (row ∷ []) in omega arith);
-  wide = all_append (IsSourceWide r.system) given (row ∷ []) before.wide (wide_row r.system row width, tt);
+  wide = all_append (IsInputRow r.system) given (row ∷ []) before.wide (wide_row r.system row width, tt);
   first = first;
 }
 

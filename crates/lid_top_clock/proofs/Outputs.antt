@@ -48,10 +48,10 @@ cells_one_more l k =
     ∙ ap (λ (xs : List Shown). cells_after l k ++ xs) (append-nil (life_cells l k))
 
 -- each cycle has a cell for each station
-pub cells_long : (l : Life) (k : ℕ) → length (cells_after l k) ≡ station_count l.placement.relays * k
-cells_long l zero = (let none : station_count l.placement.relays * 0 ≡ 0 = omega arith in sym none)
+pub cells_long : (l : Life) (k : ℕ) → length (cells_after l k) ≡ station_count l.setup.placement.relays * k
+cells_long l zero = (let none : station_count l.setup.placement.relays * 0 ≡ 0 = omega arith in sym none)
 cells_long l (suc k) =
-    let n = station_count l.placement.relays in
+    let n = station_count l.setup.placement.relays in
     let more : n * suc k ≡ n * k + n = mul_suc n k in
     ap (λ (j : ℕ). length (cells_after l j)) (sym (add-one k))
     ∙ ap length (cells_one_more l k)

@@ -14,7 +14,8 @@ use Rattle.lid_system.proofs.Points.{first_node}
 use Rattle.lid_net_law.specs.Agreement.{IsSystemOf}
 use Rattle.lid_stations.specs.declared.placement.Placement.{Placement}
 use Rattle.lid_stations.specs.Placements.{links_of, Fits}
-use Rattle.lid_clock.specs.Lives.{Life, IsSourceWide}
+use Rattle.lid_clock.specs.Lives.{Life}
+use Rattle.lid_shell_laws.specs.Setups.{IsInputRow}
 use Rattle.lid_stall_text.specs.declared.stalls.Stall.{Stall}
 use Rattle.lid_texts.specs.declared.rows.VecFault.TheVariants.{Changed}
 use Rattle.lid_top_refusals.specs.declared.refusal.Refusal.TheVariants.{Rows}
@@ -70,7 +71,7 @@ module _ (held : List ℕ → Option (List ℕ)) (d : Design) (s : System) (p : 
     wide : AllByRecursion Wide given
     wide =
         let first = first_node s well in
-        all_weaker (IsSourceWide s) Wide given (λ row is. is first.0 first.1 ∙ ap length (of.source 0 first.0 first.1)) are.wide
+        all_weaker (IsInputRow s) Wide given (λ row is. is first.0 first.1 ∙ ap length (of.source 0 first.0 first.1)) are.wide
 
     second : Rest held (reread_rows d vec rows) given
     second = rest held d vec rows got (source_columns s) (source_named d s of well) given (let most = are.few in omega (arith, many, most)) wide are.first

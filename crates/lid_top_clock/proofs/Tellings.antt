@@ -72,11 +72,11 @@ pushed_part before now held text p = subst (λ (xs : List ℕ). AppendedPrefix b
 
 module _ (r : ClockRun) (ascends : Ascend (listed r.stalls)) (given : List (List Bool)) (l : Life) (b : LifeBegins r given l) where
   -- the text of the first rows is a first part of the text
-  pub part_of_rows : (before now : Option (List ℕ)) (n : ℕ) → n ≤ length l.input → AppendedPrefix before now (rows_text r.columns (first_outputs l n)) → WritesPart r l before now
+  pub part_of_rows : (before now : Option (List ℕ)) (n : ℕ) → n ≤ length l.setup.input → AppendedPrefix before now (rows_text r.columns (first_outputs l n)) → WritesPart r l before now
   part_of_rows before now n few a =
-      let all = length l.input in
+      let all = length l.setup.input in
       let t = some_text l b.of.rules r.stalls b.of.held ascends r.columns r.trace in
-      let f = output_row l.system l.table in
+      let f = output_row l.setup.system l.setup.table in
       let rest = flat_map (row_text r.columns) (from_each f (0 + n) (all - n)) in
       record {
         text = rows_text r.columns (first_outputs l all) ++ end_text l r.stalls r.trace t.0;
@@ -125,10 +125,10 @@ module _ (r : ClockRun) (ascends : Ascend (listed r.stalls)) (given : List (List
 
         sunk : new ≡ old + 1 → rows_text r.columns (first_outputs l old) ++ last_text r.columns last ≡ rows_text r.columns (first_outputs l new)
         sunk more =
-            let row : last ≡ Some (output_row l.system l.table (new - 1)) = is_last.some (made, refl, more) in
+            let row : last ≡ Some (output_row l.setup.system l.setup.table (new - 1)) = is_last.some (made, refl, more) in
             let before : new - 1 ≡ old = omega (arith, more) in
-            ap (λ o. rows_text r.columns (first_outputs l old) ++ last_text r.columns o) (row ∙ ap (λ (n : ℕ). Some (output_row l.system l.table n)) before)
-            ∙ rows_one_more r.columns (output_row l.system l.table) old
+            ap (λ o. rows_text r.columns (first_outputs l old) ++ last_text r.columns o) (row ∙ ap (λ (n : ℕ). Some (output_row l.setup.system l.setup.table n)) before)
+            ∙ rows_one_more r.columns (output_row l.setup.system l.setup.table) old
             ∙ ap (λ (n : ℕ). rows_text r.columns (first_outputs l n)) (sym more)
 
         not_sunk : (new ≡ old + 1 → ⊥) → HasSunk l (made + 1) → ⊥
@@ -162,13 +162,13 @@ module _ (r : ClockRun) (ascends : Ascend (listed r.stalls)) (given : List (List
 
   -- the end
   module _ (k : ℕ) (busy : (j : ℕ) → j < k → IsBelow l j) (over : IsBelow l k → ⊥) where
-    ended : fired_after l k (sink l) ≡ length l.input
+    ended : fired_after l k (sink l) ≡ length l.setup.input
     ended = let most = sink_within l b.of.rules k in omega (arith, most, over)
 
-    first_end : IsFirstAt (λ j. fired_after l j (sink l)) (length l.input) k
+    first_end : IsFirstAt (λ j. fired_after l j (sink l)) (length l.setup.input) k
     first_end = record { at = ended; first = first }
       where
-        first : (j : ℕ) → fired_after l j (sink l) ≡ length l.input → k ≤ j
+        first : (j : ℕ) → fired_after l j (sink l) ≡ length l.setup.input → k ≤ j
         first j is = by (eqb_tells (k - j) 0)
           where
             by : ((k - j == 0 ≡ true) × (k - j ≡ 0)) ⊎ ((k - j == 0 ≡ false) × (k - j ≡ 0 → ⊥)) → k ≤ j
@@ -176,19 +176,19 @@ module _ (r : ClockRun) (ascends : Ascend (listed r.stalls)) (given : List (List
             by (inr some) = let below = busy j (let e = some.1 in omega (arith, e)) in absurd (omega (arith, below, is))
 
     module _ (before now new : Option (List ℕ)) (held line : List ℕ) (pushed : HasPushed before now held (rows_text r.columns (first_outputs l (fired_after l k (sink l))))) (is : line ≡ end_text l r.stalls r.trace k) where
-      end_is : rows_text r.columns (first_outputs l (fired_after l k (sink l))) ++ line ≡ rows_text r.columns (first_outputs l (length l.input)) ++ end_text l r.stalls r.trace k
-      end_is = ap (λ (n : ℕ). rows_text r.columns (first_outputs l n) ++ line) ended ∙ ap (λ (xs : List ℕ). rows_text r.columns (first_outputs l (length l.input)) ++ xs) is
+      end_is : rows_text r.columns (first_outputs l (fired_after l k (sink l))) ++ line ≡ rows_text r.columns (first_outputs l (length l.setup.input)) ++ end_text l r.stalls r.trace k
+      end_is = ap (λ (n : ℕ). rows_text r.columns (first_outputs l n) ++ line) ended ∙ ap (λ (xs : List ℕ). rows_text r.columns (first_outputs l (length l.setup.input)) ++ xs) is
 
       pub end_told : Closes now new held line → Writes r l before new
       end_told close = record {
-        text = rows_text r.columns (first_outputs l (length l.input)) ++ end_text l r.stalls r.trace k;
+        text = rows_text r.columns (first_outputs l (length l.setup.input)) ++ end_text l r.stalls r.trace k;
         is = text_at l b.of.rules r.stalls b.of.held ascends r.columns r.trace k first_end;
         written = subst (λ (xs : List ℕ). Appended before new xs) end_is (close before _ pushed);
       }
 
       pub end_breaks : Breaks now new held line → WritesPart r l before new
       end_breaks break = record {
-        text = rows_text r.columns (first_outputs l (length l.input)) ++ end_text l r.stalls r.trace k;
+        text = rows_text r.columns (first_outputs l (length l.setup.input)) ++ end_text l r.stalls r.trace k;
         is = text_at l b.of.rules r.stalls b.of.held ascends r.columns r.trace k first_end;
         written = subst (λ (xs : List ℕ). AppendedPrefix before new xs) end_is (break before _ pushed);
       }

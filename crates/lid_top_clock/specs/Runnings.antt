@@ -8,7 +8,8 @@ use Rattle.lid_system.specs.declared.System.{System}
 use Rattle.lid_system.specs.declared.Node.{Node}
 use Rattle.lid_system.specs.declared.Node.TheVariants.{Source, Shell, Sink}
 use Rattle.lid_stations.specs.declared.placement.Placement.{Placement}
-use Rattle.lid_clock.specs.Lives.{Life, IsSourceWide}
+use Rattle.lid_clock.specs.Lives.{Life}
+use Rattle.lid_shell_laws.specs.Setups.{IsInputRow}
 use Rattle.lid_stall_text.specs.declared.stalls.Stall.{Stall}
 use Rattle.lid_texts_feed.specs.Feeds.{AreFirstRows, AreAll, IsRefusedText, IfRead, IfRefused}
 use Rattle.lid_top_clock.specs.declared.task.Task.{Task}
@@ -48,14 +49,14 @@ source_columns s = option_map_or columns_of (slice_get s.nodes 0) []
 -- rows that the file gave: the first of its rows
 pub record AreGiven (r : ClockRun) (rows : List (List Bool)) : Type 0 where
   pub few : length rows ≤ r.rows
-  pub wide : AllByRecursion (IsSourceWide r.system) rows
+  pub wide : AllByRecursion (IsInputRow r.system) rows
   pub first : AreFirstRows r.held (source_columns r.system) (length r.columns) rows
 
 -- a life of the run that begins with these rows
 pub record LifeBegins (r : ClockRun) (rows : List (List Bool)) (l : Life) : Type 0 where
   pub of : IsLifeOf l r.system r.placement r.stalls
-  pub many : length l.input ≡ r.rows
-  pub first : take (length rows) l.input ≡ rows
+  pub many : length l.setup.input ≡ r.rows
+  pub first : take (length rows) l.setup.input ≡ rows
 
 -- the text of a life was written
 pub record Writes (r : ClockRun) (l : Life) (before now : Option (List ℕ)) : Type 0 where

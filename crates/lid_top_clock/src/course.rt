@@ -3,7 +3,8 @@
 ghost use Rattle.std.specs.Prelude.{◌≡◌, ◌↔◌, ℕ, suc, ◌+◌, ◌^◌, ◌<◌, true, Some, slice_get};
 ghost use Rattle.lid_stations.specs.Placements.{links_of, station_count};
 ghost use Rattle.lid_stations.specs.Stations.{actor_count};
-ghost use Rattle.lid_clock.specs.Lives.{Life, IsSourceWide, NeedsRow, IsBelow, IsLast, sink, fired_after, shown_after};
+ghost use Rattle.lid_clock.specs.Lives.{Life, NeedsRow, IsBelow, IsLast, sink, fired_after, shown_after};
+ghost use Rattle.lid_shell_laws.specs.Setups.{IsInputRow};
 ghost use Rattle.lid_clock.specs.Ran.{Ran, lent};
 ghost use Rattle.lid_stall_text.specs.Holds.{Ascend, listed, hold_of};
 ghost use Rattle.lid_stall.specs.Runs.{stalled_after};
@@ -47,8 +48,8 @@ impl Course {
 
     /// Takes the next row, where one is wanting. The row has the width of the source.
     pub(crate) fn give(&mut self, row: &[bool])
-        requires { (l : Life) × (k : ℕ) × (g : ℕ) × RanBy l k g self.old × NeedsRow l k g × IsSourceWide l.system row.now }
-        ensures { (l : Life) (k g : ℕ) → RanBy l k g self.old → slice_get l.input g ≡ Some row.now → RanBy l k (g + 1) self.new }
+        requires { (l : Life) × (k : ℕ) × (g : ℕ) × RanBy l k g self.old × NeedsRow l k g × IsInputRow l.setup.system row.now }
+        ensures { (l : Life) (k g : ℕ) → RanBy l k g self.old → slice_get l.setup.input g ≡ Some row.now → RanBy l k (g + 1) self.new }
     {
         match self {
             Course::Free(stream) => stream.give(row),
@@ -97,7 +98,7 @@ impl Course {
 
     /// What a station shows as the next cycle begins. The station exists.
     pub(crate) fn show(&self, station: u32) -> Shown
-        requires { (l : Life) × (k : ℕ) × (g : ℕ) × RanBy l k g self.now × (station < station_count l.placement.relays) }
+        requires { (l : Life) × (k : ℕ) × (g : ℕ) × RanBy l k g self.now × (station < station_count l.setup.placement.relays) }
         ensures { (l : Life) (k g : ℕ) → RanBy l k g self.now → result ≡ shown_after l k station }
     {
         match self {
@@ -108,7 +109,7 @@ impl Course {
 
     /// How often an actor has fired. The actor exists.
     pub(crate) fn fired(&self, actor: u32) -> u64
-        requires { (l : Life) × (k : ℕ) × (g : ℕ) × RanBy l k g self.now × (actor < actor_count (links_of l.system) l.placement) }
+        requires { (l : Life) × (k : ℕ) × (g : ℕ) × RanBy l k g self.now × (actor < actor_count (links_of l.setup.system) l.setup.placement) }
         ensures { (l : Life) (k g : ℕ) → RanBy l k g self.now → result ≡ fired_after l k actor }
     {
         match self {

@@ -71,7 +71,7 @@ fn next_row<S: Shelf>(
 
 /// Appends what each station shows.
 fn push_cells(stream: &Course, stations: u32, cells: &mut Vec<Shown>) -> Result<(), AllocError>
-    requires { (l : Life) × (k : ℕ) × (g : ℕ) × RanBy l k g stream.now × (stations ≡ station_count l.placement.relays) }
+    requires { (l : Life) × (k : ℕ) × (g : ℕ) × RanBy l k g stream.now × (stations ≡ station_count l.setup.placement.relays) }
     ensures { (l : Life) (k g : ℕ) → RanBy l k g stream.now → OnOk result (cells.new.items ≡ cells.old.items ++ from_each (shown_after l k) 0 stations) }
 {
     for station in 0..stations {
@@ -82,7 +82,7 @@ fn push_cells(stream: &Course, stations: u32, cells: &mut Vec<Shown>) -> Result<
 
 /// How often each of so many nodes has fired.
 fn firings(alloc: Global, stream: &Course, nodes: u32) -> Result<Vec<u64>, AllocError>
-    requires { (l : Life) × (k : ℕ) × (g : ℕ) × RanBy l k g stream.now × (nodes ≡ length l.system.nodes) }
+    requires { (l : Life) × (k : ℕ) × (g : ℕ) × RanBy l k g stream.now × (nodes ≡ length l.setup.system.nodes) }
     ensures { (l : Life) (k g : ℕ) → RanBy l k g stream.now → IfOk result (λ fired. fired.items ≡ from_each (fired_after l k) 0 nodes) }
 {
     let mut fired = Vec::new(alloc);

@@ -27,7 +27,8 @@ use Rattle.lid_stations.specs.Placements.{links_of, Fits}
 use Rattle.lid_stations.specs.Markings.{marking}
 use Rattle.lid_shell_laws.specs.Runs.{cap_of, sink_of}
 use Rattle.lid_shell_laws.proofs.Caps.{cap_of_sink}
-use Rattle.lid_clock.specs.Lives.{Life, IsSourceWide, sink}
+use Rattle.lid_clock.specs.Lives.{Life, sink}
+use Rattle.lid_shell_laws.specs.Setups.{IsInputRow}
 use Rattle.lid_clock.specs.Clocks.{IsFreeLife, IsOver, rows_after}
 use Rattle.lid_top_script.specs.Generated.{ones_of}
 use Rattle.lid_top_gen.specs.Counts.{HasLife, AreRunCounts}
@@ -50,12 +51,12 @@ module _ (d : Design) (s : System) (of : IsSystemOf d s) (well : IsWellFormed s)
       ∙ ap length (of.sink (length s.nodes - 1) last.0 last.1 last.2).0
 
   module _ (rows : List (List Bool)) (wide : AllByRecursion (λ row. length row ≡ length (root_inputs d)) rows) where
-    pub rows_wide : AllByRecursion (IsSourceWide s) rows
-    rows_wide = all_weaker (λ row. length row ≡ length (root_inputs d)) (IsSourceWide s) rows (λ row is columns here. is ∙ ap length (sym (of.source 0 columns here))) wide
+    pub rows_wide : AllByRecursion (IsInputRow s) rows
+    rows_wide = all_weaker (λ row. length row ≡ length (root_inputs d)) (IsInputRow s) rows (λ row is columns here. is ∙ ap length (sym (of.source 0 columns here))) wide
 
     module _ (p : Placement) (fits : Fits s p) (few : length rows ≤ 1000000) (b : Table Column) (strict : IsStrict (drivers d) rows b) where
       abbrev life : Life
-      life = record { system = s; placement = p; input = rows; table = seen d of.columns b; hold = no_hold }
+      life = record { setup = record { system = s; placement = p; input = rows; table = seen d of.columns b }; hold = no_hold }
 
       free : IsFreeLife life rows
       free = record {

@@ -4,8 +4,7 @@ use Rattle.lid_graph.specs.declared.graph.Graph.{Graph}
 use Rattle.lid_graph.specs.Walks.{IsPaired}
 use Rattle.lid_cert.specs.declared.cert.Part.{Part}
 use Rattle.lid_cert.specs.declared.cert.Cert.{Cert}
-use Rattle.lid_cert.specs.Certificates.{Certifies, has_node}
-use Rattle.lid_cert.specs.Owners.{part_at, no_part}
+use Rattle.lid_cert.specs.Certificates.{Certifies, has_node, part_at, no_part}
 use Rattle.lid_cert.proofs.Consequences.{each_is_shown}
 use Rattle.std.proofs.lemmas.List.{get_or_default}
 

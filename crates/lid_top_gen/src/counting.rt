@@ -2,7 +2,7 @@
 
 ghost use Rattle.std.specs.Prelude.{◌≡◌, ◌≤◌, ℕ, if◌then◌else◌, length, IfOk};
 ghost use Rattle.std.specs.List.{All, AllByRecursion, sum_by};
-ghost use Rattle.lid_clock.specs.Lives.{IsSourceWide};
+ghost use Rattle.lid_shell_laws.specs.Setups.{IsInputRow};
 ghost use Rattle.lid_design.specs.Network.{Table};
 ghost use Rattle.lid_top_gen.specs.Counts.{HasLife, AreRunCounts};
 ghost use Rattle.lid_stations.specs.Placements.{Fits};
@@ -61,7 +61,7 @@ pub(crate) fn count_run(
     requires system { IsWellFormed system.now }
     requires fits { Fits system.now placement.now }
     requires few { length rows.now.bits ≤ 1000000 }
-    requires wide { AllByRecursion (IsSourceWide system.now) rows.now.bits }
+    requires wide { AllByRecursion (IsInputRow system.now) rows.now.bits }
     requires narrow { (b : Table Point) (t : ℕ) → length (output_row system.now b t) ≤ 4 }
     requires lives { HasLife system.now placement.now rows.now.bits }
     ensures { IfOk result (λ count. AreRunCounts system.now placement.now rows.now.bits count.cycles count.ones) }

@@ -31,10 +31,10 @@ cells_one_more l k =
     ∙ ap (λ (xs : List Shown). cells_before l k ++ xs) (append-nil (life_cells l k))
 
 -- each cycle has a cell for each station
-cells_long : (l : Life) (k : ℕ) → length (cells_before l k) ≡ station_count l.placement.relays * k
-cells_long l zero = (let none : station_count l.placement.relays * 0 ≡ 0 = omega arith in sym none)
+cells_long : (l : Life) (k : ℕ) → length (cells_before l k) ≡ station_count l.setup.placement.relays * k
+cells_long l zero = (let none : station_count l.setup.placement.relays * 0 ≡ 0 = omega arith in sym none)
 cells_long l (suc k) =
-    let n = station_count l.placement.relays in
+    let n = station_count l.setup.placement.relays in
     let more : n * suc k ≡ n * k + n = mul_suc n k in
     ap (λ (j : ℕ). length (cells_before l j)) (sym (add-one k))
     ∙ ap length (cells_one_more l k)
@@ -69,13 +69,13 @@ module _ (s : System) (well : IsWellFormed s) (b : Table Point) where
 module _ (l : Life) (rules : IsLife l) where
   shown_is : (k station : ℕ) → IsCell (shown_after l k station)
   shown_is k station =
-      let at = links_of l.system in
+      let at = links_of l.setup.system in
       let fired = fired_after l k in
-      cell_is (capacity l.placement station) (in_count at l.placement (length l.input) fired station) (out_count at l.placement fired station) (token_of l.system l.placement l.table station)
-      (tokens_small l.system rules.system l.table l.placement station (out_count at l.placement fired station))
+      cell_is (capacity l.setup.placement station) (in_count at l.setup.placement (length l.setup.input) fired station) (out_count at l.setup.placement fired station) (token_of l.setup.system l.setup.placement l.setup.table station)
+      (tokens_small l.setup.system rules.system l.setup.table l.setup.placement station (out_count at l.setup.placement fired station))
 
   cells_are : (k : ℕ) → AllByRecursion IsCell (cells_before l k)
-  cells_are k = all_flat IsCell (life_cells l) (from_each (λ j. j) 0 k) (λ j among. all_each IsCell (shown_after l j) 0 (station_count l.placement.relays) (shown_is j))
+  cells_are k = all_flat IsCell (life_cells l) (from_each (λ j. j) 0 k) (λ j among. all_each IsCell (shown_after l j) 0 (station_count l.setup.placement.relays) (shown_is j))
 
   few_cells : (n c most : ℕ) → c ≤ most → most ≤ 1048576 → n * most ≤ 1048576 → max n 1 * c ≤ 1048576
   few_cells n c most short few cells = omega (arith, mul-le (max n 1) c (max n 1) most (omega arith) short, by_count n cells)
@@ -85,7 +85,7 @@ module _ (l : Life) (rules : IsLife l) where
       by_count (suc n) cells = let same : max (suc n) 1 ≡ suc n = omega arith in subst (λ (m : ℕ). m * most ≤ 1048576) (sym same) cells
 
   -- the trace of a life is one that is written
-  pub writable : (most : ℕ) (t : Trace) → IsTraceOf l most t → most ≤ 1048576 → station_count l.placement.relays * most ≤ 1048576 → IsWritable t
+  pub writable : (most : ℕ) (t : Trace) → IsTraceOf l most t → most ≤ 1048576 → station_count l.setup.placement.relays * most ≤ 1048576 → IsWritable t
   writable most t is few cells = record {
     whole = ap length is.shown ∙ cells_long l t.cycles ∙ ap (λ (n : ℕ). n * t.cycles) (sym is.all);
     few = few_cells t.stations t.cycles most is.few few (subst (λ (n : ℕ). n * most ≤ 1048576) (sym is.all) cells);

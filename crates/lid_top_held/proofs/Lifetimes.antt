@@ -26,7 +26,8 @@ use Rattle.lid_shell_laws.proofs.Caps.{cap_of_sink}
 use Rattle.lid_shell_laws.proofs.Ending.{ends}
 use Rattle.lid_vcd_form.specs.Text.{wave_text}
 use Rattle.lid_vcd_form.specs.Writable.{IsWritable}
-use Rattle.lid_clock.specs.Lives.{Life, IsSourceWide, fired_after, shown_after, sink}
+use Rattle.lid_clock.specs.Lives.{Life, fired_after, shown_after, sink}
+use Rattle.lid_shell_laws.specs.Setups.{IsInputRow}
 use Rattle.lid_clock.specs.Clocks.{IsFreeLife}
 use Rattle.lid_clock.proofs.FreeLives.{sinks_few}
 use Rattle.lid_top_script.specs.Clocked.{station_token, trace_cells, trace_of}
@@ -40,12 +41,12 @@ use Rattle.lid_base.proofs.Alls.{all_weaker}
 use Rattle.lid_base.proofs.Lists.{flat_same}
 
 -- rows as wide as the inputs of a design have the width of the source
-pub wide_rows : (d : Design) (s : System) → IsSystemOf d s → (rows : List (List Bool)) → AllByRecursion (λ row. length row ≡ length (root_inputs d)) rows → AllByRecursion (IsSourceWide s) rows
-wide_rows d s of rows wide = all_weaker (λ row. length row ≡ length (root_inputs d)) (IsSourceWide s) rows (λ row is columns here. is ∙ ap length (sym (of.source 0 columns here))) wide
+pub wide_rows : (d : Design) (s : System) → IsSystemOf d s → (rows : List (List Bool)) → AllByRecursion (λ row. length row ≡ length (root_inputs d)) rows → AllByRecursion (IsInputRow s) rows
+wide_rows d s of rows wide = all_weaker (λ row. length row ≡ length (root_inputs d)) (IsInputRow s) rows (λ row is columns here. is ∙ ap length (sym (of.source 0 columns here))) wide
 
 module _ (d : Design) (s : System) (p : Placement) (of : IsSystemOf d s) (well : IsWellFormed s) (rows : List (List Bool)) (b : Table Column) (strict : IsStrict (drivers d) rows b) (fits : Fits s p) where
   abbrev life : Life
-  life = record { system = s; placement = p; input = rows; table = seen d of.columns b; hold = no_hold }
+  life = record { setup = record { system = s; placement = p; input = rows; table = seen d of.columns b }; hold = no_hold }
 
   lives : length rows ≤ 1000000 → AllByRecursion (λ row. length row ≡ length (root_inputs d)) rows → IsFreeLife life rows
   lives few wide = record {

@@ -21,7 +21,7 @@ module _ (l : Life) (k : ℕ) (now : Clocked) (cells : List Shown) (has : HasTra
       by_order j less (inl before) = has.needed j before
       by_order j less (inr past) = let last : k ≡ j = omega arith in subst (IsBelow l) last below
 
-  pub trace_ends : (stations most : ℕ) → stations ≡ station_count l.placement.relays → k ≤ most → (k < most → IsBelow l k → ⊥) → IsTraceOf l most (record { stations = stations; cycles = k; cells = cells })
+  pub trace_ends : (stations most : ℕ) → stations ≡ station_count l.setup.placement.relays → k ≤ most → (k < most → IsBelow l k → ⊥) → IsTraceOf l most (record { stations = stations; cycles = k; cells = cells })
   trace_ends stations most all few ended = record {
     all = all;
     few = few;

@@ -16,7 +16,8 @@ use Rattle.lid_stations.specs.declared.placement.Placement.{Placement}
 use Rattle.lid_stations.specs.Placements.{links_of, Fits}
 use Rattle.lid_texts.specs.RowsText.{rows_text}
 use Rattle.lid_walk_machine.specs.Plans.{Plan, sink}
-use Rattle.lid_walk_machine.specs.Setups.{Setup, IsSetup, IsInputRow, plan, output_rows as given_rows}
+use Rattle.lid_walk_machine.specs.Setups.{plan, output_rows as given_rows}
+use Rattle.lid_shell_laws.specs.Setups.{Setup, IsSetup, IsInputRow}
 use Rattle.lid_walk_machine.specs.Machine.{State, answers, after_all, answer_of, next, begun}
 use Rattle.lid_top_script.specs.Walked.{plan_of, answer_lines, given_after, IsWalkText}
 use Rattle.lid_top_script.proofs.Tokens.{token_same, are_outputs}

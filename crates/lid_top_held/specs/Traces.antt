@@ -12,7 +12,7 @@ use Rattle.lid_top_script.specs.Wrapped.{Wrapping}
 
 -- a life in which nobody is held, of a system with its stations for these rows
 abbrev pub IsLifeFor : Wrapping → List (List Bool) → Life → Type 0
-IsLifeFor w rows l = IsFreeLife l rows × (l.system ≡ w.system) × (l.placement ≡ w.placement)
+IsLifeFor w rows l = IsFreeLife l rows × (l.setup.system ≡ w.system) × (l.setup.placement ≡ w.placement)
 
 -- there is one
 abbrev pub HasFreeLife : Wrapping → List (List Bool) → Type 0
@@ -20,7 +20,7 @@ HasFreeLife w rows = (l : Life) × IsLifeFor w rows l
 
 -- what the stations show as cycle k begins, in order
 abbrev pub life_cells : Life → ℕ → List Shown
-life_cells l k = from_each (shown_after l k) 0 (station_count l.placement.relays)
+life_cells l k = from_each (shown_after l k) 0 (station_count l.setup.placement.relays)
 
 -- what they show in the first k cycles
 abbrev pub cells_before : Life → ℕ → List Shown
@@ -35,12 +35,12 @@ pub record HasTraced (l : Life) (k : ℕ) (c : Clocked) (cells : List Shown) : T
 -- a run that begins, and how many stations it has
 pub record TraceBegins (l : Life) (stations : ℕ) (c : Clocked) : Type 0 where
   pub ran : Clocks l 0 c
-  pub all : stations ≡ station_count l.placement.relays
+  pub all : stations ≡ station_count l.setup.placement.relays
 
 -- the trace of a run, of so many cycles or as far as the run has them: all cycles before the last one are needed,
 -- and no further one is where the trace has fewer
 pub record IsTraceOf (l : Life) (most : ℕ) (t : Trace) : Type 0 where
-  pub all : t.stations ≡ station_count l.placement.relays
+  pub all : t.stations ≡ station_count l.setup.placement.relays
   pub few : t.cycles ≤ most
   pub needed : (j : ℕ) → j < t.cycles → IsBelow l j
   pub ended : t.cycles < most → ¬ IsBelow l t.cycles

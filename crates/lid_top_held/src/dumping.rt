@@ -18,8 +18,8 @@ use std::alloc::{AllocError, Global};
 
 /// Appends what each station shows.
 fn push_cells(run: &Clocked, stations: u32, cells: &mut Vec<Shown>) -> Result<(), AllocError>
-    requires { (l : Life) × (k : ℕ) × Clocks l k run.now × (stations ≡ station_count l.placement.relays) }
-    ensures { (l : Life) (k : ℕ) → Clocks l k run.now → stations ≡ station_count l.placement.relays → OnOk result (cells.new.items ≡ cells.old.items ++ life_cells l k) }
+    requires { (l : Life) × (k : ℕ) × Clocks l k run.now × (stations ≡ station_count l.setup.placement.relays) }
+    ensures { (l : Life) (k : ℕ) → Clocks l k run.now → stations ≡ station_count l.setup.placement.relays → OnOk result (cells.new.items ≡ cells.old.items ++ life_cells l k) }
 {
     for station in 0..stations {
         cells.push(run.show(station))?;
@@ -30,9 +30,9 @@ fn push_cells(run: &Clocked, stations: u32, cells: &mut Vec<Shown>) -> Result<()
 /// Makes a cycle, where the sink has not yet fired for each row, and appends what each station showed as it
 /// began. Answers whether it made one.
 fn trace_cycle(run: &mut Clocked, stations: u32, cells: &mut Vec<Shown>) -> Result<bool, AllocError>
-    requires { (l : Life) × (k : ℕ) × Clocks l k run.old × (stations ≡ station_count l.placement.relays) }
+    requires { (l : Life) × (k : ℕ) × Clocks l k run.old × (stations ≡ station_count l.setup.placement.relays) }
     ensures made { (l : Life) (k : ℕ) → Clocks l k run.old → IfOk result (λ made. made ≡ true → Clocks l (suc k) run.new) }
-    ensures shown { (l : Life) (k : ℕ) → Clocks l k run.old → stations ≡ station_count l.placement.relays → IfOk result (λ made. made ≡ true → cells.new.items ≡ cells.old.items ++ life_cells l k) }
+    ensures shown { (l : Life) (k : ℕ) → Clocks l k run.old → stations ≡ station_count l.setup.placement.relays → IfOk result (λ made. made ≡ true → cells.new.items ≡ cells.old.items ++ life_cells l k) }
     ensures still { IfOk result (λ made. made ≡ false → cells.new.items ≡ cells.old.items) }
     ensures below { (l : Life) (k : ℕ) → Clocks l k run.old → IfOk result (λ made. (made ≡ true) ↔ IsBelow l k) }
 {

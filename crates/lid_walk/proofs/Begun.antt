@@ -16,7 +16,8 @@ use Rattle.lid_stations.specs.Stations.{start_count}
 use Rattle.lid_shell_laws.specs.Runs.{filled_by, token_of}
 use Rattle.lid_shell_laws.proofs.Ends.{filled_is, filled_there}
 use Rattle.lid_walk_machine.specs.Plans.{stations_of, outs_of, filler_of}
-use Rattle.lid_walk_machine.specs.Setups.{Setup, IsSetup, plan}
+use Rattle.lid_walk_machine.specs.Setups.{plan}
+use Rattle.lid_shell_laws.specs.Setups.{Setup, IsSetup}
 use Rattle.lid_walk.specs.Setups.{IsSetupOf}
 use Rattle.lid_walk.specs.Firsts.{first_token, first_tokens}
 use Rattle.lid_shell.specs.Inside.{ActorsGoByRules}

@@ -8,7 +8,8 @@ use Rattle.lid_station.specs.declared.pair.Pair.{Pair}
 use Rattle.lid_stations.proofs.Spots.{stands_between}
 use Rattle.lid_shell_laws.proofs.Ends.{filled_there}
 use Rattle.lid_walk_machine.specs.Plans.{stations_of, room_of, filler_of}
-use Rattle.lid_walk_machine.specs.Setups.{Setup, IsSetup, plan}
+use Rattle.lid_walk_machine.specs.Setups.{plan}
+use Rattle.lid_shell_laws.specs.Setups.{Setup, IsSetup}
 use Rattle.lid_walk_machine.specs.Machine.{State, in_count, out_count}
 use Rattle.lid_shell.specs.Boards.{IsEndWith, IsFilledBy}
 use Rattle.lid_walk.specs.Walks.{IsBoard}

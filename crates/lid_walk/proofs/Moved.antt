@@ -10,7 +10,8 @@ use Rattle.lid_stations.proofs.Spots.{mover_below}
 use Rattle.lid_shell_laws.specs.Runs.{drained_by, filled_by}
 use Rattle.lid_shell_laws.proofs.Ends.{drained_there}
 use Rattle.lid_walk_machine.specs.Plans.{actors_of, ins_of, outs_of}
-use Rattle.lid_walk_machine.specs.Setups.{Setup, IsSetup, plan}
+use Rattle.lid_walk_machine.specs.Setups.{plan}
+use Rattle.lid_shell_laws.specs.Setups.{Setup, IsSetup}
 use Rattle.lid_walk_machine.specs.Machine.{begun}
 use Rattle.lid_shell.specs.declared.actor.Actor.{Actor}
 use Rattle.lid_shell.specs.Actors.{IsActor}

@@ -21,7 +21,8 @@ use Rattle.lid_station.specs.PlainLaws.{ends_even, ends_odd}
 use Rattle.lid_station.specs.Starts.{start_count as begin_count, start_places, AreStarts, Begin}
 use Rattle.lid_station.proofs.PlainStations.{station_there}
 use Rattle.lid_walk_machine.specs.Plans.{ins_of, outs_of, start_of, room_of, stations_of, stream}
-use Rattle.lid_walk_machine.specs.Setups.{Setup, IsSetup, IsInputRow, plan}
+use Rattle.lid_walk_machine.specs.Setups.{plan}
+use Rattle.lid_shell_laws.specs.Setups.{Setup, IsSetup, IsInputRow}
 use Rattle.lid_walk_machine.specs.Machine.{takes_from, puts_from}
 use Rattle.lid_shell.specs.Boards.{Agrees}
 use Rattle.lid_walk_machine.proofs.Counts.{early}

@@ -5,7 +5,7 @@ use Rattle.lid_stations.specs.declared.placement.Placement.{Placement}
 use Rattle.lid_stations.specs.Placements.{links_of}
 use Rattle.lid_stations.specs.Stations.{actor_count}
 use Rattle.lid_base.proofs.Places.{get_push}
-use Rattle.lid_walk_machine.specs.Setups.{Setup}
+use Rattle.lid_shell_laws.specs.Setups.{Setup}
 use Rattle.lid_walk_machine.specs.Machine.{begun}
 use Rattle.lid_shell.specs.declared.actor.Actor.{Actor}
 use Rattle.lid_walk.specs.Setups.{IsSetupOf}

@@ -5,7 +5,8 @@ use Rattle.lid_station.specs.Boards.{Ends, fill, drain}
 use Rattle.lid_stations.proofs.Spots.{stands_between}
 use Rattle.lid_shell_laws.proofs.Ends.{drained_there, filled_there}
 use Rattle.lid_walk_machine.specs.Plans.{Plan, actors_of, stations_of, ins_of, outs_of, drainer_of, filler_of}
-use Rattle.lid_walk_machine.specs.Setups.{Setup, IsSetup, plan}
+use Rattle.lid_walk_machine.specs.Setups.{plan}
+use Rattle.lid_shell_laws.specs.Setups.{Setup, IsSetup}
 use Rattle.lid_walk_machine.specs.Machine.{State, in_count, out_count}
 pub use Rattle.lid_walk_machine.proofs.Places.{drains_by, fills_by}
 use Rattle.lid_walk_machine.proofs.Moves.{out_here, in_here}

@@ -6,7 +6,8 @@ use Rattle.lid_stations.specs.Placements.{links_of, station_count}
 use Rattle.lid_stations.specs.Stations.{actor_count}
 use Rattle.lid_shell_laws.specs.Runs.{drained_by, filled_by}
 use Rattle.lid_walk_machine.specs.Plans.{actors_of, stations_of, ins_of, outs_of}
-use Rattle.lid_walk_machine.specs.Setups.{Setup, plan}
+use Rattle.lid_walk_machine.specs.Setups.{plan}
+use Rattle.lid_shell_laws.specs.Setups.{Setup}
 
 module _ (m : Setup) (s : System) (p : Placement) (of : m.system ≡ s) (on : m.placement ≡ p) where
   pub ins_are : (v : ℕ) → ins_of (plan m) v ≡ drained_by (links_of s) p v

@@ -9,7 +9,8 @@ use Rattle.lid_stations.proofs.Alive.{rateable, have_tokens}
 use Rattle.lid_shell_laws.specs.Runs.{fired_in}
 use Rattle.lid_shell_laws.proofs.Caps.{cap_about, caps_fit}
 use Rattle.lid_walk_machine.specs.Plans.{actors_of, cap}
-use Rattle.lid_walk_machine.specs.Setups.{Setup, IsSetup, plan}
+use Rattle.lid_walk_machine.specs.Setups.{plan}
+use Rattle.lid_shell_laws.specs.Setups.{Setup, IsSetup}
 
 pub caps_reached : (m : Setup) (k v : ℕ) → IsSetup m → actors_of (plan m) * length m.input ≤ k → v < actors_of (plan m)
     → fired_in (plan m).links (plan m).placement (plan m).rows no_hold k v ≡ cap (plan m) v

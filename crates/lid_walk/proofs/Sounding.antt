@@ -6,7 +6,8 @@ use Rattle.lid_station.specs.Boards.{fill, drain}
 use Rattle.lid_station.specs.Plain.{end_facts}
 use Rattle.lid_station.specs.declared.pair.Pair.{Pair}
 use Rattle.lid_walk_machine.specs.Plans.{actors_of, stations_of, ins_of, outs_of, room_of}
-use Rattle.lid_walk_machine.specs.Setups.{Setup, IsSetup, plan}
+use Rattle.lid_walk_machine.specs.Setups.{plan}
+use Rattle.lid_shell_laws.specs.Setups.{Setup, IsSetup}
 use Rattle.lid_walk_machine.specs.Machine.{State, in_at, out_at, in_count, out_count}
 use Rattle.lid_walk_machine.specs.Laws.{KeepsPrefixes, IsWithin, FindsStay, IsSound}
 use Rattle.lid_walk_machine.proofs.Places.{drains_at, fills_at}

@@ -4,7 +4,8 @@ use Rattle.lid_station.specs.declared.pair.Pair.{Pair}
 use Rattle.lid_station.specs.Starts.{AreStarts, Begin}
 use Rattle.lid_station.specs.Plain.{PlainStands}
 use Rattle.lid_walk_machine.specs.Plans.{stream}
-use Rattle.lid_walk_machine.specs.Setups.{Setup, IsSetup, plan}
+use Rattle.lid_walk_machine.specs.Setups.{plan}
+use Rattle.lid_shell_laws.specs.Setups.{Setup, IsSetup}
 use Rattle.lid_walk_machine.specs.Machine.{begun}
 use Rattle.std.specs.Prelude.{Option}
 use Rattle.lid_walk.specs.Firsts.{first_tokens}

@@ -10,7 +10,8 @@ use Rattle.lid_station.specs.Boards.{Facts, Ends, fill, drain}
 use Rattle.lid_station.specs.Plain.{end_facts, plain_ends, PlainStands}
 use Rattle.lid_station.specs.declared.pair.Pair.{Pair}
 use Rattle.lid_walk_machine.specs.Plans.{actors_of, ins_of, outs_of, cap}
-use Rattle.lid_walk_machine.specs.Setups.{Setup, IsSetup, plan}
+use Rattle.lid_walk_machine.specs.Setups.{plan}
+use Rattle.lid_shell_laws.specs.Setups.{Setup, IsSetup}
 use Rattle.lid_walk_machine.specs.Machine.{Progress, State, answer_as, after_as, answer_of, finds, next}
 use Rattle.lid_walk_machine.specs.Laws.{IsSound}
 use Rattle.lid_walk_machine.proofs.Moves.{here, elsewhere}

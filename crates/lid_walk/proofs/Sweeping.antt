@@ -6,9 +6,10 @@ use mathlib.Core.Logic.{dite}
 use native.Mathlib.Decide.{ℕ_discrete}
 use Rattle.lid_base.specs.Each.{from_each}
 use Rattle.lid_walk_machine.specs.Plans.{actors_of}
-use Rattle.lid_walk_machine.specs.Setups.{Setup, plan}
-use Rattle.lid_walk_machine.specs.Machine.{State, turn, turns_from, sweep}
-use Rattle.lid_walk_machine.specs.Laws.{AllRest, IsSettled, HasTurned}
+use Rattle.lid_walk_machine.specs.Setups.{plan}
+use Rattle.lid_shell_laws.specs.Setups.{Setup}
+use Rattle.lid_walk_machine.specs.Machine.{State, turn, turns_from, sweep, IsSettled}
+use Rattle.lid_walk_machine.specs.Laws.{AllRest, HasTurned}
 use Rattle.lid_walk_machine.proofs.Turns.{has_turned}
 use Rattle.lid_walk_machine.proofs.Sweeps.{has_swept, idle_settled}
 use Rattle.lid_walk.specs.declared.walk.Walk.{Walk}

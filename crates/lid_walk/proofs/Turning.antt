@@ -4,7 +4,8 @@ use Rattle.std.specs.Prelude.{Option, Some, slice_get}
 use Rattle.lid_station.specs.Plain.{plain_ends, PlainStands}
 use Rattle.lid_station.specs.declared.pair.Pair.{Pair}
 use Rattle.lid_walk_machine.specs.Plans.{actors_of}
-use Rattle.lid_walk_machine.specs.Setups.{Setup, plan}
+use Rattle.lid_walk_machine.specs.Setups.{plan}
+use Rattle.lid_shell_laws.specs.Setups.{Setup}
 use Rattle.lid_walk_machine.specs.Machine.{Progress, State, turn, turn_answer}
 use Rattle.lid_walk_machine.specs.Laws.{HasTurned}
 use Rattle.lid_walk_machine.proofs.Turns.{has_turned}
@@ -14,7 +15,8 @@ use Rattle.lid_shell.specs.declared.turn.TurnEnd.TheVariants.{Fired}
 use Rattle.lid_shell.specs.Actors.{IsActor}
 use Rattle.lid_shell.specs.Boards.{ServesAll}
 use Rattle.lid_shell.specs.Steps.{Works, Moves}
-use Rattle.lid_shell.specs.Turns.{end_at, fired_at, Turned}
+use Rattle.lid_shell.specs.Turns.{fired_at, Turned}
+use Rattle.lid_shell.specs.TurnEnds.{end_at}
 pub use Rattle.lid_shell.proofs.Along.{resting}
 use Rattle.lid_walk.specs.declared.walk.Walk.{Walk}
 use Rattle.lid_walk.specs.Walks.{Walks, HasActor, HasActorAtRest}

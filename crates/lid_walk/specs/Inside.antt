@@ -14,7 +14,8 @@ use Rattle.lid_stations.specs.Placements.{Links}
 use Rattle.lid_stations.specs.Stations.{filler, drainer}
 use Rattle.lid_shell_laws.specs.Runs.{drained_by, filled_by}
 use Rattle.lid_walk_machine.specs.Plans.{stations_of, filler_of}
-use Rattle.lid_walk_machine.specs.Setups.{Setup, IsSetup, plan}
+use Rattle.lid_walk_machine.specs.Setups.{plan}
+use Rattle.lid_shell_laws.specs.Setups.{Setup, IsSetup}
 use Rattle.lid_walk_machine.specs.Machine.{begun}
 use Rattle.lid_shell.specs.declared.actor.Actor.{Actor}
 use Rattle.lid_shell.specs.Actors.{IsActor}

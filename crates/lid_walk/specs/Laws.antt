@@ -4,9 +4,10 @@ use Rattle.lid_graph.specs.Firings.{no_hold}
 use Rattle.lid_shell_laws.specs.Runs.{fired_in}
 use Rattle.lid_station.specs.declared.pair.Pair.{Pair}
 use Rattle.lid_walk_machine.specs.Plans.{actors_of, cap, stream, room_of}
-use Rattle.lid_walk_machine.specs.Setups.{Setup, IsSetup, plan}
-use Rattle.lid_walk_machine.specs.Machine.{State, in_count, out_count}
-use Rattle.lid_walk_machine.specs.Laws.{AllRest, IsSettled, sweeps}
+use Rattle.lid_walk_machine.specs.Setups.{plan}
+use Rattle.lid_shell_laws.specs.Setups.{Setup, IsSetup}
+use Rattle.lid_walk_machine.specs.Machine.{State, in_count, out_count, IsSettled, sweeps}
+use Rattle.lid_walk_machine.specs.Laws.{AllRest}
 use Rattle.lid_walk.specs.declared.walk.Walk.{Walk}
 use Rattle.lid_walk.specs.Walks.{Walks}
 

@@ -2,7 +2,7 @@
 use Rattle.std.specs.Prelude.{◌≡◌, Bool, List}
 use Rattle.lid_system.specs.declared.System.{System}
 use Rattle.lid_stations.specs.declared.placement.Placement.{Placement}
-use Rattle.lid_walk_machine.specs.Setups.{Setup, IsSetup}
+use Rattle.lid_shell_laws.specs.Setups.{Setup, IsSetup}
 
 -- this is a setup of these; there is one, by the table of the system
 pub record IsSetupOf (m : Setup) (s : System) (p : Placement) (rows : List (List Bool)) : Type 0 where

@@ -5,7 +5,8 @@ use Rattle.lid_base.specs.Each.{from_each}
 use Rattle.lid_station.specs.Plain.{plain_ends, PlainStands}
 use Rattle.lid_station.specs.declared.pair.Pair.{Pair}
 use Rattle.lid_walk_machine.specs.Plans.{Plan, actors_of, stations_of, stream}
-use Rattle.lid_walk_machine.specs.Setups.{Setup, IsSetup, plan}
+use Rattle.lid_walk_machine.specs.Setups.{plan}
+use Rattle.lid_shell_laws.specs.Setups.{Setup, IsSetup}
 use Rattle.lid_walk_machine.specs.Machine.{State}
 use Rattle.lid_walk_machine.specs.Laws.{IsSound, AllRest}
 use Rattle.lid_shell.specs.Boards.{Agrees}

@@ -4,7 +4,8 @@ ghost use Rattle.std.specs.Prelude.{◌≡◌, ◌≤◌, ◌<◌, ◌+◌, ◌-
 ghost use Rattle.std.specs.List.{All, AllByRecursion};
 ghost use Rattle.lid_system.specs.Systems.{IsWellFormed};
 ghost use Rattle.lid_stations.specs.Placements.{station_count, Fits};
-ghost use Rattle.lid_walk_machine.specs.Setups.{Setup, IsInputRow, plan};
+ghost use Rattle.lid_walk_machine.specs.Setups.{plan};
+ghost use Rattle.lid_shell_laws.specs.Setups.{Setup, IsInputRow};
 ghost use Rattle.lid_walk.specs.Setups.{IsSetupOf};
 ghost use Rattle.lid_walk.specs.Firsts.{first_tokens};
 ghost use Rattle.lid_walk.specs.Inside.{AreWritten, HasFirsts, BeginsWith};

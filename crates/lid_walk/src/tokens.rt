@@ -4,7 +4,7 @@ ghost use Rattle.std.specs.Prelude.{◌≡◌, ◌<◌, ◌+◌, Bool, List, len
 ghost use Rattle.lid_design.specs.Network.{Table};
 ghost use Rattle.lid_system.specs.Systems.{Point, IsWellFormed};
 ghost use Rattle.lid_system.specs.Tables.{IsTable};
-ghost use Rattle.lid_walk_machine.specs.Setups.{IsInputRow};
+ghost use Rattle.lid_shell_laws.specs.Setups.{IsInputRow};
 ghost use Rattle.lid_shell_nodes.specs.Nodes.{tokens_from};
 ghost use Rattle.lid_shell_nodes.specs.Wiring.{ports_from};
 ghost use Rattle.lid_walk.specs.Inside.{AreTokensOf};

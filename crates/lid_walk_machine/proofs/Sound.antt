@@ -6,7 +6,8 @@ use Rattle.lid_stations.proofs.Spots.{cap_range}
 use Rattle.lid_shell_laws.proofs.Caps.{start_and_cap, start_small}
 use Rattle.lid_shell_laws.specs.Runs.{place_in}
 use Rattle.lid_walk_machine.specs.Plans.{Plan, actors_of, stations_of, ins_of, outs_of, drainer_of, filler_of, cap, start_of, room_of}
-use Rattle.lid_walk_machine.specs.Setups.{Setup, IsSetup, plan}
+use Rattle.lid_walk_machine.specs.Setups.{plan}
+use Rattle.lid_shell_laws.specs.Setups.{Setup, IsSetup}
 use Rattle.lid_walk_machine.specs.Machine.{Progress, State, begun, takes_from, puts_from, ends_at, in_at, out_at, in_count, out_count, next}
 use Rattle.lid_walk_machine.specs.Laws.{KeepsPrefixes, IsWithin, FindsStay, IsSound}
 use Rattle.lid_walk_machine.proofs.Places.{drains_at, fills_at}

@@ -15,9 +15,10 @@ use Rattle.lid_shell_laws.specs.Runs.{fired_in}
 use Rattle.lid_shell_laws.proofs.Caps.{cap_about, caps_fit, start_small}
 use Rattle.lid_shell_laws.proofs.Turns.{drains_no_more, fills_no_more, comes_to}
 use Rattle.lid_walk_machine.specs.Plans.{Plan, actors_of, stations_of, ins_of, outs_of, drainer_of, filler_of, cap, start_of}
-use Rattle.lid_walk_machine.specs.Setups.{Setup, IsSetup, plan}
-use Rattle.lid_walk_machine.specs.Machine.{Progress, State, takes_from, in_at, out_at, in_count, out_count, turn, turns_from, sweep}
-use Rattle.lid_walk_machine.specs.Laws.{IsSound, AllRest, HaveFired, IsSettled, HasSwept, sweeps}
+use Rattle.lid_walk_machine.specs.Setups.{plan}
+use Rattle.lid_shell_laws.specs.Setups.{Setup, IsSetup}
+use Rattle.lid_walk_machine.specs.Machine.{Progress, State, takes_from, in_at, out_at, in_count, out_count, turn, turns_from, sweep, IsSettled, sweeps}
+use Rattle.lid_walk_machine.specs.Laws.{IsSound, AllRest, HaveFired, HasSwept}
 use Rattle.lid_walk_machine.proofs.Places.{drains_at, fills_at, drained_at, filled_at}
 use Rattle.lid_walk_machine.proofs.Steps.{taken_early, put_early}
 use Rattle.lid_walk_machine.proofs.Moves.{out_here, in_here}

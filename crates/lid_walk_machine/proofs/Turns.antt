@@ -3,7 +3,8 @@ use Rattle.std.proofs.Common.{◌≡◌, ◌≢◌, ℕ, zero, suc, ◌+◌, ◌
 use mathlib.Core.Logic.{dite}
 use native.Mathlib.Decide.{ℕ_discrete}
 use Rattle.lid_walk_machine.specs.Plans.{Plan, actors_of, ins_of, outs_of, cap, room_of}
-use Rattle.lid_walk_machine.specs.Setups.{Setup, IsSetup, plan}
+use Rattle.lid_walk_machine.specs.Setups.{plan}
+use Rattle.lid_shell_laws.specs.Setups.{Setup, IsSetup}
 use Rattle.lid_walk_machine.specs.Machine.{Progress, State, takes_from, ends_at, in_at, out_at, in_count, out_count, next, until_rest, positions, turn}
 use Rattle.lid_walk_machine.specs.Laws.{IsSound, HasTurned}
 use Rattle.lid_walk_machine.proofs.Places.{drains_at, fills_at}

@@ -1,11 +1,12 @@
 -- Laws of the interleaving machine: what holds at each station whatever the order of steps, and how far sweeps
 -- bring each actor.
-use Rattle.std.specs.Prelude.{◌≡◌, ℕ, zero, suc, ◌+◌, ◌<◌, ◌≤◌, length}
+use Rattle.std.specs.Prelude.{◌≡◌, ℕ, suc, ◌+◌, ◌<◌, ◌≤◌, length}
 use Rattle.lid_graph.specs.Firings.{no_hold}
 use Rattle.lid_shell_laws.specs.Runs.{fired_in}
 use Rattle.lid_walk_machine.specs.Plans.{Plan, actors_of, stations_of, ins_of, outs_of, cap, room_of}
-use Rattle.lid_walk_machine.specs.Setups.{Setup, IsSetup, plan}
-use Rattle.lid_walk_machine.specs.Machine.{State, begun, takes_from, puts_from, ends_at, in_at, out_at, in_count, out_count, next, turn, sweep}
+use Rattle.lid_walk_machine.specs.Setups.{plan}
+use Rattle.lid_shell_laws.specs.Setups.{Setup, IsSetup}
+use Rattle.lid_walk_machine.specs.Machine.{State, begun, takes_from, puts_from, ends_at, in_at, out_at, in_count, out_count, next, turn, sweep, IsSettled, sweeps}
 
 -- the tokens that were taken from a station are the first of those that were put, these are the first of its
 -- stream, and it holds at most its capacity. What was put and taken are the first tokens of the stream, as many
@@ -54,10 +55,6 @@ AllRest m st = (v : ℕ) → v < actors_of m → (st v).position ≡ 0
 abbrev pub HaveFired : Plan → State → ℕ → Type 0
 HaveFired m st k = (v : ℕ) → v < actors_of m → fired_in m.links m.placement m.rows no_hold k v ≤ (st v).fired
 
--- each actor is at its cap
-abbrev pub IsSettled : Plan → State → Type 0
-IsSettled m st = (v : ℕ) → v < actors_of m → (st v).fired ≡ cap m v
-
 -- what a turn leaves: the actor at rest, and the others as they were
 pub record HasTurned (m : Plan) (v : ℕ) (old new : State) : Type 0 where
   pub sound : IsSound m new
@@ -85,11 +82,6 @@ abbrev pub SweepsKeepUp : Type 0
 SweepsKeepUp =
     (x : Setup) (st : State) (k : ℕ)
     → IsSetup x → IsSound (plan x) st → AllRest (plan x) st → HaveFired (plan x) st k → HaveFired (plan x) (sweep (plan x) st) (suc k)
-
--- so many sweeps
-abbrev pub sweeps : Plan → State → ℕ → State
-sweeps m st zero = st
-sweeps m st (suc k) = sweep m (sweeps m st k)
 
 -- so after k sweeps each actor has fired at least as often as after k cycles, whatever the state was before
 abbrev pub SweepsKeepUpWithCycles : Type 0

@@ -5,7 +5,7 @@
 -- drains, in order, then at each that it fills, then takes from each of the first, then puts in each of the
 -- others. A look that does not find what it looks for sets it back to the first position. With its last take or
 -- put it has fired. The state has two numbers for each actor, and holds no tokens.
-use Rattle.std.specs.Prelude.{ℕ, zero, suc, ◌+◌, ◌-◌, ◌==◌, nat_lt, not, Bool, true, false, if◌then◌else◌, List, [], ◌∷◌, length, take, get_or}
+use Rattle.std.specs.Prelude.{ℕ, zero, suc, ◌+◌, ◌-◌, ◌==◌, nat_lt, not, Bool, true, false, if◌then◌else◌, List, [], ◌∷◌, length, take, get_or, ◌≡◌, ◌<◌}
 use Rattle.lid_base.specs.declared.runs.Answer.{Answer}
 use Rattle.lid_base.specs.declared.runs.Answer.TheVariants as answer
 use Rattle.lid_station.specs.Words.{word, word_number}
@@ -183,3 +183,12 @@ turns_from m v (suc left) st = turns_from m (suc v) left (turn m st v)
 
 abbrev pub sweep : Plan → State → State
 sweep m st = turns_from m 0 (actors_of m) st
+
+-- each actor is at its cap
+abbrev pub IsSettled : Plan → State → Type 0
+IsSettled m st = (v : ℕ) → v < actors_of m → (st v).fired ≡ cap m v
+
+-- so many sweeps
+abbrev pub sweeps : Plan → State → ℕ → State
+sweeps m st zero = st
+sweeps m st (suc k) = sweep m (sweeps m st k)

@@ -1,6 +1,5 @@
 use Rattle.std.proofs.Common.{◌≡◌, ℕ, ◌<◌, false}
-use Rattle.lid_cert.specs.Certificates.{has_node}
-use Rattle.lid_cert.specs.Owners.{part_at}
+use Rattle.lid_cert.specs.Certificates.{has_node, part_at}
 use Rattle.lid_cert.proofs.places.part_with.Given as goal
 
 abbrev pub invariant-loop-k : goal.invariant-loop-k

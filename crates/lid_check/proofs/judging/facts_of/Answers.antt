@@ -1,7 +1,7 @@
 use Rattle.std.proofs.Common.{ℕ, ◌≤◌, List, length, map, sym, subst}
 use Rattle.lid_design.specs.declared.Design.{Design}
 use Rattle.lid_design.specs.WellFormed.{IsWellFormed}
-use Rattle.lid_design.specs.Walks.{read_now}
+use Rattle.lid_design.specs.Feeds.{read_now}
 use Rattle.lid_check_digraph.specs.Graphs.{IsOrder}
 use Rattle.lid_check_elab.specs.declared.driver.ColumnDriver.{ColumnDriver}
 use Rattle.lid_check_elab.specs.Elaborations.{shown_driver, IsElaborated}

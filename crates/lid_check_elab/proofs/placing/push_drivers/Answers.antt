@@ -16,10 +16,10 @@ loop-pick-preserved c =
     let picks = c.args.picks.now in
     let all = c.args.locals.now in
     let local = c.index-locals-pick.result in
-    let driver = picked c.args.judged.now c.args.start c.args.offsets.now (seen_around c.args.around) all in
+    let driver = picked c.args.judged.now c.args.base.start c.args.base.offsets.now (seen_around c.args.base.around) all in
     let here : slice_get all (get_or picks i 0) ≡ Some local = slice_get_read all (length all) (get_or picks i 0) local refl (below_at all picks i c.requires.picks c.loop-pick-test.true) c.index-locals-pick.is in
     let shown : shown_driver c.args.judged.now c.in_ok-place_driver.field-0 ≡ driver (get_or picks i 0) =
-    c.in_ok-place_driver.ensures ∙ sym (ap (λ (o : Option LocalDriver). option_map_or (λ x. placed_driver c.args.start c.args.offsets.now (seen_around c.args.around) (shown_local c.args.judged.now x)) o (from_input 0)) here) in
+    c.in_ok-place_driver.ensures ∙ sym (ap (λ (o : Option LocalDriver). option_map_or (λ x. placed_driver c.args.base.start c.args.base.offsets.now (seen_around c.args.base.around) (shown_local c.args.judged.now x)) o (from_input 0)) here) in
     ap (λ ds. map (shown_driver c.args.judged.now) ds ++ map driver (drop (i + 1) picks)) c.in_ok-push.ensures.items
     ∙ pushed_more (shown_driver c.args.judged.now) driver c.loop-pick.drivers.items c.in_ok-place_driver.field-0 picks i _ c.loop-pick-test.true shown c.loop-pick.invariant
   where
@@ -34,5 +34,5 @@ place_driver-requires c = record {
       let picks = c.args.picks.now in
       let all = c.args.locals.now in
       let here : slice_get all (get_or picks i 0) ≡ Some c.index-locals-pick.result = slice_get_read all (length all) (get_or picks i 0) c.index-locals-pick.result refl (c.requires.picks i 0 c.loop-pick-test.true) c.index-locals-pick.is in
-      subst (λ (o : Option LocalDriver). IsSmallAt c.args.judged.now c.args.offsets.now (seen_around c.args.around) o) here (c.requires.small i 0 c.loop-pick-test.true);
+      subst (λ (o : Option LocalDriver). IsSmallAt c.args.judged.now c.args.base.offsets.now (seen_around c.args.base.around) o) here (c.requires.small i 0 c.loop-pick-test.true);
 }

@@ -1,5 +1,5 @@
 use Rattle.std.proofs.Common.{◌≡◌, Bool, List, get_or, sym, subst}
-use Rattle.lid_clock.specs.Lives.{IsSourceWide}
+use Rattle.lid_shell_laws.specs.Setups.{IsInputRow}
 use Rattle.lid_clock_tests.proofs.Feeding.{row_there, row_next, row_wide, fed}
 use Rattle.lid_clock_tests.proofs.streams.feed.Goals as goal
 
@@ -21,7 +21,7 @@ give-requires c =
       c.args.given,
       c.requires.3,
       needs,
-      subst (IsSourceWide l.system) (sym c.as_slice.ensures) (row_wide l c.args.rows.now c.requires.2 k c.args.given needs c.requires.3.rules row c.index-rows-given.is),
+      subst (IsInputRow l.setup.system) (sym c.as_slice.ensures) (row_wide l c.args.rows.now c.requires.2 k c.args.given needs c.requires.3.rules row c.index-rows-given.is),
     )
 
 pub returns : goal.returns

@@ -1,7 +1,8 @@
 use Rattle.std.proofs.Common.{◌≡◌, ◌+◌, ◌<◌, true, false, sym, ◌∙◌, subst, arith}
-use Rattle.lid_walk_machine.specs.Setups.{Setup, plan}
-use Rattle.lid_walk_machine.specs.Machine.{State, sweep}
-use Rattle.lid_walk_machine.specs.Laws.{AllRest, IsSettled, sweeps}
+use Rattle.lid_walk_machine.specs.Setups.{plan}
+use Rattle.lid_shell_laws.specs.Setups.{Setup}
+use Rattle.lid_walk_machine.specs.Machine.{State, sweep, IsSettled, sweeps}
+use Rattle.lid_walk_machine.specs.Laws.{AllRest}
 use Rattle.lid_walk.specs.Walks.{Walks}
 use Rattle.lid_free.specs.Sweeps.{HasMadeSweeps}
 use Rattle.lid_free.proofs.Settling.{none_swept, swept_more, some, grown_by, few_firings, fewer_left}

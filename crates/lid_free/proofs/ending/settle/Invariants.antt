@@ -1,6 +1,7 @@
 use Rattle.std.specs.Prelude.{◌≡◌, ℕ, ◌-◌}
 use Rattle.std.specs.List.{sum_by}
-use Rattle.lid_walk_machine.specs.Setups.{Setup, plan}
+use Rattle.lid_walk_machine.specs.Setups.{plan}
+use Rattle.lid_shell_laws.specs.Setups.{Setup}
 use Rattle.lid_walk_machine.specs.Machine.{State}
 use Rattle.lid_walk_machine.specs.Laws.{AllRest}
 use Rattle.lid_walk.specs.Walks.{Walks}

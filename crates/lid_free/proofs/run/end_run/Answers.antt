@@ -4,7 +4,7 @@ use Rattle.std.proofs.lemmas.List.{with_items_is, length-map}
 use Rattle.lid_station.specs.declared.pair.Pair.{Pair}
 use Rattle.lid_shell.specs.declared.actor.Actor.{Actor}
 use Rattle.lid_walk_machine.specs.Setups.{plan}
-use Rattle.lid_walk_machine.specs.Laws.{sweeps}
+use Rattle.lid_walk_machine.specs.Machine.{sweeps}
 use Rattle.lid_free.specs.FreeRuns.{state_at}
 use Rattle.lid_free.specs.Gathering.{fired_of}
 use Rattle.lid_free.proofs.Ended.{ending}

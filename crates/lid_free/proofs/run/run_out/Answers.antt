@@ -1,5 +1,5 @@
 use Rattle.std.proofs.Common.{◌≡◌, ℕ, ◌==◌, cond, List, length, sym, ◌∙◌, ap, subst}
-use Rattle.lid_walk_machine.specs.Setups.{Setup}
+use Rattle.lid_shell_laws.specs.Setups.{Setup}
 use Rattle.lid_free.specs.FreeRuns.{rounds_made}
 use Rattle.lid_free.specs.Endings.{IsEnding}
 use Rattle.lid_free.proofs.Running.{all_ready, worked_out, noted_in, made_is}

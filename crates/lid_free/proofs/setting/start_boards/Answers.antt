@@ -1,6 +1,6 @@
 use Rattle.std.proofs.Common.{◌≡◌, ℕ, List, sym, ◌∙◌, ap}
 use Rattle.std.specs.Prelude.{Option}
-use Rattle.lid_walk_machine.specs.Setups.{Setup}
+use Rattle.lid_shell_laws.specs.Setups.{Setup}
 use Rattle.lid_walk_machine.specs.Setups.{plan}
 use Rattle.lid_walk.specs.Firsts.{first_tokens}
 use Rattle.lid_walk.specs.Setups.{IsSetupOf}

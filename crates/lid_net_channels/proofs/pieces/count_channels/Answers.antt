@@ -1,6 +1,6 @@
 use Rattle.std.proofs.Common.{◌≡◌, ◌<◌, ◌≤◌, ◌+◌, ℕ, length, take, reverse, eqb, cond, ap, sym, subst, ◌∙◌, arith}
 use Rattle.lid_net_channels.specs.declared.reads.Read.{Read}
-use Rattle.lid_net_channels.specs.Pieces.{cut_back, last_width}
+use Rattle.lid_net_channels.specs.Cutting.{cut_back, last_width}
 use Rattle.lid_net_channels.proofs.Cutting.{item_is, count_more, count_short}
 use Rattle.lid_net_channels.proofs.pieces.count_channels.Goals as goal
 

@@ -1,5 +1,5 @@
 use Rattle.std.proofs.Common.{◌≡◌, length, reverse, take}
-use Rattle.lid_net_channels.specs.Pieces.{cut_back, last_width}
+use Rattle.lid_net_channels.specs.Cutting.{cut_back, last_width}
 use Rattle.lid_net_channels.proofs.pieces.count_channels.Given as goal
 
 abbrev pub invariant-loop-i : goal.invariant-loop-i

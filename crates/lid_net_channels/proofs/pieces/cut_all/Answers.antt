@@ -1,6 +1,6 @@
 use Rattle.std.proofs.Common.{List, ap, sym, subst, ◌∙◌, reverse, take, arith}
 use Rattle.lid_net_channels.specs.declared.reads.Read.{Read}
-use Rattle.lid_net_channels.specs.Pieces.{cut_back, ArePieced}
+use Rattle.lid_net_channels.specs.Cutting.{cut_back, ArePieced}
 use Rattle.std.proofs.lemmas.List.{take_all}
 use Rattle.lid_net_channels.proofs.Cutting.{pieced, part_short}
 use Rattle.lid_net_channels.proofs.pieces.cut_all.Goals as goal

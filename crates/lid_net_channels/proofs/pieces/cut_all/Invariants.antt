@@ -1,5 +1,5 @@
 use Rattle.std.proofs.Common.{◌≡◌, reverse, take}
-use Rattle.lid_net_channels.specs.Pieces.{cut_back}
+use Rattle.lid_net_channels.specs.Cutting.{cut_back}
 use Rattle.lid_net_channels.proofs.pieces.cut_all.Given as goal
 
 abbrev pub invariant-loop-read : goal.invariant-loop-read

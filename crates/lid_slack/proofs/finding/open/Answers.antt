@@ -1,6 +1,5 @@
 use Rattle.std.proofs.Common.{◌≡◌, ℕ, ◌<◌, true, sym, subst}
-use Rattle.lid_cert.specs.Certificates.{has_node}
-use Rattle.lid_cert.specs.Owners.{part_at}
+use Rattle.lid_cert.specs.Certificates.{has_node, part_at}
 use Rattle.lid_slack.proofs.Tried.{certified_rateable, certified_within, present_is}
 use Rattle.lid_slack.proofs.finding.open.Goals as goal
 

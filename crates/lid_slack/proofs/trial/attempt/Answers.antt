@@ -1,7 +1,6 @@
 use Rattle.std.proofs.Common.{◌≡◌, ℕ, ◌<◌, true, sym, subst}
 use Rattle.lid_graph.specs.declared.graph.Graph.{Graph}
-use Rattle.lid_cert.specs.Certificates.{has_node}
-use Rattle.lid_cert.specs.Owners.{part_at}
+use Rattle.lid_cert.specs.Certificates.{has_node, part_at}
 use Rattle.lid_stations.specs.Placements.{links_of}
 use Rattle.lid_slack_longer.specs.Longer.{producer}
 use Rattle.lid_slack.proofs.Tried.{producer_within, trial_is}

@@ -1,5 +1,5 @@
 use Rattle.std.proofs.Common.{ℕ, ◌*◌, ◌<◌, IsTrue, sym, subst}
-use Rattle.lid_cert.specs.Owners.{part_at}
+use Rattle.lid_cert.specs.Certificates.{part_at}
 use Rattle.lid_slack.proofs.Tried.{kept, not_kept, against, not_below}
 use Rattle.lid_slack.proofs.trial.outcome_of.Goals as goal
 

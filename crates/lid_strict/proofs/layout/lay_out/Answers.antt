@@ -1,7 +1,7 @@
 use Rattle.std.proofs.Common.{◌<◌, ℕ, map, slice_index_or, sym, ◌∙◌, subst}
 use Rattle.std.specs.List.{AllByRecursion}
 use Rattle.lid_base.proofs.Lists.{all_at}
-use Rattle.lid_design.specs.Walks.{read_now}
+use Rattle.lid_design.specs.Feeds.{read_now}
 use Rattle.lid_check_elab.specs.Elaborations.{shown_driver}
 use Rattle.lid_check_parts.specs.Parts.{HasCover}
 use Rattle.lid_check_parts.specs.Inner.{latches_of, driver_covers}

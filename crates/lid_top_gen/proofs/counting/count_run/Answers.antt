@@ -12,7 +12,7 @@ count_ones-requires-clause-few c =
     let l = life.0 in
     let k = c.run-cycles.result in
     let clocks = c.run-cycles.ensures.ran l 0 (c.in_ok-run.ensures l life.1 life.2 life.3) in
-    let many = rows_many (output_row l.system l.table) (fired_after l k (sink l)) c.rows.result.now (c.rows.ensures l k clocks) in
+    let many = rows_many (output_row l.setup.system l.setup.table) (fired_after l k (sink l)) c.rows.result.now (c.rows.ensures l k clocks) in
     let most = sinks_few l life.1.rules k in
     let short = life.1.rules.few in
     omega (arith, many, most, short)
@@ -23,8 +23,8 @@ count_ones-requires-clause-narrow c =
     let l = life.0 in
     let k = c.run-cycles.result in
     let clocks = c.run-cycles.ensures.ran l 0 (c.in_ok-run.ensures l life.1 life.2 life.3) in
-    rows_narrow (output_row l.system l.table) (fired_after l k (sink l)) c.rows.result.now (c.rows.ensures l k clocks)
-    (λ t. subst (λ s. length (output_row s l.table t) ≤ 4) (sym life.2) (c.requires.narrow l.table t))
+    rows_narrow (output_row l.setup.system l.setup.table) (fired_after l k (sink l)) c.rows.result.now (c.rows.ensures l k clocks)
+    (λ t. subst (λ s. length (output_row s l.setup.table t) ≤ 4) (sym life.2) (c.requires.narrow l.setup.table t))
 
 pub returns : goal.returns
 returns c = λ l free of stations.

@@ -1,7 +1,7 @@
 use Rattle.std.proofs.Common.{◌≡◌, ℕ, List, get_or, refl, sym, ◌∙◌, ap, subst}
 use Rattle.lid_graph.specs.Ratios.{IsRatio}
 use Rattle.lid_cert.specs.declared.cert.Part.{Part}
-use Rattle.lid_cert.specs.Owners.{part_at, no_part}
+use Rattle.lid_cert.specs.Certificates.{part_at, no_part}
 use Rattle.lid_top_gen.proofs.Standing.{stands_somewhere}
 use Rattle.std.proofs.lemmas.List.{get_or_default}
 use Rattle.lid_top_gen.proofs.ratio.ratio_of.Goals as goal

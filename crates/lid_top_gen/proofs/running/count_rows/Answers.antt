@@ -1,6 +1,6 @@
 use Rattle.std.proofs.Common.{ℕ, ◌≡◌, ◌≤◌, List, length, sym, ap, subst, arith, ◌∙◌, IfOk}
 use Rattle.std.specs.List.{AllByRecursion}
-use Rattle.lid_clock.specs.Lives.{IsSourceWide}
+use Rattle.lid_shell_laws.specs.Setups.{IsInputRow}
 use Rattle.lid_gen.specs.Designs.{generated}
 use Rattle.lid_gen.specs.Runs.{generated_rows}
 use Rattle.lid_texts.specs.declared.rows.Rows.{Rows}
@@ -23,7 +23,7 @@ count_run-requires-clause-wide c =
     let made = generated_rows seed shells c.args.rows in
     let fit = c.generated_runs_fit.ensures in
     let wide = run_wide seed shells c.args.rows (fit.columns seed shells c.args.rows c.requires.sized) (fit.wide seed shells c.args.rows) in
-    subst (λ (r : Rows). AllByRecursion (IsSourceWide c.args.system.now) r.bits) (sym c.in_ok-rows.ensures)
+    subst (λ (r : Rows). AllByRecursion (IsInputRow c.args.system.now) r.bits) (sym c.in_ok-rows.ensures)
     (rows_wide (generated seed shells) c.args.system.now c.requires.of c.requires.system made.bits wide)
 
 pub count_run-requires-clause-narrow : goal.count_run-requires-clause-narrow

@@ -7,7 +7,8 @@ use Rattle.lid_design.specs.Walks.{HasTable}
 use Rattle.lid_design.specs.Columns.{drivers, root_outputs, output_rows}
 use Rattle.lid_free.specs.FreeRuns.{IsLawful}
 use Rattle.lid_walk_machine.specs.Plans.{Plan, sink}
-use Rattle.lid_walk_machine.specs.Setups.{Setup, plan}
+use Rattle.lid_walk_machine.specs.Setups.{plan}
+use Rattle.lid_shell_laws.specs.Setups.{Setup}
 use Rattle.lid_texts_runs.specs.Runs.{tallies_text}
 use Rattle.lid_stations.specs.Placements.{links_of}
 use Rattle.lid_top_script.specs.Freed.{IsFreeText}

@@ -4,7 +4,8 @@ use Rattle.lid_check.proofs.Sound.{judged_of}
 use Rattle.lid_design.specs.Walks.{HasTable}
 use Rattle.lid_design.specs.Columns.{drivers}
 use Rattle.lid_walk_machine.specs.Plans.{sink}
-use Rattle.lid_walk_machine.specs.Setups.{Setup, plan}
+use Rattle.lid_walk_machine.specs.Setups.{plan}
+use Rattle.lid_shell_laws.specs.Setups.{Setup}
 use Rattle.lid_walk_machine.specs.Machine.{begun, answers, after_all}
 use Rattle.lid_shell_laws.proofs.Caps.{cap_of_sink}
 use Rattle.lid_stations.specs.Placements.{links_of}

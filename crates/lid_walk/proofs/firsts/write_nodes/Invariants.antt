@@ -1,5 +1,5 @@
 use Rattle.std.proofs.Common.{◌≡◌, length}
-use Rattle.lid_walk_machine.specs.Setups.{Setup}
+use Rattle.lid_shell_laws.specs.Setups.{Setup}
 use Rattle.lid_walk.specs.Inside.{HasFirsts, BeginsWith}
 use Rattle.lid_walk.proofs.firsts.write_nodes.Given as goal
 

@@ -1,5 +1,5 @@
 use Rattle.std.proofs.Common.{◌≡◌, ◌<◌, List, Bool, length, get_or, sym, ◌∙◌, ap, subst}
-use Rattle.lid_clock.specs.Lives.{IsSourceWide}
+use Rattle.lid_shell_laws.specs.Setups.{IsInputRow}
 use Rattle.lid_clock.proofs.Steps.{row_there, row_next, row_wide, fed}
 use Rattle.lid_clock.proofs.clocked.Clocked.feed.Goals as goal
 
@@ -26,7 +26,7 @@ give-requires c =
       x.given,
       goes.ran,
       needs,
-      subst (IsSourceWide l.system) (sym c.as_slice-then-needs.ensures) (row_wide l x.input.now.bits goes.free k x.given needs row is),
+      subst (IsInputRow l.setup.system) (sym c.as_slice-then-needs.ensures) (row_wide l x.input.now.bits goes.free k x.given needs row is),
     )
 
 pub returns-then-needs : goal.returns-then-needs

@@ -15,7 +15,7 @@ one_at_most n = omega arith
 pub returns : goal.returns
 returns c l free of stations =
     let count = c.len-count.result in
-    let many : length l.input ≡ count = ap length free.input ∙ sym c.len-count.ensures in
+    let many : length l.setup.input ≡ count = ap length free.input ∙ sym c.len-count.ensures in
     let starts : StartsSo l c.args.system.now c.args.placement.now count (option_map (λ row. row.now) c.first_of.result) = record {
       rules = free.rules;
       of = of;

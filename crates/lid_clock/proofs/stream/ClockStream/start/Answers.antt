@@ -75,10 +75,10 @@ returns c =
     let is : IsBuilt s p rows first ready begun = built s p rows first joined ready stations begun c.in_ok-lay_stations.ensures.laid new readied begins in
     let begun_are = with_items_is c.lay_stations.new.stations begun (c.begin_all.ensures.many ∙ c.as_mut_slice-3.ensures.len) in
     λ l so.
-    let many : length l.input ≡ rows = so.many in
+    let many : length l.setup.input ≡ rows = so.many in
     let nodes : c.len-nodes.result ≡ length s.nodes = c.len-nodes.ensures in
-    let own : length s.nodes ≡ length l.system.nodes = ap (λ (x : System). length x.nodes) (sym so.of) in
-    let same_rows : rows ≡ length l.input = sym many in
+    let own : length s.nodes ≡ length l.setup.system.nodes = ap (λ (x : System). length x.nodes) (sym so.of) in
+    let same_rows : rows ≡ length l.setup.input = sym many in
     let sunk : c.len-nodes.result - 1 ≡ sink l = omega arith in
-    let given : c.min.result ≡ min 1 (length l.input) = omega (arith, c.min.ensures) in
+    let given : c.min.result ≡ min 1 (length l.setup.input) = omega (arith, c.min.ensures) in
     starts c.runs_go_by_rules.ensures l so.rules ready begun (built_of_life l s p rows first ready begun so is) _ (min 1 rows) ready_are begun_are same_rows given sunk (ap (min 1) same_rows)

@@ -1,5 +1,5 @@
 use Rattle.std.proofs.Common.{◌<◌, ℕ, length, Some, refl, sym, ◌∙◌, ap, subst}
-use Rattle.lid_clock.specs.Lives.{IsSourceWide}
+use Rattle.lid_shell_laws.specs.Setups.{IsInputRow}
 use Rattle.lid_top_clock.proofs.Living.{wide_row}
 use Rattle.lid_top_clock.proofs.Goings.{the_life, below_all, fed_on, fed_already}
 use Rattle.lid_top_clock.proofs.steps.Running.feed_on.Goals as goal
@@ -27,7 +27,7 @@ give-requires g c =
       length given,
       ran,
       (c.needs.ensures life.0 c.args.self.now.made (length given) ran).0 c.if-not-needs.false,
-      subst (λ s. IsSourceWide s c.as_slice.result.now) (sym life.1.of.of) (wide_row r.system c.as_slice.result.now (ap length c.as_slice.ensures ∙ gave.wide)),
+      subst (λ s. IsInputRow s c.as_slice.result.now) (sym life.1.of.of) (wide_row r.system c.as_slice.result.now (ap length c.as_slice.ensures ∙ gave.wide)),
     )
 
 pub returns-clause-ok : goal.returns-clause-ok

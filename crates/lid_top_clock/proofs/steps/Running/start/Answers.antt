@@ -29,7 +29,7 @@ returns-then-task-eq0-clause-ok g c = λ r system stations many most same told f
     (λ run h. (
       [],
       begun r c.args.task.now.system.now c.args.task.now.placement.now c.args.task.now.rows c.args.task.now.trace c.args.stalls system stations many most same sound [] (none_given r) run None h (omega (arith, none))
-          (λ l b. none_first l.input (b.many ∙ many ∙ none)),
+          (λ l b. none_first l.setup.input (b.many ∙ many ∙ none)),
       feeds,
     ))
     c.begin.ensures.begun

@@ -1,6 +1,7 @@
 use Rattle.std.proofs.Common.{◌≡◌, arith}
 use Rattle.lid_walk_machine.specs.Plans.{actors_of}
-use Rattle.lid_walk_machine.specs.Setups.{Setup, plan}
+use Rattle.lid_walk_machine.specs.Setups.{plan}
+use Rattle.lid_shell_laws.specs.Setups.{Setup}
 use Rattle.lid_walk_machine.specs.Machine.{State}
 use Rattle.lid_walk.specs.Walks.{Walks}
 use Rattle.lid_walk.proofs.Sweeping.{none_yet, next_rests, one_more, swept_walks, swept_count, swept_rest, swept_idle}
