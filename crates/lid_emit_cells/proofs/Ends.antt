@@ -5,7 +5,6 @@ use Rattle.std.specs.Option.{option_map_or}
 use Rattle.std.proofs.lemmas.Bool.{lt-ltb}
 use Rattle.std.proofs.lemmas.List.{length-map}
 use Rattle.std.proofs.lemmas.Option.{slice_get-map}
-use Rattle.lid_cover.specs.declared.Cover.{Cover}
 use Rattle.lid_design.specs.declared.Cell.{Cell}
 use Rattle.lid_design.specs.declared.Cell.TheVariants.{Names}
 use Rattle.lid_emit_circuit.specs.Wires.{Wire, offer, block, may, fire, level, ActorEnd, drains, fills}
@@ -37,27 +36,21 @@ module _ (q : CircuitPlan) (name : Wire → List ℕ) (v : ℕ) (actor : ActorSt
       (length actor.ins + i)
       (let long : length (map drains (q.ins v)) ≡ length actor.ins = length-map (q.ins v) drains ∙ ap length is.ins in omega arith)
 
-  pub drains_on : (i s : ℕ) (cover : Cover) → cover ≡ both → slice_get actor.ins i ≡ Some s → Names (name (may v i) ∷ name (level s 1) ∷ []) (name (may v (i + 1))) cover ∷ [] ≡ cells_driving q name (may v (i + 1))
-  drains_on i s cover same here =
-      ap (λ (x : Cover). Names (name (may v i) ∷ name (level s 1) ∷ []) (name (may v (i + 1))) x ∷ []) same
-      ∙ ap (λ (n : ℕ). Names (name (may v i) ∷ name (level s 1) ∷ []) (name (may v n)) both ∷ []) (add-one i)
+  pub drains_on : (i s : ℕ) → slice_get actor.ins i ≡ Some s → Names (name (may v i) ∷ name (level s 1) ∷ []) (name (may v (i + 1))) both ∷ [] ≡ cells_driving q name (may v (i + 1))
+  drains_on i s here =
+      ap (λ (n : ℕ). Names (name (may v i) ∷ name (level s 1) ∷ []) (name (may v n)) both ∷ []) (add-one i)
       ∙ sym (link_is i (drains s) (drain_at i s here))
       ∙ ap (λ (n : ℕ). cells_driving q name (may v n)) (sym (add-one i))
 
-  pub fills_on : (i : ℕ) (fill : Fill) (cover : Cover) → cover ≡ without → slice_get actor.outs i ≡ Some fill
-      → Names (name (may v (length actor.ins + i)) ∷ name (level fill.station fill.capacity) ∷ []) (name (may v (length actor.ins + i + 1))) cover ∷ [] ≡ cells_driving q name (may v (length actor.ins + i + 1))
-  fills_on i fill cover same here =
+  pub fills_on : (many i : ℕ) (fill : Fill) → many ≡ length actor.ins → slice_get actor.outs i ≡ Some fill
+      → Names (name (may v (many + i)) ∷ name (level fill.station fill.capacity) ∷ []) (name (may v (many + i + 1))) without ∷ [] ≡ cells_driving q name (may v (length actor.ins + i + 1))
+  fills_on many i fill long here =
       let at : ℕ = length actor.ins + i in
-      ap (λ (x : Cover). Names (name (may v (length actor.ins + i)) ∷ name (level fill.station fill.capacity) ∷ []) (name (may v (length actor.ins + i + 1))) x ∷ []) same
-      ∙ ap (λ (n : ℕ). Names (name (may v (length actor.ins + i)) ∷ name (level fill.station n) ∷ []) (name (may v (length actor.ins + i + 1))) without ∷ []) (sym (is.capacities i fill here))
-      ∙ ap (λ (n : ℕ). Names (name (may v (length actor.ins + i)) ∷ name (level fill.station (q.capacity fill.station)) ∷ []) (name (may v n)) without ∷ []) (add-one (length actor.ins + i))
-      ∙ sym (link_is (length actor.ins + i) (fills fill.station) (fill_at i fill here))
-      ∙ ap (λ (n : ℕ). cells_driving q name (may v n)) (sym (add-one (length actor.ins + i)))
-
-  pub fills_with : (many i : ℕ) (fill : Fill) (cover : Cover) → many ≡ length actor.ins → cover ≡ without → slice_get actor.outs i ≡ Some fill
-      → Names (name (may v (many + i)) ∷ name (level fill.station fill.capacity) ∷ []) (name (may v (many + i + 1))) cover ∷ [] ≡ cells_driving q name (may v (length actor.ins + i + 1))
-  fills_with many i fill cover long same here =
-      ap (λ (n : ℕ). Names (name (may v (n + i)) ∷ name (level fill.station fill.capacity) ∷ []) (name (may v (n + i + 1))) cover ∷ []) long ∙ fills_on i fill cover same here
+      ap (λ (n : ℕ). Names (name (may v (n + i)) ∷ name (level fill.station fill.capacity) ∷ []) (name (may v (n + i + 1))) without ∷ []) long
+      ∙ ap (λ (n : ℕ). Names (name (may v at) ∷ name (level fill.station n) ∷ []) (name (may v (at + 1))) without ∷ []) (sym (is.capacities i fill here))
+      ∙ ap (λ (n : ℕ). Names (name (may v at) ∷ name (level fill.station (q.capacity fill.station)) ∷ []) (name (may v n)) without ∷ []) (add-one at)
+      ∙ sym (link_is at (fills fill.station) (fill_at i fill here))
+      ∙ ap (λ (n : ℕ). cells_driving q name (may v n)) (sym (add-one at))
 
   pub begins_on : Names [] (name (may v 0)) (constant true) ∷ [] ≡ cells_driving q name (may v 0)
   unfolding emitted
@@ -80,14 +73,11 @@ module _ (q : CircuitPlan) (name : Wire → List ℕ) (v : ℕ) (actor : ActorSt
       ∙ ap (λ (b : Bool). fire_by end true b (v == sink q)) is_first
       ∙ ap (fire_by end true first) is_last)
 
-  pub source_fires : (end : ℕ) (last : Bool) (cover : Cover) → end ≡ length actor.ins + length actor.outs → (v == 0) ≡ true → (v == sink q) ≡ last → cover ≡ both
-      → Names (name (may v end) ∷ name offer ∷ []) (name (fire v)) cover ∷ [] ≡ cells_driving q name (fire v)
-  source_fires end last cover long is_first is_last same = ap (λ (x : Cover). Names (name (may v end) ∷ name offer ∷ []) (name (fire v)) x ∷ []) same ∙ fire_is end true last long is_first is_last
+  pub source_fires : (end : ℕ) (last : Bool) → end ≡ length actor.ins + length actor.outs → (v == 0) ≡ true → (v == sink q) ≡ last → Names (name (may v end) ∷ name offer ∷ []) (name (fire v)) both ∷ [] ≡ cells_driving q name (fire v)
+  source_fires end last long is_first is_last = fire_is end true last long is_first is_last
 
-  pub sink_fires : (end : ℕ) (cover : Cover) → end ≡ length actor.ins + length actor.outs → (v == 0) ≡ false → (v == sink q) ≡ true → cover ≡ without
-      → Names (name (may v end) ∷ name block ∷ []) (name (fire v)) cover ∷ [] ≡ cells_driving q name (fire v)
-  sink_fires end cover long is_first is_last same = ap (λ (x : Cover). Names (name (may v end) ∷ name block ∷ []) (name (fire v)) x ∷ []) same ∙ fire_is end false true long is_first is_last
+  pub sink_fires : (end : ℕ) → end ≡ length actor.ins + length actor.outs → (v == 0) ≡ false → (v == sink q) ≡ true → Names (name (may v end) ∷ name block ∷ []) (name (fire v)) without ∷ [] ≡ cells_driving q name (fire v)
+  sink_fires end long is_first is_last = fire_is end false true long is_first is_last
 
-  pub inner_fires : (end : ℕ) (cover : Cover) → end ≡ length actor.ins + length actor.outs → (v == 0) ≡ false → (v == sink q) ≡ false → cover ≡ buffer
-      → Names (name (may v end) ∷ []) (name (fire v)) cover ∷ [] ≡ cells_driving q name (fire v)
-  inner_fires end cover long is_first is_last same = ap (λ (x : Cover). Names (name (may v end) ∷ []) (name (fire v)) x ∷ []) same ∙ fire_is end false false long is_first is_last
+  pub inner_fires : (end : ℕ) → end ≡ length actor.ins + length actor.outs → (v == 0) ≡ false → (v == sink q) ≡ false → Names (name (may v end) ∷ []) (name (fire v)) buffer ∷ [] ≡ cells_driving q name (fire v)
+  inner_fires end long is_first is_last = fire_is end false false long is_first is_last

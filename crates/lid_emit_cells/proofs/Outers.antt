@@ -6,7 +6,6 @@ use Rattle.std.proofs.lemmas.List.{length-map}
 use Rattle.lid_base.specs.Each.{from_each}
 use Rattle.lid_emit_circuit.specs.Lists.{outer_wires}
 use Rattle.std.proofs.lemmas.Bool.{lt-ltb}
-use Rattle.lid_cover.specs.declared.Cover.{Cover}
 use Rattle.lid_design.specs.declared.Cell.{Cell}
 use Rattle.lid_design.specs.declared.Cell.TheVariants.{Names}
 use Rattle.lid_emit_circuit.specs.Wires.{Wire, entry, given, steady, may, shown, valid, stop}
@@ -25,11 +24,9 @@ module _ (q : CircuitPlan) (name : Wire → List ℕ) (outer : Outer) (is : IsOu
   abbrev given_by : ℕ → Bool → List Cell
   given_by j there = flat_map (cell_of name (given j)) (cond there (gate buffer (entry j ∷ [])) [])
 
-  pub given_is : (j : ℕ) (cover : Cover) → cover ≡ buffer → j < outer.inputs → Names (name (entry j) ∷ []) (name (given j)) cover ∷ [] ≡ cells_driving q name (given j)
+  pub given_is : (j : ℕ) → j < outer.inputs → Names (name (entry j) ∷ []) (name (given j)) buffer ∷ [] ≡ cells_driving q name (given j)
   unfolding emitted
-  given_is j cover same below =
-      ap (λ (x : Cover). Names (name (entry j) ∷ []) (name (given j)) x ∷ []) same
-      ∙ sym (ap (given_by j) (lt-ltb j q.inputs (omega (arith, below, is.inputs))))
+  given_is j below = sym (ap (given_by j) (lt-ltb j q.inputs (omega (arith, below, is.inputs))))
 
   last_is : last_link q (sink q) ≡ may outer.last outer.last_ends
   last_is = ap (λ (n : ℕ). may (sink q) n) is.last_ends ∙ ap (λ (v : ℕ). may v outer.last_ends) is.last
@@ -40,20 +37,19 @@ module _ (q : CircuitPlan) (name : Wire → List ℕ) (outer : Outer) (is : IsOu
   abbrev shown_by : ℕ → Option Wire → List Cell
   shown_by j o = flat_map (cell_of name (shown j)) (option_map_or (λ wire. gate both (last_link q (sink q) ∷ wire ∷ [])) o [])
 
-  pub shown_is : (j : ℕ) (w : Wire) (cover : Cover) → cover ≡ both → slice_get (map wire_of outer.shows) j ≡ Some w → Names (name (may outer.last outer.last_ends) ∷ name w ∷ []) (name (shown j)) cover ∷ [] ≡ cells_driving q name (shown j)
+  pub shown_is : (j : ℕ) (w : Wire) → slice_get (map wire_of outer.shows) j ≡ Some w → Names (name (may outer.last outer.last_ends) ∷ name w ∷ []) (name (shown j)) both ∷ [] ≡ cells_driving q name (shown j)
   unfolding emitted
-  shown_is j w cover same here =
-      ap (λ (x : Cover). Names (name (may outer.last outer.last_ends) ∷ name w ∷ []) (name (shown j)) x ∷ []) same
-      ∙ ap (λ (x : Wire). Names (name x ∷ name w ∷ []) (name (shown j)) both ∷ []) (sym last_is)
+  shown_is j w here =
+      ap (λ (x : Wire). Names (name x ∷ name w ∷ []) (name (shown j)) both ∷ []) (sym last_is)
       ∙ sym (ap (shown_by j) (ap (λ (ws : List Wire). slice_get ws j) is.shows ∙ here))
 
-  pub valid_is : (cover : Cover) → cover ≡ buffer → Names (name (may outer.last outer.last_ends) ∷ []) (name valid) cover ∷ [] ≡ cells_driving q name valid
+  pub valid_is : Names (name (may outer.last outer.last_ends) ∷ []) (name valid) buffer ∷ [] ≡ cells_driving q name valid
   unfolding emitted
-  valid_is cover same = ap (λ (x : Cover). Names (name (may outer.last outer.last_ends) ∷ []) (name valid) x ∷ []) same ∙ ap (λ (x : Wire). Names (name x ∷ []) (name valid) buffer ∷ []) (sym last_is)
+  valid_is = ap (λ (x : Wire). Names (name x ∷ []) (name valid) buffer ∷ []) (sym last_is)
 
-  pub stop_is : (cover : Cover) → cover ≡ negation → Names (name (may 0 outer.first_ends) ∷ []) (name stop) cover ∷ [] ≡ cells_driving q name stop
+  pub stop_is : Names (name (may 0 outer.first_ends) ∷ []) (name stop) negation ∷ [] ≡ cells_driving q name stop
   unfolding emitted
-  stop_is cover same = ap (λ (x : Cover). Names (name (may 0 outer.first_ends) ∷ []) (name stop) x ∷ []) same ∙ ap (λ (x : Wire). Names (name x ∷ []) (name stop) negation ∷ []) (sym first_is)
+  stop_is = ap (λ (x : Wire). Names (name x ∷ []) (name stop) negation ∷ []) (sym first_is)
 
   pub steady_is : (bit : Bool) → Names [] (name (steady bit)) (constant bit) ∷ [] ≡ cells_driving q name (steady bit)
   unfolding emitted

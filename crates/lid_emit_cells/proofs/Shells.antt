@@ -89,16 +89,15 @@ module _ (q : CircuitPlan) (name : Wire → List ℕ) (v : ℕ) (shell : Shell) 
     later_cover skips = ap (λ (ds : List (Driver ℕ)). cells_from (later v c.out) (flat_map (later_from q v c.out) ds)) cover_alone ∙ ap later_by skips
 
 module _ (q : CircuitPlan) (v : ℕ) (shell : Shell) (whole : IsWhole shell) (is : IsPlanShell q v shell) where
-  pub latch_done : (l : FlatLatch) → Among l shell.flat.latches → (old first second : Draft) (input : Wire) (cover : Cover) → q.here v l.input ≡ input → cover ≡ choice
+  pub latch_done : (l : FlatLatch) → Among l shell.flat.latches → (old first second : Draft) (input : Wire) → q.here v l.input ≡ input
       → first ≡ with_cells old (Latch (name_on old (kept v l.out)) (name_on old (now v l.out)) Plain None (init_of l.init) ∷ [])
-      → second ≡ with_cells first (Names (name_on first (fire v) ∷ name_on first input ∷ name_on first (now v l.out) ∷ []) (name_on first (kept v l.out)) cover ∷ [])
+      → second ≡ with_cells first (Names (name_on first (fire v) ∷ name_on first input ∷ name_on first (now v l.out) ∷ []) (name_on first (kept v l.out)) choice ∷ [])
       → second ≡ with_wires q old (latch_wires v l)
-  latch_done l there old first second input cover is_input same one two =
+  latch_done l there old first second input is_input one two =
       more_wires q old first second (now v l.out ∷ []) (kept v l.out ∷ [])
       (one_wire q old first (now v l.out) _ one (sym (now_is q (name_on old) v shell whole is l there)))
       (one_wire q first second (kept v l.out) _ two
-      (ap (λ (w : Wire). Names (name_on first (fire v) ∷ name_on first w ∷ name_on first (now v l.out) ∷ []) (name_on first (kept v l.out)) cover ∷ []) (sym is_input)
-      ∙ ap (λ (x : Cover). Names (name_on first (fire v) ∷ name_on first (q.here v l.input) ∷ name_on first (now v l.out) ∷ []) (name_on first (kept v l.out)) x ∷ []) same
+      (ap (λ (w : Wire). Names (name_on first (fire v) ∷ name_on first w ∷ name_on first (now v l.out) ∷ []) (name_on first (kept v l.out)) choice ∷ []) (sym is_input)
       ∙ sym (kept_is q (name_on first) v shell whole is l there)))
 
   module _ (c : FlatCover) (there : Among c shell.flat.covers) where

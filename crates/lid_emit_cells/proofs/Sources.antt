@@ -80,10 +80,6 @@ module _ (q : CircuitPlan) (name : Wire → List ℕ) where
         ∙ sym (ap (λ (b : Bool). grown_by i b (nat_lt i (q.capacity s))) in_range ∙ ap (grown_by i true) (lt-ltb i (q.capacity s) here))
         ∙ ap (λ (n : ℕ). cells_driving q name (grown s n)) (sym (add-one i))
 
-    pub counts_with : (i : ℕ) (cover : Cover) → cover ≡ count → i < station.capacity
-        → Names (name (fire station.drainer) ∷ name (fire station.filler) ∷ name (level s i) ∷ name (level s (i + 1)) ∷ name (level s (i + 2)) ∷ []) (name (grown s (i + 1))) cover ∷ [] ≡ cells_driving q name (grown s (i + 1))
-    counts_with i cover same below = ap (λ (x : Cover). Names (name (fire station.drainer) ∷ name (fire station.filler) ∷ name (level s i) ∷ name (level s (i + 1)) ∷ name (level s (i + 2)) ∷ []) (name (grown s (i + 1))) x ∷ []) same ∙ counts_on i below
-
     module _ (j : ℕ) (bit : Bit) (at : slice_get station.bits j ≡ Some bit) where
       its : (q.begins s j ≡ bit.begins) × (q.put s j ≡ wire_of bit.put)
       its = is.bits j bit at
@@ -128,13 +124,3 @@ module _ (q : CircuitPlan) (name : Wire → List ℕ) where
           ∙ ap (λ (n : ℕ). Names (name (fire (q.drainer s)) ∷ name (level s (suc i)) ∷ name (place s i j) ∷ name (level s n) ∷ name (place s (suc i) j) ∷ name (wire_of bit.put) ∷ []) (name (moved s i j)) move ∷ []) two
           ∙ ap (λ (w : Wire). Names (name (fire (q.drainer s)) ∷ name (level s (suc i)) ∷ name (place s i j) ∷ name (level s (suc (suc i))) ∷ name (place s (suc i) j) ∷ name w ∷ []) (name (moved s i j)) move ∷ []) (sym its.1)
           ∙ sym (ap (λ (b : Bool). moved_by i b (nat_lt i (q.capacity s))) bit_range ∙ ap (moved_by i true) (lt-ltb i (q.capacity s) here))
-
-      pub some_with : (i : ℕ) (begins : Bool) → begins ≡ bit.begins → i < station.capacity → Latch (name (moved s i j)) (name (place s i j)) Plain None (init_of begins) ∷ [] ≡ cells_driving q name (place s i j)
-      some_with i begins same below = ap (λ (b : Bool). Latch (name (moved s i j)) (name (place s i j)) Plain None (init_of b) ∷ []) same ∙ some_place i below
-
-      pub moves_with : (i : ℕ) (put : Wire) (cover : Cover) → put ≡ wire_of bit.put → cover ≡ move → i < station.capacity
-          → Names (name (fire station.drainer) ∷ name (level s (i + 1)) ∷ name (place s i j) ∷ name (level s (i + 2)) ∷ name (place s (i + 1) j) ∷ name put ∷ []) (name (moved s i j)) cover ∷ [] ≡ cells_driving q name (moved s i j)
-      moves_with i put cover is_put same below =
-          ap (λ (w : Wire). Names (name (fire station.drainer) ∷ name (level s (i + 1)) ∷ name (place s i j) ∷ name (level s (i + 2)) ∷ name (place s (i + 1) j) ∷ name w ∷ []) (name (moved s i j)) cover ∷ []) is_put
-          ∙ ap (λ (x : Cover). Names (name (fire station.drainer) ∷ name (level s (i + 1)) ∷ name (place s i j) ∷ name (level s (i + 2)) ∷ name (place s (i + 1) j) ∷ name (wire_of bit.put) ∷ []) (name (moved s i j)) x ∷ []) same
-          ∙ moves_on i below

@@ -85,7 +85,8 @@ impl Pen<'_> {
     /// Pushes the links of an actor, from the first, which always holds.
     fn push_links(&mut self, v: u32, actor: &ActorStations) -> Result<(), AllocError>
         requires { length actor.now.ins + length actor.now.outs + 1 < 2 ^ 32 }
-        ensures { OnOk result ((q : CircuitPlan) → IsActorOf q v actor.now → self.new ≡ with_wires q self.old (from_each (may v) 0 (length actor.now.ins + length actor.now.outs + 1))) }
+        ensures { OnOk result ((q : CircuitPlan) → IsActorOf q v actor.now
+            → self.new ≡ with_wires q self.old (from_each (may v) 0 (length actor.now.ins + length actor.now.outs + 1))) }
     {
         self.push_constant(Wire::May(v, 0), true)?;
         for i in 0..actor.ins.len() {

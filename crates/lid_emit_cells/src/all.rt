@@ -31,7 +31,8 @@ impl Pen<'_> {
     /// Pushes the cells of all stations.
     fn push_stations(&mut self, all: &All) -> Result<(), AllocError>
         requires { AreAllSmall all.now }
-        ensures { OnOk result ((q : CircuitPlan) → IsAllOf q all.now → self.new ≡ with_wires q self.old (flat_map (station_wires q) (from_each (λ s. s) 0 (length all.now.stations)))) }
+        ensures { OnOk result ((q : CircuitPlan) → IsAllOf q all.now
+            → self.new ≡ with_wires q self.old (flat_map (station_wires q) (from_each (λ s. s) 0 (length all.now.stations)))) }
     {
         for s in 0..all.stations.len() {
             let station = &all.stations.as_slice()[s];
@@ -43,7 +44,8 @@ impl Pen<'_> {
     /// Pushes the cells of all actors.
     fn push_actors(&mut self, all: &All) -> Result<(), AllocError>
         requires { AreAllSmall all.now }
-        ensures { OnOk result ((q : CircuitPlan) → IsAllOf q all.now → self.new ≡ with_wires q self.old (flat_map (actor_wires q) (from_each (λ v. v) 0 (length all.now.actors)))) }
+        ensures { OnOk result ((q : CircuitPlan) → IsAllOf q all.now
+            → self.new ≡ with_wires q self.old (flat_map (actor_wires q) (from_each (λ v. v) 0 (length all.now.actors)))) }
     {
         for v in 0..all.actors.len() {
             let actor = &all.actors.as_slice()[v];
@@ -56,7 +58,8 @@ impl Pen<'_> {
     /// Pushes the cells of all shells.
     fn push_shells(&mut self, all: &All) -> Result<(), AllocError>
         requires { AreAllSmall all.now }
-        ensures { OnOk result ((q : CircuitPlan) → IsAllOf q all.now → self.new ≡ with_wires q self.old (flat_map (shell_wires q) (from_each (λ v. v) 1 (length all.now.shells)))) }
+        ensures { OnOk result ((q : CircuitPlan) → IsAllOf q all.now
+            → self.new ≡ with_wires q self.old (flat_map (shell_wires q) (from_each (λ v. v) 1 (length all.now.shells)))) }
     {
         for i in 0..all.shells.len() {
             let shell = &all.shells.as_slice()[i];

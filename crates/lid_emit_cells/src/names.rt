@@ -1,6 +1,6 @@
 //! The names of wires.
 
-ghost use Rattle.std.specs.Prelude.{◌≡◌, ◌∷◌, ◌<◌, ◌^◌, [], IfOk, slice_index_or};
+ghost use Rattle.std.specs.Prelude.{◌≡◌, ◌∷◌, [], IfOk, slice_index_or};
 ghost use Rattle.lid_emit_names.specs.Spelling.{inner_name};
 ghost use Rattle.lid_emit_cells.specs.Drafts.{name_at};
 

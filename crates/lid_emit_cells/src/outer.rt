@@ -72,7 +72,8 @@ impl Pen<'_> {
 
     /// Pushes the two constants, and what tells of rows.
     fn push_four(&mut self, outer: &Outer) -> Result<(), AllocError>
-        ensures { OnOk result ((q : CircuitPlan) → IsOuterOf q outer.now → self.new ≡ with_wires q self.old (circuit.steady false ∷ circuit.steady true ∷ circuit.valid ∷ circuit.stop ∷ [])) }
+        ensures { OnOk result ((q : CircuitPlan) → IsOuterOf q outer.now
+            → self.new ≡ with_wires q self.old (circuit.steady false ∷ circuit.steady true ∷ circuit.valid ∷ circuit.stop ∷ [])) }
     {
         self.push_constant(Wire::Steady(false), false)?;
         self.push_constant(Wire::Steady(true), true)?;

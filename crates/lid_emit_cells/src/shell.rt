@@ -68,7 +68,8 @@ impl Pen<'_> {
     /// Pushes a cover that drives a wire of a net, by the wires of the nets that it reads.
     fn push_net(&mut self, wire: Wire, wires: &[Wire], c: &FlatCover) -> Result<(), AllocError>
         requires { AllByRecursion (λ k. k < length wires.now) c.now.ins }
-        ensures { OnOk result ((read : ℕ → circuit.Wire) → AreWires read wires.now → self.new ≡ with_cells self.old (Names (map (name_on self.old) (map read c.now.ins)) (name_at self.old wire) (written c.now.cover) ∷ [])) }
+        ensures { OnOk result ((read : ℕ → circuit.Wire) → AreWires read wires.now
+            → self.new ≡ with_cells self.old (Names (map (name_on self.old) (map read c.now.ins)) (name_at self.old wire) (written c.now.cover) ∷ [])) }
     {
         let reads = wires_at(self.alloc, wires, c.ins.as_slice())?;
         let cover = copy_cover(self.alloc, &c.cover)?;

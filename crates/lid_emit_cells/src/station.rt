@@ -181,7 +181,8 @@ impl Pen<'_> {
     fn push_bits(&mut self, s: u32, station: &Station) -> Result<(), AllocError>
         requires small { station.now.capacity ≤ 16 }
         requires few { length station.now.bits ≤ 31 }
-        ensures { OnOk result ((q : CircuitPlan) → IsStationOf q s station.now → self.new ≡ with_wires q self.old (flat_map (bit_wires q s) (from_each (λ j. j) 0 (length station.now.bits)))) }
+        ensures { OnOk result ((q : CircuitPlan) → IsStationOf q s station.now
+            → self.new ≡ with_wires q self.old (flat_map (bit_wires q s) (from_each (λ j. j) 0 (length station.now.bits)))) }
     {
         for j in 0..station.bits.len() {
             let bit = station.bits.as_slice()[j];

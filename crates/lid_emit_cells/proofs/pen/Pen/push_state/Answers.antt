@@ -2,7 +2,6 @@ use Rattle.std.proofs.Common.{◌≡◌, ◌<◌, List, length, slice_get, refl,
 use Rattle.lid_base.proofs.Lists.{all_among}
 use Rattle.lid_base.proofs.Results.{on_ok}
 use Rattle.lid_design.specs.declared.FlatLatch.{FlatLatch}
-use Rattle.lid_emit_circuit.specs.Gates.{choice}
 use Rattle.lid_emit_cells.specs.declared.wire.Wire.{Wire}
 use Rattle.lid_emit_cells.specs.Shown.{wire_of}
 use Rattle.lid_emit_cells.proofs.Shells.{latch_done}
@@ -18,6 +17,6 @@ wire_at-input-requires c =
 pub returns : goal.returns
 returns c =
     on_ok c.push_gate.result (λ h q is.
-    latch_done q c.args.v c.args.shell.now c.requires.whole is c.args.latch c.requires.there c.args.self.now c.push_latch.new.self c.push_gate.new.self (wire_of c.wire_at-input.result) choice
+    latch_done q c.args.v c.args.shell.now c.requires.whole is c.args.latch c.requires.there c.args.self.now c.push_latch.new.self c.push_gate.new.self (wire_of c.wire_at-input.result)
     (is.here c.args.latch.input c.wire_at-input.result (ap (λ (ws : List Wire). slice_get ws c.args.latch.input) (sym c.as_slice.ensures) ∙ c.wire_at-input.ensures))
-    refl c.in_ok-push_latch.ensures h) c.push_gate.ensures
+    c.in_ok-push_latch.ensures h) c.push_gate.ensures

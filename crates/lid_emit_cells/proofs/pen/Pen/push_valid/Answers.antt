@@ -1,6 +1,5 @@
 use Rattle.std.proofs.Common.{refl}
 use Rattle.lid_base.proofs.Results.{on_ok}
-use Rattle.lid_emit_circuit.specs.Gates.{buffer}
 use Rattle.lid_emit_circuit.specs.Wires as circuit
 use Rattle.lid_emit_cells.specs.Drafts.{name_on}
 use Rattle.lid_emit_cells.proofs.Drafting.{one_wire}
@@ -8,4 +7,4 @@ use Rattle.lid_emit_cells.proofs.Outers.{valid_is}
 use Rattle.lid_emit_cells.proofs.pen.Pen.push_valid.Goals as goal
 
 pub returns : goal.returns
-returns c = on_ok c.push_gate.result (λ h q is. one_wire q c.args.self.now c.push_gate.new.self circuit.valid _ h (valid_is q (name_on c.args.self.now) c.args.outer.now is buffer refl)) c.push_gate.ensures
+returns c = on_ok c.push_gate.result (λ h q is. one_wire q c.args.self.now c.push_gate.new.self circuit.valid _ h (valid_is q (name_on c.args.self.now) c.args.outer.now is)) c.push_gate.ensures
