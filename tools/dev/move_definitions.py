@@ -107,6 +107,17 @@ def mend(path: Path, old: str, new: str, names: set[str]):
         path.write_text("\n".join(lines))
 
 
+def reaches(module: str, other: str, seen: set[str]) -> bool:
+    """Whether a file of specs/ imports another, by others too."""
+    _, crate, _, name, *_ = (*module.split("."), "", "", "")
+    path = Path("crates", crate, "specs", f"{name}.antt")
+    if module in seen or not path.is_file():
+        return False
+    seen.add(module)
+    below = [found[2] for line in path.read_text().split("\n") if (found := USE.match(line))]
+    return other in below or any(reaches(one, other, seen) for one in below)
+
+
 def main():
     parser = parser_of(__doc__)
     parser.add_argument("OLD")
@@ -125,6 +136,8 @@ def main():
     forth = [name for name in given.NAME if is_used(name, code(stay))]
     if back and forth:
         sys.exit(f"{' '.join(back)} and {' '.join(forth)} would need each other")
+    if forth and reaches(new.module, old.module, set()):
+        sys.exit(f"{new.path} stands on {old.path}, which would need {' '.join(forth)} of it")
     place = next((n for n, part in enumerate(new.parts) if any(is_used(name, code([part])) for name in names)), len(new.parts))
     new.parts[place:place] = moved
     new.uses += needed(old.uses, moved) + ([f"use {old.module}.{{{', '.join(back)}}}"] if back else [])
