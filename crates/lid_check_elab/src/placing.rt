@@ -47,7 +47,7 @@ pub fn push_drivers(
     requires picks { All (λ pick. pick < length locals.now) picks.now }
     requires small { All (λ pick. IsSmallAt judged.now base.offsets.now (seen_around base.around) (slice_get locals.now pick)) picks.now }
     ensures { OnOk result (map (shown_driver judged.now) drivers.new.items ≡ map (shown_driver judged.now) drivers.old.items
-        ++ map (picked judged.now base.start base.offsets.now (seen_around base.around.entry) locals.now) picks.now) }
+        ++ map (picked judged.now base.entry.start base.entry.offsets.now (seen_around base.entry.around) locals.now) picks.now) }
 {
     for pick in picks {
         let local = &locals[*pick as usize];

@@ -73,7 +73,7 @@ pub fn place_driver(
     requires start { base.start ≤ 1048576 }
     requires small { IsSmallLocal base.offsets.now (seen_around base.around) (shown_local judged.now local.now) }
     ensures { IfOk result (λ driver. shown_driver judged.now driver
-        ≡ placed_driver base.start base.offsets.now (seen_around base.around.entry) (shown_local judged.now local.now)) }
+        ≡ placed_driver base.entry.start base.entry.offsets.now (seen_around base.entry.around) (shown_local judged.now local.now)) }
 {
     let Base {
         start,

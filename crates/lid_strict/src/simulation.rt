@@ -120,7 +120,8 @@ fn run_layout(
     requires runnable { IsRunnable run.layout.now }
     requires outs { AllByRecursion (λ k. k < run.layout.now.program.nets) run.outs.now }
     requires none { results.old.items ≡ [] }
-    ensures { OnOk result ((b : Table ℕ) → FitsTable run.layout.now run.rows.now b → results.new.items ≡ rows_at run.outs.now b (length run.rows.now)) }
+    ensures { OnOk result ((b : Table ℕ) → FitsTable run.entry.layout.now run.entry.rows.now b
+        → results.new.items ≡ rows_at run.entry.outs.now b (length run.entry.rows.now)) }
 {
     let mut state = first_state(alloc, run.layout.latches.as_slice())?;
     let mut inputs = Vec::from_elem(alloc, false, run.layout.places.len())?;
@@ -151,7 +152,8 @@ fn run_rows(
     requires inputs { length inputs.old ≡ length run.layout.now.places.items }
     requires bits { length bits.old ≡ run.layout.now.program.nets + 1 }
     requires none { results.old.items ≡ [] }
-    ensures { OnOk result ((b : Table ℕ) → FitsTable run.layout.now run.rows.now b → results.new.items ≡ rows_at run.outs.now b (length run.rows.now)) }
+    ensures { OnOk result ((b : Table ℕ) → FitsTable run.entry.layout.now run.entry.rows.now b
+        → results.new.items ≡ rows_at run.entry.outs.now b (length run.entry.rows.now)) }
 {
     let Simulation { layout, outs, rows } = run;
     for t in 0..rows.len() {
