@@ -1,3 +1,4 @@
+pub mod Plans
 pub mod Sites
 pub mod Bits
 pub mod Stations

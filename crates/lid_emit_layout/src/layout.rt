@@ -8,6 +8,7 @@ ghost use Rattle.lid_emit_system.specs.Wrapping.{circuit_plan};
 ghost use Rattle.lid_emit_cells.specs.declared.shell.Shell.{Shell};
 ghost use Rattle.lid_emit_cells.specs.Matches.{IsAllOf, AreAllSmall, IsWhole};
 ghost use Rattle.lid_emit_shells.specs.Shells.{nets_of};
+ghost use Rattle.lid_emit_layout.specs.Plans.{plan_of};
 ghost use Rattle.lid_emit_layout.specs.Stations.{AreStationsOf};
 ghost use Rattle.lid_emit_layout.specs.Frames.{IsFrame};
 
@@ -17,7 +18,7 @@ use crate::stations::make_stations;
 use lid_base::Items;
 use lid_emit_cells::{ActorStations, All, Outer, Station};
 use lid_emit_shells::Shells;
-use lid_stations::Placement;
+use lid_stations::{Placed, Placement};
 use lid_system::System;
 use std::alloc::{AllocError, Global};
 
@@ -32,18 +33,15 @@ struct Frame {
 /// The frame of a system with these stations.
 fn make_frame(
     alloc: Global,
-    system: &System,
-    placement: &Placement,
+    placed: &Placed<'_>,
     stations: Vec<Station>,
 ) -> Result<Frame, AllocError>
-    requires system { IsWellFormed system.now }
-    requires fits { Fits system.now placement.now }
-    requires stations { (n : NetWires) × AreStationsOf (circuit_plan system.now placement.now n) stations.items }
-    ensures { IfOk result (λ frame. (n : NetWires) → AreStationsOf (circuit_plan system.now placement.now n) stations.items
-        → IsFrame (circuit_plan system.now placement.now n) frame) }
+    requires stations { (n : NetWires) × AreStationsOf (plan_of placed.now n) stations.items }
+    ensures { IfOk result (λ frame. (n : NetWires) → AreStationsOf (plan_of placed.now n) stations.items
+        → IsFrame (plan_of placed.now n) frame) }
 {
-    let actors = make_actors(alloc, system, placement, stations.as_slice())?;
-    let outer = make_outer(alloc, system, placement, actors.as_slice())?;
+    let actors = make_actors(alloc, placed, stations.as_slice())?;
+    let outer = make_outer(alloc, placed, actors.as_slice())?;
     Ok(Frame {
         outer,
         stations: Items::from_vec(stations),
@@ -69,12 +67,24 @@ pub fn lay_out(
     ensures all { IfOk result (IsAllOf (circuit_plan system.now placement.now (nets_of shells))) }
     ensures sound { IfOk result AreAllSmall }
 {
-    let stations = make_stations(alloc, system, placement, &shells)?;
+    let placed = Placed { system, placement };
+    lay_out_placed(alloc, &placed, shells)
+}
+
+/// The wrapped system of a system, the stations that fit it, and its shells.
+fn lay_out_placed(alloc: Global, placed: &Placed<'_>, shells: Shells) -> Result<All, AllocError>
+    requires count { length placed.now.system.nodes ≡ length shells.shells + 2 }
+    requires whole { (i : ℕ) (shell : Shell) → slice_get shells.shells i ≡ Some shell → IsWhole shell }
+    ensures all { IfOk result (IsAllOf (plan_of placed.now (nets_of shells))) }
+    ensures sound { IfOk result AreAllSmall }
+{
+    let _ = &placed.system;
+    let stations = make_stations(alloc, placed, &shells)?;
     let Frame {
         outer,
         stations,
         actors,
-    } = make_frame(alloc, system, placement, stations)?;
+    } = make_frame(alloc, placed, stations)?;
     let Shells { shells, .. } = shells;
     Ok(All {
         outer,

@@ -3,16 +3,14 @@
 ghost use Rattle.std.specs.Prelude.{◌≡◌, ◌+◌, ◌<◌, ◌≤◌, IfOk, OnOk, length, take, slice_index_or};
 ghost use Rattle.lid_graph.specs.Walks.{edge_at};
 ghost use Rattle.lid_system.specs.declared.System.{System};
-ghost use Rattle.lid_system.specs.Systems.{IsWellFormed};
 ghost use Rattle.lid_stations.specs.declared.placement.Placement.{Placement};
-ghost use Rattle.lid_stations.specs.Placements.{links_of, station_count, Fits};
+ghost use Rattle.lid_stations.specs.Placements.{links_of, station_count};
 ghost use Rattle.lid_stations.specs.Laws.{StandsAt};
 ghost use Rattle.lid_stations.specs.Markings.{marking};
 ghost use Rattle.lid_emit_layout.specs.Sites.{IsSite, AreSites, HasEdges};
 
 use lid_graph::{Edge, Graph};
-use lid_stations::{Placement, marking};
-use lid_system::System;
+use lid_stations::{Placed, Placement, marking};
 use std::alloc::{AllocError, Global};
 
 /// A station by its number, with its channel, its place there, and the actors that fill and drain it.
@@ -85,17 +83,11 @@ fn push_all(placement: &Placement, graph: &Graph, sites: &mut Vec<Site>) -> Resu
 }
 
 /// All stations of a system, in order.
-pub(crate) fn make_sites(
-    alloc: Global,
-    system: &System,
-    placement: &Placement,
-) -> Result<Vec<Site>, AllocError>
-    requires system { IsWellFormed system.now }
-    requires fits { Fits system.now placement.now }
-    ensures { IfOk result (λ sites. AreSites system.now placement.now (station_count placement.now.relays) sites.items) }
+pub(crate) fn make_sites(alloc: Global, placed: &Placed<'_>) -> Result<Vec<Site>, AllocError>
+    ensures { IfOk result (λ sites. AreSites placed.now.system placed.now.placement (station_count placed.now.placement.relays) sites.items) }
 {
-    let graph = marking(alloc, system, placement)?;
+    let graph = marking(alloc, placed.system, placed.placement)?;
     let mut sites = Vec::new(alloc);
-    push_all(placement, &graph, &mut sites)?;
+    push_all(placed.placement, &graph, &mut sites)?;
     Ok(sites)
 }

@@ -1,12 +1,10 @@
 //! The stations of a wrapped system.
 
 ghost use Rattle.std.specs.Prelude.{◌≡◌, ◌==◌, if◌then◌else◌, IfOk};
-ghost use Rattle.lid_system.specs.Systems.{IsWellFormed};
 ghost use Rattle.lid_stations.specs.Stations.{starts};
-ghost use Rattle.lid_stations.specs.Placements.{Fits};
-ghost use Rattle.lid_emit_system.specs.Wrapping.{circuit_plan};
 ghost use Rattle.lid_emit_shells.specs.Shells.{nets_of};
 ghost use Rattle.lid_emit_cells.specs.Matches.{IsStationOf, IsSmallStation};
+ghost use Rattle.lid_emit_layout.specs.Plans.{plan_of};
 ghost use Rattle.lid_emit_layout.specs.Sites.{IsSite};
 ghost use Rattle.lid_emit_layout.specs.Stations.{AreStationsOf};
 
@@ -14,8 +12,7 @@ use crate::bits::make_bits;
 use crate::sites::{Site, make_sites};
 use lid_emit_cells::Station;
 use lid_emit_shells::Shells;
-use lid_stations::Placement;
-use lid_system::System;
+use lid_stations::Placed;
 use std::alloc::{AllocError, Global};
 
 /// The tokens that a station starts with: the first of its channel has one, where the source does not
@@ -35,23 +32,20 @@ fn first_count(site: Site) -> u32
 /// A station of the system.
 fn make_station(
     alloc: Global,
-    system: &System,
-    placement: &Placement,
+    placed: &Placed<'_>,
     shells: &Shells,
     site: Site,
 ) -> Result<Station, AllocError>
-    requires system { IsWellFormed system.now }
-    requires fits { Fits system.now placement.now }
-    requires site { IsSite system.now placement.now site }
-    ensures is { IfOk result (IsStationOf (circuit_plan system.now placement.now (nets_of shells.now)) site.station) }
+    requires site { IsSite placed.now.system placed.now.placement site }
+    ensures is { IfOk result (IsStationOf (plan_of placed.now (nets_of shells.now)) site.station) }
     ensures small { IfOk result IsSmallStation }
 {
-    let channel = &system.channels.as_slice()[site.channel as usize];
-    let bits = make_bits(alloc, system, shells, channel, site)?;
+    let channel = &placed.system.channels.as_slice()[site.channel as usize];
+    let bits = make_bits(alloc, placed.system, shells, channel, site)?;
     Ok(Station {
         filler: site.filler,
         drainer: site.drainer,
-        capacity: placement.caps.as_slice()[site.station as usize],
+        capacity: placed.placement.caps.as_slice()[site.station as usize],
         first: first_count(site),
         bits,
     })
@@ -60,18 +54,15 @@ fn make_station(
 /// All stations, in order.
 pub(crate) fn make_stations(
     alloc: Global,
-    system: &System,
-    placement: &Placement,
+    placed: &Placed<'_>,
     shells: &Shells,
 ) -> Result<Vec<Station>, AllocError>
-    requires system { IsWellFormed system.now }
-    requires fits { Fits system.now placement.now }
-    ensures { IfOk result (λ stations. AreStationsOf (circuit_plan system.now placement.now (nets_of shells.now)) stations.items) }
+    ensures { IfOk result (λ stations. AreStationsOf (plan_of placed.now (nets_of shells.now)) stations.items) }
 {
-    let sites = make_sites(alloc, system, placement)?;
+    let sites = make_sites(alloc, placed)?;
     let mut stations = Vec::new(alloc);
     for site in sites.as_slice() {
-        stations.push(make_station(alloc, system, placement, shells, *site)?)?;
+        stations.push(make_station(alloc, placed, shells, *site)?)?;
     }
     Ok(stations)
 }

@@ -9,29 +9,29 @@ use Rattle.lid_emit_layout.specs.Stations.{AreStationsOf}
 use Rattle.lid_emit_layout.specs.Actors.{AreActorsOf}
 use Rattle.lid_emit_layout.proofs.layout.make_frame.Goals as goal
 
-pub make_actors-requires-clause-stations : goal.make_actors-requires-clause-stations
-make_actors-requires-clause-stations c =
+pub make_actors-requires : goal.make_actors-requires
+make_actors-requires c =
     let n = c.requires.stations.0 in
-    (n, subst (λ (xs : List Station). AreStationsOf (circuit_plan c.args.system.now c.args.placement.now n) xs) (sym c.as_slice.ensures.value) c.requires.stations.1)
+    record { stations = (n, subst (λ (xs : List Station). AreStationsOf (circuit_plan c.args.placed.now.system c.args.placed.now.placement n) xs) (sym c.as_slice.ensures.value) c.requires.stations.1) }
 
 pub make_outer-requires-clause-nodes : goal.make_outer-requires-clause-nodes
 make_outer-requires-clause-nodes c =
     let n = c.requires.stations.0 in
-    let are = subst (λ (xs : List Station). AreStationsOf (circuit_plan c.args.system.now c.args.placement.now n) xs) (sym c.as_slice.ensures.value) c.requires.stations.1 in
+    let are = subst (λ (xs : List Station). AreStationsOf (circuit_plan c.args.placed.now.system c.args.placed.now.placement n) xs) (sym c.as_slice.ensures.value) c.requires.stations.1 in
     let actors = c.in_ok-actors.ensures n are in
-    let many : actor_count (links_of c.args.system.now) c.args.placement.now ≡ length c.as_slice-2.result.now = actors.many ∙ ap length (sym c.as_slice-2.ensures.value) in
+    let many : actor_count (links_of c.args.placed.now.system) c.args.placed.now.placement ≡ length c.as_slice-2.result.now = actors.many ∙ ap length (sym c.as_slice-2.ensures.value) in
     omega (arith, many)
 
 pub make_outer-requires-clause-small : goal.make_outer-requires-clause-small
 make_outer-requires-clause-small c = λ v actor at.
     let n = c.requires.stations.0 in
-    let are = subst (λ (xs : List Station). AreStationsOf (circuit_plan c.args.system.now c.args.placement.now n) xs) (sym c.as_slice.ensures.value) c.requires.stations.1 in
+    let are = subst (λ (xs : List Station). AreStationsOf (circuit_plan c.args.placed.now.system c.args.placed.now.placement n) xs) (sym c.as_slice.ensures.value) c.requires.stations.1 in
     let actors = c.in_ok-actors.ensures n are in
     actors.small v actor (subst (λ (xs : List ActorStations). slice_get xs v ≡ Some actor) c.as_slice-2.ensures.value at)
 
 pub returns : goal.returns
 returns c = λ n given.
-    let q = circuit_plan c.args.system.now c.args.placement.now n in
+    let q = circuit_plan c.args.placed.now.system c.args.placed.now.placement n in
     let are = subst (λ (xs : List Station). AreStationsOf q xs) (sym c.as_slice.ensures.value) given in
     let actors = c.in_ok-actors.ensures n are in
     record {

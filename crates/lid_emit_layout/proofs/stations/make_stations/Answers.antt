@@ -12,17 +12,17 @@ use Rattle.std.proofs.lemmas.List.{length_push}
 use Rattle.lid_base.proofs.Places.{each_push}
 use Rattle.lid_emit_layout.proofs.stations.make_stations.Goals as goal
 
-pub make_station-requires-clause-site : goal.make_station-requires-clause-site
-make_station-requires-clause-site c =
+pub make_station-requires : goal.make_station-requires
+make_station-requires c =
     let sites = c.as_slice-site-items.result.now in
-    let are = subst (λ (xs : List Site). AreSites c.args.system.now c.args.placement.now (station_count c.args.placement.now.relays) xs) (sym c.as_slice-site-items.ensures.value) c.in_ok-sites.ensures in
-    (are.each c.loop-site.site-index _ (slice_get-get_or sites c.loop-site.site-index _ (omega (arith, c.loop-site-test.true)))).1
+    let are = subst (λ (xs : List Site). AreSites c.args.placed.now.system c.args.placed.now.placement (station_count c.args.placed.now.placement.relays) xs) (sym c.as_slice-site-items.ensures.value) c.in_ok-sites.ensures in
+    record { site = (are.each c.loop-site.site-index _ (slice_get-get_or sites c.loop-site.site-index _ (omega (arith, c.loop-site-test.true)))).1 }
 
 pub loop-site-preserved : goal.loop-site-preserved
 loop-site-preserved c =
-    let q = circuit_plan c.args.system.now c.args.placement.now (nets_of c.args.shells.now) in
+    let q = circuit_plan c.args.placed.now.system c.args.placed.now.placement (nets_of c.args.shells.now) in
     let sites = c.as_slice-site-items.result.now in
-    let are = subst (λ (xs : List Site). AreSites c.args.system.now c.args.placement.now (station_count c.args.placement.now.relays) xs) (sym c.as_slice-site-items.ensures.value) c.in_ok-sites.ensures in
+    let are = subst (λ (xs : List Site). AreSites c.args.placed.now.system c.args.placed.now.placement (station_count c.args.placed.now.placement.relays) xs) (sym c.as_slice-site-items.ensures.value) c.in_ok-sites.ensures in
     let number = (are.each c.loop-site.site-index _ (slice_get-get_or sites c.loop-site.site-index _ (omega (arith, c.loop-site-test.true)))).0 in
     let was = c.loop-site.invariant in
     let x = c.in_ok-make_station.field-0 in
@@ -36,7 +36,7 @@ loop-site-preserved c =
 pub returns : goal.returns
 returns c =
     let was = c.loop-site.invariant in
-    let are = subst (λ (xs : List Site). AreSites c.args.system.now c.args.placement.now (station_count c.args.placement.now.relays) xs) (sym c.as_slice-site-items.ensures.value) c.in_ok-sites.ensures in
+    let are = subst (λ (xs : List Site). AreSites c.args.placed.now.system c.args.placed.now.placement (station_count c.args.placed.now.placement.relays) xs) (sym c.as_slice-site-items.ensures.value) c.in_ok-sites.ensures in
     record {
       many = (let long = are.many in let n = was.many in let least = c.loop-site-test.false in let most = c.loop-site.auto.site-index-end in omega arith);
       each = λ i x at. (was.each i x at).0;
