@@ -22,7 +22,8 @@ use Rattle.lid_walk.proofs.Turning.{as_far}
 use Rattle.lid_walk.specs.declared.walk.Walk.{Walk}
 use Rattle.lid_walk.proofs.Numbers.{sink_there}
 use Rattle.lid_walk.proofs.Sweeping.{count, count_more}
-use Rattle.lid_free_crew.specs.Tallies.{no_turns, AddsUp, sum_below}
+use Rattle.lid_free_crew.specs.Tallies.{AddsUp, sum_below}
+use Rattle.lid_free_crew.specs.Nothing.{no_turns}
 use Rattle.lid_free_crew.specs.Shares.{numbers_of}
 use Rattle.lid_free.specs.FreeRuns.{IsShareTally, FitStations, AreWithinRounds, FirstTurnsFire, AreSweeps, Finishes, IsNothing, IsFreeEnd, rounds_made, state_at}
 use Rattle.lid_free.specs.Gathering.{fired_of, AreGathered}

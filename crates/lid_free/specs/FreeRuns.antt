@@ -11,7 +11,8 @@ use Rattle.lid_walk_machine.specs.Setups.{plan, output_rows}
 use Rattle.lid_shell_laws.specs.Setups.{Setup}
 use Rattle.lid_walk_machine.specs.Machine.{State, begun, out_count, IsSettled, sweeps}
 use Rattle.lid_shell.specs.Parts.{AreColumnsAtSink}
-use Rattle.lid_free_crew.specs.Tallies.{no_turns, AddsUp, sum_below}
+use Rattle.lid_free_crew.specs.Tallies.{AddsUp, sum_below}
+use Rattle.lid_free_crew.specs.Nothing.{no_turns}
 use Rattle.lid_free_crew.specs.Alone.{run_from, rounds_of}
 use Rattle.lid_free_crew.specs.Shares.{numbers_of}
 use Rattle.lid_free.specs.declared.run.FreeEnd.{FreeEnd}

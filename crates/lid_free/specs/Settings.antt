@@ -20,7 +20,7 @@ use Rattle.lid_walk_machine.specs.Machine.{begun}
 use Rattle.lid_shell.specs.declared.actor.Actor.{Actor}
 use Rattle.lid_walk.specs.Actors.{AreActors}
 use Rattle.lid_free_crew.specs.declared.worker.Worker.{Worker}
-use Rattle.lid_free_crew.specs.Tallies.{no_turns}
+use Rattle.lid_free_crew.specs.Nothing.{no_turns}
 use Rattle.lid_free_crew.specs.Shares.{share}
 use Rattle.lid_free_crew.specs.Crews.{HasShare, HasNone}
 use Rattle.lid_free.specs.declared.setting.Boards.{Boards}

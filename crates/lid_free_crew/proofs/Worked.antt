@@ -10,7 +10,8 @@ use Rattle.lid_walk_machine.specs.Setups.{plan}
 use Rattle.lid_shell_laws.specs.Setups.{Setup}
 use Rattle.lid_walk_machine.specs.Machine.{State}
 use Rattle.lid_free_crew.specs.Posts.{known, IsReady, StaysAt}
-use Rattle.lid_free_crew.specs.Tallies.{no_turns, AddsUp, IsTallyOf}
+use Rattle.lid_free_crew.specs.Tallies.{AddsUp, IsTallyOf}
+use Rattle.lid_free_crew.specs.Nothing.{no_turns}
 use Rattle.lid_free_crew.specs.Turns.{HaveGone}
 use Rattle.lid_free_crew.specs.Alone.{TurnsSoFar, run_from, round_of, rounds_of, WorksAlone, MakesRounds}
 use Rattle.lid_free_crew.specs.Order.{stage_of, TurnsMade, WorksInOrder}

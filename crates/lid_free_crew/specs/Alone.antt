@@ -14,7 +14,8 @@ use Rattle.lid_shell.specs.Boards.{ServesAll}
 use Rattle.lid_shell.specs.Steps.{Works}
 use Rattle.lid_shell.specs.TurnEnds.{end_at}
 use Rattle.lid_free_crew.specs.Posts.{known}
-use Rattle.lid_free_crew.specs.Tallies.{no_turns, counted}
+use Rattle.lid_free_crew.specs.Tallies.{counted}
+use Rattle.lid_free_crew.specs.Nothing.{no_turns}
 use Rattle.lid_free_crew.specs.declared.worker.Worker.{Worker}
 
 -- a state of the machine, and how the turns so far ended

@@ -10,7 +10,8 @@ use Rattle.lid_board.specs.declared.hand.Hand.{Hand}
 use Rattle.lid_board.specs.declared.view.EndFacts.{EndFacts}
 use Rattle.lid_shell.specs.declared.actor.Actor.{Actor}
 use Rattle.lid_free_crew.specs.Posts.{StaysAt}
-use Rattle.lid_free_crew.specs.Tallies.{no_turns, IsTallyOf}
+use Rattle.lid_free_crew.specs.Tallies.{IsTallyOf}
+use Rattle.lid_free_crew.specs.Nothing.{no_turns}
 use Rattle.lid_free_crew.specs.Turns.{HaveGone}
 use Rattle.lid_free_crew.specs.Order.{WorksInOrder}
 use Rattle.lid_free_crew.specs.Alone.{WorksAlone, MakesRounds}

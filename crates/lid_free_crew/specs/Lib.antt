@@ -1,3 +1,4 @@
+pub mod Nothing
 pub mod Posts
 pub mod Tallies
 pub mod Turns

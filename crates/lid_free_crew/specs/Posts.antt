@@ -11,7 +11,7 @@ use Rattle.lid_walk_machine.specs.Machine.{Progress}
 use Rattle.lid_shell.specs.declared.actor.Actor.{Actor}
 use Rattle.lid_shell.specs.Steps.{Works, CanTurn, IsOwn}
 use Rattle.lid_free_crew.specs.declared.worker.Worker.{Worker}
-use Rattle.lid_free_crew.specs.Tallies.{no_turns}
+use Rattle.lid_free_crew.specs.Nothing.{no_turns}
 
 -- what is known at the ends that a hand has
 abbrev pub known : Hand → Ends

@@ -1,5 +1,5 @@
 -- What is counted: the misses at ends, and how turns end.
-use Rattle.std.specs.Prelude.{◌≡◌, ℕ, zero, suc, ◌+◌, ◌*◌, ◌≤◌, ◌==◌, cond, List, [], ◌∷◌, length, Option, Some, None}
+use Rattle.std.specs.Prelude.{◌≡◌, ℕ, zero, suc, ◌+◌, ◌*◌, ◌≤◌, ◌==◌, cond, List, length, Option, Some, None}
 use Rattle.std.specs.List.{sum_by}
 use Rattle.std.specs.Option.{unwrap_or}
 use Rattle.lid_base.specs.declared.runs.Tally.{Tally}
@@ -85,7 +85,3 @@ pub record IsTallyOf (board : Board) (rounds : ℕ) (old new : Worker) : Type 0 
   pub stops_are : new.tally.stops + stop_misses (known old.hand) (stations_of board) ≡ stop_misses (known new.hand) (stations_of board)
   pub adds_up : AddsUp new.tally
   pub dones_most : new.tally.dones ≤ rounds * done_among new.actors.items
-
--- nothing was counted
-abbrev pub no_turns : Tally
-no_turns = record { turns = 0; fired = 0; voids = 0; stops = 0; dones = 0 }
