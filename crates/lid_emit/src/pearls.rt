@@ -60,7 +60,8 @@ fn inst_count(survey: &Survey<'_>) -> u32
 
 /// The sum of the counts of the models of so many first instances of the root.
 fn sum_over_insts(survey: &Survey<'_>, counts: &[u64], insts: u32) -> u64
-    ensures { (f : ℕ → ℕ) → AreModelCounts survey.now f counts.now → result ≡ min (sum_by (at_path survey.now f) (map (λ i. i ∷ []) (range_with_len 0 insts))) 18446744073709551615 }
+    ensures { (f : ℕ → ℕ) → AreModelCounts survey.now f counts.now
+        → result ≡ min (sum_by (at_path survey.now f) (map (λ i. i ∷ []) (range_with_len 0 insts))) 18446744073709551615 }
 {
     let mut sum = 0u64;
     for i in 0..insts {

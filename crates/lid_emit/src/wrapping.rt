@@ -34,7 +34,8 @@ pub fn emit(
     placement: &Placement,
 ) -> Result<Design, EmitFault>
     requires { CanBeEmitted checked.now system.now placement.now }
-    ensures ok { IfOk result (λ e. (emit_fault checked.now (links_of system.now) placement.now ≡ None) × IsEmitted checked.now (links_of system.now) placement.now e) }
+    ensures ok { IfOk result (λ e. (emit_fault checked.now (links_of system.now) placement.now ≡ None)
+        × IsEmitted checked.now (links_of system.now) placement.now e) }
     ensures err { IfErr result (λ fault. (emit_fault checked.now (links_of system.now) placement.now ≡ Some fault) ⊎ (fault ≡ Memory)) }
 {
     if let Err(fault) = refuse(alloc, checked, system, placement) {

@@ -1,3 +1,4 @@
+pub mod Drafting
 pub mod Sources
 pub mod Stations
 pub mod Ends

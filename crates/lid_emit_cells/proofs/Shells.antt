@@ -1,6 +1,6 @@
 -- The cells of the nets of shells, by what a shell has.
 use Rattle.std.proofs.Common.{◌≡◌, ℕ, ◌+◌, ◌<◌, Bool, true, false, not, cond, List, [], ◌∷◌, ◌++◌, length, map, flat_map, None, get_or, drop, drop-cons, add-one, sym, ◌∙◌, ap, append_assoc}
-use Rattle.std.proofs.lemmas.List.{append-nil, map-append}
+use Rattle.std.proofs.lemmas.List.{map-append}
 use Rattle.std.proofs.lemmas.Simd.{map-map}
 use Rattle.lid_base.specs.Lists.{Among}
 use Rattle.lid_cover.specs.declared.Cover.{Cover}
@@ -17,13 +17,14 @@ use Rattle.lid_emit_circuit.specs.Wires.{Wire, fire, now, kept, later}
 use Rattle.lid_emit_circuit.specs.Gates.{choice}
 use Rattle.lid_emit_circuit.specs.Plans.{CircuitPlan}
 use Rattle.lid_emit_circuit.specs.Network.{now_from, kept_from, later_from, gate, emitted}
-use Rattle.lid_emit_names.specs.Named.{written, init_of, cell_of}
+use Rattle.lid_emit_names.specs.Named.{written, init_of, cell_of, cells_driving}
 use Rattle.lid_emit_circuit.specs.Lists.{latch_wires, cover_wires}
 use Rattle.lid_emit_cells.specs.declared.wire.Wire as cell
-use Rattle.lid_emit_cells.specs.declared.names.Naming.{Naming}
 use Rattle.lid_emit_cells.specs.declared.shell.Shell.{Shell}
-use Rattle.lid_emit_cells.specs.Shown.{wire_of, name_by, cells_by}
+use Rattle.lid_emit_cells.specs.Shown.{wire_of}
+use Rattle.lid_emit_cells.specs.Drafts.{Draft, name_on, with_cells, with_wires}
 use Rattle.lid_emit_cells.specs.Matches.{IsPlanShell, IsWhole}
+use Rattle.lid_emit_cells.proofs.Drafting.{no_wires, more_wires, one_wire}
 use Rattle.lid_base.proofs.Lists.{among_alone}
 
 -- one more wire of a list
@@ -39,20 +40,15 @@ wires_next wire found news nets i w below same grown so_far =
     ∙ so_far
 
 -- the cell of a cover by the wires that it reads
-pub net_done : (naming : Naming) (wire : Wire) (read : ℕ → Wire) (nets : List ℕ) (ws others : List cell.Wire) (cover logic : Cover) (old news : List Cell) (its : Cell)
-    → news ≡ old ++ its ∷ [] → its ≡ Names (map (λ w. name_by naming (wire_of w)) others) (name_by naming wire) cover → others ≡ ws → map wire_of ws ≡ map read nets → cover ≡ written logic
-    → news ≡ old ++ Names (map (name_by naming) (map read nets)) (name_by naming wire) (written logic) ∷ []
-net_done naming wire read nets ws others cover logic old news its grown is same reads as_written =
-    grown
-    ∙ ap (λ (x : Cell). old ++ x ∷ []) (is
-    ∙ ap (λ (xs : List cell.Wire). Names (map (λ w. name_by naming (wire_of w)) xs) (name_by naming wire) cover) same
-    ∙ ap (λ (xs : List (List ℕ)). Names xs (name_by naming wire) cover) (sym (map-map (name_by naming) wire_of ws) ∙ ap (map (name_by naming)) reads)
-    ∙ ap (λ (x : Cover). Names (map (name_by naming) (map read nets)) (name_by naming wire) x) as_written)
+pub net_done : (name : Wire → List ℕ) (wire : Wire) (read : ℕ → Wire) (nets : List ℕ) (ws others : List cell.Wire) (cover logic : Cover)
+    → others ≡ ws → map wire_of ws ≡ map read nets → cover ≡ written logic
+    → Names (map (λ w. name (wire_of w)) others) (name wire) cover ≡ Names (map name (map read nets)) (name wire) (written logic)
+net_done name wire read nets ws others cover logic same reads as_written =
+    ap (λ (xs : List cell.Wire). Names (map (λ w. name (wire_of w)) xs) (name wire) cover) same
+    ∙ ap (λ (xs : List (List ℕ)). Names xs (name wire) cover) (sym (map-map name wire_of ws) ∙ ap (map name) reads)
+    ∙ ap (λ (x : Cover). Names (map name (map read nets)) (name wire) x) as_written
 
-module _ (q : CircuitPlan) (naming : Naming) (v : ℕ) (shell : Shell) (whole : IsWhole shell) (is : IsPlanShell q v shell) where
-  abbrev name : Wire → List ℕ
-  name w = name_by naming w
-
+module _ (q : CircuitPlan) (name : Wire → List ℕ) (v : ℕ) (shell : Shell) (whole : IsWhole shell) (is : IsPlanShell q v shell) where
   abbrev f : Flat
   f = shell.flat
 
@@ -66,26 +62,13 @@ module _ (q : CircuitPlan) (naming : Naming) (v : ℕ) (shell : Shell) (whole : 
     latch_alone : flat_drivers (q.flat v) l.out ≡ from_latch l.init l.input ∷ []
     latch_alone = drivers_same l.out ∙ among_alone (flat_drivers f l.out) (from_latch l.init l.input) (whole.rules.once l.out) (latch_drives f l there)
 
-    now_is : cells_by q naming (now v l.out) ≡ Latch (name (kept v l.out)) (name (now v l.out)) Plain None (init_of l.init) ∷ []
+    pub now_is : cells_driving q name (now v l.out) ≡ Latch (name (kept v l.out)) (name (now v l.out)) Plain None (init_of l.init) ∷ []
     unfolding emitted
     now_is = ap (λ (ds : List (Driver ℕ)). cells_from (now v l.out) (flat_map (now_from q v l.out) ds)) latch_alone
 
-    kept_is : cells_by q naming (kept v l.out) ≡ Names (name (fire v) ∷ name (q.here v l.input) ∷ name (now v l.out) ∷ []) (name (kept v l.out)) choice ∷ []
+    pub kept_is : cells_driving q name (kept v l.out) ≡ Names (name (fire v) ∷ name (q.here v l.input) ∷ name (now v l.out) ∷ []) (name (kept v l.out)) choice ∷ []
     unfolding emitted
     kept_is = ap (λ (ds : List (Driver ℕ)). cells_from (kept v l.out) (flat_map (kept_from q v l.out) ds)) latch_alone
-
-    pub latch_done : (old first second : List Cell) (input : Wire) (cover : Cover) → q.here v l.input ≡ input → cover ≡ choice
-        → first ≡ old ++ Latch (name (kept v l.out)) (name (now v l.out)) Plain None (init_of l.init) ∷ []
-        → second ≡ first ++ Names (name (fire v) ∷ name input ∷ name (now v l.out) ∷ []) (name (kept v l.out)) cover ∷ []
-        → second ≡ old ++ flat_map (cells_by q naming) (latch_wires v l)
-    latch_done old first second input cover is_input same one two =
-        two
-        ∙ ap (λ (xs : List Cell). xs ++ Names (name (fire v) ∷ name input ∷ name (now v l.out) ∷ []) (name (kept v l.out)) cover ∷ []) one
-        ∙ append_assoc old (Latch (name (kept v l.out)) (name (now v l.out)) Plain None (init_of l.init) ∷ []) (Names (name (fire v) ∷ name input ∷ name (now v l.out) ∷ []) (name (kept v l.out)) cover ∷ [])
-        ∙ ap (λ (w : Wire). old ++ (Latch (name (kept v l.out)) (name (now v l.out)) Plain None (init_of l.init) ∷ Names (name (fire v) ∷ name w ∷ name (now v l.out) ∷ []) (name (kept v l.out)) cover ∷ [])) (sym is_input)
-        ∙ ap (λ (x : Cover). old ++ (Latch (name (kept v l.out)) (name (now v l.out)) Plain None (init_of l.init) ∷ Names (name (fire v) ∷ name (q.here v l.input) ∷ name (now v l.out) ∷ []) (name (kept v l.out)) x ∷ [])) same
-        ∙ ap (λ (xs : List Cell). old ++ (Latch (name (kept v l.out)) (name (now v l.out)) Plain None (init_of l.init) ∷ xs)) (sym kept_is ∙ sym (append-nil (cells_by q naming (kept v l.out))))
-        ∙ ap (λ (xs : List Cell). old ++ (xs ++ (cells_by q naming (kept v l.out) ++ []))) (sym now_is)
 
   module _ (c : FlatCover) (there : Among c f.covers) where
     cover_alone : flat_drivers (q.flat v) c.out ≡ from_cover c.cover c.ins ∷ []
@@ -97,28 +80,39 @@ module _ (q : CircuitPlan) (naming : Naming) (v : ℕ) (shell : Shell) (whole : 
     abbrev later_by : Bool → List Cell
     later_by skips = cells_from (later v c.out) (cond (not skips) (gate c.cover (map (q.after v) c.ins)) [] ++ [])
 
-    now_cover : q.skips v c.out ≡ false → cells_by q naming (now v c.out) ≡ Names (map name (map (q.here v) c.ins)) (name (now v c.out)) (written c.cover) ∷ []
+    pub now_cover : q.skips v c.out ≡ false → cells_driving q name (now v c.out) ≡ Names (map name (map (q.here v) c.ins)) (name (now v c.out)) (written c.cover) ∷ []
     unfolding emitted
     now_cover skips = ap (λ (ds : List (Driver ℕ)). cells_from (now v c.out) (flat_map (now_from q v c.out) ds)) cover_alone ∙ ap now_by skips
 
-    later_cover : q.skips v c.out ≡ false → cells_by q naming (later v c.out) ≡ Names (map name (map (q.after v) c.ins)) (name (later v c.out)) (written c.cover) ∷ []
+    pub later_cover : q.skips v c.out ≡ false → cells_driving q name (later v c.out) ≡ Names (map name (map (q.after v) c.ins)) (name (later v c.out)) (written c.cover) ∷ []
     unfolding emitted
     later_cover skips = ap (λ (ds : List (Driver ℕ)). cells_from (later v c.out) (flat_map (later_from q v c.out) ds)) cover_alone ∙ ap later_by skips
 
-    abbrev wires_by : Bool → List Cell
-    wires_by skips = flat_map (cells_by q naming) (cond skips [] (now v c.out ∷ later v c.out ∷ []))
+module _ (q : CircuitPlan) (v : ℕ) (shell : Shell) (whole : IsWhole shell) (is : IsPlanShell q v shell) where
+  pub latch_done : (l : FlatLatch) → Among l shell.flat.latches → (old first second : Draft) (input : Wire) → q.here v l.input ≡ input
+      → first ≡ with_cells old (Latch (name_on old (kept v l.out)) (name_on old (now v l.out)) Plain None (init_of l.init) ∷ [])
+      → second ≡ with_cells first (Names (name_on first (fire v) ∷ name_on first input ∷ name_on first (now v l.out) ∷ []) (name_on first (kept v l.out)) choice ∷ [])
+      → second ≡ with_wires q old (latch_wires v l)
+  latch_done l there old first second input is_input one two =
+      more_wires q old first second (now v l.out ∷ []) (kept v l.out ∷ [])
+      (one_wire q old first (now v l.out) _ one (sym (now_is q (name_on old) v shell whole is l there)))
+      (one_wire q first second (kept v l.out) _ two
+      (ap (λ (w : Wire). Names (name_on first (fire v) ∷ name_on first w ∷ name_on first (now v l.out) ∷ []) (name_on first (kept v l.out)) choice ∷ []) (sym is_input)
+      ∙ sym (kept_is q (name_on first) v shell whole is l there)))
 
-    pub cover_skipped : (old : List Cell) → q.skips v c.out ≡ true → old ≡ old ++ flat_map (cells_by q naming) (cover_wires q v c)
-    cover_skipped old skips = sym (append-nil old) ∙ ap (λ (xs : List Cell). old ++ xs) (sym (ap wires_by skips))
+  module _ (c : FlatCover) (there : Among c shell.flat.covers) where
+    abbrev wires_by : Bool → List Wire
+    wires_by skips = cond skips [] (now v c.out ∷ later v c.out ∷ [])
 
-    pub cover_done : (old first second : List Cell) → q.skips v c.out ≡ false
-        → first ≡ old ++ Names (map name (map (q.here v) c.ins)) (name (now v c.out)) (written c.cover) ∷ []
-        → second ≡ first ++ Names (map name (map (q.after v) c.ins)) (name (later v c.out)) (written c.cover) ∷ []
-        → second ≡ old ++ flat_map (cells_by q naming) (cover_wires q v c)
+    pub cover_skipped : (old : Draft) → q.skips v c.out ≡ true → old ≡ with_wires q old (cover_wires q v c)
+    cover_skipped old skips = no_wires q old ∙ ap (λ (b : Bool). with_wires q old (wires_by b)) (sym skips)
+
+    pub cover_done : (old first second : Draft) → q.skips v c.out ≡ false
+        → first ≡ with_cells old (Names (map (name_on old) (map (q.here v) c.ins)) (name_on old (now v c.out)) (written c.cover) ∷ [])
+        → second ≡ with_cells first (Names (map (name_on first) (map (q.after v) c.ins)) (name_on first (later v c.out)) (written c.cover) ∷ [])
+        → second ≡ with_wires q old (cover_wires q v c)
     cover_done old first second skips one two =
-        two
-        ∙ ap (λ (xs : List Cell). xs ++ Names (map name (map (q.after v) c.ins)) (name (later v c.out)) (written c.cover) ∷ []) one
-        ∙ append_assoc old (Names (map name (map (q.here v) c.ins)) (name (now v c.out)) (written c.cover) ∷ []) (Names (map name (map (q.after v) c.ins)) (name (later v c.out)) (written c.cover) ∷ [])
-        ∙ ap (λ (xs : List Cell). old ++ (Names (map name (map (q.here v) c.ins)) (name (now v c.out)) (written c.cover) ∷ xs)) (sym (later_cover skips) ∙ sym (append-nil (cells_by q naming (later v c.out))))
-        ∙ ap (λ (xs : List Cell). old ++ (xs ++ (cells_by q naming (later v c.out) ++ []))) (sym (now_cover skips))
-        ∙ ap (λ (xs : List Cell). old ++ xs) (sym (ap wires_by skips))
+        more_wires q old first second (now v c.out ∷ []) (later v c.out ∷ [])
+        (one_wire q old first (now v c.out) _ one (sym (now_cover q (name_on old) v shell whole is c there skips)))
+        (one_wire q first second (later v c.out) _ two (sym (later_cover q (name_on first) v shell whole is c there skips)))
+        ∙ ap (λ (b : Bool). with_wires q old (wires_by b)) (sym skips)

@@ -1,5 +1,5 @@
 -- The cells of wires, by what a station has.
-use Rattle.std.proofs.Common.{◌≡◌, ℕ, suc, ◌+◌, ◌<◌, ◌≤◌, ◌==◌, ◌⊎◌, inl, inr, Bool, true, false, not, ◌&&◌, cond, List, [], ◌∷◌, ◌++◌, flat_map, Some, None, slice_get, refl, sym, ◌∙◌, ap, arith, add-one}
+use Rattle.std.proofs.Common.{◌≡◌, ℕ, suc, ◌+◌, ◌<◌, ◌≤◌, ◌==◌, ◌⊎◌, inl, inr, Bool, true, false, not, ◌&&◌, cond, List, [], ◌∷◌, flat_map, Some, None, slice_get, refl, sym, ◌∙◌, ap, arith, add-one}
 use Rattle.std.specs.Prelude.{nat_lt}
 use Rattle.std.proofs.lemmas.Bool.{cases_lt, lt-ltb, le-ltb, eq-eqb}
 use Rattle.std.proofs.lemmas.Option.{slice_get_within}
@@ -8,17 +8,14 @@ use Rattle.lid_design.specs.declared.Cell.{Cell}
 use Rattle.lid_design.specs.declared.Cell.TheVariants.{Names, Latch}
 use Rattle.lid_design.specs.declared.LatchKind.TheVariants.{Plain}
 use Rattle.lid_design.specs.Network.{Driver}
-use Rattle.lid_base.specs.Each.{from_each}
-use Rattle.lid_stations.proofs.Parts.{grown_one}
 use Rattle.lid_emit_circuit.specs.Wires.{Wire, fire, level, grown, place, moved}
 use Rattle.lid_emit_circuit.specs.Gates.{constant, count, move}
 use Rattle.lid_emit_circuit.specs.Plans.{CircuitPlan}
 use Rattle.lid_emit_circuit.specs.Network.{gate, flop, level_in, emitted}
-use Rattle.lid_emit_names.specs.Named.{init_of, cell_of}
-use Rattle.lid_emit_cells.specs.declared.names.Naming.{Naming}
+use Rattle.lid_emit_names.specs.Named.{init_of, cell_of, cells_driving}
 use Rattle.lid_emit_cells.specs.declared.station.Bit.{Bit}
 use Rattle.lid_emit_cells.specs.declared.station.Station.{Station}
-use Rattle.lid_emit_cells.specs.Shown.{wire_of, name_by, cells_by}
+use Rattle.lid_emit_cells.specs.Shown.{wire_of}
 use Rattle.lid_emit_cells.specs.Matches.{IsStationOf}
 
 -- what is below is not above
@@ -29,14 +26,7 @@ turned i n = by (cases_lt i n)
     by (inl less) = lt-ltb i n less ∙ sym (ap not (le-ltb n (suc i) less))
     by (inr most) = le-ltb i n most ∙ sym (ap not (lt-ltb n (suc i) (omega arith)))
 
--- cells of one more number
-pub next_cells : (f : ℕ → List Cell) (old now news : List Cell) (n : ℕ) → now ≡ old ++ flat_map f (from_each (λ i. i) 0 n) → news ≡ now ++ f n → news ≡ old ++ flat_map f (from_each (λ i. i) 0 (n + 1))
-next_cells f old now news n was is = grown_one f old now news 0 n was (is ∙ ap (λ (m : ℕ). now ++ f m) (let e : n ≡ 0 + n = omega arith in e))
-
-module _ (q : CircuitPlan) (naming : Naming) where
-  abbrev name : Wire → List ℕ
-  name w = name_by naming w
-
+module _ (q : CircuitPlan) (name : Wire → List ℕ) where
   -- the cells of the sources of a wire
   abbrev cells_from : Wire → List (Driver Wire) → List Cell
   cells_from w sources = flat_map (cell_of name w) sources
@@ -45,32 +35,32 @@ module _ (q : CircuitPlan) (naming : Naming) where
     in_range : nat_lt s q.stations ≡ true
     in_range = lt-ltb s q.stations is.there
 
-    pub lowest : Names [] (name (level s 0)) (constant true) ∷ [] ≡ cells_by q naming (level s 0)
+    pub lowest : Names [] (name (level s 0)) (constant true) ∷ [] ≡ cells_driving q name (level s 0)
     unfolding emitted
     lowest = sym (ap (λ (b : Bool). cells_from (level s 0) (cond b (gate (constant true) []) [])) in_range)
 
-    level_there : (i : ℕ) → cells_by q naming (level s (suc i)) ≡ cells_from (level s (suc i)) (level_in q s (suc i))
+    level_there : (i : ℕ) → cells_driving q name (level s (suc i)) ≡ cells_from (level s (suc i)) (level_in q s (suc i))
     unfolding emitted
     level_there i = ap (λ (b : Bool). cells_from (level s (suc i)) (cond b (level_in q s (suc i)) [])) in_range
 
     abbrev level_by : ℕ → Bool → Bool → List Cell
     level_by i latched past = cells_from (level s (suc i)) (cond latched (flop (not (nat_lt (q.first s) (suc i))) (grown s (suc i))) (cond past (gate (constant false) []) []))
 
-    pub highest : (i : ℕ) → i ≡ station.capacity → Names [] (name (level s (i + 1))) (constant false) ∷ [] ≡ cells_by q naming (level s (i + 1))
+    pub highest : (i : ℕ) → i ≡ station.capacity → Names [] (name (level s (i + 1))) (constant false) ∷ [] ≡ cells_driving q name (level s (i + 1))
     highest i at =
         let at_capacity : i ≡ q.capacity s = at ∙ sym is.capacity in
         ap (λ (n : ℕ). Names [] (name (level s n)) (constant false) ∷ []) (add-one i)
         ∙ sym (level_there i ∙ ap (λ (b : Bool). level_by i b (i == q.capacity s)) (le-ltb i (q.capacity s) (omega arith)) ∙ ap (λ (b : Bool). level_by i false b) (eq-eqb i (q.capacity s) at_capacity))
-        ∙ ap (λ (n : ℕ). cells_by q naming (level s n)) (sym (add-one i))
+        ∙ ap (λ (n : ℕ). cells_driving q name (level s n)) (sym (add-one i))
 
-    pub between : (i : ℕ) (first : Bool) → i < station.capacity → first ≡ nat_lt i station.first → Latch (name (grown s (i + 1))) (name (level s (i + 1))) Plain None (init_of first) ∷ [] ≡ cells_by q naming (level s (i + 1))
+    pub between : (i : ℕ) (first : Bool) → i < station.capacity → first ≡ nat_lt i station.first → Latch (name (grown s (i + 1))) (name (level s (i + 1))) Plain None (init_of first) ∷ [] ≡ cells_driving q name (level s (i + 1))
     between i first below begins =
         let here : i < q.capacity s = omega (arith, below, is.capacity) in
         let first_is : first ≡ not (nat_lt (q.first s) (suc i)) = begins ∙ ap (nat_lt i) (sym is.first) ∙ turned i (q.first s) in
         ap (λ (n : ℕ). Latch (name (grown s n)) (name (level s n)) Plain None (init_of first) ∷ []) (add-one i)
         ∙ ap (λ (b : Bool). Latch (name (grown s (suc i))) (name (level s (suc i))) Plain None (init_of b) ∷ []) first_is
         ∙ sym (level_there i ∙ ap (λ (b : Bool). level_by i b (i == q.capacity s)) (lt-ltb i (q.capacity s) here))
-        ∙ ap (λ (n : ℕ). cells_by q naming (level s n)) (sym (add-one i))
+        ∙ ap (λ (n : ℕ). cells_driving q name (level s n)) (sym (add-one i))
 
     abbrev count_cell : ℕ → Cell
     count_cell i = Names (name (fire station.drainer) ∷ name (fire station.filler) ∷ name (level s i) ∷ name (level s (i + 1)) ∷ name (level s (i + 2)) ∷ []) (name (grown s (i + 1))) count
@@ -78,7 +68,7 @@ module _ (q : CircuitPlan) (naming : Naming) where
     abbrev grown_by : ℕ → Bool → Bool → List Cell
     grown_by i there below = cells_from (grown s (suc i)) (cond there (cond below (gate count (fire (q.drainer s) ∷ fire (q.filler s) ∷ level s i ∷ level s (suc i) ∷ level s (suc (suc i)) ∷ [])) []) [])
 
-    pub counts_on : (i : ℕ) → i < station.capacity → count_cell i ∷ [] ≡ cells_by q naming (grown s (i + 1))
+    pub counts_on : (i : ℕ) → i < station.capacity → count_cell i ∷ [] ≡ cells_driving q name (grown s (i + 1))
     unfolding emitted
     counts_on i below =
         let here : i < q.capacity s = omega (arith, below, is.capacity) in
@@ -88,11 +78,7 @@ module _ (q : CircuitPlan) (naming : Naming) where
         ∙ ap (λ (n : ℕ). Names (name (fire (q.drainer s)) ∷ name (fire (q.filler s)) ∷ name (level s i) ∷ name (level s n) ∷ name (level s (i + 2)) ∷ []) (name (grown s n)) count ∷ []) (add-one i)
         ∙ ap (λ (n : ℕ). Names (name (fire (q.drainer s)) ∷ name (fire (q.filler s)) ∷ name (level s i) ∷ name (level s (suc i)) ∷ name (level s n) ∷ []) (name (grown s (suc i))) count ∷ []) two
         ∙ sym (ap (λ (b : Bool). grown_by i b (nat_lt i (q.capacity s))) in_range ∙ ap (grown_by i true) (lt-ltb i (q.capacity s) here))
-        ∙ ap (λ (n : ℕ). cells_by q naming (grown s n)) (sym (add-one i))
-
-    pub counts_with : (i : ℕ) (cover : Cover) → cover ≡ count → i < station.capacity
-        → Names (name (fire station.drainer) ∷ name (fire station.filler) ∷ name (level s i) ∷ name (level s (i + 1)) ∷ name (level s (i + 2)) ∷ []) (name (grown s (i + 1))) cover ∷ [] ≡ cells_by q naming (grown s (i + 1))
-    counts_with i cover same below = ap (λ (x : Cover). Names (name (fire station.drainer) ∷ name (fire station.filler) ∷ name (level s i) ∷ name (level s (i + 1)) ∷ name (level s (i + 2)) ∷ []) (name (grown s (i + 1))) x ∷ []) same ∙ counts_on i below
+        ∙ ap (λ (n : ℕ). cells_driving q name (grown s n)) (sym (add-one i))
 
     module _ (j : ℕ) (bit : Bit) (at : slice_get station.bits j ≡ Some bit) where
       its : (q.begins s j ≡ bit.begins) × (q.put s j ≡ wire_of bit.put)
@@ -109,16 +95,16 @@ module _ (q : CircuitPlan) (naming : Naming) where
       abbrev place_by : ℕ → Bool → Bool → Bool → List Cell
       place_by i there latched past = cells_from (place s i j) (cond there (cond latched (flop (q.begins s j) (moved s i j)) (cond past (gate (constant false) []) [])) [])
 
-      place_there : (i : ℕ) → cells_by q naming (place s i j) ≡ place_by i true (nat_lt i (q.capacity s)) (i == q.capacity s)
+      place_there : (i : ℕ) → cells_driving q name (place s i j) ≡ place_by i true (nat_lt i (q.capacity s)) (i == q.capacity s)
       unfolding emitted
       place_there i = ap (λ (b : Bool). place_by i b (nat_lt i (q.capacity s)) (i == q.capacity s)) bit_range
 
-      pub last_place : (i : ℕ) → i ≡ station.capacity → Names [] (name (place s i j)) (constant false) ∷ [] ≡ cells_by q naming (place s i j)
+      pub last_place : (i : ℕ) → i ≡ station.capacity → Names [] (name (place s i j)) (constant false) ∷ [] ≡ cells_driving q name (place s i j)
       last_place i here =
           let at_capacity : i ≡ q.capacity s = here ∙ sym is.capacity in
           sym (place_there i ∙ ap (λ (b : Bool). place_by i true b (i == q.capacity s)) (le-ltb i (q.capacity s) (omega arith)) ∙ ap (place_by i true false) (eq-eqb i (q.capacity s) at_capacity))
 
-      pub some_place : (i : ℕ) → i < station.capacity → Latch (name (moved s i j)) (name (place s i j)) Plain None (init_of bit.begins) ∷ [] ≡ cells_by q naming (place s i j)
+      pub some_place : (i : ℕ) → i < station.capacity → Latch (name (moved s i j)) (name (place s i j)) Plain None (init_of bit.begins) ∷ [] ≡ cells_driving q name (place s i j)
       some_place i below =
           let here : i < q.capacity s = omega (arith, below, is.capacity) in
           ap (λ (b : Bool). Latch (name (moved s i j)) (name (place s i j)) Plain None (init_of b) ∷ []) (sym its.0)
@@ -128,7 +114,7 @@ module _ (q : CircuitPlan) (naming : Naming) where
       moved_by i there below = cells_from (moved s i j) (cond there (cond below (gate move (fire (q.drainer s) ∷ level s (suc i) ∷ place s i j ∷ level s (suc (suc i)) ∷ place s (suc i) j ∷ q.put s j ∷ [])) []) [])
 
       pub moves_on : (i : ℕ) → i < station.capacity
-          → Names (name (fire station.drainer) ∷ name (level s (i + 1)) ∷ name (place s i j) ∷ name (level s (i + 2)) ∷ name (place s (i + 1) j) ∷ name (wire_of bit.put) ∷ []) (name (moved s i j)) move ∷ [] ≡ cells_by q naming (moved s i j)
+          → Names (name (fire station.drainer) ∷ name (level s (i + 1)) ∷ name (place s i j) ∷ name (level s (i + 2)) ∷ name (place s (i + 1) j) ∷ name (wire_of bit.put) ∷ []) (name (moved s i j)) move ∷ [] ≡ cells_driving q name (moved s i j)
       unfolding emitted
       moves_on i below =
           let here : i < q.capacity s = omega (arith, below, is.capacity) in
@@ -138,13 +124,3 @@ module _ (q : CircuitPlan) (naming : Naming) where
           ∙ ap (λ (n : ℕ). Names (name (fire (q.drainer s)) ∷ name (level s (suc i)) ∷ name (place s i j) ∷ name (level s n) ∷ name (place s (suc i) j) ∷ name (wire_of bit.put) ∷ []) (name (moved s i j)) move ∷ []) two
           ∙ ap (λ (w : Wire). Names (name (fire (q.drainer s)) ∷ name (level s (suc i)) ∷ name (place s i j) ∷ name (level s (suc (suc i))) ∷ name (place s (suc i) j) ∷ name w ∷ []) (name (moved s i j)) move ∷ []) (sym its.1)
           ∙ sym (ap (λ (b : Bool). moved_by i b (nat_lt i (q.capacity s))) bit_range ∙ ap (moved_by i true) (lt-ltb i (q.capacity s) here))
-
-      pub some_with : (i : ℕ) (begins : Bool) → begins ≡ bit.begins → i < station.capacity → Latch (name (moved s i j)) (name (place s i j)) Plain None (init_of begins) ∷ [] ≡ cells_by q naming (place s i j)
-      some_with i begins same below = ap (λ (b : Bool). Latch (name (moved s i j)) (name (place s i j)) Plain None (init_of b) ∷ []) same ∙ some_place i below
-
-      pub moves_with : (i : ℕ) (put : Wire) (cover : Cover) → put ≡ wire_of bit.put → cover ≡ move → i < station.capacity
-          → Names (name (fire station.drainer) ∷ name (level s (i + 1)) ∷ name (place s i j) ∷ name (level s (i + 2)) ∷ name (place s (i + 1) j) ∷ name put ∷ []) (name (moved s i j)) cover ∷ [] ≡ cells_by q naming (moved s i j)
-      moves_with i put cover is_put same below =
-          ap (λ (w : Wire). Names (name (fire station.drainer) ∷ name (level s (i + 1)) ∷ name (place s i j) ∷ name (level s (i + 2)) ∷ name (place s (i + 1) j) ∷ name w ∷ []) (name (moved s i j)) cover ∷ []) is_put
-          ∙ ap (λ (x : Cover). Names (name (fire station.drainer) ∷ name (level s (i + 1)) ∷ name (place s i j) ∷ name (level s (i + 2)) ∷ name (place s (i + 1) j) ∷ name (wire_of bit.put) ∷ []) (name (moved s i j)) x ∷ []) same
-          ∙ moves_on i below

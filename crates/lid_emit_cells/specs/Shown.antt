@@ -1,13 +1,9 @@
 -- What wires and ports of the program stand for.
-use Rattle.std.specs.Prelude.{ℕ, ◌+◌, Bool, true, List, [], ◌++◌, length, map, flat_map}
+use Rattle.std.specs.Prelude.{ℕ, List}
 use Rattle.lid_emit_circuit.specs.Wires as circuit
 use Rattle.lid_emit_names.specs.Spelling as spelling
 use Rattle.lid_emit_meaning.specs.Ports.{offer_name, block_name, valid_name, stop_name}
-use Rattle.lid_cover.specs.declared.Cube.{Cube}
 use Rattle.lid_design.specs.declared.Cell.{Cell}
-use Rattle.lid_design.specs.declared.Cell.TheVariants.{Names}
-use Rattle.lid_base.specs.Each.{from_each}
-use Rattle.lid_emit_circuit.specs.Gates.{constant}
 use Rattle.lid_emit_circuit.specs.Plans.{CircuitPlan}
 use Rattle.lid_emit_names.specs.Named.{cells_driving}
 use Rattle.lid_emit_cells.specs.declared.names.Naming.{Naming}
@@ -37,9 +33,6 @@ wire_of Stop = circuit.stop
 abbrev pub design_ports : List (List ℕ) → List (List ℕ) → spelling.PortNames
 design_ports inputs outputs = record { inputs = inputs; outputs = outputs; offer = offer_name; block = block_name; valid = valid_name; stop = stop_name }
 
-abbrev pub name_in : List (List ℕ) → List (List ℕ) → List ℕ → Wire → List ℕ
-name_in inputs outputs prefix wire = spelling.name_of (design_ports inputs outputs) prefix (wire_of wire)
-
 -- the name of a wire by what names are made of
 abbrev pub name_by : Naming → circuit.Wire → List ℕ
 name_by naming wire = spelling.name_of (design_ports naming.inputs.now naming.outputs.now) naming.prefix.now wire
@@ -47,17 +40,3 @@ name_by naming wire = spelling.name_of (design_ports naming.inputs.now naming.ou
 -- the cells of a wire of a plan
 abbrev pub cells_by : CircuitPlan → Naming → circuit.Wire → List Cell
 cells_by q naming wire = cells_driving q (name_by naming) wire
-
--- a cell that drives a wire where some of these cubes agrees with the wires that it reads
-abbrev pub gate_cell : Naming → Wire → List Wire → List Cube → Cell
-gate_cell naming wire reads cubes = Names (map (λ read. name_by naming (wire_of read)) reads) (name_by naming (wire_of wire)) (record { inputs = length reads; on = true; cubes = cubes })
-
--- a cell that drives a wire with a constant
-abbrev pub constant_cell : Naming → Wire → Bool → Cell
-constant_cell naming wire bit = Names [] (name_by naming (wire_of wire)) (constant bit)
-
--- the cells of bit j of a station
-abbrev pub bit_cells : CircuitPlan → Naming → ℕ → ℕ → ℕ → List Cell
-bit_cells q naming s capacity j =
-    flat_map (λ i. cells_by q naming (circuit.place s i j)) (from_each (λ i. i) 0 (capacity + 1))
-    ++ flat_map (λ i. cells_by q naming (circuit.moved s i j)) (from_each (λ i. i) 0 capacity)

@@ -6,6 +6,7 @@ mod all;
 mod cell;
 mod names;
 mod outer;
+mod pen;
 mod shell;
 mod station;
 mod wire;

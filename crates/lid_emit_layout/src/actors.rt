@@ -58,7 +58,8 @@ pub(crate) fn make_actors(
     requires system { IsWellFormed system.now }
     requires fits { Fits system.now placement.now }
     requires stations { (n : NetWires) × AreStationsOf (circuit_plan system.now placement.now n) stations.now }
-    ensures { IfOk result (λ actors. (n : NetWires) → AreStationsOf (circuit_plan system.now placement.now n) stations.now → AreActorsOf (circuit_plan system.now placement.now n) actors.items) }
+    ensures { IfOk result (λ actors. (n : NetWires) → AreStationsOf (circuit_plan system.now placement.now n) stations.now
+        → AreActorsOf (circuit_plan system.now placement.now n) actors.items) }
 {
     let ends = make_ends(alloc, actor_count(system, placement), stations)?;
     let actors = make_each(alloc, ends.as_slice())?;

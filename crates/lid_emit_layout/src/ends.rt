@@ -56,7 +56,8 @@ fn join_all(ends: &mut Vec<Ends>, stations: &[Station]) -> Result<(), AllocError
     requires few { length stations.now ≤ 65536 }
     requires between { AreBetween (length ends.old.items) stations.now }
     ensures many { OnOk result (length ends.new.items ≡ length ends.old.items) }
-    ensures joined { OnOk result ((q : CircuitPlan) → AreStationsOf q stations.now → AreJoined q 0 ends.old.items → AreJoined q (length stations.now) ends.new.items) }
+    ensures joined { OnOk result ((q : CircuitPlan) → AreStationsOf q stations.now
+        → AreJoined q 0 ends.old.items → AreJoined q (length stations.now) ends.new.items) }
 {
     for s in 0..stations.len() {
         join(ends, s as u32, &stations[s])?;

@@ -39,7 +39,8 @@ fn make_frame(
     requires system { IsWellFormed system.now }
     requires fits { Fits system.now placement.now }
     requires stations { (n : NetWires) × AreStationsOf (circuit_plan system.now placement.now n) stations.items }
-    ensures { IfOk result (λ frame. (n : NetWires) → AreStationsOf (circuit_plan system.now placement.now n) stations.items → IsFrame (circuit_plan system.now placement.now n) frame) }
+    ensures { IfOk result (λ frame. (n : NetWires) → AreStationsOf (circuit_plan system.now placement.now n) stations.items
+        → IsFrame (circuit_plan system.now placement.now n) frame) }
 {
     let actors = make_actors(alloc, system, placement, stations.as_slice())?;
     let outer = make_outer(alloc, system, placement, actors.as_slice())?;

@@ -84,7 +84,8 @@ pub(crate) fn make_outer(
     requires fits { Fits system.now placement.now }
     requires nodes { length system.now.nodes ≤ length actors.now }
     requires small { (v : ℕ) (actor : ActorStations) → slice_get actors.now v ≡ Some actor → IsSmallActor actor }
-    ensures is { IfOk result (λ outer. (n : NetWires) → AreActorsOf (circuit_plan system.now placement.now n) actors.now → IsOuterOf (circuit_plan system.now placement.now n) outer) }
+    ensures is { IfOk result (λ outer. (n : NetWires) → AreActorsOf (circuit_plan system.now placement.now n) actors.now
+        → IsOuterOf (circuit_plan system.now placement.now n) outer) }
     ensures few { IfOk result (λ outer. length outer.shows < 2 ^ 32) }
 {
     let inputs = input_count(system);

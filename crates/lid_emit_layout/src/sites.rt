@@ -36,7 +36,8 @@ fn edge_along(graph: &Graph, station: u32) -> Edge
 /// The station at a place of a channel.
 fn site_at(graph: &Graph, station: u32, channel: u32, place: u32) -> Site
     requires { station + station < length graph.now.edges }
-    ensures { (s : System) (p : Placement) → graph.now ≡ marking (links_of s) p → station < station_count p.relays → StandsAt p.relays station channel place → (result.station ≡ station) × IsSite s p result }
+    ensures { (s : System) (p : Placement) → graph.now ≡ marking (links_of s) p → station < station_count p.relays
+        → StandsAt p.relays station channel place → (result.station ≡ station) × IsSite s p result }
 {
     let along = edge_along(graph, station);
     Site {
@@ -59,7 +60,8 @@ fn push_sites(
     requires edges { HasEdges placement.now graph.now }
     requires there { c < length placement.now.relays }
     requires first { first ≡ station_count (take c placement.now.relays) }
-    ensures { OnOk result ((s : System) → graph.now ≡ marking (links_of s) placement.now → AreSites s placement.now first sites.old.items → AreSites s placement.now (first + (slice_index_or placement.now.relays c 0 + 1)) sites.new.items) }
+    ensures { OnOk result ((s : System) → graph.now ≡ marking (links_of s) placement.now → AreSites s placement.now first sites.old.items
+        → AreSites s placement.now (first + (slice_index_or placement.now.relays c 0 + 1)) sites.new.items) }
 {
     for place in 0..placement.relays.as_slice()[c as usize] + 1 {
         sites.push(site_at(graph, first + place, c, place))?;
@@ -71,7 +73,8 @@ fn push_sites(
 fn push_all(placement: &Placement, graph: &Graph, sites: &mut Vec<Site>) -> Result<(), AllocError>
     requires edges { HasEdges placement.now graph.now }
     requires few { length placement.now.relays ≤ 16384 }
-    ensures { OnOk result ((s : System) → graph.now ≡ marking (links_of s) placement.now → AreSites s placement.now 0 sites.old.items → AreSites s placement.now (station_count placement.now.relays) sites.new.items) }
+    ensures { OnOk result ((s : System) → graph.now ≡ marking (links_of s) placement.now
+        → AreSites s placement.now 0 sites.old.items → AreSites s placement.now (station_count placement.now.relays) sites.new.items) }
 {
     let mut first = 0u32;
     for c in 0..placement.relays.len() {

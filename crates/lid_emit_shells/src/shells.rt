@@ -67,7 +67,8 @@ fn shells_of(
     requires system { IsWellFormed system.now }
     requires fits { Fits system.now placement.now }
     ensures count { IfOk result (λ shells. length system.now.nodes ≡ length shells.items + 2) }
-    ensures each { IfOk result (λ shells. (i : ℕ) (shell : Shell) → slice_get shells.items i ≡ Some shell → IsMadeShell checked.now system.now (lasts_from 0 placement.now.relays) (i + 1) shell) }
+    ensures each { IfOk result (λ shells. (i : ℕ) (shell : Shell) → slice_get shells.items i ≡ Some shell
+        → IsMadeShell checked.now system.now (lasts_from 0 placement.now.relays) (i + 1) shell) }
 {
     let lasts = last_stations(alloc, placement.relays.as_slice())?;
     all_shells(alloc, checked, system, lasts.as_slice())
@@ -84,7 +85,8 @@ fn all_shells(
     requires system { IsWellFormed system.now }
     requires lasts { length lasts.now ≡ length system.now.channels }
     ensures count { IfOk result (λ shells. length system.now.nodes ≡ length shells.items + 2) }
-    ensures each { IfOk result (λ shells. (i : ℕ) (shell : Shell) → slice_get shells.items i ≡ Some shell → IsMadeShell checked.now system.now lasts.now (i + 1) shell) }
+    ensures each { IfOk result (λ shells. (i : ℕ) (shell : Shell)
+        → slice_get shells.items i ≡ Some shell → IsMadeShell checked.now system.now lasts.now (i + 1) shell) }
 {
     let mut shells = Vec::new(alloc);
     for v in 1..system.nodes.len() - 1 {

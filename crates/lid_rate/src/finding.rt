@@ -34,7 +34,7 @@ fn all_parts(
             let inside = places_of(&sorted.nodes, v);
             let edges = places_of(&sorted.edges, v);
             let first = sorted.loops[v as usize];
-            let part = part_of(alloc, graph, least, v, inside, edges, first)?;
+            let part = part_of(alloc, graph, inside, edges, first)?;
             parts.push(part)?;
         }
     }

@@ -1,10 +1,11 @@
 //! The part of one component: what is found of its piece, said of the graph.
 
-ghost use Rattle.std.specs.Prelude.{◌≡◌, ℕ, ◌+◌, ◌-◌, ◌*◌, ◌<◌, ◌≤◌, ◌^◌, length, map, slice_index, option_map, IfOk};
+ghost use Rattle.std.specs.Prelude.{◌≡◌, ℕ, ◌+◌, ◌-◌, ◌*◌, ◌<◌, ◌≤◌, ◌^◌, List, length, map, slice_index, option_map, IfOk};
 ghost use Rattle.lid_graph.specs.Walks.{walk_start, IsClosedWalk};
 ghost use Rattle.lid_rate_ratio.specs.Components.{IsSmallGraph, IsLoop, AreAllJoined};
 ghost use Rattle.lid_graph.specs.Rateable.{IsRateable};
-ghost use Rattle.lid_rate.specs.Rates.{AreLabels, IsPartOf, IsLoopAt, numbers_where, is_labelled, edges_of};
+ghost use Rattle.lid_rate.specs.Rates.{IsPartOf};
+ghost use Rattle.lid_rate.specs.Grouping.{IsOwnComponent};
 ghost use Rattle.lid_rate.specs.Pieces.{IsFoundOfPiece, IsLifted};
 
 use crate::pieces::{piece_of, place};
@@ -167,31 +168,23 @@ fn lifted(alloc: Global, nodes: &[u32], edges: &[u32], found: Findings) -> Resul
     Ok(assemble(named, found))
 }
 
-/// The part of the component whose least transition is `label`, of these transitions and edges. `first`
-/// is an edge from `label` to itself.
+/// The part of a component, of its transitions and edges. `first` is an edge from its least transition to
+/// itself.
 ///
 /// # Errors
 /// Where there is no memory.
 pub(crate) fn part_of(
     alloc: Global,
     graph: &Graph,
-    least: &[u32],
-    label: u32,
     inside: &[u32],
     edges: &[u32],
     first: u32,
 ) -> Result<Part, AllocError>
     requires graph { IsRateable graph.now }
-    requires labels { AreLabels graph.now least.now }
-    requires within { label < graph.now.nodes }
-    requires own { slice_index least.now label ≡ label }
-    requires nodes { inside.now ≡ numbers_where (is_labelled least.now label) (length least.now) }
-    requires edges { edges.now ≡ edges_of graph.now least.now label }
-    requires first { IsLoopAt graph.now label first }
-    ensures { IfOk result (IsPartOf graph.now least.now label) }
+    requires own { (least : List ℕ) × (label : ℕ) × IsOwnComponent graph.now least label inside.now edges.now first }
+    ensures { (least : List ℕ) (label : ℕ) → IsOwnComponent graph.now least label inside.now edges.now first
+        → IfOk result (IsPartOf graph.now least label) }
 {
-    let _ = least;
-    let _ = label;
     let piece = piece_of(alloc, graph, inside, edges)?;
     let all = search_piece(alloc, &piece, place(edges, first))?;
     lifted(alloc, inside, edges, all)

@@ -1,19 +1,25 @@
 //! Systems whose channels have stations.
 
-ghost use Rattle.lid_system.specs.Systems.{IsWellFormed};
-ghost use Rattle.lid_stations.specs.Placements.{Fits};
-
 use crate::placement::Placement;
 use lid_system::System;
+use std::marker::Model;
 
-/// A system and the stations on its channels. Whoever makes one shows that the system is well formed and that the
-/// placement fits it; so whoever takes one need not ask for that.
-#[derive(Clone, Copy)]
+/// A well-formed system, and stations on its channels that fit it. Whoever makes one shows that they do, so whoever
+/// takes one need not ask for it. A contract sees the two of them.
+#[derive(Drop)]
 pub struct Placed<'s> {
     /// The system.
     pub system: &'s System,
     /// How many relay stations each channel has, and how many tokens each station holds at most.
     pub placement: &'s Placement,
-    ghost formed: { IsWellFormed system.now },
-    ghost fits: { Fits system.now placement.now },
+}
+
+impl<'s> Model for Placed<'s> {
+    ghost use Rattle.lid_stations.specs.Placed.{Placing, IsPlaced};
+
+    ghost Value = { Placing };
+
+    ghost view = { λ p. record { system = p.system.now; placement = p.placement.now } };
+
+    ghost invariant = { λ p. IsPlaced p.system.now p.placement.now };
 }

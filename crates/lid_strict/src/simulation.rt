@@ -74,6 +74,14 @@ fn run_row(
     take_state(bits, latches, state);
 }
 
+/// What is run: a network that is laid out, the numbers whose bits are asked for, and the rows.
+#[derive(Clone, Copy)]
+struct Simulation<'r> {
+    layout: &'r Layout,
+    outs: &'r [u32],
+    rows: &'r [Items<bool>],
+}
+
 /// Runs a network row by row, in an order in which each number stands after all that it reads, and
 /// answers the bits of some numbers in each row.
 pub fn simulate(
@@ -93,7 +101,12 @@ pub fn simulate(
 {
     let layout = lay_out(alloc, design, drivers, order)?;
     let mut results = Vec::with_capacity(alloc, rows.len())?;
-    run_layout(alloc, &layout, outs, rows, &mut results)?;
+    let run = Simulation {
+        layout: &layout,
+        outs,
+        rows,
+    };
+    run_layout(alloc, run, &mut results)?;
     Ok(Items::from_vec(results))
 }
 
@@ -101,24 +114,20 @@ pub fn simulate(
 /// numbers in each row, where there are none yet.
 fn run_layout(
     alloc: Global,
-    layout: &Layout,
-    outs: &[u32],
-    rows: &[Items<bool>],
+    run: Simulation<'_>,
     results: &mut Vec<Items<bool>>,
 ) -> Result<(), AllocError>
-    requires runnable { IsRunnable layout.now }
-    requires outs { AllByRecursion (λ k. k < layout.now.program.nets) outs.now }
+    requires runnable { IsRunnable run.layout.now }
+    requires outs { AllByRecursion (λ k. k < run.layout.now.program.nets) run.outs.now }
     requires none { results.old.items ≡ [] }
-    ensures { OnOk result ((b : Table ℕ) → FitsTable layout.now rows.now b → results.new.items ≡ rows_at outs.now b (length rows.now)) }
+    ensures { OnOk result ((b : Table ℕ) → FitsTable run.layout.now run.rows.now b → results.new.items ≡ rows_at run.outs.now b (length run.rows.now)) }
 {
-    let mut state = first_state(alloc, layout.latches.as_slice())?;
-    let mut inputs = Vec::from_elem(alloc, false, layout.places.len())?;
-    let mut bits = Vec::from_elem(alloc, false, layout.program.nets as usize + 1)?;
+    let mut state = first_state(alloc, run.layout.latches.as_slice())?;
+    let mut inputs = Vec::from_elem(alloc, false, run.layout.places.len())?;
+    let mut bits = Vec::from_elem(alloc, false, run.layout.program.nets as usize + 1)?;
     run_rows(
         alloc,
-        layout,
-        outs,
-        rows,
+        run,
         state.as_mut_slice(),
         inputs.as_mut_slice(),
         bits.as_mut_slice(),
@@ -130,22 +139,21 @@ fn run_layout(
 /// none yet.
 fn run_rows(
     alloc: Global,
-    layout: &Layout,
-    outs: &[u32],
-    rows: &[Items<bool>],
+    run: Simulation<'_>,
     state: &mut [bool],
     inputs: &mut [bool],
     bits: &mut [bool],
     results: &mut Vec<Items<bool>>,
 ) -> Result<(), AllocError>
-    requires runnable { IsRunnable layout.now }
-    requires outs { AllByRecursion (λ k. k < layout.now.program.nets) outs.now }
-    requires state { state.old ≡ map latch_init layout.now.latches.items }
-    requires inputs { length inputs.old ≡ length layout.now.places.items }
-    requires bits { length bits.old ≡ layout.now.program.nets + 1 }
+    requires runnable { IsRunnable run.layout.now }
+    requires outs { AllByRecursion (λ k. k < run.layout.now.program.nets) run.outs.now }
+    requires state { state.old ≡ map latch_init run.layout.now.latches.items }
+    requires inputs { length inputs.old ≡ length run.layout.now.places.items }
+    requires bits { length bits.old ≡ run.layout.now.program.nets + 1 }
     requires none { results.old.items ≡ [] }
-    ensures { OnOk result ((b : Table ℕ) → FitsTable layout.now rows.now b → results.new.items ≡ rows_at outs.now b (length rows.now)) }
+    ensures { OnOk result ((b : Table ℕ) → FitsTable run.layout.now run.rows.now b → results.new.items ≡ rows_at run.outs.now b (length run.rows.now)) }
 {
+    let Simulation { layout, outs, rows } = run;
     for t in 0..rows.len() {
         run_row(layout, rows[t].as_slice(), state, inputs, bits);
         let out = gather(alloc, bits, outs)?;

@@ -6,5 +6,5 @@ use Rattle.lid_check_elab.proofs.placing.push_drivers.Given as goal
 
 abbrev pub invariant-loop-pick : goal.invariant-loop-pick
 invariant-loop-pick l =
-    map (shown_driver l.judged) l.drivers.items ++ map (picked l.judged l.base.start l.base.offsets (seen_around l.base.around) l.locals) (drop l.pick-index l.picks)
-    ≡ map (shown_driver l.judged) l.fn.drivers.items ++ map (picked l.judged l.base.start l.base.offsets (seen_around l.base.around) l.locals) l.picks
+    map (shown_driver l.judged) l.drivers.items ++ map (picked l.judged l.base.start l.base.offsets.now (seen_around l.base.around) l.locals) (drop l.pick-index l.picks)
+    ≡ map (shown_driver l.judged) l.fn.drivers.items ++ map (picked l.judged l.base.start l.base.offsets.now (seen_around l.base.around) l.locals) l.picks

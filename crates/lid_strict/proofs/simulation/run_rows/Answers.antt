@@ -6,9 +6,9 @@ use Rattle.lid_strict.proofs.simulation.run_rows.Goals as goal
 
 pub loop-t-preserved : goal.loop-t-preserved
 loop-t-preserved c =
-    let p = c.args.layout.now in
-    let outs = c.args.outs.now in
-    let rows = c.args.rows.now in
+    let p = c.args.run.layout.now in
+    let outs = c.args.run.outs.now in
+    let rows = c.args.run.rows.now in
     let t = c.loop-t.t in
     let h = c.loop-t-test.true in
     let same_row = c.as_slice.ensures ∙ c.index-rows-t.is ∙ get_or_default rows t c.index-rows-t.result [] h in

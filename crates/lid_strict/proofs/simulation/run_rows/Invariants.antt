@@ -4,7 +4,7 @@ use Rattle.lid_strict.proofs.simulation.run_rows.Given as goal
 
 abbrev pub invariant-loop-t : goal.invariant-loop-t
 invariant-loop-t l =
-    (length l.state ≡ length l.layout.latches.items)
-    × (length l.inputs ≡ length l.layout.places.items)
-    × (length l.bits ≡ l.layout.program.nets + 1)
-    × IsStrictRun l.layout l.outs l.rows l.t l.state l.results.items
+    (length l.state ≡ length l.run.layout.now.latches.items)
+    × (length l.inputs ≡ length l.run.layout.now.places.items)
+    × (length l.bits ≡ l.run.layout.now.program.nets + 1)
+    × IsStrictRun l.run.layout.now l.run.outs.now l.run.rows.now l.t l.state l.results.items

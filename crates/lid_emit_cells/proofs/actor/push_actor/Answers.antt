@@ -1,6 +1,0 @@
-use Rattle.lid_base.proofs.Results.{on_ok}
-use Rattle.lid_emit_cells.proofs.Actors.{actor_done}
-use Rattle.lid_emit_cells.proofs.actor.push_actor.Goals as goal
-
-pub returns : goal.returns
-returns c = on_ok c.push_fire.result (λ h q is last. actor_done q c.args.naming c.args.v c.args.actor.now is c.args.cells.now.items c.push_links.new.cells.items c.push_fire.new.cells.items (c.in_ok-push_links.ensures q is) (h q is last)) c.push_fire.ensures

@@ -1,0 +1,13 @@
+use Rattle.std.proofs.Common.{◌≡◌, ◌+◌, ◌++◌}
+use Rattle.lid_base.specs.Each.{from_each}
+use Rattle.lid_emit_circuit.specs.Plans.{CircuitPlan}
+use Rattle.lid_emit_circuit.specs.Wires.{place, moved}
+use Rattle.lid_emit_cells.specs.Drafts.{with_wires}
+use Rattle.lid_emit_cells.specs.Matches.{IsStationOf}
+use Rattle.lid_emit_cells.proofs.pen.Pen.push_bit.Given as goal
+
+abbrev pub invariant-loop-i : goal.invariant-loop-i
+invariant-loop-i l = ((q : CircuitPlan) → IsStationOf q l.fn.s l.station → l.self ≡ with_wires q l.fn.self (from_each (λ i. place l.fn.s i l.fn.j) 0 l.i))
+
+abbrev pub invariant-loop-k : goal.invariant-loop-k
+invariant-loop-k l = ((q : CircuitPlan) → IsStationOf q l.fn.s l.station → l.self ≡ with_wires q l.fn.self (from_each (λ i. place l.fn.s i l.fn.j) 0 (l.station.capacity + 1) ++ from_each (λ i. moved l.fn.s i l.fn.j) 0 l.k))

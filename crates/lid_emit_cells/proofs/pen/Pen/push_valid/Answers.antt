@@ -1,0 +1,10 @@
+use Rattle.std.proofs.Common.{refl}
+use Rattle.lid_base.proofs.Results.{on_ok}
+use Rattle.lid_emit_circuit.specs.Wires as circuit
+use Rattle.lid_emit_cells.specs.Drafts.{name_on}
+use Rattle.lid_emit_cells.proofs.Drafting.{one_wire}
+use Rattle.lid_emit_cells.proofs.Outers.{valid_is}
+use Rattle.lid_emit_cells.proofs.pen.Pen.push_valid.Goals as goal
+
+pub returns : goal.returns
+returns c = on_ok c.push_gate.result (λ h q is. one_wire q c.args.self.now c.push_gate.new.self circuit.valid _ h (valid_is q (name_on c.args.self.now) c.args.outer.now is)) c.push_gate.ensures
