@@ -197,3 +197,30 @@ module _ (whole : Bool) (held : Option (List ℕ)) (name : List ℕ) (limit room
 
 pub full_as : (whole : Bool) (held : Option (List ℕ)) (name : List ℕ) (limit at : ℕ) (old now : Option (List Fetch)) → limit < at → CameAs old now (IsGoing whole held name limit at) → CameAs old now (IsFetching whole held name limit)
 full_as whole held name limit at old now past so = (so.0, so.1, going_full whole held name limit at so.0 past so.2)
+
+-- what was fetched so far is some first of it
+pub part_of_going : (whole : Bool) (held : Option (List ℕ)) (name : List ℕ) (limit at : ℕ) (calls : List Fetch) → IsGoing whole held name limit at calls → IsFetchingPart whole held name limit calls
+part_of_going whole held name limit at calls so = record {
+  named = record {
+    places = so.places;
+    rise = subst (Rise limit 0 0) (append-nil so.places) (so.rise [] tt);
+    are = so.are;
+  };
+  exact = λ w. by held (so.left w);
+}
+  where
+    by : (held : Option (List ℕ)) → IfSome held (λ file. (at ≤ min (length file) (limit + 1)) × (calls ++ map (fetch_from name limit) (fetch_places limit (length file) at) ≡ fetches_of name limit (length file)))
+        → IfSome held (λ file. (k : ℕ) × (calls ≡ take k (fetches_of name limit (length file))))
+    by None left = tt
+    by (Some file) left = (length calls, begins_with calls (map (fetch_from name limit) (fetch_places limit (length file) at)) (fetches_of name limit (length file)) left.1)
+
+-- all fetches of a file are some first of them
+pub part_of_all : (whole : Bool) (held : Option (List ℕ)) (name : List ℕ) (limit : ℕ) (calls : List Fetch) → IsFetching whole held name limit calls → IsFetchingPart whole held name limit calls
+part_of_all whole held name limit calls made = record {
+  named = made.named;
+  exact = λ w. by held (made.exact w);
+}
+  where
+    by : (held : Option (List ℕ)) → IfSome held (λ file. calls ≡ fetches_of name limit (length file)) → IfSome held (λ file. (k : ℕ) × (calls ≡ take k (fetches_of name limit (length file))))
+    by None e = tt
+    by (Some file) e = (length calls, begins_with calls [] (fetches_of name limit (length file)) (append-nil calls ∙ e))

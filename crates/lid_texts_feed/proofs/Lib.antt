@@ -2,3 +2,4 @@ pub mod Beginnings
 pub mod Taking
 pub mod Giving
 pub mod Rereading
+pub mod Calling

@@ -1,11 +1,13 @@
 -- Rows texts that are fetched from a file: what a text may be, and its rows.
 use Rattle.std.specs.Prelude.{◌≡◌, ℕ, ◌+◌, ◌≤◌, Bool, List, length, take, Option, IfSome, Ok, Err, ⊤}
 use Rattle.std.specs.List.{AllByRecursion}
+use Rattle.lid_base.specs.declared.outside.Fetch.{Fetch}
+use Rattle.lid_base_io.specs.Calls.{IsFetching, IsFetchingPart}
 use Rattle.lid_texts.specs.declared.rows.Rows.{Rows}
 use Rattle.lid_texts.specs.declared.rows.VecFault.{VecFault}
 use Rattle.lid_texts.specs.Rows.{rows_reading}
 use Rattle.lid_texts_feed.specs.declared.fault.FeedFault.{FeedFault}
-use Rattle.lid_texts_feed.specs.declared.fault.FeedFault.TheVariants.{Read, Refused}
+use Rattle.lid_texts_feed.specs.declared.fault.FeedFault.TheVariants.{Read, Memory, Refused}
 
 -- the greatest size of a rows text, in bytes
 abbrev pub most_bytes : ℕ
@@ -50,3 +52,14 @@ IfRead Rises _ = ⊤
 abbrev pub IfRefused : (VecFault → Type 0) → FeedFault → Type 0
 IfRefused Refuses (Refused fault) = Refuses fault
 IfRefused Refuses _ = ⊤
+
+-- the fetches of a text that stands for no rows: all of them where it is refused, and otherwise some first ones
+abbrev pub IsFetchedFor : Bool → Option (List ℕ) → List ℕ → FeedFault → List Fetch → Type 0
+IsFetchedFor whole held name Read calls = IsFetchingPart whole held name most_bytes calls
+IsFetchedFor whole held name Memory calls = IsFetchingPart whole held name most_bytes calls
+IsFetchedFor whole held name (Refused fault) calls = IsFetching whole held name most_bytes calls
+
+-- but where a fetch failed no count rose
+abbrev pub UnlessRead : Type 0 → FeedFault → Type 0
+UnlessRead IsStill Read = ⊤
+UnlessRead IsStill _ = IsStill

@@ -1,6 +1,8 @@
 -- What is kept between the pieces of a rows text. This serves the code of this crate, and its callers'
 -- invariants.
-use Rattle.std.specs.Prelude.{◌≡◌, ℕ, ◌+◌, ◌-◌, ◌≤◌, Bool, false, List, ◌∷◌, [], ◌++◌, length, take, reverse, Option, Some, None, IfSome}
+use Rattle.std.specs.Prelude.{◌≡◌, ℕ, ◌+◌, ◌-◌, ◌≤◌, Bool, true, false, List, ◌∷◌, [], ◌++◌, length, take, reverse, Option, Some, None, IfSome}
+use Rattle.lid_base.specs.declared.outside.Fetch.{Fetch}
+use Rattle.lid_base_io.specs.Calls.{CameAs, IsGoing, IsFetching, IsFetchingPart}
 use Rattle.lid_base_io.specs.Transfer.{FetchedNext}
 use Rattle.lid_base_io.specs.declared.fetching.FetchFault.{FetchFault}
 use Rattle.lid_base_io.specs.declared.fetching.FetchFault.TheVariants as fetching
@@ -48,6 +50,20 @@ pub record TakesPiece (held : Option (List ℕ)) (columns : List (List ℕ)) (ou
 abbrev pub Knows : Option (List ℕ) → List (List ℕ) → ℕ → TextScan → Option ℕ → List (List Bool) → Type 0
 Knows held columns outs text None rows = (bytes : List ℕ) × HasFetched held columns outs text bytes × (rows ≡ ended_rows columns outs bytes)
 Knows held columns outs text (Some n) rows = AreAll held columns outs rows × (n ≡ length rows)
+
+-- the fetches so far, of which the next one comes from this place; or all of them, once the text has ended
+abbrev pub CameSo : Bool → Option (List ℕ) → List ℕ → ℕ → Option (List Fetch) → Option (List Fetch) → Bool → Type 0
+CameSo whole held name at first now true = CameAs first now (IsGoing whole held name most_bytes at)
+CameSo whole held name at first now false = CameAs first now (IsFetching whole held name most_bytes)
+
+-- the same by whether it has been found how many rows the text has
+abbrev pub CameTo : Bool → Option (List ℕ) → List ℕ → ℕ → Option (List Fetch) → Option (List Fetch) → Option ℕ → Type 0
+CameTo whole held name at first now None = CameAs first now (IsGoing whole held name most_bytes at)
+CameTo whole held name at first now (Some n) = CameAs first now (IsFetching whole held name most_bytes)
+
+-- some first fetches of the text
+abbrev pub CameInPart : Bool → Option (List ℕ) → List ℕ → Option (List Fetch) → Option (List Fetch) → Type 0
+CameInPart whole held name first now = CameAs first now (IsFetchingPart whole held name most_bytes)
 
 -- further rows of the text became known, and were appended
 pub record KnowsMore (held : Option (List ℕ)) (columns : List (List ℕ)) (outs : ℕ) (new : TextScan) (known before now : List (List Bool)) : Type 0 where

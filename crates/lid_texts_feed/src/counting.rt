@@ -1,9 +1,11 @@
 //! How many rows a file has.
 
-ghost use Rattle.std.specs.Prelude.{◌≡◌, ℕ, ◌≤◌, Bool, List, IfOk, IfErr};
+ghost use Rattle.std.specs.Prelude.{◌≡◌, ℕ, ◌≤◌, Bool, List, Option, IfOk, IfErr, OnOk};
+ghost use Rattle.lid_base.specs.declared.outside.Fetch.{Fetch};
 ghost use Rattle.lid_base.specs.Outside.{Rose};
-ghost use Rattle.lid_texts_feed.specs.Feeds.{HasRows, IsRefusedText, IfRead, IfRefused};
-ghost use Rattle.lid_texts_feed.specs.Fetching.{Knows};
+ghost use Rattle.lid_base_io.specs.Calls.{CameAs, IsFetching};
+ghost use Rattle.lid_texts_feed.specs.Feeds.{most_bytes, HasRows, IsRefusedText, IfRead, IfRefused, IsFetchedFor, UnlessRead};
+ghost use Rattle.lid_texts_feed.specs.Fetching.{CameTo, Knows};
 
 use crate::fault::FeedFault;
 use crate::text::TextScan;
@@ -16,6 +18,14 @@ fn count_all<S: Shelf>(text: &mut TextScan, shelf: &mut S, name: &str) -> Result
         → IfOk result (HasRows (S.held shelf.old name.now) columns outs) }
     ensures refused { (columns : List (List ℕ)) (outs : ℕ) (known : List (List Bool)) → Knows (S.held shelf.old name.now) columns outs text.old text.old.count known
         → IfErr result (IfRefused (IsRefusedText (S.held shelf.old name.now) columns outs)) }
+    ensures came { (columns : List (List ℕ)) (outs : ℕ) (known : List (List Bool)) (first : Option (List Fetch)) → Knows (S.held shelf.old name.now) columns outs text.old text.old.count known
+        → CameTo S.whole (S.held shelf.old name.now) name.now text.old.fetched first (S.fetches shelf.old) text.old.count
+        → OnOk result (CameAs first (S.fetches shelf.new) (IsFetching S.whole (S.held shelf.old name.now) name.now most_bytes)) }
+    ensures begun { (columns : List (List ℕ)) (outs : ℕ) (known : List (List Bool)) (first : Option (List Fetch)) → Knows (S.held shelf.old name.now) columns outs text.old text.old.count known
+        → CameTo S.whole (S.held shelf.old name.now) name.now text.old.fetched first (S.fetches shelf.old) text.old.count
+        → IfErr result (λ e. CameAs first (S.fetches shelf.new) (IsFetchedFor S.whole (S.held shelf.old name.now) name.now e)) }
+    ensures still { OnOk result ((q : List ℕ) → S.faults shelf.new q ≡ S.faults shelf.old q) }
+    ensures wanting { IfErr result (UnlessRead ((q : List ℕ) → S.faults shelf.new q ≡ S.faults shelf.old q)) }
     ensures failed { IfErr result (IfRead (Rose (S.faults shelf.old name.now) (S.faults shelf.new name.now))) }
     ensures kept { S.held shelf.new ≡ S.held shelf.old }
     ensures grows { (q : List ℕ) → S.faults shelf.old q ≤ S.faults shelf.new q }
@@ -49,10 +59,16 @@ pub fn count_rows<S: Shelf>(
 ) -> Result<u64, FeedFault>
     ensures counted { IfOk result (HasRows (S.held shelf.old name.now) columns.now outs) }
     ensures refused { IfErr result (IfRefused (IsRefusedText (S.held shelf.old name.now) columns.now outs)) }
+    ensures came { OnOk result (CameAs (S.fetches shelf.old) (S.fetches shelf.new) (IsFetching S.whole (S.held shelf.old name.now) name.now most_bytes)) }
+    ensures begun { IfErr result (λ e. CameAs (S.fetches shelf.old) (S.fetches shelf.new) (IsFetchedFor S.whole (S.held shelf.old name.now) name.now e)) }
+    ensures still { OnOk result ((q : List ℕ) → S.faults shelf.new q ≡ S.faults shelf.old q) }
+    ensures wanting { IfErr result (UnlessRead ((q : List ℕ) → S.faults shelf.new q ≡ S.faults shelf.old q)) }
     ensures failed { IfErr result (IfRead (Rose (S.faults shelf.old name.now) (S.faults shelf.new name.now))) }
     ensures kept { S.held shelf.new ≡ S.held shelf.old }
     ensures grows { (q : List ℕ) → S.faults shelf.old q ≤ S.faults shelf.new q }
 {
-    let mut text = TextScan::start(alloc, columns, outs)?;
+    let Ok(mut text) = TextScan::start(alloc, columns, outs) else {
+        return Err(FeedFault::Memory);
+    };
     count_all(&mut text, shelf, name)
 }

@@ -2,8 +2,10 @@
 
 ghost use Rattle.std.specs.Prelude.{◌≡◌, ℕ, ◌≤◌, ◌<◌, Bool, List, [], length, Option, None, IfOk, IfErr, OnOk};
 ghost use Rattle.lid_base.specs.Outside.{Rose};
-ghost use Rattle.lid_texts_feed.specs.Feeds.{IsRefusedText, IfRead, IfRefused};
-ghost use Rattle.lid_texts_feed.specs.Fetching.{HasGiven, GivesNext, left_of};
+ghost use Rattle.lid_base.specs.declared.outside.Fetch.{Fetch};
+ghost use Rattle.lid_base_io.specs.Calls.{CameAs};
+ghost use Rattle.lid_texts_feed.specs.Feeds.{IsRefusedText, IfRead, IfRefused, IsFetchedFor, UnlessRead};
+ghost use Rattle.lid_texts_feed.specs.Fetching.{HasGiven, GivesNext, CameTo, left_of};
 
 use crate::fault::FeedFault;
 use crate::text::TextScan;
@@ -35,6 +37,7 @@ impl RowFeed {
     ) -> Result<RowFeed, AllocError>
         ensures given { (held : Option (List ℕ)) → IfOk result (λ feed. HasGiven held columns.now outs feed []) }
         ensures name { IfOk result (λ feed. feed.name ≡ name.now) }
+        ensures came { (whole : Bool) (held : Option (List ℕ)) (first : Option (List Fetch)) → IfOk result (λ feed. CameTo whole held name.now feed.text.fetched first first feed.text.count) }
     {
         Ok(RowFeed {
             name: Text::new(String::from_str(alloc, name)?),
@@ -52,6 +55,16 @@ impl RowFeed {
             → HasGiven (S.held shelf.old self.old.name) columns outs self.old given
             → IfErr result (IfRefused (IsRefusedText (S.held shelf.old self.old.name) columns outs)) }
         ensures less { self.old.text.count ≡ None → OnOk result (left_of self.new.text self.new.text.count < left_of self.old.text self.old.text.count) }
+        ensures came { (columns : List (List ℕ)) (outs : ℕ) (given : List (List Bool)) (first : Option (List Fetch)) → self.old.text.count ≡ None
+            → HasGiven (S.held shelf.old self.old.name) columns outs self.old given
+            → CameTo S.whole (S.held shelf.old self.old.name) self.old.name self.old.text.fetched first (S.fetches shelf.old) self.old.text.count
+            → OnOk result (CameTo S.whole (S.held shelf.old self.old.name) self.old.name self.new.text.fetched first (S.fetches shelf.new) self.new.text.count) }
+        ensures begun { (columns : List (List ℕ)) (outs : ℕ) (given : List (List Bool)) (first : Option (List Fetch)) → self.old.text.count ≡ None
+            → HasGiven (S.held shelf.old self.old.name) columns outs self.old given
+            → CameTo S.whole (S.held shelf.old self.old.name) self.old.name self.old.text.fetched first (S.fetches shelf.old) self.old.text.count
+            → IfErr result (λ e. CameAs first (S.fetches shelf.new) (IsFetchedFor S.whole (S.held shelf.old self.old.name) self.old.name e)) }
+        ensures still { OnOk result ((q : List ℕ) → S.faults shelf.new q ≡ S.faults shelf.old q) }
+        ensures wanting { IfErr result (UnlessRead ((q : List ℕ) → S.faults shelf.new q ≡ S.faults shelf.old q)) }
         ensures name { self.new.name ≡ self.old.name }
         ensures failed { IfErr result (IfRead (Rose (S.faults shelf.old self.old.name) (S.faults shelf.new self.old.name))) }
         ensures kept { S.held shelf.new ≡ S.held shelf.old }
@@ -81,6 +94,14 @@ impl RowFeed {
         ensures refused { (columns : List (List ℕ)) (outs : ℕ) (given : List (List Bool)) → HasGiven (S.held shelf.old self.old.name) columns outs self.old given
             → IfErr result (IfRefused (IsRefusedText (S.held shelf.old self.old.name) columns outs)) }
         ensures waits { 0 < length self.old.rows.items → shelf.new ≡ shelf.old }
+        ensures came { (columns : List (List ℕ)) (outs : ℕ) (given : List (List Bool)) (first : Option (List Fetch)) → HasGiven (S.held shelf.old self.old.name) columns outs self.old given
+            → CameTo S.whole (S.held shelf.old self.old.name) self.old.name self.old.text.fetched first (S.fetches shelf.old) self.old.text.count
+            → OnOk result (CameTo S.whole (S.held shelf.old self.old.name) self.old.name self.new.text.fetched first (S.fetches shelf.new) self.new.text.count) }
+        ensures begun { (columns : List (List ℕ)) (outs : ℕ) (given : List (List Bool)) (first : Option (List Fetch)) → HasGiven (S.held shelf.old self.old.name) columns outs self.old given
+            → CameTo S.whole (S.held shelf.old self.old.name) self.old.name self.old.text.fetched first (S.fetches shelf.old) self.old.text.count
+            → IfErr result (λ e. CameAs first (S.fetches shelf.new) (IsFetchedFor S.whole (S.held shelf.old self.old.name) self.old.name e)) }
+        ensures still { OnOk result ((q : List ℕ) → S.faults shelf.new q ≡ S.faults shelf.old q) }
+        ensures wanting { IfErr result (UnlessRead ((q : List ℕ) → S.faults shelf.new q ≡ S.faults shelf.old q)) }
         ensures name { self.new.name ≡ self.old.name }
         ensures failed { IfErr result (IfRead (Rose (S.faults shelf.old self.old.name) (S.faults shelf.new self.old.name))) }
         ensures kept { S.held shelf.new ≡ S.held shelf.old }

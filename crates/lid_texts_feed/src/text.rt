@@ -1,11 +1,13 @@
 //! A rows text that is fetched piece by piece and scanned.
 
-ghost use Rattle.std.specs.Prelude.{◌≡◌, ℕ, ◌+◌, ◌≤◌, ◌<◌, Bool, true, List, [], length, Option, None, IsSome, IfOk, IfErr, OnOk};
+ghost use Rattle.std.specs.Prelude.{◌≡◌, ℕ, ◌+◌, ◌≤◌, ◌<◌, Bool, true, List, [], length, Option, None, IsSome, IfOk, IfErr, OnOk, OnErr};
 ghost use Rattle.lid_texts.specs.Scans.{ended_rows};
-ghost use Rattle.lid_base.specs.Outside.{Rose};
+ghost use Rattle.lid_base.specs.declared.outside.Fetch.{Fetch};
+ghost use Rattle.lid_base.specs.Outside.{Rose, Came, one_fetch};
+ghost use Rattle.lid_base_io.specs.Calls.{CameAs, IsGoing};
 ghost use Rattle.lid_texts.specs.Scanned.{HasRead};
-ghost use Rattle.lid_texts_feed.specs.Feeds.{most_bytes, IsText, IsRefusedText, IfRead, IfRefused};
-ghost use Rattle.lid_texts_feed.specs.Fetching.{ScansPiece, HasFetched, TakesPiece, Knows, KnowsMore, left_of};
+ghost use Rattle.lid_texts_feed.specs.Feeds.{most_bytes, IsText, IsRefusedText, IfRead, IfRefused, IsFetchedFor, UnlessRead};
+ghost use Rattle.lid_texts_feed.specs.Fetching.{ScansPiece, HasFetched, TakesPiece, CameSo, CameTo, CameInPart, Knows, KnowsMore, left_of};
 
 use crate::fault::{FeedFault, refused, unfetched};
 use lid_base::{Items, Name, Shelf};
@@ -48,6 +50,9 @@ fn scan_piece<S: Shelf>(
     ensures within { IfOk result (λ n. n ≤ length into.old) }
     ensures columns { scan.new.columns ≡ scan.old.columns }
     ensures outs { scan.new.outs ≡ scan.old.outs }
+    ensures came { Came (S.fetches shelf.old) (S.fetches shelf.new) (one_fetch name.now at (length into.old)) }
+    ensures still { OnOk result ((q : List ℕ) → S.faults shelf.new q ≡ S.faults shelf.old q) }
+    ensures wanting { IfErr result (λ e. e ≡ FetchFault.Memory → (q : List ℕ) → S.faults shelf.new q ≡ S.faults shelf.old q) }
     ensures failed { IfErr result (λ e. e ≡ FetchFault.Read → Rose (S.faults shelf.old name.now) (S.faults shelf.new name.now)) }
     ensures kept { S.held shelf.new ≡ S.held shelf.old }
     ensures grows { (q : List ℕ) → S.faults shelf.old q ≤ S.faults shelf.new q }
@@ -65,6 +70,7 @@ impl TextScan {
     pub(crate) fn start(alloc: Global, columns: &[Name], outs: u32) -> Result<TextScan, AllocError>
         ensures knows { (held : Option (List ℕ)) → IfOk result (λ text. Knows held columns.now outs text text.count []) }
         ensures goes { IfOk result (λ text. text.count ≡ None) }
+        ensures fresh { IfOk result (λ text. text.fetched ≡ 0) }
     {
         Ok(TextScan {
             alloc,
@@ -85,6 +91,14 @@ impl TextScan {
             → IfOk result (TakesPiece (S.held shelf.old name.now) columns outs self.new bytes rows.old.items rows.new.items) }
         ensures further { IfOk result (λ more. more ≡ true → (self.old.fetched ≤ most_bytes) × (self.old.fetched < self.new.fetched)) }
         ensures count { self.new.count ≡ self.old.count }
+        ensures came { (columns : List (List ℕ)) (outs : ℕ) (bytes : List ℕ) (first : Option (List Fetch)) → HasFetched (S.held shelf.old name.now) columns outs self.old bytes
+            → CameAs first (S.fetches shelf.old) (IsGoing S.whole (S.held shelf.old name.now) name.now most_bytes (length bytes))
+            → IfOk result (CameSo S.whole (S.held shelf.old name.now) name.now self.new.fetched first (S.fetches shelf.new)) }
+        ensures begun { (columns : List (List ℕ)) (outs : ℕ) (bytes : List ℕ) (first : Option (List Fetch)) → HasFetched (S.held shelf.old name.now) columns outs self.old bytes
+            → CameAs first (S.fetches shelf.old) (IsGoing S.whole (S.held shelf.old name.now) name.now most_bytes (length bytes))
+            → OnErr result (CameInPart S.whole (S.held shelf.old name.now) name.now first (S.fetches shelf.new)) }
+        ensures still { OnOk result ((q : List ℕ) → S.faults shelf.new q ≡ S.faults shelf.old q) }
+        ensures wanting { IfErr result (λ e. e ≡ FetchFault.Memory → (q : List ℕ) → S.faults shelf.new q ≡ S.faults shelf.old q) }
         ensures failed { IfErr result (λ e. e ≡ FetchFault.Read → Rose (S.faults shelf.old name.now) (S.faults shelf.new name.now)) }
         ensures kept { S.held shelf.new ≡ S.held shelf.old }
         ensures grows { (q : List ℕ) → S.faults shelf.old q ≤ S.faults shelf.new q }
@@ -137,6 +151,16 @@ impl TextScan {
             → Knows (S.held shelf.old name.now) columns outs self.old self.old.count known
             → IfErr result (IfRefused (IsRefusedText (S.held shelf.old name.now) columns outs)) }
         ensures less { self.old.count ≡ None → OnOk result (left_of self.new self.new.count < left_of self.old self.old.count) }
+        ensures came { (columns : List (List ℕ)) (outs : ℕ) (known : List (List Bool)) (first : Option (List Fetch)) → self.old.count ≡ None
+            → Knows (S.held shelf.old name.now) columns outs self.old self.old.count known
+            → CameTo S.whole (S.held shelf.old name.now) name.now self.old.fetched first (S.fetches shelf.old) self.old.count
+            → OnOk result (CameTo S.whole (S.held shelf.old name.now) name.now self.new.fetched first (S.fetches shelf.new) self.new.count) }
+        ensures begun { (columns : List (List ℕ)) (outs : ℕ) (known : List (List Bool)) (first : Option (List Fetch)) → self.old.count ≡ None
+            → Knows (S.held shelf.old name.now) columns outs self.old self.old.count known
+            → CameTo S.whole (S.held shelf.old name.now) name.now self.old.fetched first (S.fetches shelf.old) self.old.count
+            → IfErr result (λ e. CameAs first (S.fetches shelf.new) (IsFetchedFor S.whole (S.held shelf.old name.now) name.now e)) }
+        ensures still { OnOk result ((q : List ℕ) → S.faults shelf.new q ≡ S.faults shelf.old q) }
+        ensures wanting { IfErr result (UnlessRead ((q : List ℕ) → S.faults shelf.new q ≡ S.faults shelf.old q)) }
         ensures failed { IfErr result (IfRead (Rose (S.faults shelf.old name.now) (S.faults shelf.new name.now))) }
         ensures kept { S.held shelf.new ≡ S.held shelf.old }
         ensures grows { (q : List ℕ) → S.faults shelf.old q ≤ S.faults shelf.new q }

@@ -1,7 +1,9 @@
-use Rattle.std.proofs.Common.{◌≡◌, ◌∙◌, ◌==◌, ℕ, true, false, List, length, Option, refl, sym, ap, subst}
+use Rattle.std.proofs.Common.{◌≡◌, [], arith, ◌∙◌, ◌==◌, ℕ, true, false, List, length, Option, refl, sym, ap, subst}
 use Rattle.std.specs.Vec.{vec_len}
-use Rattle.lid_texts_feed.specs.Feeds.{IsRefusedText, IfRefused}
-use Rattle.lid_texts_feed.specs.Fetching.{HasGiven}
+use Rattle.lid_base_io.specs.Calls.{CameAs}
+use Rattle.lid_texts_feed.specs.Feeds.{IsRefusedText, IfRefused, IsFetchedFor}
+use Rattle.lid_texts_feed.specs.Fetching.{CameTo, HasGiven}
+use Rattle.lid_texts_feed.proofs.Calling.{unless_later, elsewhere}
 use Rattle.lid_texts_feed.proofs.Giving.{nothing_held, nothing_taken, gives_next}
 use Rattle.lid_texts_feed.proofs.feed.RowFeed.next.Goals as goal
 use Rattle.lid_texts_feed.proofs.feed.RowFeed.next.Goals.{then-loop-self-test+else-is_none, else-loop-self-test}
@@ -32,3 +34,52 @@ returns-clause-given g c = λ columns outs given has.
           cc)
     ])
     (c.loop-self.invariant.given columns outs given has)
+
+pub returns-in-Err-clause-begun : goal.returns-in-Err-clause-begun
+returns-in-Err-clause-begun g c = λ columns outs given first has so.
+    let l = c.loop-self in
+    let same : g.S.Shelf.held l.shelf l.self.name ≡ g.S.Shelf.held c.args.shelf.now c.args.self.now.name =
+    ap (λ (h : List ℕ → Option (List ℕ)). h l.self.name) l.invariant.kept ∙ ap (g.S.Shelf.held c.args.shelf.now) l.invariant.name in
+    elsewhere (λ h n. CameAs first (g.S.Shelf.fetches c.fill.new.shelf) (IsFetchedFor g.S.Shelf.whole h n c.in-Err.fault)) same l.invariant.name
+    (c.in-Err.ensures.begun columns outs given first (none_of l.self.text.count c.if-is_none.ensures)
+    (subst (λ (o : Option (List ℕ)). HasGiven o columns outs l.self given) (sym same) (l.invariant.given columns outs given has))
+    (elsewhere (λ h n. CameTo g.S.Shelf.whole h n l.self.text.fetched first (g.S.Shelf.fetches l.shelf) l.self.text.count) (sym same) (sym l.invariant.name) (l.invariant.came columns outs given first has so)))
+
+pub returns-in-Err-clause-wanting : goal.returns-in-Err-clause-wanting
+returns-in-Err-clause-wanting g c = unless_later (λ still q. still q ∙ c.loop-self.invariant.still q) c.in-Err.fault c.in-Err.ensures.wanting
+
+pub returns-clause-came : goal.returns-clause-came
+returns-clause-came g c = c.loop-self.invariant.came
+
+pub returns-clause-still : goal.returns-clause-still
+returns-clause-still g c = c.loop-self.invariant.still
+
+pub loop-self-preserved : goal.loop-self-preserved
+loop-self-preserved g c =
+    let l = c.loop-self in
+    let whole = g.S.Shelf.whole in
+    let new = c.fill.new.self in
+    let filled = c.in_default.ensures in
+    let none = none_of l.self.text.count c.if-is_none.ensures in
+    let empty : l.self.rows.items ≡ [] = sym c.as_slice.ensures.value ∙ nothing_held c.as_slice.result.now c.loop-self-test.ensures in
+    let same : g.S.Shelf.held l.shelf l.self.name ≡ g.S.Shelf.held c.args.shelf.now c.args.self.now.name =
+    ap (λ (h : List ℕ → Option (List ℕ)). h l.self.name) l.invariant.kept ∙ ap (g.S.Shelf.held c.args.shelf.now) l.invariant.name in
+    record {
+      given = λ columns outs given has.
+          subst (λ (o : Option (List ℕ)). HasGiven o columns outs new given) same
+          (filled.given columns outs given none empty (subst (λ (o : Option (List ℕ)). HasGiven o columns outs l.self given) (sym same) (l.invariant.given columns outs given has)));
+      came = λ columns outs given first has so.
+          elsewhere (λ h n. CameTo whole h n new.text.fetched first (g.S.Shelf.fetches c.fill.new.shelf) new.text.count) same l.invariant.name
+          (filled.came columns outs given first none
+          (subst (λ (o : Option (List ℕ)). HasGiven o columns outs l.self given) (sym same) (l.invariant.given columns outs given has))
+          (elsewhere (λ h n. CameTo whole h n l.self.text.fetched first (g.S.Shelf.fetches l.shelf) l.self.text.count) (sym same) (sym l.invariant.name) (l.invariant.came columns outs given first has so)));
+      still = λ q. filled.still q ∙ l.invariant.still q;
+      waits = λ some. absurd (
+          let w = l.invariant.waits some in
+          let none : length l.self.rows.items ≡ 0 = ap length empty in
+          let same : length l.self.rows.items ≡ length c.args.self.now.rows.items = ap length w.0 in
+          omega (arith, some, none, same));
+      name = filled.name ∙ l.invariant.name;
+      kept = filled.kept ∙ l.invariant.kept;
+      grows = λ q. let before = l.invariant.grows q in let after = filled.grows q in omega (arith, before, after);
+    }
