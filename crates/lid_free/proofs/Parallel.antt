@@ -20,9 +20,10 @@ use Rattle.lid_shell.specs.Steps.{Works}
 use Rattle.lid_walk.specs.Actors.{AreActors}
 use Rattle.lid_free_crew.specs.declared.worker.Worker.{Worker}
 use Rattle.lid_free_crew.specs.Posts.{known, resting, AgreesAt}
-use Rattle.lid_free_crew.specs.Tallies.{fired_by, done_among}
+use Rattle.lid_free_crew.specs.Tallies.{fired_by, done_among, firings_of_done}
 use Rattle.lid_free_crew.specs.Turns.{HasMadeTurns}
 use Rattle.lid_free_crew.proofs.Misses.{held_there}
+use Rattle.lid_free_crew.proofs.Rounding.{fired_since_none}
 use Rattle.lid_free_crew.proofs.Sums.{sum_none}
 use Rattle.lid_free_crew.specs.Shares.{is_own, share, numbers_of, holder}
 use Rattle.lid_free_crew.specs.Crews.{HasWorked, HaveWorked}
@@ -156,9 +157,16 @@ module _ (m : Setup) (board : Board) (workers : ℕ) (owners : List ℕ) (before
       let done_all = ap done_among (sym (shares i p.new p.at_new))
       ∙ sum_new (λ a. cond (a.desk.fired == a.desk.cap) 1 0) (λ v. cond (get_or (fired_of actors) v 0 == cap (plan m) v) 1 0) i
       (λ v b at_b. ap (λ (n : ℕ). cond (n == b.desk.cap) 1 0) (sym (fired_read actors v b at_b)) ∙ ap (λ (n : ℕ). cond (get_or (fired_of actors) v 0 == n) 1 0) (cap_read v b at_b)) in
+      let fired_done = fired_since_none p.old.actors.items p.new.actors.items p.did.gone.many before_none
+      ∙ ap (sum_by (λ (a : Actor). cond (a.desk.fired == a.desk.cap) a.desk.fired 0)) (sym (shares i p.new p.at_new))
+      ∙ sum_new (λ a. cond (a.desk.fired == a.desk.cap) a.desk.fired 0) (λ v. cond (get_or (fired_of actors) v 0 == cap (plan m) v) (get_or (fired_of actors) v 0) 0) i
+      (λ v b at_b. ap (λ (n : ℕ). cond (n == b.desk.cap) n 0) (sym (fired_read actors v b at_b))
+      ∙ ap (λ (n : ℕ). cond (get_or (fired_of actors) v 0 == n) (get_or (fired_of actors) v 0) 0) (cap_read v b at_b)) in
       record {
         turns_are = t.turns_are ∙ ap (λ (n : ℕ). made * n) many;
         fired_are = (let f = t.fired_are in omega (arith, f, before_none, after_all));
         adds_up = t.adds_up;
-        dones_most = subst (λ (n : ℕ). p.new.tally.dones ≤ made * n) done_all t.dones_most;
+        dones_most =
+            subst (λ (n : ℕ). p.new.tally.dones + n ≤ made * sum_by (λ v. cond (get_or (fired_of actors) v 0 == cap (plan m) v) 1 0) (numbers_of workers i (actors_of (plan m)))) fired_done
+            (subst (λ (n : ℕ). p.new.tally.dones + firings_of_done p.old.actors.items p.new.actors.items ≤ made * n) done_all t.dones_most);
       }

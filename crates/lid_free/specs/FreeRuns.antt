@@ -22,12 +22,14 @@ abbrev pub rounds_made : Plan → ℕ → ℕ
 rounds_made m rounds = cond (m.rows == 0) 0 rounds
 
 -- the tally of worker i, by how often each actor fired in the parallel phase: the turns of its actors, of which as
--- many fired as these did, and not more ended at the cap than those at their caps may have made
+-- many fired as these did, and not more ended at the cap than those at their caps made beside their firings
 pub record IsShareTally (m : Plan) (workers made : ℕ) (fired : List ℕ) (i : ℕ) (t : Tally) : Type 0 where
   pub turns_are : t.turns ≡ made * length (numbers_of workers i (actors_of m))
   pub fired_are : t.fired ≡ sum_by (λ v. get_or fired v 0) (numbers_of workers i (actors_of m))
   pub adds_up : AddsUp t
-  pub dones_most : t.dones ≤ made * sum_by (λ v. cond (get_or fired v 0 == cap m v) 1 0) (numbers_of workers i (actors_of m))
+  pub dones_most :
+      t.dones + sum_by (λ v. cond (get_or fired v 0 == cap m v) (get_or fired v 0) 0) (numbers_of workers i (actors_of m))
+      ≤ made * sum_by (λ v. cond (get_or fired v 0 == cap m v) 1 0) (numbers_of workers i (actors_of m))
 
 -- how often actors fired, and how many tokens were taken from stations, in the parallel phase: no actor fired beyond
 -- its cap, each station was left by as many tokens as its drainer fired, and it holds 0 to its capacity

@@ -121,7 +121,7 @@ module _ (m : Setup) (v fired : ℕ) where
 not_at_cap : (a : Actor) → a.desk.fired < a.desk.cap → at_cap a ≡ 0
 not_at_cap a low = ap (λ (b : Bool). cond b 1 0) (ne_eqb a.desk.fired a.desk.cap (λ e. omega (arith, e, low)))
 
-is_at_cap : (a : Actor) → a.desk.fired ≡ a.desk.cap → at_cap a ≡ 1
+pub is_at_cap : (a : Actor) → a.desk.fired ≡ a.desk.cap → at_cap a ≡ 1
 is_at_cap a is = ap (λ (b : Bool). cond b 1 0) (eq-eqb a.desk.fired a.desk.cap is)
 
 -- a turn of an actor, by what its contract says
@@ -212,6 +212,7 @@ module _ (board : Board) (before now : Ends) (then_stands : (ℕ → List ℕ) �
         fills = fills_is m v fired w;
         capped = capped_is m v fired w;
         grows = omega (arith, fires);
+        often = omega (arith, four, fires);
         agrees = agrees_is;
         below = λ low. let late = done_is m v fired w end refl in omega (arith, four, fires, misses, late, not_at_cap b low);
         most = omega (arith, four, fires, misses);

@@ -1,5 +1,5 @@
 -- Turns one after another: how many each actor has made, and what was counted.
-use Rattle.std.proofs.Common.{◌≡◌, ℕ, zero, suc, ◌+◌, ◌*◌, ◌<◌, ◌≤◌, ◌==◌, nat_lt, inl, inr, Bool, true, false, cond, List, [], ◌∷◌, length, set, refl, sym, ◌∙◌, ap, subst, arith, length-set, eq-eqb, lt-ltb, le-ltb}
+use Rattle.std.proofs.Common.{◌≡◌, ℕ, zero, suc, ◌+◌, ◌-◌, ◌*◌, ◌<◌, ◌≤◌, ◌==◌, nat_lt, inl, inr, Bool, true, false, cond, List, [], ◌∷◌, length, set, refl, sym, ◌∙◌, ap, subst, arith, length-set, eq-eqb, lt-ltb, le-ltb}
 use Rattle.std.specs.Prelude.{Some, slice_get}
 use Rattle.std.specs.List.{sum_by}
 use Rattle.std.proofs.lemmas.List.Sums.{sum_by-cons, sum_by-set}
@@ -19,12 +19,13 @@ use Rattle.lid_shell.specs.declared.actor.Actor.{Actor}
 use Rattle.lid_shell.specs.Boards.{Agrees}
 use Rattle.lid_shell.specs.Steps.{IsOwn}
 use Rattle.lid_shell.specs.declared.turn.TurnEnd.{TurnEnd}
+use Rattle.lid_shell.specs.declared.turn.TurnEnd.TheVariants.{Done}
 use Rattle.lid_free_crew.specs.Posts.{resting, IsEndOf, AreApart, KeepsEnds}
-use Rattle.lid_free_crew.specs.Tallies.{AddsUp, counted, fired_one, done_one, misses_in, misses_at, misses_of, fired_by, done_among}
+use Rattle.lid_free_crew.specs.Tallies.{AddsUp, counted, fired_one, done_one, misses_in, misses_at, misses_of, fired_by, done_among, firings_of_done}
 use Rattle.lid_free_crew.specs.Turns.{HasMadeTurns}
 use Rattle.lid_free_crew.specs.Order.{at_cap, EndsTurn}
 use Rattle.lid_free_crew.specs.Rounds.{done_turns, Made}
-use Rattle.lid_free_crew.proofs.Making.{one_of_four}
+use Rattle.lid_free_crew.proofs.Making.{one_of_four, is_at_cap}
 use Rattle.lid_base.proofs.Places.{set_here, set_there, item_at}
 
 -- sums of the same parts
@@ -63,6 +64,7 @@ gone_none board ends a = record {
   fills = refl;
   capped = refl;
   grows = omega arith;
+  often = omega arith;
   agrees = λ m v w. w;
   below = λ low. omega arith;
   most = omega arith;
@@ -78,6 +80,7 @@ gone_more board n first before now c a b so one =
       fills = one.fills ∙ so.fills;
       capped = one.capped ∙ so.capped;
       grows = omega (arith, one.grows, so.grows);
+      often = omega (arith, one.often, so.often);
       agrees = λ m v w. one.agrees m v (so.agrees m v w);
       below = λ low. omega (arith, one.below low, so.below (omega (arith, low, grows, capped)));
       most = omega (arith, one.most, so.most);
@@ -92,6 +95,7 @@ gone_stays board n first before now c d so stay =
       fills = so.fills;
       capped = so.capped;
       grows = so.grows;
+      often = so.often;
       agrees = λ m v w.
           let then_ = so.agrees m v w in
           record {
@@ -111,34 +115,77 @@ done_as turns next (a ∷ actors) same =
     let here = ap (λ (n : ℕ). cond (a.desk.fired == a.desk.cap) n 0) (same 0 (omega arith)) in
     omega (arith, later, here)
 
-one_done : (was is : Bool) (n d : ℕ) → (was ≡ true → is ≡ true) → d ≤ cond is 1 0 → cond was n 0 + d ≤ cond is (n + 1) 0
-one_done true true n d stays late = omega (arith, late)
-one_done true false n d stays late = absurd (let e = stays refl in cc)
-one_done false true n d stays late = omega (arith, late)
-one_done false false n d stays late = omega (arith, late)
+-- one turn of an actor that had fired g times, from f0 times on, where it has fired f times after it
+one_done : (was is : Bool) (n d f0 g f : ℕ) → (was ≡ true → is ≡ true) → (was ≡ true → f ≡ g) → d ≤ cond was 1 0 → f ≤ f0 + (n + 1)
+    → cond was n 0 + d + cond is (f - f0) 0 ≤ cond is (n + 1) 0 + cond was (g - f0) 0
+one_done true true n d f0 g f stays rests late few = omega (arith, late, ap (λ (x : ℕ). x - f0) (rests refl))
+one_done true false n d f0 g f stays rests late few = absurd (let e = stays refl in cc)
+one_done false true n d f0 g f stays rests late few = omega (arith, late, few)
+one_done false false n d f0 g f stays rests late few = omega (arith, late)
 
-done_head : (a b : Actor) (n d : ℕ) → (a.desk.fired ≡ a.desk.cap → b.desk.fired ≡ b.desk.cap) → d ≤ at_cap b
-    → cond (a.desk.fired == a.desk.cap) n 0 + d ≤ cond (b.desk.fired == b.desk.cap) (n + 1) 0
-done_head a b n d stays late =
-    one_done (a.desk.fired == a.desk.cap) (b.desk.fired == b.desk.cap) n d (λ is. eq-eqb b.desk.fired b.desk.cap (stays (eqb-true a.desk.fired a.desk.cap is))) late
+-- what a turn of actor a, which becomes b, needs to be counted well, where it was c at first
+record IsCounted (c a b : Actor) (n d : ℕ) : Type 0 where
+  stays : a.desk.fired ≡ a.desk.cap → b.desk.fired ≡ b.desk.cap
+  rests : a.desk.fired ≡ a.desk.cap → b.desk.fired ≡ a.desk.fired
+  late : d ≤ at_cap a
+  few : b.desk.fired ≤ c.desk.fired + (n + 1)
 
-done_more : (turns next : ℕ → ℕ) (olds : List Actor) (k d : ℕ) (a b : Actor) → slice_get olds k ≡ Some a
+done_head : (c a b : Actor) (n d : ℕ) → IsCounted c a b n d
+    → cond (a.desk.fired == a.desk.cap) n 0 + d + cond (b.desk.fired == b.desk.cap) (b.desk.fired - c.desk.fired) 0
+    ≤ cond (b.desk.fired == b.desk.cap) (n + 1) 0 + cond (a.desk.fired == a.desk.cap) (a.desk.fired - c.desk.fired) 0
+done_head c a b n d counted =
+    one_done (a.desk.fired == a.desk.cap) (b.desk.fired == b.desk.cap) n d c.desk.fired a.desk.fired b.desk.fired
+    (λ is. eq-eqb b.desk.fired b.desk.cap (counted.stays (eqb-true a.desk.fired a.desk.cap is)))
+    (λ is. counted.rests (eqb-true a.desk.fired a.desk.cap is))
+    counted.late counted.few
+
+done_more : (turns next : ℕ → ℕ) (firsts olds : List Actor) (k d : ℕ) (c a b : Actor) → slice_get firsts k ≡ Some c → slice_get olds k ≡ Some a
     → next k ≡ turns k + 1 → ((i : ℕ) → (i ≡ k → ⊥) → next i ≡ turns i)
-    → (a.desk.fired ≡ a.desk.cap → b.desk.fired ≡ b.desk.cap) → d ≤ at_cap b
-    → done_turns turns olds + d ≤ done_turns next (set olds k b)
-done_more turns next [] k d a b at here other stays late = absurd (cc)
-done_more turns next (x ∷ olds) zero d a b at here other stays late =
+    → IsCounted c a b (turns k) d
+    → done_turns turns olds + d + firings_of_done firsts (set olds k b) ≤ done_turns next (set olds k b) + firings_of_done firsts olds
+done_more turns next [] olds k d c a b at_c at here other counted = absurd (cc)
+done_more turns next (y ∷ firsts) [] k d c a b at_c at here other counted = absurd (cc)
+done_more turns next (y ∷ firsts) (x ∷ olds) zero d c a b at_c at here other counted =
     let later = done_as (λ i. turns (i + 1)) (λ i. next (i + 1)) olds (λ i within. sym (other (i + 1) (λ e. omega (arith, e)))) in
-    let head = done_head a b (turns 0) d stays late in
-    let same = ap (λ (y : Actor). cond (y.desk.fired == y.desk.cap) (turns 0) 0) (same_Some x a at) in
+    let head = done_head c a b (turns 0) d counted in
+    let is_a = same_Some x a at in
+    let is_c = same_Some y c at_c in
+    let same = ap (λ (z : Actor). cond (z.desk.fired == z.desk.cap) (turns 0) 0) is_a in
+    let old = ap (λ (z : Actor). cond (z.desk.fired == z.desk.cap) (z.desk.fired - y.desk.fired) 0) is_a
+    ∙ ap (λ (z : Actor). cond (a.desk.fired == a.desk.cap) (a.desk.fired - z.desk.fired) 0) is_c in
+    let new = ap (λ (z : Actor). cond (b.desk.fired == b.desk.cap) (b.desk.fired - z.desk.fired) 0) is_c in
     let first = ap (λ (n : ℕ). cond (b.desk.fired == b.desk.cap) n 0) here in
-    omega (arith, later, head, same, first)
-done_more turns next (x ∷ olds) (suc k) d a b at here other stays late =
+    omega (arith, later, head, same, old, new, first)
+done_more turns next (y ∷ firsts) (x ∷ olds) (suc k) d c a b at_c at here other counted =
     let s : k + 1 ≡ suc k = omega arith in
     let here_ = ap next s ∙ here ∙ ap (λ (n : ℕ). turns n + 1) (sym s) in
-    let later = done_more (λ i. turns (i + 1)) (λ i. next (i + 1)) olds k d a b at here_ (λ i not_k. other (i + 1) (λ e. not_k (omega (arith, e)))) stays late in
+    let counted_ = subst (λ (n : ℕ). IsCounted c a b (turns n) d) (sym s) counted in
+    let later = done_more (λ i. turns (i + 1)) (λ i. next (i + 1)) firsts olds k d c a b at_c at here_ (λ i not_k. other (i + 1) (λ e. not_k (omega (arith, e)))) counted_ in
     let first = ap (λ (n : ℕ). cond (x.desk.fired == x.desk.cap) n 0) (other 0 (λ e. omega (arith, e))) in
     omega (arith, later, first)
+
+none_since : (b : Bool) (n : ℕ) → cond b (n - n) 0 ≡ 0
+none_since true n = omega arith
+none_since false n = refl
+
+-- since now nobody has fired
+none_fired_since : (actors : List Actor) → firings_of_done actors actors ≡ 0
+none_fired_since [] = refl
+none_fired_since (a ∷ actors) = omega (arith, none_since (a.desk.fired == a.desk.cap) a.desk.fired, none_fired_since actors)
+
+-- where nobody had fired before
+pub fired_since_none : (olds news : List Actor) → length news ≡ length olds → fired_by olds ≡ 0
+    → firings_of_done olds news ≡ sum_by (λ b. cond (b.desk.fired == b.desk.cap) b.desk.fired 0) news
+fired_since_none [] [] long none = refl
+fired_since_none [] (b ∷ news) long none = absurd (omega (arith, long))
+fired_since_none (a ∷ olds) [] long none = absurd (omega (arith, long))
+fired_since_none (a ∷ olds) (b ∷ news) long none =
+    let whole = sum_by-cons (λ (x : Actor). x.desk.fired) a olds in
+    let later = fired_since_none olds news (omega (arith, long)) (omega (arith, whole, none)) in
+    let zero_first : a.desk.fired ≡ 0 = omega (arith, whole, none) in
+    let all : b.desk.fired - a.desk.fired ≡ b.desk.fired = omega (arith, zero_first) in
+    let here = ap (λ (n : ℕ). cond (b.desk.fired == b.desk.cap) n 0) all in
+    omega (arith, later, here, sum_by-cons (λ (x : Actor). cond (x.desk.fired == x.desk.cap) x.desk.fired 0) b news)
 
 -- as many for each
 each_done : (b : Bool) (n d : ℕ) → cond b n 0 + n * d ≡ n * (cond b 1 0 + d)
@@ -165,7 +212,7 @@ none_made board ends actors tally adds = record {
   voids_are = refl;
   stops_are = refl;
   adds_up = adds;
-  dones_most = omega arith;
+  dones_most = let none = none_fired_since actors in omega (arith, none);
 }
 
 -- the same numbers of turns
@@ -260,6 +307,25 @@ module _ (board : Board) (turns next : ℕ → ℕ) (total : ℕ) (first : Ends)
       let capped = turn.gone.capped in
       omega (arith, fires, capped, at, none)
 
+  -- only at its cap it ends as done
+  done_before : (e : TurnEnd) → end ≡ e → done_one e ≤ at_cap a
+  done_before Done e = let one = is_at_cap a (turn.done.0 e) in omega (arith, one)
+  done_before _ e = omega arith
+
+  rests_at_cap : a.desk.fired ≡ a.desk.cap → b.desk.fired ≡ a.desk.fired
+  rests_at_cap at =
+      let none = ap fired_one (turn.done.1 at) in
+      let fires = turn.fires in
+      omega (arith, fires, none)
+
+  dones_then : done_turns turns olds + done_one end + firings_of_done firsts (set olds k b) ≤ done_turns next (set olds k b) + firings_of_done firsts olds
+  dones_then =
+      let many = made.many in
+      let (c, at_c) = item_at firsts k (omega (arith, within, many)) in
+      let more = gone_more board (turns k) first before now c a b (made.each k c a at_c at_k) turn.gone in
+      done_more turns next firsts olds k (done_one end) c a b at_c at_k here other
+      (record { stays = stays_at_cap; rests = rests_at_cap; late = done_before end refl; few = more.often })
+
   pub one_made : Made board next (total + 1) first firsts none now (set olds k b) is
   one_made =
       let so = alike is _ turn.counts in
@@ -274,7 +340,7 @@ module _ (board : Board) (turns next : ℕ → ℕ) (total : ℕ) (first : Ends)
         voids_are = omega (arith, so.voids, made.voids_are, turn.voids);
         stops_are = omega (arith, so.stops, made.stops_are, turn.stops);
         adds_up = omega (arith, so.turns, so.fired, so.voids, so.stops, so.dones, four, made.adds_up);
-        dones_most = omega (arith, so.dones, made.dones_most, done_more turns next olds k (done_one end) a b at_k here other stays_at_cap turn.done_late);
+        dones_most = omega (arith, so.dones, made.dones_most, dones_then);
       }
 
 -- a round, of which the first k turns are made

@@ -7,7 +7,7 @@ use Rattle.lid_walk_machine.specs.Setups.{plan}
 use Rattle.lid_shell_laws.specs.Setups.{Setup}
 use Rattle.lid_shell.specs.declared.actor.Actor.{Actor}
 use Rattle.lid_free_crew.specs.Posts.{stations_of, IsEndOf, KeepsEnds}
-use Rattle.lid_free_crew.specs.Tallies.{AddsUp, void_misses, stop_misses, fired_by}
+use Rattle.lid_free_crew.specs.Tallies.{AddsUp, void_misses, stop_misses, fired_by, firings_of_done}
 use Rattle.lid_free_crew.specs.Turns.{HasMadeTurns}
 use Rattle.lid_free_crew.specs.Alone.{TurnsSoFar, AreAlone, round_of}
 
@@ -27,7 +27,7 @@ pub record Made (board : Board) (turns : ℕ → ℕ) (total : ℕ) (before : En
   pub voids_are : is.voids + void_misses before (stations_of board) ≡ was.voids + void_misses now (stations_of board)
   pub stops_are : is.stops + stop_misses before (stations_of board) ≡ was.stops + stop_misses now (stations_of board)
   pub adds_up : AddsUp is
-  pub dones_most : is.dones ≤ was.dones + done_turns turns news
+  pub dones_most : is.dones + firings_of_done olds news ≤ was.dones + done_turns turns news
 
 -- where actors were alone, they are so in the state of a run, and its tally is theirs
 pub record IsWorkerRun (m : Setup) (numbers : List ℕ) (r : TurnsSoFar) (board : Board) (ends : Ends) (actors : List Actor) (tally : Tally) : Type 0 where

@@ -1,5 +1,5 @@
 -- What is counted: the misses at ends, and how turns end.
-use Rattle.std.specs.Prelude.{◌≡◌, ℕ, zero, suc, ◌+◌, ◌*◌, ◌≤◌, ◌==◌, cond, List, length, Option, Some, None}
+use Rattle.std.specs.Prelude.{◌≡◌, ℕ, zero, suc, ◌+◌, ◌-◌, ◌*◌, ◌≤◌, ◌==◌, cond, List, ◌∷◌, length, Option, Some, None}
 use Rattle.std.specs.List.{sum_by}
 use Rattle.std.specs.Option.{unwrap_or}
 use Rattle.lid_base.specs.declared.runs.Tally.{Tally}
@@ -44,6 +44,11 @@ fired_by actors = sum_by (λ a. a.desk.fired) actors
 abbrev pub done_among : List Actor → ℕ
 done_among actors = sum_by (λ a. cond (a.desk.fired == a.desk.cap) 1 0) actors
 
+-- how often those that are at their caps have fired since they were these
+abbrev pub firings_of_done : List Actor → List Actor → ℕ
+firings_of_done (a ∷ olds) (b ∷ news) = cond (b.desk.fired == b.desk.cap) (b.desk.fired - a.desk.fired) 0 + firings_of_done olds news
+firings_of_done _ _ = 0
+
 -- 1 for a turn that ended in this way, else 0
 abbrev pub fired_one : TurnEnd → ℕ
 fired_one Fired = 1
@@ -77,11 +82,12 @@ AddsUp t = t.turns ≡ t.fired + t.voids + t.stops + t.dones
 
 -- the tally of a worker that made so many rounds: the turns are as many for each actor; as often they fired as its
 -- actors fired more often; they ended at a station without a token as often as looks missed at the drained ends of
--- its hand, and without room as often as at the filled ends; the others are of actors at their caps
+-- its hand, and without room as often as at the filled ends; the others are of actors at their caps, and no more than
+-- the turns of these in which they did not fire
 pub record IsTallyOf (board : Board) (rounds : ℕ) (old new : Worker) : Type 0 where
   pub turns_are : new.tally.turns ≡ rounds * length old.actors.items
   pub fired_are : new.tally.fired + fired_by old.actors.items ≡ fired_by new.actors.items
   pub voids_are : new.tally.voids + void_misses (known old.hand) (stations_of board) ≡ void_misses (known new.hand) (stations_of board)
   pub stops_are : new.tally.stops + stop_misses (known old.hand) (stations_of board) ≡ stop_misses (known new.hand) (stations_of board)
   pub adds_up : AddsUp new.tally
-  pub dones_most : new.tally.dones ≤ rounds * done_among new.actors.items
+  pub dones_most : new.tally.dones + firings_of_done old.actors.items new.actors.items ≤ rounds * done_among new.actors.items

@@ -16,6 +16,7 @@ pub record HasMadeTurns (board : Board) (turns : ℕ) (before : Ends) (old : Act
   pub fills : new.desk.outs.items ≡ old.desk.outs.items
   pub capped : new.desk.cap ≡ old.desk.cap
   pub grows : old.desk.fired ≤ new.desk.fired
+  pub often : new.desk.fired ≤ old.desk.fired + turns
   pub agrees : (m : Setup) (v : ℕ) → AgreesAt m v board before old → AgreesAt m v board now new
   pub below : new.desk.fired < new.desk.cap → new.desk.fired + misses_of now new ≡ old.desk.fired + misses_of before old + turns
   pub most : new.desk.fired + misses_of now new ≤ old.desk.fired + misses_of before old + turns
