@@ -52,7 +52,7 @@ size_given Mover new row ins outs size can takes = subst (λ (p : Role). IsOfSiz
 size_given (Sink node line) new row ins outs size can takes = subst (λ (p : Role). IsOfSize p ins outs) (sym takes) size
 
 -- the source after it took the row
-source_given : (l : Life) (g fired : ℕ) (old new : ClockActor) (row : List Bool) → IsLife l → IsActor l g 0 fired old → g ≡ fired + 1 → slice_get l.setup.input g ≡ Some row
+pub source_given : (l : Life) (g fired : ℕ) (old new : ClockActor) (row : List Bool) → IsLife l → IsActor l g 0 fired old → g ≡ fired + 1 → slice_get l.setup.input g ≡ Some row
     → CanTake old.part (length row) → TakesRow old.part row new.part → new ≡ record old { part = new.part } → IsActor l (g + 1) 0 fired new
 source_given l g fired old new row life actor lacks at can takes rest =
     let taken : length new.taken.items ≡ length old.taken.items = ap (λ (a : ClockActor). length a.taken.items) rest in
@@ -75,7 +75,7 @@ part_else l g v fired (Shell node) is later = is
 part_else l g v fired Mover is later = is
 part_else l g v fired (Sink node line) is later = is
 
-other_given : (l : Life) (g v fired : ℕ) (a : ClockActor) → IsActor l g v fired a → 0 < v → IsActor l (g + 1) v fired a
+pub other_given : (l : Life) (g v fired : ℕ) (a : ClockActor) → IsActor l g v fired a → 0 < v → IsActor l (g + 1) v fired a
 other_given l g v fired a actor later = stays_but_part l g (g + 1) v fired a actor (part_else l g v fired a.part actor.is later)
 
 actors_given : (l : Life) (k g : ℕ) (actors : List ClockActor) (new : ClockActor) → AreActors l k g actors → IsActor l (g + 1) 0 (fired_after l k 0) new → AreActors l k (g + 1) (set actors 0 new)

@@ -35,19 +35,19 @@ fired_alike l hold (suc k) agree =
     ap (λ (b : Bool). cond b (fired_after (held_so l hold) k v) (least_into (edges_of l) (fired_after (held_so l hold) k) v (cap_of (links_of l.setup.system) (length l.setup.input) v))) (agree k v (omega arith))
     ∙ ap (λ (c : Counts). cond (l.hold k v) (c v) (least_into (edges_of l) c v (cap_of (links_of l.setup.system) (length l.setup.input) v))) before)
 
-rules_alike : (l : Life) (hold : Hold) → IsLife l → IsLife (held_so l hold)
+pub rules_alike : (l : Life) (hold : Hold) → IsLife l → IsLife (held_so l hold)
 rules_alike l hold life = record { system = life.system; fits = life.fits; few = life.few; wide = life.wide; table = life.table }
 
 last_alike : (l : Life) (hold : Hold) (g fired : ℕ) (row : List Bool) → HoldsLast l g fired row → HoldsLast (held_so l hold) g fired row
 last_alike l hold g fired row last = record { next = last.next; near = last.near; is = last.is }
 
-part_alike : (l : Life) (hold : Hold) (g v fired : ℕ) (part : Role) → IsRole l g v fired part → IsRole (held_so l hold) g v fired part
+pub part_alike : (l : Life) (hold : Hold) (g v fired : ℕ) (part : Role) → IsRole l g v fired part → IsRole (held_so l hold) g v fired part
 part_alike l hold g v fired (Source node row) is = (is.0, is.1, λ some. last_alike l hold g fired row.items (is.2 some))
 part_alike l hold g v fired (Shell node) is = is
 part_alike l hold g v fired Mover is = is
 part_alike l hold g v fired (Sink node row) is = is
 
-actor_alike : (l : Life) (hold : Hold) (g v fired : ℕ) (a : ClockActor) → IsActor l g v fired a → IsActor (held_so l hold) g v fired a
+pub actor_alike : (l : Life) (hold : Hold) (g v fired : ℕ) (a : ClockActor) → IsActor l g v fired a → IsActor (held_so l hold) g v fired a
 actor_alike l hold g v fired a actor =
     record {
       there = actor.there;

@@ -36,7 +36,7 @@ cap_early : (l : Life) (v : ℕ) → v + 1 < length l.setup.system.nodes → cap
 cap_early l v early = ap (λ (b : Bool). cond b (length l.setup.input - 1) (length l.setup.input)) (lt-ltb (v + 1) (length l.setup.system.nodes) early)
 
 -- the cap of the sink
-cap_late : (l : Life) (v : ℕ) → length l.setup.system.nodes ≤ v + 1 → cap_of (links_of l.setup.system) (length l.setup.input) v ≡ length l.setup.input
+pub cap_late : (l : Life) (v : ℕ) → length l.setup.system.nodes ≤ v + 1 → cap_of (links_of l.setup.system) (length l.setup.input) v ≡ length l.setup.input
 cap_late l v late = ap (λ (b : Bool). cond b (length l.setup.input - 1) (length l.setup.input)) (le-ltb (v + 1) (length l.setup.system.nodes) late)
 
 -- a source that may fire holds the next row

@@ -44,7 +44,7 @@ needs_is l k g x a b ran there is_so so =
     )
 
 -- the row of the last cycle
-last_by : (l : Life) (k : ℕ) (a : ClockActor) (b : Bool) → a.went ≡ b → IsLatest l k a → IsLast l k (cond b (row_of a.part) None)
+pub last_by : (l : Life) (k : ℕ) (a : ClockActor) (b : Bool) → a.went ≡ b → IsLatest l k a → IsLast l k (cond b (row_of a.part) None)
 last_by l k a true went latest =
     record {
       some = λ _. (latest.fired went).1;
@@ -65,7 +65,7 @@ token_by : (b : Bool) (m n : ℕ) → (b ≡ true → m ≡ n) → cond b m 0 �
 token_by true m n same = same refl
 token_by false m n same = refl
 
-same_shown : (cap put taken : ℕ) (f h : ℕ → ℕ) → (taken < put → f taken ≡ h taken) → shown_as cap put taken f ≡ shown_as cap put taken h
+pub same_shown : (cap put taken : ℕ) (f h : ℕ → ℕ) → (taken < put → f taken ≡ h taken) → shown_as cap put taken f ≡ shown_as cap put taken h
 same_shown cap put taken f h same =
     ap (λ (n : ℕ). let s : Shown = record { valid = nat_lt taken put; stop = put - taken == cap; token = n } in s)
     (token_by (nat_lt taken put) (f taken) (h taken) (λ some. same (ltb-true taken put some)))

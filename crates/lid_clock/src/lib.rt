@@ -18,9 +18,11 @@ mod settling;
 mod starting;
 mod station;
 mod stream;
+mod telling;
 
 pub use actor::ClockActor;
 pub use clocked::Clocked;
+pub use rules::runs_go_by_rules;
 pub use settling::settle_each;
 pub use station::ClockStation;
 pub use stream::ClockStream;

@@ -32,7 +32,7 @@ impl Role {
 
 impl ClockActor {
     /// Takes a row, where this is the source.
-    pub(crate) fn receive(&mut self, row: &[bool])
+    pub fn receive(&mut self, row: &[bool])
         requires { CanTake self.old.part (length row.now) }
         ensures part { TakesRow self.old.part row.now self.new.part }
         ensures rest { self.new ≡ record self.old { part = self.new.part } }
@@ -41,7 +41,7 @@ impl ClockActor {
     }
 
     /// The row that was made in the last cycle, where this is the sink and fired in it.
-    pub(crate) fn last(&self) -> Option<&[bool]>
+    pub fn last(&self) -> Option<&[bool]>
         ensures { option_map (λ row. row.now) result ≡ (if self.now.went then row_of self.now.part else None) }
     {
         if self.went { self.part.row() } else { None }

@@ -8,7 +8,7 @@ use lid_shell_laws::{
 use lid_stations::stations_stand_between_actors;
 
 /// What is known of all runs. This does nothing; its contract is what laws say, in one.
-pub(crate) fn runs_go_by_rules()
+pub fn runs_go_by_rules()
     ensures { RunsGoByRules }
 {
     actors_fire_by_the_rule();

@@ -1,0 +1,17 @@
+pub mod Writes
+pub mod Turning
+pub mod Readings
+pub mod Offers
+pub mod Keeping
+pub mod Settled
+pub mod Bars
+pub mod Firing
+pub mod Moves
+pub mod Decisions
+pub mod Alike
+pub mod Told
+pub mod Laid
+pub mod Beginning
+pub mod Begun
+pub mod Giving
+pub mod Stalled

@@ -1,0 +1,72 @@
+//! What is done at the ends of a station.
+
+ghost use Rattle.std.specs.Prelude.{◌≡◌, ◌<◌, true, false};
+ghost use Rattle.lid_clock_flat.specs.Rings.{wrapped, place_at, HasSettled};
+ghost use Rattle.lid_clock_flat.specs.Reads.{CanSettle, Settles};
+
+use crate::station::FlatStation;
+
+/// A place of a ring of so many, where the first one comes after the last.
+fn wrap(place: u32, cap: u32) -> u32
+    ensures { result ≡ wrapped place cap }
+{
+    if place < cap { place } else { place - cap }
+}
+
+impl FlatStation {
+    /// Whether it holds a token.
+    pub(crate) fn is_valid(&self) -> bool
+        ensures yes { result ≡ true → 0 < self.now.held }
+        ensures no { result ≡ false → self.now.held ≡ 0 }
+    {
+        0 < self.held
+    }
+
+    /// Whether it has room for one more.
+    pub(crate) fn has_room(&self) -> bool
+        ensures yes { result ≡ true → self.now.held < self.now.cap }
+        ensures no { result ≡ false → self.now.held ≡ self.now.cap }
+    {
+        self.held < self.cap
+    }
+
+    /// The place of its oldest token.
+    pub(crate) fn first_place(&self) -> usize
+        ensures { result ≡ place_at self.now 0 }
+    {
+        self.base as usize + self.head as usize
+    }
+
+    /// The place of the next token that it gains.
+    pub(crate) fn free_place(&self) -> usize
+        ensures { result ≡ place_at self.now self.now.held }
+    {
+        self.base as usize + wrap(self.head + self.held, self.cap) as usize
+    }
+
+    /// Gains the token in its free place, where its filler fired, and loses its oldest one, where its drainer
+    /// did.
+    pub(crate) fn settle(&mut self, gains: bool, loses: bool)
+        requires room { gains ≡ true → self.old.held < self.old.cap }
+        requires some { loses ≡ true → 0 < self.old.held }
+        ensures { HasSettled self.old gains loses self.new }
+    {
+        if loses {
+            self.head = wrap(self.head + 1, self.cap);
+            self.held -= 1;
+        }
+        if gains {
+            self.held += 1;
+        }
+    }
+
+    /// Settles, where these actors fired.
+    pub(crate) fn settle_by(&mut self, went: &[bool])
+        requires { CanSettle went.now self.old }
+        ensures { Settles went.now self.old self.new }
+    {
+        let gains = went[self.filler as usize];
+        let loses = went[self.drainer as usize];
+        self.settle(gains, loses);
+    }
+}
