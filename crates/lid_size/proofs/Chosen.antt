@@ -39,13 +39,13 @@ module _ (n : ℕ) (done : List ℕ) (c : ℕ) (few : length done < n) where
     range = All-append IsCapacity done (c ∷ replicate (n - (length done + 1)) 16) range (All-cons IsCapacity c (replicate (n - (length done + 1)) 16) next (All-replicate IsCapacity (n - (length done + 1)) 16 (omega arith, omega arith)));
   }
 
-  followed_early : (i : ℕ) → i < length done → get_or (followed n done c) i 2 ≡ get_or done i 2
+  pub followed_early : (i : ℕ) → i < length done → get_or (followed n done c) i 2 ≡ get_or done i 2
   followed_early i h = get_or_append_left done (c ∷ replicate (n - (length done + 1)) 16) 2 i h
 
-  followed_here : get_or (followed n done c) (length done) 2 ≡ c
+  pub followed_here : get_or (followed n done c) (length done) 2 ≡ c
   followed_here = get_or-append_seam done c (replicate (n - (length done + 1)) 16) 2
 
-  followed_late : (i : ℕ) → length done < i → i < n → get_or (followed n done c) i 2 ≡ 16
+  pub followed_late : (i : ℕ) → length done < i → i < n → get_or (followed n done c) i 2 ≡ 16
   followed_late i h low =
       let e : i ≡ length done + suc (i - (length done + 1)) = omega arith in
       ap (λ (m : ℕ). get_or (followed n done c) m 2) e
@@ -61,7 +61,7 @@ most_capacities n xs are i = by_order (cases_lt i (length xs))
     by_order (inr h) = let past = get_or_past xs i 2 h in omega arith
 
 -- a list that agrees with some capacities and is at most c after them has none greater than they followed by c
-below_followed : (n : ℕ) (xs done : List ℕ) (c : ℕ) → length done < n → AreCapacities n xs → ((i : ℕ) → i < length done → get_or xs i 2 ≡ get_or done i 2) → get_or xs (length done) 2 ≤ c → (i : ℕ) → get_or xs i 2 ≤ get_or (followed n done c) i 2
+pub below_followed : (n : ℕ) (xs done : List ℕ) (c : ℕ) → length done < n → AreCapacities n xs → ((i : ℕ) → i < length done → get_or xs i 2 ≡ get_or done i 2) → get_or xs (length done) 2 ≤ c → (i : ℕ) → get_or xs i 2 ≤ get_or (followed n done c) i 2
 below_followed n xs done c few are same less i = by_place (cases_lt i (length done)) (cases_eq i (length done)) (cases_lt i n)
   where
     by_place : (i < length done) ⊎ (length done ≤ i) → (i ≡ length done) ⊎ (i ≢ length done) → (i < n) ⊎ (n ≤ i) → get_or xs i 2 ≤ get_or (followed n done c) i 2

@@ -4,5 +4,6 @@ pub mod Kept
 pub mod Chosen
 pub mod Reaching
 pub mod Refuted
+pub mod Lengthening
 pub mod Spare
 pub mod Fitting

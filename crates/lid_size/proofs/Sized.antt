@@ -69,7 +69,7 @@ module _ (s : System) (relays xs ys : List ℕ) where
       (λ v l. change_of ((count + count) + v) (self_at s old v l ∙ sym (self_at s new v l)))
       k h
 
-  alike : AreAlike (sized (links_of s) relays xs) (sized (links_of s) relays ys)
+  pub alike : AreAlike (sized (links_of s) relays xs) (sized (links_of s) relays ys)
   alike = record {
     nodes = node_count s old ∙ sym (node_count s new);
     count = edges_long s old ∙ sym (edges_long s new);
@@ -95,7 +95,7 @@ module _ (s : System) (relays xs ys : List ℕ) where
         let l = less station in
         omega arith
 
-    no_more : HasNoMore (sized (links_of s) relays xs) (sized (links_of s) relays ys)
+    pub no_more : HasNoMore (sized (links_of s) relays xs) (sized (links_of s) relays ys)
     no_more = record {
       alike = alike;
       tokens = by_edge s old Fewer

@@ -11,11 +11,11 @@ ghost use Rattle.lid_size.specs.Sizes.{IsReachedPlacement};
 ghost use Rattle.lid_size.specs.Sizing.{sized, greatest, Reaches, IsFirst};
 
 use crate::comparing::reaches;
-use crate::testing::are_tight;
+use crate::testing::guessed_sizes;
 use lid_base::Items;
+use lid_cert::Cert;
 use lid_graph::Graph;
 use lid_rate_ratio::Ratio;
-use lid_size_guess::GuessedSizes;
 use lid_stations::Placement;
 use lid_system::System;
 use std::alloc::{AllocError, Global};
@@ -112,7 +112,7 @@ pub(crate) fn tested(
     widest: &Placement,
     graph: &Graph,
     wants: &[Ratio],
-    sizes: GuessedSizes,
+    cert: &Cert,
 ) -> Result<Option<Placement>, AllocError>
     requires system { IsWellFormed system.now }
     requires fits { Fits system.now widest.now }
@@ -121,11 +121,11 @@ pub(crate) fn tested(
     requires wants { AreForwardRatios (sized (links_of system.now) widest.now.relays widest.now.caps) (station_count widest.now.relays) wants.now }
     ensures { IfOk result (λ found. IfSome found (IsReachedPlacement (links_of system.now) widest.now.relays)) }
 {
-    if sizes.caps.len() != widest.caps.len() || !are_tight(graph, wants, &sizes) {
+    let count = widest.caps.len() as u32;
+    let Some(caps) = guessed_sizes(alloc, graph, wants, count, cert)? else {
         return Ok(None);
-    }
-    let GuessedSizes { caps, .. } = sizes;
-    let trial = placement_of(alloc, widest.relays.as_slice(), caps.into_vec())?;
+    };
+    let trial = placement_of(alloc, widest.relays.as_slice(), caps)?;
     if reaches(alloc, system, &trial, wants)? {
         Ok(Some(trial))
     } else {

@@ -6,6 +6,7 @@ mod comparing;
 mod laws;
 mod sizing;
 mod testing;
+mod ways;
 
 pub use laws::{greater_capacities_reach, no_place_is_spare};
 pub use sizing::{SizeEnd, size};

@@ -16,7 +16,6 @@ use lid_graph::Graph;
 use lid_rate::find;
 use lid_rate_ratio::Ratio;
 use lid_size_forward::forward_ratios;
-use lid_size_guess::propose_sizes;
 use lid_stations::{Placement, marking};
 use lid_system::System;
 use std::alloc::{AllocError, Global};
@@ -80,8 +79,7 @@ fn reached(
     requires greatest { Reaches (links_of system.now) widest.now.relays (greatest widest.now.relays) }
     ensures { IfOk result (Sizes (links_of system.now) widest.now.relays) }
 {
-    let sizes = propose_sizes(alloc, graph, widest.caps.len() as u32, wants, cert)?;
-    match tested(alloc, system, widest, graph, wants, sizes)? {
+    match tested(alloc, system, widest, graph, wants, cert)? {
         Some(sized) => Ok(SizeEnd::Reached(sized)),
         None => searched(alloc, system, widest, wants),
     }

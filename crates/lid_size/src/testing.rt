@@ -1,112 +1,105 @@
-//! The test of a guess of capacities: each closed walk of it shows that a station with one place less, and
-//! 16 for all later ones, does not reach.
+//! The test of a guess of capacities: closed walks show that a station with one place less, and 16 for all
+//! later ones, does not reach.
 
-ghost use Rattle.std.specs.Prelude.{◌≡◌, ℕ, ◌*◌, ◌<◌, ◌≤◌, ◌^◌, List, length, slice_index, slice_index_or, IsTrue};
+ghost use Rattle.std.specs.Prelude.{◌≡◌, ℕ, ◌<◌, List, length, IsTrue, IfOk, IfSome};
 ghost use Rattle.std.specs.List.{All};
+ghost use Rattle.lid_base.specs.Each.{from_each};
+ghost use Rattle.lid_graph.specs.declared.graph.Graph.{Graph};
 ghost use Rattle.lid_graph.specs.Rateable.{IsRateable};
-ghost use Rattle.lid_graph.specs.Walks.{edge_at, walk_tokens};
-ghost use Rattle.lid_system.specs.declared.System.{System};
-ghost use Rattle.lid_stations.specs.Placements.{links_of, IsCapacity};
+ghost use Rattle.lid_stations.specs.Placements.{IsCapacity};
 ghost use Rattle.lid_size_forward.specs.ForwardParts.{AreForwardRatios};
-ghost use Rattle.lid_size.specs.Sizing.{sized};
-ghost use Rattle.lid_size.specs.Testing.{lessened, IsWidest, IsRefuted, AreTight};
+ghost use Rattle.lid_size.specs.Choices.{followed};
+ghost use Rattle.lid_size.specs.Testing.{IsRefuted, IsWayTo, AreWays, empty_way, IsTightNext, AreTight};
 
+use crate::ways::{Way, closed, first_ways, lengthen};
+use lid_cert::Cert;
 use lid_graph::Graph;
-use lid_rate_ratio::{Ratio, edge};
-use lid_size_forward::{is_closed, walk_at, walk_start};
-use lid_size_guess::GuessedSizes;
+use lid_rate_ratio::Ratio;
+use lid_size_guess::{NextSize, SizeGuess, begin_sizes, propose_next};
+use std::alloc::{AllocError, Global};
 
-/// The capacity at a place where a station has one place less, and all later ones 16.
-fn capacity_at(caps: &[u32], station: u32, at: u32) -> u32
-    requires station { station < length caps.now }
-    requires at { at < length caps.now }
-    requires some { 0 < slice_index caps.now station }
-    ensures { result ≡ slice_index_or (lessened caps.now station) at 2 }
+/// Whether a closed walk is below the ratio that is wanted.
+fn is_below(wants: &[Ratio], way: Way) -> bool
+    requires known { (g : Graph) × (n : ℕ) × (caps : List ℕ) × IsWayTo g n caps way.from way × AreForwardRatios g n wants.now }
+    ensures { (g : Graph) (n : ℕ) (caps : List ℕ) → AreForwardRatios g n wants.now → IsWayTo g n caps way.from way → IsTrue result → IsRefuted g n wants.now caps }
 {
-    if at < station {
-        caps[at as usize]
-    } else if at == station {
-        caps[station as usize] - 1
-    } else {
-        16
-    }
+    let want = wants[way.from as usize];
+    want.q * u64::from(way.tokens) < want.p * u64::from(way.edges)
 }
 
-/// The tokens of an edge where a station has one place less, and all later ones 16.
-fn tokens_with(graph: &Graph, caps: &[u32], station: u32, k: u32) -> u32
+/// Whether the capacity that is proposed for the next station is in its range, and walks show that one less
+/// does not reach.
+fn is_next(
+    graph: &Graph,
+    wants: &[Ratio],
+    count: u32,
+    done: &[u32],
+    ways: &mut [Way],
+    next: &NextSize,
+) -> bool
     requires graph { IsRateable graph.now }
-    requires station { station < length caps.now }
-    requires range { (i : ℕ) → i < station → IsCapacity (slice_index caps.now i) }
-    requires wide { 2 < slice_index caps.now station }
-    requires narrow { slice_index caps.now station ≤ 16 }
-    requires within { k < length graph.now.edges }
-    ensures is { (s : System) (relays : List ℕ) → IsWidest graph.now (length caps.now) s relays → result ≡ (edge_at (sized (links_of s) relays (lessened caps.now station)) k).tokens }
-    ensures few { result ≤ 16 }
+    requires wants { AreForwardRatios graph.now count wants.now }
+    requires few { length done.now < count }
+    requires range { All IsCapacity done.now }
+    requires ways { AreWays graph.now count (followed count done.now 16) ways.old }
+    ensures ways { AreWays graph.now count (followed count done.now 16) ways.new }
+    ensures next { IsTrue result → IsTightNext graph.now count wants.now done.now next.now.capacity }
 {
-    let tokens = edge(graph, k).tokens;
-    let at = k / 2;
-    if k % 2 == 0 || at as usize >= caps.len() {
-        return tokens;
+    let capacity = next.capacity;
+    if capacity == 2 {
+        return true;
     }
-    (tokens + capacity_at(caps, station, at)).saturating_sub(16)
-}
-
-/// The tokens on edges where a station has one place less, and all later ones 16.
-fn sum_with(graph: &Graph, caps: &[u32], station: u32, walk: &[u32]) -> u64
-    requires graph { IsRateable graph.now }
-    requires station { station < length caps.now }
-    requires range { (i : ℕ) → i < station → IsCapacity (slice_index caps.now i) }
-    requires wide { 2 < slice_index caps.now station }
-    requires narrow { slice_index caps.now station ≤ 16 }
-    requires within { All (λ k. k < length graph.now.edges) walk.now }
-    requires short { length walk.now ≤ 2 ^ 18 }
-    ensures is { (s : System) (relays : List ℕ) → IsWidest graph.now (length caps.now) s relays → result ≡ walk_tokens (sized (links_of s) relays (lessened caps.now station)) walk.now }
-    ensures few { result ≤ 16 * length walk.now }
-{
-    let mut sum: u64 = 0;
-    for k in walk {
-        sum += u64::from(tokens_with(graph, caps, station, *k));
-    }
-    sum
-}
-
-/// Whether a closed walk shows that a station with one place less does not reach.
-fn refutes(graph: &Graph, wants: &[Ratio], caps: &[u32], station: u32, walk: &[u32]) -> bool
-    requires graph { IsRateable graph.now }
-    requires wants { AreForwardRatios graph.now (length caps.now) wants.now }
-    requires station { station < length caps.now }
-    requires range { (i : ℕ) → i < station → IsCapacity (slice_index caps.now i) }
-    requires wide { 2 < slice_index caps.now station }
-    requires narrow { slice_index caps.now station ≤ 16 }
-    ensures { IsTrue result → IsRefuted graph.now wants.now caps.now station }
-{
-    if walk.len() > 262_144 || !is_closed(graph, walk) {
+    if capacity < 2 || capacity > 16 {
         return false;
     }
-    let want = wants[walk_start(graph, walk) as usize];
-    let tokens = sum_with(graph, caps, station, walk);
-    want.q * tokens < want.p * walk.len() as u64
+    lengthen(graph, count, done, ways, next.root, &next.ways);
+    match closed(graph, count, done, capacity - 1, ways, &next.closing) {
+        Some(way) => is_below(wants, way),
+        None => false,
+    }
 }
 
-/// Whether the capacities of a guess are in their range, and its walks show that one less at any station
-/// does not reach.
-pub(crate) fn are_tight(graph: &Graph, wants: &[Ratio], sizes: &GuessedSizes) -> bool
+/// The capacities that a guess proposes, or none where the test of one fails.
+fn tight_sizes(
+    alloc: Global,
+    graph: &Graph,
+    wants: &[Ratio],
+    count: u32,
+    guess: &mut SizeGuess,
+    ways: &mut [Way],
+) -> Result<Option<Vec<u32>>, AllocError>
     requires graph { IsRateable graph.now }
-    requires few { length sizes.now.caps < 2 ^ 32 }
-    requires wants { AreForwardRatios graph.now (length sizes.now.caps) wants.now }
-    ensures { IsTrue result → AreTight graph.now wants.now sizes.now.caps (length sizes.now.caps) }
+    requires wants { AreForwardRatios graph.now count wants.now }
+    requires ways { ways.old ≡ from_each empty_way 0 graph.now.nodes }
+    ensures { IfOk result (λ found. IfSome found (λ caps. (length caps.items ≡ count) × AreTight graph.now count wants.now caps.items)) }
 {
-    let caps = sizes.caps.as_slice();
-    for i in 0..caps.len() {
-        let capacity = caps[i];
-        if capacity < 2 || capacity > 16 {
-            return false;
+    let mut done = Vec::new(alloc);
+    for _ in 0..count {
+        propose_next(guess, wants)?;
+        if !is_next(graph, wants, count, &done, ways, &guess.next) {
+            return Ok(None);
         }
-        let station = i as u32;
-        let walk = walk_at(sizes.walks.as_slice(), sizes.ends.as_slice(), station);
-        if capacity > 2 && !refutes(graph, wants, caps, station, walk) {
-            return false;
-        }
+        done.push(guess.next.capacity)?;
     }
-    true
+    Ok(Some(done))
+}
+
+/// The capacities of a guess for so many stations, or none where its test fails.
+///
+/// # Errors
+/// Where there is no memory.
+pub(crate) fn guessed_sizes(
+    alloc: Global,
+    graph: &Graph,
+    wants: &[Ratio],
+    count: u32,
+    cert: &Cert,
+) -> Result<Option<Vec<u32>>, AllocError>
+    requires graph { IsRateable graph.now }
+    requires wants { AreForwardRatios graph.now count wants.now }
+    ensures { IfOk result (λ found. IfSome found (λ caps. (length caps.items ≡ count) × AreTight graph.now count wants.now caps.items)) }
+{
+    let mut guess = begin_sizes(alloc, graph, count, cert)?;
+    let mut ways = first_ways(alloc, graph)?;
+    tight_sizes(alloc, graph, wants, count, &mut guess, &mut ways)
 }

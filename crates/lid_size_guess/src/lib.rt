@@ -3,11 +3,11 @@
 //! that they end, so whoever takes one tests it.
 #![tactic(auto)]
 
+mod channels;
 mod forwards;
 pub mod heap;
-mod lengthening;
 mod search;
 mod sizes;
 
 pub use forwards::{Forwards, propose_forwards};
-pub use sizes::{GuessedSizes, propose_sizes};
+pub use sizes::{NextSize, SizeGuess, begin_sizes, propose_next};

@@ -1,33 +1,67 @@
-//! A guess of the first capacities that reach.
+//! A guess of the first capacities that reach, station by station.
 
-use crate::lengthening::{Station, lack, least_capacity, push_walk, raise, station_at};
-use crate::search::{Search, State, distance, new_search};
-use lid_base::Items;
+use crate::channels::{Channel, Channels, channels_of, push_back};
+use crate::search::{Search, begin, distance, new_search, raise, reverse, tell_way};
 use lid_cert::Cert;
 use lid_graph::Graph;
-use lid_rate_guess::{Direction, Groups, fans_of, get, put, put_each};
+use lid_rate_guess::{get, put_each};
 use lid_rate_ratio::Ratio;
 use std::alloc::{AllocError, Global};
 
-/// What is guessed of the stations of a marking.
+/// What is guessed of a station.
 #[derive(Drop)]
-pub struct GuessedSizes {
-    /// The capacity of each station in order.
-    pub caps: Items<u32>,
-    /// The edges of closed walks, one after the other: for each station with a capacity above 2 one of
-    /// lower ratio where it has one place less, and all later ones 16.
-    pub walks: Items<u32>,
-    /// For each station where its walk ends. It begins where that of the station before ends.
-    pub ends: Items<u32>,
+pub struct NextSize {
+    /// Its capacity.
+    pub capacity: u32,
+    /// Where ways begin: the producer of its channel.
+    pub root: u32,
+    /// Where the capacity is above 2, edges of ways from there. Each goes on where another ends that was told
+    /// before, for this station or for one before it with the same root.
+    pub ways: Vec<u32>,
+    /// A walk from where one of these ways ends back to the root. With one place less at the station, and 16
+    /// for all later ones, both together make a closed walk of lower ratio than is wanted.
+    pub closing: Vec<u32>,
 }
 
-/// What has been guessed so far.
+/// What is guessed of one station of a marking after the other.
 #[derive(Drop)]
-struct Found {
-    caps: Vec<u32>,
-    walks: Vec<u32>,
-    ends: Vec<u32>,
+pub struct SizeGuess {
+    /// What was guessed last.
+    pub next: NextSize,
+    field: Field,
+    search: Search,
+    at: Spot,
 }
+
+/// The channels of the marking, and a label for each transition.
+#[derive(Drop)]
+struct Field {
+    channels: Channels,
+    labels: Vec<u64>,
+}
+
+/// The channel of the next station and how many stations of it are done, how many places those have and how
+/// many all of them are to have; whether there was a search from the producer, and by how much its label is
+/// to rise.
+#[derive(Clone, Copy)]
+struct Spot {
+    channel: u32,
+    place: u32,
+    taken: u64,
+    places: u64,
+    is_searched: bool,
+    rise: u64,
+}
+
+/// Before all stations.
+const FIRST: Spot = Spot {
+    channel: 0,
+    place: 0,
+    taken: 0,
+    places: 0,
+    is_searched: false,
+    rise: 0,
+};
 
 /// The lags of a certificate.
 fn lags_of(alloc: Global, graph: &Graph, cert: &Cert) -> Result<Vec<u64>, AllocError> {
@@ -38,115 +72,181 @@ fn lags_of(alloc: Global, graph: &Graph, cert: &Cert) -> Result<Vec<u64>, AllocE
     Ok(labels)
 }
 
-/// The tokens of all edges.
-fn tokens_of(alloc: Global, graph: &Graph) -> Result<Vec<u32>, AllocError> {
-    let mut tokens = Vec::new(alloc);
-    for edge in graph.edges.as_slice() {
-        tokens.push(edge.tokens)?;
-    }
-    Ok(tokens)
-}
-
-/// The labels and tokens at first.
-fn first_state(alloc: Global, graph: &Graph, cert: &Cert) -> Result<State, AllocError> {
+/// The channels, and the lags as labels.
+fn field_of(alloc: Global, graph: &Graph, stations: u32, cert: &Cert) -> Result<Field, AllocError> {
+    let channels = channels_of(alloc, graph, stations)?;
     let labels = lags_of(alloc, graph, cert)?;
-    let tokens = tokens_of(alloc, graph)?;
-    Ok(State { labels, tokens })
+    Ok(Field { channels, labels })
 }
 
-/// The capacity that a station gets, where its filler lacks so much for a capacity of 2. Labels are
-/// raised so that it does, and the closed walk that shows that one less does not is appended.
-fn widen(
-    alloc: Global,
-    graph: &Graph,
-    fans: &Groups,
-    wants: &[Ratio],
-    state: &mut State,
-    search: &mut Search,
-    walks: &mut Vec<u32>,
-    station: Station,
-) -> Result<u32, AllocError> {
-    let need = lack(state, station, 2);
-    let ends = (station.filler, station.drainer);
-    let Some(far) = distance(search, state, wants, graph, fans, ends, need)? else {
-        raise(state, search, need);
-        return Ok(2);
-    };
-    let capacity = least_capacity(state, station, far);
-    let asked = lack(state, station, capacity);
-    raise(state, search, asked);
-    push_walk(alloc, graph, search, station, walks)?;
-    Ok(capacity)
+/// The ratio that the component of a transition is to have.
+fn want_at(wants: &[Ratio], v: u32) -> Ratio {
+    get(wants, v, Ratio { p: 1, q: 1 })
 }
 
-/// Guesses the capacity of each station in order.
-fn guess_all(
-    alloc: Global,
-    graph: &Graph,
-    stations: u32,
-    wants: &[Ratio],
-    state: &mut State,
-    found: &mut Found,
-) -> Result<(), AllocError> {
-    let fans = fans_of(alloc, graph, Direction::Out)?;
-    let mut search = new_search(alloc, graph)?;
-    for number in 0..stations {
-        let station = station_at(graph, wants, number);
-        let mut capacity = 2;
-        if lack(state, station, 2) > 0 {
-            capacity = widen(
-                alloc,
-                graph,
-                &fans,
-                wants,
-                state,
-                &mut search,
-                &mut found.walks,
-                station,
-            )?;
-        }
-        let start = get(&state.tokens, station.forth, 0);
-        put(
-            &mut state.tokens,
-            station.back,
-            capacity.wrapping_sub(start),
-        );
-        found.caps.push(capacity)?;
-        found
-            .ends
-            .push(u32::try_from(found.walks.len()).unwrap_or(0))?;
+/// How much the label of a channel's producer lacks where its stations have so many places in all, or 0.
+fn lack(labels: &[u64], want: Ratio, channel: Channel, places: u64) -> u64 {
+    let along = want.p.wrapping_mul(u64::from(channel.stations));
+    let asked = get(labels, channel.to, 0).wrapping_add(along);
+    let room = want.q.wrapping_mul(places.wrapping_sub(1));
+    asked.saturating_sub(get(labels, channel.from, 0).wrapping_add(room))
+}
+
+/// The least places of a channel that ask for no more than so far a way of its consumer.
+fn places_by(labels: &[u64], want: Ratio, channel: Channel, far: u64) -> u64 {
+    if want.q == 0 {
+        return 0;
     }
+    lack(labels, want, channel, 1)
+        .saturating_sub(far)
+        .div_ceil(want.q)
+        .wrapping_add(1)
+}
+
+/// Two places for each station of a channel.
+fn twice(channel: Channel) -> u64 {
+    u64::from(channel.stations).wrapping_mul(2)
+}
+
+/// How much the producer of a channel lacks at most, where its channels from this one on have two places for each
+/// station.
+fn most_lack(guess: &SizeGuess, want: Ratio) -> u64 {
+    let mut most: u64 = 0;
+    for number in guess.at.channel..u32::MAX {
+        let channel = guess.field.channels.at(number);
+        if channel.stations == 0 || channel.from != guess.next.root {
+            break;
+        }
+        most = most.max(lack(&guess.field.labels, want, channel, twice(channel)));
+    }
+    most
+}
+
+/// How many places the stations of a channel are to have.
+fn places_of(guess: &mut SizeGuess, want: Ratio, channel: Channel) -> Result<u64, AllocError> {
+    let need = lack(&guess.field.labels, want, channel, twice(channel));
+    if need == 0 {
+        return Ok(twice(channel));
+    }
+    if !guess.at.is_searched {
+        let most = most_lack(guess, want);
+        begin(&mut guess.search, guess.next.root, want, most)?;
+        guess.at.is_searched = true;
+    }
+    let found = distance(
+        &mut guess.search,
+        &guess.field.labels,
+        &guess.field.channels,
+        channel.to,
+        need,
+    )?;
+    match found {
+        Some(far) => Ok(places_by(&guess.field.labels, want, channel, far)),
+        None => Ok(twice(channel)),
+    }
+}
+
+/// Goes on to the channels of another producer.
+fn change_root(guess: &mut SizeGuess, root: u32) {
+    if guess.at.is_searched {
+        raise(&mut guess.field.labels, &guess.search, guess.at.rise);
+    }
+    guess.next.root = root;
+    guess.at.is_searched = false;
+    guess.at.rise = 0;
+}
+
+/// Writes down why one place less does not do.
+fn tell(guess: &mut SizeGuess, channel: Channel) -> Result<(), AllocError> {
+    let back = guess.at.channel.wrapping_mul(2).wrapping_add(1);
+    tell_way(
+        &mut guess.next.ways,
+        &mut guess.search,
+        &guess.field.channels,
+        channel.to,
+    )?;
+    push_back(&mut guess.next.closing, &guess.field.channels, back)?;
+    reverse(guess.next.closing.as_mut_slice());
     Ok(())
 }
 
-/// Guesses the first capacities of so many stations with which the component of each transition has the
-/// ratio that is wanted, from a certificate of the marking with 16 everywhere, in which it has. It says
-/// nothing of what it answers: test it.
+/// Goes on to the next channel.
+fn end_channel(guess: &mut SizeGuess, want: Ratio, channel: Channel) {
+    let rise = lack(&guess.field.labels, want, channel, guess.at.taken);
+    guess
+        .field
+        .channels
+        .set_room(guess.at.channel, guess.at.taken.wrapping_sub(1));
+    guess.at.rise = guess.at.rise.max(rise);
+    guess.at.channel = guess.at.channel.wrapping_add(1);
+    guess.at.place = 0;
+    guess.at.taken = 0;
+}
+
+/// The next capacity of a channel.
+fn next_capacity(at: Spot, channel: Channel) -> u32 {
+    let after = channel.stations.wrapping_sub(at.place).wrapping_sub(1);
+    let later = u64::from(after).wrapping_mul(16).wrapping_add(at.taken);
+    let least = at.places.saturating_sub(later).max(2).min(16);
+    u32::try_from(least).unwrap_or(16)
+}
+
+/// A guess of the first capacities of so many stations with which the component of each transition has the
+/// ratio that is wanted, from a certificate of the marking with 16 everywhere, in which it has. It says nothing
+/// of what it answers: test it.
 ///
-/// Station by station the least capacity is found by a search for the nearest way from the filler to the
-/// drainer, where edges cost what their ends have beyond what they ask for. Labels are raised just as far
-/// as that capacity needs, so nearly all later stations are done by a look at their labels.
+/// Between producer and consumer it is the places of all stations of a channel together that count. Station by station each capacity is the least
+/// that leaves as many as are wanted, with 16 for all later ones. How many are wanted is found by a search for the
+/// nearest way from the producer to the consumer, where arcs cost what their ends have beyond what they ask
+/// for. All channels of a producer share one search, since what is chosen for them shortens no way from it. Labels are then raised
+/// just as far as these places need, so nearly all later channels are done by a look at their labels.
 ///
 /// # Errors
 /// Where there is no memory.
-pub fn propose_sizes(
+pub fn begin_sizes(
     alloc: Global,
     graph: &Graph,
     stations: u32,
-    wants: &[Ratio],
     cert: &Cert,
-) -> Result<GuessedSizes, AllocError> {
-    let mut state = first_state(alloc, graph, cert)?;
-    let mut found = Found {
-        caps: Vec::new(alloc),
-        walks: Vec::new(alloc),
-        ends: Vec::new(alloc),
-    };
-    guess_all(alloc, graph, stations, wants, &mut state, &mut found)?;
-    let Found { caps, walks, ends } = found;
-    Ok(GuessedSizes {
-        caps: Items::from_vec(caps),
-        walks: Items::from_vec(walks),
-        ends: Items::from_vec(ends),
+) -> Result<SizeGuess, AllocError> {
+    let field = field_of(alloc, graph, stations, cert)?;
+    let search = new_search(alloc, graph.nodes)?;
+    Ok(SizeGuess {
+        next: NextSize {
+            capacity: 0,
+            root: u32::MAX,
+            ways: Vec::new(alloc),
+            closing: Vec::new(alloc),
+        },
+        field,
+        search,
+        at: FIRST,
     })
+}
+
+/// Guesses the capacity of the next station.
+///
+/// # Errors
+/// Where there is no memory.
+pub fn propose_next(guess: &mut SizeGuess, wants: &[Ratio]) -> Result<(), AllocError> {
+    guess.next.ways.clear();
+    guess.next.closing.clear();
+    let channel = guess.field.channels.at(guess.at.channel);
+    let want = want_at(wants, channel.from);
+    if channel.from != guess.next.root {
+        change_root(guess, channel.from);
+    }
+    if guess.at.place == 0 {
+        guess.at.places = places_of(guess, want, channel)?;
+    }
+    guess.next.capacity = next_capacity(guess.at, channel);
+    if guess.next.capacity > 2 {
+        tell(guess, channel)?;
+    }
+    guess.at.taken = guess.at.taken.wrapping_add(u64::from(guess.next.capacity));
+    guess.at.place = guess.at.place.wrapping_add(1);
+    if guess.at.place >= channel.stations {
+        end_channel(guess, want, channel);
+    }
+    Ok(())
 }

@@ -8,7 +8,7 @@ use lid_graph::Graph;
 use lid_rate::find;
 use lid_rate_ratio::Ratio;
 use lid_size::{SizeEnd, size};
-use lid_size_guess::{GuessedSizes, propose_forwards, propose_sizes};
+use lid_size_guess::{NextSize, SizeGuess, begin_sizes, propose_forwards, propose_next};
 use lid_stations::{Placement, marking};
 use lid_tests_fixtures::{DIAMOND, MADE, RING, placed_of};
 use std::alloc::{AllocError, Global};
@@ -85,16 +85,17 @@ u1 u0 0 1 16 16\n",
     ),
 ];
 
-/// The closed walks of the guesses, and where they end. Each is the only one without a transition twice that stands
-/// against one place less, with 16 for all later stations.
+/// For each station the edges of ways that are told of it, and those that close them, and where they end: closed walks,
+/// each the only one without a transition twice that stands against one place less, with 16 for all later stations. Of
+/// the second in the generated system, which begins with five edges of the first, the others are told.
 type Walks = (&'static [u32], &'static [u32]);
 
 static WALKS: [Walks; 3] = [
     (&[], &[0, 0, 0, 0]),
     (&[11, 2, 4, 6, 8, 15], &[0, 0, 0, 0, 0, 0, 0, 6]),
     (
-        &[2, 4, 6, 16, 18, 1, 2, 4, 6, 16, 18, 12, 14, 9],
-        &[6, 6, 6, 6, 14, 14, 14, 14, 14, 14],
+        &[2, 4, 6, 16, 18, 1, 12, 14, 9],
+        &[6, 6, 6, 6, 9, 9, 9, 9, 9, 9],
     ),
 ];
 
@@ -172,6 +173,53 @@ fn graph_of(alloc: Global, netlist: &[u8], stations: &[u8]) -> Option<Graph>
     }
 }
 
+/// What is guessed of all stations: their capacities, and the edges that are told, station by station.
+#[derive(Drop)]
+struct ToldSizes {
+    caps: Vec<u32>,
+    edges: Vec<u32>,
+    ends: Vec<u32>,
+}
+
+/// Adds what is guessed of the next station.
+fn add(guessed: &mut ToldSizes, next: &NextSize) -> Result<(), AllocError> {
+    guessed.caps.push(next.capacity)?;
+    guessed.edges.extend_from_slice(&next.ways)?;
+    guessed.edges.extend_from_slice(&next.closing)?;
+    let end = u32::try_from(guessed.edges.len()).unwrap_or(0);
+    guessed.ends.push(end)?;
+    Ok(())
+}
+
+/// Adds what is guessed of so many stations.
+fn add_all(
+    guessed: &mut ToldSizes,
+    guess: &mut SizeGuess,
+    wants: &[Ratio],
+    stations: u32,
+) -> Result<(), AllocError> {
+    for _ in 0..stations {
+        propose_next(guess, wants)?;
+        add(guessed, &guess.next)?;
+    }
+    Ok(())
+}
+
+/// The guess for so many stations of a graph, by the wanted ratios.
+fn guess_by(
+    alloc: Global,
+    graph: &Graph,
+    stations: u32,
+    wants: &[Ratio],
+    guessed: &mut ToldSizes,
+) -> Result<(), AllocError>
+    requires { IsRateable graph.now }
+{
+    let cert = find(alloc, graph)?;
+    let mut guess = begin_sizes(alloc, graph, stations, &cert)?;
+    add_all(guessed, &mut guess, wants, stations)
+}
+
 /// The guess for so many stations of a graph, where each component is to have the ratio p/q.
 fn guess(
     alloc: Global,
@@ -179,16 +227,21 @@ fn guess(
     stations: u32,
     p: u64,
     q: u64,
-) -> Result<GuessedSizes, AllocError>
+) -> Result<ToldSizes, AllocError>
     requires { IsRateable graph.now }
 {
-    let cert = find(alloc, graph)?;
     let wants = Vec::from_elem(alloc, Ratio { p, q }, graph.nodes as usize)?;
-    propose_sizes(alloc, graph, stations, &wants, &cert)
+    let mut guessed = ToldSizes {
+        caps: Vec::new(alloc),
+        edges: Vec::new(alloc),
+        ends: Vec::new(alloc),
+    };
+    guess_by(alloc, graph, stations, &wants, &mut guessed)?;
+    Ok(guessed)
 }
 
 /// The guess for a netlist with stations as a text.
-fn guessed(alloc: Global, case: Wide) -> Option<GuessedSizes> {
+fn guessed(alloc: Global, case: Wide) -> Option<ToldSizes> {
     let (netlist, stations, p, q, caps) = case;
     let Some(graph) = graph_of(alloc, netlist, stations) else {
         return None;
@@ -200,15 +253,15 @@ fn guessed(alloc: Global, case: Wide) -> Option<GuessedSizes> {
     }
 }
 
-/// Whether just the capacities are guessed, with these closed walks.
+/// Whether just the capacities are guessed, with these edges of closed walks.
 fn is_guessed(alloc: Global, case: Wide, walks: Walks) -> bool {
     let (_, _, _, _, caps) = case;
     let (edges, ends) = walks;
     match guessed(alloc, case) {
         Some(sizes) => {
-            are_same(sizes.caps.as_slice(), caps)
-                && are_same(sizes.walks.as_slice(), edges)
-                && are_same(sizes.ends.as_slice(), ends)
+            are_same(&sizes.caps, caps)
+                && are_same(&sizes.edges, edges)
+                && are_same(&sizes.ends, ends)
         }
         None => false,
     }
