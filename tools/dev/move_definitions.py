@@ -6,7 +6,7 @@ imports in all crates. Run it at the top of the repository, on a tree whose chan
 
 As in `lid_rate/Rates lid_rate/Exact IsExactPart --head 'That a part tells the ratio, exactly.'`. The second file is
 made where it is not there, with the line of comment --head, and gets its line in specs/Lib.antt. A definition takes
-the comment that stands before it along. Lines of code and edits that name a whole path are told, and left.
+the comment that stands before it along. Lines of .antt and .rt that name a whole path are told, and left.
 """
 
 import re
@@ -138,6 +138,8 @@ def main():
         sys.exit(f"{' '.join(back)} and {' '.join(forth)} would need each other")
     if forth and reaches(new.module, old.module, set()):
         sys.exit(f"{new.path} stands on {old.path}, which would need {' '.join(forth)} of it")
+    if back and reaches(old.module, new.module, set()):
+        sys.exit(f"{old.path} stands on {new.path}, which would need {' '.join(back)} of it")
     place = next((n for n, part in enumerate(new.parts) if any(is_used(name, code([part])) for name in names)), len(new.parts))
     new.parts[place:place] = moved
     new.uses += needed(old.uses, moved) + ([f"use {old.module}.{{{', '.join(back)}}}"] if back else [])
